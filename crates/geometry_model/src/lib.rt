@@ -1,0 +1,13 @@
+//! The geometry of OGC 06-103r4 (Simple Features, part 1) as definitions: what the contracts of the crates
+//! above mean by a point, a geometry, its interior, boundary and exterior, its dimension, the DE-9IM matrix and
+//! the spatial predicates. The definitions stand in `specs/`. The code has the small plain types that the
+//! definitions and the programs share.
+#![tactic(auto)]
+
+pub mod point_sets;
+pub mod relations;
+pub mod shapes;
+
+pub use point_sets::{Dimension, Location};
+pub use relations::{Pattern, PatternCharacter, Predicate};
+pub use shapes::{GeometryType, Kind};
