@@ -1,0 +1,4 @@
+pub mod IntRing
+pub mod Ring
+pub mod Signs
+pub mod Quotients

@@ -1,0 +1,34 @@
+//! Whole numbers without limit, for proofs: the laws of sums, products and orders on which the geometry rests. Nothing here runs: each function has an empty body, and its contract is a law.
+#![tactic(auto)]
+
+ghost use Rattle.integers.specs.Laws.{Distributes, Associates, ProductOfDifferences, LessIsTransitive, AtMostIsTransitive, ZeroProduct};
+
+/// A product goes over a sum: `a (b + c) = a b + a c`.
+pub fn product_distributes()
+    ensures { Distributes }
+{}
+
+/// Three factors may be grouped either way: `(a b) c = a (b c)`.
+pub fn product_associates()
+    ensures { Associates }
+{}
+
+/// The product of two differences, multiplied out.
+pub fn product_of_differences()
+    ensures { ProductOfDifferences }
+{}
+
+/// A product is 0 only where a factor is.
+pub fn zero_product()
+    ensures { ZeroProduct }
+{}
+
+/// Of quotients with divisors of at least 1, compared by cross-multiplication, 'less than' is transitive.
+pub fn less_is_transitive()
+    ensures { LessIsTransitive }
+{}
+
+/// Of quotients with divisors of at least 1, compared by cross-multiplication, 'at most' is transitive.
+pub fn at_most_is_transitive()
+    ensures { AtMostIsTransitive }
+{}
