@@ -1,0 +1,3 @@
+pub mod MemorySinks
+pub mod Sinks
+pub mod StdSinks

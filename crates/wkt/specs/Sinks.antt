@@ -1,0 +1,16 @@
+-- What a call does to the bytes that a sink took and to its count of failures.
+use Rattle.std.specs.Prelude.{◌≡◌, ℕ, ◌+◌, ◌-◌, ◌^◌, min, List, ◌++◌, Option, Result, Ok, Err}
+use Rattle.std.specs.Io.KnownBytes.{Appends}
+
+-- the known bytes grew by a front of these bytes (profile)
+abbrev pub AppendsFront : Option (List ℕ) → Option (List ℕ) → List ℕ → Type 0
+AppendsFront old new bytes = (front rest : List ℕ) × (bytes ≡ front ++ rest) × Appends old new front
+
+-- the count after one failure more: it stays at the greatest number of 64 bits (profile)
+abbrev pub one_more : ℕ → ℕ
+one_more count = min (count + 1) (2 ^ 64 - 1)
+
+-- no failure at Ok, and at Err one more (profile)
+abbrev pub CountsFailure : {A E : Type 0} → ℕ → ℕ → Result A E → Type 0
+CountsFailure old new (Ok a) = new ≡ old
+CountsFailure old new (Err e) = new ≡ one_more old
