@@ -1,0 +1,81 @@
+//! Queries bound to a database: names have become places, and literals values.
+
+use crate::queries::Explain;
+use crate::texts::OwnedText;
+use geometry_model::Predicate;
+use sqlite_items::{Boxed, Items};
+
+/// A sign of comparison.
+#[derive(Clone, Copy, Debug, PartialEq, Eq)]
+pub enum Comparison {
+    Equal,
+    NotEqual,
+    Less,
+    LessOrEqual,
+    Greater,
+    GreaterOrEqual,
+}
+
+/// Where a column stands: the place of its reference in the query and its own in the table, both from 0.
+#[derive(Clone, Copy, Debug, PartialEq, Eq)]
+pub struct ColumnPlace {
+    pub reference: usize,
+    pub column: usize,
+}
+
+/// A geometry argument, generic in what a geometry is.
+#[derive(Debug, Drop)]
+pub enum GeometryArgument<G> {
+    Column(ColumnPlace),
+    Literal(G),
+}
+
+/// A side of a comparison, generic in what a geometry argument is.
+#[derive(Debug, Drop)]
+pub enum Operand<A> {
+    Column(ColumnPlace),
+    Integer(i64),
+    /// The bytes of a string, each doubled quote being one.
+    Text(Items<u8>),
+    Null,
+    AsText(A),
+    Dimension(A),
+}
+
+/// A condition, generic in what a geometry argument is. `= 0` after a predicate is a NOT, `= 1` leaves no trace.
+#[derive(Debug, Drop)]
+pub enum Cond<A> {
+    Or(Items<Cond<A>>),
+    And(Items<Cond<A>>),
+    Not(Boxed<Cond<A>>),
+    Compare(Comparison, Operand<A>, Operand<A>),
+    IsNull(Operand<A>),
+    IsEmpty(A),
+    Relates(Predicate, A, A),
+}
+
+/// An item of the select list, generic in what the argument of a function is.
+#[derive(Debug, Drop)]
+pub enum Item<C> {
+    Column(ColumnPlace),
+    AsText(C),
+    Dimension(C),
+    IsEmpty(C),
+}
+
+/// A table reference: the table's place in the schema, and the name that stands before the columns of an answer
+/// over two tables.
+#[derive(Debug, Drop)]
+pub struct Reference {
+    pub table: usize,
+    pub name: OwnedText,
+}
+
+/// A bound query: its one or two references, its items, and its conjuncts, those of ON before those of WHERE.
+#[derive(Debug, Drop)]
+pub struct Bound<A, C> {
+    pub explain: Explain,
+    pub references: Items<Reference>,
+    pub items: Items<Item<C>>,
+    pub conjuncts: Items<Cond<A>>,
+}

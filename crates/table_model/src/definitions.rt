@@ -1,0 +1,35 @@
+//! The definitions of tables that a schema gives.
+
+use crate::texts::OwnedText;
+use sqlite_items::Items;
+
+/// The type of a column, generic in what names a type of geometry.
+#[derive(Debug, Drop)]
+pub enum ColumnType<T> {
+    /// Whole numbers of 64 bits with a sign.
+    Integer,
+    /// Texts.
+    Text,
+    /// Geometries.
+    Geometry(T),
+}
+
+/// A column of a table.
+#[derive(Debug, Drop)]
+pub struct ColumnDef<T> {
+    /// The name as the schema spells it.
+    pub name: OwnedText,
+    pub column_type: ColumnType<T>,
+    /// Whether NOT NULL is written. The key is never null, written or not.
+    pub not_null: bool,
+}
+
+/// A table: its columns in order, one of which is the feature key.
+#[derive(Debug, Drop)]
+pub struct TableDef<T> {
+    /// The name as the schema spells it.
+    pub name: OwnedText,
+    pub columns: Items<ColumnDef<T>>,
+    /// The place of the key among the columns, from 0.
+    pub key: usize,
+}

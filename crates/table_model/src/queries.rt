@@ -1,0 +1,111 @@
+//! Queries as they are written. Parentheses leave no trace, and names and strings are parts of the query's text.
+
+use crate::conditions::Comparison;
+use crate::texts::Slice;
+use geometry_model::Predicate;
+use sqlite_items::{Boxed, Items};
+
+/// A name or a string, and the byte from 0 at which its token starts in the query's text.
+#[derive(Debug, Drop)]
+pub struct Name<'a> {
+    pub text: Slice<'a>,
+    pub at: usize,
+}
+
+/// A column as it is written, with the name of its reference where one is written.
+#[derive(Debug, Drop)]
+pub struct WrittenColumn<'a> {
+    pub reference: Option<Name<'a>>,
+    pub name: Name<'a>,
+}
+
+/// A geometry argument as it is written.
+#[derive(Debug, Drop)]
+pub enum WrittenGeometry<'a> {
+    Column(WrittenColumn<'a>),
+    /// ST_GeomFromText of a string.
+    FromText(Name<'a>),
+}
+
+/// A side of a comparison as it is written, generic in what a geometry argument is.
+#[derive(Debug, Drop)]
+pub enum WrittenOperand<'a, A> {
+    Column(WrittenColumn<'a>),
+    Integer(i64),
+    Text(Name<'a>),
+    Null,
+    /// ST_AsText, and the byte of that word.
+    AsText(usize, A),
+    /// ST_Dimension, and the byte of that word.
+    Dimension(usize, A),
+}
+
+/// Which DE-9IM predicate is written: ST_Relate has its pattern as a string.
+#[derive(Debug, Drop)]
+pub enum WrittenPredicate<'a> {
+    Named(Predicate),
+    Relate(Name<'a>),
+}
+
+/// A condition as it is written, generic in what a geometry argument is. The number of a predicate is the byte
+/// at which it starts.
+#[derive(Debug, Drop)]
+pub enum WrittenCond<'a, A> {
+    Or(Items<WrittenCond<'a, A>>),
+    And(Items<WrittenCond<'a, A>>),
+    Not(Boxed<WrittenCond<'a, A>>),
+    Compare(usize, Comparison, WrittenOperand<'a, A>, WrittenOperand<'a, A>),
+    IsNull(WrittenOperand<'a, A>),
+    IsEmpty(usize, A),
+    Relates(usize, WrittenPredicate<'a>, A, A),
+}
+
+/// An item of the select list as it is written, generic in what the argument of a function is.
+#[derive(Debug, Drop)]
+pub enum WrittenItem<'a, C> {
+    Column(WrittenColumn<'a>),
+    /// ST_AsText, ST_Dimension and ST_IsEmpty, each with the byte of that word.
+    AsText(usize, C),
+    Dimension(usize, C),
+    IsEmpty(usize, C),
+}
+
+/// What SELECT lists.
+#[derive(Debug, Drop)]
+pub enum Selection<'a, C> {
+    /// `*`
+    All,
+    Items(Items<WrittenItem<'a, C>>),
+}
+
+/// A table reference as it is written.
+#[derive(Debug, Drop)]
+pub struct WrittenReference<'a> {
+    pub table: Name<'a>,
+    pub alias: Option<Name<'a>>,
+}
+
+/// Whether a query is to be answered, or its plan to be told.
+#[derive(Clone, Copy, Debug, PartialEq, Eq)]
+pub enum Explain {
+    /// Rows are wanted.
+    No,
+    /// EXPLAIN: the plan.
+    Plan,
+    /// EXPLAIN ANALYZE: the plan, and the work of running it.
+    Analyze,
+}
+
+/// A SELECT as it is written, generic in what a geometry argument is in a condition (`A`) and what the argument
+/// of a function is in the select list (`C`).
+#[derive(Debug, Drop)]
+pub struct Query<'a, A, C> {
+    pub explain: Explain,
+    pub selection: Selection<'a, C>,
+    pub first: WrittenReference<'a>,
+    pub second: Option<WrittenReference<'a>>,
+    /// The condition of ON.
+    pub on: Option<WrittenCond<'a, A>>,
+    /// The condition of WHERE.
+    pub condition: Option<WrittenCond<'a, A>>,
+}

@@ -1,0 +1,55 @@
+//! Tokens of schema and query texts.
+
+use crate::texts::Slice;
+
+/// What a token is. A reserved word has a kind of its own.
+#[derive(Clone, Copy, Debug, PartialEq, Eq)]
+pub enum TokenKind {
+    /// A word that isn't reserved.
+    Word,
+    /// One or more digits.
+    Integer,
+    /// A string, whose text is what stands between its quotes, each quote in it doubled.
+    Text,
+    LeftParenthesis,
+    RightParenthesis,
+    Comma,
+    Point,
+    Semicolon,
+    Star,
+    Plus,
+    Minus,
+    Equal,
+    /// `<>` or `!=`
+    NotEqual,
+    Less,
+    LessOrEqual,
+    Greater,
+    GreaterOrEqual,
+    Select,
+    From,
+    Where,
+    And,
+    Or,
+    Not,
+    Is,
+    Null,
+    Join,
+    Inner,
+    Cross,
+    On,
+    As,
+    Limit,
+    /// A byte that begins no token.
+    Bad,
+    /// The end of the text.
+    End,
+}
+
+/// A token: its kind, its text, and the byte from 0 at which it starts in the whole text.
+#[derive(Debug, Drop)]
+pub struct Token<'a> {
+    pub kind: TokenKind,
+    pub text: Slice<'a>,
+    pub at: usize,
+}

@@ -1,0 +1,28 @@
+//! Typed fields, and the three values of a condition.
+
+use crate::texts::OwnedText;
+
+/// A field of a typed row, generic in what a geometry is.
+#[derive(Debug, Drop)]
+pub enum Value<G> {
+    /// No value.
+    Null,
+    /// A whole number.
+    Integer(i64),
+    /// A text.
+    Text(OwnedText),
+    /// A valid geometry.
+    Geometry(G),
+}
+
+/// The three values of a condition: what is neither true nor false is unknown.
+#[derive(Clone, Copy, Debug, PartialEq, Eq)]
+pub enum Truth {
+    True,
+    False,
+    Unknown,
+}
+
+/// Stands in the place of a geometry, or of what speaks of one, where none is served: it has no value.
+#[derive(Debug, Drop)]
+pub enum NoGeometry {}
