@@ -7,7 +7,12 @@
 pub mod point_sets;
 pub mod relations;
 pub mod shapes;
+pub mod text_examples;
+pub mod text_faults;
+pub mod validity_faults;
 
 pub use point_sets::{Dimension, Location};
 pub use relations::{Pattern, PatternCharacter, Predicate};
 pub use shapes::{GeometryType, Kind};
+pub use text_faults::TextFault;
+pub use validity_faults::ValidityFault;

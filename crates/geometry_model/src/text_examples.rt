@@ -1,0 +1,87 @@
+//! Texts of geometries, computed: which geometry each spells, or its first fault, and canonical texts.
+#![tactic(auto, unfolding(crate::specs::TextReading::read_text, crate::specs::TextReading::whole, crate::specs::TextReading::tagged, crate::specs::TextReading::typed, crate::specs::TextReading::body, crate::specs::TextReading::parts, crate::specs::TextReading::line, crate::specs::TextReading::separated, crate::specs::TextReading::point, crate::specs::TextReading::position, crate::specs::TextReading::space, crate::specs::TextReading::coordinate, crate::specs::TextReading::numeral, crate::specs::TextReading::fraction, crate::specs::TextReading::sign,))]
+
+ghost use Rattle.std.specs.Prelude.{◌≡◌, [], ◌∷◌, ◌++◌, codes, pos, negsuc, Some, None, Ok, Err};
+ghost use Rattle.geometry_model.specs.Geometries.{
+  Point,
+  MultiPoint,
+  LineString,
+  MultiLineString,
+  Polygon,
+};
+ghost use Rattle.geometry_model.specs.CanonicalText.{canonical_text};
+ghost use Rattle.geometry_model.specs.TextReading.{read_text, separated, parts, position};
+ghost use Rattle.geometry_model.specs.TextExamples.{at, square, input};
+ghost use Rattle.geometry_model.specs.declared.text_faults.TextFault.TheVariants.{
+  Syntax,
+  OffGrid,
+  OutOfRange,
+  TooLong,
+};
+
+/// Texts of points: signs, leading zeros, points without digits on one side, white space, any case.
+pub fn texts_of_points()
+    ensures plain { read_text (codes "POINT(1 2)") ≡ Ok (Point (Some (at (pos 1) (pos 2)))) }
+    ensures zeros { read_text (codes "POINT(1.0 2)") ≡ Ok (Point (Some (at (pos 1) (pos 2)))) }
+    ensures points { read_text (codes "POINT(1. .0)") ≡ Ok (Point (Some (at (pos 1) (pos 0)))) }
+    ensures signs { read_text (codes "POINT(+1.00 01)") ≡ Ok (Point (Some (at (pos 1) (pos 1)))) }
+    ensures minus { read_text (codes "POINT(-0 -2)") ≡ Ok (Point (Some (at (pos 0) (negsuc 1)))) }
+    ensures limit { read_text (codes "POINT(-100000 100000)") ≡ Ok (Point (Some (at (negsuc 99999) (pos 100000)))) }
+    ensures white { read_text (codes "multipoint ( 1 2 , 3 4.0 )") ≡ Ok (MultiPoint (at (pos 1) (pos 2) ∷ at (pos 3) (pos 4) ∷ [])) }
+    ensures parentheses { read_text (codes "MultiPoint((1 2), 3 4)") ≡ Ok (MultiPoint (at (pos 1) (pos 2) ∷ at (pos 3) (pos 4) ∷ [])) }
+    ensures empty { read_text (codes " Point\tEmpty\n") ≡ Ok (Point None) }
+{}
+
+/// Consecutive equal positions become one in lines and rings, and stay in a MULTIPOINT.
+pub fn repeated_positions()
+    ensures points { read_text (codes "MULTIPOINT(1 1,1 1)") ≡ Ok (MultiPoint (at (pos 1) (pos 1) ∷ at (pos 1) (pos 1) ∷ [])) }
+    ensures line { read_text (codes "LINESTRING(0 0,0 0,1 0)") ≡ Ok (LineString (at (pos 0) (pos 0) ∷ at (pos 1) (pos 0) ∷ [])) }
+    ensures whole_line { read_text (codes "LINESTRING(3 3,3 3)") ≡ Ok (LineString (at (pos 3) (pos 3) ∷ [])) }
+    ensures ring { read_text (codes "POLYGON((0 0,0 0,1 0,0 0))") ≡ Ok (Polygon ((at (pos 0) (pos 0) ∷ at (pos 1) (pos 0) ∷ at (pos 0) (pos 0) ∷ []) ∷ [])) }
+    ensures elements { read_text (codes "MULTILINESTRING((0 0,0 0),(0 0,1 0,0 0))")
+        ≡ Ok (MultiLineString ((at (pos 0) (pos 0) ∷ []) ∷ (at (pos 0) (pos 0) ∷ at (pos 1) (pos 0) ∷ at (pos 0) (pos 0) ∷ []) ∷ [])) }
+{}
+
+/// The first fault of a text, and its byte.
+pub fn first_faults()
+    ensures nothing { read_text [] ≡ Err (Syntax 0) }
+    ensures half_a_word { read_text (codes "POLYGO") ≡ Err (Syntax 0) }
+    ensures unknown_type { read_text (codes "MULTIPOLYGON EMPTY") ≡ Err (Syntax 0) }
+    ensures unfinished { read_text (codes "POINT(1 2") ≡ Err (Syntax 9) }
+    ensures exponent { read_text (codes "POINT(1e0 2)") ≡ Err (Syntax 7) }
+    ensures lone_sign { read_text (codes "POINT(-") ≡ Err (Syntax 6) }
+    ensures lone_point { read_text (codes "POINT(1 .)") ≡ Err (Syntax 8) }
+    ensures joined_numbers { read_text (codes "POINT(1-2)") ≡ Err (Syntax 7) }
+    ensures joined_fractions { read_text (codes "POINT(1.0.5 2)") ≡ Err (Syntax 9) }
+    ensures empty_element { read_text (codes "MULTIPOINT(EMPTY)") ≡ Err (Syntax 11) }
+    ensures more_behind { read_text (codes "POINT EMPTY x") ≡ Err (Syntax 12) }
+    ensures beyond_ascii { read_text (80 ∷ 195 ∷ 150 ∷ []) ≡ Err (Syntax 0) }
+    ensures off_grid { read_text (codes "POINT(1.5 2)") ≡ Err (OffGrid 6) }
+    ensures off_grid_first { read_text (codes "POINT(100001.5 0)") ≡ Err (OffGrid 6) }
+    ensures out_of_range { read_text (codes "POINT(100001 0)") ≡ Err (OutOfRange 6) }
+    ensures left_to_right { read_text (codes "LINESTRING(0 -100001,1.5 2") ≡ Err (OutOfRange 13) }
+{}
+
+/// The counts of positions and parts, at limits of two: the fault comes at the first number of the position, and
+/// at the parenthesis of the part, before any other fault there.
+pub fn counted_parts()
+    ensures position { separated position 2 (input (codes "1 1,2 2,3.5 3")) ≡ Err TooLong }
+    ensures no_number { separated position 2 (input (codes "1 1,2 2,)")) ≡ Err (Syntax 8) }
+    ensures part { parts 2 9 (input (codes "(1 1),(2 2),(")) ≡ Err TooLong }
+    ensures position_of_a_part { parts 2 2 (input (codes "(1 1,2 2),(3 3)")) ≡ Err TooLong }
+{}
+
+/// Canonical texts.
+pub fn canonical_texts()
+    ensures point { canonical_text (Point (Some (at (negsuc 0) (pos 20)))) ≡ codes "POINT(-1 20)" }
+    ensures points { canonical_text (MultiPoint (at (pos 1) (pos 2) ∷ at (pos 3) (pos 4) ∷ [])) ≡ codes "MULTIPOINT((1 2),(3 4))" }
+    ensures line { canonical_text (LineString (at (pos 0) (pos 0) ∷ at (pos 1) (pos 0) ∷ [])) ≡ codes "LINESTRING(0 0,1 0)" }
+    ensures lines { canonical_text (MultiLineString ((at (pos 0) (pos 0) ∷ at (pos 2) (pos 0) ∷ []) ∷ (at (pos 2) (pos 0) ∷ at (pos 4) (pos 0) ∷ []) ∷ []))
+        ≡ codes "MULTILINESTRING((0 0,2 0),(2 0,4 0))" }
+    ensures polygon { canonical_text (Polygon (square ∷ [])) ≡ codes "POLYGON((0 0,4 0,4 4,0 4,0 0))" }
+    ensures no_point { canonical_text (Point None) ≡ codes "POINT EMPTY" }
+    ensures no_points { canonical_text (MultiPoint []) ≡ codes "MULTIPOINT EMPTY" }
+    ensures no_line { canonical_text (LineString []) ≡ codes "LINESTRING EMPTY" }
+    ensures no_lines { canonical_text (MultiLineString []) ≡ codes "MULTILINESTRING EMPTY" }
+    ensures no_polygon { canonical_text (Polygon []) ≡ codes "POLYGON EMPTY" }
+{}
