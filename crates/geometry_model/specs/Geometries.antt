@@ -1,5 +1,5 @@
 -- Geometries: a type and lists of positions.
-use Rattle.std.specs.Prelude.{Bool, true, false, List, [], ◌∷◌, flat_map, Option, Some, None}
+use Rattle.std.specs.Prelude.{Bool, ◌==◌, List, [], ◌∷◌, ◌++◌, length, flat_map, Option, is_none, option_to_list}
 use Rattle.geometry_model.specs.Points.{Position}
 use Rattle.geometry_model.specs.declared.shapes.GeometryType.{GeometryType}
 use Rattle.geometry_model.specs.declared.shapes.GeometryType.TheVariants as types
@@ -22,7 +22,7 @@ type_of (LineString ps) = types.LineString
 type_of (MultiLineString ls) = types.MultiLineString
 type_of (Polygon rs) = types.Polygon
 
--- the kind of a type: its points, lines and areas (06-103r4, 6.1.15.3)
+-- the kind of a type: points, lines or areas (06-103r4, 6.1.15.3)
 abbrev pub kind_of_type : GeometryType → Kind
 kind_of_type types.Point = kinds.Point
 kind_of_type types.MultiPoint = kinds.Point
@@ -34,36 +34,41 @@ kind_of_type types.Polygon = kinds.Area
 abbrev pub kind : Geometry → Kind
 kind g = kind_of_type (type_of g)
 
--- it has no position (06-103r4, 6.1.2.2: the empty set)
+-- the geometry is the empty set of points (06-103r4, 6.1.2.2)
 abbrev pub is_empty : Geometry → Bool
-is_empty (Point None) = true
-is_empty (Point (Some p)) = false
-is_empty (MultiPoint []) = true
-is_empty (MultiPoint (p ∷ ps)) = false
-is_empty (LineString []) = true
-is_empty (LineString (p ∷ ps)) = false
-is_empty (MultiLineString []) = true
-is_empty (MultiLineString (l ∷ ls)) = false
-is_empty (Polygon []) = true
-is_empty (Polygon (r ∷ rs)) = false
+is_empty (Point p) = is_none p
+is_empty (MultiPoint ps) = length ps == 0
+is_empty (LineString ps) = length ps == 0
+is_empty (MultiLineString ls) = length ls == 0
+is_empty (Polygon rs) = length rs == 0
 
--- the listed positions of a point type (06-103r4, 6.1.4 and 6.1.5)
+-- the listed positions of a point type; other types have none (06-103r4, 6.1.4 and 6.1.5)
 abbrev pub listed : Geometry → List Position
-listed (Point None) = []
-listed (Point (Some p)) = p ∷ []
+listed (Point p) = option_to_list p
 listed (MultiPoint ps) = ps
 listed (LineString ps) = []
 listed (MultiLineString ls) = []
 listed (Polygon rs) = []
 
--- its lines or rings (06-103r4, 6.1.7, 6.1.9 and 6.1.11)
+-- its lines or rings; point types have none (06-103r4, 6.1.7, 6.1.9 and 6.1.11)
 abbrev pub lines : Geometry → List (List Position)
 lines (Point p) = []
 lines (MultiPoint ps) = []
-lines (LineString []) = []
-lines (LineString (p ∷ ps)) = (p ∷ ps) ∷ []
+lines (LineString ps) = ps ∷ []
 lines (MultiLineString ls) = ls
 lines (Polygon rs) = rs
+
+-- the rings of a polygon; other types have none (06-103r4, 6.1.11)
+abbrev pub rings : Geometry → List (List Position)
+rings (Point p) = []
+rings (MultiPoint ps) = []
+rings (LineString ps) = []
+rings (MultiLineString ls) = []
+rings (Polygon rs) = rs
+
+-- all its positions, in order (06-103r4, 6.1.4 to 6.1.11)
+abbrev pub positions : Geometry → List Position
+positions g = listed g ++ flat_map (λ line. line) (lines g)
 
 -- an edge: the straight line between two positions (06-103r4, 6.1.7: Line)
 pub record Edge : Type 0 where
@@ -76,6 +81,10 @@ edges_of_line [] = []
 edges_of_line (a ∷ []) = []
 edges_of_line (a ∷ b ∷ rest) = record { start = a; end = b } ∷ edges_of_line (b ∷ rest)
 
+-- the edges of lines or rings, in order (06-103r4, 6.1.7 to 6.1.11)
+abbrev pub edges_of_lines : List (List Position) → List Edge
+edges_of_lines ls = flat_map edges_of_line ls
+
 -- the edges of a geometry, in order (06-103r4, 6.1.7 to 6.1.11)
 abbrev pub edges : Geometry → List Edge
-edges g = flat_map edges_of_line (lines g)
+edges g = edges_of_lines (lines g)

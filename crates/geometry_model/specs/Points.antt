@@ -1,12 +1,15 @@
 -- Positions of the grid and rational points of the plane.
-use Rattle.std.specs.Prelude.{ℤ, pos, ◌<ℤ◌}
+use Rattle.std.specs.Prelude.{ℕ, zero, suc, ◌+◌, ◌%◌, Bool, ◌&&◌, ℤ, pos, ◌+ℤ◌, ◌*ℤ◌, ◌<ℤ◌, unsigned_abs, int_div}
+use Rattle.std.specs.declared.cmp.Ordering.{Ordering}
+use Rattle.std.specs.Ordering.{int_cmp, int_eq, ordering_then}
+use Rattle.std.specs.Int.{IsGcd}
 
 -- a position of the grid: two whole numbers (06-103r4, 6.1.4; whole numbers alone: profile)
 pub record Position : Type 0 where
   pub x : ℤ
   pub y : ℤ
 
--- a point of the plane, standing for (X/W, Y/W) (profile: the plane has the rational points)
+-- a point of the plane, standing for (X/W, Y/W) (06-103r4, 6.1.4; rational coordinates alone: profile)
 pub record Point : Type 0 where
   pub X : ℤ
   pub Y : ℤ
@@ -19,3 +22,44 @@ IsPoint p = pos 0 <ℤ p.W
 -- the point at a position (profile)
 abbrev pub point_at : Position → Point
 point_at a = record { X = a.x; Y = a.y; W = pos 1 }
+
+-- two triples stand for one point: both coordinates agree, multiplied across (profile)
+abbrev pub same_point : Point → Point → Bool
+same_point p q = int_eq (p.X *ℤ q.W) (q.X *ℤ p.W) && int_eq (p.Y *ℤ q.W) (q.Y *ℤ p.W)
+
+-- the order of two points' x coordinates (profile)
+abbrev pub compare_x : Point → Point → Ordering
+compare_x p q = int_cmp (p.X *ℤ q.W) (q.X *ℤ p.W)
+
+-- the order of their y coordinates (profile)
+abbrev pub compare_y : Point → Point → Ordering
+compare_y p q = int_cmp (p.Y *ℤ q.W) (q.Y *ℤ p.W)
+
+-- the order of points: by x, then by y (profile)
+abbrev pub compare : Point → Point → Ordering
+compare p q = ordering_then (compare_x p q) (compare_y p q)
+
+-- a point between two others: the sums of the numbers of their triples (profile)
+abbrev pub mediant : Point → Point → Point
+mediant p q = record { X = p.X +ℤ q.X; Y = p.Y +ℤ q.Y; W = p.W +ℤ q.W }
+
+-- a triple is in least form where 1 is the greatest number that divides all three (profile)
+abbrev pub IsLeast : Point → Type 0
+IsLeast p = (g : ℕ) → IsGcd (unsigned_abs p.X) (unsigned_abs p.Y) g → IsGcd g (unsigned_abs p.W) 1
+
+-- Euclid's remainders, for so many turns at most (profile)
+abbrev pub last_divisor : ℕ → ℕ → ℕ → ℕ
+last_divisor zero a b = a
+last_divisor (suc turns) a zero = a
+last_divisor (suc turns) a (suc b) = last_divisor turns (suc b) (a % suc b)
+
+-- the greatest common divisor: the remainders fall, so b + 1 turns are enough (profile)
+abbrev pub gcd : ℕ → ℕ → ℕ
+gcd a b = last_divisor (b + 1) a b
+
+-- the triple in least form that stands for the same point (profile)
+abbrev pub divided : Point → ℕ → Point
+divided p g = record { X = int_div p.X (pos g); Y = int_div p.Y (pos g); W = int_div p.W (pos g) }
+
+abbrev pub least_form : Point → Point
+least_form p = divided p (gcd (gcd (unsigned_abs p.X) (unsigned_abs p.Y)) (unsigned_abs p.W))

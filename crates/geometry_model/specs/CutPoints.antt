@@ -1,0 +1,70 @@
+-- The points at which the edges and listed positions of two geometries cut one another.
+use Rattle.std.specs.Prelude.{◌≡◌, Bool, true, false, ◌&&◌, ◌||◌, not, List, [], ◌∷◌, ◌++◌, map, flat_map, Contains, if◌then◌else◌, pos, ◌-ℤ◌, ◌*ℤ◌, int_lt}
+use Rattle.std.specs.declared.cmp.Ordering.{Ordering}
+use Rattle.std.specs.declared.cmp.Ordering.TheVariants.{Less, Equal, Greater}
+use Rattle.std.specs.Ordering.{int_eq}
+use Rattle.geometry_model.specs.Points.{Position, Point, point_at, same_point, compare, least_form}
+use Rattle.geometry_model.specs.Geometries.{Edge}
+use Rattle.geometry_model.specs.Sides.{side, on, on_one_line}
+
+-- the point is an end of the edge
+abbrev pub is_end : Edge → Point → Bool
+is_end e p = same_point (point_at e.start) p || same_point (point_at e.end) p
+
+-- a cut of edges and listed positions: an end, a listed position, or a point that two edges not on one line share (profile). The ends of a stretch that two edges share are ends of edges
+pub data IsCut (es : List Edge) (ps : List Position) (p : Point) : Type 0 where
+  AtEnd : (e : Edge) → Contains es e → is_end e p ≡ true → IsCut es ps p
+  Listed : (a : Position) → Contains ps a → same_point (point_at a) p ≡ true → IsCut es ps p
+  AtCrossing : (e f : Edge) → Contains es e → Contains es f → on_one_line e f ≡ false → on e p ≡ true → on f p ≡ true → IsCut es ps p
+
+-- the triple with W at least 0 that stands for the same point
+abbrev pub turned_up : Point → Point
+turned_up p =
+    if int_lt p.W (pos 0) then record { X = pos 0 -ℤ p.X; Y = pos 0 -ℤ p.Y; W = pos 0 -ℤ p.W }
+    else p
+
+-- the point at which the line of f meets that of e, by the sides of f's ends of e; W is 0 where they are parallel (profile)
+abbrev pub meeting_point : Edge → Edge → Point
+meeting_point e f =
+    let s = side e.start e.end (point_at f.start) in
+    let t = side e.start e.end (point_at f.end) in
+    turned_up record {
+      X = s *ℤ f.end.x -ℤ t *ℤ f.start.x;
+      Y = s *ℤ f.end.y -ℤ t *ℤ f.start.y;
+      W = s -ℤ t;
+    }
+
+-- the point, if there is one and both edges go through it
+abbrev pub if_on_both : Edge → Edge → Point → List Point
+if_on_both e f p =
+    if not (int_eq p.W (pos 0)) && on e p && on f p then least_form p ∷ []
+    else []
+
+-- the point that two edges not on one line share, in least form (profile)
+abbrev pub crossings : Edge → Edge → List Point
+crossings e f = if_on_both e f (meeting_point e f)
+
+-- p before q and qs, in its place, or left out where q is the same point
+abbrev pub placed : Ordering → Point → Point → List Point → List Point → List Point
+placed Less p q qs inserted = p ∷ q ∷ qs
+placed Equal p q qs inserted = q ∷ qs
+placed Greater p q qs inserted = q ∷ inserted
+
+-- an ascending list of points, with p in its place
+abbrev pub with_point : Point → List Point → List Point
+with_point p [] = p ∷ []
+with_point p (q ∷ qs) = placed (compare p q) p q qs (with_point p qs)
+
+-- the points in ascending order, each once
+abbrev pub ascending : List Point → List Point
+ascending [] = []
+ascending (p ∷ ps) = with_point p (ascending ps)
+
+-- the ends of an edge, as points
+abbrev pub end_points : Edge → List Point
+end_points e = point_at e.start ∷ point_at e.end ∷ []
+
+-- all cuts of edges and listed positions, ascending, each once, in least form (profile)
+abbrev pub cut_points : List Edge → List Position → List Point
+cut_points es ps =
+    ascending (flat_map end_points es ++ map point_at ps ++ flat_map (λ e. flat_map (crossings e) es) es)

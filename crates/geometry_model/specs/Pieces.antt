@@ -1,0 +1,41 @@
+-- The stretches of edges between neighbouring cuts.
+use Rattle.std.specs.Prelude.{◌≡◌, true, List, [], ◌∷◌, filter, flat_map, Contains}
+use Rattle.std.specs.declared.cmp.Ordering.TheVariants.{Less}
+use Rattle.geometry_model.specs.Points.{Position, Point, IsPoint, compare, mediant}
+use Rattle.geometry_model.specs.Geometries.{Edge}
+use Rattle.geometry_model.specs.Sides.{on}
+use Rattle.geometry_model.specs.CutPoints.{IsCut}
+
+-- a straight stretch, its lesser end first (profile)
+pub record Piece : Type 0 where
+  pub lesser : Point
+  pub greater : Point
+
+-- two neighbouring cuts on one edge: no cut on it lies strictly between them (profile)
+pub record IsPiece (es : List Edge) (ps : List Position) (c : Piece) : Type 0 where
+  pub edge : Edge
+  pub among : Contains es edge
+  pub lesser_on : on edge c.lesser ≡ true
+  pub greater_on : on edge c.greater ≡ true
+  pub lesser_is_cut : IsCut es ps c.lesser
+  pub greater_is_cut : IsCut es ps c.greater
+  pub in_order : compare c.lesser c.greater ≡ Less
+  pub neighbours : (p : Point) → IsPoint p → on edge p ≡ true → IsCut es ps p → compare c.lesser p ≡ Less → compare p c.greater ≡ Less → ⊥
+
+-- the stretches between neighbours of an ascending list
+abbrev pub stretches : List Point → List Piece
+stretches [] = []
+stretches (p ∷ []) = []
+stretches (p ∷ q ∷ rest) = record { lesser = p; greater = q } ∷ stretches (q ∷ rest)
+
+-- the pieces of an edge, of ascending cuts
+abbrev pub pieces_of_edge : List Point → Edge → List Piece
+pieces_of_edge cuts e = stretches (filter (on e) cuts)
+
+-- the pieces of all edges; one that two edges share stands twice (profile)
+abbrev pub pieces : List Point → List Edge → List Piece
+pieces cuts es = flat_map (pieces_of_edge cuts) es
+
+-- the point of a piece that stands for all points strictly within it (profile)
+abbrev pub sample : Piece → Point
+sample c = mediant c.lesser c.greater
