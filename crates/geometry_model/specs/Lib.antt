@@ -1,5 +1,15 @@
 pub mod Points
 pub mod Geometries
+pub mod Sides
+pub mod Crossings
+pub mod Locations
+pub mod Dimensions
+pub mod Patterns
+pub mod Predicates
+pub mod CutPoints
+pub mod Pieces
+pub mod Labels
+pub mod Envelopes
 pub mod WellKnownText
 pub mod CanonicalText
 pub mod TextReading
