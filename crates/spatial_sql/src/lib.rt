@@ -1,0 +1,16 @@
+//! Schemas and queries in the style of OGC 06-104r4 (Simple Features, part 2): their texts are read into trees, and
+//! a query is bound to a database.
+#![tactic(auto)]
+
+pub use table_model::faults::{QueryFault, SchemaFault};
+use table_model::values::NoGeometry;
+pub use table_model::values::Truth;
+
+/// A SELECT as it is written. Names and strings are parts of the query's text.
+pub type Query<'a> = table_model::queries::Query<'a, NoGeometry, NoGeometry>;
+
+/// A query whose names have become places of a database.
+pub type Bound = table_model::conditions::Bound<NoGeometry, NoGeometry>;
+
+/// A condition over the rows of a bound query.
+pub type Cond = table_model::conditions::Cond<NoGeometry>;
