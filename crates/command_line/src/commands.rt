@@ -1,0 +1,15 @@
+//! What the command line can ask for.
+
+/// A command with its words, as texts of its own. (Profile.)
+#[derive(Debug, Drop)]
+pub enum Order {
+    /// Answer a query over the tables of a directory.
+    Run {
+        /// The path of the schema.
+        schema: String,
+        /// The path of the directory that holds one CSV file a table.
+        directory: String,
+        /// The text of the SELECT.
+        query: String,
+    },
+}

@@ -1,0 +1,13 @@
+//! The command line of `sfq`: what its words ask for, and what is wrong with them.
+#![tactic(auto)]
+
+mod commands;
+mod misuse;
+mod reading;
+
+pub use commands::Order;
+pub use misuse::Misuse;
+pub use reading::order;
+
+#[cfg(test)]
+mod tests;

@@ -1,0 +1,67 @@
+//! Why the words of the command line are no order.
+
+use clap::Error;
+use clap::error::ErrorKind;
+use std::alloc::{AllocError, AllocFailed};
+use std::{fmt, io};
+
+/// What `clap` answers in place of an order: a mistake in the words, the help that they ask for, or
+/// want of memory. Its `Display` is `clap`'s text for the user. (Profile.)
+#[derive(Debug, Drop)]
+pub struct Misuse {
+    /// The answer of `clap`.
+    pub error: Error,
+}
+
+impl Misuse {
+    ghost use Rattle.std.specs.Prelude.{◌≡◌};
+    ghost use Rattle.clap.specs.Words.{kind_of};
+    ghost use Rattle.command_line.specs.Misuses.{status_of};
+
+    /// The status to end with: 0 for help, 7 for want of memory, else 2. (Profile.)
+    pub fn status(&self) -> u8
+        ensures { result ≡ status_of (kind_of self.now.error) }
+    {
+        match self.error.kind() {
+            ErrorKind::DisplayHelp => 0,
+            ErrorKind::OutOfMemory => 7,
+            _ => 2,
+        }
+    }
+
+    /// Prints `clap`'s text: help on standard output, all else on standard error. It answers the
+    /// error of the stream that it prints on. (Profile.)
+    pub fn print<R: Print + Eprint>(&self, rt: &R) -> io::Result<()> {
+        self.error.print(rt)
+    }
+}
+
+impl From<Error> for Misuse {
+    ghost use Rattle.std.specs.Prelude.{◌≡◌};
+
+    ghost from_gives = { λ e m. m.error ≡ e };
+
+    fn from(error: Error) -> Misuse {
+        Misuse { error }
+    }
+}
+
+impl From<AllocError> for Misuse {
+    ghost use Rattle.std.specs.Prelude.{◌≡◌};
+    ghost use Rattle.clap.specs.Words.{kind_of};
+    ghost use Rattle.clap.specs.declared.error.kind.ErrorKind.TheVariants.{OutOfMemory};
+
+    ghost from_gives = { λ _ m. kind_of m.error ≡ OutOfMemory };
+
+    fn from(error: AllocError) -> Misuse {
+        Misuse {
+            error: Error::from(error),
+        }
+    }
+}
+
+impl fmt::Display for Misuse {
+    fn fmt<W: fmt::Write>(&self, f: &mut fmt::Formatter<W>) -> fmt::Result {
+        fmt::Display::fmt(&self.error, f)
+    }
+}
