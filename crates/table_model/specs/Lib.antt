@@ -1,2 +1,5 @@
 pub mod Outcomes
 pub mod Texts
+pub mod Meanings
+pub mod AnswerTexts
+pub mod FaultLines

@@ -1,0 +1,80 @@
+-- The records of an answer: the header, and the fields of each row of the meaning.
+use Rattle.std.specs.Prelude.{Bool, ℕ, List, [], ◌∷◌, ◌++◌, map, length, ◌==◌, cond, decimal, codes}
+use Rattle.std.specs.Fmt.{signed_decimal}
+use Rattle.std.specs.List.{slice_index_or}
+use Rattle.table_model.specs.Meanings.{Row}
+use Rattle.table_model.specs.declared.values.Value.{Value}
+use Rattle.table_model.specs.declared.values.Value.TheVariants as v
+use Rattle.table_model.specs.declared.conditions.Bound.{Bound}
+use Rattle.table_model.specs.declared.conditions.Reference.{Reference}
+use Rattle.table_model.specs.declared.conditions.ColumnPlace.{ColumnPlace}
+use Rattle.table_model.specs.declared.conditions.Item.{Item}
+use Rattle.table_model.specs.declared.conditions.Item.TheVariants as i
+use Rattle.table_model.specs.declared.definitions.TableDef.{TableDef}
+
+-- how a geometry is written: its canonical text, its dimension and whether it is empty, and the column that
+-- the argument of a function names (06-103r4, clauses 6.1.2 and 7)
+pub record Writing (G C : Type 0) : Type 0 where
+  pub place : C → ColumnPlace
+  pub text : G → List ℕ
+  pub dimension : G → ℕ
+  pub is_empty : G → Bool
+
+-- the name of a column of a table, as the schema spells it (profile)
+abbrev pub column_name : {T : Type 0} → List (TableDef T) → ℕ → ℕ → List ℕ
+column_name tables table column = slice_index_or (slice_index_or (map (λ d. map (λ c. c.name) d.columns) tables) table []) column []
+
+-- what stands before a column's name: for two tables the reference's name and a point (profile)
+abbrev pub qualifier : List Reference → ℕ → List ℕ
+qualifier references place =
+    cond (length references == 1) [] (slice_index_or (map (λ r. r.name) references) place [] ++ codes ".")
+
+-- the header of a column (profile)
+abbrev pub column_header : {T : Type 0} → List (TableDef T) → List Reference → ColumnPlace → List ℕ
+column_header tables references place =
+    qualifier references place.reference ++ column_name tables (slice_index_or (map (λ r. r.table) references) place.reference 0) place.column
+
+-- the header of an item: a function's is its name, and its column's header in parentheses (profile)
+abbrev pub item_header : {T G C : Type 0} → Writing G C → List (TableDef T) → List Reference → Item C → List ℕ
+item_header writing tables references (i.Column place) = column_header tables references place
+item_header writing tables references (i.AsText c) = codes "ST_AsText(" ++ column_header tables references (writing.place c) ++ codes ")"
+item_header writing tables references (i.Dimension c) = codes "ST_Dimension(" ++ column_header tables references (writing.place c) ++ codes ")"
+item_header writing tables references (i.IsEmpty c) = codes "ST_IsEmpty(" ++ column_header tables references (writing.place c) ++ codes ")"
+
+-- the text of a field: nothing for NULL, the shortest decimal text of an integer, the bytes of a text, and
+-- the canonical text of a geometry (profile)
+abbrev pub field_text : {G C : Type 0} → Writing G C → Value G → List ℕ
+field_text writing v.Null = []
+field_text writing (v.Integer n) = signed_decimal n
+field_text writing (v.Text bytes) = bytes
+field_text writing (v.Geometry g) = writing.text g
+
+-- the text of a function of a geometry, and nothing for NULL (profile)
+abbrev pub function_text : {G : Type 0} → (G → List ℕ) → Value G → List ℕ
+function_text text v.Null = []
+function_text text (v.Integer n) = []
+function_text text (v.Text bytes) = []
+function_text text (v.Geometry g) = text g
+
+-- the field at a column of some rows, one a reference (profile)
+abbrev pub field_at : {G : Type 0} → List (Row G) → ColumnPlace → Value G
+field_at rows place = slice_index_or (slice_index_or rows place.reference []) place.column v.Null
+
+-- the text of an item at some rows (profile)
+abbrev pub item_text : {G C : Type 0} → Writing G C → List (Row G) → Item C → List ℕ
+item_text writing rows (i.Column place) = field_text writing (field_at rows place)
+item_text writing rows (i.AsText c) = function_text writing.text (field_at rows (writing.place c))
+item_text writing rows (i.Dimension c) = function_text (λ g. decimal (writing.dimension g)) (field_at rows (writing.place c))
+item_text writing rows (i.IsEmpty c) = function_text (λ g. cond (writing.is_empty g) (codes "1") (codes "0")) (field_at rows (writing.place c))
+
+-- the header record of a query (profile)
+abbrev pub header : {T G A C : Type 0} → Writing G C → List (TableDef T) → Bound A C → List (List ℕ)
+header writing tables query = map (item_header writing tables query.references) query.items
+
+-- the record of some rows (profile)
+abbrev pub record_of : {G A C : Type 0} → Writing G C → Bound A C → List (Row G) → List (List ℕ)
+record_of writing query rows = map (item_text writing rows) query.items
+
+-- the records of an answer: the header, then one for each member of the meaning (profile)
+abbrev pub answer_records : {T G A C : Type 0} → Writing G C → List (TableDef T) → Bound A C → List (List (Row G)) → List (List (List ℕ))
+answer_records writing tables query rows = header writing tables query ∷ map (record_of writing query) rows
