@@ -14,3 +14,4 @@ pub mod WellKnownText
 pub mod CanonicalText
 pub mod TextReading
 pub mod TextExamples
+pub mod MatrixExamples

@@ -4,6 +4,7 @@
 //! definitions and the programs share.
 #![tactic(auto)]
 
+pub mod matrix_examples;
 pub mod point_sets;
 pub mod relations;
 pub mod shapes;
