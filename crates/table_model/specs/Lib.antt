@@ -3,3 +3,4 @@ pub mod Texts
 pub mod Meanings
 pub mod AnswerTexts
 pub mod FaultLines
+pub mod Truths

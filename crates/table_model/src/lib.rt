@@ -10,4 +10,5 @@ pub mod faults;
 pub mod queries;
 pub mod texts;
 pub mod tokens;
+pub mod truths;
 pub mod values;
