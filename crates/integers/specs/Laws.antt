@@ -1,5 +1,6 @@
 -- Laws of the whole numbers on which the geometry rests, each as one statement.
 use Rattle.std.specs.Prelude.{◌≡◌, ℤ, pos, ◌+ℤ◌, ◌-ℤ◌, ◌*ℤ◌, ◌≤ℤ◌, ◌<ℤ◌, ◌⊎◌}
+use Rattle.std.specs.Ordering.{int_cmp}
 
 -- profile: a product goes over a sum
 abbrev pub Distributes : Type 0
@@ -32,3 +33,7 @@ AtMostIsTransitive = (a m b n c k : ℤ) → pos 0 <ℤ m → pos 0 <ℤ n → p
 -- profile: a product is 0 only where a factor is
 abbrev pub ZeroProduct : Type 0
 ZeroProduct = (a b : ℤ) → a *ℤ b ≡ pos 0 → (a ≡ pos 0) ⊎ (b ≡ pos 0)
+
+-- profile: a number times one above 0 has its sign
+abbrev pub SignIsKept : Type 0
+SignIsKept = (k a : ℤ) → pos 0 <ℤ k → int_cmp (k *ℤ a) (pos 0) ≡ int_cmp a (pos 0)

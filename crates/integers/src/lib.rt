@@ -1,7 +1,7 @@
 //! Whole numbers without limit, for proofs: the laws of sums, products and orders on which the geometry rests. Nothing here runs: each function has an empty body, and its contract is a law.
 #![tactic(auto)]
 
-ghost use Rattle.integers.specs.Laws.{Distributes, Associates, ProductOfDifferences, LessIsTransitive, AtMostIsTransitive, ZeroProduct};
+ghost use Rattle.integers.specs.Laws.{Distributes, Associates, ProductOfDifferences, LessIsTransitive, AtMostIsTransitive, ZeroProduct, SignIsKept};
 
 /// A product goes over a sum: `a (b + c) = a b + a c`.
 pub fn product_distributes()
@@ -31,4 +31,9 @@ pub fn less_is_transitive()
 /// Of quotients with divisors of at least 1, compared by cross-multiplication, 'at most' is transitive.
 pub fn at_most_is_transitive()
     ensures { AtMostIsTransitive }
+{}
+
+/// A number times one of at least 1 has its sign.
+pub fn sign_is_kept()
+    ensures { SignIsKept }
 {}
