@@ -1,12 +1,11 @@
 -- One edge and one stretch that don't meet: what the edge is above changes from one end of the stretch to the other just as the stretch changes sides of the edge's ends.
-use Rattle.std.proofs.Common.{ℤ, pos, ◌+ℤ◌, ◌-ℤ◌, ◌*ℤ◌, ◌≤ℤ◌, ◌<ℤ◌, int_lt, int_le, ◌≡◌, ◌⊎◌, inl, inr, Bool, true, false, not, cond, ◌&&◌, refl, sym, ap, ap₂, ◌∙◌, arith}
-use mathlib.Core.Bool.{xor}
+use Rattle.std.proofs.Common.{ℤ, pos, ◌+ℤ◌, ◌-ℤ◌, ◌*ℤ◌, ◌≤ℤ◌, ◌<ℤ◌, int_lt, ◌≡◌, ◌⊎◌, inl, inr, Bool, true, false, not, cond, ◌&&◌, refl, sym, ap₂, ◌∙◌, arith}
+use Rattle.geometry_model.specs.Crossings.{exactly_one as xor}
 use borrow.Author.Differences.{ints}
 use Rattle.geometry_model.specs.Points.{Point, IsPoint}
-use Rattle.integers.proofs.Signs.{less_yes, less_no, at_most_or_less}
 use Rattle.geometry_laws.proofs.Xor.{xor_self, xor_swap, xor_false, false_xor, xor_false_if_same}
 use Rattle.geometry_model.specs.Dimensions.{area}
-use Rattle.geometry_laws.proofs.Plane.{right, reaches, above, over, Meets, combined}
+use Rattle.geometry_laws.proofs.Plane.{right, reaches, above, over, Meets}
 use Rattle.geometry_laws.proofs.Identities.{by_v, by_u, by_q, by_p, common_x, common_y, common_w, common_back_x, common_back_y, common_back_w, area_turned, right_turned}
 use Rattle.geometry_laws.proofs.FourSigns.{Areas, Crosses, CrossesBack, edge_spans, edge_spans_back, stretch_spans, stretch_spans_back, u_between, u_between_back, v_between, v_between_back}
 use Rattle.geometry_laws.proofs.LeftToRight.{right_trans, right_trans_first, right_trans_last, reaches_means, not_reaches_means, not_reaches_turned}
@@ -25,10 +24,12 @@ meets u v p q c = record {
   some = sum (area u v p) (area u v q) c.some;
   in_x = common_x u v p q;
   in_y = common_y u v p q;
-  in_w = common_w u v p q }
+  in_w = common_w u v p q;
+}
   where
     turned : (x : ℤ) → x ≤ℤ pos 0 → pos 0 ≤ℤ (pos 0 -ℤ x)
     turned x h = omega (arith, ints)
+
     sum : (x y : ℤ) → pos 0 <ℤ (y -ℤ x) → pos 0 <ℤ (y +ℤ (pos 0 -ℤ x))
     sum x y h = omega (arith, ints)
 
@@ -45,10 +46,12 @@ meets_back u v p q c = record {
   some = sum (area u v p) (area u v q) c.some;
   in_x = common_back_x u v p q;
   in_y = common_back_y u v p q;
-  in_w = common_back_w u v p q }
+  in_w = common_back_w u v p q;
+}
   where
     turned : (x : ℤ) → x ≤ℤ pos 0 → pos 0 ≤ℤ (pos 0 -ℤ x)
     turned x h = omega (arith, ints)
+
     sum : (x y : ℤ) → pos 0 <ℤ (x -ℤ y) → pos 0 <ℤ ((pos 0 -ℤ y) +ℤ x)
     sum x y h = omega (arith, ints)
 
@@ -64,12 +67,12 @@ opposite b c f g = grind (arith, ints)
 
 -- ---- the table of the four positions from left to right
 table : (up uq vp vq : Bool) (a a' b b' c c' d d' : Bool)
-  → (vp ≡ true → up ≡ true) → (up ≡ true → uq ≡ true) → (vp ≡ true → vq ≡ true) → (vq ≡ true → uq ≡ true)
-  → (up ≡ true → uq ≡ true → vp ≡ false → vq ≡ false → a ≡ b)
-  → (up ≡ false → uq ≡ true → vp ≡ false → vq ≡ true → c' ≡ d')
-  → (up ≡ false → uq ≡ true → vp ≡ false → vq ≡ false → b ≡ c')
-  → (up ≡ true → uq ≡ true → vp ≡ false → vq ≡ true → a ≡ d')
-  → xor (cond up (not vp && a) (vp && a')) (cond uq (not vq && b) (vq && b')) ≡ xor (cond up (not uq && c) (uq && c')) (cond vp (not vq && d) (vq && d'))
+    → (vp ≡ true → up ≡ true) → (up ≡ true → uq ≡ true) → (vp ≡ true → vq ≡ true) → (vq ≡ true → uq ≡ true)
+    → (up ≡ true → uq ≡ true → vp ≡ false → vq ≡ false → a ≡ b)
+    → (up ≡ false → uq ≡ true → vp ≡ false → vq ≡ true → c' ≡ d')
+    → (up ≡ false → uq ≡ true → vp ≡ false → vq ≡ false → b ≡ c')
+    → (up ≡ true → uq ≡ true → vp ≡ false → vq ≡ true → a ≡ d')
+    → xor (cond up (not vp && a) (vp && a')) (cond uq (not vq && b) (vq && b')) ≡ xor (cond up (not uq && c) (uq && c')) (cond vp (not vq && d) (vq && d'))
 table true true true true a a' b b' c c' d d' f g h k e1 e2 e3 e4 = refl
 table true true false false a a' b b' c c' d d' f g h k e1 e2 e3 e4 = xor_false_if_same a b (e1 refl refl refl refl) ∙ sym (xor_self false)
 table true true false true a a' b b' c c' d d' f g h k e1 e2 e3 e4 = xor_false a ∙ e4 refl refl refl refl ∙ sym (false_xor d')
@@ -102,21 +105,21 @@ reaches_trans : (a b c : Point) → IsPoint a → IsPoint b → IsPoint c → re
 reaches_trans a b c ha hb hc e f = reaches_from a c (right_trans a b c ha hb hc (reaches_means a b e) (reaches_means b c f))
 
 sorted : (u v p q : Point) → IsPoint u → IsPoint v → IsPoint p → IsPoint q → reaches u v ≡ true → reaches p q ≡ true → (Meets u v p q → ⊥)
-  → xor (above u v p) (above u v q) ≡ xor (over p q u) (over p q v)
+    → xor (above u v p) (above u v q) ≡ xor (over p q u) (over p q v)
 sorted u v p q hu hv hp hq e f apart = table (reaches u p) (reaches u q) (reaches v p) (reaches v q)
-  (int_lt (area u v p) (pos 0)) (int_lt (pos 0) (area u v p)) (int_lt (area u v q) (pos 0)) (int_lt (pos 0) (area u v q))
-  (int_lt (area p q u) (pos 0)) (int_lt (pos 0) (area p q u)) (int_lt (area p q v) (pos 0)) (int_lt (pos 0) (area p q v))
-  (λ h. reaches_trans u v p hu hv hp e h) (λ h. reaches_trans u p q hu hp hq h f) (λ h. reaches_trans v p q hv hp hq h f) (λ h. reaches_trans u v q hu hv hq e h)
-  (λ up uq vp vq. same_sign (area u v p) (area u v q)
+    (int_lt (area u v p) (pos 0)) (int_lt (pos 0) (area u v p)) (int_lt (area u v q) (pos 0)) (int_lt (pos 0) (area u v q))
+    (int_lt (area p q u) (pos 0)) (int_lt (pos 0) (area p q u)) (int_lt (area p q v) (pos 0)) (int_lt (pos 0) (area p q v))
+    (λ h. reaches_trans u v p hu hv hp e h) (λ h. reaches_trans u p q hu hp hq h f) (λ h. reaches_trans v p q hv hp hq h f) (λ h. reaches_trans u v q hu hv hq e h)
+    (λ up uq vp vq. same_sign (area u v p) (area u v q)
     (λ a b. apart (meets u v p q (edge_spans _ _ _ _ _ _ _ _ _ _ (areas u v p q) (reaches_means u p up) (reaches_means u q uq) (not_reaches_means v p vp) (not_reaches_means v q vq) (right_trans_last u p v hu hp hv (reaches_means u p up) (not_reaches_means v p vp)) a b)))
     (λ a b. apart (meets_back u v p q (edge_spans_back _ _ _ _ _ _ _ _ _ _ (areas u v p q) (reaches_means u p up) (reaches_means u q uq) (not_reaches_means v p vp) (not_reaches_means v q vq) (right_trans_last u p v hu hp hv (reaches_means u p up) (not_reaches_means v p vp)) a b))))
-  (λ up uq vp vq. same_plus (area p q u) (area p q v)
+    (λ up uq vp vq. same_plus (area p q u) (area p q v)
     (λ c d. apart (meets u v p q (stretch_spans _ _ _ _ _ _ _ _ _ _ (areas u v p q) (below_zero u p up) (reaches_means u q uq) (not_reaches_means v p vp) (back_at_most v q vq) (right_trans_first p u q hp hu hq (not_reaches_means u p up) (reaches_means u q uq)) c d)))
     (λ c d. apart (meets_back u v p q (stretch_spans_back _ _ _ _ _ _ _ _ _ _ (areas u v p q) (below_zero u p up) (reaches_means u q uq) (not_reaches_means v p vp) (back_at_most v q vq) (right_trans_first p u q hp hu hq (not_reaches_means u p up) (reaches_means u q uq)) c d))))
-  (λ up uq vp vq. opposite (area u v q) (area p q u)
+    (λ up uq vp vq. opposite (area u v q) (area p q u)
     (λ b c. apart (meets u v p q (u_between _ _ _ _ _ _ _ _ _ _ (areas u v p q) (below_zero u p up) (reaches_means u q uq) (not_reaches_means v p vp) (not_reaches_means v q vq) (right_trans_first p u q hp hu hq (not_reaches_means u p up) (reaches_means u q uq)) b c)))
     (λ b c. apart (meets_back u v p q (u_between_back _ _ _ _ _ _ _ _ _ _ (areas u v p q) (below_zero u p up) (reaches_means u q uq) (not_reaches_means v p vp) (not_reaches_means v q vq) (right_trans_first p u q hp hu hq (not_reaches_means u p up) (reaches_means u q uq)) b c))))
-  (λ up uq vp vq. opposite (area u v p) (area p q v)
+    (λ up uq vp vq. opposite (area u v p) (area p q v)
     (λ a d. apart (meets_back u v p q (v_between_back _ _ _ _ _ _ _ _ _ _ (areas u v p q) (reaches_means u p up) (not_reaches_means v p vp) (back_at_most v q vq) (right_trans_last u p v hu hp hv (reaches_means u p up) (not_reaches_means v p vp)) (reaches_means p q f) a d)))
     (λ a d. apart (meets u v p q (v_between _ _ _ _ _ _ _ _ _ _ (areas u v p q) (reaches_means u p up) (not_reaches_means v p vp) (back_at_most v q vq) (right_trans_last u p v hu hp hv (reaches_means u p up) (not_reaches_means v p vp)) (reaches_means p q f) a d))))
 
@@ -144,21 +147,35 @@ swap_sum x y = omega (arith, ints)
 
 pub meets_turned : (u v p q : Point) → Meets v u p q → Meets u v p q
 meets_turned u v p q c = record {
-  m = c.m; n = c.n; k = c.l; l = c.k;
-  from_m = c.from_m; from_n = c.from_n; from_k = c.from_l; from_l = c.from_k;
+  m = c.m;
+  n = c.n;
+  k = c.l;
+  l = c.k;
+  from_m = c.from_m;
+  from_n = c.from_n;
+  from_k = c.from_l;
+  from_l = c.from_k;
   some = c.some;
   in_x = c.in_x ∙ swap_sum (c.k *ℤ v.X) (c.l *ℤ u.X);
   in_y = c.in_y ∙ swap_sum (c.k *ℤ v.Y) (c.l *ℤ u.Y);
-  in_w = c.in_w ∙ swap_sum (c.k *ℤ v.W) (c.l *ℤ u.W) }
+  in_w = c.in_w ∙ swap_sum (c.k *ℤ v.W) (c.l *ℤ u.W);
+}
 
 pub meets_back_to_front : (u v p q : Point) → Meets u v q p → Meets u v p q
 meets_back_to_front u v p q c = record {
-  m = c.n; n = c.m; k = c.k; l = c.l;
-  from_m = c.from_n; from_n = c.from_m; from_k = c.from_k; from_l = c.from_l;
+  m = c.n;
+  n = c.m;
+  k = c.k;
+  l = c.l;
+  from_m = c.from_n;
+  from_n = c.from_m;
+  from_k = c.from_k;
+  from_l = c.from_l;
   some = turned c.m c.n c.some;
   in_x = swap_sum (c.n *ℤ p.X) (c.m *ℤ q.X) ∙ c.in_x;
   in_y = swap_sum (c.n *ℤ p.Y) (c.m *ℤ q.Y) ∙ c.in_y;
-  in_w = swap_sum (c.n *ℤ p.W) (c.m *ℤ q.W) ∙ c.in_w }
+  in_w = swap_sum (c.n *ℤ p.W) (c.m *ℤ q.W) ∙ c.in_w;
+}
   where
     turned : (x y : ℤ) → pos 0 <ℤ (x +ℤ y) → pos 0 <ℤ (y +ℤ x)
     turned x y h = omega (arith, ints)
@@ -172,16 +189,16 @@ either_way a b = go (reaches a b) refl
     go false e = inr (reaches_from b a (not_reaches_turned a b e))
 
 by_stretch : (u v p q : Point) → IsPoint u → IsPoint v → IsPoint p → IsPoint q → reaches u v ≡ true → (Meets u v p q → ⊥)
-  → xor (above u v p) (above u v q) ≡ xor (over p q u) (over p q v)
+    → xor (above u v p) (above u v q) ≡ xor (over p q u) (over p q v)
 by_stretch u v p q hu hv hp hq e apart = go (either_way p q)
   where
     go : (reaches p q ≡ true) ⊎ (reaches q p ≡ true) → xor (above u v p) (above u v q) ≡ xor (over p q u) (over p q v)
     go (inl f) = sorted u v p q hu hv hp hq e f apart
     go (inr f) = xor_swap (above u v p) (above u v q) ∙ sorted u v q p hu hv hq hp e f (λ c. apart (meets_back_to_front u v p q c)) ∙ ap₂ xor (over_turned p q u) (over_turned p q v)
-  
+
 -- an edge u v and a stretch p q that don't meet
 pub edge_lemma : (u v p q : Point) → IsPoint u → IsPoint v → IsPoint p → IsPoint q → (Meets u v p q → ⊥)
-  → xor (above u v p) (above u v q) ≡ xor (over p q u) (over p q v)
+    → xor (above u v p) (above u v q) ≡ xor (over p q u) (over p q v)
 edge_lemma u v p q hu hv hp hq apart = go (either_way u v)
   where
     go : (reaches u v ≡ true) ⊎ (reaches v u ≡ true) → xor (above u v p) (above u v q) ≡ xor (over p q u) (over p q v)

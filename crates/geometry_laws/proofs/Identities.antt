@@ -3,7 +3,7 @@ use Rattle.std.proofs.Common.{ℤ, pos, ◌+ℤ◌, ◌-ℤ◌, ◌*ℤ◌, ◌�
 use Rattle.geometry_model.specs.Points.{Point}
 use Rattle.integers.proofs.Ring.{Expr, var, lit, ◌⊕◌, ◌⊖◌, ◌⊗◌, solve}
 use Rattle.geometry_model.specs.Dimensions.{area}
-use Rattle.geometry_laws.proofs.Plane.{right, combined}
+use Rattle.geometry_laws.proofs.Plane.{right}
 
 -- ---- the expressions of points whose coordinates are variables
 pub record Triple : Type 0 where

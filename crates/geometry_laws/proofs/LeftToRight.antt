@@ -1,8 +1,8 @@
 -- The order of points from left to right, at denominators above 0.
-use Rattle.std.proofs.Common.{ℤ, pos, ◌+ℤ◌, ◌-ℤ◌, ◌*ℤ◌, ◌≤ℤ◌, ◌<ℤ◌, int_lt, int_le, ◌≡◌, ◌⊎◌, inl, inr, Bool, true, false, arith}
+use Rattle.std.proofs.Common.{ℤ, pos, ◌+ℤ◌, ◌-ℤ◌, ◌*ℤ◌, ◌≤ℤ◌, ◌<ℤ◌, int_le, ◌≡◌, true, false, arith}
 use borrow.Author.Differences.{ints}
 use Rattle.geometry_model.specs.Points.{Point, IsPoint}
-use Rattle.integers.proofs.Signs.{plus_plus, strict_plus_plus, cancel_nonnegative, cancel_positive, at_most_or_less}
+use Rattle.integers.proofs.Signs.{plus_plus, strict_plus_plus, cancel_nonnegative, cancel_positive}
 use Rattle.geometry_laws.proofs.Plane.{right, reaches}
 use Rattle.geometry_laws.proofs.Identities.{way, right_turned}
 

@@ -4,3 +4,7 @@ pub mod Identities
 pub mod LeftToRight
 pub mod FourSigns
 pub mod EdgeLemma
+pub mod Scaling
+pub mod PointOrder
+pub mod Respect
+pub mod LineSides

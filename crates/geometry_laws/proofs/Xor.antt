@@ -1,36 +1,31 @@
 -- Laws of the exclusive or.
-use mathlib.Core.Bool.{Bool, true, false, not, xor}
-use mathlib.Core.Path.{◌≡◌, refl, sym, ap, ap₂, ◌∙◌}
+use mathlib.Core.Bool.{Bool, true, false, not}
+use Rattle.geometry_model.specs.Crossings.{exactly_one as xor}
+use mathlib.Core.Path.{◌≡◌, refl, sym, ap, ◌∙◌}
 
 pub xor_self : (a : Bool) → xor a a ≡ false
-unfolding xor
 xor_self true = refl
 xor_self false = refl
 
 pub xor_swap : (a b : Bool) → xor a b ≡ xor b a
-unfolding xor
 xor_swap true true = refl
 xor_swap true false = refl
 xor_swap false true = refl
 xor_swap false false = refl
 
 pub xor_false : (a : Bool) → xor a false ≡ a
-unfolding xor
 xor_false true = refl
 xor_false false = refl
 
 pub false_xor : (a : Bool) → xor false a ≡ a
-unfolding xor
 false_xor true = refl
 false_xor false = refl
 
 pub xor_true : (a : Bool) → xor a true ≡ not a
-unfolding xor
 xor_true true = refl
 xor_true false = refl
 
 pub xor_assoc : (a b c : Bool) → xor (xor a b) c ≡ xor a (xor b c)
-unfolding xor
 xor_assoc true true true = refl
 xor_assoc true true false = refl
 xor_assoc true false true = refl
@@ -42,7 +37,6 @@ xor_assoc false false false = refl
 
 -- equal where the two differ by nothing
 pub same_if_xor_false : (a b : Bool) → xor a b ≡ false → a ≡ b
-unfolding xor
 same_if_xor_false true true e = refl
 same_if_xor_false true false e = absurd (cc)
 same_if_xor_false false true e = absurd (cc)

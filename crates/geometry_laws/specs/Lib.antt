@@ -1,1 +1,2 @@
-pub mod Dev
+pub mod PointLaws
+pub mod SideLaws

@@ -1,8 +1,5 @@
 //! The laws of the geometry: what the definitions of `geometry_model` promise together. Nothing here runs: each function has an empty body, and its contract is a law.
 #![tactic(auto)]
 
-ghost use Rattle.geometry_laws.specs.Dev.{Dev};
-
-pub fn dev()
-    ensures { Dev }
-{}
+pub mod points;
+pub mod sides;

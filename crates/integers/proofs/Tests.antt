@@ -1,13 +1,14 @@
 -- Tests of whole numbers that the code's words are made of: equality and order as answers.
 use mathlib.Core.Bool.{Bool, true, false, cond}
 use mathlib.Core.Logic.{◌⊎◌, inl, inr}
-use mathlib.Core.Path.{◌≡◌, refl, sym, ap, ◌∙◌}
+use mathlib.Core.Path.{◌≡◌, refl, sym, ap, ◌∙◌, ap₂}
 use native.Mathlib.Omega.{arith}
 use lib.IntN.{ℤ, pos, ◌*ℤ◌}
 use lib.Signed.{◌≤ℤ◌, ◌<ℤ◌, lt_z as int_lt, le_z as int_le}
 use borrow.Author.Differences.{ints}
 use Rattle.std.specs.declared.cmp.Ordering.TheVariants.{Less, Equal, Greater}
 use Rattle.std.specs.Ordering.{int_cmp, int_eq, is_eq}
+use Rattle.integers.proofs.Quotients.{less_scaled}
 use Rattle.integers.proofs.Signs.{less_yes, less_no, three_ways, same_less, same_at_most, strict_plus_plus, strict_plus_minus, plus_plus, plus_minus, cancel_positive, cancel_negative, cancel_nonnegative, cancel_nonpositive}
 
 -- ---- which of three
@@ -127,3 +128,7 @@ cmp_scaled k a h = ap (λ (t : Bool). cond t Less (cond (int_lt (pos 0) (k *ℤ 
 
 pub zero_scaled : (k a : ℤ) → pos 0 <ℤ k → int_eq (k *ℤ a) (pos 0) ≡ int_eq a (pos 0)
 zero_scaled k a h = ap is_eq (cmp_scaled k a h)
+
+-- two numbers times one above 0 compare as they did
+pub cmp_two_scaled : (k a b : ℤ) → pos 0 <ℤ k → int_cmp (k *ℤ a) (k *ℤ b) ≡ int_cmp a b
+cmp_two_scaled k a b h = ap₂ (λ (s t : Bool). cond s Less (cond t Greater Equal)) (less_scaled k a b h) (less_scaled k b a h)

@@ -1,0 +1,40 @@
+-- A triple and its multiples stand for one point, so what doesn't change under multiples doesn't depend on the triple.
+use Rattle.std.proofs.Common.{ℤ, pos, ◌*ℤ◌, ◌<ℤ◌, ◌≡◌, Bool, true, false, ◌&&◌, refl, sym, ap, ap₂, ◌∙◌}
+use lib.IntN.{*ℤ_comm}
+use Rattle.std.specs.Ordering.{int_eq}
+use Rattle.geometry_model.specs.Points.{Point, IsPoint, same_point}
+use Rattle.integers.proofs.Tests.{equal_from, equal_yes}
+
+-- the triple k times p
+abbrev pub scaled : ℤ → Point → Point
+scaled k p = record { X = k *ℤ p.X; Y = k *ℤ p.Y; W = k *ℤ p.W }
+
+pub and_parts : (a b : Bool) → a && b ≡ true → (a ≡ true) × (b ≡ true)
+and_parts true true e = (refl, refl)
+and_parts true false e = absurd (let f : false ≡ true = e in cc)
+and_parts false b e = absurd (let f : false ≡ true = e in cc)
+
+pub and_from : (a b : Bool) → a ≡ true → b ≡ true → a && b ≡ true
+and_from a b e f = ap₂ (λ (x y : Bool). x && y) e f
+
+-- what the test of two triples says
+pub same_x : (p q : Point) → same_point p q ≡ true → p.X *ℤ q.W ≡ q.X *ℤ p.W
+same_x p q e = equal_from (p.X *ℤ q.W) (q.X *ℤ p.W) ((and_parts (int_eq (p.X *ℤ q.W) (q.X *ℤ p.W)) (int_eq (p.Y *ℤ q.W) (q.Y *ℤ p.W)) e).0)
+
+pub same_y : (p q : Point) → same_point p q ≡ true → p.Y *ℤ q.W ≡ q.Y *ℤ p.W
+same_y p q e = equal_from (p.Y *ℤ q.W) (q.Y *ℤ p.W) ((and_parts (int_eq (p.X *ℤ q.W) (q.X *ℤ p.W)) (int_eq (p.Y *ℤ q.W) (q.Y *ℤ p.W)) e).1)
+
+pub same_from : (p q : Point) → p.X *ℤ q.W ≡ q.X *ℤ p.W → p.Y *ℤ q.W ≡ q.Y *ℤ p.W → same_point p q ≡ true
+same_from p q e f = and_from (int_eq (p.X *ℤ q.W) (q.X *ℤ p.W)) (int_eq (p.Y *ℤ q.W) (q.Y *ℤ p.W)) (equal_yes (p.X *ℤ q.W) (q.X *ℤ p.W) e) (equal_yes (p.Y *ℤ q.W) (q.Y *ℤ p.W) f)
+
+-- two triples of one point have a common multiple
+pub common_multiple : (p q : Point) → same_point p q ≡ true → scaled q.W p ≡ scaled p.W q
+common_multiple p q e = λ i. record {
+  X = (*ℤ_comm q.W p.X ∙ same_x p q e ∙ *ℤ_comm q.X p.W) i;
+  Y = (*ℤ_comm q.W p.Y ∙ same_y p q e ∙ *ℤ_comm q.Y p.W) i;
+  W = *ℤ_comm q.W p.W i;
+}
+
+-- what is the same at a point's multiples is the same at all its triples
+pub by_scaling : {A : Type 0} (f : Point → A) → ((k : ℤ) (p : Point) → pos 0 <ℤ k → f (scaled k p) ≡ f p) → (p q : Point) → IsPoint p → IsPoint q → same_point p q ≡ true → f p ≡ f q
+by_scaling f h p q hp hq e = sym (h q.W p hq) ∙ ap f (common_multiple p q e) ∙ h p.W q hp
