@@ -15,3 +15,7 @@ pub mod CanonicalText
 pub mod TextReading
 pub mod TextExamples
 pub mod MatrixExamples
+pub mod PointSets
+pub mod PointSetLaws
+pub mod DimensionLaws
+pub mod PredicateLaws

@@ -26,6 +26,10 @@ ends (a ∷ rest) = a ∷ last_after a rest ∷ []
 abbrev pub on_some : List (List Position) → Point → Bool
 on_some ls p = list_any (λ e. on e p) (edges_of_lines ls)
 
+-- an odd number of element ends stand at the point (06-103r4, 6.1.8.1: the mod 2 rule)
+abbrev pub is_odd_end : List (List Position) → Point → Bool
+is_odd_end ls p = odd (count_by (stands_at p) (flat_map ends ls))
+
 -- points: the listed ones are the interior, and the boundary is empty (06-103r4, 6.1.4 and 6.1.5)
 abbrev pub in_points : List Position → Point → Location
 in_points ps p = if list_any (stands_at p) ps then Interior else Exterior
@@ -33,7 +37,7 @@ in_points ps p = if list_any (stands_at p) ps then Interior else Exterior
 -- lines: the boundary is the points at which an odd number of element ends stand; the interior is the rest of the lines (06-103r4, 6.1.6.1 and 6.1.8.1: the mod 2 rule)
 abbrev pub in_lines : List (List Position) → Point → Location
 in_lines ls p =
-    if odd (count_by (stands_at p) (flat_map ends ls)) then Boundary
+    if is_odd_end ls p then Boundary
     else if on_some ls p then Interior
     else Exterior
 

@@ -4,8 +4,11 @@
 //! definitions and the programs share.
 #![tactic(auto)]
 
+pub mod dimension_laws;
 pub mod matrix_examples;
+pub mod point_set_laws;
 pub mod point_sets;
+pub mod predicate_laws;
 pub mod relations;
 pub mod shapes;
 pub mod text_examples;

@@ -1,0 +1,3 @@
+pub mod PointSetFacts
+pub mod DimensionFacts
+pub mod PredicateFacts

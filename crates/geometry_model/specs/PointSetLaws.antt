@@ -1,0 +1,24 @@
+-- Laws of interior, boundary and exterior, each as one statement.
+use Rattle.std.specs.Prelude.{◌≡◌, ◌↔◌}
+use Rattle.geometry_model.specs.Points.{Point}
+use Rattle.geometry_model.specs.Geometries.{Geometry}
+use Rattle.geometry_model.specs.Locations.{locate, part}
+use Rattle.geometry_model.specs.PointSets.{IsInterior, IsBoundary, IsExterior}
+use Rattle.geometry_model.specs.declared.point_sets.Location.{Location}
+use Rattle.geometry_model.specs.declared.point_sets.Location.TheVariants.{Interior, Boundary, Exterior}
+
+-- 'interior' is answered exactly at the points of the interior
+abbrev pub LocatesInterior : Type 0
+LocatesInterior = (g : Geometry) (p : Point) → (locate g p ≡ Interior) ↔ IsInterior g p
+
+-- 'boundary' is answered exactly at the points of the boundary
+abbrev pub LocatesBoundary : Type 0
+LocatesBoundary = (g : Geometry) (p : Point) → (locate g p ≡ Boundary) ↔ IsBoundary g p
+
+-- 'exterior' is answered exactly at the points of the exterior
+abbrev pub LocatesExterior : Type 0
+LocatesExterior = (g : Geometry) (p : Point) → (locate g p ≡ Exterior) ↔ IsExterior g p
+
+-- each point is in exactly one of the three parts
+abbrev pub PartsPlane : Type 0
+PartsPlane = (g : Geometry) (p : Point) → (l : Location) × part g l p × ((k : Location) → part g k p → k ≡ l)

@@ -1,0 +1,19 @@
+//! Laws of the dimension of sets and of the DE-9IM matrix. Nothing here runs: each function has an empty body, and
+//! its contract is a law of the definitions.
+
+ghost use Rattle.geometry_model.specs.DimensionLaws.{DimensionIsUnique, MatrixIsUnique, MatrixIsTransposed};
+
+/// At most one dimension fits a set of points.
+pub fn dimension_is_unique()
+    ensures { DimensionIsUnique }
+{}
+
+/// At most one matrix fits two geometries.
+pub fn matrix_is_unique()
+    ensures { MatrixIsUnique }
+{}
+
+/// The matrix of two geometries the other way round is the transposed one.
+pub fn matrix_is_transposed()
+    ensures { MatrixIsTransposed }
+{}
