@@ -23,6 +23,7 @@ pub enum Truth {
     Unknown,
 }
 
-/// Stands in the place of a geometry, or of what speaks of one, where none is served: it has no value.
-#[derive(Debug, Drop)]
+/// Stands in the place of a geometry, or of what speaks of one, where none is served: it has no value. It derives no
+/// method beside its drop, since none could be called.
+#[derive(Drop)]
 pub enum NoGeometry {}
