@@ -2,6 +2,9 @@
 //! a query is bound to a database.
 #![tactic(auto)]
 
+pub mod cursor;
+pub mod lex;
+
 pub use table_model::faults::{QueryFault, SchemaFault};
 use table_model::values::NoGeometry;
 pub use table_model::values::Truth;
