@@ -1,3 +1,5 @@
 pub mod PointSetFacts
 pub mod DimensionFacts
 pub mod PredicateFacts
+pub mod TextSteps
+pub mod TextSound

@@ -19,3 +19,4 @@ pub mod PointSets
 pub mod PointSetLaws
 pub mod DimensionLaws
 pub mod PredicateLaws
+pub mod TextLaws

@@ -103,14 +103,14 @@ fraction = do
   if has_point then run is_ascii_digit else pure []
 
 -- a number as it is written, and the byte where it begins
-pub record Numeral : Type 0 where
+pub record FoundNumber : Type 0 where
   pub at : ℕ
   pub minus : Bool
   pub whole : List ℕ
   pub fraction : List ℕ
 
 -- the longest number that stands here; W1 where none does
-unfoldable pub numeral : Reader Numeral
+unfoldable pub numeral : Reader FoundNumber
 numeral = do
   at ← place
   minus ← sign
@@ -119,7 +119,7 @@ numeral = do
   if length whole + length digits == 0 then refuse at else pure (record { at = at; minus = minus; whole = whole; fraction = digits })
 
 -- what it stands for: first W2, then W3
-unfoldable pub coordinate : Numeral → Reader ℤ
+unfoldable pub coordinate : FoundNumber → Reader ℤ
 coordinate n i = if is_whole n.fraction
     then (if nat_lt coordinate_limit (digits_value 10 n.whole) then Err (OutOfRange n.at) else Ok (signed n.minus n.whole, i))
     else Err (OffGrid n.at)

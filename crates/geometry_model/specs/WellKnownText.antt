@@ -113,17 +113,18 @@ abbrev pub Body : {A : Type 0} → (A → Rule) → List A → Rule
 Body P [] = Space ⨾ Word (codes "EMPTY")
 Body P (x ∷ more) = Blank ⨾ Enclosed (Separated P (x ∷ more))
 
--- the text of a type (06-103r4, 7.2.2: tagged text)
-abbrev pub Tagged : List ℕ → Rule → Rule
-Tagged name A = Padded (Word name ⨾ A)
+-- the type's name and what stands behind it, with the positions as they are written, also equal ones
+-- (06-103r4, 7.2.2: the tagged texts)
+abbrev pub TaggedText : Geometry → Rule
+TaggedText (Point p) = Word (codes "POINT") ⨾ Body PositionText (option_to_list p)
+TaggedText (MultiPoint ps) = Word (codes "MULTIPOINT") ⨾ Body PointText ps
+TaggedText (LineString ps) = Word (codes "LINESTRING") ⨾ Body PositionText ps
+TaggedText (MultiLineString lines) = Word (codes "MULTILINESTRING") ⨾ Body LineText lines
+TaggedText (Polygon rings) = Word (codes "POLYGON") ⨾ Body LineText rings
 
--- the text of a geometry with its positions as they are written, also equal ones (06-103r4, 7.2.2: geometry tagged text)
+-- a whole text, with its positions as they are written (06-103r4, 7.2.2: well-known text representation)
 abbrev pub Writes : Geometry → Rule
-Writes (Point p) = Tagged (codes "POINT") (Body PositionText (option_to_list p))
-Writes (MultiPoint ps) = Tagged (codes "MULTIPOINT") (Body PointText ps)
-Writes (LineString ps) = Tagged (codes "LINESTRING") (Body PositionText ps)
-Writes (MultiLineString lines) = Tagged (codes "MULTILINESTRING") (Body LineText lines)
-Writes (Polygon rings) = Tagged (codes "POLYGON") (Body LineText rings)
+Writes written = Padded (TaggedText written)
 
 -- all positions as they are written, in order
 abbrev pub written_positions : Geometry → List Position

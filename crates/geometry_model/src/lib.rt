@@ -13,6 +13,7 @@ pub mod relations;
 pub mod shapes;
 pub mod text_examples;
 pub mod text_faults;
+pub mod text_laws;
 pub mod validity_faults;
 
 pub use point_sets::{Dimension, Location};

@@ -1,0 +1,69 @@
+-- Runs of bytes, and the parts of a text one behind the other.
+use Rattle.std.proofs.Common.{◌≡◌, refl, sym, ap, ◌∙◌, ℕ, zero, suc, ◌+◌, ◌<◌, ◌≤◌, ◌==◌, Bool, true, false, ◌&&◌, List, [], ◌∷◌, ◌++◌, length, take, drop, cond, append_assoc, take-append-drop, one-add, arith, zero-lt-suc, suc-ne-zero}
+use Rattle.std.specs.List.{list_all, prefix_len, take_while}
+use Rattle.std.specs.Str.{str_eq_ignore_ascii_case, str_to_ascii_lowercase}
+use Rattle.std.proofs.lemmas.List.Sums.{take_while-cons}
+use Rattle.std.proofs.lemmas.Bool.{true≢false}
+use Rattle.std.proofs.lemmas.Slice.Eq.{bytes_eq-Decides}
+use Rattle.std.proofs.lemmas.Bool.Decides.{Decides-eqb}
+use Rattle.geometry_model.specs.WellKnownText.{Rule, ◌⨾◌, Word}
+use Rattle.geometry_model.specs.TextReading.{Input, after, begins_with}
+
+passed : (test : ℕ → Bool) (x : ℕ) (xs : List ℕ) (b : Bool) → test x ≡ b → list_all test xs ≡ true → list_all test (cond b (x ∷ xs) []) ≡ true
+passed test x xs true e all = rw e all
+passed test x xs false e all = refl
+
+-- the run passes the test
+pub all_pass : (test : ℕ → Bool) (xs : List ℕ) → list_all test (take (prefix_len test xs) xs) ≡ true
+all_pass test [] = refl
+all_pass test (x ∷ xs) = ap (list_all test) (take_while-cons test x xs) ∙ passed test x (take_while test xs) (test x) refl (all_pass test xs)
+
+stopped : (test : ℕ → Bool) (x : ℕ) (xs : List ℕ) (b : Bool) → test x ≡ b → begins_with test (drop (prefix_len test xs) xs) ≡ false
+  → begins_with test (drop (cond b (1 + prefix_len test xs) 0) (x ∷ xs)) ≡ false
+stopped test x xs true e stops = rw (one-add (prefix_len test xs)) stops
+stopped test x xs false e stops = e
+
+-- what comes behind the run doesn't pass it
+pub stops : (test : ℕ → Bool) (xs : List ℕ) → begins_with test (drop (prefix_len test xs) xs) ≡ false
+stops test [] = refl
+stops test (x ∷ xs) = stopped test x xs (test x) refl (stops test xs)
+
+none : (test : ℕ → Bool) (x : ℕ) (xs : List ℕ) (b : Bool) → test x ≡ b → b ≡ false → cond b (1 + prefix_len test xs) 0 ≡ 0
+none test x xs true e stop = absurd (true≢false stop)
+none test x xs false e stop = refl
+
+-- no run, where the first byte doesn't pass
+pub no_run : (test : ℕ → Bool) (xs : List ℕ) → begins_with test xs ≡ false → prefix_len test xs ≡ 0
+no_run test [] stop = refl
+no_run test (x ∷ xs) stop = none test x xs (test x) refl stop
+
+-- a byte that is the first
+pub first_is : (c : ℕ) (xs : List ℕ) → begins_with (λ b. b == c) xs ≡ true → xs ≡ (c ∷ []) ++ drop 1 xs
+first_is c [] e = absurd (true≢false (sym e))
+first_is c (b ∷ xs) e = ap (λ x. x ∷ xs) ((Decides-eqb b c).0 e)
+
+-- a length that isn't 0
+pub some : (n : ℕ) → (n == 0) ≡ false → 0 < n
+some zero e = absurd (true≢false e)
+some (suc n) e = zero-lt-suc n
+
+pub nothing : (xs : List ℕ) → (length xs == 0) ≡ true → xs ≡ []
+nothing [] e = refl
+nothing (x ∷ xs) e = absurd (suc-ne-zero (length xs) ((Decides-eqb (length (x ∷ xs)) 0).0 e))
+
+-- a word in any case
+pub word_is : (text name : List ℕ) → str_eq_ignore_ascii_case text name ≡ true → Word name text
+word_is text name e = (bytes_eq-Decides (str_to_ascii_lowercase text) (str_to_ascii_lowercase name)).0 e
+
+-- the one text is a text of the rule and then the other
+abbrev pub Took : List ℕ → Rule → List ℕ → Type 0
+Took from A to = (used : List ℕ) × (from ≡ used ++ to) × A used
+
+pub both : (xs ys zs : List ℕ) (A B : Rule) → Took xs A ys → Took ys B zs → Took xs (A ⨾ B) zs
+both xs ys zs A B first rest = (first.0 ++ rest.0,
+  (first.1 ∙ ap (λ r. first.0 ++ r) rest.1) ∙ sym (append_assoc first.0 rest.0 zs),
+  (first.0, rest.0, refl, first.2, rest.2))
+
+-- a run of bytes that pass
+pub took_run : (test : ℕ → Bool) (xs : List ℕ) → Took xs (λ text. list_all test text ≡ true) (drop (prefix_len test xs) xs)
+took_run test xs = (take (prefix_len test xs) xs, sym (take-append-drop (prefix_len test xs) xs), all_pass test xs)

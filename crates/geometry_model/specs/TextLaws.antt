@@ -1,0 +1,22 @@
+-- Laws of well-known text.
+use Rattle.std.specs.Prelude.{◌≡◌, ℕ, List, Ok}
+use Rattle.geometry_model.specs.Geometries.{Geometry}
+use Rattle.geometry_model.specs.WellKnownText.{Spells}
+use Rattle.geometry_model.specs.CanonicalText.{canonical_text}
+use Rattle.geometry_model.specs.TextReading.{read_text}
+
+-- what is read is spelled
+abbrev pub ReadIsSpelled : Type 0
+ReadIsSpelled = (text : List ℕ) (g : Geometry) → read_text text ≡ Ok g → Spells text g
+
+-- what is spelled is read
+abbrev pub SpelledIsRead : Type 0
+SpelledIsRead = (text : List ℕ) (g : Geometry) → Spells text g → read_text text ≡ Ok g
+
+-- one text spells at most one geometry
+abbrev pub SpellsOne : Type 0
+SpellsOne = (text : List ℕ) (g h : Geometry) → Spells text g → Spells text h → g ≡ h
+
+-- the canonical text of what a text spells spells it again
+abbrev pub CanonicalTextSpells : Type 0
+CanonicalTextSpells = (text : List ℕ) (g : Geometry) → Spells text g → Spells (canonical_text g) g

@@ -1,0 +1,7 @@
+//! Laws of well-known text: its reading takes what the grammar takes, and the canonical text is a text of it.
+ghost use Rattle.geometry_model.specs.TextLaws.{ReadIsSpelled};
+
+/// What is read is spelled.
+pub fn read_is_spelled()
+    ensures { ReadIsSpelled }
+{}
