@@ -20,3 +20,6 @@ pub mod PointSetLaws
 pub mod DimensionLaws
 pub mod PredicateLaws
 pub mod TextLaws
+pub mod Validity
+pub mod FirstFaults
+pub mod ValidityExamples

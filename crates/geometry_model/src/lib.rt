@@ -14,6 +14,7 @@ pub mod shapes;
 pub mod text_examples;
 pub mod text_faults;
 pub mod text_laws;
+pub mod validity_examples;
 pub mod validity_faults;
 
 pub use point_sets::{Dimension, Location};

@@ -1,0 +1,91 @@
+-- Which geometries are valid: what each fault says, as facts about rational points.
+use Rattle.std.specs.Prelude.{◌≡◌, ◌≢◌, ℕ, ◌+◌, ◌<◌, ◌==◌, nat_lt, ◌⊎◌, Bool, true, false, List, [], ◌∷◌, ◌++◌, length, Option, Some, None, slice_get}
+use Rattle.geometry_model.specs.Points.{Position, Point, IsPoint, same_point, point_at}
+use Rattle.geometry_model.specs.Geometries.{Geometry, Polygon, Edge, lines, edges_of_line}
+use Rattle.geometry_model.specs.Sides.{on}
+use Rattle.geometry_model.specs.Crossings.{odd_above}
+use Rattle.geometry_model.specs.Locations.{last_after}
+use Rattle.geometry_model.specs.declared.validity_faults.ValidityFault.{ValidityFault}
+use Rattle.geometry_model.specs.declared.validity_faults.ValidityFault.TheVariants.{TooFewPoints, RingNotClosed, RingNotSimple, RingsMeet, HoleOutside, HolesNested}
+
+-- the rings of a polygon, the outer one first (06-103r4, 6.1.11.1)
+abbrev pub rings : Geometry → List (List Position)
+rings (Geometry.Point p) = []
+rings (Geometry.MultiPoint ps) = []
+rings (Geometry.LineString ps) = []
+rings (Geometry.MultiLineString ls) = []
+rings (Polygon rs) = rs
+
+-- a part has too few positions: a line that isn't empty fewer than 2, a ring fewer than 4 with the closing one
+-- (06-103r4, 6.1.7 and 6.1.11.1)
+abbrev pub is_short : Geometry → List Position → Bool
+is_short (Geometry.Point p) part = false
+is_short (Geometry.MultiPoint ps) part = false
+is_short (Geometry.LineString ps) part = length part == 1
+is_short (Geometry.MultiLineString ls) part = length part == 1
+is_short (Polygon rs) part = nat_lt (length part) 4
+
+-- some point is on both edges (06-103r4, 6.1.15: intersection of point sets)
+pub record SharePoint (e f : Edge) : Type 0 where
+  pub at : Point
+  pub is_point : IsPoint at
+  pub on_first : on e at ≡ true
+  pub on_second : on f at ≡ true
+
+-- some point other than the position is on both edges
+pub record ShareOther (common : Position) (e f : Edge) : Type 0 where
+  pub at : Point
+  pub is_point : IsPoint at
+  pub on_first : on e at ≡ true
+  pub on_second : on f at ≡ true
+  pub other : same_point at (point_at common) ≡ false
+
+-- edges i < j of the n edges of a ring clash: neighbours share more than their common position, others share a point;
+-- the first and the last edge are neighbours (06-103r4, 6.1.6.1: simple)
+abbrev pub Clash : ℕ → ℕ → ℕ → Edge → Edge → Type 0
+Clash n i j e f = ((j ≡ i + 1) × ShareOther e.end e f) ⊎ ((i ≡ 0) × (j + 1 ≡ n) × ShareOther e.start e f) ⊎ ((j ≢ i + 1) × (((i ≡ 0) × (j + 1 ≡ n)) → ⊥) × SharePoint e f)
+
+-- a ring that meets or covers itself (06-103r4, 6.1.7: a LinearRing is simple)
+pub record IsNotSimple (ring : List Position) : Type 0 where
+  pub i : ℕ
+  pub j : ℕ
+  pub e : Edge
+  pub f : Edge
+  pub later : i < j
+  pub first : slice_get (edges_of_line ring) i ≡ Some e
+  pub second : slice_get (edges_of_line ring) j ≡ Some f
+  pub clash : Clash (length (edges_of_line ring)) i j e f
+
+-- two rings share a point (06-103r4, 6.1.11.1: no two rings cross; touching at a point is refused too: profile)
+pub record RingsShare (r s : List Position) : Type 0 where
+  pub i : ℕ
+  pub j : ℕ
+  pub e : Edge
+  pub f : Edge
+  pub first : slice_get (edges_of_line r) i ≡ Some e
+  pub second : slice_get (edges_of_line s) j ≡ Some f
+  pub share : SharePoint e f
+
+-- the first position of the one ring is inside the other (06-103r4, 6.1.11.1)
+abbrev pub inside : List Position → List Position → Bool
+inside outer [] = false
+inside outer (p ∷ ps) = odd_above (outer ∷ []) (point_at p)
+
+-- the last position isn't the first
+abbrev pub IsNotClosed : List Position → Type 0
+IsNotClosed [] = ⊥
+IsNotClosed (p ∷ ps) = last_after p ps ≢ p
+
+-- the geometry has the fault; parts and rings are numbered from 0 (06-103r4, 6.1.7 and 6.1.11.1; that rings don't touch: profile)
+abbrev pub HasFault : Geometry → ValidityFault → Type 0
+HasFault g (TooFewPoints i) = (part : List Position) × (slice_get (lines g) i ≡ Some part) × (is_short g part ≡ true)
+HasFault g (RingNotClosed i) = (ring : List Position) × (slice_get (rings g) i ≡ Some ring) × IsNotClosed ring
+HasFault g (RingNotSimple i) = (ring : List Position) × (slice_get (rings g) i ≡ Some ring) × IsNotSimple ring
+HasFault g (RingsMeet i j) = (r s : List Position) × (i < j) × (slice_get (rings g) i ≡ Some r) × (slice_get (rings g) j ≡ Some s) × RingsShare r s
+HasFault g (HoleOutside i) = (outer hole : List Position) × (0 < i) × (slice_get (rings g) 0 ≡ Some outer) × (slice_get (rings g) i ≡ Some hole) × (inside outer hole ≡ false)
+HasFault g (HolesNested i j) = (r s : List Position) × (0 < i) × (i < j) × (slice_get (rings g) i ≡ Some r) × (slice_get (rings g) j ≡ Some s)
+    × ((inside r s ≡ true) ⊎ (inside s r ≡ true))
+
+-- a geometry without fault (06-103r4, 6.1.7 and 6.1.11.1)
+abbrev pub IsValid : Geometry → Type 0
+IsValid g = (fault : ValidityFault) → HasFault g fault → ⊥

@@ -1,0 +1,16 @@
+-- Words for worked faults: geometries are given by their well-known text.
+use Rattle.std.specs.Prelude.{ℕ, List, Option, Some, None, Result, Ok, Err}
+use Rattle.geometry_model.specs.Geometries.{Geometry}
+use Rattle.geometry_model.specs.TextReading.{read_text}
+use Rattle.geometry_model.specs.FirstFaults.{validity_fault}
+use Rattle.geometry_model.specs.declared.text_faults.TextFault.{TextFault}
+use Rattle.geometry_model.specs.declared.validity_faults.ValidityFault.{ValidityFault}
+
+-- what a text spells is tested; none where it spells nothing
+abbrev pub tested : Result Geometry TextFault → Option (Option ValidityFault)
+tested (Ok g) = Some (validity_fault g)
+tested (Err fault) = None
+
+-- the first fault of what the text spells
+abbrev pub fault_of : List ℕ → Option (Option ValidityFault)
+fault_of text = tested (read_text text)
