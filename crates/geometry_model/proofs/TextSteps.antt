@@ -1,5 +1,5 @@
 -- Runs of bytes, and the parts of a text one behind the other.
-use Rattle.std.proofs.Common.{◌≡◌, refl, sym, ap, ◌∙◌, ℕ, zero, suc, ◌+◌, ◌<◌, ◌≤◌, ◌==◌, Bool, true, false, ◌&&◌, List, [], ◌∷◌, ◌++◌, length, take, drop, cond, append_assoc, take-append-drop, one-add, arith, zero-lt-suc, suc-ne-zero}
+use Rattle.std.proofs.Common.{◌≡◌, refl, sym, ap, ◌∙◌, ℕ, zero, suc, ◌+◌, ◌<◌, ◌==◌, Bool, true, false, List, [], ◌∷◌, ◌++◌, length, take, drop, cond, append_assoc, take-append-drop, one-add, zero-lt-suc, suc-ne-zero}
 use Rattle.std.specs.List.{list_all, prefix_len, take_while}
 use Rattle.std.specs.Str.{str_eq_ignore_ascii_case, str_to_ascii_lowercase}
 use Rattle.std.proofs.lemmas.List.Sums.{take_while-cons}
@@ -7,7 +7,7 @@ use Rattle.std.proofs.lemmas.Bool.{true≢false}
 use Rattle.std.proofs.lemmas.Slice.Eq.{bytes_eq-Decides}
 use Rattle.std.proofs.lemmas.Bool.Decides.{Decides-eqb}
 use Rattle.geometry_model.specs.WellKnownText.{Rule, ◌⨾◌, Word}
-use Rattle.geometry_model.specs.TextReading.{Input, after, begins_with}
+use Rattle.geometry_model.specs.TextReading.{begins_with}
 
 passed : (test : ℕ → Bool) (x : ℕ) (xs : List ℕ) (b : Bool) → test x ≡ b → list_all test xs ≡ true → list_all test (cond b (x ∷ xs) []) ≡ true
 passed test x xs true e all = rw e all
@@ -19,7 +19,7 @@ all_pass test [] = refl
 all_pass test (x ∷ xs) = ap (list_all test) (take_while-cons test x xs) ∙ passed test x (take_while test xs) (test x) refl (all_pass test xs)
 
 stopped : (test : ℕ → Bool) (x : ℕ) (xs : List ℕ) (b : Bool) → test x ≡ b → begins_with test (drop (prefix_len test xs) xs) ≡ false
-  → begins_with test (drop (cond b (1 + prefix_len test xs) 0) (x ∷ xs)) ≡ false
+    → begins_with test (drop (cond b (1 + prefix_len test xs) 0) (x ∷ xs)) ≡ false
 stopped test x xs true e stops = rw (one-add (prefix_len test xs)) stops
 stopped test x xs false e stops = e
 
@@ -60,9 +60,11 @@ abbrev pub Took : List ℕ → Rule → List ℕ → Type 0
 Took from A to = (used : List ℕ) × (from ≡ used ++ to) × A used
 
 pub both : (xs ys zs : List ℕ) (A B : Rule) → Took xs A ys → Took ys B zs → Took xs (A ⨾ B) zs
-both xs ys zs A B first rest = (first.0 ++ rest.0,
+both xs ys zs A B first rest = (
+  first.0 ++ rest.0,
   (first.1 ∙ ap (λ r. first.0 ++ r) rest.1) ∙ sym (append_assoc first.0 rest.0 zs),
-  (first.0, rest.0, refl, first.2, rest.2))
+  (first.0, rest.0, refl, first.2, rest.2),
+)
 
 -- a run of bytes that pass
 pub took_run : (test : ℕ → Bool) (xs : List ℕ) → Took xs (λ text. list_all test text ≡ true) (drop (prefix_len test xs) xs)

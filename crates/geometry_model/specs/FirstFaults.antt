@@ -1,7 +1,7 @@
 -- The first fault of a geometry, computed in whole numbers.
-use Rattle.std.specs.Prelude.{◌≡◌, ℕ, ◌+◌, ◌-◌, ◌==◌, ℤ, pos, int_lt, Bool, true, false, not, ◌&&◌, ◌||◌, List, [], ◌∷◌, ◌++◌, length, map, flat_map, find, Option, Some, None, nat_lt, slice_get, if◌then◌else◌}
+use Rattle.std.specs.Prelude.{ℕ, ◌+◌, ◌-◌, ◌==◌, ℤ, pos, int_lt, Bool, false, not, ◌&&◌, ◌||◌, List, [], ◌∷◌, ◌++◌, length, map, flat_map, find, Option, Some, None, nat_lt, slice_get, if◌then◌else◌}
 use Rattle.std.specs.List.{list_any, range_with_len, enumerate_from}
-use Rattle.geometry_model.specs.Points.{Position, Point, point_at}
+use Rattle.geometry_model.specs.Points.{Position, point_at}
 use Rattle.geometry_model.specs.WellKnownText.{same_position}
 use Rattle.geometry_model.specs.Geometries.{Geometry, Edge, lines, edges_of_line}
 use Rattle.geometry_model.specs.Sides.{side, on}

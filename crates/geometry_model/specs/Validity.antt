@@ -1,5 +1,5 @@
 -- Which geometries are valid: what each fault says, as facts about rational points.
-use Rattle.std.specs.Prelude.{◌≡◌, ◌≢◌, ℕ, ◌+◌, ◌<◌, ◌==◌, nat_lt, ◌⊎◌, Bool, true, false, List, [], ◌∷◌, ◌++◌, length, Option, Some, None, slice_get}
+use Rattle.std.specs.Prelude.{◌≡◌, ◌≢◌, ℕ, ◌+◌, ◌<◌, ◌==◌, nat_lt, ◌⊎◌, Bool, true, false, List, [], ◌∷◌, length, Some, slice_get}
 use Rattle.geometry_model.specs.Points.{Position, Point, IsPoint, same_point, point_at}
 use Rattle.geometry_model.specs.Geometries.{Geometry, Polygon, Edge, lines, edges_of_line}
 use Rattle.geometry_model.specs.Sides.{on}

@@ -1,24 +1,6 @@
 //! Worked faults of geometries, computed from their texts.
-#![tactic(
-  auto,
-  unfolding(
-    crate::specs::TextReading::read_text,
-    crate::specs::TextReading::whole,
-    crate::specs::TextReading::tagged,
-    crate::specs::TextReading::typed,
-    crate::specs::TextReading::body,
-    crate::specs::TextReading::parts,
-    crate::specs::TextReading::line,
-    crate::specs::TextReading::separated,
-    crate::specs::TextReading::point,
-    crate::specs::TextReading::position,
-    crate::specs::TextReading::space,
-    crate::specs::TextReading::coordinate,
-    crate::specs::TextReading::numeral,
-    crate::specs::TextReading::fraction,
-    crate::specs::TextReading::sign,
-  )
-)]
+#![tactic(auto, unfolding(crate::specs::TextReading::read_text, crate::specs::TextReading::whole, crate::specs::TextReading::tagged, crate::specs::TextReading::typed, crate::specs::TextReading::body, crate::specs::TextReading::parts, crate::specs::TextReading::line, crate::specs::TextReading::separated, crate::specs::TextReading::point, crate::specs::TextReading::position, crate::specs::TextReading::space, crate::specs::TextReading::coordinate, crate::specs::TextReading::numeral, crate::specs::TextReading::fraction, crate::specs::TextReading::sign,))]
+
 ghost use Rattle.std.specs.Prelude.{◌≡◌, codes, Some, None};
 ghost use Rattle.geometry_model.specs.ValidityExamples.{fault_of};
 ghost use Rattle.geometry_model.specs.declared.validity_faults.ValidityFault.TheVariants.{
