@@ -1,3 +1,5 @@
 pub mod MemorySinks
 pub mod Sinks
 pub mod StdSinks
+pub mod StopReaders
+pub mod StopSinks
