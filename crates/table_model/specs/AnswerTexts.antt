@@ -3,6 +3,7 @@ use Rattle.std.specs.Prelude.{Bool, ℕ, List, [], ◌∷◌, ◌++◌, map, len
 use Rattle.std.specs.Fmt.{signed_decimal}
 use Rattle.std.specs.List.{slice_index_or}
 use Rattle.table_model.specs.Meanings.{Row}
+use Rattle.table_model.specs.Truths.{field_at}
 use Rattle.table_model.specs.declared.values.Value.{Value}
 use Rattle.table_model.specs.declared.values.Value.TheVariants as v
 use Rattle.table_model.specs.declared.conditions.Bound.{Bound}
@@ -55,10 +56,6 @@ function_text text v.Null = []
 function_text text (v.Integer n) = []
 function_text text (v.Text bytes) = []
 function_text text (v.Geometry g) = text g
-
--- the field at a column of some rows, one a reference (profile)
-abbrev pub field_at : {G : Type 0} → List (Row G) → ColumnPlace → Value G
-field_at rows place = slice_index_or (slice_index_or rows place.reference []) place.column v.Null
 
 -- the text of an item at some rows (profile)
 abbrev pub item_text : {G C : Type 0} → Writing G C → List (Row G) → Item C → List ℕ

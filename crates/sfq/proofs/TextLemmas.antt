@@ -1,0 +1,55 @@
+-- How a text of several parts is put.
+use Rattle.table_model.specs.FaultLines.{line_of}
+use Rattle.std.proofs.Common.{Result, Ok, Err, OnErr, codes, ◌≡◌, ◌<◌, ◌+◌, ℕ, zero, suc, List, [], ◌∷◌, ◌++◌, length, map, take, drop, get_or, Option, refl, sym, ◌∙◌, ap, subst, append_assoc, append-nil, add-one, arith}
+use Rattle.std.specs.List.{concat}
+use Rattle.std.specs.Io.KnownBytes.{Appends}
+use Rattle.wkt.specs.Sinks.{AppendsFront}
+use Rattle.wkt.proofs.SinkLemmas.{Appends-then, AppendsFront-then, AppendsFront-more}
+
+-- the parts before a place, the part at that place, and those after it
+pub parts-split : {X : Type 0} (v : X → List ℕ) (xs : List X) (i : ℕ) (d : X) → i < length xs
+    → concat (map v xs) ≡ concat (map v (take i xs)) ++ (v (get_or xs i d) ++ concat (map v (drop (suc i) xs)))
+parts-split v [] i d within = absurd (omega arith)
+parts-split v (x ∷ xs) zero d within = refl
+parts-split v (x ∷ xs) (suc i) d within =
+    let more : i < length xs = omega arith in
+    ap (λ l. v x ++ l) (parts-split v xs i d more) ∙ sym (append_assoc (v x) (concat (map v (take i xs))) (v (get_or xs i d) ++ concat (map v (drop (suc i) xs))))
+
+-- one part more
+pub parts-more : {X : Type 0} (v : X → List ℕ) (xs : List X) (i : ℕ) (d : X) → i < length xs
+    → concat (map v (take (suc i) xs)) ≡ concat (map v (take i xs)) ++ v (get_or xs i d)
+parts-more v [] i d within = absurd (omega arith)
+parts-more v (x ∷ xs) zero d within = append-nil (v x)
+parts-more v (x ∷ xs) (suc i) d within =
+    let more : i < length xs = omega arith in
+    ap (λ l. v x ++ l) (parts-more v xs i d more) ∙ sym (append_assoc (v x) (concat (map v (take i xs))) (v (get_or xs i d)))
+
+-- after the parts before a place, a front of the part at that place is a front of the whole
+pub parts-front : {X : Type 0} (v : X → List ℕ) (xs : List X) (i : ℕ) (d : X) (a b c : Option (List ℕ)) → i < length xs
+    → Appends a b (concat (map v (take i xs))) → AppendsFront b c (v (get_or xs i d)) → AppendsFront a c (concat (map v xs))
+parts-front v xs i d a b c within before front =
+    let part = v (get_or xs i d) in
+    let rest = concat (map v (drop (suc i) xs)) in
+    subst (λ l. AppendsFront a c l) (sym (parts-split v xs i d within))
+    (AppendsFront-then a b c (concat (map v (take i xs))) (part ++ rest) before (AppendsFront-more b c part rest front))
+
+-- the parts up to a place, that one among them
+pub parts-put : {X : Type 0} (v : X → List ℕ) (xs : List X) (i : ℕ) (d : X) (a b c : Option (List ℕ)) → i < length xs
+    → Appends a b (concat (map v (take i xs))) → Appends b c (v (get_or xs i d)) → Appends a c (concat (map v (take (i + 1) xs)))
+parts-put v xs i d a b c within before piece =
+    rw add-one (subst (λ l. Appends a c l) (sym (parts-more v xs i d within))
+    (Appends-then a b c (concat (map v (take i xs))) (v (get_or xs i d)) before piece))
+
+-- the parts of a line, joined
+pub line_parts : (table words digits : List ℕ)
+    → concat (codes "sfq: " ∷ table ∷ words ∷ digits ∷ codes "\n" ∷ []) ≡ line_of ((table ++ words) ++ digits)
+line_parts table words digits = simp (append_assoc, append-nil)
+
+-- a front of the parts of a line is a front of the line
+pub line-front : {A E : Type 0} (r : Result A E) (old new : Option (List ℕ)) (table words digits p q s : List ℕ) → p ≡ table → q ≡ words → s ≡ digits
+    → OnErr r (AppendsFront old new (concat (codes "sfq: " ∷ p ∷ q ∷ s ∷ codes "\n" ∷ []))) → OnErr r (AppendsFront old new (line_of ((table ++ words) ++ digits)))
+line-front (Ok x) old new table words digits p q s e f h fact = tt
+line-front (Err y) old new table words digits p q s e f h fact =
+    let joined : concat (codes "sfq: " ∷ p ∷ q ∷ s ∷ codes "\n" ∷ []) ≡ line_of ((table ++ words) ++ digits) =
+        rw (e, f, h) (line_parts table words digits) in
+    subst (λ l. AppendsFront old new l) joined fact

@@ -1,0 +1,39 @@
+-- The line and the status of a failure of the program, and the parts of its line.
+use Rattle.std.specs.Prelude.{ℕ, List, ◌++◌, Option, Some, None, decimal, codes}
+use Rattle.table_model.specs.FaultLines.{schema_text, load_text, query_text, memory_text, schema_status, load_status, query_status, line_of}
+use Rattle.sfq.specs.declared.failure.Failure.{Failure}
+use Rattle.sfq.specs.declared.failure.Failure.TheVariants as f
+use Rattle.sfq.specs.declared.failure.Words.{Words}
+
+-- the text of a failure (profile)
+abbrev pub failure_text : Failure → List ℕ
+failure_text (f.Schema fault) = schema_text fault
+failure_text f.SchemaUnreadable = codes "schema unreadable"
+failure_text (f.Load table fault) = load_text table.now fault
+failure_text (f.TableUnreadable table) = table.now ++ codes " unreadable"
+failure_text (f.Query fault) = query_text fault
+failure_text f.WriteFailed = codes "write failed"
+failure_text f.OutOfMemory = memory_text
+
+-- the line of a failure (profile)
+abbrev pub failure_line : Failure → List ℕ
+failure_line failure = line_of (failure_text failure)
+
+-- the status of a failure: 6 where reading or writing failed, 7 for want of memory (profile)
+abbrev pub failure_status : Failure → ℕ
+failure_status (f.Schema fault) = schema_status fault
+failure_status f.SchemaUnreadable = 6
+failure_status (f.Load table fault) = load_status fault
+failure_status (f.TableUnreadable table) = 6
+failure_status (f.Query fault) = query_status fault
+failure_status f.WriteFailed = 6
+failure_status f.OutOfMemory = 7
+
+-- a number's digits, and none of no number (profile)
+abbrev pub digits_of : Option ℕ → List ℕ
+digits_of None = codes ""
+digits_of (Some n) = decimal n
+
+-- the parts joined (profile)
+abbrev pub words_text : Words → List ℕ
+words_text w = (w.table.now ++ w.words.now) ++ digits_of w.number
