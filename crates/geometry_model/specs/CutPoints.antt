@@ -44,21 +44,21 @@ if_on_both e f p =
 abbrev pub crossings : Edge → Edge → List Point
 crossings e f = if_on_both e f (meeting_point e f)
 
--- p before q and qs, in its place, or left out where q is the same point
-abbrev pub placed : Ordering → Point → Point → List Point → List Point → List Point
-placed Less p q qs inserted = p ∷ q ∷ qs
-placed Equal p q qs inserted = q ∷ qs
-placed Greater p q qs inserted = q ∷ inserted
+-- x before y and the rest, in its place behind y, or left out where it stands there already
+abbrev pub placed : {A : Type 0} → Ordering → A → A → List A → List A → List A
+placed Less x y rest behind = x ∷ y ∷ rest
+placed Equal x y rest behind = y ∷ rest
+placed Greater x y rest behind = y ∷ behind
 
--- an ascending list of points, with p in its place
-abbrev pub with_point : Point → List Point → List Point
-with_point p [] = p ∷ []
-with_point p (q ∷ qs) = placed (compare p q) p q qs (with_point p qs)
+-- an ascending list with x in its place
+abbrev pub with_value : {A : Type 0} → (A → A → Ordering) → A → List A → List A
+with_value order x [] = x ∷ []
+with_value order x (y ∷ rest) = placed (order x y) x y rest (with_value order x rest)
 
--- the points in ascending order, each once
-abbrev pub ascending : List Point → List Point
-ascending [] = []
-ascending (p ∷ ps) = with_point p (ascending ps)
+-- the values in ascending order, each once
+abbrev pub ascending : {A : Type 0} → (A → A → Ordering) → List A → List A
+ascending order [] = []
+ascending order (x ∷ rest) = with_value order x (ascending order rest)
 
 -- the ends of an edge, as points
 abbrev pub end_points : Edge → List Point
@@ -67,4 +67,4 @@ end_points e = point_at e.start ∷ point_at e.end ∷ []
 -- all cuts of edges and listed positions, ascending, each once, in least form (profile)
 abbrev pub cut_points : List Edge → List Position → List Point
 cut_points es ps =
-    ascending (flat_map end_points es ++ map point_at ps ++ flat_map (λ e. flat_map (crossings e) es) es)
+    ascending compare (flat_map end_points es ++ map point_at ps ++ flat_map (λ e. flat_map (crossings e) es) es)

@@ -14,7 +14,7 @@ pub data Geometry : Type 0 where
   MultiLineString : List (List Position) → Geometry
   Polygon : List (List Position) → Geometry
 
--- its type (06-103r4, 6.1.3)
+-- its type (06-103r4, 6.1.2.2: GeometryType)
 abbrev pub type_of : Geometry → GeometryType
 type_of (Point p) = types.Point
 type_of (MultiPoint ps) = types.MultiPoint

@@ -14,7 +14,7 @@ pub mod WellKnownText
 pub mod CanonicalText
 pub mod TextReading
 pub mod TextExamples
-pub mod MatrixExamples
+pub mod GeometryExamples
 pub mod PointSets
 pub mod PointSetLaws
 pub mod DimensionLaws

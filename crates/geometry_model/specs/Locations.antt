@@ -48,7 +48,7 @@ in_rings rs p =
     else if odd_above rs p then Interior
     else Exterior
 
--- where a point stands in a geometry (06-103r4, 6.1.15.1)
+-- where a point stands in a geometry (06-103r4, 6.1.15.2)
 abbrev pub locate : Geometry → Point → Location
 locate (Geometry.Point o) p = in_points (option_to_list o) p
 locate (Geometry.MultiPoint ps) p = in_points ps p
@@ -56,6 +56,6 @@ locate (Geometry.LineString ps) p = in_lines (ps ∷ []) p
 locate (Geometry.MultiLineString ls) p = in_lines ls p
 locate (Geometry.Polygon rs) p = in_rings rs p
 
--- a geometry's interior, boundary or exterior, as a set of points (06-103r4, 6.1.15.1)
+-- a geometry's interior, boundary or exterior, as a set of points (06-103r4, 6.1.15.2)
 abbrev pub part : Geometry → Location → Point → Type 0
 part g l p = locate g p ≡ l

@@ -1,10 +1,12 @@
 -- The stretches of edges between neighbouring cuts.
 use Rattle.std.specs.Prelude.{◌≡◌, true, List, [], ◌∷◌, filter, flat_map, Contains}
+use Rattle.std.specs.declared.cmp.Ordering.{Ordering}
 use Rattle.std.specs.declared.cmp.Ordering.TheVariants.{Less}
+use Rattle.std.specs.Ordering.{ordering_then}
 use Rattle.geometry_model.specs.Points.{Position, Point, IsPoint, compare, mediant}
 use Rattle.geometry_model.specs.Geometries.{Edge}
 use Rattle.geometry_model.specs.Sides.{on}
-use Rattle.geometry_model.specs.CutPoints.{IsCut}
+use Rattle.geometry_model.specs.CutPoints.{IsCut, ascending}
 
 -- a straight stretch, its lesser end first (profile)
 pub record Piece : Type 0 where
@@ -32,9 +34,13 @@ stretches (p ∷ q ∷ rest) = record { lesser = p; greater = q } ∷ stretches 
 abbrev pub pieces_of_edge : List Point → Edge → List Piece
 pieces_of_edge cuts e = stretches (filter (on e) cuts)
 
--- the pieces of all edges; one that two edges share stands twice (profile)
+-- the order of pieces: by their lesser ends, then by their greater ends (profile)
+abbrev pub compare_pieces : Piece → Piece → Ordering
+compare_pieces c d = ordering_then (compare c.lesser d.lesser) (compare c.greater d.greater)
+
+-- the pieces of all edges, ascending, each once (profile)
 abbrev pub pieces : List Point → List Edge → List Piece
-pieces cuts es = flat_map (pieces_of_edge cuts) es
+pieces cuts es = ascending compare_pieces (flat_map (pieces_of_edge cuts) es)
 
 -- the point of a piece that stands for all points strictly within it (profile)
 abbrev pub sample : Piece → Point

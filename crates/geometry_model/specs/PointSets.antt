@@ -34,6 +34,6 @@ IsBoundary (Geometry.LineString ps) p = IsOddEnd (ps ∷ []) p
 IsBoundary (Geometry.MultiLineString ls) p = IsOddEnd ls p
 IsBoundary (Geometry.Polygon rs) p = LiesOn rs p
 
--- the exterior: all points of the plane that are neither (06-103r4, 6.1.15.1)
+-- the exterior: all points of the plane that are neither (06-103r4, 6.1.15.2)
 abbrev pub IsExterior : Geometry → Point → Type 0
 IsExterior g p = ¬ (IsInterior g p) × ¬ (IsBoundary g p)

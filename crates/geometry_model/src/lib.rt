@@ -5,6 +5,7 @@
 #![tactic(auto)]
 
 pub mod dimension_laws;
+pub mod geometry_examples;
 pub mod matrix_examples;
 pub mod point_set_laws;
 pub mod point_sets;

@@ -2,7 +2,7 @@
 #![tactic(auto, unfolding(crate::specs::TextReading::read_text, crate::specs::TextReading::whole, crate::specs::TextReading::tagged, crate::specs::TextReading::typed, crate::specs::TextReading::body, crate::specs::TextReading::parts, crate::specs::TextReading::line, crate::specs::TextReading::separated, crate::specs::TextReading::point, crate::specs::TextReading::position, crate::specs::TextReading::space, crate::specs::TextReading::coordinate, crate::specs::TextReading::numeral, crate::specs::TextReading::fraction, crate::specs::TextReading::sign,))]
 
 ghost use Rattle.std.specs.Prelude.{◌≡◌, codes, Some};
-ghost use Rattle.geometry_model.specs.MatrixExamples.{relate, square, frame};
+ghost use Rattle.geometry_model.specs.GeometryExamples.{relate, square, frame};
 
 /// A point with points, lines and areas.
 pub fn matrices_of_points()

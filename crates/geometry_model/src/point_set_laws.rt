@@ -10,7 +10,7 @@ pub fn parts_are_located()
     ensures exterior { LocatesExterior }
 {}
 
-/// Interior, boundary and exterior part the plane (06-103r4, 6.1.15.1).
+/// Interior, boundary and exterior part the plane (06-103r4, 6.1.15.2).
 pub fn parts_make_the_plane()
     ensures { PartsPlane }
 {}

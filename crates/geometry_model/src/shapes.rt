@@ -1,6 +1,6 @@
 //! The types of geometry, and the kind of each.
 
-/// The instantiable types of geometry that are served (06-103r4, 6.1.3 to 6.1.11).
+/// The instantiable types of geometry that are served (06-103r4, 6.1.4 to 6.1.11).
 #[derive(Clone, Copy, Debug, PartialEq, Eq)]
 pub enum GeometryType {
     Point,
