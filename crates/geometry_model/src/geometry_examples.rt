@@ -66,21 +66,21 @@ pub fn cut_points_and_pieces()
         ≡ Some (point (pos 0) (pos 0) (pos 1) ∷ point (pos 0) (pos 1) (pos 1) ∷ point (pos 6) (pos 2) (pos 5) ∷ point (pos 2) (pos 0) (pos 1) ∷ point (pos 3) (pos 1) (pos 1) ∷ []) }
     ensures four_pieces { stretches (codes "LINESTRING(0 0,3 1)") (codes "LINESTRING(0 1,2 0)")
         ≡ Some (from_to (point (pos 0) (pos 0) (pos 1)) (point (pos 6) (pos 2) (pos 5))
-            ∷ from_to (point (pos 0) (pos 1) (pos 1)) (point (pos 6) (pos 2) (pos 5))
-            ∷ from_to (point (pos 6) (pos 2) (pos 5)) (point (pos 2) (pos 0) (pos 1))
-            ∷ from_to (point (pos 6) (pos 2) (pos 5)) (point (pos 3) (pos 1) (pos 1)) ∷ []) }
+        ∷ from_to (point (pos 0) (pos 1) (pos 1)) (point (pos 6) (pos 2) (pos 5))
+        ∷ from_to (point (pos 6) (pos 2) (pos 5)) (point (pos 2) (pos 0) (pos 1))
+        ∷ from_to (point (pos 6) (pos 2) (pos 5)) (point (pos 3) (pos 1) (pos 1)) ∷ []) }
     ensures shared_stretch { stretches (codes "LINESTRING(0 0,4 0)") (codes "LINESTRING(6 0,2 0)")
         ≡ Some (from_to (point (pos 0) (pos 0) (pos 1)) (point (pos 2) (pos 0) (pos 1))
-            ∷ from_to (point (pos 2) (pos 0) (pos 1)) (point (pos 4) (pos 0) (pos 1))
-            ∷ from_to (point (pos 4) (pos 0) (pos 1)) (point (pos 6) (pos 0) (pos 1)) ∷ []) }
+        ∷ from_to (point (pos 2) (pos 0) (pos 1)) (point (pos 4) (pos 0) (pos 1))
+        ∷ from_to (point (pos 4) (pos 0) (pos 1)) (point (pos 6) (pos 0) (pos 1)) ∷ []) }
     ensures end_on_an_upright_line { stretches (codes "LINESTRING(0 0,2 0)") (codes "LINESTRING(2 -1,2 1)")
         ≡ Some (from_to (point (pos 0) (pos 0) (pos 1)) (point (pos 2) (pos 0) (pos 1))
-            ∷ from_to (point (pos 2) (negsuc 0) (pos 1)) (point (pos 2) (pos 0) (pos 1))
-            ∷ from_to (point (pos 2) (pos 0) (pos 1)) (point (pos 2) (pos 1) (pos 1)) ∷ []) }
+        ∷ from_to (point (pos 2) (negsuc 0) (pos 1)) (point (pos 2) (pos 0) (pos 1))
+        ∷ from_to (point (pos 2) (pos 0) (pos 1)) (point (pos 2) (pos 1) (pos 1)) ∷ []) }
     ensures at_the_limit { cuts (codes "LINESTRING(-100000 -100000,100000 99999)") (codes "LINESTRING(-100000 100000,99999 -100000)")
         ≡ Some (point (negsuc 99999) (negsuc 99999) (pos 1) ∷ point (negsuc 99999) (pos 100000) (pos 1)
-            ∷ point (negsuc 99999) (negsuc 39999899999) (pos 79999600001)
-            ∷ point (pos 99999) (negsuc 99999) (pos 1) ∷ point (pos 100000) (pos 99999) (pos 1) ∷ []) }
+        ∷ point (negsuc 99999) (negsuc 39999899999) (pos 79999600001)
+        ∷ point (pos 99999) (negsuc 99999) (pos 1) ∷ point (pos 100000) (pos 99999) (pos 1) ∷ []) }
 {}
 
 /// Texts of patterns: nine characters, letters in either case.
