@@ -1,7 +1,6 @@
 //! Queries bound to a database: names have become places, and literals values.
 
 use crate::queries::Explain;
-use crate::texts::OwnedText;
 use geometry_model::Predicate;
 use sqlite_items::{Boxed, Items};
 
@@ -63,12 +62,12 @@ pub enum Item<C> {
     IsEmpty(C),
 }
 
-/// A table reference: the table's place in the schema, and the name that stands before the columns of an answer
-/// over two tables.
+/// A table reference: the table's place in the schema, and the bytes of the name that stands before the columns of
+/// an answer over two tables.
 #[derive(Debug, Drop)]
 pub struct Reference {
     pub table: usize,
-    pub name: OwnedText,
+    pub name: Items<u8>,
 }
 
 /// A bound query: its one or two references, its items, and its conjuncts, those of ON before those of WHERE.

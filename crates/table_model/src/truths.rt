@@ -21,5 +21,4 @@ pub fn unknown_parts()
     ensures all_unknown { all_of (True ∷ Unknown ∷ True ∷ []) ≡ Unknown }
     ensures any_true { any_of (Unknown ∷ False ∷ True ∷ []) ≡ True }
     ensures any_unknown { any_of (False ∷ Unknown ∷ False ∷ []) ≡ Unknown }
-{
-}
+{}
