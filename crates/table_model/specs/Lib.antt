@@ -6,3 +6,4 @@ pub mod AnswerTexts
 pub mod FaultLines
 pub mod Truths
 pub mod Tokens
+pub mod Binding

@@ -1,0 +1,342 @@
+-- The binding of a written query to the tables of a schema: names become places, or the first fault.
+use Rattle.std.specs.Prelude.{ℕ, ◌+◌, Bool, true, false, ◌&&◌, ◌||◌, if◌then◌else◌, ◌==◌, List, [], ◌∷◌, ◌++◌, map, slice_get, Option, Some, None, Result, Ok, Err}
+use Rattle.std.specs.List.{position, enumerate_from, filter_map, flat_map}
+use Rattle.geometry_model.specs.declared.relations.Pattern.{Pattern}
+use Rattle.geometry_model.specs.declared.relations.Predicate.{Predicate}
+use Rattle.geometry_model.specs.declared.relations.Predicate.TheVariants as predicates
+use Rattle.table_model.specs.Texts.{same_name}
+use Rattle.table_model.specs.declared.faults.QueryFault.{QueryFault}
+use Rattle.table_model.specs.declared.faults.QueryFault.TheVariants.{UnknownTable, SameName, UnknownColumn, AmbiguousColumn, TypeMismatch, Syntax}
+use Rattle.table_model.specs.declared.definitions.ColumnType.{ColumnType}
+use Rattle.table_model.specs.declared.definitions.ColumnType.TheVariants as columns
+use Rattle.table_model.specs.declared.definitions.ColumnDef.{ColumnDef}
+use Rattle.table_model.specs.declared.definitions.TableDef.{TableDef}
+use Rattle.table_model.specs.declared.values.NoGeometry.{NoGeometry}
+use Rattle.table_model.specs.declared.queries.Name.{Name}
+use Rattle.table_model.specs.declared.queries.WrittenColumn.{WrittenColumn}
+use Rattle.table_model.specs.declared.queries.WrittenReference.{WrittenReference}
+use Rattle.table_model.specs.declared.queries.WrittenOperand.{WrittenOperand}
+use Rattle.table_model.specs.declared.queries.WrittenOperand.TheVariants as written_operand
+use Rattle.table_model.specs.declared.queries.WrittenPredicate.{WrittenPredicate}
+use Rattle.table_model.specs.declared.queries.WrittenPredicate.TheVariants as written_predicate
+use Rattle.table_model.specs.declared.queries.WrittenCond.{WrittenCond}
+use Rattle.table_model.specs.declared.queries.WrittenCond.TheFolds.{fold-WrittenCond}
+use Rattle.table_model.specs.declared.queries.WrittenCond.TheOpen.{WrittenCond-F}
+use Rattle.table_model.specs.declared.queries.WrittenItem.{WrittenItem}
+use Rattle.table_model.specs.declared.queries.WrittenItem.TheVariants as written_item
+use Rattle.table_model.specs.declared.queries.Selection.{Selection}
+use Rattle.table_model.specs.declared.queries.Selection.TheVariants as selections
+use Rattle.table_model.specs.declared.queries.Query.{Query}
+use Rattle.table_model.specs.declared.conditions.ColumnPlace.{ColumnPlace}
+use Rattle.table_model.specs.declared.conditions.OperandType.{OperandType}
+use Rattle.table_model.specs.declared.conditions.OperandType.TheVariants as types
+use Rattle.table_model.specs.declared.conditions.Operand.{Operand}
+use Rattle.table_model.specs.declared.conditions.Operand.TheVariants as operands
+use Rattle.table_model.specs.declared.conditions.Cond.{Cond}
+use Rattle.table_model.specs.declared.conditions.Cond.TheVariants as conds
+use Rattle.table_model.specs.declared.conditions.Item.{Item}
+use Rattle.table_model.specs.declared.conditions.Item.TheVariants as items
+use Rattle.table_model.specs.declared.conditions.Reference.{Reference}
+use Rattle.table_model.specs.declared.conditions.Bound.{Bound}
+
+-- ---- faults: of several the first from left to right is answered
+
+-- an answer, or the fault of a query
+abbrev pub Checked : Type 0 → Type 0
+Checked X = Result X QueryFault
+
+-- one step after another, up to the first fault
+infixl 10 ◌>>=◌
+abbrev pub ◌>>=◌ : {X Y : Type 0} → Checked X → (X → Checked Y) → Checked Y
+Ok x >>= f = f x
+Err e >>= f = Err e
+
+-- all answers, or the first fault
+abbrev pub in_order : {X : Type 0} → List (Checked X) → Checked (List X)
+in_order [] = Ok []
+in_order (r ∷ more) = do
+  x ← r
+  xs ← in_order more
+  Ok (x ∷ xs)
+
+-- the lists that are answered, joined, or the first fault
+abbrev pub joined_in_order : {X : Type 0} → List (Checked (List X)) → Checked (List X)
+joined_in_order [] = Ok []
+joined_in_order (r ∷ more) = do
+  xs ← r
+  ys ← joined_in_order more
+  Ok (xs ++ ys)
+
+-- ---- the tables of FROM
+
+-- the place of a table by its name (06-104r4, 6.1.1: feature tables are known by name)
+abbrev pub table_place : {T : Type 0} → List (TableDef T) → List ℕ → Option ℕ
+table_place schema name = position (λ table. same_name table.name name) schema
+
+-- the name of a table as the schema spells it
+abbrev pub table_name : {T : Type 0} → Option (TableDef T) → List ℕ
+table_name (Some table) = table.name
+table_name None = []
+
+-- the name of a reference: its alias, else its table's name as the schema spells it (SQL, correlation names)
+abbrev pub reference_name : {T : Type 0} → List (TableDef T) → ℕ → Option Name → List ℕ
+reference_name schema place (Some alias) = alias.text
+reference_name schema place None = table_name (slice_get schema place)
+
+abbrev pub reference_at : {T : Type 0} → List (TableDef T) → WrittenReference → Option ℕ → Checked Reference
+reference_at schema written (Some place) = Ok (record { table = place; name = reference_name schema place written.alias })
+reference_at schema written None = Err (UnknownTable written.table.at)
+
+-- a reference of FROM; a table that the schema lacks is a fault at its name (SQL, FROM)
+abbrev pub bound_reference : {T : Type 0} → List (TableDef T) → WrittenReference → Checked Reference
+bound_reference schema written = reference_at schema written (table_place schema written.table.text)
+
+-- the byte at which the name of a reference stands
+abbrev pub name_start : Name → Option Name → ℕ
+name_start table (Some alias) = alias.at
+name_start table None = table.at
+
+-- two references need two names, else there is a fault at the second's (SQL, correlation names)
+abbrev pub two_references : Reference → Reference → ℕ → Checked (List Reference)
+two_references first second at = if same_name first.name second.name then Err (SameName at) else Ok (first ∷ second ∷ [])
+
+abbrev pub with_second : {T : Type 0} → List (TableDef T) → Reference → Option WrittenReference → Checked (List Reference)
+with_second schema first None = Ok (first ∷ [])
+with_second schema first (Some written) = do
+  second ← bound_reference schema written
+  two_references first second (name_start written.table written.alias)
+
+-- the references of FROM, the tables from left to right before the names (SQL, FROM)
+abbrev pub bound_references : {T A C : Type 0} → List (TableDef T) → Query A C → Checked (List Reference)
+bound_references schema query = do
+  first ← bound_reference schema query.first
+  with_second schema first query.second
+
+-- ---- columns
+
+-- the columns of a table
+abbrev pub table_columns : {T : Type 0} → Option (TableDef T) → List (ColumnDef T)
+table_columns (Some table) = table.columns
+table_columns None = []
+
+-- the columns of a reference
+abbrev pub columns_of : {T : Type 0} → List (TableDef T) → Reference → List (ColumnDef T)
+columns_of schema reference = table_columns (slice_get schema reference.table)
+
+abbrev pub type_of : {T : Type 0} → ColumnType T → OperandType
+type_of columns.Integer = types.Integer
+type_of columns.Text = types.Text
+type_of (columns.Geometry t) = types.Geometry
+
+-- what a name of a column stands for: its place and its type
+pub record Found : Type 0 where
+  pub place : ColumnPlace
+  pub column_type : OperandType
+
+-- whether a column with or without a reference may be one of the reference of this name (SQL, qualified names)
+abbrev pub refers_to : Option Name → List ℕ → Bool
+refers_to (Some written) name = same_name written.text name
+refers_to None name = true
+
+-- the first column of a name among some, of which the first has this place (SQL, column names)
+abbrev pub column_named : {T : Type 0} → List ℕ → ℕ → List (ColumnDef T) → Option (ℕ × OperandType)
+column_named name place [] = None
+column_named name place (column ∷ more) =
+    if same_name column.name name then Some (place, type_of column.column_type) else column_named name (place + 1) more
+
+-- a column of the reference at a place
+abbrev pub found_in : ℕ → Option (ℕ × OperandType) → Option Found
+found_in reference (Some (column, type)) = Some (record { place = record { reference = reference; column = column }; column_type = type })
+found_in reference None = None
+
+-- the column that a written one can be of the reference at a place
+abbrev pub candidate : {T : Type 0} → List (TableDef T) → WrittenColumn → ℕ → Reference → Option Found
+candidate schema written place reference =
+    if refers_to written.reference reference.name
+    then found_in place (column_named written.name.text 0 (columns_of schema reference))
+    else None
+
+-- the columns that a written one can be, among those of some references, of which the first has this place
+abbrev pub candidates : {T : Type 0} → List (TableDef T) → WrittenColumn → ℕ → List Reference → List Found
+candidates schema written place references = filter_map (λ r. candidate schema written r.0 r.1) (enumerate_from place references)
+
+-- the one that it can be: none is a fault, and so are two (SQL, column names)
+abbrev pub the_one : ℕ → List Found → Checked Found
+the_one at [] = Err (UnknownColumn at)
+the_one at (found ∷ []) = Ok found
+the_one at (found ∷ other ∷ more) = Err (AmbiguousColumn at)
+
+-- a column, found by its names; faults are at its first byte (SQL, column names)
+abbrev pub bound_column : {T : Type 0} → List (TableDef T) → List Reference → WrittenColumn → Checked Found
+bound_column schema references written =
+    the_one (name_start written.name written.reference) (candidates schema written 0 references)
+
+-- ---- conditions
+
+-- a part of a query with the type that it has in it
+pub record Typed (X : Type 0) : Type 0 where
+  pub part : X
+  pub part_type : OperandType
+
+-- how geometry arguments are bound: one of a condition (A becomes B), one of the select list (C becomes D), a pattern
+pub record GeometryBinding (T A B C D : Type 0) : Type 0 where
+  pub argument : List (TableDef T) → List Reference → A → Checked (Typed B)
+  pub item_argument : List (TableDef T) → List Reference → C → Checked (Typed D)
+  pub pattern : Name → Checked Pattern
+
+abbrev pub geometry_of_type : {X : Type 0} → ℕ → X → OperandType → Checked X
+geometry_of_type at part types.Geometry = Ok part
+geometry_of_type at part types.Integer = Err (TypeMismatch at)
+geometry_of_type at part types.Text = Err (TypeMismatch at)
+geometry_of_type at part types.Null = Err (TypeMismatch at)
+
+-- a part that is a geometry; else there is a fault, at the first byte of its predicate or call (06-104r4, 7.2: types of arguments)
+abbrev pub geometry_only : {X : Type 0} → ℕ → Typed X → Checked X
+geometry_only at typed = geometry_of_type at typed.part typed.part_type
+
+-- what a string holds: two quotes in a row are one (SQL, character strings; 39 is the quote)
+abbrev pub unquoted : List ℕ → List ℕ
+unquoted [] = []
+unquoted (byte ∷ []) = byte ∷ []
+unquoted (byte ∷ next ∷ more) = if byte == 39 && next == 39 then byte ∷ unquoted more else byte ∷ unquoted (next ∷ more)
+
+-- a side of a comparison, with its type
+abbrev pub bound_operand : {T A B C D : Type 0} → GeometryBinding T A B C D → List (TableDef T) → List Reference → WrittenOperand A → Checked (Typed (Operand B))
+bound_operand how schema references (written_operand.Column written) = do
+  found ← bound_column schema references written
+  Ok (record { part = operands.Column found.place; part_type = found.column_type })
+bound_operand how schema references (written_operand.Integer n) = Ok (record { part = operands.Integer n; part_type = types.Integer })
+bound_operand how schema references (written_operand.Text written) = Ok (record { part = operands.Text (unquoted written.text); part_type = types.Text })
+bound_operand how schema references written_operand.Null = Ok (record { part = operands.Null; part_type = types.Null })
+bound_operand how schema references (written_operand.AsText at a) = do
+  typed ← how.argument schema references a
+  x ← geometry_only at typed
+  Ok (record { part = operands.AsText x; part_type = types.Text })
+bound_operand how schema references (written_operand.Dimension at a) = do
+  typed ← how.argument schema references a
+  x ← geometry_only at typed
+  Ok (record { part = operands.Dimension x; part_type = types.Integer })
+
+-- whether a side of this type may stand where an integer is wanted
+abbrev pub fits_integer : OperandType → Bool
+fits_integer types.Integer = true
+fits_integer types.Text = false
+fits_integer types.Geometry = false
+fits_integer types.Null = true
+
+-- whether a side of this type may stand where a text is wanted
+abbrev pub fits_text : OperandType → Bool
+fits_text types.Integer = false
+fits_text types.Text = true
+fits_text types.Geometry = false
+fits_text types.Null = true
+
+-- whether two sides can be compared: both are integers or both are texts, NULL being either (SQL, comparison)
+abbrev pub comparable : OperandType → OperandType → Bool
+comparable a b = fits_integer a && fits_integer b || fits_text a && fits_text b
+
+-- a test of types: where it fails there is a fault at this byte
+abbrev pub checked_types : {X : Type 0} → Bool → ℕ → X → Checked X
+checked_types true at x = Ok x
+checked_types false at x = Err (TypeMismatch at)
+
+-- the predicate that is written, its pattern read
+abbrev pub bound_predicate : (Name → Checked Pattern) → WrittenPredicate → Checked Predicate
+bound_predicate pattern (written_predicate.Named predicate) = Ok predicate
+bound_predicate pattern (written_predicate.Relate written) = do
+  p ← pattern written
+  Ok (predicates.Relate p)
+
+-- the condition that has these conjuncts: the only one, or the AND of them
+abbrev pub condition_of : {B : Type 0} → List (Cond B) → Cond B
+condition_of (cond ∷ []) = cond
+condition_of conjuncts = conds.And conjuncts
+
+-- the conjuncts of a condition: those of the parts of an AND, in order; any other condition is its own only one. Here each part of a condition stands as its conjuncts
+abbrev pub conjuncts_by_parts : {T A B C D : Type 0} → GeometryBinding T A B C D → List (TableDef T) → List Reference → WrittenCond-F A (Checked (List (Cond B))) → Checked (List (Cond B))
+conjuncts_by_parts how schema references (WrittenCond-F.Or parts) = do
+  alternatives ← in_order parts
+  Ok (conds.Or (map condition_of alternatives) ∷ [])
+conjuncts_by_parts how schema references (WrittenCond-F.And parts) = joined_in_order parts
+conjuncts_by_parts how schema references (WrittenCond-F.Not part) = do
+  conjuncts ← part
+  Ok (conds.Not (condition_of conjuncts) ∷ [])
+conjuncts_by_parts how schema references (WrittenCond-F.Compare at sign a b) = do
+  left ← bound_operand how schema references a
+  right ← bound_operand how schema references b
+  checked_types (comparable left.part_type right.part_type) at (conds.Compare sign left.part right.part ∷ [])
+conjuncts_by_parts how schema references (WrittenCond-F.IsNull a) = do
+  operand ← bound_operand how schema references a
+  Ok (conds.IsNull operand.part ∷ [])
+conjuncts_by_parts how schema references (WrittenCond-F.IsEmpty at a) = do
+  typed ← how.argument schema references a
+  x ← geometry_only at typed
+  Ok (conds.IsEmpty x ∷ [])
+conjuncts_by_parts how schema references (WrittenCond-F.Relates at predicate a b) = do
+  left ← how.argument schema references a
+  right ← how.argument schema references b
+  bound ← bound_predicate how.pattern predicate
+  x ← geometry_only at left
+  y ← geometry_only at right
+  Ok (conds.Relates bound x y ∷ [])
+
+-- the conjuncts of a written condition, bound, or its first fault
+abbrev pub bound_conjuncts : {T A B C D : Type 0} → GeometryBinding T A B C D → List (TableDef T) → List Reference → WrittenCond A → Checked (List (Cond B))
+bound_conjuncts {A = A} {B = B} how schema references = fold-WrittenCond A (Checked (List (Cond B))) (conjuncts_by_parts how schema references)
+
+-- those of ON or of WHERE; what is absent has none
+abbrev pub bound_condition : {T A B C D : Type 0} → GeometryBinding T A B C D → List (TableDef T) → List Reference → Option (WrittenCond A) → Checked (List (Cond B))
+bound_condition how schema references (Some written) = bound_conjuncts how schema references written
+bound_condition how schema references None = Ok []
+
+-- ---- the select list
+
+-- an item of the select list (SQL, the select list)
+abbrev pub bound_item : {T A B C D : Type 0} → GeometryBinding T A B C D → List (TableDef T) → List Reference → WrittenItem C → Checked (Item D)
+bound_item how schema references (written_item.Column written) = do
+  found ← bound_column schema references written
+  Ok (items.Column found.place)
+bound_item how schema references (written_item.AsText at a) = do
+  typed ← how.item_argument schema references a
+  x ← geometry_only at typed
+  Ok (items.AsText x)
+bound_item how schema references (written_item.Dimension at a) = do
+  typed ← how.item_argument schema references a
+  x ← geometry_only at typed
+  Ok (items.Dimension x)
+bound_item how schema references (written_item.IsEmpty at a) = do
+  typed ← how.item_argument schema references a
+  x ← geometry_only at typed
+  Ok (items.IsEmpty x)
+
+-- the columns of the reference at a place, in their order
+abbrev pub items_of : {T D : Type 0} → ℕ → List (ColumnDef T) → List (Item D)
+items_of reference columns = map (λ c. items.Column (record { reference = reference; column = c.0 })) (enumerate_from 0 columns)
+
+-- all columns, those of the first reference first (SQL, the asterisk)
+abbrev pub all_items : {T D : Type 0} → List (TableDef T) → List Reference → List (Item D)
+all_items schema references = flat_map (λ r. items_of r.0 (columns_of schema r.1)) (enumerate_from 0 references)
+
+-- what SELECT lists (SQL, the select list)
+abbrev pub bound_items : {T A B C D : Type 0} → GeometryBinding T A B C D → List (TableDef T) → List Reference → Selection C → Checked (List (Item D))
+bound_items how schema references selections.All = Ok (all_items schema references)
+bound_items how schema references (selections.Items written) = in_order (map (bound_item how schema references) written)
+
+-- ---- the whole query
+
+-- a query bound to the tables of a schema: the tables of FROM first, then the select list, ON and WHERE (SQL, the query)
+abbrev pub binding : {T A B C D : Type 0} → GeometryBinding T A B C D → List (TableDef T) → Query A C → Checked (Bound B D)
+binding how schema query = do
+  references ← bound_references schema query
+  listed ← bound_items how schema references query.selection
+  joining ← bound_condition how schema references query.on
+  filtering ← bound_condition how schema references query.condition
+  Ok (record { explain = query.explain; references = references; items = listed; conjuncts = joining ++ filtering })
+
+-- how geometry arguments are bound where none is served
+abbrev pub no_geometry : {T : Type 0} → GeometryBinding T NoGeometry NoGeometry NoGeometry NoGeometry
+no_geometry = record {
+  argument = λ schema references a. Ok (record { part = a; part_type = types.Geometry });
+  item_argument = λ schema references a. Ok (record { part = a; part_type = types.Geometry });
+  pattern = λ written. Err (Syntax written.at);
+}
