@@ -8,3 +8,6 @@ pub mod Scaling
 pub mod PointOrder
 pub mod Respect
 pub mod LineSides
+pub mod Each
+pub mod Hulls
+pub mod RingParity

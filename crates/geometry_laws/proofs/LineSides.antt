@@ -18,7 +18,7 @@ pub side_turned : (a b : Position) (p : Point) → side b a p ≡ pos 0 -ℤ sid
 side_turned a b p = solve (a.x ∷ a.y ∷ b.x ∷ b.y ∷ p.X ∷ p.Y ∷ p.W ∷ []) side_back' (lit (pos 0) ⊖ side') tt
 
 -- ---- on the line: the side is 0
-weights_cancel : (a b : Position) (p : Point) (k m n : ℤ) → k *ℤ p.X ≡ m *ℤ a.x +ℤ n *ℤ b.x → k *ℤ p.Y ≡ m *ℤ a.y +ℤ n *ℤ b.y → k *ℤ p.W ≡ m +ℤ n → k *ℤ side a b p ≡ pos 0
+pub weights_cancel : (a b : Position) (p : Point) (k m n : ℤ) → k *ℤ p.X ≡ m *ℤ a.x +ℤ n *ℤ b.x → k *ℤ p.Y ≡ m *ℤ a.y +ℤ n *ℤ b.y → k *ℤ p.W ≡ m +ℤ n → k *ℤ side a b p ≡ pos 0
 weights_cancel a b p k m n e f g =
     solve (a.x ∷ a.y ∷ b.x ∷ b.y ∷ p.X ∷ p.Y ∷ p.W ∷ k ∷ []) (var 7 ⊗ side') ((var 2 ⊖ var 0) ⊗ (var 7 ⊗ var 5 ⊖ var 1 ⊗ (var 7 ⊗ var 6)) ⊖ (var 3 ⊖ var 1) ⊗ (var 7 ⊗ var 4 ⊖ var 0 ⊗ (var 7 ⊗ var 6))) tt
     ∙ ap (λ (x : ℤ). (b.x -ℤ a.x) *ℤ (k *ℤ p.Y -ℤ a.y *ℤ (k *ℤ p.W)) -ℤ (b.y -ℤ a.y) *ℤ (x -ℤ a.x *ℤ (k *ℤ p.W))) e
@@ -30,25 +30,25 @@ zero_on_line : (a b : Position) (p : Point) → IsOnLine a b p → side a b p �
 zero_on_line a b p l = cancel_zero l.multiple (side a b p) l.positive (weights_cancel a b p l.multiple l.of_a l.of_b l.x_is l.y_is l.w_is)
 
 -- ---- the side is 0: on the line, with the square of the distance of a and b as multiple
-abbrev square : Position → Position → ℤ
+abbrev pub square : Position → Position → ℤ
 square a b = (b.x -ℤ a.x) *ℤ (b.x -ℤ a.x) +ℤ (b.y -ℤ a.y) *ℤ (b.y -ℤ a.y)
 
-abbrev weight : Position → Position → Point → ℤ
+abbrev pub weight : Position → Position → Point → ℤ
 weight a b p = (b.x -ℤ a.x) *ℤ (p.X -ℤ a.x *ℤ p.W) +ℤ (b.y -ℤ a.y) *ℤ (p.Y -ℤ a.y *ℤ p.W)
 
-abbrev square' : Expr
+abbrev pub square' : Expr
 square' = (var 2 ⊖ var 0) ⊗ (var 2 ⊖ var 0) ⊕ (var 3 ⊖ var 1) ⊗ (var 3 ⊖ var 1)
 
-abbrev weight' : Expr
+abbrev pub weight' : Expr
 weight' = (var 2 ⊖ var 0) ⊗ (var 4 ⊖ var 0 ⊗ var 6) ⊕ (var 3 ⊖ var 1) ⊗ (var 5 ⊖ var 1 ⊗ var 6)
 
-drop_zero : (x y z : ℤ) → y ≡ pos 0 → x +ℤ z *ℤ y ≡ x
+pub drop_zero : (x y z : ℤ) → y ≡ pos 0 → x +ℤ z *ℤ y ≡ x
 drop_zero x y z e = ap (λ (t : ℤ). x +ℤ z *ℤ t) e ∙ solve (x ∷ z ∷ []) (var 0 ⊕ var 1 ⊗ lit (pos 0)) (var 0) tt
 
-x_of : (a b : Position) (p : Point) → square a b *ℤ p.X ≡ ((square a b *ℤ p.W -ℤ weight a b p) *ℤ a.x +ℤ weight a b p *ℤ b.x) +ℤ (a.y -ℤ b.y) *ℤ side a b p
+pub x_of : (a b : Position) (p : Point) → square a b *ℤ p.X ≡ ((square a b *ℤ p.W -ℤ weight a b p) *ℤ a.x +ℤ weight a b p *ℤ b.x) +ℤ (a.y -ℤ b.y) *ℤ side a b p
 x_of a b p = solve (a.x ∷ a.y ∷ b.x ∷ b.y ∷ p.X ∷ p.Y ∷ p.W ∷ []) (square' ⊗ var 4) (((square' ⊗ var 6 ⊖ weight') ⊗ var 0 ⊕ weight' ⊗ var 2) ⊕ (var 1 ⊖ var 3) ⊗ side') tt
 
-y_of : (a b : Position) (p : Point) → square a b *ℤ p.Y ≡ ((square a b *ℤ p.W -ℤ weight a b p) *ℤ a.y +ℤ weight a b p *ℤ b.y) +ℤ (b.x -ℤ a.x) *ℤ side a b p
+pub y_of : (a b : Position) (p : Point) → square a b *ℤ p.Y ≡ ((square a b *ℤ p.W -ℤ weight a b p) *ℤ a.y +ℤ weight a b p *ℤ b.y) +ℤ (b.x -ℤ a.x) *ℤ side a b p
 y_of a b p = solve (a.x ∷ a.y ∷ b.x ∷ b.y ∷ p.X ∷ p.Y ∷ p.W ∷ []) (square' ⊗ var 5) (((square' ⊗ var 6 ⊖ weight') ⊗ var 1 ⊕ weight' ⊗ var 3) ⊕ (var 2 ⊖ var 0) ⊗ side') tt
 
 square_weak : (x : ℤ) → pos 0 ≤ℤ (x *ℤ x)
@@ -69,7 +69,7 @@ square_strict x f = go (three_ways (pos 0) x)
     go (inr (inl h)) = absurd (f (sym h))
     go (inr (inr h)) = strict_minus_minus x x h h
 
-square_positive : (a b : Position) → (a ≡ b → ⊥) → pos 0 <ℤ square a b
+pub square_positive : (a b : Position) → (a ≡ b → ⊥) → pos 0 <ℤ square a b
 square_positive a b f = go (is_or_not (b.x -ℤ a.x)) (is_or_not (b.y -ℤ a.y))
   where
     no_difference : (x y : ℤ) → y -ℤ x ≡ pos 0 → x ≡ y

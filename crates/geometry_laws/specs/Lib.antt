@@ -1,2 +1,3 @@
 pub mod PointLaws
 pub mod SideLaws
+pub mod RingLaws

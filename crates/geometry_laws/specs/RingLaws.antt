@@ -1,0 +1,22 @@
+-- Laws of rings: what a straight stretch that misses them leaves as it is.
+use Rattle.std.specs.Prelude.{◌≡◌, ℕ, ◌+◌, ◌<◌, false, List, [], ◌∷◌, All}
+use Rattle.geometry_model.specs.Points.{Position, Point, IsPoint}
+use Rattle.geometry_model.specs.Geometries.{Edge, edges_of_lines}
+use Rattle.geometry_model.specs.Sides.{on}
+use Rattle.geometry_model.specs.Crossings.{odd_above}
+use Rattle.geometry_model.specs.Dimensions.{weighted}
+use Rattle.geometry_model.specs.Locations.{last_after}
+
+-- a ring ends where it starts (06-103r4, 6.1.7: LinearRing)
+abbrev pub IsClosed : List Position → Type 0
+IsClosed [] = Unit {0}
+IsClosed (a ∷ rest) = last_after a rest ≡ a
+
+-- no point of the straight stretch from p to q is on the edge (profile)
+abbrev pub Misses : Point → Point → Edge → Type 0
+Misses p q e = (m n : ℕ) → 0 < m + n → on e (weighted m p n q) ≡ false
+
+-- two points joined by a straight stretch that misses all edges of closed rings have equal parity over the rings (06-103r4, 6.1.11.1: the inside of rings is connected so)
+abbrev pub ParityIsKept : Type 0
+ParityIsKept = (rings : List (List Position)) (p q : Point) → IsPoint p → IsPoint q → All IsClosed rings → All (Misses p q) (edges_of_lines rings)
+    → odd_above rings p ≡ odd_above rings q

@@ -1,0 +1,8 @@
+//! Laws of the parity of the edges above a point.
+
+ghost use Rattle.geometry_laws.specs.RingLaws.{ParityIsKept};
+
+/// Two points joined by a straight stretch that misses all edges of closed rings have equal parity over the rings, an upright stretch being no case apart.
+pub fn parity_is_kept()
+    ensures { ParityIsKept }
+{}
