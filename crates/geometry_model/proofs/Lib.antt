@@ -3,3 +3,4 @@ pub mod DimensionFacts
 pub mod PredicateFacts
 pub mod TextSteps
 pub mod TextSound
+pub mod LeastFormFacts

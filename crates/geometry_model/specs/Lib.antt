@@ -23,3 +23,4 @@ pub mod TextLaws
 pub mod Validity
 pub mod FirstFaults
 pub mod ValidityExamples
+pub mod LeastFormLaws

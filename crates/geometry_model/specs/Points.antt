@@ -1,8 +1,8 @@
 -- Positions of the grid and rational points of the plane.
-use Rattle.std.specs.Prelude.{ℕ, zero, suc, ◌+◌, ◌%◌, Bool, ◌&&◌, ℤ, pos, ◌+ℤ◌, ◌*ℤ◌, ◌<ℤ◌, unsigned_abs, int_div}
+use Rattle.std.specs.Prelude.{◌≡◌, ℕ, zero, suc, ◌+◌, ◌%◌, Bool, ◌&&◌, ℤ, pos, ◌+ℤ◌, ◌*ℤ◌, ◌<ℤ◌, unsigned_abs, int_div}
 use Rattle.std.specs.declared.cmp.Ordering.{Ordering}
 use Rattle.std.specs.Ordering.{int_cmp, int_eq, ordering_then}
-use Rattle.std.specs.Int.{IsGcd}
+use Prim.Native.Nat.{◌∣◌}
 
 -- a position of the grid: two whole numbers (06-103r4, 6.1.4; whole numbers alone: profile)
 pub record Position : Type 0 where
@@ -43,9 +43,9 @@ compare p q = ordering_then (compare_x p q) (compare_y p q)
 abbrev pub mediant : Point → Point → Point
 mediant p q = record { X = p.X +ℤ q.X; Y = p.Y +ℤ q.Y; W = p.W +ℤ q.W }
 
--- a triple is in least form where 1 is the greatest number that divides all three (profile)
+-- a triple is in least form where no number but 1 divides all three (profile)
 abbrev pub IsLeast : Point → Type 0
-IsLeast p = (g : ℕ) → IsGcd (unsigned_abs p.X) (unsigned_abs p.Y) g → IsGcd g (unsigned_abs p.W) 1
+IsLeast p = (d : ℕ) → d ∣ unsigned_abs p.X → d ∣ unsigned_abs p.Y → d ∣ unsigned_abs p.W → d ≡ 1
 
 -- Euclid's remainders, for so many turns at most (profile)
 abbrev pub last_divisor : ℕ → ℕ → ℕ → ℕ
@@ -57,9 +57,10 @@ last_divisor (suc turns) a (suc b) = last_divisor turns (suc b) (a % suc b)
 abbrev pub gcd : ℕ → ℕ → ℕ
 gcd a b = last_divisor (b + 1) a b
 
--- the triple in least form that stands for the same point (profile)
+-- the numbers of a triple, each divided by g
 abbrev pub divided : Point → ℕ → Point
 divided p g = record { X = int_div p.X (pos g); Y = int_div p.Y (pos g); W = int_div p.W (pos g) }
 
+-- the triple in least form that stands for the same point (profile)
 abbrev pub least_form : Point → Point
 least_form p = divided p (gcd (gcd (unsigned_abs p.X) (unsigned_abs p.Y)) (unsigned_abs p.W))

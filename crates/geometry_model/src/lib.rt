@@ -6,6 +6,7 @@
 
 pub mod dimension_laws;
 pub mod geometry_examples;
+pub mod least_form_laws;
 pub mod matrix_examples;
 pub mod point_set_laws;
 pub mod point_sets;
