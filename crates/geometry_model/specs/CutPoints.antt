@@ -1,8 +1,7 @@
 -- The points at which the edges and listed positions of two geometries cut one another.
-use Rattle.std.specs.Prelude.{◌≡◌, Bool, true, false, ◌&&◌, ◌||◌, not, List, [], ◌∷◌, ◌++◌, map, flat_map, Contains, if◌then◌else◌, pos, ◌-ℤ◌, ◌*ℤ◌, int_lt}
+use Rattle.std.specs.Prelude.{◌≡◌, Bool, true, false, ◌&&◌, ◌||◌, List, [], ◌∷◌, ◌++◌, map, flat_map, Contains, if◌then◌else◌, pos, ◌-ℤ◌, ◌*ℤ◌, int_lt}
 use Rattle.std.specs.declared.cmp.Ordering.{Ordering}
 use Rattle.std.specs.declared.cmp.Ordering.TheVariants.{Less, Equal, Greater}
-use Rattle.std.specs.Ordering.{int_eq}
 use Rattle.geometry_model.specs.Points.{Position, Point, point_at, same_point, compare, least_form}
 use Rattle.geometry_model.specs.Geometries.{Edge}
 use Rattle.geometry_model.specs.Sides.{side, on, on_one_line}
@@ -34,15 +33,15 @@ meeting_point e f =
       W = s -ℤ t;
     }
 
--- the point, if there is one and both edges go through it
+-- the point, if it is one and both edges go through it
 abbrev pub if_on_both : Edge → Edge → Point → List Point
 if_on_both e f p =
-    if not (int_eq p.W (pos 0)) && on e p && on f p then least_form p ∷ []
+    if int_lt (pos 0) p.W && on e p && on f p then p ∷ []
     else []
 
 -- the point that two edges not on one line share, in least form (profile)
 abbrev pub crossings : Edge → Edge → List Point
-crossings e f = if_on_both e f (meeting_point e f)
+crossings e f = if_on_both e f (least_form (meeting_point e f))
 
 -- x before y and the rest, in its place behind y, or left out where it stands there already
 abbrev pub placed : {A : Type 0} → Ordering → A → A → List A → List A → List A
