@@ -7,3 +7,6 @@ pub mod FaultLines
 pub mod Truths
 pub mod Tokens
 pub mod Binding
+pub mod Definitions
+pub mod Loading
+pub mod Databases

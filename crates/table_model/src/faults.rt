@@ -47,6 +47,13 @@ pub enum LoadFault {
     OutOfMemory,
 }
 
+/// Why a database isn't loaded: the place of the table in the schema, from 0, and the table's fault.
+#[derive(Clone, Copy, Debug, PartialEq, Eq)]
+pub struct TableFault {
+    pub table: usize,
+    pub fault: LoadFault,
+}
+
 /// Why a query isn't taken. A number is the byte of the text, from 0.
 #[derive(Clone, Copy, Debug, PartialEq, Eq, Error)]
 pub enum QueryFault {

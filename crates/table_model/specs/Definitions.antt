@@ -1,0 +1,37 @@
+-- Schemas: when a list of table definitions is lawful.
+use Rattle.std.specs.Prelude.{ℕ, zero, suc, Bool, true, false, not, ◌&&◌, List, [], ◌∷◌, map, length, nat_le}
+use Rattle.std.specs.List.{list_all, list_any}
+use Rattle.table_model.specs.Texts.{same_name}
+use Rattle.table_model.specs.declared.definitions.ColumnType.{ColumnType}
+use Rattle.table_model.specs.declared.definitions.ColumnType.TheVariants as column
+use Rattle.table_model.specs.declared.definitions.ColumnDef.{ColumnDef}
+use Rattle.table_model.specs.declared.definitions.TableDef.{TableDef}
+
+-- no two of these names are the same (profile: names are compared without regard to ASCII case)
+abbrev pub names_differ : List (List ℕ) → Bool
+names_differ [] = true
+names_differ (name ∷ names) = not (list_any (same_name name) names) && names_differ names
+
+-- whether a column holds whole numbers
+abbrev pub is_integer : {T : Type 0} → ColumnType T → Bool
+is_integer column.Integer = true
+is_integer column.Text = false
+is_integer (column.Geometry kind) = false
+
+-- whether the column at a place is there and may be a feature key: a key is a whole number (profile)
+abbrev pub has_key : {T : Type 0} → List (ColumnDef T) → ℕ → Bool
+has_key [] key = false
+has_key (c ∷ columns) zero = is_integer c.column_type
+has_key (c ∷ columns) (suc key) = has_key columns key
+
+-- the names of a table's columns
+abbrev pub column_names : {T : Type 0} → List (ColumnDef T) → List (List ℕ)
+column_names columns = map (λ c. c.name) columns
+
+-- a table has at most 32 columns, whose names differ, and one of them is its key (profile)
+abbrev pub lawful_table : {T : Type 0} → TableDef T → Bool
+lawful_table table = nat_le (length table.columns) 32 && (names_differ (column_names table.columns) && has_key table.columns table.key)
+
+-- a schema has at most 16 tables, whose names differ, each of them lawful (profile)
+unfoldable pub lawful : {T : Type 0} → List (TableDef T) → Bool
+lawful tables = nat_le (length tables) 16 && (names_differ (map (λ t. t.name) tables) && list_all lawful_table tables)
