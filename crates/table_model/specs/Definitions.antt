@@ -1,5 +1,5 @@
 -- Schemas: when a list of table definitions is lawful.
-use Rattle.std.specs.Prelude.{ℕ, zero, suc, Bool, true, false, not, ◌&&◌, List, [], ◌∷◌, map, length, nat_le}
+use Rattle.std.specs.Prelude.{◌&&◌, ℕ, Bool, true, false, not, List, [], ◌∷◌, Option, Some, None, length, map, nat_le, slice_get}
 use Rattle.std.specs.List.{list_all, list_any}
 use Rattle.table_model.specs.Texts.{same_name}
 use Rattle.table_model.specs.declared.definitions.ColumnType.{ColumnType}
@@ -18,11 +18,10 @@ is_integer column.Integer = true
 is_integer column.Text = false
 is_integer (column.Geometry kind) = false
 
--- whether the column at a place is there and may be a feature key: a key is a whole number (profile)
-abbrev pub has_key : {T : Type 0} → List (ColumnDef T) → ℕ → Bool
-has_key [] key = false
-has_key (c ∷ columns) zero = is_integer c.column_type
-has_key (c ∷ columns) (suc key) = has_key columns key
+-- whether a column, where there is one, may be a feature key: a key is a whole number (profile)
+abbrev pub may_be_key : {T : Type 0} → Option (ColumnDef T) → Bool
+may_be_key None = false
+may_be_key (Some c) = is_integer c.column_type
 
 -- the names of a table's columns
 abbrev pub column_names : {T : Type 0} → List (ColumnDef T) → List (List ℕ)
@@ -30,7 +29,7 @@ column_names columns = map (λ c. c.name) columns
 
 -- a table has at most 32 columns, whose names differ, and one of them is its key (profile)
 abbrev pub lawful_table : {T : Type 0} → TableDef T → Bool
-lawful_table table = nat_le (length table.columns) 32 && (names_differ (column_names table.columns) && has_key table.columns table.key)
+lawful_table table = nat_le (length table.columns) 32 && (names_differ (column_names table.columns) && may_be_key (slice_get table.columns table.key))
 
 -- a schema has at most 16 tables, whose names differ, each of them lawful (profile)
 unfoldable pub lawful : {T : Type 0} → List (TableDef T) → Bool

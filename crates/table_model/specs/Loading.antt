@@ -53,12 +53,18 @@ abbrev pub fits_64_bits : ℤ → Bool
 fits_64_bits (pos n) = nat_lt n (2 ^ 63)
 fits_64_bits (negsuc n) = nat_lt n (2 ^ 63)
 
--- the whole number that a field spells: blanks around it, a sign or none, and one or more digits (profile)
+-- whether a text is a whole number of 64 bits: a sign or none, and one or more digits (profile)
+abbrev pub is_number : List ℕ → Bool
+is_number text =
+    let digits = without_leading_sign text in nat_lt 0 (length digits) && (all_ascii_digits digits && fits_64_bits (signed_digits_value 10 text))
+
+-- the whole number that a text is
+abbrev pub number_in : List ℕ → Option ℤ
+number_in text = if is_number text then Some (signed_digits_value 10 text) else None
+
+-- the whole number that a field spells, blanks around it passed over (profile)
 unfoldable pub integer_of : List ℕ → Option ℤ
-integer_of bytes =
-    let text = trimmed bytes in
-    let digits = without_leading_sign text in
-    if nat_lt 0 (length digits) && (all_ascii_digits digits && fits_64_bits (signed_digits_value 10 text)) then Some (signed_digits_value 10 text) else None
+integer_of bytes = number_in (trimmed bytes)
 
 -- the value of a field that isn't empty (profile)
 abbrev pub filled_value : {T G : Type 0} → GeometryReader T G → ℕ → ColumnType T → List ℕ → Result (Value G) LoadFault

@@ -1,0 +1,107 @@
+-- Whole numbers and texts as fields spell them.
+use Rattle.std.proofs.Common.{◌≡◌, ◌&&◌, ◌<◌, ◌==◌, ◌^◌, ℕ, ℤ, pos, negsuc, zero, suc, Bool, true, false, List, [], ◌∷◌, Option, Some, None, Result, Ok, Err, IsUtf8, IsAscii, arith, cond, drop, length, nat_lt, refl, ap, sym, ◌∙◌}
+use Rattle.std.proofs.lemmas.Bool.{false≢true}
+use Rattle.std.proofs.lemmas.Bool.Decides.{nat_tests}
+use Rattle.std.proofs.lemmas.Fmt.{IsAscii-from_digits}
+use Rattle.std.proofs.lemmas.Str.{IsUtf8-from_ascii, IsUtf8-from_is_utf8, is_utf8-from_IsUtf8}
+use Rattle.std.proofs.lemmas.Str.Parse.{IsNumeralModel, numerals_by_value, tells_all_ascii_digits}
+use Rattle.std.specs.Int.{w64}
+use Rattle.std.specs.Result.{result_ok}
+use Rattle.std.specs.Str.{all_ascii_digits, is_utf8}
+use Rattle.std.specs.Str.Parse.{AllDigits, IsNumeral, ParsesSigned, digits_value, signed_digits_value, without_leading_sign}
+use Rattle.std.specs.Prelude.{FitsSigned}
+use Rattle.table_model.specs.Loading.{GeometryReader, filled_value, fits_64_bits, is_number, number_in, value_of}
+use Rattle.table_model.specs.declared.definitions.ColumnType.{ColumnType}
+use Rattle.table_model.specs.declared.definitions.ColumnType.TheVariants as column
+use Rattle.table_model.specs.declared.faults.LoadFault.TheVariants as fault
+use Rattle.table_model.specs.declared.values.Value.TheVariants as value
+
+numerals : IsNumeralModel (λ ds. all_ascii_digits ds ≡ true) (digits_value 10)
+numerals = numerals_by_value _ tells_all_ascii_digits
+
+lt-true : (m n : ℕ) → m < n → nat_lt m n ≡ true
+lt-true m n h = grind (arith, nat_tests)
+
+true-lt : (m n : ℕ) → nat_lt m n ≡ true → m < n
+true-lt m n h = grind (arith, nat_tests)
+
+fits-true : (z : ℤ) → FitsSigned w64 z → fits_64_bits z ≡ true
+fits-true (pos n) h = lt-true n (2 ^ 63) h.sfits
+fits-true (negsuc n) h = lt-true n (2 ^ 63) h.sfits
+
+true-fits : (z : ℤ) → fits_64_bits z ≡ true → FitsSigned w64 z
+true-fits (pos n) h = record { sfits = true-lt n (2 ^ 63) h }
+true-fits (negsuc n) h = record { sfits = true-lt n (2 ^ 63) h }
+
+-- what `parse` takes is a number
+number-true : (text : List ℕ) → IsNumeral 10 (without_leading_sign text) × FitsSigned w64 (signed_digits_value 10 text) → is_number text ≡ true
+number-true text h =
+    rw (lt-true 0 (length (without_leading_sign text)) h.0.0, numerals.from (without_leading_sign text) h.0.1, fits-true (signed_digits_value 10 text) h.1) refl
+
+and-both : (a b c : Bool) → (a && (b && c)) ≡ true → (a ≡ true) × (b ≡ true) × (c ≡ true)
+and-both true true true h = (refl, refl, refl)
+and-both true true false h = absurd (false≢true h)
+and-both true false c h = absurd (false≢true h)
+and-both false b c h = absurd (false≢true h)
+
+true-number : (text : List ℕ) → is_number text ≡ true → IsNumeral 10 (without_leading_sign text) × FitsSigned w64 (signed_digits_value 10 text)
+true-number text h =
+    let digits = without_leading_sign text in
+    let parts = and-both (nat_lt 0 (length digits)) (all_ascii_digits digits) (fits_64_bits (signed_digits_value 10 text)) h in
+    ((true-lt 0 (length digits) parts.0, numerals.to digits parts.1), true-fits (signed_digits_value 10 text) parts.2)
+
+-- what `parse` answers
+pub parsed : {E : Type 0} (text : List ℕ) (r : Result ℤ E) → ParsesSigned w64 10 text r → result_ok r ≡ number_in text
+parsed text (Ok n) h = rw (number-true text h.0, h.1) refl
+parsed text (Err e) h = go (is_number text) refl
+  where
+    go : (b : Bool) → is_number text ≡ b → None ≡ cond b (Some (signed_digits_value 10 text)) None
+    go true e = absurd (h (true-number text e))
+    go false e = refl
+
+ascii-cons : (c : ℕ) (cs : List ℕ) → c < 128 → IsAscii cs → IsAscii (c ∷ cs)
+ascii-cons c cs low rest zero = low
+ascii-cons c cs low rest (suc i) = rest i
+
+ascii-signed : (text : List ℕ) → IsAscii (without_leading_sign text) → IsAscii text
+ascii-signed [] h = h
+ascii-signed (c ∷ cs) h = minus (c == 45) refl h
+  where
+    plus : (b : Bool) → (c == 43) ≡ b → IsAscii (drop (cond b 1 0) (c ∷ cs)) → IsAscii (c ∷ cs)
+    plus true e h = ascii-cons c cs (grind (arith, nat_tests)) h
+    plus false e h = h
+    minus : (b : Bool) → (c == 45) ≡ b → IsAscii (cond b cs (drop (cond (c == 43) 1 0) (c ∷ cs))) → IsAscii (c ∷ cs)
+    minus true e h = ascii-cons c cs (grind (arith, nat_tests)) h
+    minus false e h = plus (c == 43) refl h
+
+-- what is no text is no number
+pub no_number : (text : List ℕ) → ¬ (IsUtf8 text) → None ≡ number_in text
+no_number text h = go (is_number text) refl
+  where
+    go : (b : Bool) → is_number text ≡ b → None ≡ cond b (Some (signed_digits_value 10 text)) None
+    go true e = absurd (h (IsUtf8-from_ascii text (ascii-signed text (IsAscii-from_digits (without_leading_sign text) (true-number text e).0.1))))
+    go false e = refl
+
+-- the test of a text that is none
+utf8-false : (bytes : List ℕ) → ¬ (IsUtf8 bytes) → is_utf8 bytes ≡ false
+utf8-false bytes h = go (is_utf8 bytes) refl
+  where
+    go : (b : Bool) → is_utf8 bytes ≡ b → b ≡ false
+    go true e = absurd (h (IsUtf8-from_is_utf8 bytes e))
+    go false e = refl
+
+-- the value of a field that isn't empty
+filled : {T G : Type 0} (geometry : GeometryReader T G) (number : ℕ) (required : Bool) (kind : ColumnType T) (bytes : List ℕ)
+    → false ≡ (length bytes == 0) → value_of geometry number required kind bytes ≡ filled_value geometry number kind bytes
+unfolding value_of
+filled geometry number required kind [] h = absurd (false≢true h)
+filled geometry number required kind (byte ∷ bytes) h = refl
+
+-- the value of a text, and the fault of what is none
+pub text_value : {T G : Type 0} (geometry : GeometryReader T G) (number : ℕ) (required : Bool) (kind : ColumnType T) (bytes : List ℕ)
+    → kind ≡ column.Text → false ≡ (length bytes == 0) → IsUtf8 bytes → value_of geometry number required kind bytes ≡ Ok (value.Text bytes)
+text_value geometry number required kind bytes is_text some is = rw (filled geometry number required kind bytes some, is_text, is_utf8-from_IsUtf8 bytes is) refl
+
+pub no_text_value : {T G : Type 0} (geometry : GeometryReader T G) (number : ℕ) (required : Bool) (kind : ColumnType T) (bytes : List ℕ)
+    → kind ≡ column.Text → false ≡ (length bytes == 0) → ¬ (IsUtf8 bytes) → value_of geometry number required kind bytes ≡ Err (fault.NotUtf8 number)
+no_text_value geometry number required kind bytes is_text some other = rw (filled geometry number required kind bytes some, is_text, utf8-false bytes other) refl

@@ -1,0 +1,31 @@
+//! What a row shows of a field.
+
+ghost use Rattle.std.specs.Prelude.{◌≡◌};
+ghost use Rattle.feature_table.specs.Cells.{shown};
+
+use table_model::values::{NoGeometry, Value};
+
+/// A field of a row, its text or geometry lent by the table.
+#[derive(Clone, Copy, Debug)]
+pub enum Field<'a> {
+    /// No value.
+    Null,
+    /// A whole number.
+    Int(i64),
+    /// A text.
+    Text(&'a str),
+    /// A geometry. There is none yet.
+    Geom(&'a NoGeometry),
+}
+
+/// What a value shows.
+pub(crate) fn field_of(value: &Value<NoGeometry>) -> Field<'_>
+    ensures { shown result ≡ value.now }
+{
+    match value {
+        Value::Null => Field::Null,
+        Value::Integer(number) => Field::Int(*number),
+        Value::Text(text) => Field::Text(text.as_str()),
+        Value::Geometry(none) => match *none {},
+    }
+}

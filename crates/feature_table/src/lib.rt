@@ -1,0 +1,19 @@
+//! Feature tables in the style of OGC 06-104r4 (Simple Features, part 2), loaded from records of CSV: lawful
+//! schemas, tables of typed rows by ascending key, databases.
+#![tactic(auto)]
+
+pub mod cells;
+pub mod databases;
+mod fields;
+mod headers;
+mod keys;
+mod reading;
+mod rows;
+pub mod schemas;
+pub mod tables;
+
+pub use cells::Field;
+pub use databases::Database;
+pub use schemas::{ColumnDef, ColumnType, Schema, TableDef, lawful};
+pub use table_model::faults::{LoadFault, TableFault};
+pub use tables::{Row, Table};

@@ -1,0 +1,126 @@
+//! Tables of typed rows.
+
+ghost use Rattle.std.specs.Prelude.{◌≡◌, ◌∷◌, [], IsTrue, ◌<◌, Some, length, slice_get};
+ghost use Rattle.feature_table.specs.Cells.{shown};
+ghost use Rattle.table_model.specs.Definitions.{lawful};
+
+use crate::cells::{Field, field_of};
+use crate::headers::{Layout, layout_of};
+use crate::keys::order_by_key;
+use crate::reading::{next_record, record_reader};
+use crate::rows::{ROW_LIMIT, checked_row};
+use crate::schemas::TableDef;
+use csv::{ByteRecord, Reader};
+use sqlite_items::Items;
+use std::alloc::Global;
+use std::io::Read;
+use std::marker::Model;
+use table_model::faults::LoadFault;
+use table_model::values::{NoGeometry, Value};
+
+/// A row of a table, which contracts see as the list of its values.
+#[derive(Debug, Drop)]
+pub struct Row<'a> {
+    values: &'a Items<Value<NoGeometry>>,
+}
+
+impl<'a> Model for Row<'a> {
+    ghost use Rattle.table_model.specs.Meanings as plain;
+    ghost use Rattle.table_model.specs.declared.values.NoGeometry.{NoGeometry};
+
+    ghost Value = { plain.Row NoGeometry };
+
+    ghost view = { λ r. r.values.now };
+}
+
+impl<'a> Row<'a> {
+    /// How many fields the row has: as many as its table has columns.
+    pub fn len(&self) -> usize
+        ensures { result ≡ length self.now }
+    {
+        self.values.len()
+    }
+
+    /// Lends the field of the column at a place.
+    pub fn field(&self, column: usize) -> Field<'a>
+        requires { column < length self.now }
+        ensures { slice_get self.now column ≡ Some (shown result) }
+    {
+        let values = self.values.as_slice();
+        field_of(&values[column])
+    }
+}
+
+/// A table: its rows by ascending key. Contracts see it as that list.
+#[derive(Debug, Drop)]
+pub struct Table {
+    rows: Vec<Items<Value<NoGeometry>>>,
+}
+
+impl Model for Table {
+    ghost use Rattle.table_model.specs.Meanings as plain;
+    ghost use Rattle.table_model.specs.declared.values.NoGeometry.{NoGeometry};
+
+    ghost Value = { plain.Table NoGeometry };
+
+    ghost view = { λ t. t.rows.items };
+}
+
+/// Reads the records after the header, one for each row.
+fn read_rows<R: Read + Drop>(
+    alloc: Global,
+    table: &TableDef,
+    layout: &Layout,
+    reader: &mut Reader<R>,
+) -> Result<Vec<Items<Value<NoGeometry>>>, LoadFault> {
+    let mut rows = Vec::new(alloc);
+    let mut record = ByteRecord::new(alloc);
+    for place in 0..ROW_LIMIT {
+        if !next_record(reader, &mut record)? {
+            return Ok(rows);
+        }
+        rows.push(checked_row(alloc, table, layout, place + 1, &record)?)?;
+    }
+    if next_record(reader, &mut record)? {
+        rows.push(checked_row(alloc, table, layout, ROW_LIMIT + 1, &record)?)?;
+    }
+    Ok(rows)
+}
+
+impl Table {
+    /// Loads the table of this definition from the CSV text that a reader gives.
+    pub fn load<R: Read + Drop>(
+        alloc: Global,
+        table: &TableDef,
+        reader: R,
+    ) -> Result<Table, LoadFault>
+        requires { IsTrue (lawful (table.now ∷ [])) }
+    {
+        let mut reader = record_reader(alloc, reader);
+        let mut header = ByteRecord::new(alloc);
+        if !next_record(&mut reader, &mut header)? {
+            header.clear();
+        }
+        let layout = layout_of(alloc, table.columns.as_slice(), &header)?;
+        let mut rows = read_rows(alloc, table, &layout, &mut reader)?;
+        order_by_key(alloc, &mut rows, table.key)?;
+        Ok(Table { rows })
+    }
+
+    /// How many rows there are.
+    pub fn rows(&self) -> usize
+        ensures { result ≡ length self.now }
+    {
+        self.rows.len()
+    }
+
+    /// Lends the row at a place.
+    pub fn row(&self, i: usize) -> Row<'_>
+        requires { i < length self.now }
+        ensures { slice_get self.now i ≡ Some result }
+    {
+        Row {
+            values: &self.rows[i],
+        }
+    }
+}
