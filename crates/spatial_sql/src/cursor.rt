@@ -45,17 +45,6 @@ impl<'t, 'a> Cursor<'t, 'a> {
         }
     }
 
-    /// The kind of the token after the next one.
-    #[tactic(auto, unfolding(table_model::specs::Parsers::kind, table_model::specs::Parsers::next))]
-    pub fn second_kind(&self) -> TokenKind
-        ensures { result ≡ spec.kind (spec.next self.now) }
-    {
-        match self.left {
-            [_, second, ..] => second.kind,
-            _ => TokenKind::End,
-        }
-    }
-
     /// The byte, from 0, at which the next token starts.
     #[tactic(auto, unfolding(table_model::specs::Parsers::place))]
     pub fn place(&self) -> usize
@@ -111,6 +100,25 @@ impl<'t, 'a> Cursor<'t, 'a> {
         ensures { result ≡ spec.sees wanted self.now }
     {
         same_kind(self.kind(), wanted)
+    }
+
+    /// The kind of the token after the next one.
+    #[tactic(auto, unfolding(table_model::specs::Parsers::kind, table_model::specs::Parsers::next))]
+    fn second_kind(&self) -> TokenKind
+        ensures { result ≡ spec.kind (spec.next self.now) }
+    {
+        match self.left {
+            [_, second, ..] => second.kind,
+            _ => TokenKind::End,
+        }
+    }
+
+    /// Whether the token after the next one is of a kind.
+    #[tactic(auto, unfolding(table_model::specs::Parsers::sees))]
+    pub fn second_sees(&self, wanted: TokenKind) -> bool
+        ensures { result ≡ spec.sees wanted (spec.next self.now) }
+    {
+        same_kind(self.second_kind(), wanted)
     }
 
     /// Goes past the next token where it is of a kind, and tells whether it is.

@@ -2,9 +2,12 @@
 //! a query is bound to a database.
 #![tactic(auto)]
 
+mod condition;
 pub mod cursor;
 pub mod lex;
+mod query;
 
+pub use query::read_query;
 pub use table_model::faults::{QueryFault, SchemaFault};
 use table_model::values::NoGeometry;
 pub use table_model::values::Truth;

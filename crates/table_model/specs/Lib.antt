@@ -10,3 +10,4 @@ pub mod Binding
 pub mod Definitions
 pub mod Loading
 pub mod Databases
+pub mod QueryReading
