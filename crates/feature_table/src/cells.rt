@@ -6,7 +6,7 @@ ghost use Rattle.feature_table.specs.Cells.{shown};
 use table_model::values::{NoGeometry, Value};
 
 /// A field of a row, its text or geometry lent by the table.
-#[derive(Clone, Copy, Debug)]
+#[derive(Clone, Copy)]
 pub enum Field<'a> {
     /// No value.
     Null,

@@ -10,7 +10,7 @@ use std::marker::Model;
 use table_model::faults::{LoadFault, TableFault};
 
 /// The tables of a schema, which it borrows.
-#[derive(Debug, Drop)]
+#[derive(Drop)]
 pub struct Database<'s> {
     schema: &'s Schema,
     tables: Vec<Table>,

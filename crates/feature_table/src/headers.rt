@@ -10,7 +10,7 @@ use table_model::faults::LoadFault;
 use table_model::texts::same_name;
 
 /// A header as a table sees it.
-#[derive(Debug, Drop)]
+#[derive(Drop)]
 pub(crate) struct Layout {
     /// The place in the header of each column, in the order of the columns.
     pub(crate) places: Vec<usize>,

@@ -26,7 +26,7 @@ pub const TABLE_LIMIT: usize = 16;
 pub const COLUMN_LIMIT: usize = 32;
 
 /// A lawful list of table definitions, which contracts see as that list.
-#[derive(Debug, Drop)]
+#[derive(Drop)]
 pub struct Schema {
     tables: Items<TableDef>,
 }

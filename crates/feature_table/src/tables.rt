@@ -19,7 +19,7 @@ use table_model::faults::LoadFault;
 use table_model::values::{NoGeometry, Value};
 
 /// A row of a table, which contracts see as the list of its values.
-#[derive(Debug, Drop)]
+#[derive(Drop)]
 pub struct Row<'a> {
     values: &'a Items<Value<NoGeometry>>,
 }
@@ -52,7 +52,7 @@ impl<'a> Row<'a> {
 }
 
 /// A table: its rows by ascending key. Contracts see it as that list.
-#[derive(Debug, Drop)]
+#[derive(Drop)]
 pub struct Table {
     rows: Vec<Items<Value<NoGeometry>>>,
 }
