@@ -4,3 +4,4 @@ pub mod PredicateFacts
 pub mod TextSteps
 pub mod TextSound
 pub mod LeastFormFacts
+pub mod TextPrinted
