@@ -5,3 +5,4 @@ pub mod TextSteps
 pub mod TextSound
 pub mod LeastFormFacts
 pub mod TextPrinted
+pub mod TextComplete

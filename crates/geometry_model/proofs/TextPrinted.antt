@@ -1,6 +1,6 @@
 -- The canonical text of what a text spells spells it again.
-use Rattle.std.proofs.Common.{◌≡◌, refl, sym, ap, ◌∙◌, subst, ℕ, zero, suc, ◌+◌, ◌*◌, ◌^◌, ◌<◌, ◌≤◌, ◌==◌, ◌⊎◌, inl, inr, ℤ, pos, negsuc, neg_ℤ, Bool, true, false, cond, List, [], ◌∷◌, ◌++◌, length, map, Option, Some, None, codes, unsigned_abs, append_assoc, append-nil, length-append, suc-le-suc, zero-le, le_trans, le_refl, lt_irrefl, zero-lt-suc, arith}
-use Rattle.std.specs.List.{list_all, flat_map, dedup, dedup_from, join_with_byte, AllByRecursion}
+use Rattle.std.proofs.Common.{◌≡◌, refl, sym, ap, ◌∙◌, subst, ℕ, zero, suc, ◌<◌, ◌≤◌, inl, inr, ℤ, pos, negsuc, neg_ℤ, Bool, true, false, cond, List, [], ◌∷◌, ◌++◌, length, map, codes, unsigned_abs, append_assoc, append-nil, length-append, suc-le-suc, zero-le, le_trans, le_refl, zero-lt-suc, arith}
+use Rattle.std.specs.List.{list_all, flat_map, dedup_from, join_with_byte, AllByRecursion}
 use Rattle.std.specs.Option.{option_to_list}
 use Rattle.std.specs.Char.{is_ascii_digit, digit_value}
 use Rattle.std.specs.Fmt.{decimal, signed_decimal}
@@ -8,15 +8,15 @@ use Rattle.std.specs.Str.Parse.{digits_value, AllDigits}
 use Rattle.std.proofs.lemmas.Fmt.{decimal_is_IsNumeral}
 use Rattle.geometry_model.specs.Points.{Position}
 use Rattle.geometry_model.specs.Geometries.{Geometry, Point, MultiPoint, LineString, MultiLineString, Polygon}
-use Rattle.geometry_model.specs.WellKnownText.{Rule, ◌⨾◌, Byte, Blank, Space, Padded, Enclosed, Word, Separated, Sign, Digits, Fraction, Numeral, Number, PositionText, PointText, LineText, Body, TaggedText, Writes, Spells, IsWithinCounts, coordinate_limit, position_limit, part_limit, is_white, is_whole, signed, same_position, without_repeats, geometry_of}
+use Rattle.geometry_model.specs.WellKnownText.{Rule, ◌⨾◌, Padded, Enclosed, Word, Separated, Sign, Number, PositionText, PointText, LineText, Body, TaggedText, Spells, IsWithinCounts, coordinate_limit, signed, same_position, without_repeats, geometry_of}
 use Rattle.geometry_model.specs.CanonicalText.{position_text, point_text, listed_text, line_text, tagged_text, canonical_text}
 use Rattle.geometry_model.specs.TextLaws.{CanonicalTextSpells}
 
 -- repeats
 
 dropped : (Q : Position → Type 0) (k x : Position) (xs : List Position) (same : Bool)
-  → AllByRecursion Q (dedup_from same_position k xs) → AllByRecursion Q (dedup_from same_position x xs) → Q k
-  → AllByRecursion Q (cond same (dedup_from same_position k xs) (k ∷ dedup_from same_position x xs))
+    → AllByRecursion Q (dedup_from same_position k xs) → AllByRecursion Q (dedup_from same_position x xs) → Q k
+    → AllByRecursion Q (cond same (dedup_from same_position k xs) (k ∷ dedup_from same_position x xs))
 dropped Q k x xs true all_k all_x first = all_k
 dropped Q k x xs false all_k all_x first = (first, all_x)
 
@@ -34,7 +34,7 @@ rest_from k [] = []
 rest_from k (x ∷ xs) = cond (same_position x k) (rest_from k xs) (x ∷ rest_from x xs)
 
 first_and_rest : (k x : Position) (xs : List Position) (same : Bool) → dedup_from same_position k xs ≡ k ∷ rest_from k xs → dedup_from same_position x xs ≡ x ∷ rest_from x xs
-  → cond same (dedup_from same_position k xs) (k ∷ dedup_from same_position x xs) ≡ k ∷ cond same (rest_from k xs) (x ∷ rest_from x xs)
+    → cond same (dedup_from same_position k xs) (k ∷ dedup_from same_position x xs) ≡ k ∷ cond same (rest_from k xs) (x ∷ rest_from x xs)
 first_and_rest k x xs true e f = e
 first_and_rest k x xs false e f = ap (λ r. k ∷ r) f
 
@@ -43,8 +43,8 @@ from_rest k [] = refl
 from_rest k (x ∷ xs) = first_and_rest k x xs (same_position x k) (from_rest k xs) (from_rest x xs)
 
 steadied : (k x : Position) (xs : List Position) (same : Bool) → same_position x k ≡ same → dedup_from same_position k (rest_from k xs) ≡ k ∷ rest_from k xs
-  → dedup_from same_position x (rest_from x xs) ≡ x ∷ rest_from x xs
-  → dedup_from same_position k (cond same (rest_from k xs) (x ∷ rest_from x xs)) ≡ k ∷ cond same (rest_from k xs) (x ∷ rest_from x xs)
+    → dedup_from same_position x (rest_from x xs) ≡ x ∷ rest_from x xs
+    → dedup_from same_position k (cond same (rest_from k xs) (x ∷ rest_from x xs)) ≡ k ∷ cond same (rest_from k xs) (x ∷ rest_from x xs)
 steadied k x xs true is e f = e
 steadied k x xs false is e f = rw is (ap (λ r. k ∷ r) f)
 
@@ -61,7 +61,7 @@ repeats_once_each [] = refl
 repeats_once_each (x ∷ xs) = rw (repeats_once x, repeats_once_each xs) refl
 
 shortened : (k x : Position) (xs : List Position) (same : Bool) → length (dedup_from same_position k xs) ≤ suc (length xs) → length (dedup_from same_position x xs) ≤ suc (length xs)
-  → length (cond same (dedup_from same_position k xs) (k ∷ dedup_from same_position x xs)) ≤ suc (suc (length xs))
+    → length (cond same (dedup_from same_position k xs) (k ∷ dedup_from same_position x xs)) ≤ suc (suc (length xs))
 shortened k x xs true e f = omega (arith, e)
 shortened k x xs false e f = suc-le-suc f
 
@@ -174,34 +174,44 @@ all_digits [] all = refl
 all_digits (c ∷ cs) all = rw (digit c all.0) (all_digits cs all.1)
 
 printed_number : (minus : Bool) (sign_text : List ℕ) (n : ℕ) → Sign minus sign_text → n ≤ coordinate_limit → (z : ℤ) → z ≡ signed minus (decimal n) → Number z (sign_text ++ decimal n)
-printed_number minus sign_text n is_sign within z e = let d = decimal_is_IsNumeral n (omega (arith, within)) in
-  (minus, decimal n, [],
-    ((sign_text, decimal n, refl, is_sign, (decimal n, [], sym (append-nil (decimal n)), (refl, all_digits (decimal n) d.0.1), inl (refl, refl))), omega (arith, d.0.0)),
-    refl, rw d.1 within, e)
+printed_number minus sign_text n is_sign within z e = let d = decimal_is_IsNumeral n (omega (arith, within)) in (
+  minus,
+  decimal n,
+  [],
+  ((sign_text, decimal n, refl, is_sign, (decimal n, [], sym (append-nil (decimal n)), (refl, all_digits (decimal n) d.0.1), inl (refl, refl))), omega (arith, d.0.0)),
+  refl,
+  rw d.1 within,
+  e,
+)
 
 number_printed : (z : ℤ) → unsigned_abs z ≤ coordinate_limit → Number z (signed_decimal z)
 number_printed (pos n) within = printed_number false [] n (inl refl) within (pos n) (ap pos (sym (decimal_is_IsNumeral n (omega (arith, within))).1))
 number_printed (negsuc n) within = printed_number true (45 ∷ []) (suc n) refl within (negsuc n)
-  (ap (λ m. neg_ℤ (pos m)) (sym (decimal_is_IsNumeral (suc n) (omega (arith, within))).1))
+    (ap (λ m. neg_ℤ (pos m)) (sym (decimal_is_IsNumeral (suc n) (omega (arith, within))).1))
 
 position_printed : (p : Position) → Limits p → PositionText p (position_text p)
-position_printed p within = (signed_decimal p.x, 32 ∷ signed_decimal p.y, append_assoc (signed_decimal p.x) (32 ∷ []) (signed_decimal p.y), number_printed p.x within.0,
-  (32 ∷ [], signed_decimal p.y, refl, (zero-lt-suc 0, refl), number_printed p.y within.1))
+position_printed p within = (
+  signed_decimal p.x,
+  32 ∷ signed_decimal p.y,
+  append_assoc (signed_decimal p.x) (32 ∷ []) (signed_decimal p.y),
+  number_printed p.x within.0,
+  (32 ∷ [], signed_decimal p.y, refl, (zero-lt-suc 0, refl), number_printed p.y within.1),
+)
 
 padded : (A : Rule) (text : List ℕ) → A text → Padded A text
 padded A text a = ([], text, refl, refl, (text, [], sym (append-nil text), a, refl))
 
 separated_printed : {A : Type 0} (P : A → Rule) (Q : A → Type 0) (f : A → List ℕ) → ((x : A) → Q x → P x (f x)) → (x : A) (more : List A) → AllByRecursion Q (x ∷ more)
-  → Separated P (x ∷ more) (join_with_byte 44 (map f (x ∷ more)))
+    → Separated P (x ∷ more) (join_with_byte 44 (map f (x ∷ more)))
 separated_printed P Q f printed x [] all = padded (P x) (f x) (printed x all.0)
 separated_printed P Q f printed x (y ∷ more) all = let rest = join_with_byte 44 (map f (y ∷ more)) in
-  (f x, 44 ∷ rest, refl, padded (P x) (f x) (printed x all.0), (44 ∷ [], rest, refl, refl, separated_printed P Q f printed y more all.1))
+    (f x, 44 ∷ rest, refl, padded (P x) (f x) (printed x all.0), (44 ∷ [], rest, refl, refl, separated_printed P Q f printed y more all.1))
 
 listed_printed : {A : Type 0} (P : A → Rule) (Q : A → Type 0) (f : A → List ℕ) → ((x : A) → Q x → P x (f x)) → (xs : List A) → OneOrMore Q xs
-  → Enclosed (Separated P xs) (listed_text (map f xs))
+    → Enclosed (Separated P xs) (listed_text (map f xs))
 listed_printed P Q f printed [] none = absurd none
 listed_printed P Q f printed (x ∷ more) all = let text = join_with_byte 44 (map f (x ∷ more)) in
-  (40 ∷ [], text ++ 41 ∷ [], refl, refl, (text, 41 ∷ [], refl, separated_printed P Q f printed x more all, refl))
+    (40 ∷ [], text ++ 41 ∷ [], refl, refl, (text, 41 ∷ [], refl, separated_printed P Q f printed x more all, refl))
 
 line_printed : (ps : List Position) → OneOrMore Limits ps → LineText ps (line_text ps)
 line_printed ps all = listed_printed PositionText Limits position_text position_printed ps all
@@ -210,10 +220,15 @@ point_printed : (p : Position) → Limits p → PointText p (point_text p)
 point_printed p within = inr (40 ∷ [], position_text p ++ 41 ∷ [], refl, refl, (position_text p, 41 ∷ [], refl, padded (PositionText p) (position_text p) (position_printed p within), refl))
 
 tagged_printed : {A : Type 0} (P : A → Rule) (Q : A → Type 0) (f : A → List ℕ) → ((x : A) → Q x → P x (f x)) → (name : List ℕ) (xs : List A) → AllByRecursion Q xs
-  → (Word name ⨾ Body P xs) (tagged_text name (map f xs))
+    → (Word name ⨾ Body P xs) (tagged_text name (map f xs))
 tagged_printed P Q f printed name [] all = (name, codes " EMPTY", refl, refl, (codes " ", codes "EMPTY", refl, (zero-lt-suc 0, refl), refl))
-tagged_printed P Q f printed name (x ∷ more) all = (name, listed_text (map f (x ∷ more)), refl, refl,
-  ([], listed_text (map f (x ∷ more)), refl, refl, listed_printed P Q f printed (x ∷ more) all))
+tagged_printed P Q f printed name (x ∷ more) all = (
+  name,
+  listed_text (map f (x ∷ more)),
+  refl,
+  refl,
+  ([], listed_text (map f (x ∷ more)), refl, refl, listed_printed P Q f printed (x ∷ more) all),
+)
 
 geometry_printed : (w : Geometry) → InLimits w → TaggedText w (canonical_text w)
 geometry_printed (Point p) all = tagged_printed PositionText Limits position_text position_printed (codes "POINT") (option_to_list p) all
@@ -224,6 +239,6 @@ geometry_printed (Polygon rs) all = tagged_printed LineText (OneOrMore Limits) l
 
 pub canonical_text_spells : CanonicalTextSpells
 canonical_text_spells text g spelled = let w = spelled.written in let h = geometry_of w in
-  let all = limits_kept w (tagged_limits w spelled.spelled.4.0 spelled.spelled.4.3) in
-  subst (λ k. Spells (canonical_text k) k) (sym spelled.meant)
+    let all = limits_kept w (tagged_limits w spelled.spelled.4.0 spelled.spelled.4.3) in
+    subst (λ k. Spells (canonical_text k) k) (sym spelled.meant)
     (record { written = h; spelled = padded (TaggedText h) (canonical_text h) (geometry_printed h all); counts = counts_again w spelled.counts; meant = sym (geometry_again w) })

@@ -1,9 +1,10 @@
 -- Runs of bytes, and the parts of a text one behind the other.
-use Rattle.std.proofs.Common.{◌≡◌, refl, sym, ap, ◌∙◌, ℕ, zero, suc, ◌+◌, ◌<◌, ◌==◌, Bool, true, false, List, [], ◌∷◌, ◌++◌, length, take, drop, cond, append_assoc, take-append-drop, one-add, zero-lt-suc, suc-ne-zero}
+use Rattle.std.proofs.Common.{◌≡◌, refl, sym, ap, subst, ◌∙◌, ℕ, zero, suc, ◌+◌, ◌<◌, ◌==◌, Bool, true, false, List, [], ◌∷◌, ◌++◌, length, take, drop, cond, append_assoc, take-append-drop, one-add, zero-lt-suc, suc-ne-zero}
 use Rattle.std.specs.List.{list_all, prefix_len, take_while}
 use Rattle.std.specs.Str.{str_eq_ignore_ascii_case, str_to_ascii_lowercase}
 use Rattle.std.proofs.lemmas.List.Sums.{take_while-cons}
-use Rattle.std.proofs.lemmas.Bool.{true≢false}
+use Rattle.std.proofs.lemmas.Bool.{true≢false, and_parts}
+use Rattle.std.proofs.Math.Seq.{take-append_seam, drop-append_seam}
 use Rattle.std.proofs.lemmas.Slice.Eq.{bytes_eq-Decides}
 use Rattle.std.proofs.lemmas.Bool.Decides.{Decides-eqb}
 use Rattle.geometry_model.specs.WellKnownText.{Rule, ◌⨾◌, Word}
@@ -69,3 +70,23 @@ both xs ys zs A B first rest = (
 -- a run of bytes that pass
 pub took_run : (test : ℕ → Bool) (xs : List ℕ) → Took xs (λ text. list_all test text ≡ true) (drop (prefix_len test xs) xs)
 took_run test xs = (take (prefix_len test xs) xs, sym (take-append-drop (prefix_len test xs) xs), all_pass test xs)
+
+-- the other way: how far a run goes, and the parts of a text taken apart
+
+pub run_is : (test : ℕ → Bool) (used rest : List ℕ) → list_all test used ≡ true → begins_with test rest ≡ false → prefix_len test (used ++ rest) ≡ length used
+run_is test [] rest all stop = no_run test rest stop
+run_is test (x ∷ xs) rest all stop = let parts = and_parts (test x) (list_all test xs) all in
+    rw (parts.0, one-add (prefix_len test (xs ++ rest)), run_is test xs rest parts.1 stop) refl
+
+pub read_run : (test : ℕ → Bool) (left used rest : List ℕ) → left ≡ used ++ rest → list_all test used ≡ true → begins_with test rest ≡ false
+    → (take (prefix_len test left) left ≡ used) × (drop (prefix_len test left) left ≡ rest)
+read_run test left used rest is all stop = subst (λ l. (take (prefix_len test l) l ≡ used) × (drop (prefix_len test l) l ≡ rest)) (sym is) (
+  ap (λ n. take n (used ++ rest)) (run_is test used rest all stop) ∙ take-append_seam used rest,
+  ap (λ n. drop n (used ++ rest)) (run_is test used rest all stop) ∙ drop-append_seam used rest,
+)
+
+pub apart : (xs zs : List ℕ) (A B : Rule) → Took xs (A ⨾ B) zs → (ys : List ℕ) × Took xs A ys × Took ys B zs
+apart xs zs A B t = (t.2.1 ++ zs, (t.2.0, t.1 ∙ (ap (λ u. u ++ zs) t.2.2 ∙ append_assoc t.2.0 t.2.1 zs), t.2.3), (t.2.1, refl, t.2.4))
+
+pub byte_is : (c : ℕ) (xs ys : List ℕ) → Took xs (λ text. text ≡ c ∷ []) ys → xs ≡ c ∷ ys
+byte_is c xs ys t = t.1 ∙ ap (λ u. u ++ ys) t.2

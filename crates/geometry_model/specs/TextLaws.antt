@@ -20,3 +20,7 @@ SpellsOne = (text : List ℕ) (g h : Geometry) → Spells text g → Spells text
 -- the canonical text of what a text spells spells it again
 abbrev pub CanonicalTextSpells : Type 0
 CanonicalTextSpells = (text : List ℕ) (g : Geometry) → Spells text g → Spells (canonical_text g) g
+
+-- the canonical text of what is read is read as the same
+abbrev pub CanonicalTextIsRead : Type 0
+CanonicalTextIsRead = (text : List ℕ) (g : Geometry) → read_text text ≡ Ok g → read_text (canonical_text g) ≡ Ok g

@@ -1,12 +1,33 @@
 //! Laws of well-known text: its reading takes what the grammar takes, and the canonical text is a text of it.
-ghost use Rattle.geometry_model.specs.TextLaws.{ReadIsSpelled, CanonicalTextSpells};
+ghost use Rattle.geometry_model.specs.TextLaws.{
+  ReadIsSpelled,
+  SpelledIsRead,
+  SpellsOne,
+  CanonicalTextSpells,
+  CanonicalTextIsRead,
+};
 
 /// What is read is spelled.
 pub fn read_is_spelled()
     ensures { ReadIsSpelled }
 {}
 
+/// What is spelled is read.
+pub fn spelled_is_read()
+    ensures { SpelledIsRead }
+{}
+
+/// One text spells at most one geometry.
+pub fn spells_one()
+    ensures { SpellsOne }
+{}
+
 /// The canonical text of what a text spells spells it again.
 pub fn canonical_text_spells()
     ensures { CanonicalTextSpells }
+{}
+
+/// The canonical text of what is read is read as the same.
+pub fn canonical_text_is_read()
+    ensures { CanonicalTextIsRead }
 {}
