@@ -1,7 +1,11 @@
 -- What is read of the matches, as words of the definitions.
-use Rattle.std.proofs.Common.{◌≡◌, List, Option, Some, None, String, Bool, true, false, not, ◌&&◌, option_map, refl, sym, ◌∙◌, ap}
+use Rattle.std.proofs.Common.{◌≡◌, List, Option, Some, None, IsSome, Result, Ok, Err, IfErr, IsErrAnd, String, Bool, true, false, not, ◌&&◌, option_map, refl, sym, ◌∙◌, ap, subst}
 use Rattle.std.specs.String.{string_bytes}
-use Rattle.clap.specs.Words.{Row, Text, first_of, first_value, rows_of}
+use Rattle.clap.specs.Words.{Row, Text, first_of, first_value, is_simple_and_free, rows_of}
+use Rattle.clap.specs.declared.error.Error.{Error}
+use Rattle.clap.proofs.OnLiterals.{clap_on_literals}
+use Rattle.command_line.specs.Orders.{sfq}
+use Rattle.command_line.specs.declared.misuse.Misuse.{Misuse}
 use Rattle.clap.specs.declared.parser.matches.Found.{Found}
 use Rattle.clap.proofs.WalkLemmas.{first_value-rows}
 
@@ -33,3 +37,25 @@ plain-third a b true d e = cases a b e
     cases true false e = sym e
     cases false b e = sym e
 plain-third a b false d e = refl
+
+-- what holds of `clap`'s error holds of the misuse that keeps it
+pub misuse-keeps : {T : Type 0} (r : Result T Misuse) (e : Error) (P : Error → Type 0)
+    → IsErrAnd r (λ m. m.error ≡ e) → P e → IfErr r (λ m. P m.error)
+misuse-keeps (Ok o) e P made fact = tt
+misuse-keeps (Err m) e P made fact = subst P (sym made) fact
+
+-- the commands of `sfq` are simple, and no word has a rule on another
+pub sfq-free : is_simple_and_free sfq ≡ true
+unfolding clap_on_literals
+sfq-free = refl
+
+-- a text that isn't read is no word of the subcommand met
+pub first_of-none : {Z : Type 0} (f : Found) (id name : Text) (o : Option (String Z)) (met : Option (Text × List Row)) (rows : List Row)
+    → option_map string_bytes o ≡ first_value f id → o ≡ None
+    → option_map (λ (p : Text × List Row). p.1) met ≡ Some (rows_of f) → met ≡ Some (name, rows)
+    → IsSome (first_of id rows) → ⊥
+first_of-none f id name o met rows read is rowed named there =
+    let both_some : Some rows ≡ Some (rows_of f) = rw named at rowed in
+    let same : rows ≡ rows_of f = cc in
+    let none : first_of id rows ≡ None = ap (first_of id) same ∙ sym (first_value-rows f id) ∙ sym read ∙ ap (option_map string_bytes) is in
+    cc

@@ -1,5 +1,5 @@
 -- What the words of a command line order, by `clap`'s own definition of a command's matches.
-use Rattle.std.specs.Prelude.{◌≡◌, List, Option, Some, true, codes}
+use Rattle.std.specs.Prelude.{◌≡◌, List, Option, Some, true, codes, IsSome}
 use Rattle.std.specs.String.{string_bytes}
 use Rattle.clap.specs.Words.{App, Row, Rule, Text, first_of, new_app, new_rule, subcommand_of, with_rule, with_subcommand}
 use Rattle.clap.specs.Simple.{on_top}
@@ -31,3 +31,15 @@ OrdersBy met (order.Run schema directory query) = (rows : List Row)
 -- the words give this order (profile)
 abbrev pub Orders : List Text → Order → Type 0
 Orders words = OrdersBy (subcommand_of sfq words)
+
+-- the subcommand is `run`, and each of its words is there (profile)
+abbrev pub HasWords : Option (Text × List Row) → Type 0
+HasWords met = (rows : List Row)
+    × (met ≡ Some (codes "run", rows))
+    × IsSome (first_of (codes "schema") rows)
+    × IsSome (first_of (codes "directory") rows)
+    × IsSome (first_of (codes "query") rows)
+
+-- the words give some order (profile)
+abbrev pub HasOrder : List Text → Type 0
+HasOrder words = HasWords (subcommand_of sfq words)

@@ -1,9 +1,10 @@
 //! The commands of `sfq`, and how its words are read by them.
 
-ghost use Rattle.std.specs.Prelude.{◌≡◌, map, false, IfOk, IfSome, option_map};
+ghost use Rattle.std.specs.Prelude.{◌≡◌, ◌≢◌, [], true, false, IfOk, IfErr, IfSome, IfNone, OnOk, option_map};
 ghost use Rattle.std.specs.String.{string_bytes};
-ghost use Rattle.clap.specs.Words.{app_of, rule_of, found_of, first_value, subcommand_rows_of};
-ghost use Rattle.command_line.specs.Orders.{Orders, OrdersBy, required_word, run, sfq};
+ghost use Rattle.clap.specs.Walk.{texts};
+ghost use Rattle.clap.specs.Words.{app_of, rule_of, found_of, first_value, subcommand_rows_of, takes, fault_of, kind_of, HasKind};
+ghost use Rattle.command_line.specs.Orders.{Orders, OrdersBy, HasOrder, HasWords, required_word, run, sfq};
 
 use crate::commands::Order;
 use crate::misuse::Misuse;
@@ -12,9 +13,15 @@ use clap::{Arg, ArgMatches, Command};
 use std::alloc::{AllocError, Global};
 
 /// Reads the words of a command line, the program's name first, by `clap`. At Ok they are the
-/// command and its words; else they are a mistake, ask for help, or memory ran out. (Profile.)
+/// command and its words. Where `clap` takes the words and they have an order, only want of memory
+/// is refused; where it refuses them, the misuse is of a kind that it names there. (Profile.)
 pub fn order<'a>(alloc: Global, words: &'a [&'a str]) -> Result<Order, Misuse>
-    ensures { IfOk result (Orders (map (λ w. w.now) words.entry.now)) }
+    ensures ok { IfOk result (Orders (texts words.entry.now)) }
+    ensures accepted { OnOk result (fault_of sfq (texts words.entry.now) ≡ []) }
+    ensures taken { IfErr result (λ m. takes sfq (texts words.entry.now) ≡ true
+        → HasOrder (texts words.entry.now) → kind_of m.error ≡ ErrorKind.OutOfMemory) }
+    ensures refused { IfErr result (λ m. fault_of sfq (texts words.entry.now) ≢ []
+        → HasKind (fault_of sfq (texts words.entry.now)) m.error) }
 {
     let mut command = sfq_command(alloc)?;
     let matches = command.try_get_matches_from_mut(words)?;
@@ -30,22 +37,26 @@ pub fn order<'a>(alloc: Global, words: &'a [&'a str]) -> Result<Order, Misuse>
 
 // The order that the subcommand `run` and its three words give, if they are there.
 fn read_run(alloc: Global, matches: &ArgMatches<'_>) -> Result<Option<Order>, AllocError>
-    ensures { IfOk result (λ o. IfSome o (OrdersBy (subcommand_rows_of matches.now))) }
+    ensures some { IfOk result (λ r. IfSome r (OrdersBy (subcommand_rows_of matches.now))) }
+    ensures none { IfOk result (λ r. IfNone r (¬ HasWords (subcommand_rows_of matches.now))) }
 {
     let Some(run) = matches.subcommand_matches("run") else {
         return Ok(None);
     };
-    let schema = text_of(alloc, run, "schema")?;
-    let directory = text_of(alloc, run, "directory")?;
-    let query = text_of(alloc, run, "query")?;
-    match (schema, directory, query) {
-        (Some(schema), Some(directory), Some(query)) => Ok(Some(Order::Run {
-            schema,
-            directory,
-            query,
-        })),
-        _ => Ok(None),
-    }
+    let Some(schema) = text_of(alloc, run, "schema")? else {
+        return Ok(None);
+    };
+    let Some(directory) = text_of(alloc, run, "directory")? else {
+        return Ok(None);
+    };
+    let Some(query) = text_of(alloc, run, "query")? else {
+        return Ok(None);
+    };
+    Ok(Some(Order::Run {
+        schema,
+        directory,
+        query,
+    }))
 }
 
 // The word of this name, as a text of its own.
