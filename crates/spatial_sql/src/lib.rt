@@ -2,10 +2,14 @@
 //! a query is bound to a database.
 #![tactic(auto)]
 
+mod bind;
+mod columns;
 mod condition;
+mod conjuncts;
 pub mod cursor;
 pub mod lex;
 mod query;
+mod references;
 
 pub use query::read_query;
 pub use table_model::faults::{QueryFault, SchemaFault};

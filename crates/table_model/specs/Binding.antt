@@ -28,8 +28,11 @@ use Rattle.table_model.specs.declared.queries.Selection.{Selection}
 use Rattle.table_model.specs.declared.queries.Selection.TheVariants as selections
 use Rattle.table_model.specs.declared.queries.Query.{Query}
 use Rattle.table_model.specs.declared.conditions.ColumnPlace.{ColumnPlace}
-use Rattle.table_model.specs.declared.conditions.OperandType.{OperandType}
-use Rattle.table_model.specs.declared.conditions.OperandType.TheVariants as types
+use Rattle.table_model.specs.declared.conditions.Comparison.{Comparison}
+use Rattle.table_model.specs.declared.typing.OperandType.{OperandType}
+use Rattle.table_model.specs.declared.typing.OperandType.TheVariants as types
+use Rattle.table_model.specs.declared.typing.Found.{Found}
+use Rattle.table_model.specs.declared.typing.Typed.{Typed}
 use Rattle.table_model.specs.declared.conditions.Operand.{Operand}
 use Rattle.table_model.specs.declared.conditions.Operand.TheVariants as operands
 use Rattle.table_model.specs.declared.conditions.Cond.{Cond}
@@ -107,10 +110,10 @@ with_second schema first (Some written) = do
   two_references first second (name_start written.table written.alias)
 
 -- the references of FROM, the tables from left to right before the names (SQL, FROM)
-abbrev pub bound_references : {T A C : Type 0} → List (TableDef T) → Query A C → Checked (List Reference)
-bound_references schema query = do
-  first ← bound_reference schema query.first
-  with_second schema first query.second
+abbrev pub bound_references : {T : Type 0} → List (TableDef T) → WrittenReference → Option WrittenReference → Checked (List Reference)
+bound_references schema written second = do
+  first ← bound_reference schema written
+  with_second schema first second
 
 -- ---- columns
 
@@ -127,11 +130,6 @@ abbrev pub type_of : {T : Type 0} → ColumnType T → OperandType
 type_of columns.Integer = types.Integer
 type_of columns.Text = types.Text
 type_of (columns.Geometry t) = types.Geometry
-
--- what a name of a column stands for: its place and its type
-pub record Found : Type 0 where
-  pub place : ColumnPlace
-  pub column_type : OperandType
 
 -- whether a column with or without a reference may be one of the reference of this name (SQL, qualified names)
 abbrev pub refers_to : Option Name → List ℕ → Bool
@@ -172,11 +170,6 @@ bound_column schema references written =
     the_one (name_start written.name written.reference) (candidates schema written 0 references)
 
 -- ---- conditions
-
--- a part of a query with the type that it has in it
-pub record Typed (X : Type 0) : Type 0 where
-  pub part : X
-  pub part_type : OperandType
 
 -- how geometry arguments are bound: one of a condition (A becomes B), one of the select list (C becomes D), a pattern
 pub record GeometryBinding (T A B C D : Type 0) : Type 0 where
@@ -252,33 +245,73 @@ abbrev pub condition_of : {B : Type 0} → List (Cond B) → Cond B
 condition_of (cond ∷ []) = cond
 condition_of conjuncts = conds.And conjuncts
 
--- the conjuncts of a condition: those of the parts of an AND, in order; any other condition is its own only one. Here each part of a condition stands as its conjuncts
-abbrev pub conjuncts_by_parts : {T A B C D : Type 0} → GeometryBinding T A B C D → List (TableDef T) → List Reference → WrittenCond-F A (Checked (List (Cond B))) → Checked (List (Cond B))
-conjuncts_by_parts how schema references (WrittenCond-F.Or parts) = do
-  alternatives ← in_order parts
-  Ok (conds.Or (map condition_of alternatives) ∷ [])
-conjuncts_by_parts how schema references (WrittenCond-F.And parts) = joined_in_order parts
-conjuncts_by_parts how schema references (WrittenCond-F.Not part) = do
-  conjuncts ← part
-  Ok (conds.Not (condition_of conjuncts) ∷ [])
-conjuncts_by_parts how schema references (WrittenCond-F.Compare at sign a b) = do
+-- a comparison; its sides are bound first (SQL, comparison)
+abbrev pub bound_comparison : {T A B C D : Type 0} → GeometryBinding T A B C D → List (TableDef T) → List Reference → ℕ → Comparison → WrittenOperand A → WrittenOperand A → Checked (Cond B)
+bound_comparison how schema references at sign a b = do
   left ← bound_operand how schema references a
   right ← bound_operand how schema references b
-  checked_types (comparable left.part_type right.part_type) at (conds.Compare sign left.part right.part ∷ [])
-conjuncts_by_parts how schema references (WrittenCond-F.IsNull a) = do
+  checked_types (comparable left.part_type right.part_type) at (conds.Compare sign left.part right.part)
+
+-- IS NULL of a part of any type (SQL, the null predicate)
+abbrev pub bound_null_test : {T A B C D : Type 0} → GeometryBinding T A B C D → List (TableDef T) → List Reference → WrittenOperand A → Checked (Cond B)
+bound_null_test how schema references a = do
   operand ← bound_operand how schema references a
-  Ok (conds.IsNull operand.part ∷ [])
-conjuncts_by_parts how schema references (WrittenCond-F.IsEmpty at a) = do
+  Ok (conds.IsNull operand.part)
+
+-- ST_IsEmpty (06-103r4, 6.1.2.2: IsEmpty)
+abbrev pub bound_emptiness : {T A B C D : Type 0} → GeometryBinding T A B C D → List (TableDef T) → List Reference → ℕ → A → Checked (Cond B)
+bound_emptiness how schema references at a = do
   typed ← how.argument schema references a
   x ← geometry_only at typed
-  Ok (conds.IsEmpty x ∷ [])
-conjuncts_by_parts how schema references (WrittenCond-F.Relates at predicate a b) = do
+  Ok (conds.IsEmpty x)
+
+-- a spatial predicate; its arguments are bound first, from left to right (06-103r4, 6.1.15.3)
+abbrev pub bound_relation : {T A B C D : Type 0} → GeometryBinding T A B C D → List (TableDef T) → List Reference → ℕ → WrittenPredicate → A → A → Checked (Cond B)
+bound_relation how schema references at written a b = do
   left ← how.argument schema references a
   right ← how.argument schema references b
-  bound ← bound_predicate how.pattern predicate
+  predicate ← bound_predicate how.pattern written
   x ← geometry_only at left
   y ← geometry_only at right
-  Ok (conds.Relates bound x y ∷ [])
+  Ok (conds.Relates predicate x y)
+
+-- a condition as its own only conjunct
+abbrev pub only : {B : Type 0} → Checked (Cond B) → Checked (List (Cond B))
+only bound = do
+  cond ← bound
+  Ok (cond ∷ [])
+
+-- the condition of a part that stands as its conjuncts
+abbrev pub whole : {B : Type 0} → Checked (List (Cond B)) → Checked (Cond B)
+whole part = do
+  conjuncts ← part
+  Ok (condition_of conjuncts)
+
+-- the parts of an OR, each standing as its conjuncts
+abbrev pub alternatives : {B : Type 0} → List (Checked (List (Cond B))) → Checked (List (Cond B))
+alternatives parts = in_order (map whole parts)
+
+-- an OR of bound parts
+abbrev pub or_of : {B : Type 0} → Checked (List (Cond B)) → Checked (Cond B)
+or_of bound = do
+  parts ← bound
+  Ok (conds.Or parts)
+
+-- a NOT of a bound part
+abbrev pub not_of : {B : Type 0} → Checked (Cond B) → Checked (Cond B)
+not_of bound = do
+  part ← bound
+  Ok (conds.Not part)
+
+-- the conjuncts of a condition: those of the parts of an AND, in order; any other condition is its own only one. Here each part of a condition stands as its conjuncts
+abbrev pub conjuncts_by_parts : {T A B C D : Type 0} → GeometryBinding T A B C D → List (TableDef T) → List Reference → WrittenCond-F A (Checked (List (Cond B))) → Checked (List (Cond B))
+conjuncts_by_parts how schema references (WrittenCond-F.Or parts) = only (or_of (alternatives parts))
+conjuncts_by_parts how schema references (WrittenCond-F.And parts) = joined_in_order parts
+conjuncts_by_parts how schema references (WrittenCond-F.Not part) = only (not_of (whole part))
+conjuncts_by_parts how schema references (WrittenCond-F.Compare at sign a b) = only (bound_comparison how schema references at sign a b)
+conjuncts_by_parts how schema references (WrittenCond-F.IsNull a) = only (bound_null_test how schema references a)
+conjuncts_by_parts how schema references (WrittenCond-F.IsEmpty at a) = only (bound_emptiness how schema references at a)
+conjuncts_by_parts how schema references (WrittenCond-F.Relates at predicate a b) = only (bound_relation how schema references at predicate a b)
 
 -- the conjuncts of a written condition, bound, or its first fault
 abbrev pub bound_conjuncts : {T A B C D : Type 0} → GeometryBinding T A B C D → List (TableDef T) → List Reference → WrittenCond A → Checked (List (Cond B))
@@ -327,7 +360,7 @@ bound_items how schema references (selections.Items written) = in_order (map (bo
 -- a query bound to the tables of a schema: the tables of FROM first, then the select list, ON and WHERE (SQL, the query)
 abbrev pub binding : {T A B C D : Type 0} → GeometryBinding T A B C D → List (TableDef T) → Query A C → Checked (Bound B D)
 binding how schema query = do
-  references ← bound_references schema query
+  references ← bound_references schema query.first query.second
   listed ← bound_items how schema references query.selection
   joining ← bound_condition how schema references query.on
   filtering ← bound_condition how schema references query.condition

@@ -22,16 +22,6 @@ pub struct ColumnPlace {
     pub column: usize,
 }
 
-/// The type of a side of a comparison.
-#[derive(Clone, Copy, Debug, PartialEq, Eq)]
-pub enum OperandType {
-    Integer,
-    Text,
-    Geometry,
-    /// The type of NULL, which fits INTEGER and TEXT.
-    Null,
-}
-
 /// A geometry argument, generic in what a geometry is.
 #[derive(Debug, Drop)]
 pub enum GeometryArgument<G> {

@@ -11,4 +11,5 @@ pub mod queries;
 pub mod texts;
 pub mod tokens;
 pub mod truths;
+pub mod typing;
 pub mod values;

@@ -1,0 +1,100 @@
+//! Names of columns.
+
+ghost use Rattle.std.specs.Prelude.{◌≡◌};
+ghost use Rattle.table_model.specs.Binding as spec;
+
+use crate::references::name_start;
+use table_model::conditions::{ColumnPlace, Reference};
+use table_model::definitions::{ColumnDef, ColumnType, TableDef};
+use table_model::faults::QueryFault;
+use table_model::queries::{Name, WrittenColumn};
+use table_model::texts::same_name;
+use table_model::typing::{Found, OperandType};
+use table_model::values::NoGeometry;
+
+/// The columns of a reference.
+pub fn columns_of<'s>(
+    schema: &'s [TableDef<NoGeometry>],
+    reference: &Reference,
+) -> &'s [ColumnDef<NoGeometry>]
+    ensures { result.now ≡ spec.columns_of schema.entry.now reference.now }
+{
+    match schema.get(reference.table) {
+        Some(table) => table.columns.as_slice(),
+        None => &[],
+    }
+}
+
+fn type_of(column_type: &ColumnType<NoGeometry>) -> OperandType
+    ensures { result ≡ spec.type_of column_type.now }
+{
+    match column_type {
+        ColumnType::Integer => OperandType::Integer,
+        ColumnType::Text => OperandType::Text,
+        ColumnType::Geometry(_) => OperandType::Geometry,
+    }
+}
+
+/// The first column of a name, with its place and its type.
+fn column_named(columns: &[ColumnDef<NoGeometry>], name: &[u8]) -> Option<(usize, OperandType)>
+    ensures { result ≡ spec.column_named name.now 0 columns.now }
+{
+    for (place, column) in columns.iter().enumerate() {
+        if same_name(column.name.bytes(), name) {
+            return Some((place, type_of(&column.column_type)));
+        }
+    }
+    None
+}
+
+/// Whether a column with or without a reference may be one of the reference of this name.
+fn refers_to(reference: &Option<Name<'_>>, name: &[u8]) -> bool
+    ensures { result ≡ spec.refers_to reference.now name.now }
+{
+    match reference {
+        Some(written) => same_name(written.text.bytes(), name),
+        None => true,
+    }
+}
+
+/// The column that a written one can be of the reference at a place.
+fn candidate(
+    schema: &[TableDef<NoGeometry>],
+    written: &WrittenColumn<'_>,
+    place: usize,
+    reference: &Reference,
+) -> Option<Found>
+    ensures { result ≡ spec.candidate schema.now written.now place reference.now }
+{
+    if !refers_to(&written.reference, reference.name.as_slice()) {
+        return None;
+    }
+    let columns = columns_of(schema, reference);
+    let (column, column_type) = column_named(columns, written.name.text.bytes())?;
+    let place = ColumnPlace {
+        reference: place,
+        column,
+    };
+    Some(Found { place, column_type })
+}
+
+/// A column, found by its names.
+pub fn bound_column(
+    schema: &[TableDef<NoGeometry>],
+    references: &[Reference],
+    written: &WrittenColumn<'_>,
+) -> Result<Found, QueryFault>
+    ensures { result ≡ spec.bound_column schema.now references.now written.now }
+{
+    let at = name_start(&written.name, &written.reference);
+    let mut found = None;
+    for (place, reference) in references.iter().enumerate() {
+        if let Some(column) = candidate(schema, written, place, reference) {
+            if found.is_some() {
+                return Err(QueryFault::AmbiguousColumn(at));
+            }
+            found = Some(column);
+        }
+    }
+    found.ok_or(QueryFault::UnknownColumn(at))
+}

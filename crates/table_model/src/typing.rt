@@ -1,0 +1,27 @@
+//! The types that the parts of a query have while it is bound.
+
+use crate::conditions::ColumnPlace;
+
+/// The type of a part of a query.
+#[derive(Clone, Copy, Debug, PartialEq, Eq)]
+pub enum OperandType {
+    Integer,
+    Text,
+    Geometry,
+    /// The type of NULL, which fits INTEGER and TEXT.
+    Null,
+}
+
+/// What the name of a column stands for.
+#[derive(Clone, Copy, Debug, PartialEq, Eq)]
+pub struct Found {
+    pub place: ColumnPlace,
+    pub column_type: OperandType,
+}
+
+/// A part of a query with the type that it has.
+#[derive(Debug, Drop)]
+pub struct Typed<P> {
+    pub part: P,
+    pub part_type: OperandType,
+}
