@@ -2,7 +2,7 @@
 //! a query is bound to a database.
 #![tactic(auto)]
 
-mod bind;
+mod binding;
 mod columns;
 mod condition;
 mod conjuncts;
@@ -10,11 +10,14 @@ pub mod cursor;
 pub mod lex;
 mod query;
 mod references;
+mod truth;
 
+pub use binding::bind;
 pub use query::read_query;
 pub use table_model::faults::{QueryFault, SchemaFault};
 use table_model::values::NoGeometry;
 pub use table_model::values::Truth;
+pub use truth::value;
 
 /// A SELECT as it is written. Names and strings are parts of the query's text.
 pub type Query<'a> = table_model::queries::Query<'a, NoGeometry, NoGeometry>;

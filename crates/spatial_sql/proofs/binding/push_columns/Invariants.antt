@@ -2,7 +2,7 @@ use Rattle.std.proofs.Common.{◌≡◌, ◌++◌, drop, map}
 use Rattle.std.specs.List.{enumerate_from}
 use Rattle.table_model.specs.Binding as spec
 use Rattle.table_model.specs.declared.conditions.Item.TheVariants as items
-use Rattle.spatial_sql.proofs.bind.push_columns.Given as goal
+use Rattle.spatial_sql.proofs.binding.push_columns.Given as goal
 
 abbrev pub invariant-loop-column : goal.invariant-loop-column
 invariant-loop-column l =

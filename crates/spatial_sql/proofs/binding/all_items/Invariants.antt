@@ -1,7 +1,7 @@
 use Rattle.std.proofs.Common.{◌≡◌, ◌++◌, drop}
 use Rattle.std.specs.List.{enumerate_from, flat_map}
 use Rattle.table_model.specs.Binding as spec
-use Rattle.spatial_sql.proofs.bind.all_items.Given as goal
+use Rattle.spatial_sql.proofs.binding.all_items.Given as goal
 
 abbrev pub invariant-loop-place : goal.invariant-loop-place
 invariant-loop-place l =

@@ -1,7 +1,7 @@
 use Rattle.std.proofs.Common.{◌≡◌, drop, map}
 use Rattle.table_model.specs.Binding as spec
 use Rattle.spatial_sql.proofs.Outcomes.{behind}
-use Rattle.spatial_sql.proofs.bind.listed_items.Given as goal
+use Rattle.spatial_sql.proofs.binding.listed_items.Given as goal
 
 abbrev pub invariant-loop-item : goal.invariant-loop-item
 invariant-loop-item l =

@@ -8,6 +8,7 @@ use crate::columns::{bound_column, columns_of};
 use crate::conjuncts::bound_conjuncts;
 use crate::references::bound_references;
 use crate::{Bound, Query};
+use feature_table::Database;
 use sqlite_items::Items;
 use std::alloc::{AllocError, Global};
 use table_model::conditions::{ColumnPlace, Cond, Item, Reference};
@@ -111,7 +112,7 @@ fn bound_condition(
 }
 
 /// A query bound to the tables of a schema: its tables first, then the select list, ON and WHERE.
-pub fn bound_query(
+fn bound_query(
     alloc: Global,
     query: &Query<'_>,
     schema: &[TableDef<NoGeometry>],
@@ -129,4 +130,16 @@ pub fn bound_query(
         items,
         conjuncts,
     })
+}
+
+/// Binds a query to a database: names of tables and columns become their places, without regard to ASCII case, and
+/// strings the bytes that they hold. It first looks for the tables of FROM, then for the names of the select list, of
+/// ON and of WHERE, and answers the first fault from left to right with its byte:
+/// `UnknownTable` at a table's name, `SameName` at the name of a second reference that has the first's name,
+/// `UnknownColumn` and `AmbiguousColumn` at a column's first byte, `TypeMismatch` at the first byte of a comparison
+/// whose sides are not both INTEGER or both TEXT, NULL being either; or `OutOfMemory`.
+pub fn bind(alloc: Global, query: &Query<'_>, database: &Database<'_>) -> Result<Bound, QueryFault>
+    ensures { Gives QueryFault.OutOfMemory (λ bound. bound) result (spec.binding spec.no_geometry database.now.definitions query.now) }
+{
+    bound_query(alloc, query, database.definitions())
 }
