@@ -11,3 +11,13 @@ pub mod LineSides
 pub mod Each
 pub mod Hulls
 pub mod RingParity
+pub mod Eventually
+pub mod Lines
+pub mod Box
+pub mod Locating
+pub mod Triangles
+pub mod Nudge
+pub mod LineOrder
+pub mod Cuts
+pub mod WithinPiece
+pub mod PieceTheorems

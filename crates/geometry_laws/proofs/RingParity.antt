@@ -19,7 +19,7 @@ use Rattle.geometry_laws.proofs.Hulls.{OnHull, on_from_hull, ordered}
 use Rattle.geometry_laws.proofs.Each.{Each, each_map, parity, odd_count, same_parity, parity_append, parity_xor}
 
 -- ---- the tests of edges are those of triples
-side_is_area : (a b : Position) (p : Point) → side a b p ≡ area (point_at a) (point_at b) p
+pub side_is_area : (a b : Position) (p : Point) → side a b p ≡ area (point_at a) (point_at b) p
 side_is_area a b p = solve (a.x ∷ a.y ∷ b.x ∷ b.y ∷ p.X ∷ p.Y ∷ p.W ∷ []) side' (var 0 ⊗ (var 3 ⊗ var 6 ⊖ var 5 ⊗ lit (pos 1)) ⊖ var 1 ⊗ (var 2 ⊗ var 6 ⊖ var 4 ⊗ lit (pos 1)) ⊕ lit (pos 1) ⊗ (var 2 ⊗ var 5 ⊖ var 4 ⊗ var 3)) tt
 
 pub reaches_is : (a : Position) (p : Point) → position_reaches a p ≡ reaches (point_at a) p
@@ -126,7 +126,7 @@ over_position p q a = over p q (point_at a)
 abbrev pub Step : Point → Point → Edge → Type 0
 Step p q e = xor (strictly_above e p) (strictly_above e q) ≡ xor (over_position p q e.start) (over_position p q e.end)
 
-position_is_point : (a : Position) → IsPoint (point_at a)
+pub position_is_point : (a : Position) → IsPoint (point_at a)
 position_is_point a = omega (arith, ints)
 
 pub step_by_missing : (p q : Point) (e : Edge) → IsPoint p → IsPoint q → Misses p q e → Step p q e

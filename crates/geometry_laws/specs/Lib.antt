@@ -1,3 +1,4 @@
 pub mod PointLaws
 pub mod SideLaws
 pub mod RingLaws
+pub mod PieceLaws
