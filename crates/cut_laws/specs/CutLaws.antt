@@ -1,0 +1,28 @@
+-- Laws of cut points and pieces, each as one statement.
+use Rattle.std.specs.Prelude.{◌≡◌, ◌↔◌, true, List, All, Any, AllPairs, Contains}
+use Rattle.std.specs.declared.cmp.Ordering.TheVariants.{Less}
+use Rattle.geometry_model.specs.Points.{Position, Point, IsPoint, IsLeast, same_point, compare}
+use Rattle.geometry_model.specs.Geometries.{Edge}
+use Rattle.geometry_model.specs.CutPoints.{IsCut, cut_points}
+use Rattle.geometry_model.specs.Pieces.{Piece, IsPiece, pieces, compare_pieces}
+
+-- the list of cut points holds exactly the cuts
+abbrev pub CutPointsAreCuts : Type 0
+CutPointsAreCuts = (es : List Edge) (ps : List Position) (p : Point) → IsPoint p → IsCut es ps p ↔ Any (λ q. same_point q p ≡ true) (cut_points es ps)
+
+-- its points are in least form
+abbrev pub CutPointsAreLeast : Type 0
+CutPointsAreLeast = (es : List Edge) (ps : List Position) → All (λ p. IsPoint p × IsLeast p) (cut_points es ps)
+
+-- it is in ascending order, each point once
+abbrev pub CutPointsAscend : Type 0
+CutPointsAscend = (es : List Edge) (ps : List Position) → AllPairs (λ p q. compare p q ≡ Less) (cut_points es ps)
+
+-- the list of pieces holds exactly the pieces, their ends being in least form
+abbrev pub PiecesArePieces : Type 0
+PiecesArePieces = (es : List Edge) (ps : List Position) (c : Piece) → IsPoint c.lesser → IsPoint c.greater → IsLeast c.lesser → IsLeast c.greater
+    → IsPiece es ps c ↔ Contains (pieces (cut_points es ps) es) c
+
+-- it is in ascending order, each piece once
+abbrev pub PiecesAscend : Type 0
+PiecesAscend = (es : List Edge) (ps : List Position) → AllPairs (λ c d. compare_pieces c d ≡ Less) (pieces (cut_points es ps) es)
