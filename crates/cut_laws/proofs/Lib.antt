@@ -6,3 +6,4 @@ pub mod CutLists
 pub mod CutOrder
 pub mod Stretches
 pub mod PieceLists
+pub mod Turned

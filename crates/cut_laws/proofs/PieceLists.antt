@@ -33,7 +33,7 @@ sorted_on : (es : List Edge) (ps : List Position) (e : Edge) → Sorted compare 
 sorted_on es ps e = filter-sorted compare (on e) (cut_points es ps) (cut_points-sorted es ps)
 
 -- a cut in least form is itself listed
-itself_listed : (es : List Edge) (ps : List Position) (p : Point) → IsPoint p → IsLeast p → IsCut es ps p → Among p (cut_points es ps)
+pub itself_listed : (es : List Edge) (ps : List Position) (p : Point) → IsPoint p → IsLeast p → IsCut es ps p → Among p (cut_points es ps)
 itself_listed es ps p hp least c = go (cut_is_listed es ps p hp c)
   where
     go : Some_of (λ q. same_point q p ≡ true) (cut_points es ps) → Among p (cut_points es ps)
@@ -129,9 +129,11 @@ pieces_are_pieces es ps c hl hg ll lg = (
   λ h. (piece_is es ps c (among_from_contains (pieces (cut_points es ps) es) c h)).is_piece,
 )
 
-pub pieces_ascend : (es : List Edge) (ps : List Position) → AllPairs (λ c d. compare_pieces c d ≡ Less) (pieces (cut_points es ps) es)
-pieces_ascend es ps = pairs_from_sorted compare_pieces (pieces (cut_points es ps) es)
-    (ascending-sorted HasPoints compare_pieces pieces_are_ordered (all_pieces es ps) (each_of HasPoints (all_pieces es ps) (λ c a. points c (any_piece_is es ps c a))))
+pub pieces-sorted : (es : List Edge) (ps : List Position) → Sorted compare_pieces (pieces (cut_points es ps) es)
+pieces-sorted es ps = ascending-sorted HasPoints compare_pieces pieces_are_ordered (all_pieces es ps) (each_of HasPoints (all_pieces es ps) (λ c a. points c (any_piece_is es ps c a)))
   where
     points : (c : Piece) → IsLeastPiece es ps c → HasPoints c
     points c k = (k.lesser_is.0, k.greater_is.0)
+
+pub pieces_ascend : (es : List Edge) (ps : List Position) → AllPairs (λ c d. compare_pieces c d ≡ Less) (pieces (cut_points es ps) es)
+pieces_ascend es ps = pairs_from_sorted compare_pieces (pieces (cut_points es ps) es) (pieces-sorted es ps)

@@ -65,7 +65,7 @@ stretch_found (p ∷ q ∷ rest) v s x y (inr a) (inr b) e none = inr (stretch_f
 abbrev pub HasPoints : Piece → Type 0
 HasPoints c = IsPoint c.lesser × IsPoint c.greater
 
-then_less : (a b : Ordering) → ordering_then a b ≡ Less → (a ≡ Less) ⊎ ((a ≡ Equal) × (b ≡ Less))
+pub then_less : (a b : Ordering) → ordering_then a b ≡ Less → (a ≡ Less) ⊎ ((a ≡ Equal) × (b ≡ Less))
 then_less Less b e = inl refl
 then_less Equal b e = inr (refl, e)
 then_less Greater b e = absurd (let k : Greater ≡ Less = e in cc)

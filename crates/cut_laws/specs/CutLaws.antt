@@ -2,9 +2,11 @@
 use Rattle.std.specs.Prelude.{◌≡◌, ◌↔◌, true, List, All, Any, AllPairs, Contains}
 use Rattle.std.specs.declared.cmp.Ordering.TheVariants.{Less}
 use Rattle.geometry_model.specs.Points.{Position, Point, IsPoint, IsLeast, same_point, compare}
-use Rattle.geometry_model.specs.Geometries.{Edge}
+use Rattle.geometry_model.specs.Geometries.{Geometry, Edge}
+use Rattle.geometry_model.specs.Dimensions.{transposed}
 use Rattle.geometry_model.specs.CutPoints.{IsCut, cut_points}
 use Rattle.geometry_model.specs.Pieces.{Piece, IsPiece, pieces, compare_pieces}
+use Rattle.geometry_model.specs.Labels.{labelled_matrix}
 
 -- the list of cut points holds exactly the cuts
 abbrev pub CutPointsAreCuts : Type 0
@@ -26,3 +28,7 @@ PiecesArePieces = (es : List Edge) (ps : List Position) (c : Piece) → IsPoint 
 -- it is in ascending order, each piece once
 abbrev pub PiecesAscend : Type 0
 PiecesAscend = (es : List Edge) (ps : List Position) → AllPairs (λ c d. compare_pieces c d ≡ Less) (pieces (cut_points es ps) es)
+
+-- the label matrix of two geometries the other way round is the transposed one
+abbrev pub LabelledIsTransposed : Type 0
+LabelledIsTransposed = (a b : Geometry) → labelled_matrix b a ≡ transposed (labelled_matrix a b)

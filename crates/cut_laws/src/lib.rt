@@ -1,5 +1,5 @@
-//! The laws of cut points and pieces: the lists that are computed hold exactly the cuts and the pieces that the
-//! definitions name, in order. Nothing here runs: each function has an empty body, and its contract is a law.
+//! The laws of cut points, pieces and the label matrix: the lists that are computed hold exactly the cuts and the
+//! pieces that the definitions name, in order, and the matrix doesn't depend on which geometry comes first. Nothing here runs: each function has an empty body, and its contract is a law.
 #![tactic(auto)]
 
 ghost use Rattle.cut_laws.specs.CutLaws.{
@@ -8,6 +8,7 @@ ghost use Rattle.cut_laws.specs.CutLaws.{
   CutPointsAscend,
   PiecesArePieces,
   PiecesAscend,
+  LabelledIsTransposed,
 };
 
 /// The list of cut points holds exactly the cuts, in least form, ascending, each once.
@@ -21,4 +22,9 @@ pub fn cut_points_are_cuts()
 pub fn pieces_are_pieces()
     ensures pieces { PiecesArePieces }
     ensures ascending { PiecesAscend }
+{}
+
+/// The label matrix of two geometries the other way round is the transposed one.
+pub fn label_matrix_is_transposed()
+    ensures { LabelledIsTransposed }
 {}
