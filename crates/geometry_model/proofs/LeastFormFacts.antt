@@ -44,7 +44,7 @@ IsGcd-scaled (suc turns) a zero n hn h = IsGcd-from_zero (a * n) (zero * n) (ome
 IsGcd-scaled (suc turns) a (suc b) n hn h =
     let less : a % suc b < suc b = mod-lt a {m = suc b} (omega arith) in
     IsGcd-from_mod (a * n) (suc b * n) _ (subst (λ (z : ℕ). IsGcd (suc b * n) z (last_divisor turns (suc b) (a % suc b) * n)) (sym (mod-scaled a (suc b) n (omega arith) hn))
-        (IsGcd-scaled turns (suc b) (a % suc b) n hn (omega arith)))
+    (IsGcd-scaled turns (suc b) (a % suc b) n hn (omega arith)))
 
 pub IsGcd-gcd_scaled : (a b n : ℕ) → 0 < n → IsGcd (a * n) (b * n) (gcd a b * n)
 IsGcd-gcd_scaled a b n hn = IsGcd-scaled (b + 1) a b n hn (omega arith)
@@ -133,7 +133,7 @@ least_is_point p h = positive (least_form p).W (divisor p) p.W (multiple p).w h
 pub least_is_least : (p : Point) → IsPoint p → IsLeast (least_form p)
 least_is_least p h = λ d hx hy hw. eq-one_of_dvd-one (dvd_of_mul-dvd-mul_right d {n = 1} (divisor_positive p h)
     (subst (λ (n : ℕ). (d * divisor p) ∣ n) (sym (one_times (divisor p))) (greatest p (d * divisor p)
-        (scaled_divisor p.X (divisor p) d (divides p).x hx) (scaled_divisor p.Y (divisor p) d (divides p).y hy) (scaled_divisor p.W (divisor p) d (divides p).w hw))))
+    (scaled_divisor p.X (divisor p) d (divides p).x hx) (scaled_divisor p.Y (divisor p) d (divides p).y hy) (scaled_divisor p.W (divisor p) d (divides p).w hw))))
   where
     one_times : (n : ℕ) → 1 * n ≡ n
     one_times n = omega arith
@@ -148,9 +148,9 @@ w_divides p q h least ex ey =
     let xs = gcd (unsigned_abs p.X) (unsigned_abs p.Y) in
     let is_one : gcd xs w ≡ 1 = least (divisor p) (divides p).x (divides p).y (divides p).w in
     subst (λ (n : ℕ). w ∣ n) (ap (λ (n : ℕ). n * v) is_one ∙ one_times v)
-        ((IsGcd-gcd_scaled xs w v (positive_abs q.W h)).2 w
-            ((IsGcd-gcd_scaled (unsigned_abs p.X) (unsigned_abs p.Y) v (positive_abs q.W h)).2 w (divides_product p.X q.W q.X p.W ex) (divides_product p.Y q.W q.Y p.W ey))
-            (dvd-mul_right w v))
+    ((IsGcd-gcd_scaled xs w v (positive_abs q.W h)).2 w
+    ((IsGcd-gcd_scaled (unsigned_abs p.X) (unsigned_abs p.Y) v (positive_abs q.W h)).2 w (divides_product p.X q.W q.X p.W ex) (divides_product p.Y q.W q.Y p.W ey))
+    (dvd-mul_right w v))
   where
     one_times : (n : ℕ) → 1 * n ≡ n
     one_times n = omega arith
@@ -174,7 +174,7 @@ cancelled a b c d h e f = apart (cancel_zero c (a -ℤ b) h (solve (a ∷ b ∷ 
     apart g = omega (arith, ints)
 
 pub least_is_unique : (p q : Point) → IsPoint p → IsPoint q → IsLeast p → IsLeast q → same_point p q ≡ true → p ≡ q
-least_is_unique p q hp hq lp lq same = λ i. record { X = x i; Y = y i; W = w i; }
+least_is_unique p q hp hq lp lq same = λ i. record { X = x i; Y = y i; W = w i }
   where
     tests : (int_eq (p.X *ℤ q.W) (q.X *ℤ p.W) ≡ true) × (int_eq (p.Y *ℤ q.W) (q.Y *ℤ p.W) ≡ true)
     tests = and_parts _ _ same

@@ -6,3 +6,5 @@ pub mod TextSound
 pub mod LeastFormFacts
 pub mod TextPrinted
 pub mod TextComplete
+pub mod TextPlaces
+pub mod TextRefused

@@ -16,11 +16,11 @@ use Rattle.geometry_model.specs.TextLaws.{ReadIsSpelled}
 use Rattle.geometry_model.proofs.TextSteps.{all_pass, stops, no_run, first_is, some, nothing, word_is, Took, both, took_run}
 
 -- what is found, where something is, has the property
-abbrev IfRead : {A : Type 0} → Result (A × Input) TextFault → (A → Input → Type 0) → Type 0
+abbrev pub IfRead : {A : Type 0} → Result (A × Input) TextFault → (A → Input → Type 0) → Type 0
 IfRead (Ok found) Q = Q found.0 found.1
 IfRead (Err fault) Q = Unit {0}
 
-then_read : {A B : Type 0} (Q : A → Input → Type 0) (r : Result (A × Input) TextFault) (next : A → Reader B) (R : B → Input → Type 0)
+pub then_read : {A B : Type 0} (Q : A → Input → Type 0) (r : Result (A × Input) TextFault) (next : A → Reader B) (R : B → Input → Type 0)
     → IfRead r Q → ((x : A) (j : Input) → Q x j → IfRead (next x j) R) → IfRead (and_then r next) R
 then_read Q (Ok found) next R read step = step found.0 found.1 read
 then_read Q (Err fault) next R read step = tt
@@ -33,12 +33,12 @@ kept : {A R : Type 0} (P : A → Input → Type 0) (r : Result (A × Input) Text
 kept P (Ok found) known read = (read, known)
 kept P (Err fault) known read = tt
 
-any_read : {A : Type 0} (r : Result (A × Input) TextFault) → IfRead r (λ _ _. Unit {0})
+pub any_read : {A : Type 0} (r : Result (A × Input) TextFault) → IfRead r (λ _ _. Unit {0})
 any_read (Ok found) = tt
 any_read (Err fault) = tt
 
 -- the step reads a text of the rule, and what it finds has the property
-abbrev Sound : {A : Type 0} → (A → Rule) → (A → Type 0) → Reader A → Type 0
+abbrev pub Sound : {A : Type 0} → (A → Rule) → (A → Type 0) → Reader A → Type 0
 Sound P R step = (i : Input) → IfRead (step i) (λ x j. Took i.left (P x) j.left × R x)
 
 expected : (c : ℕ) (i : Input) (met : Bool) → begins_with (λ b. b == c) i.left ≡ met
@@ -46,7 +46,7 @@ expected : (c : ℕ) (i : Input) (met : Bool) → begins_with (λ b. b == c) i.l
 expected c i true e = (c ∷ [], first_is c i.left e, refl)
 expected c i false e = tt
 
-expect_sound : (c : ℕ) (i : Input) → IfRead (expect c i) (λ _ j. Took i.left (Byte c) j.left)
+pub expect_sound : (c : ℕ) (i : Input) → IfRead (expect c i) (λ _ j. Took i.left (Byte c) j.left)
 expect_sound c i = expected c i (begins_with (λ b. b == c) i.left) refl
 
 pub padded_sound : {A : Type 0} (P : A → Rule) (R : A → Type 0) (step : Reader A) → Sound P R step → Sound (λ x. Padded (P x)) R (padded step)
@@ -67,7 +67,7 @@ signed_minus i true e plus f = (45 ∷ [], first_is 45 i.left e, refl)
 signed_minus i false e true f = rw f (43 ∷ [], first_is 43 i.left f, inr refl)
 signed_minus i false e false f = rw f ([], refl, inl refl)
 
-sign_sound : (i : Input) → IfRead (sign i) (λ minus j. Took i.left (Sign minus) j.left)
+pub sign_sound : (i : Input) → IfRead (sign i) (λ minus j. Took i.left (Sign minus) j.left)
 unfolding sign
 sign_sound i = signed_minus i (begins_with (λ b. b == 45) i.left) refl (begins_with (λ b. b == 43) i.left) refl
 
@@ -79,7 +79,7 @@ pointed i true e = let rest = drop 1 i.left in let n = prefix_len is_ascii_digit
     (taken.0, taken.1, inr taken.2)
 pointed i false e = ([], refl, inl (refl, refl))
 
-fraction_sound : (i : Input) → IfRead (fraction i) (λ digits j. Took i.left (Fraction digits) j.left)
+pub fraction_sound : (i : Input) → IfRead (fraction i) (λ digits j. Took i.left (Fraction digits) j.left)
 unfolding fraction
 fraction_sound i = pointed i (begins_with (λ b. b == 46) i.left) refl
 
@@ -90,7 +90,7 @@ numeral_ends : (i k : Input) (at : ℕ) (minus : Bool) (integer digits : List �
 numeral_ends i k at minus integer digits true e taken = tt
 numeral_ends i k at minus integer digits false e taken = (taken.0, taken.1, (taken.2, some (length integer + length digits) e))
 
-numeral_sound : (i : Input) → IfRead (numeral i) (λ n j. Took i.left (Numeral n.minus n.whole n.fraction) j.left)
+pub numeral_sound : (i : Input) → IfRead (numeral i) (λ n j. Took i.left (Numeral n.minus n.whole n.fraction) j.left)
 unfolding numeral
 numeral_sound i = then_read (λ minus j. Took i.left (Sign minus) j.left) (sign i) _ _ (sign_sound i)
     (λ minus j sign_took. let n = prefix_len is_ascii_digit j.left in let k = after n j in
@@ -108,7 +108,7 @@ within n i from taken false past e f = rw e tt
 within n i from taken true true e f = rw (e, f) tt
 within n i from taken true false e f = rw (e, f) (taken.0, taken.1, (n.minus, n.whole, n.fraction, taken.2, e, ltb-false coordinate_limit (digits_value 10 n.whole) f, refl))
 
-number_sound : (n : FoundNumber) (i : Input) (from : List ℕ) → Took from (Numeral n.minus n.whole n.fraction) i.left → IfRead (coordinate n i) (λ z j. Took from (Number z) j.left)
+pub number_sound : (n : FoundNumber) (i : Input) (from : List ℕ) → Took from (Numeral n.minus n.whole n.fraction) i.left → IfRead (coordinate n i) (λ z j. Took from (Number z) j.left)
 number_sound n i from taken = within n i from taken _ _ refl refl
 
 spaced : (i : Input) (empty : Bool) → (length (take (prefix_len is_white i.left) i.left) == 0) ≡ empty
@@ -117,12 +117,12 @@ spaced i true e = tt
 spaced i false e = let n = prefix_len is_white i.left in
     (take n i.left, sym (take-append-drop n i.left), (some (length (take n i.left)) e, all_pass is_white i.left))
 
-space_sound : (i : Input) → IfRead (space i) (λ _ j. Took i.left Space j.left)
+pub space_sound : (i : Input) → IfRead (space i) (λ _ j. Took i.left Space j.left)
 unfolding space
 space_sound i = spaced i _ refl
 
 -- the first number of a position
-first_sound : (room : ℕ) (n : FoundNumber) (i : Input) (from : List ℕ) → Took from (Numeral n.minus n.whole n.fraction) i.left → (full : Bool) → (room == 0) ≡ full
+pub first_sound : (room : ℕ) (n : FoundNumber) (i : Input) (from : List ℕ) → Took from (Numeral n.minus n.whole n.fraction) i.left → (full : Bool) → (room == 0) ≡ full
     → IfRead ((if full then too_long else coordinate n) i) (λ z j. Took from (Number z) j.left × (0 < room))
 first_sound room n i from taken true e = tt
 first_sound room n i from taken false e = kept (λ z j. Took from (Number z) j.left) (coordinate n i) (some room e) (number_sound n i from taken)
@@ -179,7 +179,7 @@ unfolding line
 line_sound room = enclosed_sound (Separated PositionText) (λ xs. length xs ≤ room) (separated position room) (separated_sound PositionText position position_sound room)
 
 -- the elements and rings, and all their positions
-abbrev FitsCounts : ℕ → ℕ → List (List Position) → Type 0
+abbrev pub FitsCounts : ℕ → ℕ → List (List Position) → Type 0
 FitsCounts count room xs = (length xs ≤ count) × (length (flat_map (λ x. x) xs) ≤ room)
 
 added : (x ys : List Position) (room : ℕ) → length x ≤ room → length ys ≤ room - length x → length (x ++ ys) ≤ room
@@ -212,12 +212,12 @@ parts_sound (suc count) room i = then_read (λ x j. Took i.left (Padded (LineTex
     (padded_sound LineText (λ x. length x ≤ room) (line room) (line_sound room) i)
     (λ x j taken. more_parts count room (parts count (room - length x)) x taken.1 (parts_sound count (room - length x)) i.left j taken.0 _ refl)
 
-in_parentheses : {A : Type 0} (P : A → Rule) (xs : List A) (us bs cs : List ℕ) → Took us Blank bs → Took bs (Enclosed (Separated P xs)) cs → Took us (Body P xs) cs
+pub in_parentheses : {A : Type 0} (P : A → Rule) (xs : List A) (us bs cs : List ℕ) → Took us Blank bs → Took bs (Enclosed (Separated P xs)) cs → Took us (Body P xs) cs
 in_parentheses P [] us bs cs white taken = absurd taken.2.4.3
 in_parentheses P (x ∷ more) us bs cs white taken = both us bs cs Blank (Enclosed (Separated P (x ∷ more))) white taken
 
 -- a word that begins where no letter stands has white space before it
-spaced_word : (left : List ℕ) → begins_with is_ascii_alphabetic left ≡ false → (n : ℕ) (empty : Bool) → (length (take n left) == 0) ≡ empty
+pub spaced_word : (left : List ℕ) → begins_with is_ascii_alphabetic left ≡ false → (n : ℕ) (empty : Bool) → (length (take n left) == 0) ≡ empty
     → (length (take (prefix_len is_ascii_alphabetic (drop n left)) (drop n left)) == 0) ≡ false → 0 < length (take n left)
 spaced_word left quiet n false e f = some (length (take n left)) e
 spaced_word left quiet n true e f =
@@ -226,13 +226,13 @@ spaced_word left quiet n true e f =
     absurd (true≢false (ap (λ m. length (take m (drop n left)) == 0) (sym none) ∙ f))
 
 -- behind white space, and behind a word
-abbrev behind : Input → Input
+abbrev pub behind : Input → Input
 behind i = after (prefix_len is_white i.left) i
 
-abbrev past_word : Input → Input
+abbrev pub past_word : Input → Input
 past_word j = after (prefix_len is_ascii_alphabetic j.left) j
 
-abbrev word_at : Input → List ℕ
+abbrev pub word_at : Input → List ℕ
 word_at j = take (prefix_len is_ascii_alphabetic j.left) j.left
 
 bodied : {A : Type 0} (P : A → Rule) (R : List A → Type 0) (inner : Reader (List A)) → R [] → Sound (Separated P) R inner
@@ -267,7 +267,7 @@ body_sound P R inner base sound i quiet = bodied P R inner base sound i quiet _ 
 abbrev IsLone : List Position → Type 0
 IsLone ps = (option_to_list (first ps) ≡ ps) × (length ps ≤ position_limit)
 
-lone_sound : (i : Input) → begins_with is_ascii_alphabetic i.left ≡ false → IfRead (lone i) (λ ps j. Took i.left (Body PositionText ps) j.left × IsLone ps)
+pub lone_sound : (i : Input) → begins_with is_ascii_alphabetic i.left ≡ false → IfRead (lone i) (λ ps j. Took i.left (Body PositionText ps) j.left × IsLone ps)
 lone_sound i quiet = body_sound PositionText IsLone _ (refl, zero-le)
     (λ k. then_read (λ p l. Took k.left (Padded (PositionText p)) l.left × (0 < position_limit)) (padded (position position_limit) k) _ _
     (padded_sound PositionText (λ _. 0 < position_limit) (position position_limit) (position_sound position_limit) k)

@@ -60,7 +60,7 @@ word_is text name e = (bytes_eq-Decides (str_to_ascii_lowercase text) (str_to_as
 abbrev pub Took : List ℕ → Rule → List ℕ → Type 0
 Took from A to = (used : List ℕ) × (from ≡ used ++ to) × A used
 
-pub both : (xs ys zs : List ℕ) (A B : Rule) → Took xs A ys → Took ys B zs → Took xs (A ⨾ B) zs
+abbrev pub both : (xs ys zs : List ℕ) (A B : Rule) → Took xs A ys → Took ys B zs → Took xs (A ⨾ B) zs
 both xs ys zs A B first rest = (
   first.0 ++ rest.0,
   (first.1 ∙ ap (λ r. first.0 ++ r) rest.1) ∙ sym (append_assoc first.0 rest.0 zs),

@@ -24,3 +24,4 @@ pub mod Validity
 pub mod FirstFaults
 pub mod ValidityExamples
 pub mod LeastFormLaws
+pub mod TextRefusals

@@ -1,9 +1,11 @@
 -- Laws of well-known text.
-use Rattle.std.specs.Prelude.{◌≡◌, ℕ, List, Ok}
+use Rattle.std.specs.Prelude.{◌≡◌, ℕ, List, Ok, Err, ◌⊎◌}
 use Rattle.geometry_model.specs.Geometries.{Geometry}
 use Rattle.geometry_model.specs.WellKnownText.{Spells}
 use Rattle.geometry_model.specs.CanonicalText.{canonical_text}
 use Rattle.geometry_model.specs.TextReading.{read_text}
+use Rattle.geometry_model.specs.TextRefusals.{IsOffGrid, IsOutOfRange, HasTooManyPositions, HasTooManyParts}
+use Rattle.geometry_model.specs.declared.text_faults.TextFault.TheVariants.{OffGrid, OutOfRange, TooLong}
 
 -- what is read is spelled
 abbrev pub ReadIsSpelled : Type 0
@@ -24,3 +26,10 @@ CanonicalTextSpells = (text : List ℕ) (g : Geometry) → Spells text g → Spe
 -- the canonical text of what is read is read as the same
 abbrev pub CanonicalTextIsRead : Type 0
 CanonicalTextIsRead = (text : List ℕ) (g : Geometry) → read_text text ≡ Ok g → read_text (canonical_text g) ≡ Ok g
+
+-- where reading answers W2, W3 or W4, that refusal stands
+abbrev pub RefusalsStand : Type 0
+RefusalsStand = (text : List ℕ) (at : ℕ)
+    → (read_text text ≡ Err (OffGrid at) → IsOffGrid text at)
+    × (read_text text ≡ Err (OutOfRange at) → IsOutOfRange text at)
+    × (read_text text ≡ Err TooLong → HasTooManyPositions text ⊎ HasTooManyParts text)

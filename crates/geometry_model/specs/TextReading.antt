@@ -6,6 +6,7 @@ use Rattle.std.specs.Str.{str_eq_ignore_ascii_case}
 use Rattle.std.specs.Str.Parse.{digits_value}
 use Rattle.geometry_model.specs.Points.{Position}
 use Rattle.geometry_model.specs.Geometries.{Geometry, Point, MultiPoint, LineString, MultiLineString, Polygon}
+pub use Rattle.geometry_model.specs.WellKnownText.{begins_with}
 use Rattle.geometry_model.specs.WellKnownText.{coordinate_limit, position_limit, part_limit, is_white, is_whole, signed, geometry_of}
 use Rattle.geometry_model.specs.declared.text_faults.TextFault.{TextFault}
 use Rattle.geometry_model.specs.declared.text_faults.TextFault.TheVariants.{Syntax, OffGrid, OutOfRange, TooLong}
@@ -37,11 +38,6 @@ pure x i = Ok (x, i)
 -- behind the next n bytes
 abbrev pub after : ℕ → Input → Input
 after n i = record { left = drop n i.left; at = i.at + n }
-
--- whether a text begins with a byte that passes the test
-abbrev pub begins_with : (ℕ → Bool) → List ℕ → Bool
-begins_with test [] = false
-begins_with test (c ∷ rest) = test c
 
 -- the next byte passes the test
 abbrev pub sees : (ℕ → Bool) → Reader Bool

@@ -21,6 +21,11 @@ position_limit = 10000
 abbrev pub part_limit : ℕ
 part_limit = 1000
 
+-- whether a text begins with a byte that passes the test
+abbrev pub begins_with : (ℕ → Bool) → List ℕ → Bool
+begins_with test [] = false
+begins_with test (c ∷ rest) = test c
+
 -- a rule of the grammar: the texts that it takes
 abbrev pub Rule : Type 1
 Rule = List ℕ → Type 0

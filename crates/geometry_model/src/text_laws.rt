@@ -5,6 +5,7 @@ ghost use Rattle.geometry_model.specs.TextLaws.{
   SpellsOne,
   CanonicalTextSpells,
   CanonicalTextIsRead,
+  RefusalsStand,
 };
 
 /// What is read is spelled.
@@ -30,4 +31,9 @@ pub fn canonical_text_spells()
 /// The canonical text of what is read is read as the same.
 pub fn canonical_text_is_read()
     ensures { CanonicalTextIsRead }
+{}
+
+/// Where reading answers W2, W3 or W4, that refusal stands.
+pub fn refusals_stand()
+    ensures { RefusalsStand }
 {}

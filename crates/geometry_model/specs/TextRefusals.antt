@@ -1,0 +1,89 @@
+-- Which texts are refused, and as what, said apart from any reading: by the bytes that stand before the fault.
+use Rattle.std.specs.Prelude.{◌≡◌, ℕ, ◌+◌, ◌<◌, ◌==◌, ◌⊎◌, Bool, true, false, List, ◌++◌, length, codes}
+use Rattle.std.specs.List.{list_any}
+use Rattle.std.specs.Char.{is_ascii_digit}
+use Rattle.std.specs.Str.Parse.{digits_value}
+use Rattle.geometry_model.specs.Geometries.{Geometry}
+use Rattle.geometry_model.specs.WellKnownText.{begins_with, Numeral, Writes, Spells, is_whole, coordinate_limit, position_limit, part_limit, written_positions, written_parts}
+use Rattle.geometry_model.specs.declared.text_faults.TextFault.{TextFault}
+use Rattle.geometry_model.specs.declared.text_faults.TextFault.TheVariants.{Syntax, OffGrid, OutOfRange, TooLong}
+
+-- the text begins a geometry, and a new number can stand behind it: a plus can, which stands nowhere but at the beginning of a number (profile)
+abbrev pub TakesNumber : List ℕ → Type 0
+TakesNumber front = (rest : List ℕ) × (g : Geometry) × Spells (front ++ codes "+" ++ rest) g
+
+-- the longest number at the front of the text has this sign and these digits: no digit follows it, and no point that it hasn't already
+-- (06-103r4, 7.2.2: signed numeric literal)
+pub record IsFirstNumber (text : List ℕ) (minus : Bool) (whole fraction : List ℕ) : Type 0 where
+  pub number : List ℕ
+  pub rest : List ℕ
+  pub split : text ≡ number ++ rest
+  pub numeral : Numeral minus whole fraction number
+  pub no_digit : begins_with is_ascii_digit rest ≡ false
+  pub no_point : (begins_with (λ c. c == 46) rest ≡ false) ⊎ (list_any (λ c. c == 46) number ≡ true)
+
+-- at this byte, where a new number can stand, stands a number with this sign and these digits (profile)
+pub record HasNumber (text : List ℕ) (at : ℕ) (minus : Bool) (whole fraction : List ℕ) : Type 0 where
+  pub front : List ℕ
+  pub tail : List ℕ
+  pub split : text ≡ front ++ tail
+  pub place : at ≡ length front
+  pub begins : TakesNumber front
+  pub number : IsFirstNumber tail minus whole fraction
+
+-- W2: the digits of the number behind its point aren't all zeros (profile)
+pub record IsOffGrid (text : List ℕ) (at : ℕ) : Type 0 where
+  pub minus : Bool
+  pub whole : List ℕ
+  pub fraction : List ℕ
+  pub number : HasNumber text at minus whole fraction
+  pub not_whole : is_whole fraction ≡ false
+
+-- W3: they are, and the number is past the limit (profile)
+pub record IsOutOfRange (text : List ℕ) (at : ℕ) : Type 0 where
+  pub minus : Bool
+  pub whole : List ℕ
+  pub fraction : List ℕ
+  pub number : HasNumber text at minus whole fraction
+  pub is_whole : is_whole fraction ≡ true
+  pub past : coordinate_limit < digits_value 10 whole
+
+-- W4 by a position: its first number stands where, the counts set aside, one position more than they allow can be the last (profile)
+pub record HasTooManyPositions (text : List ℕ) : Type 0 where
+  pub front : List ℕ
+  pub tail : List ℕ
+  pub split : text ≡ front ++ tail
+  pub minus : Bool
+  pub whole : List ℕ
+  pub fraction : List ℕ
+  pub number : IsFirstNumber tail minus whole fraction
+  pub closing : List ℕ
+  pub no_more : list_any is_ascii_digit closing ≡ false
+  pub written : Geometry
+  pub spelled : Writes written (front ++ codes "+0 0" ++ closing)
+  pub counted : length (written_positions written) ≡ position_limit + 1
+
+-- W4 by a part: its parenthesis stands where one part more than the count allows can be the last (profile)
+pub record HasTooManyParts (text : List ℕ) : Type 0 where
+  pub front : List ℕ
+  pub tail : List ℕ
+  pub split : text ≡ front ++ codes "(" ++ tail
+  pub closing : List ℕ
+  pub no_more : list_any is_ascii_digit closing ≡ false
+  pub written : Geometry
+  pub spelled : Writes written (front ++ codes "(+0 0" ++ closing)
+  pub counted : length (written_parts written) ≡ part_limit + 1
+
+-- W2, W3 or W4 stands (profile)
+abbrev pub IsRefusedAs : List ℕ → TextFault → Type 0
+IsRefusedAs text (Syntax at) = ⊥
+IsRefusedAs text (OffGrid at) = IsOffGrid text at
+IsRefusedAs text (OutOfRange at) = IsOutOfRange text at
+IsRefusedAs text TooLong = HasTooManyPositions text ⊎ HasTooManyParts text
+
+-- the refusal of a text; W1 stands where it spells nothing and no other does (profile; the byte of W1 is shown by examples)
+abbrev pub IsRefused : List ℕ → TextFault → Type 0
+IsRefused text (Syntax at) = ((g : Geometry) → Spells text g → ⊥) × ((fault : TextFault) → IsRefusedAs text fault → ⊥)
+IsRefused text (OffGrid at) = IsOffGrid text at
+IsRefused text (OutOfRange at) = IsOutOfRange text at
+IsRefused text TooLong = HasTooManyPositions text ⊎ HasTooManyParts text
