@@ -8,7 +8,7 @@ use Rattle.geometry_model.specs.Sides.{side}
 abbrev pub reaches : Position → Point → Bool
 reaches a p = int_le (a.x *ℤ p.W) p.X
 
--- exactly one of the two is true
+-- exactly one of the two is true (profile)
 abbrev pub exactly_one : Bool → Bool → Bool
 exactly_one true b = not b
 exactly_one false b = b
@@ -29,7 +29,7 @@ strictly_above e p = spans e p && int_lt (side_rightward e p) (pos 0)
 abbrev pub at_or_above : Edge → Point → Bool
 at_or_above e p = spans e p && int_le (side_rightward e p) (pos 0)
 
--- the number is odd
+-- the number is odd (profile)
 abbrev pub odd : ℕ → Bool
 odd n = n % 2 == 1
 

@@ -6,17 +6,17 @@ use Rattle.geometry_model.specs.Points.{Position, Point, point_at, same_point, c
 use Rattle.geometry_model.specs.Geometries.{Edge}
 use Rattle.geometry_model.specs.Sides.{side, on, on_one_line}
 
--- the point is an end of the edge
+-- the point is an end of the edge (06-103r4, 6.1.6.1)
 abbrev pub is_end : Edge → Point → Bool
 is_end e p = same_point (point_at e.start) p || same_point (point_at e.end) p
 
--- a cut of edges and listed positions: an end, a listed position, or a point that two edges not on one line share (profile). The ends of a stretch that two edges share are ends of edges
+-- a cut of edges and listed positions: an end, a listed position, or a point that two edges not on one line share; the ends of a stretch that two edges share are ends of edges (profile)
 pub data IsCut (es : List Edge) (ps : List Position) (p : Point) : Type 0 where
   AtEnd : (e : Edge) → Contains es e → is_end e p ≡ true → IsCut es ps p
   Listed : (a : Position) → Contains ps a → same_point (point_at a) p ≡ true → IsCut es ps p
   AtCrossing : (e f : Edge) → Contains es e → Contains es f → on_one_line e f ≡ false → on e p ≡ true → on f p ≡ true → IsCut es ps p
 
--- the triple with W at least 0 that stands for the same point
+-- the triple with W at least 0 that stands for the same point (profile)
 abbrev pub turned_up : Point → Point
 turned_up p =
     if int_lt p.W (pos 0) then record { X = pos 0 -ℤ p.X; Y = pos 0 -ℤ p.Y; W = pos 0 -ℤ p.W }
@@ -33,7 +33,7 @@ meeting_point e f =
       W = s -ℤ t;
     }
 
--- the point, if it is one and both edges go through it
+-- the point, if it is one and both edges go through it (profile)
 abbrev pub if_on_both : Edge → Edge → Point → List Point
 if_on_both e f p =
     if int_lt (pos 0) p.W && on e p && on f p then p ∷ []
@@ -43,23 +43,23 @@ if_on_both e f p =
 abbrev pub crossings : Edge → Edge → List Point
 crossings e f = if_on_both e f (least_form (meeting_point e f))
 
--- x before y and the rest, in its place behind y, or left out where it stands there already
+-- x before y and the rest, in its place behind y, or left out where it stands there already (profile)
 abbrev pub placed : {A : Type 0} → Ordering → A → A → List A → List A → List A
 placed Less x y rest behind = x ∷ y ∷ rest
 placed Equal x y rest behind = y ∷ rest
 placed Greater x y rest behind = y ∷ behind
 
--- an ascending list with x in its place
+-- an ascending list with x in its place (profile)
 abbrev pub with_value : {A : Type 0} → (A → A → Ordering) → A → List A → List A
 with_value order x [] = x ∷ []
 with_value order x (y ∷ rest) = placed (order x y) x y rest (with_value order x rest)
 
--- the values in ascending order, each once
+-- the values in ascending order, each once (profile)
 abbrev pub ascending : {A : Type 0} → (A → A → Ordering) → List A → List A
 ascending order [] = []
 ascending order (x ∷ rest) = with_value order x (ascending order rest)
 
--- the ends of an edge, as points
+-- the ends of an edge, as points (06-103r4, 6.1.6.1)
 abbrev pub end_points : Edge → List Point
 end_points e = point_at e.start ∷ point_at e.end ∷ []
 

@@ -87,7 +87,7 @@ cell m Exterior Interior = m.exterior_interior
 cell m Exterior Boundary = m.exterior_boundary
 cell m Exterior Exterior = m.exterior_exterior
 
--- the matrix with this cell at each two parts
+-- the matrix with this cell at each two parts (06-103r4, 6.1.15.2)
 abbrev pub matrix_of : (Location → Location → Dimension) → Matrix
 matrix_of d = record {
   interior_interior = d Interior Interior;
@@ -109,6 +109,6 @@ common a l b k p = part a l p × part b k p
 abbrev pub IsMatrix : Geometry → Geometry → Matrix → Type 0
 IsMatrix a b m = (l k : Location) → HasDimension (common a l b k) (cell m l k)
 
--- the matrix of the two geometries the other way round
+-- the matrix of the two geometries the other way round (profile)
 abbrev pub transposed : Matrix → Matrix
 transposed m = matrix_of (λ l k. cell m k l)

@@ -11,11 +11,11 @@ pub record Envelope : Type 0 where
   pub least_y : ℤ
   pub greatest_y : ℤ
 
--- the envelope of one position
+-- the envelope of one position (06-103r4, 6.1.2.2: Envelope)
 abbrev pub envelope_at : Position → Envelope
 envelope_at a = record { least_x = a.x; greatest_x = a.x; least_y = a.y; greatest_y = a.y }
 
--- the envelope of both
+-- the envelope of both (06-103r4, 6.1.2.2: Envelope)
 abbrev pub joined : Envelope → Envelope → Envelope
 joined e f = record {
   least_x = int_min e.least_x f.least_x;
@@ -24,12 +24,12 @@ joined e f = record {
   greatest_y = int_max e.greatest_y f.greatest_y;
 }
 
--- the envelope of a position and of what may follow it
+-- the envelope of a position and of what may follow it (06-103r4, 6.1.2.2: Envelope)
 abbrev pub with_position : Position → Option Envelope → Envelope
 with_position a None = envelope_at a
 with_position a (Some e) = joined (envelope_at a) e
 
--- the envelope of positions; of none it is absent
+-- the envelope of positions; of none it is absent (06-103r4, 6.1.2.2: Envelope)
 abbrev pub envelope_of_positions : List Position → Option Envelope
 envelope_of_positions [] = None
 envelope_of_positions (a ∷ rest) = Some (with_position a (envelope_of_positions rest))

@@ -36,7 +36,7 @@ pub record SideLabels : Type 0 where
   pub lower : Label
   pub upper : Label
 
--- the piece is upright: its ends have one x
+-- the piece is upright: its ends have one x (profile)
 abbrev pub is_upright : Piece → Bool
 is_upright c = int_eq (c.lesser.X *ℤ c.greater.W) (c.greater.X *ℤ c.lesser.W)
 
@@ -55,6 +55,7 @@ pub record Labels : Type 0 where
   pub of_pieces : List Label
   pub of_sides : List (Option SideLabels)
 
+-- the labels of these cut points and pieces (profile)
 abbrev pub labels_of : Geometry → Geometry → List Point → List Piece → Labels
 labels_of a b cuts cs = record {
   of_points = map (label a b) cuts;
@@ -62,7 +63,7 @@ labels_of a b cuts cs = record {
   of_sides = map (side_labels a b) cs;
 }
 
--- the edges of both geometries
+-- the edges of both geometries (profile)
 abbrev pub edges_of_both : Geometry → Geometry → List Edge
 edges_of_both a b = edges a ++ edges b
 
@@ -77,18 +78,18 @@ labels a b = labels_at (cuts_of_both a b)
     labels_at : List Point → Labels
     labels_at cuts = labels_of a b cuts (pieces cuts (edges_of_both a b))
 
--- two parts are one
+-- two parts are one (profile)
 abbrev pub same_location : Location → Location → Bool
 same_location Interior Interior = true
 same_location Boundary Boundary = true
 same_location Exterior Exterior = true
 same_location _ _ = false
 
--- a label is this pair of parts
+-- a label is this pair of parts (profile)
 abbrev pub is_pair : Location → Location → Label → Bool
 is_pair l k x = same_location l x.first && same_location k x.second
 
--- one of the sides is this pair
+-- one of the sides is this pair (profile)
 abbrev pub is_side_pair : Location → Location → Option SideLabels → Bool
 is_side_pair l k None = false
 is_side_pair l k (Some s) = is_pair l k s.lower || is_pair l k s.upper

@@ -8,11 +8,11 @@ use Rattle.geometry_model.specs.Crossings.{odd, odd_above}
 use Rattle.geometry_model.specs.declared.point_sets.Location.{Location}
 use Rattle.geometry_model.specs.declared.point_sets.Location.TheVariants.{Interior, Boundary, Exterior}
 
--- the point stands at the position
+-- the point stands at the position (06-103r4, 6.1.4)
 abbrev pub stands_at : Point → Position → Bool
 stands_at p a = same_point (point_at a) p
 
--- the last of a and the positions after it
+-- the last of a and the positions after it (06-103r4, 6.1.6.1)
 abbrev pub last_after : Position → List Position → Position
 last_after a [] = a
 last_after a (b ∷ rest) = last_after b rest
@@ -22,7 +22,7 @@ abbrev pub ends : List Position → List Position
 ends [] = []
 ends (a ∷ rest) = a ∷ last_after a rest ∷ []
 
--- the point lies on some edge of the lines or rings
+-- the point lies on some edge of the lines or rings (06-103r4, 6.1.7)
 abbrev pub on_some : List (List Position) → Point → Bool
 on_some ls p = list_any (λ e. on e p) (edges_of_lines ls)
 

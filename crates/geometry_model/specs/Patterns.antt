@@ -55,7 +55,7 @@ character_of c =
     else if c == 50 then Some characters.Two
     else None
 
--- the characters that the bytes write, if each writes one
+-- the characters that the bytes write, if each writes one (06-103r4, 6.1.15.2)
 abbrev pub characters_of : List ℕ → Option (List PatternCharacter)
 characters_of [] = Some []
 characters_of (c ∷ rest) = option_and_then (λ x. option_and_then (λ xs. Some (x ∷ xs)) (characters_of rest)) (character_of c)

@@ -24,13 +24,13 @@ pub record IsPiece (es : List Edge) (ps : List Position) (c : Piece) : Type 0 wh
   pub in_order : compare c.lesser c.greater ≡ Less
   pub neighbours : (p : Point) → IsPoint p → on edge p ≡ true → IsCut es ps p → compare c.lesser p ≡ Less → compare p c.greater ≡ Less → ⊥
 
--- the stretches between neighbours of an ascending list
+-- the stretches between neighbours of an ascending list (profile)
 abbrev pub stretches : List Point → List Piece
 stretches [] = []
 stretches (p ∷ []) = []
 stretches (p ∷ q ∷ rest) = record { lesser = p; greater = q } ∷ stretches (q ∷ rest)
 
--- the pieces of an edge, of ascending cuts
+-- the pieces of an edge, of ascending cuts (profile)
 abbrev pub pieces_of_edge : List Point → Edge → List Piece
 pieces_of_edge cuts e = stretches (filter (on e) cuts)
 

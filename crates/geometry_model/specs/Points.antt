@@ -57,7 +57,7 @@ last_divisor (suc turns) a (suc b) = last_divisor turns (suc b) (a % suc b)
 abbrev pub gcd : ℕ → ℕ → ℕ
 gcd a b = last_divisor (b + 1) a b
 
--- the numbers of a triple, each divided by g
+-- the numbers of a triple, each divided by g (profile)
 abbrev pub divided : Point → ℕ → Point
 divided p g = record { X = int_div p.X (pos g); Y = int_div p.Y (pos g); W = int_div p.W (pos g) }
 

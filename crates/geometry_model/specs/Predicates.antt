@@ -51,7 +51,7 @@ holds predicates.Contains k l m = like (codes "T*F**F***") (transposed m)
 holds predicates.Overlaps k l m = overlaps k l m
 holds (predicates.Relate p) k l m = matches p m
 
--- a character that no empty cell matches
+-- a character that no empty cell matches (profile)
 abbrev pub wants_point : PatternCharacter → Bool
 wants_point characters.True = true
 wants_point characters.False = false
@@ -60,7 +60,7 @@ wants_point characters.Zero = true
 wants_point characters.One = true
 wants_point characters.Two = true
 
--- a pattern that wants a point in both geometries
+-- a pattern that wants a point in both geometries (profile)
 abbrev pub wants_common_point : Pattern → Bool
 wants_common_point p =
     wants_point p.interior_interior
