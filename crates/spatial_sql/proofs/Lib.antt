@@ -1,3 +1,7 @@
 pub mod Lexing
 pub mod Counts
 pub mod Outcomes
+pub mod QuerySound
+pub mod TokensEnd
+pub mod TokenSlices
+pub mod QueryLaws

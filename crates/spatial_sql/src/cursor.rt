@@ -11,7 +11,7 @@ use table_model::queries::Name;
 use table_model::texts::Slice;
 use table_model::tokens::{Token, TokenKind};
 
-/// The tokens that are left to be read. Past the last one stands the kind End, at place 0.
+/// The tokens that are left to be read. Past the last one stands the kind Bad, at place 0.
 #[derive(Drop)]
 pub struct Cursor<'t, 'a> {
     left: &'t [Token<'a>],
@@ -41,7 +41,7 @@ impl<'t, 'a> Cursor<'t, 'a> {
     {
         match self.left {
             [first, ..] => first.kind,
-            [] => TokenKind::End,
+            [] => TokenKind::Bad,
         }
     }
 
@@ -109,7 +109,7 @@ impl<'t, 'a> Cursor<'t, 'a> {
     {
         match self.left {
             [_, second, ..] => second.kind,
-            _ => TokenKind::End,
+            _ => TokenKind::Bad,
         }
     }
 

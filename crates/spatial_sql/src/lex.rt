@@ -2,7 +2,7 @@
 
 ghost use Rattle.std.specs.Prelude.{◌≡◌, ◌≤◌, ◌<◌, ◌+◌, ◌-◌, ◌^◌, ℕ, length, map, take, drop, slice_index, IfOk, IfSome, All, true, false};
 ghost use Rattle.std.specs.Char.{is_ascii_digit};
-ghost use Rattle.std.specs.List.{prefix_len};
+ghost use Rattle.std.specs.List.{AllByRecursion, prefix_len};
 ghost use Rattle.table_model.specs.Tokens as spec;
 
 use sqlite_items::Items;
@@ -224,10 +224,8 @@ fn text_of<'a>(kind: TokenKind, len: usize, text: &'a [u8]) -> &'a [u8]
     }
 }
 
-/// The tokens of a text in their order. The last one is Bad, which is the first byte that begins no token or the
-/// first quote of a string that isn't closed, or else End, at the text's length. Strings are tokens where `strings`
-/// says so. It fails only for want of memory.
-pub fn lex<'a>(alloc: Global, text: &'a [u8], strings: bool) -> Result<Items<Token<'a>>, AllocError>
+/// Cuts a text into its tokens.
+fn cut<'a>(alloc: Global, text: &'a [u8], strings: bool) -> Result<Items<Token<'a>>, AllocError>
     ensures { IfOk result (λ tokens. tokens ≡ spec.tokens strings text.now) }
 {
     let mut tokens = Items::new(alloc);
@@ -250,4 +248,15 @@ pub fn lex<'a>(alloc: Global, text: &'a [u8], strings: bool) -> Result<Items<Tok
         at,
     })?;
     Ok(tokens)
+}
+
+/// The tokens of a text in their order. The last one is Bad, which is the first byte that begins no token or the
+/// first quote of a string that isn't closed, or else End, at the text's length. Strings are tokens where `strings`
+/// says so. Each token's text is the part of the text at its place, a string's after its first quote. It fails only
+/// for want of memory.
+pub fn lex<'a>(alloc: Global, text: &'a [u8], strings: bool) -> Result<Items<Token<'a>>, AllocError>
+    ensures tokens { IfOk result (λ tokens. tokens ≡ spec.tokens strings text.now) }
+    ensures slices { IfOk result (λ tokens. AllByRecursion (spec.IsSlice text.now) tokens) }
+{
+    cut(alloc, text, strings)
 }

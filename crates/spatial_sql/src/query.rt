@@ -1,8 +1,9 @@
 //! Reads queries.
 
-ghost use Rattle.std.specs.Prelude.{◌≡◌, ◌∷◌, []};
+ghost use Rattle.std.specs.Prelude.{◌≡◌, IfOk};
 ghost use Rattle.table_model.specs.Outcomes.{Gives};
 ghost use Rattle.table_model.specs.Parsers.{Reads};
+ghost use Rattle.table_model.specs.QueryGrammar.{IsQuery};
 ghost use Rattle.table_model.specs.QueryReading as spec;
 
 use crate::Query;
@@ -138,10 +139,10 @@ fn bad_place(tokens: &[Token<'_>]) -> Option<usize>
     None
 }
 
-/// Reads the text of a query.
+/// Reads the text of a query: its length is looked at first, then its tokens, then its grammar.
 #[tactic(auto, unfolding(table_model::specs::QueryReading::query_of))]
-pub fn read_query<'a>(alloc: Global, text: &'a str) -> Result<Query<'a>, QueryFault>
-    ensures exact { Gives QueryFault.OutOfMemory (λ q. q) result (spec.query_of text.now) }
+fn read<'a>(alloc: Global, text: &'a str) -> Result<Query<'a>, QueryFault>
+    ensures { Gives QueryFault.OutOfMemory (λ q. q) result (spec.query_of text.now) }
 {
     if text.len() > MOST_BYTES {
         return Err(QueryFault::TooLong);
@@ -152,4 +153,18 @@ pub fn read_query<'a>(alloc: Global, text: &'a str) -> Result<Query<'a>, QueryFa
     }
     let mut cursor = Cursor::new(tokens.as_slice());
     query(alloc, &mut cursor)
+}
+
+/// Reads the text of a query, a SELECT over one table. The tree is the one that the grammar gives: `*` or columns,
+/// a table reference, a condition, and `;` at the end or not.
+///
+/// Faults carry the byte, from 0, of the first token that can't stand, or the text's length: TooLong past 65,536
+/// bytes; Lex where a byte of the text begins no token, or a string isn't closed; then, whichever is met first,
+/// Syntax, TooDeep at the 65th level of NOT and parentheses, and NumberTooBig at the first digit of a number that
+/// 64 bits don't hold. OutOfMemory may come in the place of any answer.
+pub fn read_query<'a>(alloc: Global, text: &'a str) -> Result<Query<'a>, QueryFault>
+    ensures ok { IfOk result (λ q. IsQuery text.now q) }
+    ensures exact { Gives QueryFault.OutOfMemory (λ q. q) result (spec.query_of text.now) }
+{
+    read(alloc, text)
 }

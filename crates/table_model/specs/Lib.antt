@@ -11,3 +11,4 @@ pub mod Definitions
 pub mod Loading
 pub mod Databases
 pub mod QueryReading
+pub mod QueryGrammar

@@ -7,10 +7,10 @@ use Rattle.table_model.specs.declared.tokens.TokenKind.{TokenKind}
 use Rattle.table_model.specs.declared.tokens.TokenKind.TheVariants as k
 use Rattle.table_model.specs.Tokens.{same_kind}
 
--- ---- the next token, of those that are left
+-- ---- the next token, of those that are left; past the last one nothing can be read
 
 unfoldable pub kind : List Token → TokenKind
-kind [] = k.End
+kind [] = k.Bad
 kind (t ∷ ts) = t.kind
 
 unfoldable pub place : List Token → ℕ

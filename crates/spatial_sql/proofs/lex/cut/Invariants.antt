@@ -1,6 +1,6 @@
 use Rattle.std.proofs.Common.{◌≡◌, ◌≤◌, ◌++◌, ◌-◌, length, drop}
 use Rattle.table_model.specs.Tokens.{tokens_from, tokens}
-use Rattle.spatial_sql.proofs.lex.lex.Given as goal
+use Rattle.spatial_sql.proofs.lex.cut.Given as goal
 
 abbrev pub invariant-loop-at : goal.invariant-loop-at
 invariant-loop-at l = record {
