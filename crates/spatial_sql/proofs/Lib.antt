@@ -5,3 +5,5 @@ pub mod QuerySound
 pub mod TokensEnd
 pub mod TokenSlices
 pub mod QueryLaws
+pub mod Ascii
+pub mod LawfulSchemas

@@ -7,13 +7,16 @@ mod columns;
 mod condition;
 mod conjuncts;
 pub mod cursor;
+mod definition;
 pub mod lex;
 mod query;
 mod references;
+mod schema;
 mod truth;
 
 pub use binding::bind;
 pub use query::read_query;
+pub use schema::read_schema;
 pub use table_model::faults::{QueryFault, SchemaFault};
 use table_model::values::NoGeometry;
 pub use table_model::values::Truth;

@@ -12,3 +12,4 @@ pub mod Loading
 pub mod Databases
 pub mod QueryReading
 pub mod QueryGrammar
+pub mod SchemaReading
