@@ -4,7 +4,9 @@ use Rattle.std.proofs.Common.{Result, Ok, Err, OnErr, codes, ◌≡◌, ◌<◌,
 use Rattle.std.specs.List.{concat}
 use Rattle.std.specs.Io.KnownBytes.{Appends}
 use Rattle.wkt.specs.Sinks.{AppendsFront}
-use Rattle.wkt.proofs.SinkLemmas.{Appends-then, AppendsFront-then, AppendsFront-more}
+use Rattle.std.proofs.lemmas.List.{map-append, take-append-drop}
+use Rattle.std.proofs.lemmas.List.Folds.{concat-append}
+use Rattle.wkt.proofs.SinkLemmas.{Appends-then, AppendsFront-then, AppendsFront-more, AppendsFront-whole}
 
 -- the parts before a place, the part at that place, and those after it
 pub parts-split : {X : Type 0} (v : X → List ℕ) (xs : List X) (i : ℕ) (d : X) → i < length xs
@@ -51,5 +53,28 @@ pub line-front : {A E : Type 0} (r : Result A E) (old new : Option (List ℕ)) (
 line-front (Ok x) old new table words digits p q s e f h fact = tt
 line-front (Err y) old new table words digits p q s e f h fact =
     let joined : concat (codes "sfq: " ∷ p ∷ q ∷ s ∷ codes "\n" ∷ []) ≡ line_of ((table ++ words) ++ digits) =
-        rw (e, f, h) (line_parts table words digits) in
+    rw (e, f, h) (line_parts table words digits) in
     subst (λ l. AppendsFront old new l) joined fact
+
+-- the parts before a place are a front of the whole
+pub parts-begun : {X : Type 0} (v : X → List ℕ) (xs : List X) (i : ℕ) (a b : Option (List ℕ)) → Appends a b (concat (map v (take i xs))) → AppendsFront a b (concat (map v xs))
+parts-begun v xs i a b before =
+    let whole : concat (map v (take i xs)) ++ concat (map v (drop i xs)) ≡ concat (map v xs) =
+    sym (ap concat (map-append v (take i xs) (drop i xs)) ∙ concat-append (map v (take i xs)) (map v (drop i xs))) ∙ ap (λ l. concat (map v l)) (take-append-drop i xs) in
+    subst (λ l. AppendsFront a b l) whole (AppendsFront-whole a b (concat (map v (take i xs))) (concat (map v (drop i xs))) before)
+
+-- a text that is the part at a place, or a front of it
+pub text-front : {X : Type 0} (v : X → List ℕ) (xs : List X) (i : ℕ) (d : X) (text : List ℕ) (a b c : Option (List ℕ)) → i < length xs
+    → text ≡ v (get_or xs i d) → Appends a b (concat (map v (take i xs))) → AppendsFront b c text → AppendsFront a c (concat (map v xs))
+text-front v xs i d text a b c within is before front = parts-front v xs i d a b c within before (subst (λ l. AppendsFront b c l) is front)
+
+pub text-put : {X : Type 0} (v : X → List ℕ) (xs : List X) (i : ℕ) (d : X) (text : List ℕ) (a b c : Option (List ℕ)) → i < length xs
+    → text ≡ v (get_or xs i d) → Appends a b (concat (map v (take i xs))) → Appends b c text → Appends a c (concat (map v (take (i + 1) xs)))
+text-put v xs i d text a b c within is before piece = parts-put v xs i d a b c within before (subst (λ l. Appends b c l) is piece)
+
+-- a first text, and then what was put after it
+pub first-front : {A E : Type 0} (r : Result A E) (a b c : Option (List ℕ)) (first text rest : List ℕ) → first ≡ text → Appends a b first
+    → OnErr r (AppendsFront b c rest) → OnErr r (AppendsFront a c (text ++ rest))
+first-front (Ok x) a b c first text rest is before after = tt
+first-front (Err e) a b c first text rest is before after =
+    subst (λ l. AppendsFront a c (l ++ rest)) is (AppendsFront-then a b c first rest before after)

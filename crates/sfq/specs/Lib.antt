@@ -1,1 +1,4 @@
 pub mod Failures
+pub mod Stage
+pub mod Runs
+pub mod Faults

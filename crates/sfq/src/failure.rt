@@ -82,7 +82,13 @@ fn put_line<S: Sink>(sink: &mut S, table: &str, words: &str, digits: &str) -> Re
     ensures front { OnErr result (AppendsFront (S.taken sink.old) (S.taken sink.new) (line_of ((table.now ++ words.now) ++ digits.now))) }
     ensures failures { CountsFailure (S.failures sink.old) (S.failures sink.new) result }
 {
-    let parts = [b"sfq: ", table.as_bytes(), words.as_bytes(), digits.as_bytes(), b"\n"];
+    let parts = [
+        b"sfq: ",
+        table.as_bytes(),
+        words.as_bytes(),
+        digits.as_bytes(),
+        b"\n",
+    ];
     put_parts(sink, &parts)
 }
 

@@ -1,8 +1,8 @@
 -- The records of an answer: the header, and the fields of each row of the meaning.
-use Rattle.std.specs.Prelude.{Bool, ℕ, List, [], ◌∷◌, ◌++◌, map, length, ◌==◌, cond, decimal, codes}
+use Rattle.std.specs.Prelude.{Bool, ℕ, List, [], ◌∷◌, ◌++◌, map, length, ◌==◌, cond, decimal, codes, Option, Some, None, slice_get}
 use Rattle.std.specs.Fmt.{signed_decimal}
-use Rattle.std.specs.List.{slice_index_or}
 use Rattle.table_model.specs.Meanings.{Row}
+use Rattle.table_model.specs.Binding.{table_columns}
 use Rattle.table_model.specs.Truths.{field_at}
 use Rattle.table_model.specs.declared.values.Value.{Value}
 use Rattle.table_model.specs.declared.values.Value.TheVariants as v
@@ -11,6 +11,7 @@ use Rattle.table_model.specs.declared.conditions.Reference.{Reference}
 use Rattle.table_model.specs.declared.conditions.ColumnPlace.{ColumnPlace}
 use Rattle.table_model.specs.declared.conditions.Item.{Item}
 use Rattle.table_model.specs.declared.conditions.Item.TheVariants as i
+use Rattle.table_model.specs.declared.definitions.ColumnDef.{ColumnDef}
 use Rattle.table_model.specs.declared.definitions.TableDef.{TableDef}
 
 -- how a geometry is written: its canonical text, its dimension and whether it is empty, and the column that
@@ -21,19 +22,24 @@ pub record Writing (G C : Type 0) : Type 0 where
   pub dimension : G → ℕ
   pub is_empty : G → Bool
 
--- the name of a column of a table, as the schema spells it (profile)
-abbrev pub column_name : {T : Type 0} → List (TableDef T) → ℕ → ℕ → List ℕ
-column_name tables table column = slice_index_or (slice_index_or (map (λ d. map (λ c. c.name) d.columns) tables) table []) column []
+-- the name of a column as the schema spells it (profile)
+abbrev pub name_of : {T : Type 0} → Option (ColumnDef T) → List ℕ
+name_of (Some c) = c.name
+name_of None = []
 
--- what stands before a column's name: for two tables the reference's name and a point (profile)
-abbrev pub qualifier : List Reference → ℕ → List ℕ
-qualifier references place =
-    cond (length references == 1) [] (slice_index_or (map (λ r. r.name) references) place [] ++ codes ".")
+-- the name of a column of a table (profile)
+abbrev pub column_name : {T : Type 0} → List (TableDef T) → ℕ → ℕ → List ℕ
+column_name tables table column = name_of (slice_get (table_columns (slice_get tables table)) column)
+
+-- the header of a column of a reference: its name, for two tables after the reference's name and a point (profile)
+abbrev pub reference_header : {T : Type 0} → List (TableDef T) → Bool → Option Reference → ℕ → List ℕ
+reference_header tables alone (Some r) column = cond alone [] (r.name ++ codes ".") ++ column_name tables r.table column
+reference_header tables alone None column = []
 
 -- the header of a column (profile)
 abbrev pub column_header : {T : Type 0} → List (TableDef T) → List Reference → ColumnPlace → List ℕ
 column_header tables references place =
-    qualifier references place.reference ++ column_name tables (slice_index_or (map (λ r. r.table) references) place.reference 0) place.column
+    reference_header tables (length references == 1) (slice_get references place.reference) place.column
 
 -- the header of an item: a function's is its name, and its column's header in parentheses (profile)
 abbrev pub item_header : {T G C : Type 0} → Writing G C → List (TableDef T) → List Reference → Item C → List ℕ

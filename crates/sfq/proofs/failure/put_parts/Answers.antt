@@ -13,7 +13,7 @@ returns-in_err-put_all-clause-front g c =
 pub loop-part-preserved : goal.loop-part-preserved
 loop-part-preserved g c = record {
   put =
-    let within : c.loop-part.part-index < length c.args.parts.now = omega arith in
-    parts-put (λ p. p.now) c.args.parts.now c.loop-part.part-index _ _ (g.S.Sink.taken c.loop-part.sink) _ within c.loop-part.invariant.put c.in_ok-put_all.ensures.ok;
+      let within : c.loop-part.part-index < length c.args.parts.now = omega arith in
+      parts-put (λ p. p.now) c.args.parts.now c.loop-part.part-index _ _ (g.S.Sink.taken c.loop-part.sink) _ within c.loop-part.invariant.put c.in_ok-put_all.ensures.ok;
   same = c.in_ok-put_all.ensures.failures ∙ c.loop-part.invariant.same;
 }

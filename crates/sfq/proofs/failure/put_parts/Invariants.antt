@@ -7,5 +7,5 @@ use Rattle.sfq.proofs.failure.put_parts.Given as goal
 abbrev pub invariant-loop-part : goal.invariant-loop-part
 invariant-loop-part g l = record {
   put : Appends (g.S.Sink.taken l.initial.sink) (g.S.Sink.taken l.sink) (concat (map (λ p. p.now) (take l.part-index l.parts)));
-  same : g.S.Sink.failures l.sink ≡ g.S.Sink.failures l.initial.sink
+  same : g.S.Sink.failures l.sink ≡ g.S.Sink.failures l.initial.sink;
 }

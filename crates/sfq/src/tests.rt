@@ -1,0 +1,330 @@
+//! Commands over memory: what they print, and their status.
+
+use crate::failure::{Failure, fault_line, status};
+use crate::serve::serve;
+use command_line::Order;
+use std::alloc::{AllocError, Global};
+use std::test::Fail;
+use table_model::faults::LoadFault;
+use wkt::MemorySink;
+use wkt::devices::{StopReader, StopSink};
+
+const SCHEMA: &str = "CREATE TABLE t (id INTEGER PRIMARY KEY, pop INTEGER, name TEXT);";
+
+const TABLE: &str = "id,pop,name\n1,8,a\n2,9,b\n3,,c\n4,7,\n";
+
+const QUERY: &str = "SELECT id, name FROM t WHERE pop > 5 AND NOT name = 'b'";
+
+// The order to run a query over the schema `s` and the directory `d`.
+fn run_order(alloc: Global, query: &str) -> Result<Order, AllocError> {
+    Ok(Order::Run {
+        schema: String::from_str(alloc, "s")?,
+        directory: String::from_str(alloc, "d")?,
+        query: String::from_str(alloc, query)?,
+    })
+}
+
+// What a run prints on standard output and on standard error, and its status.
+struct Printed {
+    out: MemorySink,
+    err: MemorySink,
+    status: u8,
+}
+
+// Runs a query over a schema and a table t.
+fn printed(rt: &HostRuntime, schema: &[u8], table: &[u8], query: &str) -> Result<Printed, Fail> {
+    let alloc = rt.alloc();
+    let order = run_order(alloc, query)?;
+    let mut out = MemorySink::new(alloc);
+    let mut err = MemorySink::new(alloc);
+    let opener = |path: &str| match path {
+        "s" => Some(schema),
+        "d/t.csv" => Some(table),
+        _ => None,
+    };
+    let status = serve(alloc, &order, opener, &mut out, &mut err);
+    Ok(Printed { out, err, status })
+}
+
+// A query whose condition stands in this many parentheses.
+fn nested(alloc: Global, levels: usize) -> Result<String, AllocError> {
+    let mut query = String::from_str(alloc, "SELECT id FROM t WHERE ")?;
+    for _ in 0..levels {
+        query.push_str("(")?;
+    }
+    query.push_str("id = 1")?;
+    for _ in 0..levels {
+        query.push_str(")")?;
+    }
+    Ok(query)
+}
+
+#[test]
+fn queries_are_answered(rt: HostRuntime) -> Result<(), Fail> {
+    let deepest = nested(rt.alloc(), 64)?;
+    for (query, out) in [
+        (QUERY, "id,name\n1,a\n"),
+        (
+            "SELECT id FROM t WHERE pop > 5 OR name = 'c'",
+            "id\n1\n2\n3\n4\n",
+        ),
+        (
+            "select * from T;",
+            "id,pop,name\n1,8,a\n2,9,b\n3,,c\n4,7,\n",
+        ),
+        ("SELECT id FROM t WHERE NOT pop > 7", "id\n4\n"),
+        ("SELECT name FROM t x WHERE x.id >= 3", "name\nc\n\"\"\n"),
+        ("SELECT ID FROM t WHERE pop IS NULL", "id\n3\n"),
+        (deepest.as_str(), "id\n1\n"),
+    ] {
+        let run = printed(&rt, SCHEMA.as_bytes(), TABLE.as_bytes(), query)?;
+        assert_eq!(rt; run.out.bytes(), out.as_bytes(), "of {query}");
+        assert_eq!(rt; run.err.bytes(), b"".as_slice());
+        assert_eq!(rt; run.status, 0);
+    }
+    Ok(())
+}
+
+#[test]
+fn tables_are_printed_by_key(rt: HostRuntime) -> Result<(), Fail> {
+    for (table, out) in [
+        ("id,pop,name\n", "name\n"),
+        ("id,pop,name\n2,,a\n1,,a\n", "name\na\na\n"),
+        (
+            "pop,name,x,id\n7,\"a,\"\"b\",,-1\n7,c,,-2\n",
+            "name\nc\n\"a,\"\"b\"\n",
+        ),
+    ] {
+        let run = printed(
+            &rt,
+            SCHEMA.as_bytes(),
+            table.as_bytes(),
+            "SELECT name FROM t",
+        )?;
+        assert_eq!(rt; run.out.bytes(), out.as_bytes(), "of {table}");
+        assert_eq!(rt; run.status, 0);
+    }
+    Ok(())
+}
+
+#[test]
+fn faults_have_lines(rt: HostRuntime) -> Result<(), Fail> {
+    let too_deep = nested(rt.alloc(), 65)?;
+    for (schema, table, query, line, status) in [
+        (
+            "CREATE TABLE t (id INTEGER PRIMARY KEY",
+            TABLE,
+            QUERY,
+            "sfq: S1 at 38\n",
+            3,
+        ),
+        (
+            "CREATE TABLE t (id INTEGER PRIMARY KEY, ID TEXT)",
+            TABLE,
+            QUERY,
+            "sfq: S2 at 40\n",
+            3,
+        ),
+        (
+            "CREATE TABLE t (id INTEGER)",
+            TABLE,
+            QUERY,
+            "sfq: S3 at 26\n",
+            3,
+        ),
+        (
+            "CREATE TABLE t (id INT PRIMARY KEY, n INT PRIMARY KEY)",
+            TABLE,
+            QUERY,
+            "sfq: S4 at 42\n",
+            3,
+        ),
+        (SCHEMA, "id,pop\n", QUERY, "sfq: t L1\n", 4),
+        (SCHEMA, "id,pop,name,POP\n", QUERY, "sfq: t L2\n", 4),
+        (
+            SCHEMA,
+            "id,pop,name\n1,2,\n2\n",
+            QUERY,
+            "sfq: t L3 record 2\n",
+            4,
+        ),
+        (
+            SCHEMA,
+            "id,pop,name\n1,x,\n",
+            QUERY,
+            "sfq: t L5 record 1\n",
+            4,
+        ),
+        (
+            SCHEMA,
+            "id,pop,name\n1,2,\n,3,\n",
+            QUERY,
+            "sfq: t L8 record 2\n",
+            4,
+        ),
+        (
+            SCHEMA,
+            "id,pop,name\n1,,\n2,,\n1,,\n",
+            QUERY,
+            "sfq: t L9 record 3\n",
+            4,
+        ),
+        (
+            SCHEMA,
+            TABLE,
+            "SELECT id FROM t WHERE name = 'x",
+            "sfq: Q1 at 30\n",
+            5,
+        ),
+        (
+            SCHEMA,
+            TABLE,
+            "SELECT id FROM t WHERE",
+            "sfq: Q2 at 22\n",
+            5,
+        ),
+        (
+            SCHEMA,
+            TABLE,
+            "EXPLAIN SELECT id FROM t",
+            "sfq: Q2 at 0\n",
+            5,
+        ),
+        (SCHEMA, TABLE, "SELECT id FROM u", "sfq: Q3 at 15\n", 5),
+        (SCHEMA, TABLE, "SELECT nope FROM t", "sfq: Q5 at 7\n", 5),
+        (SCHEMA, TABLE, "SELECT t.id FROM t x", "sfq: Q5 at 7\n", 5),
+        (
+            SCHEMA,
+            TABLE,
+            "SELECT id FROM t WHERE pop = 'x'",
+            "sfq: Q7 at 23\n",
+            5,
+        ),
+        (SCHEMA, TABLE, too_deep.as_str(), "sfq: Q10 at 87\n", 5),
+        (
+            SCHEMA,
+            TABLE,
+            "SELECT id FROM t WHERE pop = 9223372036854775808",
+            "sfq: Q12 at 29\n",
+            5,
+        ),
+        (
+            "CREATE TABLE u (id INT PRIMARY KEY)",
+            TABLE,
+            QUERY,
+            "sfq: u unreadable\n",
+            6,
+        ),
+        (
+            SCHEMA,
+            "id,pop,name\n1,x,\n",
+            "SELECT id FROM",
+            "sfq: Q2 at 14\n",
+            5,
+        ),
+        (
+            SCHEMA,
+            "id,pop,name\n1,x,\n",
+            "SELECT id FROM u",
+            "sfq: t L5 record 1\n",
+            4,
+        ),
+    ] {
+        let run = printed(&rt, schema.as_bytes(), table.as_bytes(), query)?;
+        assert_eq!(rt; run.err.bytes(), line.as_bytes());
+        assert_eq!(rt; run.out.bytes(), b"".as_slice());
+        assert_eq!(rt; run.status, status);
+    }
+    Ok(())
+}
+
+#[test]
+fn a_text_that_is_no_utf8_is_refused(rt: HostRuntime) -> Result<(), Fail> {
+    let run = printed(&rt, SCHEMA.as_bytes(), b"id,pop,name\n1,2,\xff\n", QUERY)?;
+    assert_eq!(rt; run.err.bytes(), b"sfq: t L4 record 1\n".as_slice());
+    assert_eq!(rt; run.status, 4);
+    Ok(())
+}
+
+#[test]
+fn texts_past_65536_bytes_are_refused(rt: HostRuntime) -> Result<(), Fail> {
+    let mut long = String::from_str(rt.alloc(), SCHEMA)?;
+    for _ in SCHEMA.len()..65_536 {
+        long.push_str(" ")?;
+    }
+    let run = printed(&rt, long.as_bytes(), TABLE.as_bytes(), QUERY)?;
+    assert_eq!(rt; run.status, 0);
+    long.push_str(" ")?;
+    let run = printed(&rt, long.as_bytes(), TABLE.as_bytes(), QUERY)?;
+    assert_eq!(rt; run.err.bytes(), b"sfq: S6\n".as_slice());
+    assert_eq!(rt; run.status, 3);
+    let run = printed(&rt, SCHEMA.as_bytes(), TABLE.as_bytes(), long.as_str())?;
+    assert_eq!(rt; run.err.bytes(), b"sfq: Q11\n".as_slice());
+    assert_eq!(rt; run.status, 5);
+    Ok(())
+}
+
+// The status and the line of a run whose schema and table are read by readers that may fail.
+fn read_by<'a>(
+    rt: &HostRuntime,
+    schema: Option<StopReader<'a>>,
+    table: StopReader<'a>,
+    out: &mut StopSink,
+    err: &mut MemorySink,
+) -> Result<u8, Fail> {
+    let order = run_order(rt.alloc(), QUERY)?;
+    let opener = |path: &str| if path == "s" { schema } else { Some(table) };
+    Ok(serve(rt.alloc(), &order, opener, out, err))
+}
+
+#[test]
+fn reading_and_writing_may_fail(rt: HostRuntime) -> Result<(), Fail> {
+    let schema = SCHEMA.as_bytes();
+    let table = TABLE.as_bytes();
+    for (opened, schema_read, table_read, failing_put, out_text, line) in [
+        (false, 0, 0, 0, "", "sfq: schema unreadable\n"),
+        (true, 1, 0, 0, "", "sfq: schema unreadable\n"),
+        (true, 0, 1, 0, "", "sfq: t L11\n"),
+        (true, 0, 2, 0, "", "sfq: t L11\n"),
+        (true, 0, 0, 1, "", "sfq: write failed\n"),
+        (true, 0, 0, 2, "id,", "sfq: write failed\n"),
+        (true, 0, 0, 4, "id,name\n", "sfq: write failed\n"),
+    ] {
+        let file = if opened {
+            Some(StopReader::new(schema, schema_read))
+        } else {
+            None
+        };
+        let mut out = StopSink::new(rt.alloc(), failing_put, 3);
+        let mut err = MemorySink::new(rt.alloc());
+        let status = read_by(
+            &rt,
+            file,
+            StopReader::new(table, table_read),
+            &mut out,
+            &mut err,
+        )?;
+        assert_eq!(rt; err.bytes(), line.as_bytes());
+        assert_eq!(rt; out.bytes(), out_text.as_bytes());
+        assert_eq!(rt; status, 6);
+    }
+    Ok(())
+}
+
+#[test]
+fn lines_are_put(rt: HostRuntime) {
+    for (failure, line, wanted) in [
+        (
+            Failure::Load("t", LoadFault::TooManyRows),
+            "sfq: t L10\n",
+            4,
+        ),
+        (Failure::OutOfMemory, "sfq: out of memory\n", 7),
+        (Failure::WriteFailed, "sfq: write failed\n", 6),
+    ] {
+        let mut sink = MemorySink::new(rt.alloc());
+        assert_eq!(rt; fault_line(&failure, &mut sink), Ok(()));
+        assert_eq!(rt; sink.bytes(), line.as_bytes());
+        assert_eq!(rt; status(&failure), wanted);
+    }
+}
