@@ -1,0 +1,2 @@
+pub mod SharedPoints
+pub mod OtherPoints

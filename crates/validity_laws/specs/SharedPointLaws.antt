@@ -1,0 +1,18 @@
+-- Laws of the points that two edges share.
+use Rattle.std.specs.Prelude.{◌≡◌, ◌↔◌, true, ◌⊎◌}
+use Rattle.geometry_model.specs.Points.{Position}
+use Rattle.geometry_model.specs.Geometries.{Edge}
+use Rattle.geometry_model.specs.Validity.{SharePoint, ShareOther}
+use Rattle.geometry_model.specs.FirstFaults.{share_point, share_other}
+
+-- the test of two edges says whether some rational point is on both (profile)
+abbrev pub SharedPointIsDecided : Type 0
+SharedPointIsDecided = (e f : Edge) → (share_point e f ≡ true) ↔ SharePoint e f
+
+-- the position is an end of the edge
+abbrev pub IsEnd : Position → Edge → Type 0
+IsEnd p e = (e.start ≡ p) ⊎ (e.end ≡ p)
+
+-- of two edges with a common end the other test says whether some other rational point is on both (profile)
+abbrev pub OtherPointIsDecided : Type 0
+OtherPointIsDecided = (common : Position) (e f : Edge) → IsEnd common e → IsEnd common f → (share_other common e f ≡ true) ↔ ShareOther common e f
