@@ -21,3 +21,6 @@ pub mod LineOrder
 pub mod Cuts
 pub mod WithinPiece
 pub mod PieceTheorems
+pub mod SideTriangles
+pub mod First
+pub mod Avoid
