@@ -10,7 +10,8 @@ use Rattle.integers.proofs.Signs.{strict_plus_plus}
 use Rattle.geometry_laws.specs.RingLaws.{Misses}
 use Rattle.geometry_laws.proofs.Each.{Each, each_map}
 use Rattle.geometry_laws.proofs.Eventually.{Eventually, both, weaker, each_eventually, grows, from_one}
-use Rattle.geometry_laws.proofs.Lines.{Line, value, value_weighted, value_weighted_three, Parts, Parted, parted, off_beyond, sum_positive_three, weighted_three_is_point}
+use Rattle.geometry_laws.specs.CoverLaws.{Line, value}
+use Rattle.geometry_laws.proofs.Lines.{value_weighted, value_weighted_three, Parts, Parted, parted, off_beyond, sum_positive_three, weighted_three_is_point}
 
 -- one step to the right, one step up
 pub east : Point

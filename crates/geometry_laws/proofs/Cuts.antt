@@ -42,7 +42,7 @@ contains_of_among x (y ∷ ys) (inr a) = let c : Contains ys x = contains_of_amo
 pub turn_less : (p q : Point) → compare p q ≡ Greater → compare q p ≡ Less
 turn_less p q e = compare_reversed p q ∙ ap reversed e
 
-not_less_self : (p q : Point) → same_point p q ≡ true → compare p q ≡ Less → ⊥
+pub not_less_self : (p q : Point) → same_point p q ≡ true → compare p q ≡ Less → ⊥
 not_less_self p q e f = let g : Equal ≡ Less = sym ((equal_is_same p q).1 e) ∙ f in absurd (cc)
 
 -- its edge has two different ends
@@ -129,9 +129,6 @@ less_by_same_last u v x hu hv e f = compare_reversed u x ∙ ap reversed (compar
 pub apart : (es : List Edge) (ps : List Position) (c : Piece) (h : IsPiece es ps c) → Ends c → (u : Point) → IsPoint u → side h.edge.start h.edge.end u ≡ pos 0 → IsCut es ps u → (x y : Point) → Inside es ps c h x → Inside es ps c h y → Apart u x y
 apart es ps c h d u hu s k x y i j = go (compare u c.lesser) refl (compare u c.greater) refl
   where
-    e : Edge
-    e = h.edge
-
     line_of : (p : Point) → on h.edge p ≡ true → side h.edge.start h.edge.end p ≡ pos 0
     line_of p f = (on_parts h.edge p f).on_line
 
@@ -146,7 +143,7 @@ apart es ps c h d u hu s k x y i j = go (compare u c.lesser) refl (compare u c.g
     go Greater f Equal g = inr (less_by_same_last u c.greater x hu d.greater g i.before, less_by_same_last u c.greater y hu d.greater g j.before)
     go Greater f Greater g = inr (less_transitive x c.greater u i.is_point d.greater hu i.before (turn_less u c.greater g), less_transitive y c.greater u j.is_point d.greater hu j.before (turn_less u c.greater g))
 
-same_end : (a : Position) → same_point (point_at a) (point_at a) ≡ true
+pub same_end : (a : Position) → same_point (point_at a) (point_at a) ≡ true
 same_end a = same_from (point_at a) (point_at a) refl refl
 
 pub or_first : (s t : Bool) → s ≡ true → s || t ≡ true
@@ -199,13 +196,13 @@ weighs g x hx o = go (natural o.m o.from_m) (natural o.n o.from_n)
       same = same_from (weighted a.n (point_at g.start) b.n (point_at g.end)) x (coordinate a.n b.n a.is b.is g.start.x g.end.x x.X o.x_is) (coordinate a.n b.n a.is b.is g.start.y g.end.y x.Y o.y_is);
     }
 
-not_after_both : (g : Edge) (x : Point) → IsPoint x → compare (point_at g.start) x ≡ Less → compare (point_at g.end) x ≡ Less → on g x ≡ false
+pub not_after_both : (g : Edge) (x : Point) → IsPoint x → compare (point_at g.start) x ≡ Less → compare (point_at g.end) x ≡ Less → on g x ≡ false
 not_after_both g x hx e f = by_contraries (on g x) false (λ k. absurd (go (weighs g x hx (hull_from_on g x hx k)))) refl
   where
     go : Weighs g x → ⊥
     go w = not_less_self (weighted w.m (point_at g.start) w.n (point_at g.end)) x w.same (before_sum x w.m (point_at g.start) w.n (point_at g.end) w.some e f)
 
-not_before_both : (g : Edge) (x : Point) → IsPoint x → compare x (point_at g.start) ≡ Less → compare x (point_at g.end) ≡ Less → on g x ≡ false
+pub not_before_both : (g : Edge) (x : Point) → IsPoint x → compare x (point_at g.start) ≡ Less → compare x (point_at g.end) ≡ Less → on g x ≡ false
 not_before_both g x hx e f = by_contraries (on g x) false (λ k. absurd (go (weighs g x hx (hull_from_on g x hx k)))) refl
   where
     go : Weighs g x → ⊥

@@ -1,5 +1,5 @@
 -- The first edge above a point, and what is at or above the point of it there: just what is strictly above the point.
-use Rattle.std.proofs.Common.{ℕ, ◌+◌, ◌<◌, ℤ, pos, ◌+ℤ◌, ◌-ℤ◌, ◌*ℤ◌, ◌≤ℤ◌, ◌<ℤ◌, int_lt, int_le, ◌≡◌, ◌⊎◌, inl, inr, Bool, true, false, ◌&&◌, if◌then◌else◌, refl, sym, ap, ap₂, subst, ◌∙◌, List, [], ◌∷◌, arith}
+use Rattle.std.proofs.Common.{ℤ, pos, ◌+ℤ◌, ◌-ℤ◌, ◌*ℤ◌, ◌≤ℤ◌, ◌<ℤ◌, int_lt, int_le, ◌≡◌, ◌⊎◌, inl, inr, Bool, true, false, ◌&&◌, if◌then◌else◌, refl, sym, ap, ap₂, subst, ◌∙◌, List, [], ◌∷◌, arith}
 use borrow.Author.Differences.{ints}
 use Rattle.std.specs.Ordering.{int_eq}
 use Rattle.geometry_model.specs.Points.{Position, Point, IsPoint}
@@ -14,7 +14,7 @@ use Rattle.geometry_laws.proofs.LineSides.{side'}
 use Rattle.geometry_laws.proofs.Each.{Each, Among}
 use Rattle.geometry_laws.proofs.Scaling.{and_parts, and_from}
 use Rattle.geometry_laws.proofs.Nudge.{breadth, breadth_positive}
-use Rattle.geometry_laws.proofs.WithinPiece.{touches, on_from_touch}
+use Rattle.geometry_laws.proofs.WithinPiece.{on_from_touch}
 
 -- how far the edge is above the point, times the breadth of the edge
 abbrev pub height : Edge → Point → ℤ
@@ -41,33 +41,40 @@ first (e ∷ es) x hx = go (strictly_above e x) refl (first es x hx)
   where
     same : (z : ℤ) → z ≤ℤ z
     same z = omega (arith, ints)
+
     weak : (s t : ℤ) → s <ℤ t → s ≤ℤ t
     weak s t h = omega (arith, ints)
+
     none_in : (fs : List Edge) → Each (λ f. strictly_above f x ≡ false) fs → (g : Edge) → Among g fs → strictly_above g x ≡ true → ⊥
     none_in [] h g m k = m
     none_in (f ∷ fs) h g (inl q) k = absurd (let z : false ≡ true = sym h.0 ∙ ap (λ (d : Edge). strictly_above d x) (sym q) ∙ k in cc)
     none_in (f ∷ fs) h g (inr m) k = none_in fs h.1 g m k
+
     alone : strictly_above e x ≡ true → Each (λ f. strictly_above f x ≡ false) es → First (e ∷ es) x
     alone f h = record { edge = e; among = inl refl; is_above = f; least = λ g m k. pick g m k }
       where
         pick : (g : Edge) → Among g (e ∷ es) → strictly_above g x ≡ true → (height e x *ℤ breadth g) ≤ℤ (height g x *ℤ breadth e)
         pick g (inl q) k = subst (λ (d : Edge). (height e x *ℤ breadth d) ≤ℤ (height d x *ℤ breadth e)) (sym q) (same (height e x *ℤ breadth e))
         pick g (inr m) k = absurd (none_in es h g m k)
+
     keep : (r : First es x) → (strictly_above e x ≡ true → (height r.edge x *ℤ breadth e) ≤ℤ (height e x *ℤ breadth r.edge)) → First (e ∷ es) x
     keep r f = record { edge = r.edge; among = inr r.among; is_above = r.is_above; least = λ g m k. pick g m k }
       where
         pick : (g : Edge) → Among g (e ∷ es) → strictly_above g x ≡ true → (height r.edge x *ℤ breadth g) ≤ℤ (height g x *ℤ breadth r.edge)
         pick g (inl q) k = subst (λ (d : Edge). (height r.edge x *ℤ breadth d) ≤ℤ (height d x *ℤ breadth r.edge)) (sym q) (f (ap (λ (d : Edge). strictly_above d x) (sym q) ∙ k))
         pick g (inr m) k = r.least g m k
+
     take : (r : First es x) → strictly_above e x ≡ true → (height e x *ℤ breadth r.edge) ≤ℤ (height r.edge x *ℤ breadth e) → First (e ∷ es) x
     take r f l = record { edge = e; among = inl refl; is_above = f; least = λ g m k. pick g m k }
       where
         pick : (g : Edge) → Among g (e ∷ es) → strictly_above g x ≡ true → (height e x *ℤ breadth g) ≤ℤ (height g x *ℤ breadth e)
         pick g (inl q) k = subst (λ (d : Edge). (height e x *ℤ breadth d) ≤ℤ (height d x *ℤ breadth e)) (sym q) (same (height e x *ℤ breadth e))
         pick g (inr m) k = trans_at_most (height e x) (breadth e) (height r.edge x) (breadth r.edge) (height g x) (breadth g) (wide e x hx f) (wide r.edge x hx r.is_above) (wide g x hx k) l (r.least g m k)
+
     choose : (r : First es x) → strictly_above e x ≡ true → ((height e x *ℤ breadth r.edge) ≤ℤ (height r.edge x *ℤ breadth e)) ⊎ ((height r.edge x *ℤ breadth e) <ℤ (height e x *ℤ breadth r.edge)) → First (e ∷ es) x
     choose r f (inl l) = take r f l
     choose r f (inr l) = keep r (λ k. weak (height r.edge x *ℤ breadth e) (height e x *ℤ breadth r.edge) l)
+
     go : (t : Bool) → strictly_above e x ≡ t → Each (λ f. strictly_above f x ≡ false) es ⊎ First es x → Each (λ f. strictly_above f x ≡ false) (e ∷ es) ⊎ First (e ∷ es) x
     go true f (inl h) = inr (alone f h)
     go false f (inl h) = inl (f, h)
@@ -75,7 +82,7 @@ first (e ∷ es) x hx = go (strictly_above e x) refl (first es x hx)
     go false f (inr r) = inr (keep r (λ k. absurd (let z : false ≡ true = sym f ∙ k in cc)))
 
 -- ---- the point of an edge straight above x
-pub over_point : Edge → Point → Point
+unfoldable pub over_point : Edge → Point → Point
 over_point f x = record { X = breadth f *ℤ x.X; Y = breadth f *ℤ x.Y +ℤ height f x; W = breadth f *ℤ x.W }
 
 pub over_is_point : (f : Edge) (x : Point) → IsPoint x → strictly_above f x ≡ true → IsPoint (over_point f x)
@@ -88,8 +95,8 @@ raised x d h = record { X = d *ℤ x.X; Y = d *ℤ x.Y +ℤ h; W = d *ℤ x.W }
 side_raised : (a b : Position) (d h : ℤ) (x : Point) → side a b (raised x d h) ≡ d *ℤ side a b x +ℤ h *ℤ (b.x -ℤ a.x)
 unfolding raised
 side_raised a b d h x = solve (a.x ∷ a.y ∷ b.x ∷ b.y ∷ x.X ∷ x.Y ∷ x.W ∷ d ∷ h ∷ [])
-  ((var 2 ⊖ var 0) ⊗ ((var 7 ⊗ var 5 ⊕ var 8) ⊖ var 1 ⊗ (var 7 ⊗ var 6)) ⊖ (var 3 ⊖ var 1) ⊗ (var 7 ⊗ var 4 ⊖ var 0 ⊗ (var 7 ⊗ var 6)))
-  (var 7 ⊗ side' ⊕ var 8 ⊗ (var 2 ⊖ var 0)) tt
+    ((var 2 ⊖ var 0) ⊗ ((var 7 ⊗ var 5 ⊕ var 8) ⊖ var 1 ⊗ (var 7 ⊗ var 6)) ⊖ (var 3 ⊖ var 1) ⊗ (var 7 ⊗ var 4 ⊖ var 0 ⊗ (var 7 ⊗ var 6)))
+    (var 7 ⊗ side' ⊕ var 8 ⊗ (var 2 ⊖ var 0)) tt
 
 rightward_raised : (g : Edge) (d h : ℤ) (x : Point) → side_rightward g (raised x d h) ≡ d *ℤ side_rightward g x +ℤ h *ℤ breadth g
 rightward_raised g d h x = go (int_le g.start.x g.end.x)
@@ -112,8 +119,8 @@ over_is_raised f x = refl
 -- the edge goes through it
 pub over_on : (f : Edge) (x : Point) → IsPoint x → strictly_above f x ≡ true → on f (over_point f x) ≡ true
 over_on f x hx h = on_from_touch f (over_point f x) (over_is_point f x hx h) (and_from (spans f (over_point f x)) (int_eq (side_rightward f (over_point f x)) (pos 0))
-  (ap (spans f) (over_is_raised f x) ∙ spans_raised f (breadth f) (height f x) x (wide f x hx h) ∙ (and_parts (spans f x) (int_lt (side_rightward f x) (pos 0)) h).0)
-  (equal_yes (side_rightward f (over_point f x)) (pos 0) (ap (side_rightward f) (over_is_raised f x) ∙ rightward_raised f (breadth f) (height f x) x ∙ cancels (breadth f) (side_rightward f x))))
+    (ap (spans f) (over_is_raised f x) ∙ spans_raised f (breadth f) (height f x) x (wide f x hx h) ∙ (and_parts (spans f x) (int_lt (side_rightward f x) (pos 0)) h).0)
+    (equal_yes (side_rightward f (over_point f x)) (pos 0) (ap (side_rightward f) (over_is_raised f x) ∙ rightward_raised f (breadth f) (height f x) x ∙ cancels (breadth f) (side_rightward f x))))
   where
     cancels : (d s : ℤ) → d *ℤ s +ℤ (pos 0 -ℤ s) *ℤ d ≡ pos 0
     cancels d s = solve (d ∷ s ∷ []) (var 0 ⊗ var 1 ⊕ (lit (pos 0) ⊖ var 1) ⊗ var 0) (lit (pos 0)) tt
@@ -124,10 +131,13 @@ number d s h k hd hh hk f = go (at_most_or_less (pos 0) s)
   where
     weak : (z : ℤ) → pos 0 <ℤ z → pos 0 ≤ℤ z
     weak z l = omega (arith, ints)
+
     sum : (y z : ℤ) → pos 0 ≤ℤ y → pos 0 <ℤ z → pos 0 <ℤ (y +ℤ z)
     sum y z l m = omega (arith, ints)
+
     under : (y z t : ℤ) → t ≡ pos 0 -ℤ y → z ≤ℤ t → (y +ℤ z) ≤ℤ pos 0
     under y z t e l = omega (arith, ints)
+
     go : (pos 0 ≤ℤ s) ⊎ (s <ℤ pos 0) → int_le (d *ℤ s +ℤ h *ℤ k) (pos 0) ≡ int_lt s (pos 0)
     go (inl l) = at_most_no (d *ℤ s +ℤ h *ℤ k) (pos 0) (sum (d *ℤ s) (h *ℤ k) (plus_plus d s (weak d hd) l) (strict_plus_plus h k hh hk)) ∙ sym (less_no s (pos 0) l)
     go (inr l) = at_most_yes (d *ℤ s +ℤ h *ℤ k) (pos 0) (under (d *ℤ s) (h *ℤ k) ((pos 0 -ℤ s) *ℤ d) (solve (d ∷ s ∷ []) ((lit (pos 0) ⊖ var 1) ⊗ var 0) (lit (pos 0) ⊖ var 0 ⊗ var 1) tt) (f l)) ∙ sym (less_yes s (pos 0) l)
@@ -135,13 +145,12 @@ number d s h k hd hh hk f = go (at_most_or_less (pos 0) s)
 pub label_of_first : (es : List Edge) (x : Point) → IsPoint x → (r : First es x) (g : Edge) → Among g es → at_or_above g (over_point r.edge x) ≡ strictly_above g x
 label_of_first es x hx r g m = go (spans g x) refl
   where
-    d : pos 0 <ℤ breadth r.edge
-    d = wide r.edge x hx r.is_above
     spans_same : spans g (over_point r.edge x) ≡ spans g x
     spans_same = ap (spans g) (over_is_raised r.edge x) ∙ spans_raised g (breadth r.edge) (height r.edge x) x (wide r.edge x hx r.is_above)
+
     go : (t : Bool) → spans g x ≡ t → at_or_above g (over_point r.edge x) ≡ strictly_above g x
     go false e = ap (λ (b : Bool). b && int_le (side_rightward g (over_point r.edge x)) (pos 0)) (spans_same ∙ e) ∙ ap (λ (b : Bool). b && int_lt (side_rightward g x) (pos 0)) (sym e)
     go true e = ap₂ (λ (s t : Bool). s && t) spans_same
-      (ap (λ (z : ℤ). int_le z (pos 0)) (ap (side_rightward g) (over_is_raised r.edge x) ∙ rightward_raised g (breadth r.edge) (height r.edge x) x)
+        (ap (λ (z : ℤ). int_le z (pos 0)) (ap (side_rightward g) (over_is_raised r.edge x) ∙ rightward_raised g (breadth r.edge) (height r.edge x) x)
         ∙ number (breadth r.edge) (side_rightward g x) (height r.edge x) (breadth g) (wide r.edge x hx r.is_above) (high r.edge x r.is_above) (breadth_positive g x hx e)
-          (λ l. r.least g m (and_from (spans g x) (int_lt (side_rightward g x) (pos 0)) e (less_yes (side_rightward g x) (pos 0) l))))
+        (λ l. r.least g m (and_from (spans g x) (int_lt (side_rightward g x) (pos 0)) e (less_yes (side_rightward g x) (pos 0) l))))

@@ -154,9 +154,6 @@ single a b x w h e = solve (x ∷ []) (lit (pos 1) ⊗ var 0) (var 0) tt ∙ go 
 pub hull_from_on : (e : Edge) (p : Point) → IsPoint p → on e p ≡ true → OnHull e p
 hull_from_on e p hp h = go (is_or_not (e.end.x -ℤ e.start.x)) (is_or_not (e.end.y -ℤ e.start.y))
   where
-    o : OnParts e p
-    o = on_parts e p h
-
     rejoined : (x y : ℤ) → x ≡ (x -ℤ y) +ℤ y
     rejoined x y = omega (arith, ints)
 

@@ -24,3 +24,4 @@ pub mod PieceTheorems
 pub mod SideTriangles
 pub mod First
 pub mod Avoid
+pub mod CoverTheorems

@@ -9,16 +9,9 @@ use Rattle.geometry_model.specs.Dimensions.{weighted, weighted_three}
 use Rattle.integers.proofs.Ring.{solve, var, lit, ◌⊕◌, ◌⊖◌, ◌⊗◌}
 use Rattle.integers.proofs.Signs.{plus_plus, plus_minus, strict_plus_plus, at_most_or_less, three_ways}
 use Rattle.integers.proofs.Tests.{not_equal_from}
+use Rattle.geometry_laws.specs.CoverLaws.{Line, value}
 use Rattle.geometry_laws.proofs.LineSides.{side', side_turned}
 use Rattle.geometry_laws.proofs.Hulls.{OnHull, hull_from_on}
-
-pub record Line : Type 0 where
-  pub a : ℤ
-  pub b : ℤ
-  pub c : ℤ
-
-abbrev pub value : Line → Point → ℤ
-value l p = l.a *ℤ p.X +ℤ l.b *ℤ p.Y +ℤ l.c *ℤ p.W
 
 -- ---- at sums
 pub value_weighted : (l : Line) (m : ℕ) (p : Point) (n : ℕ) (q : Point) → value l (weighted m p n q) ≡ pos m *ℤ value l p +ℤ pos n *ℤ value l q
@@ -273,3 +266,7 @@ parted e p h = go (int_eq (side e.start e.end p) (pos 0)) refl (between e.start.
     go true f false g y k z = by_x e p g
     go true f true g false k z = by_y e p k
     go true f true g true k z = absurd (let w : true ≡ false = z in cc)
+
+pub line_side_slope : (a b : Position) → (line_side a b).b ≡ b.x -ℤ a.x
+unfolding line_side
+line_side_slope a b = refl

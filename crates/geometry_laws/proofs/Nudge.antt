@@ -12,7 +12,8 @@ use Rattle.integers.proofs.Quotients.{at_most_scaled}
 use Rattle.geometry_laws.proofs.LineSides.{side'}
 use Rattle.geometry_laws.proofs.Hulls.{on_parts}
 use Rattle.geometry_laws.proofs.Eventually.{Eventually, both, weaker, grows, from_one, always}
-use Rattle.geometry_laws.proofs.Lines.{value, value_weighted, Parted, parted, off_beyond}
+use Rattle.geometry_laws.specs.CoverLaws.{value}
+use Rattle.geometry_laws.proofs.Lines.{value_weighted, Parted, parted, off_beyond}
 use Rattle.geometry_laws.proofs.Locating.{by_contraries}
 
 -- the point moved up by d/(n W)
@@ -62,9 +63,6 @@ off_by_line d e p hp f = go (parted e p f)
   where
     carried : (x y z : ℤ) → x ≡ y +ℤ pos 1 *ℤ z → pos 0 <ℤ (y +ℤ z) → pos 0 <ℤ x
     carried x y z e h = omega (arith, ints)
-
-    step : Point
-    step = record { X = pos 0; Y = d; W = pos 0 }
 
     go : Parted e p → Eventually (λ n. on e (lifted d n p) ≡ false)
     go c = weaker (λ n. (0 < n) × (pos 0 <ℤ (pos n *ℤ value c.line p +ℤ value c.line (record { X = pos 0; Y = d; W = pos 0 })))) (λ n. on e (lifted d n p) ≡ false)

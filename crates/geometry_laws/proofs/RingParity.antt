@@ -100,9 +100,6 @@ misses_no_meeting p q e f c = go (natural c.m c.from_m) (natural c.n c.from_n)
     ones : (x s t : ℤ) → x ≡ s *ℤ pos 1 +ℤ t *ℤ pos 1 → pos 1 *ℤ x ≡ s +ℤ t
     ones x s t e = omega (arith, ints)
 
-    carried : (m n : ℕ) → c.m ≡ pos m → c.n ≡ pos n → (s t : ℤ) → pos m *ℤ s +ℤ pos n *ℤ t ≡ c.m *ℤ s +ℤ c.n *ℤ t
-    carried m n e f s t = ap₂ (λ (x y : ℤ). x *ℤ s +ℤ y *ℤ t) (sym e) (sym f)
-
     hull : (m n : ℕ) → c.m ≡ pos m → c.n ≡ pos n → OnHull e (weighted m p n q)
     hull m n g h = record {
       k = pos 1;

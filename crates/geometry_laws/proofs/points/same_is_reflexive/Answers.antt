@@ -1,6 +1,3 @@
-use Rattle.geometry_laws.proofs.SideTriangles.{upper_triangle}
-use Rattle.geometry_laws.proofs.First.{label_of_first}
-use Rattle.geometry_laws.proofs.Avoid.{avoid_points}
 use Rattle.geometry_laws.proofs.PointOrder.{same_reflexive}
 use Rattle.geometry_laws.proofs.points.same_is_reflexive.Goals as goal
 

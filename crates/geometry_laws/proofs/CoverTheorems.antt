@@ -1,0 +1,79 @@
+-- What finitely many points and lines leave free, the first edge above a point, and the triangles beside it.
+use Rattle.std.proofs.Common.{ℕ, ◌+◌, ◌*◌, ◌<◌, ◌≡◌, ◌≢◌, ◌⊎◌, inl, inr, true, false, ℤ, pos, ◌*ℤ◌, sym, ◌∙◌, List, [], ◌∷◌, ◌++◌, All, arith}
+use Rattle.std.proofs.lemmas.List.Elements.{All-nil, All-cons}
+use Rattle.geometry_model.specs.Points.{Position, Point, IsPoint, same_point}
+use Rattle.geometry_model.specs.Geometries.{Edge, Geometry, edges, listed, rings}
+use Rattle.geometry_model.specs.Crossings.{strictly_above, at_or_above}
+use Rattle.geometry_model.specs.Dimensions.{area, weighted, weighted_three, HasTriangle, common}
+use Rattle.geometry_model.specs.Locations.{stands_at}
+use Rattle.geometry_model.specs.Labels.{above, below, edges_of_both}
+use Rattle.integers.proofs.Ring.{solve, var, ◌⊗◌}
+use Rattle.geometry_laws.specs.RingLaws.{IsClosed}
+use Rattle.geometry_laws.specs.PieceLaws.{HasClosedRings}
+use Rattle.geometry_laws.specs.CoverLaws.{Line, value, IsLine, FirstAbove, IsSlantAt}
+use Rattle.geometry_laws.proofs.Each.{Each, each_of, each_append}
+use Rattle.geometry_laws.proofs.RingParity.{each_from_all}
+use Rattle.geometry_laws.proofs.Triangles.{dots, dot_stands, marks}
+use Rattle.geometry_laws.proofs.Nudge.{IsSlant, breadth}
+use Rattle.geometry_laws.proofs.SideTriangles.{lower_triangle, upper_triangle}
+use Rattle.geometry_laws.proofs.First.{First, first, over_point, over_is_point, over_on, label_of_first}
+use Rattle.geometry_laws.proofs.Avoid.{OffLines, avoid_lines, OffPoints, avoid_points}
+
+pub all_from_each : {X : Type 0} (P : X → Type 0) (xs : List X) → Each P xs → All P xs
+all_from_each P [] h = All-nil P
+all_from_each P (x ∷ xs) h = All-cons P x xs h.0 (all_from_each P xs h.1)
+
+pub points_dont_cover : (cs : List Point) (p q : Point) → All IsPoint cs → IsPoint p → IsPoint q → same_point p q ≡ false → (m n : ℕ) × (0 < m + n) × All (λ c. same_point c (weighted m p n q) ≡ false) cs
+points_dont_cover cs p q h hp hq f = go (avoid_points cs p q hp hq f (each_from_all IsPoint cs h))
+  where
+    some : (t : ℕ) → 0 < 1 + t
+    some t = omega arith
+
+    go : OffPoints cs p q → (m n : ℕ) × (0 < m + n) × All (λ c. same_point c (weighted m p n q) ≡ false) cs
+    go o = (1, o.t, some o.t, all_from_each (λ c. same_point c (weighted 1 p o.t q) ≡ false) cs o.off)
+
+pub lines_dont_cover : (ls : List Line) (p q r : Point) → All IsLine ls → area p q r ≢ pos 0 → (k m n : ℕ) × (0 < k + m + n) × All (λ l. value l (weighted_three k p m q n r) ≢ pos 0) ls
+lines_dont_cover ls p q r h f = go (avoid_lines ls p q r f (each_from_all IsLine ls h))
+  where
+    some : (t : ℕ) → 0 < 1 + t + t * t
+    some t = omega arith
+
+    go : OffLines ls p q r → (k m n : ℕ) × (0 < k + m + n) × All (λ l. value l (weighted_three k p m q n r) ≢ pos 0) ls
+    go o = (1, o.t, o.t * o.t, some o.t, all_from_each (λ l. value l (weighted_three 1 p o.t q (o.t * o.t) r) ≢ pos 0) ls o.off)
+
+pub over_straight : (f : Edge) (x : Point) → (over_point f x).X *ℤ x.W ≡ x.X *ℤ (over_point f x).W
+unfolding over_point
+over_straight f x = crosswise (breadth f) x.X x.W
+  where
+    crosswise : (d x w : ℤ) → (d *ℤ x) *ℤ w ≡ x *ℤ (d *ℤ w)
+    crosswise d x w = solve (d ∷ x ∷ w ∷ []) ((var 0 ⊗ var 1) ⊗ var 2) (var 1 ⊗ (var 0 ⊗ var 2)) tt
+
+pub first_is_above : (es : List Edge) (x : Point) → IsPoint x → All (λ e. strictly_above e x ≡ false) es ⊎ FirstAbove es x
+first_is_above es x hx = go (first es x hx)
+  where
+    go : Each (λ e. strictly_above e x ≡ false) es ⊎ First es x → All (λ e. strictly_above e x ≡ false) es ⊎ FirstAbove es x
+    go (inl h) = inl (all_from_each (λ e. strictly_above e x ≡ false) es h)
+    go (inr r) = inr (record {
+      point = over_point r.edge x;
+      edge = r.edge;
+      is_point = over_is_point r.edge x hx r.is_above;
+      straight_above = over_straight r.edge x;
+      is_on = over_on r.edge x hx r.is_above;
+      alike = all_from_each (λ e. at_or_above e (over_point r.edge x) ≡ strictly_above e x) es (each_of (λ e. at_or_above e (over_point r.edge x) ≡ strictly_above e x) es (λ g m. label_of_first es x hx r g m));
+    })
+
+pub slant_dots : (ps : List Position) (p : Point) → IsPoint p → Each (λ a. stands_at p a ≡ false) ps → Each (IsSlant p) (dots ps)
+slant_dots [] p hp h = tt
+slant_dots (a ∷ ps) p hp h = (λ k e. let z : true ≡ false = sym (dot_stands a p hp k) ∙ h.0 in absurd (cc), slant_dots ps p hp h.1)
+
+slant_marks : (a b : Geometry) (s : Point) → IsPoint s → IsSlantAt a s → IsSlantAt b s → Each (IsSlant s) (marks a b)
+slant_marks a b s hs h k = each_append (IsSlant s) (edges_of_both a b) (dots (listed a ++ listed b))
+    (each_append (IsSlant s) (edges a) (edges b) (each_from_all (IsSlant s) (edges a) h.edges) (each_from_all (IsSlant s) (edges b) k.edges))
+    (slant_dots (listed a ++ listed b) s hs (each_append (λ q. stands_at s q ≡ false) (listed a) (listed b) (each_from_all (λ q. stands_at s q ≡ false) (listed a) h.positions) (each_from_all (λ q. stands_at s q ≡ false) (listed b) k.positions)))
+
+pub sides_have_triangles : (a b : Geometry) → HasClosedRings a → HasClosedRings b → (s : Point) → IsPoint s → IsSlantAt a s → IsSlantAt b s
+    → HasTriangle (common a (below a s) b (below b s)) × HasTriangle (common a (above a s) b (above b s))
+sides_have_triangles a b ca cb s hs h k = (
+  lower_triangle a b (each_from_all IsClosed (rings a) ca) (each_from_all IsClosed (rings b) cb) s hs (slant_marks a b s hs h k),
+  upper_triangle a b (each_from_all IsClosed (rings a) ca) (each_from_all IsClosed (rings b) cb) s hs (slant_marks a b s hs h k),
+)

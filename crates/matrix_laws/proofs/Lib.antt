@@ -1,0 +1,4 @@
+pub mod Around
+pub mod Pieces
+pub mod Labelled
+pub mod ClosedRings
