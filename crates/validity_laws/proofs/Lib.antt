@@ -1,2 +1,3 @@
 pub mod SharedPoints
 pub mod OtherPoints
+pub mod FaultFacts

@@ -1,1 +1,2 @@
 pub mod SharedPointLaws
+pub mod FaultLaws

@@ -2,4 +2,5 @@
 //! points. Nothing here runs: each function has an empty body, and its contract is a law.
 #![tactic(auto)]
 
+pub mod faults;
 pub mod shared_points;
