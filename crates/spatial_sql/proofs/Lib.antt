@@ -7,3 +7,4 @@ pub mod TokenSlices
 pub mod QueryLaws
 pub mod Ascii
 pub mod LawfulSchemas
+pub mod QueryComplete

@@ -229,7 +229,7 @@ operand_begins x ts (inr (inl (n, e, p))) = integer_begins n ts p
 operand_begins x ts (inr (inr (inl (text, e, p)))) = one_begins BeginsOperand _ (λ t q. kind_begins t.kind k.Text q.0 (refl, refl)) ts p
 operand_begins x ts (inr (inr (inr (e, p)))) = one_begins BeginsOperand _ (λ t q. kind_begins t.kind k.Null q (refl, refl)) ts p
 
-place_is : (used rest : List Token) → Begins BeginsOperand used → place (used ++ rest) ≡ place used
+pub place_is : (used rest : List Token) → Begins BeginsOperand used → place (used ++ rest) ≡ place used
 unfolding place
 place_is used rest (t, more, e, f) = rw e refl
 

@@ -3,7 +3,7 @@
 ghost use Rattle.std.specs.Prelude.{◌≡◌, IfOk};
 ghost use Rattle.table_model.specs.Outcomes.{Gives};
 ghost use Rattle.table_model.specs.Parsers.{Reads};
-ghost use Rattle.table_model.specs.QueryGrammar.{IsQuery};
+ghost use Rattle.table_model.specs.QueryGrammar.{AnswersQuery, IsQuery};
 ghost use Rattle.table_model.specs.QueryReading as spec;
 
 use crate::Query;
@@ -164,6 +164,7 @@ fn read<'a>(alloc: Global, text: &'a str) -> Result<Query<'a>, QueryFault>
 /// 64 bits don't hold. OutOfMemory may come in the place of any answer.
 pub fn read_query<'a>(alloc: Global, text: &'a str) -> Result<Query<'a>, QueryFault>
     ensures ok { IfOk result (λ q. IsQuery text.now q) }
+    ensures only { AnswersQuery text.now result }
     ensures exact { Gives QueryFault.OutOfMemory (λ q. q) result (spec.query_of text.now) }
 {
     read(alloc, text)

@@ -1,7 +1,9 @@
 -- The grammar of queries: a relation for each rule, between a tree and the tokens that are written for it. SELECT over
 -- one table, after the query expressions of 06-104r4 (profile). Generic in what geometry arguments are.
-use Rattle.std.specs.Prelude.{◌≡◌, ◌≤◌, ◌⊎◌, ℕ, zero, suc, Bool, true, false, ℤ, List, [], ◌∷◌, ◌++◌, length, Option, Some, None}
+use Rattle.std.specs.Prelude.{◌≡◌, ◌≤◌, ◌⊎◌, ℕ, zero, suc, Bool, true, false, ℤ, List, [], ◌∷◌, ◌++◌, length, Option, Some, None, Result, Ok}
 use Rattle.table_model.specs.declared.conditions.Comparison.{Comparison}
+use Rattle.table_model.specs.declared.faults.QueryFault.{QueryFault}
+use Rattle.table_model.specs.declared.faults.QueryFault.TheVariants as fault
 use Rattle.table_model.specs.declared.queries.Explain.TheVariants as explain
 use Rattle.table_model.specs.declared.queries.Name.{Name}
 use Rattle.table_model.specs.declared.queries.Query.{Query}
@@ -18,6 +20,7 @@ use Rattle.table_model.specs.declared.queries.WrittenReference.{WrittenReference
 use Rattle.table_model.specs.declared.tokens.Token.{Token}
 use Rattle.table_model.specs.declared.tokens.TokenKind.{TokenKind}
 use Rattle.table_model.specs.declared.tokens.TokenKind.TheVariants as k
+use Rattle.table_model.specs.Outcomes.{Gives}
 use Rattle.table_model.specs.Parsers.{place}
 use Rattle.table_model.specs.QueryReading.{integer_value, comparison_of, most_levels, most_bytes, bad_place}
 use Rattle.table_model.specs.Tokens.{tokens}
@@ -158,3 +161,7 @@ IsSelect {A} {C} query ts =
 -- A text is a query: it isn't too long, it is made of tokens, and these are written for the tree.
 unfoldable pub IsQuery : {A C : Type 0} → List ℕ → Query A C → Type 0
 IsQuery text query = (length text ≤ most_bytes) × (bad_place (tokens true text) ≡ None) × IsSelect query (tokens true text)
+
+-- a reader of a text answers the query that it is, whichever that is; want of memory may stand in its place
+abbrev pub AnswersQuery : {A C : Type 0} → List ℕ → Result (Query A C) QueryFault → Type 0
+AnswersQuery {A} {C} text result = (query : Query A C) → IsQuery text query → Gives fault.OutOfMemory (λ q. q) result (Ok query)
