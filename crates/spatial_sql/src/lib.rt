@@ -2,6 +2,8 @@
 //! a query is bound to a database.
 #![tactic(auto)]
 
+#[cfg(test)]
+mod bind_tests;
 mod binding;
 mod columns;
 mod condition;
@@ -12,6 +14,8 @@ pub mod lex;
 mod query;
 mod references;
 mod schema;
+#[cfg(test)]
+mod schema_tests;
 mod truth;
 
 pub use binding::bind;
