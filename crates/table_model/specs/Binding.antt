@@ -44,17 +44,17 @@ use Rattle.table_model.specs.declared.conditions.Bound.{Bound}
 
 -- ---- faults: of several the first from left to right is answered
 
--- an answer, or the fault of a query
+-- an answer, or the fault of a query (profile)
 abbrev pub Checked : Type 0 → Type 0
 Checked X = Result X QueryFault
 
--- one step after another, up to the first fault
+-- one step after another, up to the first fault (profile)
 infixl 10 ◌>>=◌
 abbrev pub ◌>>=◌ : {X Y : Type 0} → Checked X → (X → Checked Y) → Checked Y
 Ok x >>= f = f x
 Err e >>= f = Err e
 
--- all answers, or the first fault
+-- all answers, or the first fault (profile)
 abbrev pub in_order : {X : Type 0} → List (Checked X) → Checked (List X)
 in_order [] = Ok []
 in_order (r ∷ more) = do
@@ -62,7 +62,7 @@ in_order (r ∷ more) = do
   xs ← in_order more
   Ok (x ∷ xs)
 
--- the lists that are answered, joined, or the first fault
+-- the lists that are answered, joined, or the first fault (profile)
 abbrev pub joined_in_order : {X : Type 0} → List (Checked (List X)) → Checked (List X)
 joined_in_order [] = Ok []
 joined_in_order (r ∷ more) = do
@@ -72,11 +72,11 @@ joined_in_order (r ∷ more) = do
 
 -- ---- the tables of FROM
 
--- the place of a table by its name (06-104r4, 6.1.1: feature tables are known by name)
+-- the place of a table by its name (SQL, names of tables)
 abbrev pub table_place : {T : Type 0} → List (TableDef T) → List ℕ → Option ℕ
 table_place schema name = position (λ table. same_name table.name name) schema
 
--- the name of a table as the schema spells it
+-- the name of a table as the schema spells it (profile)
 abbrev pub table_name : {T : Type 0} → Option (TableDef T) → List ℕ
 table_name (Some table) = table.name
 table_name None = []
@@ -86,6 +86,7 @@ abbrev pub reference_name : {T : Type 0} → List (TableDef T) → ℕ → Optio
 reference_name schema place (Some alias) = alias.text
 reference_name schema place None = table_name (slice_get schema place)
 
+-- a reference whose table has this place, or no place (SQL, FROM)
 abbrev pub reference_at : {T : Type 0} → List (TableDef T) → WrittenReference → Option ℕ → Checked Reference
 reference_at schema written (Some place) = Ok (record { table = place; name = reference_name schema place written.alias })
 reference_at schema written None = Err (UnknownTable written.table.at)
@@ -94,7 +95,7 @@ reference_at schema written None = Err (UnknownTable written.table.at)
 abbrev pub bound_reference : {T : Type 0} → List (TableDef T) → WrittenReference → Checked Reference
 bound_reference schema written = reference_at schema written (table_place schema written.table.text)
 
--- the byte at which the name of a reference stands
+-- the byte at which the name of a reference stands (profile)
 abbrev pub name_start : Name → Option Name → ℕ
 name_start table (Some alias) = alias.at
 name_start table None = table.at
@@ -103,6 +104,7 @@ name_start table None = table.at
 abbrev pub two_references : Reference → Reference → ℕ → Checked (List Reference)
 two_references first second at = if same_name first.name second.name then Err (SameName at) else Ok (first ∷ second ∷ [])
 
+-- the references, where there is a second one or none (SQL, FROM)
 abbrev pub with_second : {T : Type 0} → List (TableDef T) → Reference → Option WrittenReference → Checked (List Reference)
 with_second schema first None = Ok (first ∷ [])
 with_second schema first (Some written) = do
@@ -117,15 +119,16 @@ bound_references schema written second = do
 
 -- ---- columns
 
--- the columns of a table
+-- the columns of a table (profile)
 abbrev pub table_columns : {T : Type 0} → Option (TableDef T) → List (ColumnDef T)
 table_columns (Some table) = table.columns
 table_columns None = []
 
--- the columns of a reference
+-- the columns of a reference (profile)
 abbrev pub columns_of : {T : Type 0} → List (TableDef T) → Reference → List (ColumnDef T)
 columns_of schema reference = table_columns (slice_get schema reference.table)
 
+-- the type of a column as that of a part (profile)
 abbrev pub type_of : {T : Type 0} → ColumnType T → OperandType
 type_of columns.Integer = types.Integer
 type_of columns.Text = types.Text
@@ -142,19 +145,19 @@ column_named name place [] = None
 column_named name place (column ∷ more) =
     if same_name column.name name then Some (place, type_of column.column_type) else column_named name (place + 1) more
 
--- a column of the reference at a place
+-- a column of the reference at a place (profile)
 abbrev pub found_in : ℕ → Option (ℕ × OperandType) → Option Found
 found_in reference (Some (column, type)) = Some (record { place = record { reference = reference; column = column }; column_type = type })
 found_in reference None = None
 
--- the column that a written one can be of the reference at a place
+-- the column that a written one can be of the reference at a place (profile)
 abbrev pub candidate : {T : Type 0} → List (TableDef T) → WrittenColumn → ℕ → Reference → Option Found
 candidate schema written place reference =
     if refers_to written.reference reference.name
     then found_in place (column_named written.name.text 0 (columns_of schema reference))
     else None
 
--- the columns that a written one can be, among those of some references, of which the first has this place
+-- the columns that a written one can be, among those of some references, of which the first has this place (profile)
 abbrev pub candidates : {T : Type 0} → List (TableDef T) → WrittenColumn → ℕ → List Reference → List Found
 candidates schema written place references = filter_map (λ r. candidate schema written r.0 r.1) (enumerate_from place references)
 
@@ -171,19 +174,20 @@ bound_column schema references written =
 
 -- ---- conditions
 
--- how geometry arguments are bound: one of a condition (A becomes B), one of the select list (C becomes D), a pattern
+-- how geometry arguments are bound: one of a condition (A becomes B), one of the select list (C becomes D), a pattern (profile)
 pub record GeometryBinding (T A B C D : Type 0) : Type 0 where
   pub argument : List (TableDef T) → List Reference → A → Checked (Typed B)
   pub item_argument : List (TableDef T) → List Reference → C → Checked (Typed D)
   pub pattern : Name → Checked Pattern
 
+-- a part of this type, where it is a geometry (profile)
 abbrev pub geometry_of_type : {X : Type 0} → ℕ → X → OperandType → Checked X
 geometry_of_type at part types.Geometry = Ok part
 geometry_of_type at part types.Integer = Err (TypeMismatch at)
 geometry_of_type at part types.Text = Err (TypeMismatch at)
 geometry_of_type at part types.Null = Err (TypeMismatch at)
 
--- a part that is a geometry; else there is a fault, at the first byte of its predicate or call (06-104r4, 7.2: types of arguments)
+-- a part that is a geometry; else there is a fault, at the first byte of its predicate or call (profile)
 abbrev pub geometry_only : {X : Type 0} → ℕ → Typed X → Checked X
 geometry_only at typed = geometry_of_type at typed.part typed.part_type
 
@@ -193,7 +197,7 @@ unquoted [] = []
 unquoted (byte ∷ []) = byte ∷ []
 unquoted (byte ∷ next ∷ more) = if byte == 39 && next == 39 then byte ∷ unquoted more else byte ∷ unquoted (next ∷ more)
 
--- a side of a comparison, with its type
+-- a side of a comparison, with its type (profile)
 abbrev pub bound_operand : {T A B C D : Type 0} → GeometryBinding T A B C D → List (TableDef T) → List Reference → WrittenOperand A → Checked (Typed (Operand B))
 bound_operand how schema references (written_operand.Column written) = do
   found ← bound_column schema references written
@@ -210,14 +214,14 @@ bound_operand how schema references (written_operand.Dimension at a) = do
   x ← geometry_only at typed
   Ok (record { part = operands.Dimension x; part_type = types.Integer })
 
--- whether a side of this type may stand where an integer is wanted
+-- whether a side of this type may stand where an integer is wanted (profile)
 abbrev pub fits_integer : OperandType → Bool
 fits_integer types.Integer = true
 fits_integer types.Text = false
 fits_integer types.Geometry = false
 fits_integer types.Null = true
 
--- whether a side of this type may stand where a text is wanted
+-- whether a side of this type may stand where a text is wanted (profile)
 abbrev pub fits_text : OperandType → Bool
 fits_text types.Integer = false
 fits_text types.Text = true
@@ -228,19 +232,19 @@ fits_text types.Null = true
 abbrev pub comparable : OperandType → OperandType → Bool
 comparable a b = fits_integer a && fits_integer b || fits_text a && fits_text b
 
--- a test of types: where it fails there is a fault at this byte
+-- a test of types: where it fails there is a fault at this byte (profile)
 abbrev pub checked_types : {X : Type 0} → Bool → ℕ → X → Checked X
 checked_types true at x = Ok x
 checked_types false at x = Err (TypeMismatch at)
 
--- the predicate that is written, its pattern read
+-- the predicate that is written, its pattern read (profile)
 abbrev pub bound_predicate : (Name → Checked Pattern) → WrittenPredicate → Checked Predicate
 bound_predicate pattern (written_predicate.Named predicate) = Ok predicate
 bound_predicate pattern (written_predicate.Relate written) = do
   p ← pattern written
   Ok (predicates.Relate p)
 
--- the condition that has these conjuncts: the only one, or the AND of them
+-- the condition that has these conjuncts: the only one, or the AND of them (profile)
 abbrev pub condition_of : {B : Type 0} → List (Cond B) → Cond B
 condition_of (cond ∷ []) = cond
 condition_of conjuncts = conds.And conjuncts
@@ -275,35 +279,35 @@ bound_relation how schema references at written a b = do
   y ← geometry_only at right
   Ok (conds.Relates predicate x y)
 
--- a condition as its own only conjunct
+-- a condition as its own only conjunct (profile)
 abbrev pub only : {B : Type 0} → Checked (Cond B) → Checked (List (Cond B))
 only bound = do
   cond ← bound
   Ok (cond ∷ [])
 
--- the condition of a part that stands as its conjuncts
+-- the condition of a part that stands as its conjuncts (profile)
 abbrev pub whole : {B : Type 0} → Checked (List (Cond B)) → Checked (Cond B)
 whole part = do
   conjuncts ← part
   Ok (condition_of conjuncts)
 
--- the parts of an OR, each standing as its conjuncts
+-- the parts of an OR, each standing as its conjuncts (profile)
 abbrev pub alternatives : {B : Type 0} → List (Checked (List (Cond B))) → Checked (List (Cond B))
 alternatives parts = in_order (map whole parts)
 
--- an OR of bound parts
+-- an OR of bound parts (profile)
 abbrev pub or_of : {B : Type 0} → Checked (List (Cond B)) → Checked (Cond B)
 or_of bound = do
   parts ← bound
   Ok (conds.Or parts)
 
--- a NOT of a bound part
+-- a NOT of a bound part (profile)
 abbrev pub not_of : {B : Type 0} → Checked (Cond B) → Checked (Cond B)
 not_of bound = do
   part ← bound
   Ok (conds.Not part)
 
--- the conjuncts of a condition: those of the parts of an AND, in order; any other condition is its own only one. Here each part of a condition stands as its conjuncts
+-- the conjuncts of a condition: those of the parts of an AND, in order; any other condition is its own only one. Here each part of a condition stands as its conjuncts (profile)
 abbrev pub conjuncts_by_parts : {T A B C D : Type 0} → GeometryBinding T A B C D → List (TableDef T) → List Reference → WrittenCond-F A (Checked (List (Cond B))) → Checked (List (Cond B))
 conjuncts_by_parts how schema references (WrittenCond-F.Or parts) = only (or_of (alternatives parts))
 conjuncts_by_parts how schema references (WrittenCond-F.And parts) = joined_in_order parts
@@ -313,11 +317,11 @@ conjuncts_by_parts how schema references (WrittenCond-F.IsNull a) = only (bound_
 conjuncts_by_parts how schema references (WrittenCond-F.IsEmpty at a) = only (bound_emptiness how schema references at a)
 conjuncts_by_parts how schema references (WrittenCond-F.Relates at predicate a b) = only (bound_relation how schema references at predicate a b)
 
--- the conjuncts of a written condition, bound, or its first fault
+-- the conjuncts of a written condition, bound, or its first fault (profile)
 abbrev pub bound_conjuncts : {T A B C D : Type 0} → GeometryBinding T A B C D → List (TableDef T) → List Reference → WrittenCond A → Checked (List (Cond B))
 bound_conjuncts {A = A} {B = B} how schema references = fold-WrittenCond A (Checked (List (Cond B))) (conjuncts_by_parts how schema references)
 
--- those of ON or of WHERE; what is absent has none
+-- those of ON or of WHERE; what is absent has none (profile)
 abbrev pub bound_condition : {T A B C D : Type 0} → GeometryBinding T A B C D → List (TableDef T) → List Reference → Option (WrittenCond A) → Checked (List (Cond B))
 bound_condition how schema references (Some written) = bound_conjuncts how schema references written
 bound_condition how schema references None = Ok []
@@ -342,7 +346,7 @@ bound_item how schema references (written_item.IsEmpty at a) = do
   x ← geometry_only at typed
   Ok (items.IsEmpty x)
 
--- the columns of the reference at a place, in their order
+-- the columns of the reference at a place, in their order (profile)
 abbrev pub items_of : {T D : Type 0} → ℕ → List (ColumnDef T) → List (Item D)
 items_of reference columns = map (λ c. items.Column (record { reference = reference; column = c.0 })) (enumerate_from 0 columns)
 
@@ -366,7 +370,7 @@ binding how schema query = do
   filtering ← bound_condition how schema references query.condition
   Ok (record { explain = query.explain; references = references; items = listed; conjuncts = joining ++ filtering })
 
--- how geometry arguments are bound where none is served
+-- how geometry arguments are bound where none is served (profile)
 abbrev pub no_geometry : {T : Type 0} → GeometryBinding T NoGeometry NoGeometry NoGeometry NoGeometry
 no_geometry = record {
   argument = λ schema references a. Ok (record { part = a; part_type = types.Geometry });
