@@ -13,3 +13,10 @@ pub mod Databases
 pub mod QueryReading
 pub mod QueryGrammar
 pub mod SchemaReading
+pub mod Arguments
+pub mod Plans
+pub mod Candidates
+pub mod Work
+pub mod ExplainTexts
+pub mod PlanExamples
+pub mod PlanLaws

@@ -7,6 +7,8 @@
 pub mod conditions;
 pub mod definitions;
 pub mod faults;
+pub mod plan_examples;
+pub mod plans;
 pub mod queries;
 pub mod texts;
 pub mod tokens;

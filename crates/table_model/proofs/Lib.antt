@@ -1,0 +1,3 @@
+pub mod CondFolds
+pub mod LeastFacts
+pub mod WorkFacts

@@ -1,0 +1,45 @@
+-- The work of plans with one filter or two, and the text of EXPLAIN ANALYZE from its parts.
+use Rattle.std.specs.Prelude.{◌≡◌, refl, ℕ, ◌+◌, Bool, true, false, ◌&&◌, if◌then◌else◌, is_some, List, [], ◌∷◌, sum_by, Some, option_map}
+use Rattle.std.proofs.Common.{arith, ap, ◌∙◌}
+use Rattle.std.proofs.lemmas.List.Sums.{sum_by-cons}
+use mathlib.Core.Path.{fun_ext}
+use Rattle.geometry_model.specs.Geometries.{Geometry}
+use Rattle.geometry_model.specs.Labels.{labelled_matrix}
+use Rattle.table_model.specs.Arguments.{denoted}
+use Rattle.table_model.specs.ExplainTexts.{analyze_text}
+use Rattle.table_model.specs.Meanings.{Table}
+use Rattle.table_model.specs.PlanExamples.{Query, analyzed}
+use Rattle.table_model.specs.Plans.{chosen}
+use Rattle.table_model.specs.Truths.{Rows}
+use Rattle.table_model.specs.Work.{evaluated, work}
+use Rattle.table_model.specs.declared.conditions.GeometryArgument.{GeometryArgument}
+use Rattle.table_model.specs.declared.conditions.Cond.{Cond}
+use Rattle.table_model.specs.declared.plans.Plan.{Plan}
+
+-- 1 where both arguments are there
+abbrev pub both : Rows Geometry → GeometryArgument Geometry → GeometryArgument Geometry → ℕ
+both rows a b = if is_some (denoted rows a) && is_some (denoted rows b) then 1 else 0
+
+-- one filter is always evaluated
+pub one_filter : {A : Type 0} (number : Cond A → ℕ) (test : Cond A → Bool) (c : Cond A) → sum_by number (evaluated test (c ∷ [])) ≡ number c
+one_filter {A = A} number test c = go (test c)
+  where
+    go : (b : Bool) → sum_by number (c ∷ (if b then [] else [])) ≡ number c
+    go true = omega (arith, sum_by-cons number c [])
+    go false = omega (arith, sum_by-cons number c [])
+
+-- the second of two filters is evaluated where the first is true
+pub two_filters : {A : Type 0} (number : Cond A → ℕ) (test : Cond A → Bool) (c d : Cond A) → sum_by number (evaluated test (c ∷ d ∷ [])) ≡ number c + (if test c then number d else 0)
+two_filters {A = A} number test c d = go (test c)
+  where
+    go : (b : Bool) → sum_by number (c ∷ (if b then evaluated test (d ∷ []) else [])) ≡ number c + (if b then number d else 0)
+    go true = sum_by-cons number c (evaluated test (d ∷ [])) ∙ ap (λ n. number c + n) (one_filter number test d)
+    go false = sum_by-cons number c []
+
+-- two sums over one list
+pub same_sums : {X : Type 0} (f g : X → ℕ) (xs : List X) → ((x : X) → f x ≡ g x) → sum_by f xs ≡ sum_by g xs
+same_sums f g xs h = ap (λ k. sum_by k xs) (fun_ext h)
+
+-- the text of EXPLAIN ANALYZE, by the chosen plan and its work
+pub analyzed_is : (tables : List (Table Geometry)) (q : Query) (plan : Plan) (n : ℕ) (text : List ℕ) → chosen tables q ≡ Some plan → work labelled_matrix tables q plan ≡ n → analyze_text q plan n ≡ text → analyzed tables q ≡ Some text
+analyzed_is tables q plan n text p w t = ap (option_map (λ plan. analyze_text q plan (work labelled_matrix tables q plan))) p ∙ ap (λ k. Some (analyze_text q plan k)) w ∙ ap Some t

@@ -1,0 +1,41 @@
+-- Laws of the chosen plan, each as one statement.
+use Rattle.std.specs.Prelude.{◌≡◌, ℕ, ◌<◌, ◌≤◌, List, ◌∷◌, ◌++◌, length, All, Some, IsSome}
+use Rattle.geometry_model.specs.Geometries.{Geometry}
+use Rattle.table_model.specs.Meanings.{Table}
+use Rattle.table_model.specs.Plans.{lawful_plans, IsLawful, chosen}
+use Rattle.table_model.specs.declared.conditions.ColumnPlace.{ColumnPlace}
+use Rattle.table_model.specs.declared.conditions.GeometryArgument.{GeometryArgument}
+use Rattle.table_model.specs.declared.conditions.Bound.{Bound}
+use Rattle.table_model.specs.declared.plans.Plan.{Plan}
+
+-- an element is the first of some whose number none of them undercuts
+pub record IsFirstOfLeast {X : Type 0} (number : X → ℕ) (xs : List X) (x : X) : Type 0 where
+  pub before : List X
+  pub after : List X
+  pub parted : xs ≡ before ++ x ∷ after
+  pub earlier_are_more : All (λ y. number x < number y) before
+  pub none_is_less : All (λ y. number x ≤ number y) xs
+
+-- a bound query with geometries
+abbrev pub GeometryQuery : Type 0
+GeometryQuery = Bound (GeometryArgument Geometry) ColumnPlace
+
+-- the chosen plan is lawful
+abbrev pub ChosenIsLawful : Type 0
+ChosenIsLawful = (tables : List (Table Geometry)) (query : GeometryQuery) (plan : Plan) → chosen tables query ≡ Some plan → IsLawful tables query plan
+
+-- no lawful plan costs less
+abbrev pub ChosenCostsLeast : Type 0
+ChosenCostsLeast = (tables : List (Table Geometry)) (query : GeometryQuery) (plan other : Plan) → chosen tables query ≡ Some plan → IsLawful tables query other → plan.cost ≤ other.cost
+
+-- every lawful plan before the chosen one costs more
+abbrev pub ChosenIsFirst : Type 0
+ChosenIsFirst = (tables : List (Table Geometry)) (query : GeometryQuery) (plan : Plan) → chosen tables query ≡ Some plan → IsFirstOfLeast (λ p. p.cost) (lawful_plans tables query) plan
+
+-- a lawful plan that is the first of least cost is the chosen one, so there is one alone
+abbrev pub FirstIsChosen : Type 0
+FirstIsChosen = (tables : List (Table Geometry)) (query : GeometryQuery) (plan : Plan) → IsFirstOfLeast (λ p. p.cost) (lawful_plans tables query) plan → chosen tables query ≡ Some plan
+
+-- over one reference or two a plan is chosen
+abbrev pub SomePlanIsChosen : Type 0
+SomePlanIsChosen = (tables : List (Table Geometry)) (query : GeometryQuery) → 1 ≤ length query.references → length query.references ≤ 2 → IsSome (chosen tables query)
