@@ -1,11 +1,9 @@
 -- The first element of a list whose number none undercuts.
-use Rattle.std.specs.Prelude.{◌≡◌, refl, ℕ, ◌<◌, ◌≤◌, Bool, true, false, cond, nat_le, List, [], ◌∷◌, ◌++◌, All, Contains, find, Option, Some, None, unwrap_or, IsSome, ◌⊎◌}
+use Rattle.std.specs.Prelude.{◌≡◌, refl, ℕ, ◌<◌, ◌≤◌, Bool, true, false, cond, nat_le, List, [], ◌∷◌, ◌++◌, length, All, Contains, find, Option, Some, None, unwrap_or, IsSome, ◌⊎◌}
 use Rattle.std.specs.List.{list_all}
-use Rattle.std.specs.Option.{option_or}
 use Rattle.std.proofs.Common.{arith, ap, ◌∙◌, sym, inl, inr}
-use Rattle.std.proofs.lemmas.List.Elements.{All-nil, All-cons, All-head, All-tail, All-weaker, All-append, All-contains, All-contains_itself, Contains-append_right}
+use Rattle.std.proofs.lemmas.List.Elements.{All-nil, All-cons, All-head, All-tail, All-weaker, All-contains, Contains-append_right}
 use Rattle.std.proofs.lemmas.List.Sums.{AllPass-from_list_all, list_all-from_AllPass}
-use Rattle.std.proofs.lemmas.List.Folds.{find-append}
 use Rattle.table_model.specs.Plans.{first_of_least}
 use Rattle.table_model.specs.PlanLaws.{IsFirstOfLeast}
 
@@ -120,6 +118,7 @@ least_there number x (y ∷ ys) = go (least_there number y ys)
       place = Contains-append_right (x ∷ []) (y ∷ ys) r.least r.place;
       none_is_less = All-cons (λ z. number r.least ≤ number z) x (y ∷ ys) m r.none_is_less;
     }
+
     go : Least number (y ∷ ys) → Least number (x ∷ y ∷ ys)
     go r = pick r (less_or_not (number x) (number r.least))
 
@@ -145,3 +144,8 @@ pub first_is_there : {X : Type 0} (number : X → ℕ) (x : X) (xs : List X) →
 first_is_there number x xs =
     let r = least_there number x xs in
     some_found (λ y. list_all (λ z. nat_le (number y) (number z)) (x ∷ xs)) (x ∷ xs) r.least r.place (bound_test number (x ∷ xs) r.least r.none_is_less)
+
+-- of some elements one is the first of least number
+pub some_least : {X : Type 0} (number : X → ℕ) (xs : List X) → 1 ≤ length xs → IsSome (first_of_least number xs)
+some_least number [] l = absurd (omega (arith, l))
+some_least number (x ∷ xs) l = first_is_there number x xs

@@ -1,3 +1,4 @@
 pub mod CondFolds
 pub mod LeastFacts
 pub mod WorkFacts
+pub mod ScanFacts

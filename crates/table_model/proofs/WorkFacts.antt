@@ -1,5 +1,5 @@
 -- The work of plans with one filter or two, and the text of EXPLAIN ANALYZE from its parts.
-use Rattle.std.specs.Prelude.{◌≡◌, refl, ℕ, ◌+◌, Bool, true, false, ◌&&◌, if◌then◌else◌, is_some, List, [], ◌∷◌, sum_by, Some, option_map}
+use Rattle.std.specs.Prelude.{◌≡◌, ℕ, ◌+◌, Bool, true, false, ◌&&◌, if◌then◌else◌, is_some, List, [], ◌∷◌, sum_by, Some, option_map}
 use Rattle.std.proofs.Common.{arith, ap, ◌∙◌}
 use Rattle.std.proofs.lemmas.List.Sums.{sum_by-cons}
 use mathlib.Core.Path.{fun_ext}
@@ -7,11 +7,11 @@ use Rattle.geometry_model.specs.Geometries.{Geometry}
 use Rattle.geometry_model.specs.Labels.{labelled_matrix}
 use Rattle.table_model.specs.Arguments.{denoted}
 use Rattle.table_model.specs.ExplainTexts.{analyze_text}
-use Rattle.table_model.specs.Meanings.{Table}
-use Rattle.table_model.specs.PlanExamples.{Query, analyzed}
+use Rattle.table_model.specs.Meanings.{Table, is_true}
+use Rattle.table_model.specs.PlanExamples.{Query, Condition, analyzed}
 use Rattle.table_model.specs.Plans.{chosen}
-use Rattle.table_model.specs.Truths.{Rows}
-use Rattle.table_model.specs.Work.{evaluated, work}
+use Rattle.table_model.specs.Truths.{Rows, truth}
+use Rattle.table_model.specs.Work.{evaluated, computed, candidate_work, work}
 use Rattle.table_model.specs.declared.conditions.GeometryArgument.{GeometryArgument}
 use Rattle.table_model.specs.declared.conditions.Cond.{Cond}
 use Rattle.table_model.specs.declared.plans.Plan.{Plan}
@@ -39,6 +39,14 @@ two_filters {A = A} number test c d = go (test c)
 -- two sums over one list
 pub same_sums : {X : Type 0} (f g : X → ℕ) (xs : List X) → ((x : X) → f x ≡ g x) → sum_by f xs ≡ sum_by g xs
 same_sums f g xs h = ap (λ k. sum_by k xs) (fun_ext h)
+
+-- the work of candidates with one filter, which computes the number that g gives
+pub work_of_one : (list : List (Rows Geometry)) (c : Condition) (g : Rows Geometry → ℕ) → ((rows : Rows Geometry) → computed rows c ≡ g rows) → sum_by (candidate_work labelled_matrix (c ∷ [])) list ≡ sum_by g list
+work_of_one list c g h = same_sums (candidate_work labelled_matrix (c ∷ [])) g list (λ rows. one_filter (computed rows) (λ e. is_true (truth labelled_matrix denoted rows e)) c ∙ h rows)
+
+-- the work of candidates with two filters
+pub work_of_two : (list : List (Rows Geometry)) (c d : Condition) (g : Rows Geometry → ℕ) → ((rows : Rows Geometry) → computed rows c + (if is_true (truth labelled_matrix denoted rows c) then computed rows d else 0) ≡ g rows) → sum_by (candidate_work labelled_matrix (c ∷ d ∷ [])) list ≡ sum_by g list
+work_of_two list c d g h = same_sums (candidate_work labelled_matrix (c ∷ d ∷ [])) g list (λ rows. two_filters (computed rows) (λ e. is_true (truth labelled_matrix denoted rows e)) c d ∙ h rows)
 
 -- the text of EXPLAIN ANALYZE, by the chosen plan and its work
 pub analyzed_is : (tables : List (Table Geometry)) (q : Query) (plan : Plan) (n : ℕ) (text : List ℕ) → chosen tables q ≡ Some plan → work labelled_matrix tables q plan ≡ n → analyze_text q plan n ≡ text → analyzed tables q ≡ Some text

@@ -1,5 +1,5 @@
 -- What the geometry arguments of a condition denote.
-use Rattle.std.specs.Prelude.{ℕ, ℤ, List, Option, Some, None}
+use Rattle.std.specs.Prelude.{Option, Some, None}
 use Rattle.geometry_model.specs.Geometries.{Geometry}
 use Rattle.table_model.specs.Truths.{Rows, field_at}
 use Rattle.table_model.specs.declared.values.Value.{Value}

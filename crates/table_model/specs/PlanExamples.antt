@@ -1,7 +1,6 @@
 -- Words for worked rows of plans.
-use Rattle.std.specs.Prelude.{ℕ, suc, zero, ◌+◌, ℤ, pos, List, [], ◌∷◌, map, Option, Some, option_map}
-use Rattle.geometry_model.specs.Geometries.{Geometry, Point, Polygon}
-use Rattle.geometry_model.specs.Points.{Position}
+use Rattle.std.specs.Prelude.{ℕ, suc, zero, ◌+◌, pos, List, [], ◌∷◌, map, Option, Some, None, option_map}
+use Rattle.geometry_model.specs.Geometries.{Geometry, Point, LineString, Polygon}
 use Rattle.geometry_model.specs.Labels.{labelled_matrix}
 use Rattle.geometry_model.specs.TextExamples.{at}
 use Rattle.geometry_model.specs.declared.relations.Predicate.{Predicate}
@@ -20,6 +19,9 @@ use Rattle.table_model.specs.declared.conditions.Cond.{Cond}
 use Rattle.table_model.specs.declared.conditions.Cond.TheVariants as conds
 use Rattle.table_model.specs.declared.conditions.Reference.{Reference}
 use Rattle.table_model.specs.declared.conditions.Bound.{Bound}
+use Rattle.table_model.specs.declared.plans.AccessMethod.TheVariants as methods
+use Rattle.table_model.specs.declared.plans.Access.{Access}
+use Rattle.table_model.specs.declared.plans.Plan.{Plan}
 use Rattle.table_model.specs.declared.queries.Explain.TheVariants as explains
 
 -- a bound query with geometries, and a condition of it
@@ -45,6 +47,16 @@ point_rows key (suc n) = row key (values.Geometry (Point (Some (at (pos key) (po
 -- two squares side by side
 abbrev pub squares : Table Geometry
 squares = row 1 (values.Geometry (square 0 0)) ∷ row 2 (values.Geometry (square 4 0)) ∷ []
+
+-- empty geometries of three types, a point and a null
+abbrev pub empties : Table Geometry
+empties =
+    row 1 (values.Geometry (Point None))
+    ∷ row 2 (values.Geometry (LineString []))
+    ∷ row 3 (values.Geometry (Point (Some (at (pos 0) (pos 0)))))
+    ∷ row 4 values.Null
+    ∷ row 5 (values.Geometry (Polygon []))
+    ∷ []
 
 -- a reference of a table, by the table's place and the reference's name
 abbrev pub of : ℕ → List ℕ → Reference
@@ -72,6 +84,20 @@ with_literal predicate g = conds.Relates predicate (geometry 0) (arguments.Liter
 -- a predicate of the two references' geometries
 abbrev pub of_both : Predicate → Condition
 of_both predicate = conds.Relates predicate (geometry 0) (geometry 1)
+
+-- a predicate of the first reference's geometry with itself
+abbrev pub with_itself : Predicate → Condition
+with_itself predicate = conds.Relates predicate (geometry 0) (geometry 0)
+
+-- the accesses and the plans of worked rows
+abbrev pub scan : ℕ → Access
+scan reference = record { reference = reference; method = methods.Scan }
+
+abbrev pub probe : ℕ → ℕ → Access
+probe reference place = record { reference = reference; method = methods.Probe place }
+
+abbrev pub plan : ℕ → List Access → List ℕ → Plan
+plan price accesses filters = record { accesses = accesses; filters = filters; cost = price }
 
 -- the costs of the lawful plans, in their order
 abbrev pub costs : List (Table Geometry) → Query → List ℕ

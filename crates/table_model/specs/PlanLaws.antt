@@ -1,11 +1,13 @@
 -- Laws of the chosen plan, each as one statement.
-use Rattle.std.specs.Prelude.{◌≡◌, ℕ, ◌<◌, ◌≤◌, List, ◌∷◌, ◌++◌, length, All, Some, IsSome}
+use Rattle.std.specs.Prelude.{◌≡◌, ℕ, ◌<◌, ◌≤◌, List, [], ◌∷◌, ◌++◌, length, All, Some, IsSome}
 use Rattle.geometry_model.specs.Geometries.{Geometry}
-use Rattle.table_model.specs.Meanings.{Table}
+use Rattle.table_model.specs.Candidates.{candidates}
+use Rattle.table_model.specs.Meanings.{Table, product, referenced}
 use Rattle.table_model.specs.Plans.{lawful_plans, IsLawful, chosen}
 use Rattle.table_model.specs.declared.conditions.ColumnPlace.{ColumnPlace}
 use Rattle.table_model.specs.declared.conditions.GeometryArgument.{GeometryArgument}
 use Rattle.table_model.specs.declared.conditions.Bound.{Bound}
+use Rattle.table_model.specs.declared.plans.AccessMethod.TheVariants as methods
 use Rattle.table_model.specs.declared.plans.Plan.{Plan}
 
 -- an element is the first of some whose number none of them undercuts
@@ -39,3 +41,13 @@ FirstIsChosen = (tables : List (Table Geometry)) (query : GeometryQuery) (plan :
 -- over one reference or two a plan is chosen
 abbrev pub SomePlanIsChosen : Type 0
 SomePlanIsChosen = (tables : List (Table Geometry)) (query : GeometryQuery) → 1 ≤ length query.references → length query.references ≤ 2 → IsSome (chosen tables query)
+
+-- the candidates of two scans, the first reference being the outer one, are the pairs of the product in their order
+abbrev pub ScansGiveProduct : Type 0
+ScansGiveProduct = (tables : List (Table Geometry)) (query : GeometryQuery) → length query.references ≡ 2
+    → candidates tables query (record { reference = 0; method = methods.Scan } ∷ record { reference = 1; method = methods.Scan } ∷ []) ≡ product (referenced tables query.references)
+
+-- those of the scan of the only reference are its rows
+abbrev pub ScanGivesTable : Type 0
+ScanGivesTable = (tables : List (Table Geometry)) (query : GeometryQuery) → length query.references ≡ 1
+    → candidates tables query (record { reference = 0; method = methods.Scan } ∷ []) ≡ product (referenced tables query.references)

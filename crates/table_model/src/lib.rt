@@ -8,6 +8,7 @@ pub mod conditions;
 pub mod definitions;
 pub mod faults;
 pub mod plan_examples;
+pub mod plan_laws;
 pub mod plans;
 pub mod queries;
 pub mod texts;

@@ -1,0 +1,8 @@
+use Rattle.table_model.specs.Plans.{lawful_plans}
+use Rattle.table_model.proofs.LeastFacts.{first_is_first, between}
+use Rattle.table_model.proofs.plan_laws.chosen_is_lawful.Goals as goal
+
+pub returns : goal.returns
+returns c = λ tables query plan e.
+    let f = first_is_first (λ p. p.cost) (lawful_plans tables query) plan e in
+    between (lawful_plans tables query) f.before f.after plan f.parted

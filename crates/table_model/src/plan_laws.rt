@@ -1,0 +1,47 @@
+//! Laws of the chosen plan and of candidates. Nothing here runs: each function has an empty body, and its contract is a law of the
+//! definitions.
+
+ghost use Rattle.table_model.specs.PlanLaws.{
+  ChosenIsLawful,
+  ChosenCostsLeast,
+  ChosenIsFirst,
+  FirstIsChosen,
+  SomePlanIsChosen,
+  ScansGiveProduct,
+  ScanGivesTable,
+};
+
+/// The chosen plan is lawful.
+pub fn chosen_is_lawful()
+    ensures { ChosenIsLawful }
+{}
+
+/// No lawful plan costs less than the chosen one.
+pub fn chosen_costs_least()
+    ensures { ChosenCostsLeast }
+{}
+
+/// Every lawful plan before the chosen one costs more.
+pub fn chosen_is_first()
+    ensures { ChosenIsFirst }
+{}
+
+/// The first lawful plan of least cost is the chosen one, so there is one alone.
+pub fn first_is_chosen()
+    ensures { FirstIsChosen }
+{}
+
+/// Over one reference or two a plan is chosen.
+pub fn some_plan_is_chosen()
+    ensures { SomePlanIsChosen }
+{}
+
+/// Two scans give the pairs of the product, in its order.
+pub fn scans_give_product()
+    ensures { ScansGiveProduct }
+{}
+
+/// A scan gives the rows of its table.
+pub fn scan_gives_table()
+    ensures { ScanGivesTable }
+{}
