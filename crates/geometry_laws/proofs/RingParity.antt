@@ -154,7 +154,7 @@ ring_cancels : (f : Position → Bool) (ring : List Position) → IsClosed ring 
 ring_cancels f [] h = refl
 ring_cancels f (a ∷ rest) h = path f a rest ∙ ap (λ (b : Position). xor (f a) (f b)) h ∙ xor_self (f a)
 
-rings_cancel : (f : Position → Bool) (rings : List (List Position)) → Each IsClosed rings → parity (λ (e : Edge). xor (f e.start) (f e.end)) (edges_of_lines rings) ≡ false
+pub rings_cancel : (f : Position → Bool) (rings : List (List Position)) → Each IsClosed rings → parity (λ (e : Edge). xor (f e.start) (f e.end)) (edges_of_lines rings) ≡ false
 rings_cancel f [] h = refl
 rings_cancel f (r ∷ rs) h = parity_append (λ (e : Edge). xor (f e.start) (f e.end)) (edges_of_line r) (edges_of_lines rs) ∙ ap₂ xor (ring_cancels f r h.0) (rings_cancel f rs h.1) ∙ xor_self false
 

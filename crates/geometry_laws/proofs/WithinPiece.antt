@@ -233,7 +233,7 @@ same_touches es ps c h d f g x y a i j = decide (on_one_line h.edge g) refl
     decide false e = none x i e ∙ sym (none y j e)
 
 -- ---- the sides
-parity_at_or_above : (rs : List (List Position)) (p : Point) → odd_at_or_above rs p ≡ xor (odd_above rs p) (parity (λ e. touches e p) (edges_of_lines rs))
+pub parity_at_or_above : (rs : List (List Position)) (p : Point) → odd_at_or_above rs p ≡ xor (odd_above rs p) (parity (λ e. touches e p) (edges_of_lines rs))
 parity_at_or_above rs p = odd_count (λ e. at_or_above e p) (edges_of_lines rs)
     ∙ same_parity (λ e. at_or_above e p) (λ e. xor (strictly_above e p) (touches e p)) (edges_of_lines rs) (each_of (λ e. at_or_above e p ≡ xor (strictly_above e p) (touches e p)) (edges_of_lines rs) (λ e m. at_or_above_is e p))
     ∙ parity_xor (λ e. strictly_above e p) (λ e. touches e p) (edges_of_lines rs)

@@ -1,0 +1,28 @@
+-- Laws of polygons and envelopes: what lies whole on one side, and what is outside.
+use Rattle.std.specs.Prelude.{◌≡◌, ◌≢◌, ◌⊎◌, ℕ, ◌+◌, ◌<◌, true, List, All, Option, Some, None, ◌*ℤ◌, ◌<ℤ◌}
+use Rattle.geometry_model.specs.Points.{Position, Point, IsPoint}
+use Rattle.geometry_model.specs.Geometries.{Geometry, Polygon, edges_of_lines}
+use Rattle.geometry_model.specs.Dimensions.{weighted}
+use Rattle.geometry_model.specs.Locations.{locate}
+use Rattle.geometry_model.specs.Envelopes.{Envelope, envelope, meets}
+use Rattle.geometry_model.specs.declared.point_sets.Location.TheVariants.{Boundary, Exterior}
+use Rattle.geometry_laws.specs.RingLaws.{IsClosed, Misses}
+use Rattle.geometry_laws.specs.PieceLaws.{HasClosedRings}
+
+-- a straight stretch that misses the rings lies whole in the interior or whole in the exterior (06-103r4, 6.1.11.1: the interior is a connected point set)
+abbrev pub StretchStays : Type 0
+StretchStays = (rings : List (List Position)) (p q : Point) → All IsClosed rings → IsPoint p → IsPoint q → All (Misses p q) (edges_of_lines rings)
+    → (m n : ℕ) → 0 < m + n → (locate (Polygon rings) (weighted m p n q) ≡ locate (Polygon rings) p) × (locate (Polygon rings) (weighted m p n q) ≢ Boundary)
+
+-- a point outside an envelope: left of it, right of it, below it or above it; every point is outside an absent one (06-103r4, 6.1.2.2: Envelope)
+abbrev pub IsOutside : Option Envelope → Point → Type 0
+IsOutside None p = Unit {0}
+IsOutside (Some e) p = (p.X <ℤ (e.least_x *ℤ p.W)) ⊎ ((e.greatest_x *ℤ p.W) <ℤ p.X) ⊎ (p.Y <ℤ (e.least_y *ℤ p.W)) ⊎ ((e.greatest_y *ℤ p.W) <ℤ p.Y)
+
+-- a point outside the envelope is in the exterior (06-103r4, 6.1.2.2: Envelope)
+abbrev pub OutsideIsExterior : Type 0
+OutsideIsExterior = (g : Geometry) → HasClosedRings g → (p : Point) → IsPoint p → IsOutside (envelope g) p → locate g p ≡ Exterior
+
+-- two geometries with a common point have envelopes that meet (06-103r4, 6.1.2.2: Envelope)
+abbrev pub CommonPointMeets : Type 0
+CommonPointMeets = (a b : Geometry) → HasClosedRings a → HasClosedRings b → (p : Point) → IsPoint p → locate a p ≢ Exterior → locate b p ≢ Exterior → meets (envelope a) (envelope b) ≡ true

@@ -1,0 +1,19 @@
+//! Laws of polygons and envelopes: what lies whole on one side of the rings, and what is outside. Nothing here runs: each function has an empty body, and its contract is a law.
+#![tactic(auto)]
+
+ghost use Rattle.polygon_laws.specs.PolygonLaws.{StretchStays, OutsideIsExterior, CommonPointMeets};
+
+/// A straight stretch that misses the rings of a polygon lies whole in its interior or whole in its exterior (06-103r4, 6.1.11.1).
+pub fn stretch_stays()
+    ensures { StretchStays }
+{}
+
+/// A point outside the envelope of a geometry is in its exterior (06-103r4, 6.1.2.2).
+pub fn outside_is_exterior()
+    ensures { OutsideIsExterior }
+{}
+
+/// Two geometries with a common point have envelopes that meet (06-103r4, 6.1.2.2).
+pub fn common_point_meets()
+    ensures { CommonPointMeets }
+{}
