@@ -241,27 +241,44 @@ not_true : (b : Bool) → not b ≡ true → b ≡ false
 not_true true h = absurd (true≢false (sym h))
 not_true false h = refl
 
-pub fault_is_decided : FaultIsDecided
-fault_is_decided g (TooFewPoints i) closed = one_is (is_short g) (slice_get (lines g) i)
-fault_is_decided g (RingNotClosed i) closed = let k = one_is is_not_closed (slice_get (rings g) i) in
+-- what the test of a fault asks of the rings
+abbrev pub NeedsClosed : Geometry → ValidityFault → Type 0
+NeedsClosed g (TooFewPoints i) = Unit {0}
+NeedsClosed g (RingNotClosed i) = Unit {0}
+NeedsClosed g (RingNotSimple i) = AreClosed g
+NeedsClosed g (RingsMeet i j) = Unit {0}
+NeedsClosed g (HoleOutside i) = Unit {0}
+NeedsClosed g (HolesNested i j) = Unit {0}
+
+pub fault_decided : (g : Geometry) (fault : ValidityFault) → NeedsClosed g fault → (has_fault g fault ≡ true) ↔ HasFault g fault
+fault_decided g (TooFewPoints i) closed = one_is (is_short g) (slice_get (lines g) i)
+fault_decided g (RingNotClosed i) closed = let k = one_is is_not_closed (slice_get (rings g) i) in
     ((λ h. let t = k.0 h in (t.0, t.1, (closed_is t.0).0 t.2)), (λ t. k.1 (t.0, t.1, (closed_is t.0).1 t.2)))
-fault_is_decided g (RingNotSimple i) closed = let k = one_is is_not_simple (slice_get (rings g) i) in (
+fault_decided g (RingNotSimple i) closed = let k = one_is is_not_simple (slice_get (rings g) i) in (
   (λ h. let t = k.0 h in (t.0, t.1, (simple_is t.0 (λ open_ring. closed i (t.0, t.1, open_ring))).0 t.2)),
   (λ t. k.1 (t.0, t.1, (simple_is t.0 (λ open_ring. closed i (t.0, t.1, open_ring))).1 t.2)),
 )
-fault_is_decided g (RingsMeet i j) closed = let k = two_are rings_share (slice_get (rings g) i) (slice_get (rings g) j) in (
+fault_decided g (RingsMeet i j) closed = let k = two_are rings_share (slice_get (rings g) i) (slice_get (rings g) j) in (
   (λ h. let parts = and_parts (nat_lt i j) (test_of_both rings_share (slice_get (rings g) i) (slice_get (rings g) j)) h in let t = k.0 parts.1 in
       (t.0, t.1, (Decides-ltb i j).0 parts.0, t.2, t.3, (rings_share_is t.0 t.1).0 t.4)),
   (λ t. and_from (nat_lt i j) (test_of_both rings_share (slice_get (rings g) i) (slice_get (rings g) j)) ((Decides-ltb i j).1 t.2) (k.1 (t.0, t.1, t.3, t.4, (rings_share_is t.0 t.1).1 t.5))),
 )
-fault_is_decided g (HoleOutside i) closed = let test : List Position → List Position → Bool = (λ outer hole. not (inside outer hole)) in let k = two_are test (slice_get (rings g) 0) (slice_get (rings g) i) in (
+fault_decided g (HoleOutside i) closed = let test : List Position → List Position → Bool = (λ outer hole. not (inside outer hole)) in let k = two_are test (slice_get (rings g) 0) (slice_get (rings g) i) in (
   (λ h. let parts = and_parts (nat_lt 0 i) (test_of_both test (slice_get (rings g) 0) (slice_get (rings g) i)) h in let t = k.0 parts.1 in
       (t.0, t.1, (Decides-ltb 0 i).0 parts.0, t.2, t.3, not_true (inside t.0 t.1) t.4)),
   (λ t. and_from (nat_lt 0 i) (test_of_both test (slice_get (rings g) 0) (slice_get (rings g) i)) ((Decides-ltb 0 i).1 t.2) (k.1 (t.0, t.1, t.3, t.4, ap not t.5))),
 )
-fault_is_decided g (HolesNested i j) closed = let test : List Position → List Position → Bool = (λ r s. inside r s || inside s r) in let k = two_are test (slice_get (rings g) i) (slice_get (rings g) j) in (
+fault_decided g (HolesNested i j) closed = let test : List Position → List Position → Bool = (λ r s. inside r s || inside s r) in let k = two_are test (slice_get (rings g) i) (slice_get (rings g) j) in (
   (λ h. let parts = and_parts (nat_lt 0 i && nat_lt i j) (test_of_both test (slice_get (rings g) i) (slice_get (rings g) j)) h in let both = and_parts (nat_lt 0 i) (nat_lt i j) parts.0 in let t = k.0 parts.1 in
       (t.0, t.1, (Decides-ltb 0 i).0 both.0, (Decides-ltb i j).0 both.1, t.2, t.3, or_from (inside t.0 t.1) (inside t.1 t.0) t.4)),
   (λ t. and_from (nat_lt 0 i && nat_lt i j) (test_of_both test (slice_get (rings g) i) (slice_get (rings g) j)) (and_from (nat_lt 0 i) (nat_lt i j) ((Decides-ltb 0 i).1 t.2) ((Decides-ltb i j).1 t.3))
       (k.1 (t.0, t.1, t.4, t.5, or_true (inside t.0 t.1) (inside t.1 t.0) t.6))),
 )
+
+pub fault_is_decided : FaultIsDecided
+fault_is_decided g (TooFewPoints i) closed = fault_decided g (TooFewPoints i) tt
+fault_is_decided g (RingNotClosed i) closed = fault_decided g (RingNotClosed i) tt
+fault_is_decided g (RingNotSimple i) closed = fault_decided g (RingNotSimple i) closed
+fault_is_decided g (RingsMeet i j) closed = fault_decided g (RingsMeet i j) tt
+fault_is_decided g (HoleOutside i) closed = fault_decided g (HoleOutside i) tt
+fault_is_decided g (HolesNested i j) closed = fault_decided g (HolesNested i j) tt

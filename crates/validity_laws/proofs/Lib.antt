@@ -1,3 +1,4 @@
 pub mod SharedPoints
 pub mod OtherPoints
 pub mod FaultFacts
+pub mod FirstFaultFacts

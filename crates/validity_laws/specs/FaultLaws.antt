@@ -1,8 +1,8 @@
 -- Laws of the faults of geometries.
-use Rattle.std.specs.Prelude.{◌≡◌, ◌↔◌, ℕ, true}
+use Rattle.std.specs.Prelude.{◌≡◌, ◌↔◌, ℕ, true, Some, None}
 use Rattle.geometry_model.specs.Geometries.{Geometry}
-use Rattle.geometry_model.specs.Validity.{HasFault}
-use Rattle.geometry_model.specs.FirstFaults.{has_fault}
+use Rattle.geometry_model.specs.Validity.{HasFault, IsValid}
+use Rattle.geometry_model.specs.FirstFaults.{has_fault, validity_fault}
 use Rattle.geometry_model.specs.declared.validity_faults.ValidityFault.{ValidityFault}
 use Rattle.geometry_model.specs.declared.validity_faults.ValidityFault.TheVariants.{RingNotClosed}
 
@@ -13,3 +13,11 @@ AreClosed g = (i : ℕ) → HasFault g (RingNotClosed i) → ⊥
 -- where each ring is closed, the tests of faults say exactly what the faults say of rational points (profile)
 abbrev pub FaultIsDecided : Type 0
 FaultIsDecided = (g : Geometry) (fault : ValidityFault) → AreClosed g → (has_fault g fault ≡ true) ↔ HasFault g fault
+
+-- the first fault that is found stands (profile)
+abbrev pub FirstFaultStands : Type 0
+FirstFaultStands = (g : Geometry) (fault : ValidityFault) → validity_fault g ≡ Some fault → HasFault g fault
+
+-- none is found exactly where the geometry is valid (profile)
+abbrev pub NoneIsFoundWhereValid : Type 0
+NoneIsFoundWhereValid = (g : Geometry) → (validity_fault g ≡ None) ↔ IsValid g
