@@ -1,5 +1,5 @@
 -- The tests of faults say what the faults say of rational points.
-use Rattle.std.proofs.Common.{◌≡◌, ◌≢◌, ◌↔◌, ◌⊎◌, inl, inr, ℕ, zero, suc, ◌+◌, ◌-◌, ◌<◌, ◌==◌, ℤ, Bool, true, false, not, ◌&&◌, ◌||◌, List, [], ◌∷◌, ◌++◌, length, map, Option, Some, None, nat_lt, slice_get, if◌then◌else◌, refl, sym, ap, ◌∙◌, subst, zero-add, add-zero, add-one, suc-le-suc, zero-lt-suc, le_of_suc-le-suc, lt_irrefl, arith}
+use Rattle.std.proofs.Common.{◌≡◌, ◌≢◌, ◌↔◌, ◌⊎◌, inl, inr, ℕ, zero, suc, ◌+◌, ◌<◌, ◌==◌, Bool, true, false, not, ◌&&◌, ◌||◌, List, [], ◌∷◌, length, Option, Some, None, nat_lt, slice_get, if◌then◌else◌, refl, sym, ap, ◌∙◌, subst, zero-add, add-zero, add-one, suc-le-suc, zero-lt-suc, le_of_suc-le-suc, arith}
 use Rattle.std.specs.List.{list_any, enumerate_from}
 use Rattle.std.specs.Ordering.{int_eq}
 use Rattle.std.proofs.lemmas.Bool.{true≢false, false_from_ne_true}
@@ -9,7 +9,7 @@ use Rattle.geometry_model.specs.Sides.{on}
 use Rattle.geometry_model.specs.Geometries.{Geometry, Edge, lines, edges_of_line}
 use Rattle.geometry_model.specs.Locations.{last_after}
 use Rattle.geometry_model.specs.WellKnownText.{same_position}
-use Rattle.geometry_model.specs.Validity.{rings, is_short, SharePoint, ShareOther, Clash, IsNotSimple, RingsShare, inside, IsNotClosed, HasFault, IsValid}
+use Rattle.geometry_model.specs.Validity.{rings, is_short, ShareOther, Clash, IsNotSimple, RingsShare, inside, IsNotClosed, HasFault}
 use Rattle.geometry_model.specs.FirstFaults.{share_point, share_other, clash, any_pair, is_not_simple, rings_share, is_not_closed, test_of, test_of_both, has_fault}
 use Rattle.geometry_model.specs.declared.validity_faults.ValidityFault.{ValidityFault}
 use Rattle.geometry_model.specs.declared.validity_faults.ValidityFault.TheVariants.{TooFewPoints, RingNotClosed, RingNotSimple, RingsMeet, HoleOutside, HolesNested}

@@ -1,5 +1,5 @@
 -- The first fault that is found stands, and none is found exactly where the geometry is valid.
-use Rattle.std.proofs.Common.{◌≡◌, ◌≢◌, ◌⊎◌, inl, inr, ℕ, zero, suc, ◌+◌, ◌-◌, ◌<◌, ◌≤◌, Bool, true, false, List, [], ◌∷◌, ◌++◌, length, map, flat_map, find, cond, Option, Some, None, slice_get, refl, sym, ap, ◌∙◌, subst, zero-lt-suc, suc-le-suc, add-one, arith}
+use Rattle.std.proofs.Common.{◌≡◌, ◌⊎◌, inl, inr, ℕ, zero, suc, ◌+◌, ◌-◌, ◌<◌, ◌≤◌, Bool, true, false, List, [], ◌∷◌, ◌++◌, length, map, flat_map, find, cond, Option, Some, None, slice_get, refl, sym, ap, ◌∙◌, zero-lt-suc, suc-le-suc, arith}
 use Rattle.std.specs.List.{range_with_len}
 use Rattle.std.proofs.lemmas.Bool.{true≢false}
 use Rattle.geometry_model.specs.Points.{Position}

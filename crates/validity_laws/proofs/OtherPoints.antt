@@ -1,5 +1,5 @@
 -- The points that two edges with a common end share beside it.
-use Rattle.std.proofs.Common.{ℤ, pos, ◌+ℤ◌, ◌-ℤ◌, ◌*ℤ◌, ◌≤ℤ◌, ◌<ℤ◌, ◌≡◌, ◌⊎◌, inl, inr, Bool, true, false, not, ◌&&◌, ◌||◌, refl, sym, ap, ap₂, ◌∙◌, subst, [], ◌∷◌, arith}
+use Rattle.std.proofs.Common.{ℤ, pos, ◌+ℤ◌, ◌-ℤ◌, ◌*ℤ◌, ◌≤ℤ◌, ◌<ℤ◌, ◌≡◌, ◌⊎◌, inl, inr, Bool, true, false, not, ◌||◌, refl, sym, ap, ap₂, ◌∙◌, subst, [], ◌∷◌, arith}
 use borrow.Author.Differences.{ints}
 use Rattle.std.specs.Ordering.{int_eq}
 use Rattle.std.proofs.lemmas.Bool.{true≢false, false_from_ne_true}
@@ -8,7 +8,7 @@ use Rattle.geometry_model.specs.Geometries.{Edge}
 use Rattle.geometry_model.specs.Sides.{side, on}
 use Rattle.geometry_model.specs.WellKnownText.{same_position}
 use Rattle.geometry_model.specs.Validity.{ShareOther}
-use Rattle.geometry_model.specs.FirstFaults.{other_on, share_other}
+use Rattle.geometry_model.specs.FirstFaults.{other_on}
 use Rattle.integers.proofs.Ring.{solve, var, lit, ◌⊕◌, ◌⊖◌, ◌⊗◌}
 use Rattle.integers.proofs.Signs.{at_most_or_less, three_ways, plus_plus, strict_plus_plus, cancel_zero, cancel_positive}
 use Rattle.integers.proofs.Tests.{equal_from, equal_yes}

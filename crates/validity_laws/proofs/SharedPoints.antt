@@ -1,23 +1,18 @@
 -- The points that two edges share: an end of one of them, or the point where they cross.
-use Rattle.std.proofs.Common.{ℤ, pos, ◌+ℤ◌, ◌-ℤ◌, ◌*ℤ◌, ◌≤ℤ◌, ◌<ℤ◌, int_lt, int_le, ◌≡◌, ◌⊎◌, inl, inr, Bool, true, false, not, ◌&&◌, ◌||◌, refl, sym, ap, ap₂, ◌∙◌, subst, [], ◌∷◌, arith}
+use Rattle.std.proofs.Common.{ℤ, pos, ◌+ℤ◌, ◌-ℤ◌, ◌*ℤ◌, ◌≤ℤ◌, ◌<ℤ◌, int_lt, ◌≡◌, ◌⊎◌, inl, inr, Bool, true, false, ◌&&◌, ◌||◌, refl, sym, ap, ap₂, ◌∙◌, subst, [], ◌∷◌, arith}
 use borrow.Author.Differences.{ints}
-use Rattle.std.specs.Ordering.{int_eq}
-use Rattle.std.proofs.lemmas.Bool.{true≢false}
 use Rattle.geometry_model.specs.Points.{Position, Point, IsPoint, same_point, point_at}
 use Rattle.geometry_model.specs.Geometries.{Edge}
-use Rattle.geometry_model.specs.Sides.{side, on, between}
-use Rattle.geometry_model.specs.WellKnownText.{same_position}
-use Rattle.geometry_model.specs.Validity.{SharePoint, ShareOther}
-use Rattle.geometry_model.specs.FirstFaults.{opposite, cross, share_point, other_on, share_other}
+use Rattle.geometry_model.specs.Sides.{side, on}
+use Rattle.geometry_model.specs.Validity.{SharePoint}
+use Rattle.geometry_model.specs.FirstFaults.{opposite, cross}
 use Rattle.integers.proofs.Ring.{Expr, solve, var, lit, ◌⊕◌, ◌⊖◌, ◌⊗◌}
-use Rattle.integers.proofs.Signs.{three_ways, is_or_not, at_most_or_less, plus_plus, plus_minus, strict_plus_plus, strict_plus_minus, zero_product, cancel_zero, cancel_nonnegative, cancel_positive, less_yes, less_from}
-use Rattle.integers.proofs.Tests.{equal_from, equal_yes, equal_no}
-use Rattle.geometry_laws.proofs.Scaling.{and_parts, and_from, same_x, same_y, same_from}
+use Rattle.integers.proofs.Signs.{three_ways, is_or_not, at_most_or_less, plus_plus, plus_minus, strict_plus_plus, zero_product, cancel_zero, less_yes, less_from}
+use Rattle.geometry_laws.proofs.Scaling.{and_parts, and_from, same_from}
 use Rattle.geometry_laws.proofs.Respect.{on_respects}
-use Rattle.geometry_laws.proofs.PointOrder.{same_symmetric}
 use Rattle.geometry_laws.proofs.LineSides.{square, weight, x_of, y_of, drop_zero, square_positive}
-use Rattle.geometry_laws.proofs.Hulls.{OnHull, OnParts, on_from_hull, on_parts, weight_low, weight_high, hull_from_on}
-use Rattle.validity_laws.specs.SharedPointLaws.{SharedPointIsDecided, OtherPointIsDecided, IsEnd}
+use Rattle.geometry_laws.proofs.Hulls.{OnHull, on_from_hull, on_parts, weight_low, weight_high, hull_from_on}
+use Rattle.validity_laws.specs.SharedPointLaws.{SharedPointIsDecided}
 
 -- ---- ends are on their edge
 end_x : (a b : ℤ) → pos 1 *ℤ a ≡ pos 1 *ℤ a +ℤ pos 0 *ℤ b
