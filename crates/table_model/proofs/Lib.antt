@@ -2,3 +2,4 @@ pub mod CondFolds
 pub mod LeastFacts
 pub mod WorkFacts
 pub mod ScanFacts
+pub mod FilterFacts

@@ -33,7 +33,7 @@ abbrev pub filters_text : List ℕ → List ℕ
 filters_text [] = codes "none"
 filters_text (place ∷ more) = join_with_byte 32 (map conjunct_number (place ∷ more))
 
--- a line with a word and a text
+-- a line with a word and a text (profile)
 abbrev pub line : List ℕ → List ℕ → List ℕ
 line word text = word ++ codes " " ++ text ++ codes "\n"
 

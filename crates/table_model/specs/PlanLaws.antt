@@ -1,16 +1,17 @@
 -- Laws of the chosen plan, each as one statement.
-use Rattle.std.specs.Prelude.{◌≡◌, ℕ, ◌<◌, ◌≤◌, List, [], ◌∷◌, ◌++◌, length, All, Some, IsSome}
+use Rattle.std.specs.Prelude.{◌≡◌, ℕ, ◌<◌, ◌≤◌, ◌==◌, List, [], ◌∷◌, ◌++◌, length, count_by, All, Some, IsSome}
 use Rattle.geometry_model.specs.Geometries.{Geometry}
 use Rattle.table_model.specs.Candidates.{candidates}
 use Rattle.table_model.specs.Meanings.{Table, product, referenced}
-use Rattle.table_model.specs.Plans.{lawful_plans, IsLawful, chosen}
+use Rattle.table_model.specs.Plans.{filters, lawful_plans, IsLawful, chosen}
+use Rattle.table_model.specs.declared.conditions.Cond.{Cond}
 use Rattle.table_model.specs.declared.conditions.ColumnPlace.{ColumnPlace}
 use Rattle.table_model.specs.declared.conditions.GeometryArgument.{GeometryArgument}
 use Rattle.table_model.specs.declared.conditions.Bound.{Bound}
 use Rattle.table_model.specs.declared.plans.AccessMethod.TheVariants as methods
 use Rattle.table_model.specs.declared.plans.Plan.{Plan}
 
--- an element is the first of some whose number none of them undercuts
+-- an element is the first of some whose number none of them undercuts (profile)
 pub record IsFirstOfLeast {X : Type 0} (number : X → ℕ) (xs : List X) (x : X) : Type 0 where
   pub before : List X
   pub after : List X
@@ -18,36 +19,40 @@ pub record IsFirstOfLeast {X : Type 0} (number : X → ℕ) (xs : List X) (x : X
   pub earlier_are_more : All (λ y. number x < number y) before
   pub none_is_less : All (λ y. number x ≤ number y) xs
 
--- a bound query with geometries
+-- a bound query with geometries (profile)
 abbrev pub GeometryQuery : Type 0
 GeometryQuery = Bound (GeometryArgument Geometry) ColumnPlace
 
--- the chosen plan is lawful
+-- the chosen plan is lawful (profile)
 abbrev pub ChosenIsLawful : Type 0
 ChosenIsLawful = (tables : List (Table Geometry)) (query : GeometryQuery) (plan : Plan) → chosen tables query ≡ Some plan → IsLawful tables query plan
 
--- no lawful plan costs less
+-- no lawful plan costs less (profile)
 abbrev pub ChosenCostsLeast : Type 0
 ChosenCostsLeast = (tables : List (Table Geometry)) (query : GeometryQuery) (plan other : Plan) → chosen tables query ≡ Some plan → IsLawful tables query other → plan.cost ≤ other.cost
 
--- every lawful plan before the chosen one costs more
+-- every lawful plan before the chosen one costs more (profile)
 abbrev pub ChosenIsFirst : Type 0
 ChosenIsFirst = (tables : List (Table Geometry)) (query : GeometryQuery) (plan : Plan) → chosen tables query ≡ Some plan → IsFirstOfLeast (λ p. p.cost) (lawful_plans tables query) plan
 
--- a lawful plan that is the first of least cost is the chosen one, so there is one alone
+-- a lawful plan that is the first of least cost is the chosen one, so there is one alone (profile)
 abbrev pub FirstIsChosen : Type 0
 FirstIsChosen = (tables : List (Table Geometry)) (query : GeometryQuery) (plan : Plan) → IsFirstOfLeast (λ p. p.cost) (lawful_plans tables query) plan → chosen tables query ≡ Some plan
 
--- over one reference or two a plan is chosen
+-- over one reference or two a plan is chosen (profile)
 abbrev pub SomePlanIsChosen : Type 0
 SomePlanIsChosen = (tables : List (Table Geometry)) (query : GeometryQuery) → 1 ≤ length query.references → length query.references ≤ 2 → IsSome (chosen tables query)
 
--- the candidates of two scans, the first reference being the outer one, are the pairs of the product in their order
+-- the candidates of two scans, the first reference being the outer one, are the pairs of the product in their order (profile)
 abbrev pub ScansGiveProduct : Type 0
 ScansGiveProduct = (tables : List (Table Geometry)) (query : GeometryQuery) → length query.references ≡ 2
     → candidates tables query (record { reference = 0; method = methods.Scan } ∷ record { reference = 1; method = methods.Scan } ∷ []) ≡ product (referenced tables query.references)
 
--- those of the scan of the only reference are its rows
+-- those of the scan of the only reference are its rows (profile)
 abbrev pub ScanGivesTable : Type 0
 ScanGivesTable = (tables : List (Table Geometry)) (query : GeometryQuery) → length query.references ≡ 1
     → candidates tables query (record { reference = 0; method = methods.Scan } ∷ []) ≡ product (referenced tables query.references)
+
+-- the filters of every plan are all conjuncts, each once (profile)
+abbrev pub FiltersAreConjuncts : Type 0
+FiltersAreConjuncts = (conjuncts : List (Cond (GeometryArgument Geometry))) (place : ℕ) → place < length conjuncts → count_by (λ k. k == place) (filters conjuncts) ≡ 1

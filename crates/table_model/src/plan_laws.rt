@@ -1,5 +1,5 @@
-//! Laws of the chosen plan and of candidates. Nothing here runs: each function has an empty body, and its contract is a law of the
-//! definitions.
+//! Laws of the chosen plan, of filters and of candidates. Nothing here runs: each function has an empty body, and its
+//! contract is a law of the definitions.
 
 ghost use Rattle.table_model.specs.PlanLaws.{
   ChosenIsLawful,
@@ -7,6 +7,7 @@ ghost use Rattle.table_model.specs.PlanLaws.{
   ChosenIsFirst,
   FirstIsChosen,
   SomePlanIsChosen,
+  FiltersAreConjuncts,
   ScansGiveProduct,
   ScanGivesTable,
 };
@@ -34,6 +35,11 @@ pub fn first_is_chosen()
 /// Over one reference or two a plan is chosen.
 pub fn some_plan_is_chosen()
     ensures { SomePlanIsChosen }
+{}
+
+/// The filters are all conjuncts, each once.
+pub fn filters_are_conjuncts()
+    ensures { FiltersAreConjuncts }
 {}
 
 /// Two scans give the pairs of the product, in its order.
