@@ -1,4 +1,3 @@
 pub mod Around
 pub mod Pieces
 pub mod Labelled
-pub mod ClosedRings

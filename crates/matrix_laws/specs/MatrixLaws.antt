@@ -5,10 +5,6 @@ use Rattle.geometry_model.specs.Labels.{labelled_matrix}
 use Rattle.geometry_model.specs.Validity.{IsValid}
 use Rattle.geometry_laws.specs.PieceLaws.{HasClosedRings}
 
--- all rings of a valid geometry are closed (06-103r4, 6.1.7 and 6.1.11.1)
-abbrev pub ValidRingsAreClosed : Type 0
-ValidRingsAreClosed = (g : Geometry) → IsValid g → HasClosedRings g
-
 -- the label matrix of two geometries whose rings are closed is their matrix (06-103r4, 6.1.15.2)
 abbrev pub LabelledIsMatrix : Type 0
 LabelledIsMatrix = (a b : Geometry) → HasClosedRings a → HasClosedRings b → IsMatrix a b (labelled_matrix a b)

@@ -1,2 +1,5 @@
 pub mod Stretch
 pub mod Outside
+pub mod Nested
+pub mod Closing
+pub mod Holes

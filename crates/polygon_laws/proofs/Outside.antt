@@ -181,7 +181,7 @@ beside_left p e s t = beside p e (at_most_yes (e.start.x *ℤ p.W) p.X (weak (e.
     weak : (x y : ℤ) → x <ℤ y → x ≤ℤ y
     weak x y h = omega (arith, ints)
 
-by_heights : (a b : Position) (p : Point) → p.W *ℤ side a b p ≡ (p.Y -ℤ a.y *ℤ p.W) *ℤ (b.x *ℤ p.W -ℤ p.X) +ℤ (p.Y -ℤ b.y *ℤ p.W) *ℤ (p.X -ℤ a.x *ℤ p.W)
+pub by_heights : (a b : Position) (p : Point) → p.W *ℤ side a b p ≡ (p.Y -ℤ a.y *ℤ p.W) *ℤ (b.x *ℤ p.W -ℤ p.X) +ℤ (p.Y -ℤ b.y *ℤ p.W) *ℤ (p.X -ℤ a.x *ℤ p.W)
 by_heights a b p = solve (a.x ∷ a.y ∷ b.x ∷ b.y ∷ p.X ∷ p.Y ∷ p.W ∷ []) (var 6 ⊗ side') ((var 5 ⊖ var 1 ⊗ var 6) ⊗ (var 2 ⊗ var 6 ⊖ var 4) ⊕ (var 5 ⊖ var 3 ⊗ var 6) ⊗ (var 4 ⊖ var 0 ⊗ var 6)) tt
 
 gap : (x y : ℤ) → x <ℤ y → pos 0 <ℤ (y -ℤ x)

@@ -1,11 +1,14 @@
 -- Laws of polygons and envelopes: what lies whole on one side, and what is outside.
-use Rattle.std.specs.Prelude.{◌≡◌, ◌≢◌, ◌⊎◌, ℕ, ◌+◌, ◌<◌, true, List, All, Option, Some, None, ◌*ℤ◌, ◌<ℤ◌}
+use Rattle.std.specs.Prelude.{◌≡◌, ◌≢◌, ◌⊎◌, ◌↔◌, ℕ, ◌+◌, ◌<◌, true, false, List, [], ◌∷◌, All, Contains, Option, Some, None, ◌*ℤ◌, ◌<ℤ◌}
 use Rattle.geometry_model.specs.Points.{Position, Point, IsPoint}
-use Rattle.geometry_model.specs.Geometries.{Geometry, Polygon, edges_of_lines}
+use Rattle.geometry_model.specs.Geometries.{Edge, Geometry, Polygon, edges_of_line, edges_of_lines}
+use Rattle.geometry_model.specs.Sides.{on}
+use Rattle.geometry_model.specs.Crossings.{odd_above}
+use Rattle.geometry_model.specs.Validity.{IsValid}
 use Rattle.geometry_model.specs.Dimensions.{weighted}
 use Rattle.geometry_model.specs.Locations.{locate}
 use Rattle.geometry_model.specs.Envelopes.{Envelope, envelope, meets}
-use Rattle.geometry_model.specs.declared.point_sets.Location.TheVariants.{Boundary, Exterior}
+use Rattle.geometry_model.specs.declared.point_sets.Location.TheVariants.{Interior, Boundary, Exterior}
 use Rattle.geometry_laws.specs.RingLaws.{IsClosed, Misses}
 use Rattle.geometry_laws.specs.PieceLaws.{HasClosedRings}
 
@@ -26,3 +29,17 @@ OutsideIsExterior = (g : Geometry) → HasClosedRings g → (p : Point) → IsPo
 -- two geometries with a common point have envelopes that meet (06-103r4, 6.1.2.2: Envelope)
 abbrev pub CommonPointMeets : Type 0
 CommonPointMeets = (a b : Geometry) → HasClosedRings a → HasClosedRings b → (p : Point) → IsPoint p → locate a p ≢ Exterior → locate b p ≢ Exterior → meets (envelope a) (envelope b) ≡ true
+
+-- all rings of a valid geometry are closed (06-103r4, 6.1.7 and 6.1.11.1)
+abbrev pub ValidRingsAreClosed : Type 0
+ValidRingsAreClosed = (g : Geometry) → IsValid g → HasClosedRings g
+
+-- in a valid polygon every point of a hole's ring is odd over the outer ring (06-103r4, 6.1.11.1)
+abbrev pub HoleRingIsInside : Type 0
+HoleRingIsInside = (outer : List Position) (holes : List (List Position)) → IsValid (Polygon (outer ∷ holes)) → (hole : List Position) → Contains holes hole
+    → (p : Point) → IsPoint p → (e : Edge) → Contains (edges_of_line hole) e → on e p ≡ true → odd_above (outer ∷ []) p ≡ true
+
+-- in a valid polygon a point off the rings is in the interior exactly when it is odd over the outer ring and odd over no hole (06-103r4, 6.1.11.1)
+abbrev pub HolesAreCut : Type 0
+HolesAreCut = (outer : List Position) (holes : List (List Position)) → IsValid (Polygon (outer ∷ holes)) → (p : Point) → IsPoint p → All (λ e. on e p ≡ false) (edges_of_lines (outer ∷ holes))
+    → (locate (Polygon (outer ∷ holes)) p ≡ Interior) ↔ ((odd_above (outer ∷ []) p ≡ true) × All (λ hole. odd_above (hole ∷ []) p ≡ false) holes)

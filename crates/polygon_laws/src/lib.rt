@@ -1,7 +1,7 @@
 //! Laws of polygons and envelopes: what lies whole on one side of the rings, and what is outside. Nothing here runs: each function has an empty body, and its contract is a law.
 #![tactic(auto)]
 
-ghost use Rattle.polygon_laws.specs.PolygonLaws.{StretchStays, OutsideIsExterior, CommonPointMeets};
+ghost use Rattle.polygon_laws.specs.PolygonLaws.{StretchStays, OutsideIsExterior, CommonPointMeets, ValidRingsAreClosed, HoleRingIsInside, HolesAreCut};
 
 /// A straight stretch that misses the rings of a polygon lies whole in its interior or whole in its exterior (06-103r4, 6.1.11.1).
 pub fn stretch_stays()
@@ -16,4 +16,19 @@ pub fn outside_is_exterior()
 /// Two geometries with a common point have envelopes that meet (06-103r4, 6.1.2.2).
 pub fn common_point_meets()
     ensures { CommonPointMeets }
+{}
+
+/// All rings of a valid geometry are closed (06-103r4, 6.1.7 and 6.1.11.1).
+pub fn valid_rings_are_closed()
+    ensures { ValidRingsAreClosed }
+{}
+
+/// In a valid polygon every point of a hole's ring is odd over the outer ring (06-103r4, 6.1.11.1).
+pub fn hole_ring_is_inside()
+    ensures { HoleRingIsInside }
+{}
+
+/// In a valid polygon a point off the rings is in the interior exactly when it is odd over the outer ring and odd over no hole (06-103r4, 6.1.11.1).
+pub fn holes_are_cut()
+    ensures { HolesAreCut }
 {}

@@ -25,7 +25,7 @@ same_position p q f = go (is_or_not (p.x -ℤ q.x)) (is_or_not (p.y -ℤ q.y))
     go (inr n) g = absurd (f (λ e. n (nothing p.x q.x (ap (λ (a : Position). a.x) e))))
     go (inl e) (inr n) = absurd (f (λ e. n (nothing p.y q.y (ap (λ (a : Position). a.y) e))))
 
-closed : (ring : List Position) → (IsNotClosed ring → ⊥) → IsClosed ring
+pub closed : (ring : List Position) → (IsNotClosed ring → ⊥) → IsClosed ring
 closed [] f = tt
 closed (a ∷ rest) f = same_position (last_after a rest) a f
 
