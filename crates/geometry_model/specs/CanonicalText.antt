@@ -10,7 +10,7 @@ use Rattle.geometry_model.specs.Geometries.{Geometry, Point, MultiPoint, LineStr
 abbrev pub position_text : Position → List ℕ
 position_text p = signed_decimal p.x ++ codes " " ++ signed_decimal p.y
 
--- in parentheses, with commas between and no white space
+-- in parentheses, with commas between and no white space (profile)
 abbrev pub listed_text : List (List ℕ) → List ℕ
 listed_text parts = codes "(" ++ join_with_byte 44 parts ++ codes ")"
 

@@ -10,64 +10,64 @@ use Rattle.geometry_model.specs.Validity.{rings, is_short, inside}
 use Rattle.geometry_model.specs.declared.validity_faults.ValidityFault.{ValidityFault}
 use Rattle.geometry_model.specs.declared.validity_faults.ValidityFault.TheVariants.{TooFewPoints, RingNotClosed, RingNotSimple, RingsMeet, HoleOutside, HolesNested}
 
--- one number is above 0 and the other below
+-- one number is above 0 and the other below (profile)
 abbrev pub opposite : ℤ → ℤ → Bool
 opposite x y = (int_lt x (pos 0) && int_lt (pos 0) y) || (int_lt (pos 0) x && int_lt y (pos 0))
 
--- the ends of each edge lie on opposite sides of the other
+-- the ends of each edge lie on opposite sides of the other (profile)
 abbrev pub cross : Edge → Edge → Bool
 cross e f = opposite (side e.start e.end (point_at f.start)) (side e.start e.end (point_at f.end))
     && opposite (side f.start f.end (point_at e.start)) (side f.start f.end (point_at e.end))
 
--- two edges share a point: an end of one is on the other, or they cross
+-- two edges share a point: an end of one is on the other, or they cross (profile)
 abbrev pub share_point : Edge → Edge → Bool
 share_point e f = on e (point_at f.start) || on e (point_at f.end) || on f (point_at e.start) || on f (point_at e.end) || cross e f
 
--- an end other than the position is on the edge
+-- an end other than the position is on the edge (profile)
 abbrev pub other_on : Position → Edge → Position → Bool
 other_on common e q = on e (point_at q) && not (same_position q common)
 
--- two edges with a common end share another point: an end other than it is on both
+-- two edges with a common end share another point: an end other than it is on both (profile)
 abbrev pub share_other : Position → Edge → Edge → Bool
 share_other common e f = other_on common e f.start || other_on common e f.end || other_on common f e.start || other_on common f e.end
 
--- the test of an earlier and a later one of the n edges of a ring, each with its number
+-- the test of an earlier and a later one of the n edges of a ring, each with its number (profile)
 abbrev pub clash : ℕ → ℕ × Edge → ℕ × Edge → Bool
 clash n a b =
     if b.0 == a.0 + 1 then share_other a.1.end a.1 b.1
     else if a.0 == 0 && b.0 + 1 == n then share_other a.1.start a.1 b.1
     else share_point a.1 b.1
 
--- some element and some later one pass the test
+-- some element and some later one pass the test (profile)
 abbrev pub any_pair : {A : Type 0} → (A → A → Bool) → List A → Bool
 any_pair test [] = false
 any_pair test (x ∷ xs) = list_any (test x) xs || any_pair test xs
 
--- the ring meets or covers itself
+-- the ring meets or covers itself (06-103r4, 6.1.7: a LinearRing is simple)
 abbrev pub is_not_simple : List Position → Bool
 is_not_simple ring = any_pair (clash (length (edges_of_line ring))) (enumerate_from 0 (edges_of_line ring))
 
--- two rings share a point
+-- two rings share a point (06-103r4, 6.1.11.1)
 abbrev pub rings_share : List Position → List Position → Bool
 rings_share r s = list_any (λ e. list_any (share_point e) (edges_of_line s)) (edges_of_line r)
 
--- the last position isn't the first
+-- the last position isn't the first (06-103r4, 6.1.7: a LinearRing is closed)
 abbrev pub is_not_closed : List Position → Bool
 is_not_closed [] = false
 is_not_closed (p ∷ ps) = not (same_position (last_after p ps) p)
 
--- a list passes the test, where there is one
+-- a list passes the test, where there is one (profile)
 abbrev pub test_of : (List Position → Bool) → Option (List Position) → Bool
 test_of test None = false
 test_of test (Some ps) = test ps
 
--- two lists do, where both are there
+-- two lists do, where both are there (profile)
 abbrev pub test_of_both : (List Position → List Position → Bool) → Option (List Position) → Option (List Position) → Bool
 test_of_both test None s = false
 test_of_both test (Some r) None = false
 test_of_both test (Some r) (Some s) = test r s
 
--- the geometry has the fault
+-- the geometry has the fault (profile)
 abbrev pub has_fault : Geometry → ValidityFault → Bool
 has_fault g (TooFewPoints i) = test_of (is_short g) (slice_get (lines g) i)
 has_fault g (RingNotClosed i) = test_of is_not_closed (slice_get (rings g) i)
@@ -77,11 +77,11 @@ has_fault g (HoleOutside i) = nat_lt 0 i && test_of_both (λ outer hole. not (in
 has_fault g (HolesNested i j) = nat_lt 0 i && nat_lt i j
     && test_of_both (λ r s. inside r s || inside s r) (slice_get (rings g) i) (slice_get (rings g) j)
 
--- the numbers from the first up to n
+-- the numbers from the first up to n (profile)
 abbrev pub numbers : ℕ → ℕ → List ℕ
 numbers first n = range_with_len first (n - first)
 
--- the faults of pairs i < j of these numbers, by i, then by j
+-- the faults of pairs i < j of these numbers, by i, then by j (profile)
 abbrev pub of_pairs : (ℕ → ℕ → ValidityFault) → ℕ → ℕ → List ValidityFault
 of_pairs fault first n = flat_map (λ i. map (fault i) (numbers (i + 1) n)) (numbers first n)
 

@@ -3,14 +3,14 @@ use Rattle.std.specs.Prelude.{ℕ, ℤ, pos, List, [], ◌∷◌}
 use Rattle.geometry_model.specs.Points.{Position}
 use Rattle.geometry_model.specs.TextReading.{Input}
 
--- the position of two numbers
+-- the position of two numbers (profile)
 abbrev pub at : ℤ → ℤ → Position
 at x y = record { x = x; y = y }
 
--- the ring of a square of side 4
+-- the ring of a square of side 4 (profile)
 abbrev pub square : List Position
 square = at (pos 0) (pos 0) ∷ at (pos 4) (pos 0) ∷ at (pos 4) (pos 4) ∷ at (pos 0) (pos 4) ∷ at (pos 0) (pos 0) ∷ []
 
--- a text to be read from its first byte on
+-- a text to be read from its first byte on (profile)
 abbrev pub input : List ℕ → Input
 input text = record { left = text; at = 0 }

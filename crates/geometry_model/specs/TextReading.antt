@@ -11,66 +11,70 @@ use Rattle.geometry_model.specs.WellKnownText.{coordinate_limit, position_limit,
 use Rattle.geometry_model.specs.declared.text_faults.TextFault.{TextFault}
 use Rattle.geometry_model.specs.declared.text_faults.TextFault.TheVariants.{Syntax, OffGrid, OutOfRange, TooLong}
 
--- what is still to be read, and at which byte of the text it begins
+-- what is still to be read, and at which byte of the text it begins (profile)
 pub record Input : Type 0 where
   pub left : List ℕ
   pub at : ℕ
 
--- a step of reading: what it found and what it left, or a fault
+-- a step of reading: what it found and what it left, or a fault (profile)
 abbrev pub Reader : Type 0 → Type 0
 Reader A = Input → Result (A × Input) TextFault
 
+-- the next step behind what was found; a fault stays (profile)
 abbrev pub and_then : {A B : Type 0} → Result (A × Input) TextFault → (A → Reader B) → Result (B × Input) TextFault
 and_then (Ok found) next = next found.0 found.1
 and_then (Err fault) next = Err fault
 
+-- one step, and then one that knows what the first found (profile)
 infixl 10 ◌>>=◌
 abbrev pub ◌>>=◌ : {A B : Type 0} → Reader A → (A → Reader B) → Reader B
 (step >>= next) i = and_then (step i) next
 
+-- one step and then another (profile)
 infixl 10 ◌>>◌
 abbrev pub ◌>>◌ : {A B : Type 0} → Reader A → Reader B → Reader B
 (step >> next) i = and_then (step i) (λ _. next)
 
+-- this is found, and nothing is read (profile)
 abbrev pub pure : {A : Type 0} → A → Reader A
 pure x i = Ok (x, i)
 
--- behind the next n bytes
+-- behind the next n bytes (profile)
 abbrev pub after : ℕ → Input → Input
 after n i = record { left = drop n i.left; at = i.at + n }
 
--- the next byte passes the test
+-- the next byte passes the test (profile)
 abbrev pub sees : (ℕ → Bool) → Reader Bool
 sees test i = Ok (begins_with test i.left, i)
 
--- the byte where reading stands
+-- the byte where reading stands (profile)
 abbrev pub place : Reader ℕ
 place i = Ok (i.at, i)
 
--- W1 at a byte
+-- W1 at a byte (profile)
 abbrev pub refuse : {A : Type 0} → ℕ → Reader A
 refuse at i = Err (Syntax at)
 
--- W4
+-- W4 (profile)
 abbrev pub too_long : {A : Type 0} → Reader A
 too_long i = Err TooLong
 
--- the bytes from here on that pass the test
+-- the bytes from here on that pass the test (profile)
 abbrev pub run : (ℕ → Bool) → Reader (List ℕ)
 run test i = Ok (take (prefix_len test i.left) i.left, after (prefix_len test i.left) i)
 
--- the byte, where it is the next
+-- the byte, where it is the next (profile)
 abbrev pub eat : ℕ → Reader Bool
 eat c i = Ok (begins_with (λ b. b == c) i.left, if begins_with (λ b. b == c) i.left then after 1 i else i)
 
--- the byte, which has to be the next
+-- the byte, which has to be the next (profile)
 abbrev pub expect : ℕ → Reader Bool
 expect c = do
   at ← place
   found ← eat c
   if found then pure true else refuse at
 
--- white space or none on both sides
+-- white space or none on both sides (profile)
 abbrev pub padded : {A : Type 0} → Reader A → Reader A
 padded step = do
   run is_white
@@ -78,7 +82,7 @@ padded step = do
   run is_white
   pure x
 
--- in parentheses
+-- in parentheses (profile)
 abbrev pub enclosed : {A : Type 0} → Reader A → Reader A
 enclosed step = do
   expect 40
@@ -86,26 +90,26 @@ enclosed step = do
   expect 41
   pure x
 
--- a sign or none: whether it is a minus
+-- a sign or none: whether it is a minus (06-103r4, 7.2.2: sign)
 unfoldable pub sign : Reader Bool
 sign = do
   minus ← eat 45
   if minus then pure true else (eat 43 >> pure false)
 
--- the digits behind a point, or none
+-- the digits behind a point, or none (profile)
 unfoldable pub fraction : Reader (List ℕ)
 fraction = do
   has_point ← eat 46
   if has_point then run is_ascii_digit else pure []
 
--- a number as it is written, and the byte where it begins
+-- a number as it is written, and the byte where it begins (profile)
 pub record FoundNumber : Type 0 where
   pub at : ℕ
   pub minus : Bool
   pub whole : List ℕ
   pub fraction : List ℕ
 
--- the longest number that stands here; W1 where none does
+-- the longest number that stands here; W1 where none does (06-103r4, 7.2.2: signed numeric literal; W1: profile)
 unfoldable pub numeral : Reader FoundNumber
 numeral = do
   at ← place
@@ -114,20 +118,20 @@ numeral = do
   digits ← fraction
   if length whole + length digits == 0 then refuse at else pure (record { at = at; minus = minus; whole = whole; fraction = digits })
 
--- what it stands for: first W2, then W3
+-- what it stands for: first W2, then W3 (profile)
 unfoldable pub coordinate : FoundNumber → Reader ℤ
 coordinate n i = if is_whole n.fraction
     then (if nat_lt coordinate_limit (digits_value 10 n.whole) then Err (OutOfRange n.at) else Ok (signed n.minus n.whole, i))
     else Err (OffGrid n.at)
 
--- white space, which has to stand here
+-- white space, which has to stand here (profile)
 unfoldable pub space : Reader (List ℕ)
 space = do
   at ← place
   white ← run is_white
   if length white == 0 then refuse at else pure white
 
--- a position where so many may still come; at its first number W4 goes before W2 and W3
+-- a position where so many may still come; at its first number W4 goes before W2 and W3 (profile)
 unfoldable pub position : ℕ → Reader Position
 position room = do
   first ← numeral
@@ -137,13 +141,13 @@ position room = do
   y ← coordinate second
   pure (record { x = x; y = y })
 
--- a position of a MULTIPOINT
+-- a position of a MULTIPOINT (06-103r4, 7.2.2: point text)
 unfoldable pub point : ℕ → Reader Position
 point room = do
   open_comes ← sees (λ c. c == 40)
   if open_comes then enclosed (padded (position room)) else position room
 
--- one or more with commas between, where so many may still come
+-- one or more with commas between, where so many may still come (profile)
 unfoldable pub separated : {A : Type 0} → (ℕ → Reader A) → ℕ → Reader (List A)
 separated item zero = padded (item zero) >>= λ x. pure (x ∷ [])
 separated item (suc room) = do
@@ -151,11 +155,11 @@ separated item (suc room) = do
   goes_on ← eat 44
   if goes_on then (separated item room >>= λ more. pure (x ∷ more)) else pure (x ∷ [])
 
--- the positions of a line or ring
+-- the positions of a line or ring (06-103r4, 7.2.2: linestring text)
 unfoldable pub line : ℕ → Reader (List Position)
 line room = enclosed (separated position room)
 
--- elements or rings, where so many parts and so many positions may still come
+-- elements or rings, where so many parts and so many positions may still come (profile)
 unfoldable pub parts : ℕ → ℕ → Reader (List (List Position))
 parts zero room = padded (expect 40 >> too_long)
 parts (suc count) room = do
@@ -163,7 +167,7 @@ parts (suc count) room = do
   goes_on ← eat 44
   if goes_on then (parts count (room - length x) >>= λ more. pure (x ∷ more)) else pure (x ∷ [])
 
--- the word EMPTY, or what stands in parentheses
+-- the word EMPTY, or what stands in parentheses (06-103r4, 7.2.2: empty set)
 unfoldable pub body : {A : Type 0} → Reader (List A) → Reader (List A)
 body inner = do
   run is_white
@@ -171,23 +175,24 @@ body inner = do
   word ← run is_ascii_alphabetic
   if length word == 0 then enclosed inner else (if str_eq_ignore_ascii_case word (codes "EMPTY") then pure [] else refuse at)
 
--- the positions behind a name
+-- the positions behind a name (profile)
 abbrev pub positions : (ℕ → Reader Position) → Reader (List Position)
 positions item = body (separated item position_limit)
 
+-- the elements or rings behind a name (profile)
 abbrev pub lists : Reader (List (List Position))
 lists = body (parts part_limit position_limit)
 
--- the one position of a POINT
+-- the one position of a POINT (profile)
 abbrev pub lone : Reader (List Position)
 lone = body (padded (position position_limit) >>= λ p. pure (p ∷ []))
 
--- the first of the list
+-- the first of the list (profile)
 abbrev pub first : List Position → Option Position
 first [] = None
 first (p ∷ ps) = Some p
 
--- what stands behind a type's name
+-- what stands behind a type's name (profile)
 unfoldable pub typed : ℕ → List ℕ → Reader Geometry
 typed at name =
     if str_eq_ignore_ascii_case name (codes "POINT") then (lone >>= λ ps. pure (Point (first ps)))
@@ -197,25 +202,25 @@ typed at name =
     else if str_eq_ignore_ascii_case name (codes "POLYGON") then (lists >>= λ ls. pure (Polygon ls))
     else refuse at
 
--- a type's name and what stands behind it
+-- a type's name and what stands behind it (06-103r4, 7.2.2: tagged text)
 unfoldable pub tagged : Reader Geometry
 tagged = do
   at ← place
   name ← run is_ascii_alphabetic
   typed at name
 
--- the end of the text, which has to be here
+-- the end of the text, which has to be here (profile)
 abbrev pub end : Reader Bool
 end i = if length i.left == 0 then Ok (true, i) else Err (Syntax i.at)
 
--- a whole text, with its positions as they are written
+-- a whole text, with its positions as they are written (06-103r4, 7.2.2: well-known text representation)
 unfoldable pub whole : Reader Geometry
 whole = do
   g ← padded tagged
   end
   pure g
 
--- the geometry that was found, or the fault
+-- the geometry that was found, or the fault (profile)
 abbrev pub outcome : Result (Geometry × Input) TextFault → Result Geometry TextFault
 outcome (Ok found) = Ok (geometry_of found.0)
 outcome (Err fault) = Err fault

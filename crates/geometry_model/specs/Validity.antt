@@ -32,7 +32,7 @@ pub record SharePoint (e f : Edge) : Type 0 where
   pub on_first : on e at ≡ true
   pub on_second : on f at ≡ true
 
--- some point other than the position is on both edges
+-- some point other than the position is on both edges (06-103r4, 6.1.15: intersection of point sets)
 pub record ShareOther (common : Position) (e f : Edge) : Type 0 where
   pub at : Point
   pub is_point : IsPoint at
@@ -71,7 +71,7 @@ abbrev pub inside : List Position → List Position → Bool
 inside outer [] = false
 inside outer (p ∷ ps) = odd_above (outer ∷ []) (point_at p)
 
--- the last position isn't the first
+-- the last position isn't the first (06-103r4, 6.1.7: a LinearRing is closed)
 abbrev pub IsNotClosed : List Position → Type 0
 IsNotClosed [] = ⊥
 IsNotClosed (p ∷ ps) = last_after p ps ≢ p

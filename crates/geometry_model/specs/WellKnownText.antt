@@ -21,12 +21,12 @@ position_limit = 10000
 abbrev pub part_limit : ℕ
 part_limit = 1000
 
--- whether a text begins with a byte that passes the test
+-- whether a text begins with a byte that passes the test (profile)
 abbrev pub begins_with : (ℕ → Bool) → List ℕ → Bool
 begins_with test [] = false
 begins_with test (c ∷ rest) = test c
 
--- a rule of the grammar: the texts that it takes
+-- a rule of the grammar: the texts that it takes (06-103r4, 7.2.1)
 abbrev pub Rule : Type 1
 Rule = List ℕ → Type 0
 
@@ -35,7 +35,7 @@ infixr 20 ◌⨾◌
 abbrev pub ◌⨾◌ : Rule → Rule → Rule
 (A ⨾ B) text = (first rest : List ℕ) × (text ≡ first ++ rest) × A first × B rest
 
--- this one byte
+-- this one byte (06-103r4, 7.2.1)
 abbrev pub Byte : ℕ → Rule
 Byte c text = text ≡ c ∷ []
 
@@ -43,19 +43,19 @@ Byte c text = text ≡ c ∷ []
 abbrev pub is_white : ℕ → Bool
 is_white c = c == 32 || c == 9 || c == 10 || c == 13
 
--- white space, or none
+-- white space, or none (profile)
 abbrev pub Blank : Rule
 Blank text = list_all is_white text ≡ true
 
--- white space of one byte or more
+-- white space of one byte or more (profile)
 abbrev pub Space : Rule
 Space text = (0 < length text) × Blank text
 
--- the rule's text with white space or none on both sides
+-- the rule's text with white space or none on both sides (profile)
 abbrev pub Padded : Rule → Rule
 Padded A = Blank ⨾ A ⨾ Blank
 
--- the rule's text in parentheses
+-- the rule's text in parentheses (06-103r4, 7.2.2: left paren, right paren)
 abbrev pub Enclosed : Rule → Rule
 Enclosed A = Byte 40 ⨾ A ⨾ Byte 41
 
@@ -91,12 +91,12 @@ Numeral minus whole fraction text = (Sign minus ⨾ Digits whole ⨾ Fraction fr
 abbrev pub is_whole : List ℕ → Bool
 is_whole fraction = list_all (λ c. c == 48) fraction
 
--- the whole number of a sign and digits
+-- the whole number of a sign and digits (06-103r4, 7.2.2: signed numeric literal)
 abbrev pub signed : Bool → List ℕ → ℤ
 signed false whole = pos (digits_value 10 whole)
 signed true whole = neg_ℤ (pos (digits_value 10 whole))
 
--- a whole number within the limit
+-- a whole number within the limit (profile)
 abbrev pub Number : ℤ → Rule
 Number z text = (minus : Bool) × (whole fraction : List ℕ) × Numeral minus whole fraction text
     × (is_whole fraction ≡ true) × (digits_value 10 whole ≤ coordinate_limit) × (z ≡ signed minus whole)
@@ -131,7 +131,7 @@ TaggedText (Polygon rings) = Word (codes "POLYGON") ⨾ Body LineText rings
 abbrev pub Writes : Geometry → Rule
 Writes written = Padded (TaggedText written)
 
--- all positions as they are written, in order
+-- all positions as they are written, in order (profile)
 abbrev pub written_positions : Geometry → List Position
 written_positions (Point p) = option_to_list p
 written_positions (MultiPoint ps) = ps
@@ -139,7 +139,7 @@ written_positions (LineString ps) = ps
 written_positions (MultiLineString lines) = flat_map (λ line. line) lines
 written_positions (Polygon rings) = flat_map (λ ring. ring) rings
 
--- the elements of a MULTILINESTRING, the rings of a polygon
+-- the elements of a MULTILINESTRING, the rings of a polygon (profile)
 abbrev pub written_parts : Geometry → List (List Position)
 written_parts (Point p) = []
 written_parts (MultiPoint ps) = []
@@ -151,7 +151,7 @@ written_parts (Polygon rings) = rings
 abbrev pub IsWithinCounts : Geometry → Type 0
 IsWithinCounts written = (length (written_positions written) ≤ position_limit) × (length (written_parts written) ≤ part_limit)
 
--- whether two positions are one
+-- whether two positions are one (profile)
 abbrev pub same_position : Position → Position → Bool
 same_position a b = int_eq a.x b.x && int_eq a.y b.y
 
@@ -174,10 +174,10 @@ pub record Spells (text : List ℕ) (g : Geometry) : Type 0 where
   pub counts : IsWithinCounts written
   pub meant : g ≡ geometry_of written
 
--- the text, with some rest behind it, spells some geometry
+-- the text, with some rest behind it, spells some geometry (profile)
 abbrev pub Begins : List ℕ → Type 0
 Begins front = (rest : List ℕ) × (g : Geometry) × Spells (front ++ rest) g
 
--- the same with the two counts set aside
+-- the same with the two counts set aside (profile)
 abbrev pub BeginsUncounted : List ℕ → Type 0
 BeginsUncounted front = (rest : List ℕ) × (written : Geometry) × Writes written (front ++ rest)
