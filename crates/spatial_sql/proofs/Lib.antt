@@ -8,3 +8,5 @@ pub mod QueryLaws
 pub mod Ascii
 pub mod LawfulSchemas
 pub mod QueryComplete
+pub mod SchemaSound
+pub mod SchemaLaws

@@ -1,8 +1,9 @@
 //! Reads schemas.
 
 ghost use Rattle.spatial_sql.specs.Outcomes.{ReadsAs};
-ghost use Rattle.std.specs.Prelude.{◌≡◌};
+ghost use Rattle.std.specs.Prelude.{◌≡◌, IfOk, Ok};
 ghost use Rattle.table_model.specs.Outcomes.{Gives};
+ghost use Rattle.table_model.specs.SchemaGrammar.{IsSchema};
 ghost use Rattle.table_model.specs.SchemaReading as spec;
 
 use crate::cursor::Cursor;
@@ -54,14 +55,9 @@ fn schema(alloc: Global, tokens: &mut Cursor<'_, '_>) -> Result<Vec<TableDef>, S
     Ok(tables)
 }
 
-/// Reads the text of a schema: tables in the grammar of `specs/SchemaReading.antt` of `table_model`. Words are taken
-/// in any ASCII case. A text of more than 65,536 bytes is `TooLong`. Otherwise the first fault from left to right is
-/// answered, with its byte: `Syntax` at the first token that can't stand there, or at the text's length;
-/// `TooMany` at the name of the 17th table or the 33rd column of a table; `DoubleName` at the second of two equal
-/// names of tables, or of columns of a table; `TwoKeys` at the second PRIMARY of a table; `NoKey` at the closing
-/// parenthesis of a table without key; or `OutOfMemory`.
+/// Reads the text of a schema: its length is looked at first, then its grammar.
 #[tactic(auto, unfolding(table_model::specs::SchemaReading::schema_of))]
-pub fn read_schema(alloc: Global, text: &[u8]) -> Result<Schema, SchemaFault>
+fn read(alloc: Global, text: &[u8]) -> Result<Schema, SchemaFault>
     ensures { Gives SchemaFault.OutOfMemory (λ schema. schema) result (spec.schema_of spec.no_geometry_type text.now) }
 {
     if text.len() > MOST_BYTES {
@@ -71,4 +67,17 @@ pub fn read_schema(alloc: Global, text: &[u8]) -> Result<Schema, SchemaFault>
     let mut cursor = Cursor::new(tokens.as_slice());
     let tables = schema(alloc, &mut cursor)?;
     Ok(Schema::of(tables))
+}
+
+/// Reads the text of a schema: tables in the grammar of `specs/SchemaReading.antt` of `table_model`. Words are taken
+/// in any ASCII case. A text of more than 65,536 bytes is `TooLong`. Otherwise the first fault from left to right is
+/// answered, with its byte: `Syntax` at the first token that can't stand there, or at the text's length;
+/// `TooMany` at the name of the 17th table or the 33rd column of a table; `DoubleName` at the second of two equal
+/// names of tables, or of columns of a table; `TwoKeys` at the second PRIMARY of a table; `NoKey` at the closing
+/// parenthesis of a table without key; or `OutOfMemory`.
+pub fn read_schema(alloc: Global, text: &[u8]) -> Result<Schema, SchemaFault>
+    ensures ok { IfOk result (λ schema. IsSchema spec.no_geometry_type text.now schema) }
+    ensures exact { Gives SchemaFault.OutOfMemory (λ schema. schema) result (spec.schema_of spec.no_geometry_type text.now) }
+{
+    read(alloc, text)
 }

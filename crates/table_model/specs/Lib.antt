@@ -20,3 +20,4 @@ pub mod Work
 pub mod ExplainTexts
 pub mod PlanExamples
 pub mod PlanLaws
+pub mod SchemaGrammar

@@ -1,6 +1,18 @@
+use Rattle.std.proofs.Common.{Result, Ok, Err, IfOk, List, ℕ}
+use Rattle.spatial_sql.proofs.SchemaLaws.{given_is_schema}
+use Rattle.table_model.specs.declared.definitions.TableDef.{TableDef}
+use Rattle.table_model.specs.declared.faults.SchemaFault.{SchemaFault}
+use Rattle.table_model.specs.declared.faults.SchemaFault.TheVariants as fault
+use Rattle.table_model.specs.declared.values.NoGeometry.{NoGeometry}
+use Rattle.table_model.specs.Outcomes.{Gives}
+use Rattle.table_model.specs.SchemaGrammar.{IsSchema}
 use Rattle.table_model.specs.SchemaReading as spec
-use Rattle.spatial_sql.proofs.LawfulSchemas.{lawful-from_schema}
 use Rattle.spatial_sql.proofs.schema.read_schema.Goals as goal
 
-pub of-requires : goal.of-requires
-of-requires c = lawful-from_schema spec.no_geometry_type _ _ _ c.in_ok-tables.ensures
+is_schema : (text : List ℕ) (r : Result (List (TableDef NoGeometry)) SchemaFault) → Gives fault.OutOfMemory (λ s. s) r (spec.schema_of spec.no_geometry_type text)
+    → IfOk r (λ s. IsSchema spec.no_geometry_type text s)
+is_schema text (Ok s) e = given_is_schema spec.no_geometry_type text s e
+is_schema text (Err e) h = tt
+
+pub returns-clause-ok : goal.returns-clause-ok
+returns-clause-ok c = is_schema c.args.text.now c.read.result c.read.ensures

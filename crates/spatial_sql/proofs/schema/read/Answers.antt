@@ -1,0 +1,6 @@
+use Rattle.table_model.specs.SchemaReading as spec
+use Rattle.spatial_sql.proofs.LawfulSchemas.{lawful-from_schema}
+use Rattle.spatial_sql.proofs.schema.read.Goals as goal
+
+pub of-requires : goal.of-requires
+of-requires c = lawful-from_schema spec.no_geometry_type _ _ _ c.in_ok-tables.ensures
