@@ -10,14 +10,12 @@ packages. It is no test: the gate doesn't run it.
 """
 
 import argparse
-import os
 import pathlib
 import random
 import shutil
 import subprocess
 import sys
 import tempfile
-import time
 
 SIZES = (1_000, 10_000, 100_000)
 SCHEMA = "CREATE TABLE t (id INTEGER PRIMARY KEY, pop INTEGER, name TEXT);"
@@ -43,24 +41,37 @@ def make_table(folder, rows):
     return table.stat().st_size
 
 
+# Runs a command and prints its wall seconds, processor seconds, peak kilobytes and status. It is a process of its own,
+# since a process starts with its parent's peak: so a peak below that of this small one can't be told.
+PROBE = """
+import os, sys, time
+begun = time.perf_counter()
+child = os.posix_spawnp(sys.argv[2], sys.argv[2:], os.environ,
+    file_actions=[(os.POSIX_SPAWN_OPEN, 1, sys.argv[1], os.O_WRONLY | os.O_CREAT | os.O_TRUNC, 0o600)])
+_, status, usage = os.wait4(child, 0)
+wall = time.perf_counter() - begun
+print(wall, usage.ru_utime + usage.ru_stime, usage.ru_maxrss, os.waitstatus_to_exitcode(status))
+"""
+
+
 def measure(command, folder):
-    """Runs a command; answers wall seconds, processor seconds, peak kilobytes and its standard output."""
-    with tempfile.TemporaryFile() as output:
-        begun = time.perf_counter()
-        process = subprocess.Popen(command, cwd=folder, stdout=output, stdin=subprocess.DEVNULL)
-        _, status, usage = os.wait4(process.pid, 0)
-        wall = time.perf_counter() - begun
-        process.returncode = os.waitstatus_to_exitcode(status)
-        if process.returncode != 0:
-            sys.exit(f"{command[0]} ended with status {process.returncode}")
-        output.seek(0)
-        return wall, usage.ru_utime + usage.ru_stime, usage.ru_maxrss, output.read()
+    """Runs a command; answers wall seconds, processor seconds and peak kilobytes. Its output goes to a file."""
+    output = str(folder / "output")
+    probe = subprocess.run(
+        [sys.executable, "-S", "-E", "-c", PROBE, output, *command], cwd=folder, stdout=subprocess.PIPE, check=True
+    )
+    wall, processor, peak, status = probe.stdout.split()
+    if int(status) != 0:
+        sys.exit(f"{command[0]} ended with status {int(status)}")
+    return float(wall), float(processor), int(peak)
 
 
 def best(command, folder, repeats):
-    """The least times and the greatest memory of several runs, and the output."""
+    """The least times and the greatest memory of several runs, and the number of lines of the output."""
     runs = [measure(command, folder) for _ in range(repeats)]
-    return min(r[0] for r in runs), min(r[1] for r in runs), max(r[2] for r in runs), runs[0][3]
+    with open(folder / "output", "rb") as output:
+        lines = sum(1 for _ in output)
+    return min(r[0] for r in runs), min(r[1] for r in runs), max(r[2] for r in runs), lines
 
 
 def sqlite_command():
@@ -94,7 +105,7 @@ def main():
             size = make_table(folder, rows)
             ours = best(sfq_command, folder, repeats)
             theirs = best(sqlite_command(), folder, repeats)
-        if ours[3].count(b"\n") != theirs[3].count(b"\n"):
+        if ours[3] != theirs[3]:
             sys.exit(f"at {rows} rows the answers differ in their number of lines")
         for who, run in (("sfq", ours), ("sqlite3", theirs)):
             print(f"{rows:>7} {size / 1024:>7.0f}  {who:8} {run[0]:>8.3f} {run[1]:>8.3f} {run[2] / 1024:>8.1f}")
