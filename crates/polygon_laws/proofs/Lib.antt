@@ -3,3 +3,4 @@ pub mod Outside
 pub mod Nested
 pub mod Closing
 pub mod Holes
+pub mod Parting

@@ -3,10 +3,10 @@ use Rattle.std.specs.Prelude.{◌≡◌, ◌≢◌, ◌⊎◌, ◌↔◌, ℕ, �
 use Rattle.geometry_model.specs.Points.{Position, Point, IsPoint}
 use Rattle.geometry_model.specs.Geometries.{Edge, Geometry, Polygon, edges_of_line, edges_of_lines}
 use Rattle.geometry_model.specs.Sides.{on}
-use Rattle.geometry_model.specs.Crossings.{odd_above}
+use Rattle.geometry_model.specs.Crossings.{exactly_one, odd_above, odd_at_or_above}
 use Rattle.geometry_model.specs.Validity.{IsValid}
 use Rattle.geometry_model.specs.Dimensions.{weighted}
-use Rattle.geometry_model.specs.Locations.{locate}
+use Rattle.geometry_model.specs.Locations.{stands_at, locate}
 use Rattle.geometry_model.specs.Envelopes.{Envelope, envelope, meets}
 use Rattle.geometry_model.specs.declared.point_sets.Location.TheVariants.{Interior, Boundary, Exterior}
 use Rattle.geometry_laws.specs.RingLaws.{IsClosed, Misses}
@@ -43,3 +43,9 @@ HoleRingIsInside = (outer : List Position) (holes : List (List Position)) → Is
 abbrev pub HolesAreCut : Type 0
 HolesAreCut = (outer : List Position) (holes : List (List Position)) → IsValid (Polygon (outer ∷ holes)) → (p : Point) → IsPoint p → All (λ e. on e p ≡ false) (edges_of_lines (outer ∷ holes))
     → (locate (Polygon (outer ∷ holes)) p ≡ Interior) ↔ ((odd_above (outer ∷ []) p ≡ true) × All (λ hole. odd_above (hole ∷ []) p ≡ false) holes)
+
+-- in a valid polygon, at a point strictly within a ring edge that isn't upright, exactly one of the two numbers of edges, strictly above and at or above, is odd: the rings part the interior from the exterior there (06-103r4, 6.1.11.1)
+abbrev pub RingsPart : Type 0
+RingsPart = (rings : List (List Position)) → IsValid (Polygon rings) → (ring : List Position) → Contains rings ring → (e : Edge) → Contains (edges_of_line ring) e
+    → (p : Point) → IsPoint p → on e p ≡ true → stands_at p e.start ≡ false → stands_at p e.end ≡ false → e.start.x ≢ e.end.x
+    → exactly_one (odd_above rings p) (odd_at_or_above rings p) ≡ true

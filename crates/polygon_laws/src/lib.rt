@@ -1,7 +1,7 @@
 //! Laws of polygons and envelopes: what lies whole on one side of the rings, and what is outside. Nothing here runs: each function has an empty body, and its contract is a law.
 #![tactic(auto)]
 
-ghost use Rattle.polygon_laws.specs.PolygonLaws.{StretchStays, OutsideIsExterior, CommonPointMeets, ValidRingsAreClosed, HoleRingIsInside, HolesAreCut};
+ghost use Rattle.polygon_laws.specs.PolygonLaws.{StretchStays, OutsideIsExterior, CommonPointMeets, ValidRingsAreClosed, HoleRingIsInside, HolesAreCut, RingsPart};
 
 /// A straight stretch that misses the rings of a polygon lies whole in its interior or whole in its exterior (06-103r4, 6.1.11.1).
 pub fn stretch_stays()
@@ -31,4 +31,9 @@ pub fn hole_ring_is_inside()
 /// In a valid polygon a point off the rings is in the interior exactly when it is odd over the outer ring and odd over no hole (06-103r4, 6.1.11.1).
 pub fn holes_are_cut()
     ensures { HolesAreCut }
+{}
+
+/// In a valid polygon, at a point strictly within a ring edge that isn't upright, exactly one of the two numbers of edges, strictly above and at or above, is odd: the rings part the interior from the exterior there (06-103r4, 6.1.11.1).
+pub fn rings_part()
+    ensures { RingsPart }
 {}

@@ -1,0 +1,208 @@
+-- At a point strictly within a ring edge of a valid polygon that isn't upright, just that edge goes through the point: so the rings part the interior from the exterior there.
+use Rattle.std.proofs.Common.{ℕ, zero, suc, ◌+◌, ◌<◌, ◌≡◌, ◌⊎◌, inl, inr, Bool, true, false, if◌then◌else◌, ℤ, pos, ◌-ℤ◌, ◌<ℤ◌, ◌≤ℤ◌, int_le, refl, sym, ap, ap₂, ◌∙◌, List, [], ◌∷◌, length, Some, None, slice_get, Contains, arith}
+use borrow.Author.Differences.{ints}
+use Rattle.std.proofs.lemmas.Option.{slice_get-get_or}
+use Rattle.std.specs.Ordering.{int_eq}
+use Rattle.std.specs.declared.cmp.Ordering.{Ordering}
+use Rattle.std.specs.declared.cmp.Ordering.TheVariants.{Less, Equal, Greater}
+use Rattle.geometry_model.specs.Points.{Position, Point, IsPoint, point_at, same_point, compare}
+use Rattle.geometry_model.specs.Geometries.{Edge, Polygon, edges_of_line, edges_of_lines}
+use Rattle.geometry_model.specs.Sides.{side, on}
+use Rattle.geometry_model.specs.Crossings.{exactly_one as xor, reaches, spans, side_rightward, odd_above, odd_at_or_above}
+use Rattle.geometry_model.specs.Locations.{stands_at, last_after}
+use Rattle.geometry_model.specs.Validity.{IsValid, Clash, ShareOther}
+use Rattle.geometry_model.specs.declared.validity_faults.ValidityFault.TheVariants.{RingNotClosed, RingNotSimple, RingsMeet}
+use Rattle.integers.proofs.Signs.{at_most_yes, at_most_no}
+use Rattle.integers.proofs.Tests.{equal_yes}
+use Rattle.geometry_laws.specs.RingLaws.{IsClosed}
+use Rattle.geometry_laws.proofs.Plane.{right}
+use Rattle.geometry_laws.proofs.Each.{parity, parity_append}
+use Rattle.geometry_laws.proofs.Xor.{xor_self, xor_assoc}
+use Rattle.geometry_laws.proofs.Identities.{right_turned}
+use Rattle.geometry_laws.proofs.Scaling.{and_from}
+use Rattle.geometry_laws.proofs.LineSides.{side_turned}
+use Rattle.geometry_laws.proofs.PointOrder.{same_symmetric, equal_is_same}
+use Rattle.geometry_laws.proofs.Hulls.{on_parts}
+use Rattle.geometry_laws.proofs.RingParity.{reaches_is, position_is_point}
+use Rattle.geometry_laws.proofs.Locating.{start_is_on, end_is_on, by_contraries}
+use Rattle.geometry_laws.proofs.Cuts.{turn_less, not_after_both, not_before_both, same_end}
+use Rattle.geometry_laws.proofs.WithinPiece.{touches, on_from_touch, strictly_right, parity_at_or_above}
+use Rattle.polygon_laws.proofs.Closing.{closed}
+
+-- ---- by place
+pub place_from_contains : {X : Type 0} (xs : List X) (x : X) (c : Contains xs x) → slice_get xs c.0 ≡ Some x
+place_from_contains xs x c = slice_get-get_or xs c.0 x c.1 ∙ ap Some c.2
+
+-- ---- the edge goes through the point
+reaches_yes : (a : Position) (x : Point) → pos 0 <ℤ right (point_at a) x → reaches a x ≡ true
+reaches_yes a x h = reaches_is a x ∙ at_most_yes (pos 0) (right (point_at a) x) (weak (right (point_at a) x) h)
+  where
+    weak : (s : ℤ) → pos 0 <ℤ s → pos 0 ≤ℤ s
+    weak s h = omega (arith, ints)
+
+reaches_no : (a : Position) (x : Point) → pos 0 <ℤ right x (point_at a) → reaches a x ≡ false
+reaches_no a x h = reaches_is a x ∙ at_most_no (pos 0) (right (point_at a) x) (turned (right x (point_at a)) (right (point_at a) x) (right_turned x (point_at a)) h)
+  where
+    turned : (s t : ℤ) → t ≡ pos 0 -ℤ s → pos 0 <ℤ s → t <ℤ pos 0
+    turned s t e h = omega (arith, ints)
+
+flat : (e : Edge) (p : Point) → side e.start e.end p ≡ pos 0 → side_rightward e p ≡ pos 0
+flat e p h = go (int_le e.start.x e.end.x)
+  where
+    turned : (s t : ℤ) → t ≡ pos 0 -ℤ s → s ≡ pos 0 → t ≡ pos 0
+    turned s t e h = omega (arith, ints)
+
+    go : (t : Bool) → (if t then side e.start e.end p else side e.end e.start p) ≡ pos 0
+    go true = h
+    go false = turned (side e.start e.end p) (side e.end e.start p) (side_turned e.start e.end p) h
+
+pub goes_through : (e : Edge) (p : Point) → IsPoint p → on e p ≡ true → stands_at p e.start ≡ false → stands_at p e.end ≡ false → (e.start.x ≡ e.end.x → ⊥) → touches e p ≡ true
+goes_through e p hp h s t f = and_from (spans e p) (int_eq (side_rightward e p) (pos 0)) (go (compare (point_at e.start) p) refl (compare (point_at e.end) p) refl) (equal_yes (side_rightward e p) (pos 0) (flat e p ((on_parts e p h).on_line)))
+  where
+    no_way : (t : Bool) → t ≡ true → t ≡ false → ⊥
+    no_way t e f = let z : true ≡ false = sym e ∙ f in absurd (cc)
+
+    start_line : side e.start e.end (point_at e.start) ≡ pos 0
+    start_line = (on_parts e (point_at e.start) (start_is_on e (point_at e.start) (position_is_point e.start) (same_end e.start))).on_line
+
+    end_line : side e.start e.end (point_at e.end) ≡ pos 0
+    end_line = (on_parts e (point_at e.end) (end_is_on e (point_at e.end) (position_is_point e.end) (same_end e.end))).on_line
+
+    go : (o : Ordering) → compare (point_at e.start) p ≡ o → (u : Ordering) → compare (point_at e.end) p ≡ u → spans e p ≡ true
+    go Less k Less l = absurd (no_way (on e p) h (not_after_both e p hp k l))
+    go Less k Equal l = absurd (no_way (stands_at p e.end) ((equal_is_same (point_at e.end) p).0 l) t)
+    go Less k Greater l = ap₂ xor
+        (reaches_yes e.start p (strictly_right e.start e.end (point_at e.start) p f start_line ((on_parts e p h).on_line) k))
+        (reaches_no e.end p (strictly_right e.start e.end p (point_at e.end) f ((on_parts e p h).on_line) end_line (turn_less (point_at e.end) p l)))
+    go Equal k u l = absurd (no_way (stands_at p e.start) ((equal_is_same (point_at e.start) p).0 k) s)
+    go Greater k Less l = ap₂ xor
+        (reaches_no e.start p (strictly_right e.start e.end p (point_at e.start) f ((on_parts e p h).on_line) start_line (turn_less (point_at e.start) p k)))
+        (reaches_yes e.end p (strictly_right e.start e.end (point_at e.end) p f end_line ((on_parts e p h).on_line) l))
+    go Greater k Equal l = absurd (no_way (stands_at p e.end) ((equal_is_same (point_at e.end) p).0 l) t)
+    go Greater k Greater l = absurd (no_way (on e p) h (not_before_both e p hp (turn_less (point_at e.start) p k) (turn_less (point_at e.end) p l)))
+
+-- ---- one that passes, at one place
+one_parity : {X : Type 0} (f : X → Bool) (xs : List X) (j : ℕ) (x : X) → slice_get xs j ≡ Some x → f x ≡ true → ((k : ℕ) (y : X) → (k ≡ j → ⊥) → slice_get xs k ≡ Some y → f y ≡ false) → parity f xs ≡ true
+one_parity f [] j x e h g = absurd (let z : None ≡ Some x = e in cc)
+one_parity {X} f (y ∷ ys) zero x e h g = ap₂ xor (ap f same ∙ h) (none ys (λ k z q. g (suc k) z (λ w. absurd (omega (arith, w))) q))
+  where
+    same : y ≡ x
+    same = let z : Some y ≡ Some x = e in cc
+
+    none : (zs : List X) → ((k : ℕ) (z : X) → slice_get zs k ≡ Some z → f z ≡ false) → parity f zs ≡ false
+    none [] n = refl
+    none (z ∷ zs) n = ap₂ xor (n 0 z refl) (none zs (λ k w q. n (suc k) w q))
+one_parity f (y ∷ ys) (suc j) x e h g = ap₂ xor (g 0 y (λ w. absurd (omega (arith, w))) refl) (one_parity f ys j x e h (λ k z n q. g (suc k) z (λ w. n (omega (arith, w))) q))
+
+none_parity : {X : Type 0} (f : X → Bool) (xs : List X) → ((k : ℕ) (y : X) → slice_get xs k ≡ Some y → f y ≡ false) → parity f xs ≡ false
+none_parity f [] n = refl
+none_parity f (y ∷ ys) n = ap₂ xor (n 0 y refl) (none_parity f ys (λ k z q. n (suc k) z q))
+
+over_rings : (f : Edge → Bool) (rs : List (List Position)) → parity f (edges_of_lines rs) ≡ parity (λ r. parity f (edges_of_line r)) rs
+over_rings f [] = refl
+over_rings f (r ∷ rs) = parity_append f (edges_of_line r) (edges_of_lines rs) ∙ ap (xor (parity f (edges_of_line r))) (over_rings f rs)
+
+-- ---- neighbours of a ring
+abbrev record_of : Position → Position → Edge
+record_of a b = record { start = a; end = b }
+
+chain : (l : List Position) (k : ℕ) (g h : Edge) → slice_get (edges_of_line l) k ≡ Some g → slice_get (edges_of_line l) (suc k) ≡ Some h → g.end ≡ h.start
+chain [] k g h e f = absurd (let z : None ≡ Some g = e in cc)
+chain (a ∷ []) k g h e f = absurd (let z : None ≡ Some g = e in cc)
+chain (a ∷ b ∷ []) k g h e f = absurd (let z : None ≡ Some h = f in cc)
+chain (a ∷ b ∷ c ∷ rest) zero g h e f = sym (ap (λ (d : Edge). d.end) first_is) ∙ ap (λ (d : Edge). d.start) second_is
+  where
+    first_is : record_of a b ≡ g
+    first_is = let z : Some (record_of a b) ≡ Some g = e in cc
+
+    second_is : record_of b c ≡ h
+    second_is = let z : Some (record_of b c) ≡ Some h = f in cc
+chain (a ∷ b ∷ c ∷ rest) (suc k) g h e f = chain (b ∷ c ∷ rest) k g h e f
+
+first_start : (a : Position) (rest : List Position) (g : Edge) → slice_get (edges_of_line (a ∷ rest)) 0 ≡ Some g → g.start ≡ a
+first_start a [] g e = absurd (let z : None ≡ Some g = e in cc)
+first_start a (b ∷ rest) g e = sym (ap (λ (d : Edge). d.start) same)
+  where
+    same : record_of a b ≡ g
+    same = let z : Some (record_of a b) ≡ Some g = e in cc
+
+last_end : (a : Position) (rest : List Position) (k : ℕ) (g : Edge) → slice_get (edges_of_line (a ∷ rest)) k ≡ Some g → k + 1 ≡ length (edges_of_line (a ∷ rest)) → g.end ≡ last_after a rest
+last_end a [] k g e n = absurd (let z : None ≡ Some g = e in cc)
+last_end a (b ∷ []) zero g e n = sym (ap (λ (d : Edge). d.end) same)
+  where
+    same : record_of a b ≡ g
+    same = let z : Some (record_of a b) ≡ Some g = e in cc
+last_end a (b ∷ []) (suc k) g e n = absurd (let z : None ≡ Some g = e in cc)
+last_end a (b ∷ c ∷ rest) zero g e n = absurd (omega (arith, n))
+last_end a (b ∷ c ∷ rest) (suc k) g e n = last_end b (c ∷ rest) k g e (omega (arith, n))
+
+around : (ring : List Position) (j : ℕ) (e f : Edge) → IsClosed ring → slice_get (edges_of_line ring) 0 ≡ Some e → slice_get (edges_of_line ring) j ≡ Some f → j + 1 ≡ length (edges_of_line ring) → e.start ≡ f.end
+around [] j e f c g h n = absurd (let z : None ≡ Some e = g in cc)
+around (a ∷ rest) j e f c g h n = first_start a rest e g ∙ sym c ∙ sym (last_end a rest j f h n)
+
+-- ---- no other edge of the ring goes through the point
+equal_or_not : (i j : ℕ) → (i ≡ j) ⊎ (i ≡ j → ⊥)
+equal_or_not i j = grind arith
+
+less_or_more : (i j : ℕ) → (i ≡ j → ⊥) → (i < j) ⊎ (j < i)
+less_or_more i j n = grind arith
+
+-- two edges of one ring, the one before the other, through a point that is none of their common positions
+clashes : (ring : List Position) → IsClosed ring → (i j : ℕ) (e f : Edge) → i < j → slice_get (edges_of_line ring) i ≡ Some e → slice_get (edges_of_line ring) j ≡ Some f → (p : Point) → IsPoint p → on e p ≡ true → on f p ≡ true
+    → (same_point p (point_at e.end) ≡ false) ⊎ (same_point p (point_at f.start) ≡ false) → (same_point p (point_at e.start) ≡ false) ⊎ (same_point p (point_at f.end) ≡ false) → Clash (length (edges_of_line ring)) i j e f
+clashes ring c i j e f l g h p hp k m s t = go (equal_or_not j (i + 1)) (equal_or_not i 0) (equal_or_not (j + 1) (length (edges_of_line ring)))
+  where
+    other : (q : Position) → same_point p (point_at q) ≡ false → ShareOther q e f
+    other q n = record { at = p; is_point = hp; on_first = k; on_second = m; other = n }
+
+    next : j ≡ i + 1 → (same_point p (point_at e.end) ≡ false) ⊎ (same_point p (point_at f.start) ≡ false) → same_point p (point_at e.end) ≡ false
+    next q (inl n) = n
+    next q (inr n) = ap (λ (b : Position). same_point p (point_at b)) (chain ring i e f g (ap (slice_get (edges_of_line ring)) (successor i j q) ∙ h)) ∙ n
+      where
+        successor : (i j : ℕ) → j ≡ i + 1 → suc i ≡ j
+        successor i j q = omega (arith, q)
+
+    round : i ≡ 0 → j + 1 ≡ length (edges_of_line ring) → (same_point p (point_at e.start) ≡ false) ⊎ (same_point p (point_at f.end) ≡ false) → same_point p (point_at e.start) ≡ false
+    round q w (inl n) = n
+    round q w (inr n) = ap (λ (b : Position). same_point p (point_at b)) (around ring j e f c (ap (slice_get (edges_of_line ring)) (sym q) ∙ g) h w) ∙ n
+
+    go : ((j ≡ i + 1) ⊎ (j ≡ i + 1 → ⊥)) → ((i ≡ 0) ⊎ (i ≡ 0 → ⊥)) → ((j + 1 ≡ length (edges_of_line ring)) ⊎ (j + 1 ≡ length (edges_of_line ring) → ⊥)) → Clash (length (edges_of_line ring)) i j e f
+    go (inl q) w v = inl (q, other e.end (next q s))
+    go (inr q) (inl w) (inl v) = inr (inl (w, v, other e.start (round w v t)))
+    go (inr q) (inl w) (inr v) = inr (inr (q, (λ b. v b.1), record { at = p; is_point = hp; on_first = k; on_second = m }))
+    go (inr q) (inr w) v = inr (inr (q, (λ b. w b.0), record { at = p; is_point = hp; on_first = k; on_second = m }))
+
+-- ---- exactly one of the two parities
+apart_from : (a : Position) (p : Point) → stands_at p a ≡ false → same_point p (point_at a) ≡ false
+apart_from a p h = same_symmetric p (point_at a) ∙ h
+
+pub rings_part : (rs : List (List Position)) → IsValid (Polygon rs) → (i : ℕ) (ring : List Position) → slice_get rs i ≡ Some ring → (j : ℕ) (e : Edge) → slice_get (edges_of_line ring) j ≡ Some e
+    → (p : Point) → IsPoint p → on e p ≡ true → stands_at p e.start ≡ false → stands_at p e.end ≡ false → (e.start.x ≡ e.end.x → ⊥) → xor (odd_above rs p) (odd_at_or_above rs p) ≡ true
+rings_part rs v i ring ri j e ej p hp h s t f = ap (xor (odd_above rs p)) (parity_at_or_above rs p) ∙ sym (xor_assoc (odd_above rs p) (odd_above rs p) (parity (λ g. touches g p) (edges_of_lines rs)))
+    ∙ ap (λ (b : Bool). xor b (parity (λ g. touches g p) (edges_of_lines rs))) (xor_self (odd_above rs p)) ∙ over_rings (λ g. touches g p) rs
+    ∙ one_parity (λ r. parity (λ g. touches g p) (edges_of_line r)) rs i ring ri
+    (one_parity (λ g. touches g p) (edges_of_line ring) j e ej (goes_through e p hp h s t f) same_ring) other_ring
+  where
+    off : (g : Edge) → (on g p ≡ true → ⊥) → touches g p ≡ false
+    off g n = by_contraries (touches g p) (on g p) (on_from_touch g p hp) (by_contraries (on g p) false (λ q. absurd (n q)) refl)
+
+    ring_closed : IsClosed ring
+    ring_closed = closed ring (λ n. v (RingNotClosed i) (ring, ri, n))
+
+    not_simple : (a b : ℕ) (g k : Edge) → a < b → slice_get (edges_of_line ring) a ≡ Some g → slice_get (edges_of_line ring) b ≡ Some k → on g p ≡ true → on k p ≡ true
+        → (same_point p (point_at g.end) ≡ false) ⊎ (same_point p (point_at k.start) ≡ false) → (same_point p (point_at g.start) ≡ false) ⊎ (same_point p (point_at k.end) ≡ false) → ⊥
+    not_simple a b g k l ga kb m n u w = v (RingNotSimple i) (ring, ri, record { i = a; j = b; e = g; f = k; later = l; first = ga; second = kb; clash = clashes ring (closed ring (λ q. v (RingNotClosed i) (ring, ri, q))) a b g k l ga kb p hp m n u w })
+
+    same_ring : (k : ℕ) (g : Edge) → (k ≡ j → ⊥) → slice_get (edges_of_line ring) k ≡ Some g → touches g p ≡ false
+    same_ring k g n gk = off g (λ m. pick m (less_or_more k j n))
+      where
+        pick : on g p ≡ true → (k < j) ⊎ (j < k) → ⊥
+        pick m (inl l) = not_simple k j g e l gk ej m h (inr (apart_from e.start p s)) (inr (apart_from e.end p t))
+        pick m (inr l) = not_simple j k e g l ej gk h m (inl (apart_from e.end p t)) (inl (apart_from e.start p s))
+
+    other_ring : (k : ℕ) (r : List Position) → (k ≡ i → ⊥) → slice_get rs k ≡ Some r → parity (λ g. touches g p) (edges_of_line r) ≡ false
+    other_ring k r n rk = none_parity (λ g. touches g p) (edges_of_line r) (λ m g gm. off g (λ q. pick m g gm q (less_or_more k i n)))
+      where
+        pick : (m : ℕ) (g : Edge) → slice_get (edges_of_line r) m ≡ Some g → on g p ≡ true → (k < i) ⊎ (i < k) → ⊥
+        pick m g gm q (inl l) = v (RingsMeet k i) (r, ring, l, rk, ri, record { i = m; j = j; e = g; f = e; first = gm; second = ej; share = record { at = p; is_point = hp; on_first = q; on_second = h } })
+        pick m g gm q (inr l) = v (RingsMeet i k) (ring, r, l, ri, rk, record { i = j; j = m; e = e; f = g; first = ej; second = gm; share = record { at = p; is_point = hp; on_first = h; on_second = q } })

@@ -1,0 +1,6 @@
+use Rattle.geometry_model.specs.Geometries.{edges_of_line}
+use Rattle.polygon_laws.proofs.Parting.{rings_part, place_from_contains}
+use Rattle.polygon_laws.proofs.rings_part.Goals as goal
+
+pub returns : goal.returns
+returns _ rings v ring r e m p hp h s t f = rings_part rings v r.0 ring (place_from_contains rings ring r) m.0 e (place_from_contains (edges_of_line ring) e m) p hp h s t f
