@@ -21,3 +21,4 @@ pub mod ExplainTexts
 pub mod PlanExamples
 pub mod PlanLaws
 pub mod SchemaGrammar
+pub mod BindingExamples

@@ -4,6 +4,7 @@
 //! types that the definitions and the programs share.
 #![tactic(auto)]
 
+pub mod binding_examples;
 pub mod conditions;
 pub mod definitions;
 pub mod faults;

@@ -1,0 +1,44 @@
+-- Worked examples of binding: a table of three columns, and names written at byte 7 of a query.
+use Rattle.std.specs.Prelude.{ℕ, false, List, [], ◌∷◌, codes, Option, Some, None, Result}
+use Rattle.table_model.specs.Binding.{bound_comparison, no_geometry}
+use Rattle.table_model.specs.declared.conditions.Comparison.TheVariants as signs
+use Rattle.table_model.specs.declared.conditions.Cond.{Cond}
+use Rattle.table_model.specs.declared.conditions.Reference.{Reference}
+use Rattle.table_model.specs.declared.definitions.ColumnType.TheVariants as types
+use Rattle.table_model.specs.declared.definitions.TableDef.{TableDef}
+use Rattle.table_model.specs.declared.faults.QueryFault.{QueryFault}
+use Rattle.table_model.specs.declared.queries.Name.{Name}
+use Rattle.table_model.specs.declared.queries.WrittenColumn.{WrittenColumn}
+use Rattle.table_model.specs.declared.queries.WrittenOperand.TheVariants as operands
+use Rattle.table_model.specs.declared.values.NoGeometry.{NoGeometry}
+
+-- the schema of one table t with columns id, the key, pop and name (profile)
+abbrev pub towns : List (TableDef NoGeometry)
+towns =
+    record {
+      name = codes "t";
+      columns =
+          record { name = codes "id"; column_type = types.Integer; not_null = false }
+          ∷ record { name = codes "pop"; column_type = types.Integer; not_null = false }
+          ∷ record { name = codes "name"; column_type = types.Text; not_null = false }
+          ∷ [];
+      key = 0;
+    }
+    ∷ []
+
+-- a reference of that table by some name (profile)
+abbrev pub called : List ℕ → Reference
+called name = record { table = 0; name = name }
+
+-- a column without reference (profile)
+abbrev pub bare : List ℕ → WrittenColumn
+bare name = record { reference = None; name = record { text = name; at = 7 } }
+
+-- a column with a reference (profile)
+abbrev pub qualified : List ℕ → List ℕ → WrittenColumn
+qualified reference name = record { reference = Some (record { text = reference; at = 7 }); name = record { text = name; at = 9 } }
+
+-- a comparison of a column with the text x, at byte 23 (profile)
+abbrev pub compared_with_x : List ℕ → Result (Cond NoGeometry) QueryFault
+compared_with_x name =
+    bound_comparison no_geometry towns (called (codes "t") ∷ []) 23 signs.Equal (operands.Column (bare name)) (operands.Text (record { text = codes "x"; at = 29 }))
