@@ -4,3 +4,4 @@ pub mod Nested
 pub mod Closing
 pub mod Holes
 pub mod Parting
+pub mod Empty

@@ -5,9 +5,11 @@ use Rattle.geometry_model.specs.Geometries.{Edge, Geometry, Polygon, edges_of_li
 use Rattle.geometry_model.specs.Sides.{on}
 use Rattle.geometry_model.specs.Crossings.{exactly_one, odd_above, odd_at_or_above}
 use Rattle.geometry_model.specs.Validity.{IsValid}
-use Rattle.geometry_model.specs.Dimensions.{weighted}
+use Rattle.geometry_model.specs.Dimensions.{weighted, Matrix, cell, IsMatrix}
 use Rattle.geometry_model.specs.Locations.{stands_at, locate}
 use Rattle.geometry_model.specs.Envelopes.{Envelope, envelope, meets}
+use Rattle.geometry_model.specs.declared.point_sets.Dimension.TheVariants.{Empty}
+use Rattle.geometry_model.specs.declared.point_sets.Location.{Location}
 use Rattle.geometry_model.specs.declared.point_sets.Location.TheVariants.{Interior, Boundary, Exterior}
 use Rattle.geometry_laws.specs.RingLaws.{IsClosed, Misses}
 use Rattle.geometry_laws.specs.PieceLaws.{HasClosedRings}
@@ -49,3 +51,8 @@ abbrev pub RingsPart : Type 0
 RingsPart = (rings : List (List Position)) → IsValid (Polygon rings) → (ring : List Position) → Contains rings ring → (e : Edge) → Contains (edges_of_line ring) e
     → (p : Point) → IsPoint p → on e p ≡ true → stands_at p e.start ≡ false → stands_at p e.end ≡ false → e.start.x ≢ e.end.x
     → exactly_one (odd_above rings p) (odd_at_or_above rings p) ≡ true
+
+-- where the envelopes of two geometries don't meet, no part but the exterior of the one has a point in a part but the exterior of the other (06-103r4, 6.1.2.2 and 6.1.15.2)
+abbrev pub NothingCommon : Type 0
+NothingCommon = (a b : Geometry) → HasClosedRings a → HasClosedRings b → meets (envelope a) (envelope b) ≡ false → (m : Matrix) → IsMatrix a b m
+    → (l k : Location) → l ≢ Exterior → k ≢ Exterior → cell m l k ≡ Empty

@@ -1,7 +1,7 @@
 //! Laws of polygons and envelopes: what lies whole on one side of the rings, and what is outside. Nothing here runs: each function has an empty body, and its contract is a law.
 #![tactic(auto)]
 
-ghost use Rattle.polygon_laws.specs.PolygonLaws.{StretchStays, OutsideIsExterior, CommonPointMeets, ValidRingsAreClosed, HoleRingIsInside, HolesAreCut, RingsPart};
+ghost use Rattle.polygon_laws.specs.PolygonLaws.{StretchStays, OutsideIsExterior, CommonPointMeets, ValidRingsAreClosed, HoleRingIsInside, HolesAreCut, RingsPart, NothingCommon};
 
 /// A straight stretch that misses the rings of a polygon lies whole in its interior or whole in its exterior (06-103r4, 6.1.11.1).
 pub fn stretch_stays()
@@ -36,4 +36,9 @@ pub fn holes_are_cut()
 /// In a valid polygon, at a point strictly within a ring edge that isn't upright, exactly one of the two numbers of edges, strictly above and at or above, is odd: the rings part the interior from the exterior there (06-103r4, 6.1.11.1).
 pub fn rings_part()
     ensures { RingsPart }
+{}
+
+/// Where the envelopes of two geometries don't meet, their matrix is empty in the cells of interior and boundary with interior and boundary (06-103r4, 6.1.2.2 and 6.1.15.2).
+pub fn nothing_common()
+    ensures { NothingCommon }
 {}
