@@ -217,7 +217,7 @@ predicate_complete A x used t rest (inl (comparison, left, right, ex, (a, b, e, 
     go (m, d, g, compares, h) =
         let cut : used ++ t ∷ rest ≡ a ++ m ∷ (d ++ t ∷ rest) = split used a b d (t ∷ rest) m e g in
         let here : place (a ++ m ∷ (d ++ t ∷ rest)) ≡ place used =
-            sym (ap place cut) ∙ place_is used (t ∷ rest) (seq_begins BeginsOperand (IsOperand left) (IsComparison comparison ▸ IsOperand right) (operand_begins left) used (a, b, e, p, q)) in
+        sym (ap place cut) ∙ place_is used (t ∷ rest) (seq_begins BeginsOperand (IsOperand left) (IsComparison comparison ▸ IsOperand right) (operand_begins left) used (a, b, e, p, q)) in
         ap predicate cut ∙ compare_complete A comparison left right a d m t rest p compares h f
         ∙ ap (λ at. Ok (c.Compare at comparison left right, t ∷ rest)) here ∙ ap (λ y. Ok (y, t ∷ rest)) (sym ex)
 predicate_complete A x used t rest (inr (inl (operand, ex, (a, b, e, p, q)))) f = go (one_first _ (IsToken k.Null) b q)
@@ -235,6 +235,7 @@ predicate_complete A x used t rest (inr (inr (operand, ex, (a, b, e, p, q)))) f 
         let null = one_only _ n h in
         ap predicate (split used a b d (t ∷ rest) m e g) ∙ ap (λ l. predicate (a ++ m ∷ (l ++ t ∷ rest))) g2 ∙ ap (λ l. predicate (a ++ m ∷ v ∷ (l ++ t ∷ rest))) null.1
         ∙ not_null_complete A operand a m v null.0 t rest p is isnt null.2 ∙ ap (λ y. Ok (y, t ∷ rest)) (sym ex)
+
     go : ((m : Token) × (d : List Token) × (b ≡ m ∷ d) × (m.kind ≡ k.Is) × (IsToken k.Not ▸ IsToken k.Null) d) → predicate (used ++ t ∷ rest) ≡ Ok (x, t ∷ rest)
     go (m, d, g, is, h) = further m d g is (one_first _ (IsToken k.Null) d h)
 
@@ -289,8 +290,13 @@ chain_complete {A} between join part P F mid whole x used t rest (inr (first, se
   where
     go : ((m : Token) × (d : List Token) × (b ≡ m ∷ d) × (m.kind ≡ between) × IsParts between P second more d) → chain between join part (used ++ t ∷ rest) ≡ Ok (x, t ∷ rest)
     go (m, d, g, is, h) =
-        rw (ex, split used a b d (t ∷ rest) m e g, whole first a m (d ++ t ∷ rest) p (ends_by F m.kind between is mid), is_kind m.kind between is,
-            parts_complete between part P F mid whole more second (length (d ++ t ∷ rest)) (first ∷ []) d t rest h f.0 f.1 (turns_suffice between P more second d t rest h)) refl
+        rw (
+          ex,
+          split used a b d (t ∷ rest) m e g,
+          whole first a m (d ++ t ∷ rest) p (ends_by F m.kind between is mid),
+          is_kind m.kind between is,
+          parts_complete between part P F mid whole more second (length (d ++ t ∷ rest)) (first ∷ []) d t rest h f.0 f.1 (turns_suffice between P more second d t rest h),
+        ) refl
 
 abbrev pub EndsConjunction : TokenKind → Type 0
 EndsConjunction kind = EndsColumn kind × (same_kind kind k.And ≡ false)
@@ -444,7 +450,7 @@ reference_complete x used t rest (inr (inl (table, given, ex, (a, b, e, p, q))))
     let second : IsName given (word.0 ∷ []) = word.2 in
     ap reference cut
     ∙ reference_by table (Some given) (a ++ word.0 ∷ (t ∷ rest)) (word.0 ∷ (t ∷ rest)) (t ∷ rest)
-        (name_complete table a word.0 (t ∷ rest) p (ends_by EndsName word.0.kind k.Word word.2.0 refl)) (named_alias given (word.0 ∷ []) t rest second f)
+    (name_complete table a word.0 (t ∷ rest) p (ends_by EndsName word.0.kind k.Word word.2.0 refl)) (named_alias given (word.0 ∷ []) t rest second f)
     ∙ ap (λ y. Ok (y, t ∷ rest)) (sym ex)
 reference_complete x used t rest (inr (inr (table, given, ex, (a, b, e, p, q)))) f = go (one_first _ (IsName given) b q)
   where
@@ -452,7 +458,7 @@ reference_complete x used t rest (inr (inr (table, given, ex, (a, b, e, p, q))))
     go (m, d, g, is, h) =
         ap reference (split used a b d (t ∷ rest) m e g)
         ∙ reference_by table (Some given) (a ++ m ∷ (d ++ t ∷ rest)) (m ∷ (d ++ t ∷ rest)) (t ∷ rest)
-            (name_complete table a m (d ++ t ∷ rest) p (ends_by EndsName m.kind k.As is refl)) (as_alias given m d t rest is h f)
+        (name_complete table a m (d ++ t ∷ rest) p (ends_by EndsName m.kind k.As is refl)) (as_alias given m d t rest is h f)
         ∙ ap (λ y. Ok (y, t ∷ rest)) (sym ex)
 
 abbrev pub EndsWhere : TokenKind → Type 0
@@ -538,9 +544,12 @@ abbrev pub Rest4 : (A : Type 0) → Option (WrittenCond A) → List Token → Ty
 Rest4 A filter ts = (tail : List Token) × (where_condition ts ≡ Ok (filter, tail)) × (expect fault.Syntax k.End (after k.Semicolon tail) ≡ Ok (tt, [])) × Begins EndsReference ts
 
 rest4 : (A : Type 0) (filter : Option (WrittenCond A)) (ts : List Token) → (IsWhere filter ▸ IsTail) ts → Rest4 A filter ts
-rest4 A filter ts (a, b, e, p, q) =
-    (b, ap where_condition e ∙ complete_at where_condition IsWhere EndsWhere (where_complete A) filter a b p (begins_but EndsBoth EndsWhere b (λ kind f. f.0) (tail_begins b q)),
-        tail_read b q, where_begins A filter a b ts e p q)
+rest4 A filter ts (a, b, e, p, q) = (
+  b,
+  ap where_condition e ∙ complete_at where_condition IsWhere EndsWhere (where_complete A) filter a b p (begins_but EndsBoth EndsWhere b (λ kind f. f.0) (tail_begins b q)),
+  tail_read b q,
+  where_begins A filter a b ts e p q,
+)
 
 pub select_complete : (A C : Type 0) (q : Query A C) (ts : List Token) → IsSelect q ts → query ts ≡ Ok (q, [])
 unfolding same_kind
@@ -551,14 +560,16 @@ select_complete A C q ts (listed, first, filter, ex, p) = at_select (one_first _
     at_reference m ts1 a1 n ts3 e1 s cut f l1 (a, b, e, r, w) =
         let more = rest4 A filter b w in
         query_by_steps A C listed first filter ts ts1 (n ∷ ts3) ts3 b more.0
-            (ap (expect fault.Syntax k.Select) e1 ∙ expect_read k.Select m ts1 s)
-            (ap selection cut ∙ selection_complete C listed a1 n ts3 l1 (ends_by EndsItems n.kind k.From f ((refl, refl), refl)))
-            (expect_read k.From n ts3 f)
-            (ap reference e ∙ complete_at reference IsReference EndsReference reference_complete first a b r more.3)
-            more.1 more.2
+        (ap (expect fault.Syntax k.Select) e1 ∙ expect_read k.Select m ts1 s)
+        (ap selection cut ∙ selection_complete C listed a1 n ts3 l1 (ends_by EndsItems n.kind k.From f ((refl, refl), refl)))
+        (expect_read k.From n ts3 f)
+        (ap reference e ∙ complete_at reference IsReference EndsReference reference_complete first a b r more.3)
+        more.1 more.2
         ∙ ap (λ y. Ok (y, [])) (sym ex)
+
     at_from : (m : Token) (ts1 a1 b1 : List Token) → ts ≡ m ∷ ts1 → m.kind ≡ k.Select → ts1 ≡ a1 ++ b1 → IsSelection listed a1
         → ((n : Token) × (ts3 : List Token) × (b1 ≡ n ∷ ts3) × (n.kind ≡ k.From) × (IsReference first ▸ IsWhere filter ▸ IsTail) ts3) → query ts ≡ Ok (q, [])
     at_from m ts1 a1 b1 e1 s cut l1 (n, ts3, e2, f, r) = at_reference m ts1 a1 n ts3 e1 s (cut ∙ ap (λ l. a1 ++ l) e2) f l1 r
+
     at_select : ((m : Token) × (ts1 : List Token) × (ts ≡ m ∷ ts1) × (m.kind ≡ k.Select) × (IsSelection listed ▸ IsToken k.From ▸ IsReference first ▸ IsWhere filter ▸ IsTail) ts1) → query ts ≡ Ok (q, [])
     at_select (m, ts1, e1, s, (a1, b1, cut, l1, more)) = at_from m ts1 a1 b1 e1 s cut l1 (one_first _ (IsReference first ▸ IsWhere filter ▸ IsTail) b1 more)

@@ -97,7 +97,7 @@ IsComparison comparison = IsOne (λ t. comparison_of t.kind ≡ Some comparison)
 abbrev pub IsPredicate : {A : Type 0} → WrittenCond A → Phrase
 IsPredicate {A} x ts =
     ((comparison : Comparison) × (left right : WrittenOperand A) × (x ≡ c.Compare (place ts) comparison left right)
-        × (IsOperand left ▸ IsComparison comparison ▸ IsOperand right) ts)
+    × (IsOperand left ▸ IsComparison comparison ▸ IsOperand right) ts)
     ⊎ ((operand : WrittenOperand A) × (x ≡ c.IsNull operand) × (IsOperand operand ▸ IsToken k.Is ▸ IsToken k.Null) ts)
     ⊎ ((operand : WrittenOperand A) × (x ≡ c.Not (c.IsNull operand)) × (IsOperand operand ▸ IsToken k.Is ▸ IsToken k.Not ▸ IsToken k.Null) ts)
 
