@@ -6,6 +6,7 @@
 
 pub mod dimension_laws;
 pub mod geometry_examples;
+pub mod geometry_faults;
 pub mod least_form_laws;
 pub mod matrix_examples;
 pub mod point_set_laws;
@@ -19,6 +20,7 @@ pub mod text_laws;
 pub mod validity_examples;
 pub mod validity_faults;
 
+pub use geometry_faults::GeometryFault;
 pub use point_sets::{Dimension, Location};
 pub use relations::{Pattern, PatternCharacter, Predicate};
 pub use shapes::{GeometryType, Kind};

@@ -42,19 +42,20 @@ parts-put v xs i d a b c within before piece =
     rw add-one (subst (λ l. Appends a c l) (sym (parts-more v xs i d within))
     (Appends-then a b c (concat (map v (take i xs))) (v (get_or xs i d)) before piece))
 
+-- the text of parts in which three numbers stand
+abbrev joined : (table words number code first between second : List ℕ) → List ℕ
+joined table words number code first between second = ((table ++ words) ++ number) ++ ((code ++ first) ++ (between ++ second))
+
 -- the parts of a line, joined
-pub line_parts : (table words digits : List ℕ)
-    → concat (codes "sfq: " ∷ table ∷ words ∷ digits ∷ codes "\n" ∷ []) ≡ line_of ((table ++ words) ++ digits)
-line_parts table words digits = simp (append_assoc, append-nil)
+pub line_parts : (table words number code first between second : List ℕ)
+    → concat (codes "sfq: " ∷ table ∷ words ∷ number ∷ code ∷ first ∷ between ∷ second ∷ codes "\n" ∷ []) ≡ line_of (joined table words number code first between second)
+line_parts table words number code first between second = simp (append_assoc, append-nil)
 
 -- a front of the parts of a line is a front of the line
-pub line-front : {A E : Type 0} (r : Result A E) (old new : Option (List ℕ)) (table words digits p q s : List ℕ) → p ≡ table → q ≡ words → s ≡ digits
-    → OnErr r (AppendsFront old new (concat (codes "sfq: " ∷ p ∷ q ∷ s ∷ codes "\n" ∷ []))) → OnErr r (AppendsFront old new (line_of ((table ++ words) ++ digits)))
-line-front (Ok x) old new table words digits p q s e f h fact = tt
-line-front (Err y) old new table words digits p q s e f h fact =
-    let joined : concat (codes "sfq: " ∷ p ∷ q ∷ s ∷ codes "\n" ∷ []) ≡ line_of ((table ++ words) ++ digits) =
-    rw (e, f, h) (line_parts table words digits) in
-    subst (λ l. AppendsFront old new l) joined fact
+pub line-front : {A E : Type 0} (r : Result A E) (old new : Option (List ℕ)) (line parts : List ℕ) → parts ≡ line
+    → OnErr r (AppendsFront old new parts) → OnErr r (AppendsFront old new line)
+line-front (Ok x) old new line parts e fact = tt
+line-front (Err y) old new line parts e fact = subst (λ l. AppendsFront old new l) e fact
 
 -- the parts before a place are a front of the whole
 pub parts-begun : {X : Type 0} (v : X → List ℕ) (xs : List X) (i : ℕ) (a b : Option (List ℕ)) → Appends a b (concat (map v (take i xs))) → AppendsFront a b (concat (map v xs))

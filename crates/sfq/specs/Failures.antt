@@ -3,6 +3,7 @@ use Rattle.std.specs.Prelude.{ℕ, List, ◌++◌, Option, Some, None, decimal, 
 use Rattle.table_model.specs.FaultLines.{schema_text, load_text, query_text, memory_text, schema_status, load_status, query_status, line_of}
 use Rattle.sfq.specs.declared.failure.Failure.{Failure}
 use Rattle.sfq.specs.declared.failure.Failure.TheVariants as f
+use Rattle.sfq.specs.declared.failure.FaultWords.{FaultWords}
 use Rattle.sfq.specs.declared.failure.Words.{Words}
 
 -- the text of a failure (profile)
@@ -34,6 +35,18 @@ abbrev pub digits_of : Option ℕ → List ℕ
 digits_of None = codes ""
 digits_of (Some n) = decimal n
 
+-- the text of a geometry's fault, where its numbers have these digits (profile)
+abbrev pub fault_with : FaultWords → List ℕ → List ℕ → List ℕ
+fault_with f first second = (f.words.now ++ first) ++ (f.between.now ++ second)
+
+-- the text of a geometry's fault, and of none (profile)
+abbrev pub fault_text : FaultWords → List ℕ
+fault_text f = fault_with f (digits_of f.first) (digits_of f.second)
+
+-- the parts joined, where the numbers have these digits (profile)
+abbrev pub text_with : Words → List ℕ → List ℕ → List ℕ → List ℕ
+text_with w number first second = ((w.table.now ++ w.words.now) ++ number) ++ fault_with w.fault first second
+
 -- the parts joined (profile)
 abbrev pub words_text : Words → List ℕ
-words_text w = (w.table.now ++ w.words.now) ++ digits_of w.number
+words_text w = text_with w (digits_of w.number) (digits_of w.fault.first) (digits_of w.fault.second)

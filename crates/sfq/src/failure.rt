@@ -1,12 +1,14 @@
 //! Why the program ends without its answer: the line that it prints then, and its status.
 
-ghost use Rattle.std.specs.Prelude.{◌≡◌, ◌++◌, map, decimal, OnOk, OnErr};
+ghost use Rattle.std.specs.Prelude.{◌≡◌, ◌++◌, [], map, decimal, codes, OnOk, OnErr};
 ghost use Rattle.std.specs.List.{concat};
 ghost use Rattle.std.specs.Io.KnownBytes.{Appends};
-ghost use Rattle.table_model.specs.FaultLines.{schema_text, load_text, query_text, schema_status, load_status, query_status, line_of};
+ghost use Rattle.table_model.specs.FaultLines.{schema_text, load_text, query_text, geometry_text, schema_status, load_status, query_status, line_of};
 ghost use Rattle.wkt.specs.Sinks.{AppendsFront, CountsFailure};
-ghost use Rattle.sfq.specs.Failures.{failure_text, failure_line, failure_status, words_text};
+ghost use Rattle.sfq.specs.Failures.{failure_text, failure_line, failure_status, digits_of, fault_text, text_with, words_text};
+ghost use Rattle.geometry_model.specs.declared.geometry_faults.GeometryFault.TheVariants as g;
 
+use geometry_model::{GeometryFault, TextFault, ValidityFault};
 use itoa::Buffer;
 use table_model::faults::{LoadFault, QueryFault, SchemaFault};
 use wkt::{Sink, SinkFault, put_all};
@@ -30,12 +32,22 @@ pub enum Failure<'a> {
     OutOfMemory,
 }
 
-// The text of a failure in parts: a table's name, words, and a number where there is one.
+// The text of a geometry's fault in parts: words and a number where there is one, and the same again.
+#[derive(Drop)]
+struct FaultWords<'a> {
+    words: &'a str,
+    first: Option<usize>,
+    between: &'a str,
+    second: Option<usize>,
+}
+
+// The text of a failure in parts: a table's name, words, a number where there is one, and a geometry's fault.
 #[derive(Drop)]
 struct Words<'a> {
     table: &'a str,
-    words: &'static str,
+    words: &'a str,
     number: Option<usize>,
+    fault: FaultWords<'a>,
 }
 
 /// Puts the line of a failure: `sfq: `, its text and a line feed. It takes no memory. At Err the sink failed, and
@@ -46,13 +58,22 @@ pub fn fault_line<S: Sink>(failure: &Failure<'_>, sink: &mut S) -> Result<(), Si
     ensures failures { CountsFailure (S.failures sink.old) (S.failures sink.new) result }
 {
     let words = failure_words(failure);
-    match words.number {
-        Some(number) => {
-            let mut buffer = Buffer::new();
-            let digits = buffer.format(number);
-            put_line(sink, words.table, words.words, digits)
-        }
-        None => put_line(sink, words.table, words.words, ""),
+    let mut number = Buffer::new();
+    let mut first = Buffer::new();
+    let mut second = Buffer::new();
+    let number = digits(words.number, &mut number);
+    let first = digits(words.fault.first, &mut first);
+    let second = digits(words.fault.second, &mut second);
+    put_line(sink, &words, number, first, second)
+}
+
+// The digits of a number, and no byte of none.
+fn digits<'b>(number: Option<usize>, buffer: &'b mut Buffer) -> &'b str
+    ensures { result.now ≡ digits_of number }
+{
+    match number {
+        Some(number) => buffer.format(number),
+        None => "",
     }
 }
 
@@ -76,17 +97,21 @@ pub fn status(failure: &Failure<'_>) -> u8
     }
 }
 
-// Puts the program's name, these parts and a line feed.
-fn put_line<S: Sink>(sink: &mut S, table: &str, words: &str, digits: &str) -> Result<(), SinkFault>
-    ensures ok { OnOk result (Appends (S.taken sink.old) (S.taken sink.new) (line_of ((table.now ++ words.now) ++ digits.now))) }
-    ensures front { OnErr result (AppendsFront (S.taken sink.old) (S.taken sink.new) (line_of ((table.now ++ words.now) ++ digits.now))) }
+// Puts the program's name, the parts of a text with the digits of its numbers, and a line feed.
+fn put_line<'l, S: Sink>(sink: &mut S, words: &Words<'l>, number: &'l str, first: &'l str, second: &'l str) -> Result<(), SinkFault>
+    ensures ok { OnOk result (Appends (S.taken sink.old) (S.taken sink.new) (line_of (text_with words.now number.now first.now second.now))) }
+    ensures front { OnErr result (AppendsFront (S.taken sink.old) (S.taken sink.new) (line_of (text_with words.now number.now first.now second.now))) }
     ensures failures { CountsFailure (S.failures sink.old) (S.failures sink.new) result }
 {
     let parts = [
         b"sfq: ",
-        table.as_bytes(),
-        words.as_bytes(),
-        digits.as_bytes(),
+        words.table.as_bytes(),
+        words.words.as_bytes(),
+        number.as_bytes(),
+        words.fault.words.as_bytes(),
+        first.as_bytes(),
+        words.fault.between.as_bytes(),
+        second.as_bytes(),
         b"\n",
     ];
     put_parts(sink, &parts)
@@ -104,26 +129,78 @@ fn put_parts<S: Sink>(sink: &mut S, parts: &[&[u8]]) -> Result<(), SinkFault>
     Ok(())
 }
 
+impl<'a> FaultWords<'a> {
+    // No fault.
+    fn none() -> FaultWords<'a>
+        ensures { fault_text result ≡ [] }
+    {
+        FaultWords {
+            words: "",
+            first: None,
+            between: "",
+            second: None,
+        }
+    }
+
+    // A code with words behind it, and a number.
+    fn numbered(words: &'a str, first: usize) -> FaultWords<'a>
+        ensures { fault_text result ≡ words.entry.now ++ decimal first }
+    {
+        FaultWords {
+            words,
+            first: Some(first),
+            between: "",
+            second: None,
+        }
+    }
+
+    // A code, and two numbers.
+    fn paired(words: &'a str, first: usize, second: usize) -> FaultWords<'a>
+        ensures { fault_text result ≡ words.entry.now ++ (decimal first ++ (codes " " ++ decimal second)) }
+    {
+        FaultWords {
+            words,
+            first: Some(first),
+            between: " ",
+            second: Some(second),
+        }
+    }
+}
+
 impl<'a> Words<'a> {
     // The words alone, after a table's name or the empty one.
-    fn plain(table: &'a str, words: &'static str) -> Words<'a>
+    fn plain(table: &'a str, words: &'a str) -> Words<'a>
         ensures { words_text result ≡ table.entry.now ++ words.entry.now }
     {
         Words {
             table,
             words,
             number: None,
+            fault: FaultWords::none(),
         }
     }
 
     // The words and a number, after a table's name or the empty one.
-    fn numbered(table: &'a str, words: &'static str, number: usize) -> Words<'a>
+    fn numbered(table: &'a str, words: &'a str, number: usize) -> Words<'a>
         ensures { words_text result ≡ (table.entry.now ++ words.entry.now) ++ decimal number }
     {
         Words {
             table,
             words,
             number: Some(number),
+            fault: FaultWords::none(),
+        }
+    }
+
+    // The words, a number and a geometry's fault, after a table's name or the empty one.
+    fn with_fault(table: &'a str, words: &'a str, number: usize, fault: GeometryFault) -> Words<'a>
+        ensures { words_text result ≡ ((table.entry.now ++ words.entry.now) ++ decimal number) ++ (codes " " ++ geometry_text fault) }
+    {
+        Words {
+            table,
+            words,
+            number: Some(number),
+            fault: fault_words(fault),
         }
     }
 }
@@ -165,6 +242,8 @@ fn load_words<'a>(table: &'a str, fault: LoadFault) -> Words<'a>
         LoadFault::UnequalRecord(record) => Words::numbered(table, " L3 record ", record),
         LoadFault::NotUtf8(record) => Words::numbered(table, " L4 record ", record),
         LoadFault::BadInteger(record) => Words::numbered(table, " L5 record ", record),
+        LoadFault::BadGeometry(record, fault) => Words::with_fault(table, " L6 record ", record, fault),
+        LoadFault::WrongType(record) => Words::numbered(table, " L7 record ", record),
         LoadFault::NullNotAllowed(record) => Words::numbered(table, " L8 record ", record),
         LoadFault::DoubleKey(record) => Words::numbered(table, " L9 record ", record),
         LoadFault::TooManyRows => Words::plain(table, " L10"),
@@ -184,9 +263,47 @@ fn query_words<'a>(fault: QueryFault) -> Words<'a>
         QueryFault::UnknownColumn(at) => Words::numbered("", "Q5 at ", at),
         QueryFault::AmbiguousColumn(at) => Words::numbered("", "Q6 at ", at),
         QueryFault::TypeMismatch(at) => Words::numbered("", "Q7 at ", at),
+        QueryFault::BadGeometry(at, fault) => Words::with_fault("", "Q8 at ", at, fault),
+        QueryFault::BadPattern(at) => Words::numbered("", "Q9 at ", at),
         QueryFault::TooDeep(at) => Words::numbered("", "Q10 at ", at),
         QueryFault::TooLong => Words::plain("", "Q11"),
         QueryFault::NumberTooBig(at) => Words::numbered("", "Q12 at ", at),
         QueryFault::OutOfMemory => Words::plain("", "out of memory"),
+    }
+}
+
+fn fault_words<'a>(fault: GeometryFault) -> FaultWords<'a>
+    ensures { fault_text result ≡ codes " " ++ geometry_text fault }
+{
+    match fault {
+        GeometryFault::Text(fault) => text_words(fault),
+        GeometryFault::Invalid(fault) => validity_words(fault),
+    }
+}
+
+fn text_words<'a>(fault: TextFault) -> FaultWords<'a>
+    ensures { fault_text result ≡ codes " " ++ geometry_text (g.Text fault) }
+{
+    match fault {
+        TextFault::Syntax(at) => FaultWords::numbered(" W1 at ", at),
+        TextFault::OffGrid(at) => FaultWords::numbered(" W2 at ", at),
+        TextFault::OutOfRange(at) => FaultWords::numbered(" W3 at ", at),
+        TextFault::TooLong => FaultWords {
+            words: " W4",
+            ..FaultWords::none()
+        },
+    }
+}
+
+fn validity_words<'a>(fault: ValidityFault) -> FaultWords<'a>
+    ensures { fault_text result ≡ codes " " ++ geometry_text (g.Invalid fault) }
+{
+    match fault {
+        ValidityFault::TooFewPoints(part) => FaultWords::numbered(" V1 ", part),
+        ValidityFault::RingNotClosed(ring) => FaultWords::numbered(" V2 ", ring),
+        ValidityFault::RingNotSimple(ring) => FaultWords::numbered(" V3 ", ring),
+        ValidityFault::RingsMeet(first, second) => FaultWords::paired(" V4 ", first, second),
+        ValidityFault::HoleOutside(ring) => FaultWords::numbered(" V5 ", ring),
+        ValidityFault::HolesNested(first, second) => FaultWords::paired(" V6 ", first, second),
     }
 }

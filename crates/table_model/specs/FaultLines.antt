@@ -1,5 +1,9 @@
 -- The line and the status of each fault (profile).
 use Rattle.std.specs.Prelude.{ℕ, List, ◌∷◌, ◌++◌, decimal, codes}
+use Rattle.geometry_model.specs.declared.text_faults.TextFault.TheVariants as w
+use Rattle.geometry_model.specs.declared.validity_faults.ValidityFault.TheVariants as v
+use Rattle.geometry_model.specs.declared.geometry_faults.GeometryFault.{GeometryFault}
+use Rattle.geometry_model.specs.declared.geometry_faults.GeometryFault.TheVariants as g
 use Rattle.table_model.specs.declared.faults.SchemaFault.{SchemaFault}
 use Rattle.table_model.specs.declared.faults.SchemaFault.TheVariants as s
 use Rattle.table_model.specs.declared.faults.LoadFault.{LoadFault}
@@ -21,6 +25,19 @@ schema_text (s.TooMany at) = codes "S5 at " ++ decimal at
 schema_text s.TooLong = codes "S6"
 schema_text s.OutOfMemory = memory_text
 
+-- a fault of a geometry: its code, and its byte, or its part or parts; W4 has no place (profile)
+abbrev pub geometry_text : GeometryFault → List ℕ
+geometry_text (g.Text (w.Syntax at)) = codes "W1 at " ++ decimal at
+geometry_text (g.Text (w.OffGrid at)) = codes "W2 at " ++ decimal at
+geometry_text (g.Text (w.OutOfRange at)) = codes "W3 at " ++ decimal at
+geometry_text (g.Text w.TooLong) = codes "W4"
+geometry_text (g.Invalid (v.TooFewPoints part)) = codes "V1 " ++ decimal part
+geometry_text (g.Invalid (v.RingNotClosed ring)) = codes "V2 " ++ decimal ring
+geometry_text (g.Invalid (v.RingNotSimple ring)) = codes "V3 " ++ decimal ring
+geometry_text (g.Invalid (v.RingsMeet i j)) = codes "V4 " ++ (decimal i ++ (codes " " ++ decimal j))
+geometry_text (g.Invalid (v.HoleOutside ring)) = codes "V5 " ++ decimal ring
+geometry_text (g.Invalid (v.HolesNested i j)) = codes "V6 " ++ (decimal i ++ (codes " " ++ decimal j))
+
 -- a fault of loading: the table's name, the code, and the record of a fault that has one (profile)
 abbrev pub load_text : List ℕ → LoadFault → List ℕ
 load_text table l.MissingColumn = table ++ codes " L1"
@@ -28,6 +45,8 @@ load_text table l.DoubleHeader = table ++ codes " L2"
 load_text table (l.UnequalRecord n) = table ++ codes " L3 record " ++ decimal n
 load_text table (l.NotUtf8 n) = table ++ codes " L4 record " ++ decimal n
 load_text table (l.BadInteger n) = table ++ codes " L5 record " ++ decimal n
+load_text table (l.BadGeometry n f) = table ++ codes " L6 record " ++ decimal n ++ codes " " ++ geometry_text f
+load_text table (l.WrongType n) = table ++ codes " L7 record " ++ decimal n
 load_text table (l.NullNotAllowed n) = table ++ codes " L8 record " ++ decimal n
 load_text table (l.DoubleKey n) = table ++ codes " L9 record " ++ decimal n
 load_text table l.TooManyRows = table ++ codes " L10"
@@ -43,6 +62,8 @@ query_text (q.SameName at) = codes "Q4 at " ++ decimal at
 query_text (q.UnknownColumn at) = codes "Q5 at " ++ decimal at
 query_text (q.AmbiguousColumn at) = codes "Q6 at " ++ decimal at
 query_text (q.TypeMismatch at) = codes "Q7 at " ++ decimal at
+query_text (q.BadGeometry at f) = codes "Q8 at " ++ decimal at ++ codes " " ++ geometry_text f
+query_text (q.BadPattern at) = codes "Q9 at " ++ decimal at
 query_text (q.TooDeep at) = codes "Q10 at " ++ decimal at
 query_text q.TooLong = codes "Q11"
 query_text (q.NumberTooBig at) = codes "Q12 at " ++ decimal at
@@ -69,6 +90,8 @@ load_status l.DoubleHeader = 4
 load_status (l.UnequalRecord n) = 4
 load_status (l.NotUtf8 n) = 4
 load_status (l.BadInteger n) = 4
+load_status (l.BadGeometry n f) = 4
+load_status (l.WrongType n) = 4
 load_status (l.NullNotAllowed n) = 4
 load_status (l.DoubleKey n) = 4
 load_status l.TooManyRows = 4
@@ -84,6 +107,8 @@ query_status (q.SameName at) = 5
 query_status (q.UnknownColumn at) = 5
 query_status (q.AmbiguousColumn at) = 5
 query_status (q.TypeMismatch at) = 5
+query_status (q.BadGeometry at f) = 5
+query_status (q.BadPattern at) = 5
 query_status (q.TooDeep at) = 5
 query_status q.TooLong = 5
 query_status (q.NumberTooBig at) = 5

@@ -1,5 +1,6 @@
 //! Why a schema, a table or a query is refused. The printed lines of these are not the derived texts.
 
+use geometry_model::GeometryFault;
 use std::alloc::{AllocError, AllocFailed};
 use thiserror::Error;
 
@@ -35,6 +36,10 @@ pub enum LoadFault {
     NotUtf8(usize),
     #[error("record {0} has a bad integer")]
     BadInteger(usize),
+    #[error("record {0} has a bad geometry")]
+    BadGeometry(usize, GeometryFault),
+    #[error("record {0} has a geometry of another type than the column")]
+    WrongType(usize),
     #[error("record {0} has a null where none is allowed")]
     NullNotAllowed(usize),
     #[error("record {0} has a key that an earlier one has")]
@@ -71,6 +76,10 @@ pub enum QueryFault {
     AmbiguousColumn(usize),
     #[error("types that do not fit at {0}")]
     TypeMismatch(usize),
+    #[error("bad geometry at {0}")]
+    BadGeometry(usize, GeometryFault),
+    #[error("bad pattern at {0}")]
+    BadPattern(usize),
     #[error("conditions nested too deep at {0}")]
     TooDeep(usize),
     #[error("query too long")]

@@ -41,3 +41,8 @@ pub negation-returns-else-sees-4 : goal.negation-returns-else-sees-4
 unfolding negation
 negation-returns-else-sees-4 t c =
     rw (one_level (λ n. negation {A = NoGeometry} n c.args.tokens.now) c.args.levels (omega arith)) (first_of (search rules, grind (arith, common_steps)))
+
+pub negation-returns-in_err-inner : goal.negation-returns-in_err-inner
+unfolding negation
+negation-returns-in_err-inner t c =
+    rw (one_level (λ n. negation {A = NoGeometry} n c.args.tokens.now) c.args.levels (omega arith)) (first_of (search rules, grind (arith, common_steps)))
