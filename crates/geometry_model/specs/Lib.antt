@@ -25,3 +25,4 @@ pub mod FirstFaults
 pub mod ValidityExamples
 pub mod LeastFormLaws
 pub mod TextRefusals
+pub mod CheckedTexts

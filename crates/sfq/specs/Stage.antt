@@ -1,5 +1,5 @@
 -- The definitions at what is served: no geometry stands in a row, a condition or an item.
-use Rattle.std.specs.Prelude.{◌≡◌, ◌⊎◌, All, Bool, ℕ, true, List, [], ◌∷◌, map, Option, Some, None, IfSome, ◌<◌, length, slice_get, unwrap_or}
+use Rattle.std.specs.Prelude.{◌≡◌, ◌⊎◌, All, Bool, ℕ, pos, true, List, [], ◌∷◌, map, Option, Some, None, IfSome, ◌<◌, length, slice_get, unwrap_or}
 use Rattle.geometry_model.specs.Labels.{labelled_matrix}
 use Rattle.table_model.specs.AnswerTexts.{Writing}
 use Rattle.table_model.specs.Meanings.{Row, Table, all_true, meaning}
@@ -33,7 +33,7 @@ abbrev pub no_writing : Writing NoGeometry NoGeometry
 no_writing = record {
   place = λ c. record { reference = 0; column = 0 };
   text = λ g. [];
-  dimension = λ g. 0;
+  dimension = λ g. pos 0;
   is_empty = λ g. true;
 }
 

@@ -1,6 +1,6 @@
 //! Why the program ends without its answer: the line that it prints then, and its status.
 
-ghost use Rattle.std.specs.Prelude.{◌≡◌, ◌++◌, [], map, decimal, codes, OnOk, OnErr};
+ghost use Rattle.std.specs.Prelude.{◌≡◌, ◌++◌, map, decimal, codes, OnOk, OnErr};
 ghost use Rattle.std.specs.List.{concat};
 ghost use Rattle.std.specs.Io.KnownBytes.{Appends};
 ghost use Rattle.table_model.specs.FaultLines.{schema_text, load_text, query_text, geometry_text, schema_status, load_status, query_status, line_of};
@@ -130,12 +130,12 @@ fn put_parts<S: Sink>(sink: &mut S, parts: &[&[u8]]) -> Result<(), SinkFault>
 }
 
 impl<'a> FaultWords<'a> {
-    // No fault.
-    fn none() -> FaultWords<'a>
-        ensures { fault_text result ≡ [] }
+    // The words alone.
+    fn plain(words: &'a str) -> FaultWords<'a>
+        ensures { fault_text result ≡ words.entry.now }
     {
         FaultWords {
-            words: "",
+            words,
             first: None,
             between: "",
             second: None,
@@ -176,7 +176,7 @@ impl<'a> Words<'a> {
             table,
             words,
             number: None,
-            fault: FaultWords::none(),
+            fault: FaultWords::plain(""),
         }
     }
 
@@ -188,7 +188,7 @@ impl<'a> Words<'a> {
             table,
             words,
             number: Some(number),
-            fault: FaultWords::none(),
+            fault: FaultWords::plain(""),
         }
     }
 
@@ -288,10 +288,7 @@ fn text_words<'a>(fault: TextFault) -> FaultWords<'a>
         TextFault::Syntax(at) => FaultWords::numbered(" W1 at ", at),
         TextFault::OffGrid(at) => FaultWords::numbered(" W2 at ", at),
         TextFault::OutOfRange(at) => FaultWords::numbered(" W3 at ", at),
-        TextFault::TooLong => FaultWords {
-            words: " W4",
-            ..FaultWords::none()
-        },
+        TextFault::TooLong => FaultWords::plain(" W4"),
     }
 }
 

@@ -3,3 +3,4 @@ pub mod LeastFacts
 pub mod WorkFacts
 pub mod ScanFacts
 pub mod FilterFacts
+pub mod WrittenFolds

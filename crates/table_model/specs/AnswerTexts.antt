@@ -1,5 +1,5 @@
 -- The records of an answer: the header, and the fields of each row of the meaning.
-use Rattle.std.specs.Prelude.{Bool, ℕ, List, [], ◌∷◌, ◌++◌, map, length, ◌==◌, cond, decimal, codes, Option, Some, None, slice_get}
+use Rattle.std.specs.Prelude.{Bool, ℕ, ℤ, List, [], ◌∷◌, ◌++◌, map, length, ◌==◌, cond, codes, Option, Some, None, slice_get}
 use Rattle.std.specs.Fmt.{signed_decimal}
 use Rattle.table_model.specs.Meanings.{Row}
 use Rattle.table_model.specs.Binding.{table_columns}
@@ -19,7 +19,7 @@ use Rattle.table_model.specs.declared.definitions.TableDef.{TableDef}
 pub record Writing (G C : Type 0) : Type 0 where
   pub place : C → ColumnPlace
   pub text : G → List ℕ
-  pub dimension : G → ℕ
+  pub dimension : G → ℤ
   pub is_empty : G → Bool
 
 -- the name of a column as the schema spells it (profile)
@@ -67,7 +67,7 @@ function_text text (v.Geometry g) = text g
 abbrev pub item_text : {G C : Type 0} → Writing G C → List (Row G) → Item C → List ℕ
 item_text writing rows (i.Column place) = field_text writing (field_at rows place)
 item_text writing rows (i.AsText c) = function_text writing.text (field_at rows (writing.place c))
-item_text writing rows (i.Dimension c) = function_text (λ g. decimal (writing.dimension g)) (field_at rows (writing.place c))
+item_text writing rows (i.Dimension c) = function_text (λ g. signed_decimal (writing.dimension g)) (field_at rows (writing.place c))
 item_text writing rows (i.IsEmpty c) = function_text (λ g. cond (writing.is_empty g) (codes "1") (codes "0")) (field_at rows (writing.place c))
 
 -- the header record of a query (profile)

@@ -22,3 +22,5 @@ pub mod PlanExamples
 pub mod PlanLaws
 pub mod SchemaGrammar
 pub mod BindingExamples
+pub mod GeometryColumns
+pub mod GeometryColumnExamples

@@ -8,6 +8,7 @@ pub mod binding_examples;
 pub mod conditions;
 pub mod definitions;
 pub mod faults;
+pub mod geometry_column_examples;
 pub mod plan_examples;
 pub mod plan_laws;
 pub mod plans;

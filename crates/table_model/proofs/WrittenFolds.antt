@@ -1,0 +1,26 @@
+-- A fold over a written condition, at the variants without parts.
+use Rattle.std.specs.Prelude.{◌≡◌, ℕ}
+use Rattle.table_model.specs.declared.conditions.Comparison.{Comparison}
+use Rattle.table_model.specs.declared.queries.WrittenOperand.{WrittenOperand}
+use Rattle.table_model.specs.declared.queries.WrittenPredicate.{WrittenPredicate}
+use Rattle.table_model.specs.declared.queries.WrittenCond.{WrittenCond}
+use Rattle.table_model.specs.declared.queries.WrittenCond.TheVariants as conds
+use Rattle.table_model.specs.declared.queries.WrittenCond.TheFolds.{fold-WrittenCond, fold-roll-WrittenCond}
+use Rattle.table_model.specs.declared.queries.WrittenCond.TheViews.{roll-WrittenCond}
+use Rattle.table_model.specs.declared.queries.WrittenCond.TheOpen.{WrittenCond-F}
+use denote.Hole.Carrier.{roll}
+
+pub fold-Relates : (A B : Type 0) (step : WrittenCond-F A B → B) (at : ℕ) (predicate : WrittenPredicate) (a b : A) → fold-WrittenCond A B step (conds.Relates at predicate a b) ≡ step (WrittenCond-F.Relates at predicate a b)
+unfolding roll-WrittenCond roll
+fold-Relates A B step at predicate a b = fold-roll-WrittenCond A B step (WrittenCond-F.Relates at predicate a b)
+
+pub fold-Compare : (A B : Type 0) (step : WrittenCond-F A B → B) (at : ℕ) (sign : Comparison) (a b : WrittenOperand A) → fold-WrittenCond A B step (conds.Compare at sign a b) ≡ step (WrittenCond-F.Compare at sign a b)
+unfolding roll-WrittenCond roll
+fold-Compare A B step at sign a b = fold-roll-WrittenCond A B step (WrittenCond-F.Compare at sign a b)
+
+pub fold-IsEmpty : (A B : Type 0) (step : WrittenCond-F A B → B) (at : ℕ) (a : A) → fold-WrittenCond A B step (conds.IsEmpty at a) ≡ step (WrittenCond-F.IsEmpty at a)
+unfolding roll-WrittenCond roll
+fold-IsEmpty A B step at a = fold-roll-WrittenCond A B step (WrittenCond-F.IsEmpty at a)
+
+-- all of these
+pub ruleset written_folds = (fold-Relates, fold-Compare, fold-IsEmpty)
