@@ -98,7 +98,13 @@ pub fn status(failure: &Failure<'_>) -> u8
 }
 
 // Puts the program's name, the parts of a text with the digits of its numbers, and a line feed.
-fn put_line<'l, S: Sink>(sink: &mut S, words: &Words<'l>, number: &'l str, first: &'l str, second: &'l str) -> Result<(), SinkFault>
+fn put_line<'l, S: Sink>(
+    sink: &mut S,
+    words: &Words<'l>,
+    number: &'l str,
+    first: &'l str,
+    second: &'l str,
+) -> Result<(), SinkFault>
     ensures ok { OnOk result (Appends (S.taken sink.old) (S.taken sink.new) (line_of (text_with words.now number.now first.now second.now))) }
     ensures front { OnErr result (AppendsFront (S.taken sink.old) (S.taken sink.new) (line_of (text_with words.now number.now first.now second.now))) }
     ensures failures { CountsFailure (S.failures sink.old) (S.failures sink.new) result }
@@ -242,7 +248,12 @@ fn load_words<'a>(table: &'a str, fault: LoadFault) -> Words<'a>
         LoadFault::UnequalRecord(record) => Words::numbered(table, " L3 record ", record),
         LoadFault::NotUtf8(record) => Words::numbered(table, " L4 record ", record),
         LoadFault::BadInteger(record) => Words::numbered(table, " L5 record ", record),
-        LoadFault::BadGeometry(record, fault) => Words::with_fault(table, " L6 record ", record, fault),
+        LoadFault::BadGeometry(record, fault) => Words::with_fault(
+            table,
+            " L6 record ",
+            record,
+            fault,
+        ),
         LoadFault::WrongType(record) => Words::numbered(table, " L7 record ", record),
         LoadFault::NullNotAllowed(record) => Words::numbered(table, " L8 record ", record),
         LoadFault::DoubleKey(record) => Words::numbered(table, " L9 record ", record),
