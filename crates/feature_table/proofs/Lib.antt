@@ -1,3 +1,11 @@
 pub mod ListLemmas
 pub mod FieldLemmas
 pub mod SchemaLemmas
+pub mod HeaderLemmas
+pub mod EachLemmas
+pub mod RowLemmas
+pub mod ReadingLemmas
+pub mod LoadingLemmas
+pub mod LoadLemmas
+pub mod KeyLemmas
+pub mod OrderLemmas

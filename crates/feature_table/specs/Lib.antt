@@ -1,2 +1,7 @@
 pub mod Cells
 pub mod Stage
+pub mod Layouts
+pub mod Reading
+pub mod Outcomes
+pub mod RowReading
+pub mod Tables

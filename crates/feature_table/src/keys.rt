@@ -1,14 +1,20 @@
 //! Feature keys: two rows of one key, and the order of rows.
 
-use sqlite_items::Items;
+ghost use Rattle.std.specs.Prelude.{◌≡◌, ◌≢◌, IfErr, IfOk, Ok, Err, OnOk, map};
+ghost use Rattle.table_model.specs.Loading as spec;
+ghost use Rattle.table_model.specs.declared.faults.LoadFault.TheVariants as fault;
+
+use sqlite_items::{self as items, Items};
 use std::alloc::{AllocError, Global};
 use std::collections::BTreeSet;
 use table_model::faults::LoadFault;
 use table_model::values::{NoGeometry, Value};
 
 /// The number at the key's place of a row.
-fn key_of(row: &[Value<NoGeometry>], key: usize) -> i64 {
-    match row.get(key) {
+fn key_of(row: &[Value<NoGeometry>], key: usize) -> i64
+    ensures { result ≡ spec.key_of key row.now }
+{
+    match items::at(row, key) {
         Some(Value::Integer(number)) => *number,
         _ => 0,
     }
@@ -19,25 +25,34 @@ fn double_key(
     alloc: Global,
     rows: &[Items<Value<NoGeometry>>],
     key: usize,
-) -> Result<Option<usize>, AllocError> {
+) -> Result<Option<usize>, AllocError>
+    ensures { IfOk result (λ number. number ≡ spec.double_key (map (spec.key_of key) rows.now)) }
+{
     let mut seen = BTreeSet::new(alloc);
-    for (place, row) in rows.iter().enumerate() {
-        if !seen.insert(key_of(row.as_slice(), key))? {
+    for place in 0..rows.len() {
+        let number = key_of(rows[place].as_slice(), key);
+        let is_new = seen.insert(number)?;
+        if !is_new {
             return Ok(Some(place + 1));
         }
     }
     Ok(None)
 }
 
-/// Puts rows into the order of their keys, which have to differ.
+/// Puts rows into the order of their keys. The fault tells of two rows of one key.
 pub(crate) fn order_by_key(
     alloc: Global,
     rows: &mut Vec<Items<Value<NoGeometry>>>,
     key: usize,
-) -> Result<(), LoadFault> {
-    if let Some(number) = double_key(alloc, rows.as_slice(), key)? {
-        return Err(LoadFault::DoubleKey(number));
+) -> Result<(), LoadFault>
+    ensures ok { OnOk result (spec.keyed_rows key rows.old.items ≡ Ok rows.new.items) }
+    ensures fault { IfErr result (λ f. f ≢ fault.OutOfMemory → spec.keyed_rows key rows.old.items ≡ Err f) }
+{
+    match double_key(alloc, rows.as_slice(), key)? {
+        Some(number) => Err(LoadFault::DoubleKey(number)),
+        None => {
+            rows.sort_by_key(|row| key_of(row.as_slice(), key))?;
+            Ok(())
+        }
     }
-    rows.sort_by_key(|row| key_of(row.as_slice(), key))?;
-    Ok(())
 }

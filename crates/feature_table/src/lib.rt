@@ -7,10 +7,14 @@ pub mod databases;
 mod fields;
 mod headers;
 mod keys;
+mod loading;
 mod reading;
 mod rows;
 pub mod schemas;
 pub mod tables;
+
+#[cfg(test)]
+mod tests;
 
 pub use cells::Field;
 pub use databases::Database;

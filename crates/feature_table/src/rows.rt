@@ -1,11 +1,20 @@
 //! The typed row of a record.
 
-ghost use Rattle.std.specs.Prelude.{◌≡◌, length};
+ghost use Rattle.std.specs.Prelude.{◌≡◌, ◌<◌, Result, length, map, vec_len};
+ghost use Rattle.std.specs.List.{slice_index_or};
 ghost use Rattle.csv.specs.Records.{fields_of};
+ghost use Rattle.feature_table.specs.Layouts.{IsLayout};
+ghost use Rattle.feature_table.specs.Stage.{no_geometry};
+ghost use Rattle.table_model.specs.Loading as spec;
+ghost use Rattle.table_model.specs.Outcomes.{Gives};
+ghost use Rattle.table_model.specs.declared.faults.LoadFault.{LoadFault};
+ghost use Rattle.table_model.specs.declared.faults.LoadFault.TheVariants as fault;
+ghost use Rattle.table_model.specs.declared.values.NoGeometry.{NoGeometry};
+ghost use Rattle.table_model.specs.declared.values.Value.{Value};
 
 use crate::fields::value_of;
-use crate::headers::Layout;
-use crate::schemas::TableDef;
+use crate::headers::{Layout, field_at};
+use crate::schemas::{ColumnDef, TableDef};
 use csv::ByteRecord;
 use sqlite_items::Items;
 use std::alloc::Global;
@@ -15,20 +24,51 @@ use table_model::values::{NoGeometry, Value};
 /// The most rows that a table may have.
 pub(crate) const ROW_LIMIT: usize = 100_000;
 
-/// The values of a record's fields in the columns of a table.
+/// Whether the column at a place takes no null.
+fn is_required(table: &TableDef, place: usize, column: &ColumnDef) -> bool
+    ensures { result ≡ spec.is_required table.now (place, column.now) }
+{
+    column.not_null || place == table.key
+}
+
+/// The value of a record's field in the column at a place. The columns stand at these places of the header.
+fn value_at(
+    alloc: Global,
+    table: &TableDef,
+    places: &[usize],
+    number: usize,
+    record: &ByteRecord,
+    place: usize,
+) -> Result<Value<NoGeometry>, LoadFault>
+    requires places { length places.now ≡ length table.now.columns }
+    requires within { place < length places.now }
+    ensures { (header : spec.Record) (d : Result (Value NoGeometry) LoadFault)
+        → places.now ≡ map (λ c. spec.place_in header c.name) table.now.columns
+        → Gives fault.OutOfMemory (λ v. v) result
+        (slice_index_or (spec.values_of no_geometry table.now header number (fields_of record.now)) place d) }
+{
+    let columns = table.columns.as_slice();
+    let column = &columns[place];
+    let at = places[place];
+    let required = is_required(table, place, column);
+    value_of(alloc, number, required, &column.column_type, field_at(record, at))
+}
+
+/// The values of a record's fields in the columns of a table, which stand at these places of the header.
 fn row_of(
     alloc: Global,
     table: &TableDef,
     places: &[usize],
     number: usize,
     record: &ByteRecord,
-) -> Result<Items<Value<NoGeometry>>, LoadFault> {
-    let columns = table.columns.as_slice();
-    let mut values = Vec::with_capacity(alloc, columns.len())?;
-    for (place, (column, at)) in columns.iter().zip(places).enumerate() {
-        let required = column.not_null || place == table.key;
-        let field = record.get(*at).unwrap_or(&[]);
-        values.push(value_of(alloc, number, required, &column.column_type, field)?)?;
+) -> Result<Items<Value<NoGeometry>>, LoadFault>
+    requires { length places.now ≡ length table.now.columns }
+    ensures { (header : spec.Record) → places.now ≡ map (λ c. spec.place_in header c.name) table.now.columns
+        → Gives fault.OutOfMemory (λ row. row) result (spec.row_of no_geometry table.now header number (fields_of record.now)) }
+{
+    let mut values = Vec::with_capacity(alloc, places.len())?;
+    for place in 0..places.len() {
+        values.push(value_at(alloc, table, places, number, record, place)?)?;
     }
     Ok(Items::from_vec(values))
 }
@@ -40,7 +80,11 @@ pub(crate) fn checked_row(
     layout: &Layout,
     number: usize,
     record: &ByteRecord,
-) -> Result<Items<Value<NoGeometry>>, LoadFault> {
+) -> Result<Items<Value<NoGeometry>>, LoadFault>
+    requires { vec_len layout.now.places ≡ length table.now.columns }
+    ensures { (header : spec.Record) → IsLayout table.now.columns header layout.now
+        → Gives fault.OutOfMemory (λ row. row) result (spec.checked_row no_geometry table.now header (number, fields_of record.now)) }
+{
     if record.len() != layout.width {
         return Err(LoadFault::UnequalRecord(number));
     }

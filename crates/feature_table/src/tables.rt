@@ -1,16 +1,18 @@
 //! Tables of typed rows.
 
-ghost use Rattle.std.specs.Prelude.{◌≡◌, ◌∷◌, [], IsTrue, ◌<◌, Some, length, slice_get};
+ghost use Rattle.std.specs.Prelude.{◌≡◌, ◌∷◌, ◌<◌, ℕ, IsTrue, List, [], Some, length, slice_get};
 ghost use Rattle.feature_table.specs.Cells.{shown};
+ghost use Rattle.feature_table.specs.Outcomes.{Loads};
+ghost use Rattle.feature_table.specs.Tables.{table_in};
 ghost use Rattle.table_model.specs.Definitions.{lawful};
 
 use crate::cells::{Field, field_of};
-use crate::headers::{Layout, layout_of};
+use crate::headers::layout_of;
 use crate::keys::order_by_key;
+use crate::loading::read_rows;
 use crate::reading::{next_record, record_reader};
-use crate::rows::{ROW_LIMIT, checked_row};
 use crate::schemas::TableDef;
-use csv::{ByteRecord, Reader};
+use csv::ByteRecord;
 use sqlite_items::Items;
 use std::alloc::Global;
 use std::io::Read;
@@ -66,40 +68,24 @@ impl Model for Table {
     ghost view = { λ t. t.rows.items };
 }
 
-/// Reads the records after the header, one for each row.
-fn read_rows<R: Read + Drop>(
-    alloc: Global,
-    table: &TableDef,
-    layout: &Layout,
-    reader: &mut Reader<R>,
-) -> Result<Vec<Items<Value<NoGeometry>>>, LoadFault> {
-    let mut rows = Vec::new(alloc);
-    let mut record = ByteRecord::new(alloc);
-    for place in 0..ROW_LIMIT {
-        if !next_record(reader, &mut record)? {
-            return Ok(rows);
-        }
-        rows.push(checked_row(alloc, table, layout, place + 1, &record)?)?;
-    }
-    if next_record(reader, &mut record)? {
-        rows.push(checked_row(alloc, table, layout, ROW_LIMIT + 1, &record)?)?;
-    }
-    Ok(rows)
-}
-
 impl Table {
-    /// Loads the table of this definition from the CSV text that a reader gives.
+    /// Loads the table of a definition, which is lawful by itself, from the CSV text that a reader gives. The answer
+    /// is the first fault where there is one: of the header, then of the records in order, then a repeated key. At
+    /// most 100,002 records are read, the header among them. A fault of reading is answered where it comes.
     pub fn load<R: Read + Drop>(
         alloc: Global,
         table: &TableDef,
         reader: R,
     ) -> Result<Table, LoadFault>
         requires { IsTrue (lawful (table.now ∷ [])) }
+        ensures { (text : List ℕ) → R.remaining reader ≡ Some text → Loads (λ t. t) result (table_in table.now text) }
     {
         let mut reader = record_reader(alloc, reader);
         let mut header = ByteRecord::new(alloc);
-        if !next_record(&mut reader, &mut header)? {
-            header.clear();
+        let found = next_record(&mut reader, &mut header)?;
+        // No header record is a header without fields, so it lacks the first column.
+        if !found {
+            return Err(LoadFault::MissingColumn);
         }
         let layout = layout_of(alloc, table.columns.as_slice(), &header)?;
         let mut rows = read_rows(alloc, table, &layout, &mut reader)?;

@@ -81,14 +81,22 @@ value_of geometry number required kind (byte ∷ bytes) = filled_value geometry 
 abbrev pub is_required : {T : Type 0} → TableDef T → ℕ × ColumnDef T → Bool
 is_required table (place, c) = c.not_null || (place == table.key)
 
--- the fields of a record that a header calls by this name: the first of them
+-- the place of the first field of a header that has this name
+abbrev pub place_in : Record → List ℕ → ℕ
+place_in header name = unwrap_or (position (same_name name) header) 0
+
+-- the field of a record that a header calls by this name
 abbrev pub field_under : Record → Record → List ℕ → List ℕ
-field_under header fields name = slice_index_or fields (unwrap_or (position (same_name name) header) 0) []
+field_under header fields name = slice_index_or fields (place_in header name) []
+
+-- the value of each column's field in a record, or its fault
+abbrev pub values_of : {T G : Type 0} → GeometryReader T G → TableDef T → Record → ℕ → Record → List (Result (Value G) LoadFault)
+values_of geometry table header number fields =
+    map (λ c. value_of geometry number (is_required table c) c.1.column_type (field_under header fields c.1.name)) (enumerate_from 0 table.columns)
 
 -- the typed row of a record: its fields under the names of the columns, in the order of the columns
 unfoldable pub row_of : {T G : Type 0} → GeometryReader T G → TableDef T → Record → ℕ → Record → Result (Row G) LoadFault
-row_of geometry table header number fields =
-    each (map (λ c. value_of geometry number (is_required table c) c.1.column_type (field_under header fields c.1.name)) (enumerate_from 0 table.columns))
+row_of geometry table header number fields = each (values_of geometry table header number fields)
 
 -- the most rows that a table has (profile)
 abbrev pub row_limit : ℕ
@@ -102,9 +110,13 @@ checked_row geometry table header (number, fields) =
     else if nat_lt row_limit number then Err fault.TooManyRows
     else row_of geometry table header number fields
 
--- the typed rows of the records after the header, numbered from 1, or the first fault
-abbrev pub rows_of : {T G : Type 0} → GeometryReader T G → TableDef T → Record → List Record → Result (List (Row G)) LoadFault
-rows_of geometry table header records = each (map (checked_row geometry table header) (enumerate_from 1 records))
+-- the typed row of each record after the header, or its fault; the records are numbered from 1
+abbrev pub checked_rows : {T G : Type 0} → GeometryReader T G → TableDef T → Record → List Record → List (Result (Row G) LoadFault)
+checked_rows geometry table header records = map (checked_row geometry table header) (enumerate_from 1 records)
+
+-- the typed rows of the records after the header, or the first fault
+unfoldable pub rows_of : {T G : Type 0} → GeometryReader T G → TableDef T → Record → List Record → Result (List (Row G)) LoadFault
+rows_of geometry table header records = each (checked_rows geometry table header records)
 
 -- the fault of a name in a header: no field has it, or more than one (profile)
 abbrev pub name_fault : Record → List ℕ → Option LoadFault

@@ -1,0 +1,34 @@
+-- Answers taken in turn, up to the first fault.
+use Rattle.std.proofs.Common.{◌≡◌, ◌∙◌, ◌+◌, ◌++◌, ◌<◌, ◌≤◌, ℕ, zero, suc, List, [], ◌∷◌, Result, Ok, Err, ap, arith, get_or, length, map, refl, sym, take}
+use Rattle.std.proofs.lemmas.List.{map-append, take_all, take_more}
+use Rattle.table_model.specs.Loading.{each}
+
+-- the first answers, this many, are no faults
+abbrev pub Passed : {A F : Type 0} → List (Result A F) → ℕ → List A → Type 0
+Passed answers i front = take i answers ≡ map Ok front
+
+-- one more of them
+pub passed_more : {A F : Type 0} (answers : List (Result A F)) (i : ℕ) (front : List A) (x : A) (d : Result A F) → i < length answers
+    → Passed answers i front → get_or answers i d ≡ Ok x → Passed answers (i + 1) (front ++ x ∷ [])
+passed_more {A = A} {F = F} answers i front x d within so_far here = rw (take_more answers i d within, so_far, here, map-append {B = Result A F} Ok front (x ∷ [])) refl
+
+-- the first fault
+pub passed_fault : {A F : Type 0} (answers : List (Result A F)) (i : ℕ) (front : List A) (f : F) (d : Result A F) → i < length answers
+    → Passed answers i front → get_or answers i d ≡ Err f → each answers ≡ Err f
+passed_fault [] i front f d within so_far here = absurd (omega arith)
+passed_fault (a ∷ answers) zero front f d within so_far here = rw here refl
+passed_fault (a ∷ answers) (suc i) [] f d within so_far here = cc so_far
+passed_fault (a ∷ answers) (suc i) (x ∷ front) f d within so_far here =
+    let first : a ≡ Ok x = cc so_far in
+    let rest : take i answers ≡ map Ok front = cc so_far in
+    let fault = passed_fault answers i front f d (omega arith) rest here in
+    rw (first, fault) refl
+
+all-ok : {A F : Type 0} (front : List A) → ◌≡◌ {A = Result (List A) F} (each (map Ok front)) (Ok front)
+all-ok [] = refl
+all-ok {F = F} (x ∷ front) = rw (all-ok {F = F} front) refl
+
+-- no fault
+pub passed_all : {A F : Type 0} (answers : List (Result A F)) (i : ℕ) (front : List A) → length answers ≤ i → Passed answers i front
+    → each answers ≡ Ok front
+passed_all answers i front past so_far = ap each (sym (take_all i answers past) ∙ so_far) ∙ all-ok front

@@ -1,0 +1,13 @@
+-- What loading answers where reading may fail or memory run out.
+use Rattle.std.specs.Prelude.{◌≡◌, ◌⊎◌, Result, Ok, Err}
+use Rattle.table_model.specs.declared.faults.LoadFault.{LoadFault}
+use Rattle.table_model.specs.declared.faults.LoadFault.TheVariants as fault
+
+-- a fault that no definition gives: reading failed, or memory ran out
+abbrev pub IsFailure : LoadFault → Type 0
+IsFailure f = (f ≡ fault.ReadFailed) ⊎ (f ≡ fault.OutOfMemory)
+
+-- a call's answer, seen by view, is the one that the definitions give, unless reading failed or memory ran out
+abbrev pub Loads : {X Y : Type 0} → (X → Y) → Result X LoadFault → Result Y LoadFault → Type 0
+Loads view (Ok x) answer = answer ≡ Ok (view x)
+Loads view (Err f) answer = ¬ (IsFailure f) → answer ≡ Err f

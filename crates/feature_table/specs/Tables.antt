@@ -1,0 +1,17 @@
+-- The table that a text of CSV loads as.
+use Rattle.std.specs.Prelude.{ℕ, List, Result}
+use Rattle.csv.specs.Reading.{default_config, records, strip_bom}
+use Rattle.feature_table.specs.Stage.{no_geometry}
+use Rattle.table_model.specs.Loading.{Record, load}
+use Rattle.table_model.specs.Meanings.{Table}
+use Rattle.table_model.specs.declared.definitions.TableDef.{TableDef}
+use Rattle.table_model.specs.declared.faults.LoadFault.{LoadFault}
+use Rattle.table_model.specs.declared.values.NoGeometry.{NoGeometry}
+
+-- the records of a text, as csv reads them (profile)
+abbrev pub records_in : List ℕ → List Record
+records_in text = records default_config (strip_bom text)
+
+-- the table of this definition that a text loads as, or the first fault
+abbrev pub table_in : TableDef NoGeometry → List ℕ → Result (Table NoGeometry) LoadFault
+table_in table text = load no_geometry table (records_in text)
