@@ -9,3 +9,4 @@ pub mod LoadingLemmas
 pub mod LoadLemmas
 pub mod KeyLemmas
 pub mod OrderLemmas
+pub mod DatabaseLemmas

@@ -2,6 +2,7 @@
 use Rattle.std.specs.Prelude.{◌≡◌, ◌⊎◌, Result, Ok, Err}
 use Rattle.table_model.specs.declared.faults.LoadFault.{LoadFault}
 use Rattle.table_model.specs.declared.faults.LoadFault.TheVariants as fault
+use Rattle.table_model.specs.declared.faults.TableFault.{TableFault}
 
 -- a fault that no definition gives: reading failed, or memory ran out
 abbrev pub IsFailure : LoadFault → Type 0
@@ -11,3 +12,8 @@ IsFailure f = (f ≡ fault.ReadFailed) ⊎ (f ≡ fault.OutOfMemory)
 abbrev pub Loads : {X Y : Type 0} → (X → Y) → Result X LoadFault → Result Y LoadFault → Type 0
 Loads view (Ok x) answer = answer ≡ Ok (view x)
 Loads view (Err f) answer = ¬ (IsFailure f) → answer ≡ Err f
+
+-- the same of an answer whose fault tells of a table
+abbrev pub LoadsTable : {X Y : Type 0} → (X → Y) → Result X TableFault → Result Y TableFault → Type 0
+LoadsTable view (Ok x) answer = answer ≡ Ok (view x)
+LoadsTable view (Err f) answer = ¬ (IsFailure f.fault) → answer ≡ Err f

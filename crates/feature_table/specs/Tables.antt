@@ -1,11 +1,13 @@
--- The table that a text of CSV loads as.
-use Rattle.std.specs.Prelude.{ℕ, List, Result}
+-- The tables that texts of CSV load as.
+use Rattle.std.specs.Prelude.{ℕ, List, Result, map}
 use Rattle.csv.specs.Reading.{default_config, records, strip_bom}
 use Rattle.feature_table.specs.Stage.{no_geometry}
+use Rattle.table_model.specs.Databases.{load_tables}
 use Rattle.table_model.specs.Loading.{Record, load}
 use Rattle.table_model.specs.Meanings.{Table}
 use Rattle.table_model.specs.declared.definitions.TableDef.{TableDef}
 use Rattle.table_model.specs.declared.faults.LoadFault.{LoadFault}
+use Rattle.table_model.specs.declared.faults.TableFault.{TableFault}
 use Rattle.table_model.specs.declared.values.NoGeometry.{NoGeometry}
 
 -- the records of a text, as csv reads them (profile)
@@ -15,3 +17,7 @@ records_in text = records default_config (strip_bom text)
 -- the table of this definition that a text loads as, or the first fault
 abbrev pub table_in : TableDef NoGeometry → List ℕ → Result (Table NoGeometry) LoadFault
 table_in table text = load no_geometry table (records_in text)
+
+-- the tables of a schema that texts load as, one text a table, or the first fault with its table
+abbrev pub tables_in : List (TableDef NoGeometry) → List (List ℕ) → Result (List (Table NoGeometry)) TableFault
+tables_in definitions texts = load_tables no_geometry definitions (map records_in texts)

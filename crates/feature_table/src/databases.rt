@@ -1,6 +1,12 @@
 //! Databases: the tables of a schema.
 
-ghost use Rattle.std.specs.Prelude.{◌≡◌, ◌<◌, Some, length, slice_get};
+ghost use Rattle.std.specs.Prelude.{◌≡◌, ◌<◌, ℕ, IfOk, List, Some, length, map, slice_get};
+ghost use Rattle.std.specs.List.{slice_index_or};
+ghost use Rattle.feature_table.specs.Outcomes.{LoadsTable};
+ghost use Rattle.feature_table.specs.Tables.{table_in, tables_in};
+ghost use Rattle.table_model.specs.Databases.{at_table};
+ghost use Rattle.table_model.specs.declared.definitions.TableDef.{TableDef as Definition};
+ghost use Rattle.table_model.specs.declared.values.NoGeometry.{NoGeometry};
 
 use crate::schemas::{Schema, TableDef};
 use crate::tables::Table;
@@ -28,25 +34,47 @@ impl<'s> Model for Database<'s> {
     ghost invariant = { λ d. length d.tables.items ≡ length d.schema.now };
 }
 
+/// Loads the table at a place of a schema, and tells of that place with a fault.
+fn load_table<R: Read + Drop>(
+    alloc: Global,
+    schema: &Schema,
+    place: usize,
+    reader: R,
+) -> Result<Table, TableFault>
+    requires { place < length schema.now }
+    ensures { (text : List ℕ) (d : Definition NoGeometry) → R.remaining reader ≡ Some text
+        → LoadsTable (λ t. t) result (at_table place (table_in (slice_index_or schema.now place d) text)) }
+{
+    match Table::load(alloc, schema.table(place), reader) {
+        Ok(table) => Ok(table),
+        Err(fault) => Err(TableFault {
+            table: place,
+            fault,
+        }),
+    }
+}
+
 impl<'s> Database<'s> {
     /// Loads the tables of a schema in its order, each from the CSV text of one reader. The answer is the first
-    /// fault where there is one, with its table.
+    /// fault where there is one, with its table: `Table::load` says which.
     pub fn load<R: Read + Drop>(
         alloc: Global,
         schema: &'s Schema,
         readers: Vec<R>,
     ) -> Result<Database<'s>, TableFault>
         requires { length readers.items ≡ length schema.now }
+        ensures schema { IfOk result (λ d. d.definitions ≡ schema.entry.now) }
+        ensures loads { (texts : List (List ℕ)) → map R.remaining readers.items ≡ map Some texts
+            → LoadsTable (λ d. d.tables) result (tables_in schema.entry.now texts) }
     {
         let mut tables = Vec::new(alloc);
         for (place, reader) in readers.into_iter().enumerate() {
-            match Table::load(alloc, schema.table(place), reader) {
-                Ok(table) => {
-                    if tables.push(table).is_err() {
-                        return Err(TableFault { table: place, fault: LoadFault::OutOfMemory });
-                    }
-                }
-                Err(fault) => return Err(TableFault { table: place, fault }),
+            let table = load_table(alloc, schema, place, reader)?;
+            if tables.push(table).is_err() {
+                return Err(TableFault {
+                    table: place,
+                    fault: LoadFault::OutOfMemory,
+                });
             }
         }
         Ok(Database { schema, tables })
