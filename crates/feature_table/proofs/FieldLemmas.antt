@@ -1,5 +1,5 @@
 -- Whole numbers and texts as fields spell them.
-use Rattle.std.proofs.Common.{◌≡◌, ◌&&◌, ◌<◌, ◌==◌, ◌^◌, ℕ, ℤ, pos, negsuc, zero, suc, Bool, true, false, List, [], ◌∷◌, Option, Some, None, Result, Ok, Err, IsUtf8, IsAscii, arith, cond, drop, length, nat_lt, refl, ap, sym, ◌∙◌}
+use Rattle.std.proofs.Common.{◌≡◌, ◌&&◌, ◌<◌, ◌==◌, ◌^◌, ℕ, ℤ, pos, negsuc, zero, suc, Bool, true, false, List, [], ◌∷◌, Some, None, Result, Ok, Err, IsUtf8, IsAscii, arith, cond, drop, length, nat_lt, refl}
 use Rattle.std.proofs.lemmas.Bool.{false≢true}
 use Rattle.std.proofs.lemmas.Bool.Decides.{nat_tests}
 use Rattle.std.proofs.lemmas.Fmt.{IsAscii-from_digits}
@@ -8,7 +8,7 @@ use Rattle.std.proofs.lemmas.Str.Parse.{IsNumeralModel, numerals_by_value, tells
 use Rattle.std.specs.Int.{w64}
 use Rattle.std.specs.Result.{result_ok}
 use Rattle.std.specs.Str.{all_ascii_digits, is_utf8}
-use Rattle.std.specs.Str.Parse.{AllDigits, IsNumeral, ParsesSigned, digits_value, signed_digits_value, without_leading_sign}
+use Rattle.std.specs.Str.Parse.{IsNumeral, ParsesSigned, digits_value, signed_digits_value, without_leading_sign}
 use Rattle.std.specs.Prelude.{FitsSigned}
 use Rattle.table_model.specs.Loading.{GeometryReader, filled_value, fits_64_bits, is_number, number_in, value_of}
 use Rattle.table_model.specs.declared.definitions.ColumnType.{ColumnType}
@@ -70,6 +70,7 @@ ascii-signed (c ∷ cs) h = minus (c == 45) refl h
     plus : (b : Bool) → (c == 43) ≡ b → IsAscii (drop (cond b 1 0) (c ∷ cs)) → IsAscii (c ∷ cs)
     plus true e h = ascii-cons c cs (grind (arith, nat_tests)) h
     plus false e h = h
+
     minus : (b : Bool) → (c == 45) ≡ b → IsAscii (cond b cs (drop (cond (c == 43) 1 0) (c ∷ cs))) → IsAscii (c ∷ cs)
     minus true e h = ascii-cons c cs (grind (arith, nat_tests)) h
     minus false e h = plus (c == 43) refl h

@@ -1,5 +1,5 @@
 -- Loading step by step.
-use Rattle.std.proofs.Common.{◌≡◌, ◌∷◌, [], List, Option, Result, Some, None, Ok, Err, refl, true, slice_get, Bool, false, ◌&&◌, ℕ, length, nat_le, zero, suc}
+use Rattle.std.proofs.Common.{◌≡◌, ◌∷◌, [], List, Some, None, Ok, Err, refl, true, slice_get, Bool, false, ◌&&◌, ℕ, length, nat_le, zero, suc}
 use Rattle.std.proofs.lemmas.Bool.{false≢true}
 use Rattle.feature_table.specs.Stage.{no_geometry}
 use Rattle.table_model.specs.Definitions.{column_names, lawful, lawful_table, may_be_key, names_differ}

@@ -1,5 +1,5 @@
 -- The rows of the first records, and those that are left.
-use Rattle.std.proofs.Common.{◌≡◌, ◌==◌, ◌∙◌, ◌+◌, ◌++◌, ◌<◌, ◌≤◌, ℕ, zero, suc, Bool, true, false, cond, nat_lt, not, List, [], ◌∷◌, Option, Result, Ok, Err, ap, arith, drop, get_or, length, map, refl, sym}
+use Rattle.std.proofs.Common.{◌≡◌, ◌==◌, ◌∙◌, ◌+◌, ◌++◌, ◌<◌, ◌≤◌, ℕ, zero, suc, Bool, true, false, cond, nat_lt, not, List, [], ◌∷◌, Option, Result, Ok, Err, ap, arith, drop, get_or, length}
 use Rattle.std.proofs.lemmas.Bool.Decides.{nat_tests}
 use Rattle.std.proofs.lemmas.List.{get_or-map, length-map}
 use Rattle.std.proofs.lemmas.List.FromFn.{get_or-enumerate_from, length-enumerate_from}
@@ -92,6 +92,7 @@ no_late_row table header number fields row late = go (length fields == length he
   where
     over : nat_lt 100000 number ≡ true
     over = grind (arith, nat_tests)
+
     go : (b : Bool) → ◌≡◌ {A = Result (Row NoGeometry) LoadFault}
         (cond (not b) (Err (fault.UnequalRecord number)) (cond (nat_lt 100000 number) (Err fault.TooManyRows) (row_of no_geometry table header number fields))) (Ok row) → ⊥
     go true e = let f = rw over at e in cc f

@@ -80,15 +80,15 @@ only_one key [] (y ∷ ys) a b f g = absurd (g y (inl refl))
 only_one key (x ∷ xs) [] a b f g = absurd (f x (inl refl))
 only_one {G = G} key (x ∷ xs) (y ∷ ys) a b f g =
     let same : x ≡ y =
-        ⊎_elim (λ (e : y ≡ x). sym e)
-            (λ (i : IsIn ys x). ⊎_elim (λ (e : x ≡ y). e) (λ (j : IsIn xs y). absurd (one-way (key_of key y) (key_of key x) (b.0 x i) (a.0 y j))) (g y (inl refl)))
-            (f x (inl refl)) in
+    ⊎_elim (λ (e : y ≡ x). sym e)
+    (λ (i : IsIn ys x). ⊎_elim (λ (e : x ≡ y). e) (λ (j : IsIn xs y). absurd (one-way (key_of key y) (key_of key x) (b.0 x i) (a.0 y j))) (g y (inl refl)))
+    (f x (inl refl)) in
     let left : (r : Row G) → IsIn xs r → IsIn ys r = λ r i.
-        ⊎_elim (λ (e : y ≡ r). let up : int_lt (key_of key x) (key_of key x) ≡ true = ap (λ (z : Row G). int_lt (key_of key x) (key_of key z)) (same ∙ e) ∙ a.0 r i in
-            absurd (one-way (key_of key x) (key_of key x) up up)) (λ (j : IsIn ys r). j) (f r (inr i)) in
+    ⊎_elim (λ (e : y ≡ r). let up : int_lt (key_of key x) (key_of key x) ≡ true = ap (λ (z : Row G). int_lt (key_of key x) (key_of key z)) (same ∙ e) ∙ a.0 r i in
+    absurd (one-way (key_of key x) (key_of key x) up up)) (λ (j : IsIn ys r). j) (f r (inr i)) in
     let right : (r : Row G) → IsIn ys r → IsIn xs r = λ r i.
-        ⊎_elim (λ (e : x ≡ r). let up : int_lt (key_of key y) (key_of key y) ≡ true = ap (λ (z : Row G). int_lt (key_of key y) (key_of key z)) (sym same ∙ e) ∙ b.0 r i in
-            absurd (one-way (key_of key y) (key_of key y) up up)) (λ (j : IsIn xs r). j) (g r (inr i)) in
+    ⊎_elim (λ (e : x ≡ r). let up : int_lt (key_of key y) (key_of key y) ≡ true = ap (λ (z : Row G). int_lt (key_of key y) (key_of key z)) (sym same ∙ e) ∙ b.0 r i in
+    absurd (one-way (key_of key y) (key_of key y) up up)) (λ (j : IsIn xs r). j) (g r (inr i)) in
     ap (λ (z : Row G). z ∷ xs) same ∙ ap (λ (zs : List (Row G)). y ∷ zs) (only_one key xs ys a.1 b.1 left right)
 
 -- each key comes once at most
@@ -240,5 +240,5 @@ the_order {G = G} key xs ys none moved up =
     let once : Once key xs = λ k. let n = once-keys k [] 1 (map (key_of key) xs) none in let same = count-map (int_eq k) (key_of key) xs in omega (arith, n, same) in
     let once-sorted : Once key ys = λ k. let same = sum_by-IsPermutation (λ (r : Row G). cond (int_eq k (key_of key r)) 1 0) xs ys moved in let n = once k in omega (arith, n, same) in
     only_one key (by_key key xs) ys (ascends-by_key key xs once) (ascends-sorted key ys up once-sorted)
-        (λ r i. let c = Contains-permutation xs ys r moved (at-in xs r (in-by_key key xs r i)) in in-at ys c.0 r c.1 c.2)
-        (λ r i. let c = Contains-permutation ys xs r (IsPermutation-sym xs ys moved) (at-in ys r i) in by_key-in key xs r (in-at xs c.0 r c.1 c.2))
+    (λ r i. let c = Contains-permutation xs ys r moved (at-in xs r (in-by_key key xs r i)) in in-at ys c.0 r c.1 c.2)
+    (λ r i. let c = Contains-permutation ys xs r (IsPermutation-sym xs ys moved) (at-in ys r i) in by_key-in key xs r (in-at xs c.0 r c.1 c.2))

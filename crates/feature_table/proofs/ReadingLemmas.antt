@@ -2,10 +2,9 @@
 use Rattle.std.proofs.Common.{◌≡◌, ◌∙◌, ◌+◌, ◌<◌, ◌≤◌, ◌==◌, ◌++◌, ℕ, zero, suc, Bool, true, false, List, [], ◌∷◌, Option, Some, None, add-one, ap, arith, cond, length, refl, sym}
 use Rattle.std.proofs.lemmas.Bool.{false≢true}
 use Rattle.std.proofs.lemmas.Option.{same_Some}
-use Rattle.csv.specs.Machine.{Read, after_end, ends_at_end, ends_with, field_after, fields_after, in_field, is_end, next_record, start_field, start_record, step}
+use Rattle.csv.specs.Machine.{Read, ends_at_end, ends_with, field_after, fields_after, in_field, is_end, next_record, start_field, start_record, step}
 use Rattle.csv.specs.Reading.{NextIs, ReadRecord, ReadsNext, default_config, reader_state, records, records_from, records_next, source_of}
 use Rattle.csv.specs.declared.parser.Action.{Action}
-use Rattle.csv.specs.declared.parser.Action.TheVariants as act
 use Rattle.csv.specs.declared.parser.State.{State}
 use Rattle.csv.specs.declared.parser.State.TheVariants as st
 use Rattle.csv.specs.declared.parser.Terminator.TheVariants as term
@@ -62,9 +61,9 @@ next-leaves s fields field (c ∷ rest) r e =
   where
     go : (b : Bool) → is_end (step default_config s c).1 ≡ b
         → ◌≡◌ {A = Option Read} (cond b (Some (fields_after (step default_config s c).1 fields field, (step default_config s c).0, rest))
-            (next_record default_config (step default_config s c).0 (fields_after (step default_config s c).1 fields field) (field_after (step default_config s c).1 c field) rest)) (Some r)
+        (next_record default_config (step default_config s c).0 (fields_after (step default_config s c).1 fields field) (field_after (step default_config s c).1 c field) rest)) (Some r)
         → (next_record default_config (step default_config s c).0 (fields_after (step default_config s c).1 fields field) (field_after (step default_config s c).1 c field) rest ≡ Some r
-            → (ends_at_end r.1 ≡ false) × (length r.2 ≤ length rest))
+        → (ends_at_end r.1 ≡ false) × (length r.2 ≤ length rest))
         → (ends_at_end r.1 ≡ false) × (length r.2 ≤ length (c ∷ rest))
     go true is h more =
         let same = same_Some _ _ h in
@@ -86,9 +85,9 @@ next-shorter s fields field (c ∷ rest) r between e =
   where
     go : (b : Bool)
         → ◌≡◌ {A = Option Read} (cond b (Some (fields_after (step default_config s c).1 fields field, (step default_config s c).0, rest))
-            (next_record default_config (step default_config s c).0 (fields_after (step default_config s c).1 fields field) (field_after (step default_config s c).1 c field) rest)) (Some r)
+        (next_record default_config (step default_config s c).0 (fields_after (step default_config s c).1 fields field) (field_after (step default_config s c).1 c field) rest)) (Some r)
         → (next_record default_config (step default_config s c).0 (fields_after (step default_config s c).1 fields field) (field_after (step default_config s c).1 c field) rest ≡ Some r
-            → (ends_at_end r.1 ≡ false) × (length r.2 ≤ length rest))
+        → (ends_at_end r.1 ≡ false) × (length r.2 ≤ length rest))
         → length r.2 < length (c ∷ rest)
     go true h more = let left = ap (λ (q : Read). length q.2) (same_Some _ _ h) in omega (arith, left)
     go false h more = let m = more h in omega (arith, m.1)

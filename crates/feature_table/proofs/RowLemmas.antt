@@ -30,8 +30,8 @@ value_at {T = T} geometry table header number fields places i column d within is
     let pair : get_or (enumerate_from 0 columns) i (0, column) ≡ (i, column) = rw (n, ← here) at item in
     let size = length-enumerate_from 0 columns in
     let place : get_or places i 0 ≡ place_in header column.name =
-        ap (λ (p : List ℕ). get_or p i 0) is ∙ get_or-map (λ (c : ColumnDef T). place_in header c.name) columns i column 0 within
-        ∙ ap (λ (c : ColumnDef T). place_in header c.name) (sym here) in
+    ap (λ (p : List ℕ). get_or p i 0) is ∙ get_or-map (λ (c : ColumnDef T). place_in header c.name) columns i column 0 within
+    ∙ ap (λ (c : ColumnDef T). place_in header c.name) (sym here) in
     get_or-map value (enumerate_from 0 columns) i (0, column) d (omega (arith, size)) ∙ ap value pair
     ∙ ap (λ p. value_of geometry number (is_required table (i, column)) column.column_type (get_or fields p [])) (sym place)
 

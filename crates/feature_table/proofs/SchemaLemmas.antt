@@ -2,7 +2,7 @@
 use Rattle.std.proofs.Common.{◌≡◌, ◌<◌, ◌&&◌, ℕ, zero, suc, Bool, true, false, List, [], ◌∷◌, arith, get_or, length, refl}
 use Rattle.std.proofs.lemmas.Bool.{false≢true}
 use Rattle.std.specs.List.{list_all}
-use Rattle.table_model.specs.Definitions.{lawful, lawful_table, names_differ}
+use Rattle.table_model.specs.Definitions.{lawful, lawful_table}
 use Rattle.table_model.specs.declared.definitions.TableDef.{TableDef}
 
 both : (a b : Bool) → (a && b) ≡ true → (a ≡ true) × (b ≡ true)

@@ -1,5 +1,4 @@
 -- What reads a geometry while none is served.
-use Rattle.std.specs.Prelude.{Result}
 use Rattle.table_model.specs.Loading.{GeometryReader}
 use Rattle.table_model.specs.declared.values.NoGeometry.{NoGeometry}
 

@@ -34,7 +34,10 @@ fn blanks_at_end(text: &[u8]) -> usize
     ensures within { result ≤ length text.now }
     ensures count { result ≡ prefix_len spec.is_blank (reverse text.now) }
 {
-    text.iter().rev().take_while(|byte| is_blank(**byte)).count()
+    text.iter()
+        .rev()
+        .take_while(|byte| is_blank(**byte))
+        .count()
 }
 
 /// A text from a place on.

@@ -12,7 +12,6 @@ mod reading;
 mod rows;
 pub mod schemas;
 pub mod tables;
-
 #[cfg(test)]
 mod tests;
 

@@ -51,7 +51,13 @@ fn value_at(
     let column = &columns[place];
     let at = places[place];
     let required = is_required(table, place, column);
-    value_of(alloc, number, required, &column.column_type, field_at(record, at))
+    value_of(
+        alloc,
+        number,
+        required,
+        &column.column_type,
+        field_at(record, at),
+    )
 }
 
 /// The values of a record's fields in the columns of a table, which stand at these places of the header.

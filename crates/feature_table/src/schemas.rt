@@ -77,7 +77,9 @@ impl Schema {
 fn has_column(columns: &[ColumnDef], name: &[u8]) -> bool
     ensures { result ≡ list_any (same_name name.now) (map (λ c. c.name) columns.now) }
 {
-    columns.iter().any(|column| same_name(name, column.name.bytes()))
+    columns
+        .iter()
+        .any(|column| same_name(name, column.name.bytes()))
 }
 
 /// Whether the names of columns differ.
@@ -96,7 +98,9 @@ fn columns_differ(columns: &[ColumnDef]) -> bool
 fn has_table(tables: &[TableDef], name: &[u8]) -> bool
     ensures { result ≡ list_any (same_name name.now) (map (λ t. t.name) tables.now) }
 {
-    tables.iter().any(|table| same_name(name, table.name.bytes()))
+    tables
+        .iter()
+        .any(|table| same_name(name, table.name.bytes()))
 }
 
 /// Whether the names of tables differ.

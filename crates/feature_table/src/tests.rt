@@ -2,7 +2,9 @@
 
 ghost use Rattle.std.specs.Prelude.{◌<◌, length};
 
-use crate::{ColumnDef, ColumnType, Database, Field, LoadFault, Schema, Table, TableDef, TableFault, lawful};
+use crate::{
+    ColumnDef, ColumnType, Database, Field, LoadFault, Schema, Table, TableDef, TableFault, lawful,
+};
 use sqlite_items::Items;
 use std::alloc::{AllocError, Global};
 use std::io::{self, Read};
@@ -22,7 +24,7 @@ fn definition(alloc: Global) -> Result<TableDef, AllocError> {
     let columns = vec![in alloc;
         column(alloc, "id", ColumnType::Integer)?,
         column(alloc, "pop", ColumnType::Integer)?,
-        column(alloc, "name", ColumnType::Text)?
+        column(alloc, "name", ColumnType::Text)?,
     ]?;
     Ok(TableDef {
         name: OwnedText::copy_of(alloc, "t")?,
@@ -63,7 +65,10 @@ fn first_run_loads(rt: HostRuntime) -> Result<(), Fail> {
         }
     };
     assert_eq!(rt; table.rows(), 4);
-    for (i, want) in ["|1|8|a", "|2|9|b,\"b", "|3||c", "|4|7|"].iter().enumerate() {
+    for (i, want) in ["|1|8|a", "|2|9|b,\"b", "|3||c", "|4|7|"]
+        .iter()
+        .enumerate()
+    {
         assert!(rt; i < table.rows());
         assert_eq!(rt; line(rt.alloc(), &table, i)?.as_str(), *want);
     }
@@ -86,12 +91,24 @@ fn each_fault(rt: HostRuntime) -> Result<(), Fail> {
         (b"id,pop,name\n1,2,\xff\n", Some(LoadFault::NotUtf8(1))),
         (b"id,pop,name\n1,1.0,a\n", Some(LoadFault::BadInteger(1))),
         (b"id,pop,name\n1, ,a\n", Some(LoadFault::BadInteger(1))),
-        (b"id,pop,name\n1,9223372036854775808,a\n", Some(LoadFault::BadInteger(1))),
+        (
+            b"id,pop,name\n1,9223372036854775808,a\n",
+            Some(LoadFault::BadInteger(1)),
+        ),
         (b"id,pop,name\n-9223372036854775808,-0,a\n", None),
         (b"id,pop,name\n,x,a\n", Some(LoadFault::NullNotAllowed(1))),
-        (b"id,pop,name\n1,,\n2,,\n1,,\n", Some(LoadFault::DoubleKey(3))),
-        (b"id,pop,name\n1,,\n2,,\n2,,\n1,,\n", Some(LoadFault::DoubleKey(3))),
-        (b"id,pop,name\n1,,\n1,,\nx,,\n", Some(LoadFault::BadInteger(3))),
+        (
+            b"id,pop,name\n1,,\n2,,\n1,,\n",
+            Some(LoadFault::DoubleKey(3)),
+        ),
+        (
+            b"id,pop,name\n1,,\n2,,\n2,,\n1,,\n",
+            Some(LoadFault::DoubleKey(3)),
+        ),
+        (
+            b"id,pop,name\n1,,\n1,,\nx,,\n",
+            Some(LoadFault::BadInteger(3)),
+        ),
         (b"name,pop,id\nx,y,z\n", Some(LoadFault::BadInteger(1))),
         (b"id,pop,name,z\n1,,,\xff\n", None),
     ];

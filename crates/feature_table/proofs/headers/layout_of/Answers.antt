@@ -1,4 +1,4 @@
-use Rattle.std.proofs.Common.{None, Some, ◌∙◌, ◌≡◌, ap, get_or, map, sym}
+use Rattle.std.proofs.Common.{None, ◌∙◌, ◌≡◌, ap, get_or, map, sym}
 use Rattle.std.proofs.lemmas.List.{take_all}
 use Rattle.std.proofs.lemmas.Result.{err_from_is_err_and}
 use Rattle.csv.specs.Records.{fields_of}
@@ -14,9 +14,9 @@ loop-column-preserved c =
     let column = c.column-item.result in
     let found = c.in_ok-place_of.ensures in
     let none : name_fault header (get_or columns i column).name ≡ None =
-        ap (λ c. name_fault header c.name) (sym c.column-item.is) ∙ ap (name_fault header) (sym c.bytes.ensures) ∙ found.0 in
+    ap (λ c. name_fault header c.name) (sym c.column-item.is) ∙ ap (name_fault header) (sym c.bytes.ensures) ∙ found.0 in
     let place : c.in_ok-place_of.field-0 ≡ place_in header (get_or columns i column).name =
-        found.1 ∙ ap (place_in header) c.bytes.ensures ∙ ap (λ c. place_in header c.name) c.column-item.is in
+    found.1 ∙ ap (place_in header) c.bytes.ensures ∙ ap (λ c. place_in header c.name) c.column-item.is in
     record {
       places = c.in_ok-push.ensures.items ∙ places_more columns header i column c.loop-column.places.items c.in_ok-place_of.field-0 c.loop-column-test.true c.loop-column.invariant.places place;
       faults = sym (fault_past columns header i column c.loop-column-test.true none) ∙ c.loop-column.invariant.faults;
@@ -38,6 +38,7 @@ returns-clause-ok c =
     let header = fields_of c.args.header.now in
     let i = c.loop-column.column-index in
     let past = c.loop-column-test.false in
-    let all = take_all i columns past in
-    (sym c.loop-column.invariant.faults ∙ fault_none columns header i past,
-      record { places = c.loop-column.invariant.places ∙ ap (map (λ c. place_in header c.name)) all; width = c.len.ensures })
+    let all = take_all i columns past in (
+      sym c.loop-column.invariant.faults ∙ fault_none columns header i past,
+      record { places = c.loop-column.invariant.places ∙ ap (map (λ c. place_in header c.name)) all; width = c.len.ensures },
+    )

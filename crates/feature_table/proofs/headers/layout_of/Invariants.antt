@@ -6,5 +6,5 @@ use Rattle.feature_table.proofs.headers.layout_of.Given as goal
 abbrev pub invariant-loop-column : goal.invariant-loop-column
 invariant-loop-column l = record {
   places : l.places.items ≡ map (λ c. place_in (fields_of l.header) c.name) (take l.column-index l.columns);
-  faults : header_fault (drop l.column-index l.columns) (fields_of l.header) ≡ header_fault l.columns (fields_of l.header)
+  faults : header_fault (drop l.column-index l.columns) (fields_of l.header) ≡ header_fault l.columns (fields_of l.header);
 }

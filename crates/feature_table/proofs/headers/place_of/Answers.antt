@@ -1,7 +1,7 @@
-use Rattle.std.proofs.Common.{[], ◌∙◌, ◌≡◌, ◌<◌, ap, arith, false, get_or, is_some, length, sym, true}
+use Rattle.std.proofs.Common.{[], ◌∙◌, ◌≡◌, ◌<◌, ap, arith, false, get_or, is_some, length, sym}
 use Rattle.csv.specs.Records.{fields_of}
 use Rattle.table_model.specs.Texts.{same_name}
-use Rattle.feature_table.proofs.HeaderLemmas.{found_again, found_kept, found_next, name_missing, name_there}
+use Rattle.feature_table.proofs.HeaderLemmas.{found_kept, found_next}
 use Rattle.feature_table.proofs.headers.place_of.Goals as goal
 use Rattle.feature_table.proofs.headers.place_of.Goals.{then-same_name+else-is_some, else-same_name}
 
@@ -19,4 +19,3 @@ loop-place-preserved c =
           rw w.found-is (found_next test fields place [] before within none c.loop-place.invariant (same ∙ w.if-same_name.true))
       | else-same_name w ↦ rw w.found-is (found_kept test fields place [] before within c.loop-place.invariant (same ∙ w.if-same_name.false))
     ]
-

@@ -1,4 +1,4 @@
-use Rattle.std.proofs.Common.{◌+◌, ◌∙◌, ◌≡◌, ℕ, ap, arith, drop, inr}
+use Rattle.std.proofs.Common.{◌+◌, ◌∙◌, ◌≡◌, ℕ, ap, arith, drop}
 use Rattle.std.proofs.lemmas.Result.{err_from_is_err_and}
 use Rattle.feature_table.proofs.LoadingLemmas.{midway_end, midway_fault, midway_more, no_late_row}
 use Rattle.feature_table.specs.Stage.{no_geometry}
@@ -11,7 +11,7 @@ returns-in_err-row g c header records layout gives =
     let took = c.in_err-row.ensures.takes header (drop c.loop-place.place records) layout m.gives in
     let p = err_from_is_err_and c.from_residual.result c.from_residual.ensures.1 in
     rw (p.1, p.2) (λ other. let t = took other in
-        midway_fault _ _ c.args.table.now header records c.loop-place.place c.loop-place.rows.items t.0 t.1 c.in_err-row.field-0.0 m t.2 t.3)
+    midway_fault _ _ c.args.table.now header records c.loop-place.place c.loop-place.rows.items t.0 t.1 c.in_err-row.field-0.0 m t.2 t.3)
 
 pub returns-in-None : goal.returns-in-None
 returns-in-None g c header records layout gives =
@@ -35,8 +35,8 @@ returns-in_err-next_row g c header records layout gives =
     let last : c.loop-place.place + 1 ≡ 100001 = omega arith in
     let p = err_from_is_err_and c.from_residual-in_err-next_row.result c.from_residual-in_err-next_row.ensures.1 in
     rw (p.1, p.2) (λ other. let t = took other in
-        midway_fault _ _ c.args.table.now header records c.loop-place.place c.loop-place.rows.items t.0 t.1 c.in_err-next_row.field-0.0 m t.2
-            (ap (λ (n : ℕ). checked_row no_geometry c.args.table.now header (n, t.0)) last ∙ t.3))
+    midway_fault _ _ c.args.table.now header records c.loop-place.place c.loop-place.rows.items t.0 t.1 c.in_err-next_row.field-0.0 m t.2
+    (ap (λ (n : ℕ). checked_row no_geometry c.args.table.now header (n, t.0)) last ∙ t.3))
 
 pub returns-in-Some-2 : goal.returns-in-Some-2
 returns-in-Some-2 g c header records layout gives =

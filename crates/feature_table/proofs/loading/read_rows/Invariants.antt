@@ -9,5 +9,5 @@ abbrev pub invariant-loop-place : goal.invariant-loop-place
 invariant-loop-place g l = record {
   steady : IsSteady l.reader;
   midway : (header : Record) (records : List Record) → IsLayout l.table.columns header l.layout → StillGives g.R.Read.remaining l.fn.reader records
-      → Midway g.R.Read.remaining l.reader l.table header records l.place l.rows.items
+      → Midway g.R.Read.remaining l.reader l.table header records l.place l.rows.items;
 }

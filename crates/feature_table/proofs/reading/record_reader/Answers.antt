@@ -1,4 +1,4 @@
-use Rattle.std.proofs.Common.{Some, ◌∙◌, ap, option_map, sym}
+use Rattle.std.proofs.Common.{◌∙◌, ap, option_map}
 use Rattle.csv.specs.Reading.{strip_bom}
 use Rattle.feature_table.proofs.ReadingLemmas.{at_start}
 use Rattle.feature_table.proofs.reading.record_reader.Goals as goal

@@ -1,4 +1,4 @@
-use Rattle.std.proofs.Common.{◌∙◌, ◌≡◌, ◌≢◌, arith, length, sym}
+use Rattle.std.proofs.Common.{◌∙◌, ◌≡◌, ◌≢◌, arith, length}
 use Rattle.csv.specs.Records.{fields_of}
 use Rattle.feature_table.proofs.RowLemmas.{late_row, plain_row, unequal_row}
 use Rattle.feature_table.specs.Stage.{no_geometry}

@@ -1,4 +1,4 @@
-use Rattle.std.proofs.Common.{Err, Ok, Result, ◌∙◌, ◌≡◌, ◌<◌, ◌≤◌, ap, arith, length, sym}
+use Rattle.std.proofs.Common.{Err, Ok, ◌∙◌, ◌<◌, ◌≤◌, ap, arith, length, sym}
 use Rattle.std.proofs.lemmas.Result.{err_from_is_err_and}
 use Rattle.csv.specs.Records.{fields_of}
 use Rattle.feature_table.proofs.EachLemmas.{passed_all, passed_fault, passed_more}
@@ -24,7 +24,7 @@ returns-in_err-value_at c header is =
     let within : c.loop-place.place < length values = omega (arith, size) in
     let p = err_from_is_err_and c.from_residual-in_err-value_at.result c.from_residual-in_err-value_at.ensures.1 in
     rw (p.1, p.2) (λ other. passed_fault values c.loop-place.place c.loop-place.values.items c.in_err-value_at.field-0.0 (Err fault.TooManyRows) within
-        (c.loop-place.invariant header is) (c.in_err-value_at.ensures header (Err fault.TooManyRows) is other))
+    (c.loop-place.invariant header is) (c.in_err-value_at.ensures header (Err fault.TooManyRows) is other))
 
 pub returns : goal.returns
 unfolding row_of

@@ -1,4 +1,4 @@
-use Rattle.std.proofs.Common.{◌∙◌, ◌≡◌, ap, arith, get_or, sym}
+use Rattle.std.proofs.Common.{◌∙◌, ◌≡◌, ap, arith, get_or}
 use Rattle.csv.specs.Records.{fields_of}
 use Rattle.feature_table.proofs.RowLemmas.{value_at}
 use Rattle.feature_table.specs.Stage.{no_geometry}

@@ -1,4 +1,4 @@
-use Rattle.std.proofs.Common.{map, rules, sym, tests, ◌∙◌}
+use Rattle.std.proofs.Common.{rules, sym, tests, ◌∙◌}
 use Rattle.std.proofs.lemmas.Iterator.{YieldsList-from_slice}
 use Rattle.std.proofs.lemmas.Iterator.Search.{any_from_yields_List}
 use Rattle.feature_table.proofs.ListLemmas.{list_any-map}

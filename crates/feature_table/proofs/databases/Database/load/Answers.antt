@@ -1,4 +1,4 @@
-use Rattle.std.proofs.Common.{[], ◌∙◌, ◌≡◌, ap, arith, get_or, length, map, rules, sym, true, vec_len}
+use Rattle.std.proofs.Common.{[], ◌∙◌, ◌≡◌, ap, arith, get_or, length, map, rules, true, vec_len}
 use Rattle.std.proofs.lemmas.Iterator.Adapters.{YieldsList-from_vec}
 use Rattle.std.proofs.lemmas.Iterator.Consumers.{YieldsList-end, YieldsList-from_enumerate, YieldsList-turn}
 use Rattle.std.proofs.lemmas.List.FromFn.{length-enumerate_from}
@@ -53,7 +53,7 @@ loop-place-preserved g c =
           let whole = length-tables c.args.schema.now texts same in
           let here = rw turned.1 at (c.in_ok-table.ensures (get_or texts n []) no_definition text.1) in
           rw (longer, pushed) (passed_more tables n c.loop-place.tables.items c.in_ok-table.table no_table (omega (arith, whole, turned.0, c.requires))
-              (c.loop-place.invariant.passed texts known) (table_at c.args.schema.now texts n no_definition no_table same (omega (arith, turned.0, c.requires)) ∙ here));
+          (c.loop-place.invariant.passed texts known) (table_at c.args.schema.now texts n no_definition no_table same (omega (arith, turned.0, c.requires)) ∙ here));
     }
 
 pub returns-in_err-table-clause-loads : goal.returns-in_err-table-clause-loads
@@ -76,9 +76,9 @@ returns-in_err-table-clause-loads g c texts known =
     let whole = length-tables c.args.schema.now texts same in
     let p = err_from_is_err_and c.from_residual.result c.from_residual.ensures.1 in
     rw (p.1, p.2) (λ other.
-        let here = rw turned.1 at (c.in_err-table.ensures (get_or texts n []) no_definition text.1 other) in
-        passed_fault tables n c.loop-place.tables.items c.in_err-table.field-0.0 no_table (omega (arith, whole, turned.0, c.requires))
-            (c.loop-place.invariant.passed texts known) (table_at c.args.schema.now texts n no_definition no_table same (omega (arith, turned.0, c.requires)) ∙ here))
+    let here = rw turned.1 at (c.in_err-table.ensures (get_or texts n []) no_definition text.1 other) in
+    passed_fault tables n c.loop-place.tables.items c.in_err-table.field-0.0 no_table (omega (arith, whole, turned.0, c.requires))
+    (c.loop-place.invariant.passed texts known) (table_at c.args.schema.now texts n no_definition no_table same (omega (arith, turned.0, c.requires)) ∙ here))
 
 pub returns-clause-loads : goal.returns-clause-loads
 unfolding load_tables

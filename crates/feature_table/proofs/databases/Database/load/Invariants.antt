@@ -9,5 +9,5 @@ abbrev pub invariant-loop-place : goal.invariant-loop-place
 invariant-loop-place g l = record {
   count : vec_len l.tables ≡ length l.yielded;
   passed : (texts : List (List ℕ)) → map g.R.Read.remaining l.fn.readers.items ≡ map Some texts
-      → Passed (loaded_tables no_geometry l.schema (map records_in texts)) (length l.yielded) l.tables.items
+      → Passed (loaded_tables no_geometry l.schema (map records_in texts)) (length l.yielded) l.tables.items;
 }

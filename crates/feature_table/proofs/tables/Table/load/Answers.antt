@@ -1,11 +1,10 @@
-use Rattle.std.proofs.Common.{[], ◌∷◌, ◌∙◌, ◌≡◌, None, Ok, Some, ap, inr, sym}
+use Rattle.std.proofs.Common.{◌∙◌, ap, inr}
 use Rattle.std.proofs.lemmas.Result.{err_from_is_err_and}
 use Rattle.csv.specs.Records.{fields_of}
 use Rattle.feature_table.proofs.LoadLemmas.{header_fails, no_header, rows_fail, rows_pass}
-use Rattle.feature_table.specs.Layouts.{IsLayout}
 use Rattle.feature_table.specs.Stage.{no_geometry}
 use Rattle.feature_table.specs.Tables.{records_in}
-use Rattle.table_model.specs.Loading.{header_fault, load}
+use Rattle.table_model.specs.Loading.{load}
 use Rattle.feature_table.proofs.tables.Table.load.Goals as goal
 
 pub returns-then-not-found : goal.returns-then-not-found
@@ -22,8 +21,8 @@ returns-in_err-layout g c text known =
     let took = rw c.if-not-found.false at (c.in_ok-found.ensures.takes (records_in text) gives) in
     let p = err_from_is_err_and c.from_residual-in_err-layout.result c.from_residual-in_err-layout.ensures.1 in
     rw (p.1, p.2) (λ other.
-        let some = rw c.as_slice.ensures at (c.in_err-layout.ensures.fault (λ e. other (inr e))) in
-        ap (load no_geometry table) took.2 ∙ header_fails table header took.0 c.in_err-layout.field-0.0 some)
+    let some = rw c.as_slice.ensures at (c.in_err-layout.ensures.fault (λ e. other (inr e))) in
+    ap (load no_geometry table) took.2 ∙ header_fails table header took.0 c.in_err-layout.field-0.0 some)
 
 pub returns-in_err-rows : goal.returns-in_err-rows
 returns-in_err-rows g c text known =
@@ -34,8 +33,8 @@ returns-in_err-rows g c text known =
     let layout = rw c.as_slice.ensures at c.in_ok-layout.ensures.ok in
     let p = err_from_is_err_and c.from_residual-in_err-rows.result c.from_residual-in_err-rows.ensures.1 in
     rw (p.1, p.2) (λ other.
-        ap (load no_geometry table) took.2
-        ∙ rows_fail table header took.0 c.in_err-rows.field-0.0 layout.0 (c.in_err-rows.ensures header took.0 layout.1 took.1 other))
+    ap (load no_geometry table) took.2
+    ∙ rows_fail table header took.0 c.in_err-rows.field-0.0 layout.0 (c.in_err-rows.ensures header took.0 layout.1 took.1 other))
 
 pub returns-in_err-order_by_key : goal.returns-in_err-order_by_key
 returns-in_err-order_by_key g c text known =
@@ -47,8 +46,8 @@ returns-in_err-order_by_key g c text known =
     let rows = c.in_ok-rows.ensures header took.0 layout.1 took.1 in
     let p = err_from_is_err_and c.from_residual-in_err-order_by_key.result c.from_residual-in_err-order_by_key.ensures.1 in
     rw (p.1, p.2) (λ other.
-        ap (load no_geometry table) took.2 ∙ rows_pass table header took.0 c.in_ok-rows.rows.items layout.0 rows
-        ∙ c.in_err-order_by_key.ensures.fault (λ e. other (inr e)))
+    ap (load no_geometry table) took.2 ∙ rows_pass table header took.0 c.in_ok-rows.rows.items layout.0 rows
+    ∙ c.in_err-order_by_key.ensures.fault (λ e. other (inr e)))
 
 pub returns : goal.returns
 returns g c text known =
