@@ -3,7 +3,6 @@ use Rattle.std.specs.Prelude.{◌≡◌, ℕ}
 use Rattle.table_model.specs.declared.conditions.Comparison.{Comparison}
 use Rattle.table_model.specs.declared.queries.WrittenOperand.{WrittenOperand}
 use Rattle.table_model.specs.declared.queries.WrittenPredicate.{WrittenPredicate}
-use Rattle.table_model.specs.declared.queries.WrittenCond.{WrittenCond}
 use Rattle.table_model.specs.declared.queries.WrittenCond.TheVariants as conds
 use Rattle.table_model.specs.declared.queries.WrittenCond.TheFolds.{fold-WrittenCond, fold-roll-WrittenCond}
 use Rattle.table_model.specs.declared.queries.WrittenCond.TheViews.{roll-WrittenCond}

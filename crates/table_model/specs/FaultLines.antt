@@ -1,5 +1,5 @@
 -- The line and the status of each fault (profile).
-use Rattle.std.specs.Prelude.{ℕ, List, ◌∷◌, ◌++◌, decimal, codes}
+use Rattle.std.specs.Prelude.{ℕ, List, ◌++◌, decimal, codes}
 use Rattle.geometry_model.specs.declared.text_faults.TextFault.TheVariants as w
 use Rattle.geometry_model.specs.declared.validity_faults.ValidityFault.TheVariants as v
 use Rattle.geometry_model.specs.declared.geometry_faults.GeometryFault.{GeometryFault}

@@ -5,9 +5,10 @@
 ghost use Rattle.std.specs.Prelude.{◌≡◌, [], ◌∷◌, codes, pos, Some, None, Ok, Err};
 ghost use Rattle.geometry_model.specs.declared.geometry_faults.GeometryFault.TheVariants.{Text, Invalid};
 ghost use Rattle.geometry_model.specs.declared.shapes.GeometryType.TheVariants.{LineString};
-ghost use Rattle.geometry_model.specs.declared.text_faults.TextFault.TheVariants.{Syntax};
-ghost use Rattle.geometry_model.specs.declared.validity_faults.ValidityFault.TheVariants.{TooFewPoints};
+ghost use Rattle.geometry_model.specs.declared.text_faults.TextFault.TheVariants.{Syntax, TooLong};
+ghost use Rattle.geometry_model.specs.declared.validity_faults.ValidityFault.TheVariants.{TooFewPoints, RingsMeet, RingNotSimple};
 ghost use Rattle.geometry_model.specs.declared.relations.Predicate.TheVariants.{Within};
+ghost use Rattle.table_model.specs.FaultLines.{load_text, query_text};
 ghost use Rattle.table_model.specs.GeometryColumnExamples.{
   loaded,
   fields,
@@ -75,4 +76,15 @@ pub fn refused_strings()
     ensures geometry_before_type { bound_where (conds.Relates 23 (predicates.Named Within) (geometry_column (codes "pop") 33) (from_text [] 54)) ≡ Err (query.BadGeometry 54 (Text (Syntax 0))) }
     ensures pattern_before_type { bound_where (conds.Relates 23 (predicates.Relate (name (codes "FF*FF***") 45)) (geometry_column (codes "pop") 33) (geometry_column (codes "geom") 38)) ≡ Err (query.BadPattern 45) }
     ensures letter_of_pattern { bound_where (conds.Relates 23 (predicates.Relate (name (codes "FF*FF***x") 46)) (geometry_column (codes "geom") 33) (geometry_column (codes "geom") 39)) ≡ Err (query.BadPattern 46) }
+{}
+
+/// The texts of faults of geometries, in a table and in a query.
+pub fn geometry_fault_texts()
+    ensures text { load_text (codes "t") (load.BadGeometry 2 (Text (Syntax 9))) ≡ codes "t L6 record 2 W1 at 9" }
+    ensures rings { load_text (codes "t") (load.BadGeometry 2 (Invalid (RingsMeet 0 1))) ≡ codes "t L6 record 2 V4 0 1" }
+    ensures too_long { load_text (codes "t") (load.BadGeometry 2 (Text TooLong)) ≡ codes "t L6 record 2 W4" }
+    ensures wrong_type { load_text (codes "t") (load.WrongType 2) ≡ codes "t L7 record 2" }
+    ensures string { query_text (query.BadGeometry 40 (Text (Syntax 9))) ≡ codes "Q8 at 40 W1 at 9" }
+    ensures ring { query_text (query.BadGeometry 40 (Invalid (RingNotSimple 0))) ≡ codes "Q8 at 40 V3 0" }
+    ensures pattern { query_text (query.BadPattern 40) ≡ codes "Q9 at 40" }
 {}
