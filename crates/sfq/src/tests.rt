@@ -25,6 +25,7 @@ fn run_order(alloc: Global, query: &str) -> Result<Order, AllocError> {
 }
 
 // What a run prints on standard output and on standard error, and its status.
+#[derive(Drop)]
 struct Printed {
     out: MemorySink,
     err: MemorySink,
@@ -32,7 +33,7 @@ struct Printed {
 }
 
 // Runs a query over a schema and a table t.
-fn printed(rt: &HostRuntime, schema: &[u8], table: &[u8], query: &str) -> Result<Printed, Fail> {
+fn run_over(rt: &HostRuntime, schema: &[u8], table: &[u8], query: &str) -> Result<Printed, Fail> {
     let alloc = rt.alloc();
     let order = run_order(alloc, query)?;
     let mut out = MemorySink::new(alloc);
@@ -77,7 +78,7 @@ fn queries_are_answered(rt: HostRuntime) -> Result<(), Fail> {
         ("SELECT ID FROM t WHERE pop IS NULL", "id\n3\n"),
         (deepest.as_str(), "id\n1\n"),
     ] {
-        let run = printed(&rt, SCHEMA.as_bytes(), TABLE.as_bytes(), query)?;
+        let run = run_over(&rt, SCHEMA.as_bytes(), TABLE.as_bytes(), query)?;
         assert_eq!(rt; run.out.bytes(), out.as_bytes(), "of {query}");
         assert_eq!(rt; run.err.bytes(), b"".as_slice());
         assert_eq!(rt; run.status, 0);
@@ -95,7 +96,7 @@ fn tables_are_printed_by_key(rt: HostRuntime) -> Result<(), Fail> {
             "name\nc\n\"a,\"\"b\"\n",
         ),
     ] {
-        let run = printed(
+        let run = run_over(
             &rt,
             SCHEMA.as_bytes(),
             table.as_bytes(),
@@ -230,7 +231,7 @@ fn faults_have_lines(rt: HostRuntime) -> Result<(), Fail> {
             4,
         ),
     ] {
-        let run = printed(&rt, schema.as_bytes(), table.as_bytes(), query)?;
+        let run = run_over(&rt, schema.as_bytes(), table.as_bytes(), query)?;
         assert_eq!(rt; run.err.bytes(), line.as_bytes());
         assert_eq!(rt; run.out.bytes(), b"".as_slice());
         assert_eq!(rt; run.status, status);
@@ -240,7 +241,7 @@ fn faults_have_lines(rt: HostRuntime) -> Result<(), Fail> {
 
 #[test]
 fn a_text_that_is_no_utf8_is_refused(rt: HostRuntime) -> Result<(), Fail> {
-    let run = printed(&rt, SCHEMA.as_bytes(), b"id,pop,name\n1,2,\xff\n", QUERY)?;
+    let run = run_over(&rt, SCHEMA.as_bytes(), b"id,pop,name\n1,2,\xff\n", QUERY)?;
     assert_eq!(rt; run.err.bytes(), b"sfq: t L4 record 1\n".as_slice());
     assert_eq!(rt; run.status, 4);
     Ok(())
@@ -252,13 +253,13 @@ fn texts_past_65536_bytes_are_refused(rt: HostRuntime) -> Result<(), Fail> {
     for _ in SCHEMA.len()..65_536 {
         long.push_str(" ")?;
     }
-    let run = printed(&rt, long.as_bytes(), TABLE.as_bytes(), QUERY)?;
+    let run = run_over(&rt, long.as_bytes(), TABLE.as_bytes(), QUERY)?;
     assert_eq!(rt; run.status, 0);
     long.push_str(" ")?;
-    let run = printed(&rt, long.as_bytes(), TABLE.as_bytes(), QUERY)?;
+    let run = run_over(&rt, long.as_bytes(), TABLE.as_bytes(), QUERY)?;
     assert_eq!(rt; run.err.bytes(), b"sfq: S6\n".as_slice());
     assert_eq!(rt; run.status, 3);
-    let run = printed(&rt, SCHEMA.as_bytes(), TABLE.as_bytes(), long.as_str())?;
+    let run = run_over(&rt, SCHEMA.as_bytes(), TABLE.as_bytes(), long.as_str())?;
     assert_eq!(rt; run.err.bytes(), b"sfq: Q11\n".as_slice());
     assert_eq!(rt; run.status, 5);
     Ok(())
