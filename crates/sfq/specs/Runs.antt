@@ -2,20 +2,20 @@
 use Rattle.std.specs.Prelude.{◌≡◌, ◌≢◌, ℕ, List, [], ◌∷◌, map, Option, Result, Ok, Err, MatchResult}
 use Rattle.std.specs.List.{concat}
 use Rattle.std.specs.Io.KnownBytes.{Appends, Keeps}
-use Rattle.csv.specs.Reading.{records}
-use Rattle.csv.specs.Reading.{default_config, strip_bom}
 use Rattle.csv.specs.Writing.{row_text, default_writer}
 use Rattle.wkt.specs.Sinks.{AppendsFront, one_more}
 use Rattle.table_model.specs.AnswerTexts.{answer_records, record_of}
 use Rattle.table_model.specs.Meanings.{Table}
-use Rattle.table_model.specs.Binding as binding
-use Rattle.table_model.specs.Databases.{load_tables}
-use Rattle.table_model.specs.QueryReading.{query_of}
+use Rattle.table_model.specs.Binding.{binding, no_geometry}
 use Rattle.table_model.specs.declared.definitions.TableDef.{TableDef}
 use Rattle.table_model.specs.declared.conditions.Bound.{Bound}
 use Rattle.table_model.specs.declared.values.NoGeometry.{NoGeometry}
 use Rattle.sfq.specs.Stage.{PlainRow, no_writing, pair_rows, plain_meaning}
 use Rattle.sfq.specs.declared.execute.RowPair.{RowPair}
+use Rattle.table_model.specs.declared.queries.Query.{Query}
+use Rattle.sfq.specs.Faults.{of_query}
+use Rattle.sfq.specs.declared.fault.Fault.{Fault}
+use Rattle.sfq.specs.declared.fault.Fault.TheVariants as faults
 use Rattle.sfq.specs.declared.fault.PutFault.{PutFault}
 use Rattle.sfq.specs.declared.fault.PutFault.TheVariants as put
 
@@ -36,3 +36,31 @@ abbrev pub CountsPut : {A : Type 0} → ℕ → ℕ → Result A PutFault → Ty
 CountsPut old new (Ok a) = new ≡ old
 CountsPut old new (Err put.Sink) = new ≡ one_more old
 CountsPut old new (Err put.Memory) = new ≡ old
+
+-- a step after an answer, and the fault of a run where there is none (profile)
+abbrev pub after : {X Y E : Type 0} → (E → Fault) → Result X E → (X → Result Y Fault) → Result Y Fault
+after of (Ok x) next = next x
+after of (Err e) next = Err (of e)
+
+-- the text of the answer of a written query over some tables, or the fault of binding it (profile)
+abbrev pub query_outcome : List (TableDef NoGeometry) → Query NoGeometry NoGeometry → List (Table NoGeometry) → Result (List ℕ) Fault
+query_outcome definitions written tables =
+    after of_query (binding no_geometry definitions written) (λ query. Ok (answer_text definitions tables query))
+
+-- what a run answers and puts where the definitions give this text or fault: all of the text at Ok; nothing
+-- where the query or a table is refused, and that fault is the definitions'; a front of the text where the sink
+-- failed or memory ran out (profile)
+abbrev pub Runs : {A : Type 0} → Result A Fault → Result (List ℕ) Fault → Option (List ℕ) → Option (List ℕ) → Type 0
+Runs (Ok a) outcome old new = (text : List ℕ) × (outcome ≡ Ok text) × Appends old new text
+Runs (Err (faults.Query f)) outcome old new = (outcome ≡ Err (faults.Query f)) × Keeps old new
+Runs (Err (faults.Load table f)) outcome old new = (outcome ≡ Err (faults.Load table f)) × Keeps old new
+Runs (Err faults.Sink) outcome old new = (text : List ℕ) × (outcome ≡ Ok text) × AppendsFront old new text
+Runs (Err faults.Memory) outcome old new = MatchResult outcome (λ text. AppendsFront old new text) (λ _. Keeps old new)
+
+-- a sink's count of failures after a run: one more where the sink failed (profile)
+abbrev pub count_after : {A : Type 0} → ℕ → Result A Fault → ℕ
+count_after old (Ok a) = old
+count_after old (Err (faults.Query f)) = old
+count_after old (Err (faults.Load table f)) = old
+count_after old (Err faults.Sink) = one_more old
+count_after old (Err faults.Memory) = old

@@ -7,7 +7,7 @@ ghost use Rattle.std.specs.Io.KnownBytes.{Appends};
 ghost use Rattle.csv.specs.Writing.{row_text, default_writer};
 ghost use Rattle.wkt.specs.Sinks.{AppendsFront};
 ghost use Rattle.table_model.specs.AnswerTexts.{header, record_of};
-ghost use Rattle.sfq.specs.Runs.{CountsPut, pair_text};
+ghost use Rattle.sfq.specs.Runs.{CountsPut, Runs, count_after, pair_text, query_outcome};
 ghost use Rattle.table_model.specs.Meanings.{referenced};
 ghost use Rattle.sfq.specs.Stage.{HasReferences, IsPlace, no_writing, pair_rows};
 
@@ -16,7 +16,7 @@ use crate::fault::{Fault, PutFault};
 use crate::records::{header_record, record_text, row_record};
 use csv::ByteRecord;
 use feature_table::{Database, Schema};
-use spatial_sql::{Bound, bind, read_query};
+use spatial_sql::{Bound, Query, bind, read_query};
 use std::alloc::{AllocError, Global};
 use std::io::Read;
 use wkt::{Sink, put_all};
@@ -34,9 +34,23 @@ pub fn run<R: Read + Drop, S: Sink>(
 {
     let query = read_query(alloc, query)?;
     let database = Database::load(alloc, schema, readers)?;
-    let bound = bind(alloc, &query, &database)?;
-    let pairs = execute(alloc, &database, &bound)?;
-    put_answer(alloc, &database, &bound, pairs.as_slice(), sink)?;
+    answer_query(alloc, &query, &database, sink)
+}
+
+/// Answers a query over a database: binds it, and puts the header and the rows. At Ok all of the answer has been
+/// put; nothing where the query isn't bound, and a beginning where the sink failed or memory ran out. (Profile.)
+pub fn answer_query<S: Sink>(
+    alloc: Global,
+    query: &Query<'_>,
+    database: &Database<'_>,
+    sink: &mut S,
+) -> Result<(), Fault>
+    ensures answer { Runs result (query_outcome database.now.definitions query.now database.now.tables) (S.taken sink.old) (S.taken sink.new) }
+    ensures failures { S.failures sink.new ≡ count_after (S.failures sink.old) result }
+{
+    let bound = bind(alloc, query, database)?;
+    let pairs = execute(alloc, database, &bound)?;
+    put_answer(alloc, database, &bound, pairs.as_slice(), sink)?;
     Ok(())
 }
 

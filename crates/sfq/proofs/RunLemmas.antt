@@ -1,0 +1,79 @@
+-- What the exits of a run say.
+use Rattle.std.proofs.Common.{◌≡◌, ◌≢◌, ℕ, List, [], ◌∷◌, ◌++◌, map, Option, None, Some, Result, Ok, Err, refl, sym, ◌∙◌, ap, subst}
+use Rattle.std.specs.Prelude.{IsErrAnd, MatchResult}
+use Rattle.std.specs.List.{concat}
+use Rattle.std.specs.Io.KnownBytes.{Appends, Keeps}
+use Rattle.std.proofs.lemmas.Simd.{map-map}
+use Rattle.csv.specs.Writing.{row_text, default_writer}
+use Rattle.wkt.specs.Sinks.{AppendsFront, one_more}
+use Rattle.wkt.proofs.SinkLemmas.{AppendsFront-kept}
+use Rattle.table_model.specs.AnswerTexts.{header, record_of}
+use Rattle.table_model.specs.Binding.{binding, no_geometry}
+use Rattle.table_model.specs.Meanings.{Table, referenced}
+use Rattle.table_model.specs.declared.definitions.TableDef.{TableDef}
+use Rattle.table_model.specs.declared.conditions.Bound.{Bound}
+use Rattle.table_model.specs.declared.queries.Query.{Query}
+use Rattle.table_model.specs.declared.values.NoGeometry.{NoGeometry}
+use Rattle.table_model.specs.declared.faults.QueryFault.{QueryFault}
+use Rattle.table_model.specs.declared.faults.QueryFault.TheVariants as query
+use Rattle.sfq.specs.Faults.{of_put, of_query}
+use Rattle.sfq.specs.Runs.{CountsPut, Runs, after, answer_text, count_after, pair_text, query_outcome}
+use Rattle.sfq.specs.Stage.{no_writing, pair_rows, plain_meaning}
+use Rattle.sfq.specs.declared.execute.RowPair.{RowPair}
+use Rattle.sfq.specs.declared.fault.Fault.{Fault}
+use Rattle.sfq.specs.declared.fault.Fault.TheVariants as faults
+use Rattle.sfq.specs.declared.fault.PutFault.{PutFault}
+use Rattle.sfq.specs.declared.fault.PutFault.TheVariants as put
+
+pub keeps-same : (a : Option (List ℕ)) → Keeps a a
+keeps-same None = tt
+keeps-same (Some bytes) = refl
+
+-- memory that ran out before anything was put
+pub memory-none : (A : Type 0) (outcome : Result (List ℕ) Fault) (old : Option (List ℕ)) → Runs {A = A} (Err faults.Memory) outcome old old
+memory-none A (Ok text) old = AppendsFront-kept old old text (keeps-same old)
+memory-none A (Err e) old = keeps-same old
+
+-- a fault of a step on the query, before anything was put
+pub query-refused : (A : Type 0) {X : Type 0} (e : QueryFault) (answer : Result X QueryFault) (next : X → Result (List ℕ) Fault) (old : Option (List ℕ))
+    → (e ≢ query.OutOfMemory → answer ≡ Err e) → Runs {A = A} (Err (of_query e)) (after of_query answer next) old old
+query-refused A query.OutOfMemory answer next old given = memory-none A (after of_query answer next) old
+query-refused A (query.Lex at) answer next old given = (ap (λ r. after of_query r next) (given (λ q. cc)), keeps-same old)
+query-refused A (query.Syntax at) answer next old given = (ap (λ r. after of_query r next) (given (λ q. cc)), keeps-same old)
+query-refused A (query.UnknownTable at) answer next old given = (ap (λ r. after of_query r next) (given (λ q. cc)), keeps-same old)
+query-refused A (query.SameName at) answer next old given = (ap (λ r. after of_query r next) (given (λ q. cc)), keeps-same old)
+query-refused A (query.UnknownColumn at) answer next old given = (ap (λ r. after of_query r next) (given (λ q. cc)), keeps-same old)
+query-refused A (query.AmbiguousColumn at) answer next old given = (ap (λ r. after of_query r next) (given (λ q. cc)), keeps-same old)
+query-refused A (query.TypeMismatch at) answer next old given = (ap (λ r. after of_query r next) (given (λ q. cc)), keeps-same old)
+query-refused A (query.TooDeep at) answer next old given = (ap (λ r. after of_query r next) (given (λ q. cc)), keeps-same old)
+query-refused A query.TooLong answer next old given = (ap (λ r. after of_query r next) (given (λ q. cc)), keeps-same old)
+query-refused A (query.NumberTooBig at) answer next old given = (ap (λ r. after of_query r next) (given (λ q. cc)), keeps-same old)
+
+-- a fault of putting the answer
+pub put-refused : (A : Type 0) (e : PutFault) (outcome : Result (List ℕ) Fault) (text : List ℕ) (old new : Option (List ℕ))
+    → outcome ≡ Ok text → AppendsFront old new text → Runs {A = A} (Err (of_put e)) outcome old new
+put-refused A put.Sink outcome text old new is front = (text, is, front)
+put-refused A put.Memory outcome text old new is front =
+    subst (λ r. MatchResult r (λ text. AppendsFront old new text) (λ _. Keeps old new)) (sym is) front
+
+-- the records of the pairs are the records of the meaning
+pub answer-text : (definitions : List (TableDef NoGeometry)) (tables : List (Table NoGeometry)) (bound : Bound NoGeometry NoGeometry) (pairs : List RowPair)
+    → map (pair_rows (referenced tables bound.references)) pairs ≡ plain_meaning tables bound
+    → row_text default_writer (header no_writing definitions bound) ++ concat (map (pair_text (referenced tables bound.references) bound) pairs) ≡ answer_text definitions tables bound
+answer-text definitions tables bound pairs are =
+    let rows = pair_rows (referenced tables bound.references) in
+    ap (λ l. row_text default_writer (header no_writing definitions bound) ++ concat l)
+    (sym (map-map (λ r. row_text default_writer (record_of no_writing bound r)) rows pairs)
+    ∙ ap (λ l. map (λ r. row_text default_writer (record_of no_writing bound r)) l) are
+    ∙ sym (map-map (row_text default_writer) (record_of no_writing bound) (plain_meaning tables bound)))
+
+-- the outcome of a query that is bound
+pub bound-outcome : (definitions : List (TableDef NoGeometry)) (written : Query NoGeometry NoGeometry) (tables : List (Table NoGeometry)) (bound : Bound NoGeometry NoGeometry)
+    → binding no_geometry definitions written ≡ Ok bound → query_outcome definitions written tables ≡ Ok (answer_text definitions tables bound)
+bound-outcome definitions written tables bound is = ap (λ r. after of_query r (λ query. Ok (answer_text definitions tables query))) is
+
+-- a result that is a certain fault
+pub at-fault : {A : Type 0} (r : Result A Fault) (f : Fault) (outcome : Result (List ℕ) Fault) (old new : Option (List ℕ))
+    → IsErrAnd r (λ x. x ≡ f) → Runs {A = A} (Err f) outcome old new → Runs r outcome old new
+at-fault (Ok a) f outcome old new is fact = absurd is
+at-fault {A = A} (Err e) f outcome old new is fact = subst (λ x. Runs {A = A} (Err x) outcome old new) (sym is) fact
