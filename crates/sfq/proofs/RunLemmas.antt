@@ -1,5 +1,5 @@
 -- What the exits of a run say.
-use Rattle.std.proofs.Common.{◌≡◌, ◌≢◌, ℕ, List, [], ◌∷◌, ◌++◌, map, Option, None, Some, Result, Ok, Err, refl, sym, ◌∙◌, ap, subst}
+use Rattle.std.proofs.Common.{◌≡◌, ◌≢◌, inl, inr, ℕ, List, [], ◌∷◌, ◌++◌, map, Option, None, Some, Result, Ok, Err, refl, sym, ◌∙◌, ap, subst}
 use Rattle.std.specs.Prelude.{IsErrAnd, MatchResult}
 use Rattle.std.specs.List.{concat}
 use Rattle.std.specs.Io.KnownBytes.{Appends, Keeps}
@@ -17,7 +17,7 @@ use Rattle.table_model.specs.declared.values.NoGeometry.{NoGeometry}
 use Rattle.table_model.specs.declared.faults.QueryFault.{QueryFault}
 use Rattle.table_model.specs.declared.faults.QueryFault.TheVariants as query
 use Rattle.sfq.specs.Faults.{of_put, of_query}
-use Rattle.sfq.specs.Runs.{CountsPut, Runs, after, answer_text, count_after, pair_text, query_outcome}
+use Rattle.sfq.specs.Runs.{CountsPut, KeepsRefused, Runs, after, answer_text, count_after, pair_text, query_outcome}
 use Rattle.sfq.specs.Stage.{no_writing, pair_rows, plain_meaning}
 use Rattle.sfq.specs.declared.execute.RowPair.{RowPair}
 use Rattle.sfq.specs.declared.fault.Fault.{Fault}
@@ -77,3 +77,19 @@ pub at-fault : {A : Type 0} (r : Result A Fault) (f : Fault) (outcome : Result (
     → IsErrAnd r (λ x. x ≡ f) → Runs {A = A} (Err f) outcome old new → Runs r outcome old new
 at-fault (Ok a) f outcome old new is fact = absurd is
 at-fault {A = A} (Err e) f outcome old new is fact = subst (λ x. Runs {A = A} (Err x) outcome old new) (sym is) fact
+
+-- what is put where a fault is one of a step, before anything was put
+pub fault-kept : {A : Type 0} (r : Result A Fault) (f : Fault) (old : Option (List ℕ)) → IsErrAnd r (λ x. x ≡ f) → KeepsRefused r old old
+fault-kept (Ok a) f old is = absurd is
+fault-kept (Err (faults.Query q)) f old is = keeps-same old
+fault-kept (Err (faults.Load table q)) f old is = keeps-same old
+fault-kept (Err faults.Sink) f old is = tt
+fault-kept (Err faults.Memory) f old is = tt
+
+-- what runs keeps
+pub runs-kept : {A : Type 0} (r : Result A Fault) (outcome : Result (List ℕ) Fault) (old new : Option (List ℕ)) → Runs r outcome old new → KeepsRefused r old new
+runs-kept (Ok a) outcome old new fact = tt
+runs-kept (Err (faults.Query q)) outcome old new fact = fact.1
+runs-kept (Err (faults.Load table q)) outcome old new fact = fact.1
+runs-kept (Err faults.Sink) outcome old new fact = tt
+runs-kept (Err faults.Memory) outcome old new fact = tt

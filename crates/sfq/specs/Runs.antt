@@ -1,5 +1,5 @@
 -- What a run answers and puts.
-use Rattle.std.specs.Prelude.{◌≡◌, ◌≢◌, ℕ, List, [], ◌∷◌, map, Option, Result, Ok, Err, MatchResult}
+use Rattle.std.specs.Prelude.{◌≡◌, ◌≢◌, ℕ, List, [], ◌∷◌, map, Option, Result, Ok, Err, MatchResult, ⊤}
 use Rattle.std.specs.List.{concat}
 use Rattle.std.specs.Io.KnownBytes.{Appends, Keeps}
 use Rattle.csv.specs.Writing.{row_text, default_writer}
@@ -64,3 +64,11 @@ count_after old (Err (faults.Query f)) = old
 count_after old (Err (faults.Load table f)) = old
 count_after old (Err faults.Sink) = one_more old
 count_after old (Err faults.Memory) = old
+
+-- nothing is put where the query or a table is refused (profile)
+abbrev pub KeepsRefused : {A : Type 0} → Result A Fault → Option (List ℕ) → Option (List ℕ) → Type 0
+KeepsRefused (Ok a) old new = ⊤
+KeepsRefused (Err (faults.Query f)) old new = Keeps old new
+KeepsRefused (Err (faults.Load table f)) old new = Keeps old new
+KeepsRefused (Err faults.Sink) old new = ⊤
+KeepsRefused (Err faults.Memory) old new = ⊤

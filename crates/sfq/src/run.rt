@@ -7,7 +7,7 @@ ghost use Rattle.std.specs.Io.KnownBytes.{Appends};
 ghost use Rattle.csv.specs.Writing.{row_text, default_writer};
 ghost use Rattle.wkt.specs.Sinks.{AppendsFront};
 ghost use Rattle.table_model.specs.AnswerTexts.{header, record_of};
-ghost use Rattle.sfq.specs.Runs.{CountsPut, Runs, count_after, pair_text, query_outcome};
+ghost use Rattle.sfq.specs.Runs.{CountsPut, KeepsRefused, Runs, count_after, pair_text, query_outcome};
 ghost use Rattle.table_model.specs.Meanings.{referenced};
 ghost use Rattle.sfq.specs.Stage.{HasReferences, IsPlace, no_writing, pair_rows};
 
@@ -31,6 +31,8 @@ pub fn run<R: Read + Drop, S: Sink>(
     sink: &mut S,
 ) -> Result<(), Fault>
     requires { length readers.items ≡ length schema.now }
+    ensures kept { KeepsRefused result (S.taken sink.old) (S.taken sink.new) }
+    ensures failures { S.failures sink.new ≡ count_after (S.failures sink.old) result }
 {
     let query = read_query(alloc, query)?;
     let database = Database::load(alloc, schema, readers)?;
