@@ -32,17 +32,29 @@ struct Printed {
     status: u8,
 }
 
+// The file at a path: the schema, or the table t.
+fn file_at<'a>(path: &str, schema: &'a [u8], table: &'a [u8]) -> Option<&'a [u8]> {
+    if path == "s" {
+        return Some(schema);
+    }
+    if path == "d/t.csv" {
+        return Some(table);
+    }
+    None
+}
+
 // Runs a query over a schema and a table t.
-fn run_over(rt: &HostRuntime, schema: &[u8], table: &[u8], query: &str) -> Result<Printed, Fail> {
+fn run_over<'a>(
+    rt: &HostRuntime,
+    schema: &'a [u8],
+    table: &'a [u8],
+    query: &str,
+) -> Result<Printed, Fail> {
     let alloc = rt.alloc();
     let order = run_order(alloc, query)?;
     let mut out = MemorySink::new(alloc);
     let mut err = MemorySink::new(alloc);
-    let opener = |path: &str| match path {
-        "s" => Some(schema),
-        "d/t.csv" => Some(table),
-        _ => None,
-    };
+    let opener = move |path: &str| file_at(path, schema, table);
     let status = serve(alloc, &order, opener, &mut out, &mut err);
     Ok(Printed { out, err, status })
 }
@@ -265,24 +277,49 @@ fn texts_past_65536_bytes_are_refused(rt: HostRuntime) -> Result<(), Fail> {
     Ok(())
 }
 
-// The status and the line of a run whose schema and table are read by readers that may fail.
-fn read_by<'a>(
+// Which reads and which put fail, counted from 1 (0: none does).
+#[derive(Clone, Copy)]
+struct Failing {
+    opened: bool,
+    schema_read: u64,
+    table_read: u64,
+    put: u64,
+}
+
+// The reader of the file at a path, which may fail.
+fn failing_file<'a>(
+    path: &str,
+    failing: Failing,
+    schema: &'a [u8],
+    table: &'a [u8],
+) -> Option<StopReader<'a>> {
+    if path != "s" {
+        return Some(StopReader::new(table, failing.table_read));
+    }
+    if failing.opened {
+        return Some(StopReader::new(schema, failing.schema_read));
+    }
+    None
+}
+
+// The status of a run over the schema and the table where these reads and this put fail.
+fn run_failing<'a>(
     rt: &HostRuntime,
-    schema: Option<StopReader<'a>>,
-    table: StopReader<'a>,
+    failing: &Failing,
+    schema: &'a [u8],
+    table: &'a [u8],
     out: &mut StopSink,
     err: &mut MemorySink,
 ) -> Result<u8, Fail> {
     let order = run_order(rt.alloc(), QUERY)?;
-    let opener = |path: &str| if path == "s" { schema } else { Some(table) };
+    let failing = *failing;
+    let opener = move |path: &str| failing_file(path, failing, schema, table);
     Ok(serve(rt.alloc(), &order, opener, out, err))
 }
 
 #[test]
 fn reading_and_writing_may_fail(rt: HostRuntime) -> Result<(), Fail> {
-    let schema = SCHEMA.as_bytes();
-    let table = TABLE.as_bytes();
-    for (opened, schema_read, table_read, failing_put, out_text, line) in [
+    for (opened, schema_read, table_read, put, out_text, line) in [
         (false, 0, 0, 0, "", "sfq: schema unreadable\n"),
         (true, 1, 0, 0, "", "sfq: schema unreadable\n"),
         (true, 0, 1, 0, "", "sfq: t L11\n"),
@@ -291,17 +328,19 @@ fn reading_and_writing_may_fail(rt: HostRuntime) -> Result<(), Fail> {
         (true, 0, 0, 2, "id,", "sfq: write failed\n"),
         (true, 0, 0, 4, "id,name\n", "sfq: write failed\n"),
     ] {
-        let file = if opened {
-            Some(StopReader::new(schema, schema_read))
-        } else {
-            None
+        let failing = Failing {
+            opened,
+            schema_read,
+            table_read,
+            put,
         };
-        let mut out = StopSink::new(rt.alloc(), failing_put, 3);
+        let mut out = StopSink::new(rt.alloc(), failing.put, 3);
         let mut err = MemorySink::new(rt.alloc());
-        let status = read_by(
+        let status = run_failing(
             &rt,
-            file,
-            StopReader::new(table, table_read),
+            &failing,
+            SCHEMA.as_bytes(),
+            TABLE.as_bytes(),
             &mut out,
             &mut err,
         )?;

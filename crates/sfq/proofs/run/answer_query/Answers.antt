@@ -38,8 +38,8 @@ returns-in_err-put_answer-clause-answer g c =
     let bound = c.in_ok-bound.bound in
     let pairs = pair_text (referenced tables bound.references) bound in
     let text : row_text default_writer (header no_writing definitions bound) ++ concat (map pairs c.as_slice.result.now) ≡ answer_text definitions tables bound =
-        ap (λ ps. row_text default_writer (header no_writing definitions bound) ++ concat (map pairs ps)) c.as_slice.ensures.value
-        ∙ answer-text definitions tables bound c.in_ok-pairs.pairs.items c.in_ok-pairs.ensures.rows in
+    ap (λ ps. row_text default_writer (header no_writing definitions bound) ++ concat (map pairs ps)) c.as_slice.ensures.value
+    ∙ answer-text definitions tables bound c.in_ok-pairs.pairs.items c.in_ok-pairs.ensures.rows in
     at-fault c.from_residual-in_err-put_answer.result (of_put c.in_err-put_answer.field-0.0) _ _ _ c.from_residual-in_err-put_answer.ensures.1
     (put-refused (Unit {0}) c.in_err-put_answer.field-0.0 _ (answer_text definitions tables bound) _ _
     (bound-outcome definitions c.args.query.now tables bound c.in_ok-bound.ensures)
@@ -52,8 +52,9 @@ returns-clause-answer g c =
     let bound = c.in_ok-bound.bound in
     let pairs = pair_text (referenced tables bound.references) bound in
     let text : row_text default_writer (header no_writing definitions bound) ++ concat (map pairs c.as_slice.result.now) ≡ answer_text definitions tables bound =
-        ap (λ ps. row_text default_writer (header no_writing definitions bound) ++ concat (map pairs ps)) c.as_slice.ensures.value
-        ∙ answer-text definitions tables bound c.in_ok-pairs.pairs.items c.in_ok-pairs.ensures.rows in
-    (answer_text definitions tables bound,
-     bound-outcome definitions c.args.query.now tables bound c.in_ok-bound.ensures,
-     subst (λ l. Appends (g.S.Sink.taken c.args.sink.now) (g.S.Sink.taken c.put_answer.new.sink) l) text c.in_ok-put_answer.ensures.ok)
+    ap (λ ps. row_text default_writer (header no_writing definitions bound) ++ concat (map pairs ps)) c.as_slice.ensures.value
+    ∙ answer-text definitions tables bound c.in_ok-pairs.pairs.items c.in_ok-pairs.ensures.rows in (
+      answer_text definitions tables bound,
+      bound-outcome definitions c.args.query.now tables bound c.in_ok-bound.ensures,
+      subst (λ l. Appends (g.S.Sink.taken c.args.sink.now) (g.S.Sink.taken c.put_answer.new.sink) l) text c.in_ok-put_answer.ensures.ok,
+    )
