@@ -48,6 +48,8 @@ query-refused A (query.TypeMismatch at) answer next old given = (ap (λ r. after
 query-refused A (query.TooDeep at) answer next old given = (ap (λ r. after of_query r next) (given (λ q. cc)), keeps-same old)
 query-refused A query.TooLong answer next old given = (ap (λ r. after of_query r next) (given (λ q. cc)), keeps-same old)
 query-refused A (query.NumberTooBig at) answer next old given = (ap (λ r. after of_query r next) (given (λ q. cc)), keeps-same old)
+query-refused A (query.BadGeometry at f) answer next old given = (ap (λ r. after of_query r next) (given (λ q. cc)), keeps-same old)
+query-refused A (query.BadPattern at) answer next old given = (ap (λ r. after of_query r next) (given (λ q. cc)), keeps-same old)
 
 -- a fault of putting the answer
 pub put-refused : (A : Type 0) (e : PutFault) (outcome : Result (List ℕ) Fault) (text : List ℕ) (old new : Option (List ℕ))
