@@ -14,10 +14,16 @@ use Rattle.table_model.specs.declared.definitions.TableDef.{TableDef}
 use Rattle.table_model.specs.declared.conditions.Bound.{Bound}
 use Rattle.table_model.specs.declared.queries.Query.{Query}
 use Rattle.table_model.specs.declared.values.NoGeometry.{NoGeometry}
+use Rattle.feature_table.specs.Outcomes.{IsFailure}
+use Rattle.feature_table.specs.Tables.{tables_in}
+use Rattle.table_model.specs.QueryReading.{query_of}
+use Rattle.table_model.specs.declared.faults.LoadFault.{LoadFault}
+use Rattle.table_model.specs.declared.faults.LoadFault.TheVariants as load
+use Rattle.table_model.specs.declared.faults.TableFault.{TableFault}
 use Rattle.table_model.specs.declared.faults.QueryFault.{QueryFault}
 use Rattle.table_model.specs.declared.faults.QueryFault.TheVariants as query
-use Rattle.sfq.specs.Faults.{of_put, of_query}
-use Rattle.sfq.specs.Runs.{CountsPut, KeepsRefused, Runs, after, answer_text, count_after, pair_text, query_outcome}
+use Rattle.sfq.specs.Faults.{of_load, of_put, of_query, of_table}
+use Rattle.sfq.specs.Runs.{IsUnread, KeepsRefused, Runs, after, answer_text, outcome, pair_text, query_outcome}
 use Rattle.sfq.specs.Stage.{no_writing, pair_rows, plain_meaning}
 use Rattle.sfq.specs.declared.execute.RowPair.{RowPair}
 use Rattle.sfq.specs.declared.fault.Fault.{Fault}
@@ -95,3 +101,41 @@ runs-kept (Err (faults.Query q)) outcome old new fact = fact.1
 runs-kept (Err (faults.Load table q)) outcome old new fact = fact.1
 runs-kept (Err faults.Sink) outcome old new fact = tt
 runs-kept (Err faults.Memory) outcome old new fact = tt
+
+-- a result that is a failed reading
+pub unread : {A : Type 0} (r : Result A Fault) (table : ℕ) → IsErrAnd r (λ x. x ≡ faults.Load table load.ReadFailed) → IsUnread r
+unread (Ok a) table is = absurd is
+unread (Err (faults.Query f)) table is = cc
+unread (Err (faults.Load t f)) table is = cc
+unread (Err faults.Sink) table is = cc
+unread (Err faults.Memory) table is = cc
+
+-- a fault of loading a table, before anything was put
+pub table-refused : {A X : Type 0} (r : Result A Fault) (table : ℕ) (f : LoadFault) (answer : Result X TableFault) (next : X → Result (List ℕ) Fault) (old : Option (List ℕ))
+    → IsErrAnd r (λ x. x ≡ of_load table f) → (¬ (IsFailure f) → answer ≡ Err (record { table = table; fault = f })) → ¬ (IsUnread r)
+    → Runs r (after of_table answer next) old old
+table-refused {A = A} r table load.OutOfMemory answer next old is given read = at-fault r faults.Memory _ old old is (memory-none A (after of_table answer next) old)
+table-refused r table load.ReadFailed answer next old is given read = absurd (read (unread r table is))
+table-refused r table load.MissingColumn answer next old is given read = at-fault r _ _ old old is (ap (λ x. after of_table x next) (given (λ q. elim q [ inl e ↦ cc | inr e ↦ cc ])), keeps-same old)
+table-refused r table load.DoubleHeader answer next old is given read = at-fault r _ _ old old is (ap (λ x. after of_table x next) (given (λ q. elim q [ inl e ↦ cc | inr e ↦ cc ])), keeps-same old)
+table-refused r table (load.UnequalRecord n) answer next old is given read = at-fault r _ _ old old is (ap (λ x. after of_table x next) (given (λ q. elim q [ inl e ↦ cc | inr e ↦ cc ])), keeps-same old)
+table-refused r table (load.NotUtf8 n) answer next old is given read = at-fault r _ _ old old is (ap (λ x. after of_table x next) (given (λ q. elim q [ inl e ↦ cc | inr e ↦ cc ])), keeps-same old)
+table-refused r table (load.BadInteger n) answer next old is given read = at-fault r _ _ old old is (ap (λ x. after of_table x next) (given (λ q. elim q [ inl e ↦ cc | inr e ↦ cc ])), keeps-same old)
+table-refused r table (load.NullNotAllowed n) answer next old is given read = at-fault r _ _ old old is (ap (λ x. after of_table x next) (given (λ q. elim q [ inl e ↦ cc | inr e ↦ cc ])), keeps-same old)
+table-refused r table (load.DoubleKey n) answer next old is given read = at-fault r _ _ old old is (ap (λ x. after of_table x next) (given (λ q. elim q [ inl e ↦ cc | inr e ↦ cc ])), keeps-same old)
+table-refused r table load.TooManyRows answer next old is given read = at-fault r _ _ old old is (ap (λ x. after of_table x next) (given (λ q. elim q [ inl e ↦ cc | inr e ↦ cc ])), keeps-same old)
+table-refused r table (load.BadGeometry n q) answer next old is given read = at-fault r _ _ old old is (ap (λ x. after of_table x next) (given (λ q. elim q [ inl e ↦ cc | inr e ↦ cc ])), keeps-same old)
+table-refused r table (load.WrongType n) answer next old is given read = at-fault r _ _ old old is (ap (λ x. after of_table x next) (given (λ q. elim q [ inl e ↦ cc | inr e ↦ cc ])), keeps-same old)
+
+-- the outcome of a run once the query is read, and once the tables are loaded
+pub read-outcome : (definitions : List (TableDef NoGeometry)) (texts : List (List ℕ)) (text : List ℕ) (written : Query NoGeometry NoGeometry)
+    → query_of text ≡ Ok written → outcome definitions texts text ≡ after of_table (tables_in definitions texts) (query_outcome definitions written)
+read-outcome definitions texts text written is =
+    ap (λ r. after of_query r (λ q. after of_table (tables_in definitions texts) (query_outcome definitions q))) is
+
+pub loaded-outcome : (definitions these : List (TableDef NoGeometry)) (texts : List (List ℕ)) (text : List ℕ) (written : Query NoGeometry NoGeometry) (tables : List (Table NoGeometry))
+    → query_of text ≡ Ok written → tables_in definitions texts ≡ Ok tables → these ≡ definitions
+    → query_outcome these written tables ≡ outcome definitions texts text
+loaded-outcome definitions these texts text written tables is loaded same =
+    ap (λ ds. query_outcome ds written tables) same
+    ∙ sym (read-outcome definitions texts text written is ∙ ap (λ r. after of_table r (query_outcome definitions written)) loaded)

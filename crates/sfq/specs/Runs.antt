@@ -13,7 +13,10 @@ use Rattle.table_model.specs.declared.values.NoGeometry.{NoGeometry}
 use Rattle.sfq.specs.Stage.{PlainRow, no_writing, pair_rows, plain_meaning}
 use Rattle.sfq.specs.declared.execute.RowPair.{RowPair}
 use Rattle.table_model.specs.declared.queries.Query.{Query}
-use Rattle.sfq.specs.Faults.{of_query}
+use Rattle.table_model.specs.QueryReading.{query_of}
+use Rattle.table_model.specs.declared.faults.LoadFault.TheVariants as load
+use Rattle.feature_table.specs.Tables.{tables_in}
+use Rattle.sfq.specs.Faults.{of_query, of_table}
 use Rattle.sfq.specs.declared.fault.Fault.{Fault}
 use Rattle.sfq.specs.declared.fault.Fault.TheVariants as faults
 use Rattle.sfq.specs.declared.fault.PutFault.{PutFault}
@@ -64,6 +67,20 @@ count_after old (Err (faults.Query f)) = old
 count_after old (Err (faults.Load table f)) = old
 count_after old (Err faults.Sink) = one_more old
 count_after old (Err faults.Memory) = old
+
+-- the text of the answer of a query over the tables' texts, or the fault: the query is read first, then all
+-- tables are loaded, then the query is bound (profile)
+abbrev pub outcome : List (TableDef NoGeometry) → List (List ℕ) → List ℕ → Result (List ℕ) Fault
+outcome definitions texts query =
+    after of_query (query_of query) (λ written. after of_table (tables_in definitions texts) (query_outcome definitions written))
+
+-- whether the reading of a table failed, which no text tells beforehand (profile)
+abbrev pub IsUnread : {A : Type 0} → Result A Fault → Type 0
+IsUnread (Ok a) = ⊥
+IsUnread (Err (faults.Query f)) = ⊥
+IsUnread (Err (faults.Load table f)) = f ≡ load.ReadFailed
+IsUnread (Err faults.Sink) = ⊥
+IsUnread (Err faults.Memory) = ⊥
 
 -- nothing is put where the query or a table is refused (profile)
 abbrev pub KeepsRefused : {A : Type 0} → Result A Fault → Option (List ℕ) → Option (List ℕ) → Type 0

@@ -1,13 +1,13 @@
 //! A run: from a query's text and the tables' texts to the text of the answer.
 
-ghost use Rattle.std.specs.Prelude.{◌≡◌, ◌⊎◌, ◌<◌, ◌++◌, All, length, map, IfOk, OnOk, OnErr};
+ghost use Rattle.std.specs.Prelude.{◌≡◌, ◌⊎◌, ◌<◌, ◌++◌, ℕ, List, Some, All, length, map, IfOk, OnOk, OnErr};
 ghost use Rattle.csv.specs.Records.{fields_of};
 ghost use Rattle.std.specs.List.{concat};
 ghost use Rattle.std.specs.Io.KnownBytes.{Appends};
 ghost use Rattle.csv.specs.Writing.{row_text, default_writer};
 ghost use Rattle.wkt.specs.Sinks.{AppendsFront};
 ghost use Rattle.table_model.specs.AnswerTexts.{header, record_of};
-ghost use Rattle.sfq.specs.Runs.{CountsPut, KeepsRefused, Runs, count_after, pair_text, query_outcome};
+ghost use Rattle.sfq.specs.Runs.{CountsPut, IsUnread, KeepsRefused, Runs, count_after, outcome, pair_text, query_outcome};
 ghost use Rattle.table_model.specs.Meanings.{referenced};
 ghost use Rattle.sfq.specs.Stage.{HasReferences, IsPlace, no_writing, pair_rows};
 
@@ -31,6 +31,8 @@ pub fn run<R: Read + Drop, S: Sink>(
     sink: &mut S,
 ) -> Result<(), Fault>
     requires { length readers.items ≡ length schema.now }
+    ensures answer { (texts : List (List ℕ)) → map R.remaining readers.items ≡ map Some texts → ¬ (IsUnread result)
+        → Runs result (outcome schema.now texts query.now) (S.taken sink.old) (S.taken sink.new) }
     ensures kept { KeepsRefused result (S.taken sink.old) (S.taken sink.new) }
     ensures failures { S.failures sink.new ≡ count_after (S.failures sink.old) result }
 {

@@ -1,0 +1,25 @@
+-- Each exit of the steps of a run.
+use Rattle.std.proofs.Common.{subst, sym}
+use Rattle.sfq.specs.Faults.{of_query}
+use Rattle.sfq.specs.Runs.{Runs}
+use Rattle.sfq.proofs.RunLemmas.{at-fault, loaded-outcome, query-refused, read-outcome, table-refused}
+use Rattle.sfq.proofs.run.run.Goals as goal
+
+pub returns-in_err-query-clause-answer : goal.returns-in_err-query-clause-answer
+returns-in_err-query-clause-answer g c = λ texts known unread.
+    at-fault c.from_residual.result (of_query c.in_err-query.field-0.0) _ _ _ c.from_residual.ensures.1
+    (query-refused (Unit {0}) c.in_err-query.field-0.0 _ _ _ c.in_err-query.ensures.exact)
+
+pub returns-in_err-database-clause-answer : goal.returns-in_err-database-clause-answer
+returns-in_err-database-clause-answer g c = λ texts known unread.
+    subst (λ o. Runs c.from_residual-in_err-database.result o (g.S.Sink.taken c.args.sink.now) (g.S.Sink.taken c.args.sink.now))
+    (sym (read-outcome c.args.schema.now texts c.args.query.now c.in_ok-query.query c.in_ok-query.ensures.exact))
+    (table-refused c.from_residual-in_err-database.result c.in_err-database.field-0.0.table c.in_err-database.field-0.0.fault _ _ _
+    c.from_residual-in_err-database.ensures.1 (c.in_err-database.ensures.loads texts known) unread)
+
+pub returns-clause-answer : goal.returns-clause-answer
+returns-clause-answer g c = λ texts known unread.
+    subst (λ o. Runs c.answer_query.result o (g.S.Sink.taken c.args.sink.now) (g.S.Sink.taken c.answer_query.new.sink))
+    (loaded-outcome c.args.schema.now c.in_ok-database.database.definitions texts c.args.query.now c.in_ok-query.query c.in_ok-database.database.tables
+    c.in_ok-query.ensures.exact (c.in_ok-database.ensures.loads texts known) c.in_ok-database.ensures.schema)
+    c.answer_query.ensures.answer
