@@ -1,3 +1,5 @@
 pub mod Around
 pub mod Pieces
 pub mod Labelled
+pub mod Matrices
+pub mod MeetingFacts

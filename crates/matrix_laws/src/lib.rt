@@ -1,5 +1,9 @@
-//! The theorem that labels are the point sets: the label matrix of two valid geometries is their DE-9IM matrix. Nothing here runs: the function has an empty body, and its contract is the theorem.
+//! The theorem that labels are the point sets: the label matrix of two valid geometries is their DE-9IM matrix, and what
+//! follows from it. Nothing here runs: each function has an empty body, and its contract is a law.
 #![tactic(auto)]
+
+pub mod given_matrices;
+pub mod meeting;
 
 ghost use Rattle.matrix_laws.specs.MatrixLaws.{LabelledIsMatrix, LabelsArePointSets};
 
