@@ -21,7 +21,7 @@ found_passes p (y ∷ ys) x e = go (p y) refl e (found_passes p ys x)
     go false is e later = later e
 
 -- the first in the one list, or, where that has none, the first in the other
-found_in_two : (p : ValidityFault → Bool) (xs ys : List ValidityFault) (o : Option ValidityFault) → find p (xs ++ ys) ≡ o
+pub found_in_two : (p : ValidityFault → Bool) (xs ys : List ValidityFault) (o : Option ValidityFault) → find p (xs ++ ys) ≡ o
     → (find p xs ≡ o) ⊎ ((find p xs ≡ None) × (find p ys ≡ o))
 found_in_two p [] ys o e = inr (refl, e)
 found_in_two p (x ∷ xs) ys o e = go (p x) e (found_in_two p xs ys o)
@@ -31,7 +31,7 @@ found_in_two p (x ∷ xs) ys o e = go (p x) e (found_in_two p xs ys o)
     go true e later = inl e
     go false e later = later e
 
-none_in_two : (p : ValidityFault → Bool) (xs ys : List ValidityFault) → find p (xs ++ ys) ≡ None → (find p xs ≡ None) × (find p ys ≡ None)
+pub none_in_two : (p : ValidityFault → Bool) (xs ys : List ValidityFault) → find p (xs ++ ys) ≡ None → (find p xs ≡ None) × (find p ys ≡ None)
 none_in_two p [] ys e = (refl, e)
 none_in_two p (x ∷ xs) ys e = go (p x) e (none_in_two p xs ys)
   where
@@ -49,7 +49,7 @@ kind_of p f (n ∷ ns) x e = go (p (f n)) e (kind_of p f ns x)
     go true e later = let same : f n ≡ x = cc in (n, sym same)
     go false e later = later e
 
-head_fails : (p : ValidityFault → Bool) (x : ValidityFault) (xs : List ValidityFault) → find p (x ∷ xs) ≡ None → (p x ≡ false) × (find p xs ≡ None)
+pub head_fails : (p : ValidityFault → Bool) (x : ValidityFault) (xs : List ValidityFault) → find p (x ∷ xs) ≡ None → (p x ≡ false) × (find p xs ≡ None)
 head_fails p x xs e = go (p x) refl e
   where
     go : (b : Bool) → p x ≡ b → cond b (Some x) (find p xs) ≡ None → (p x ≡ false) × (find p xs ≡ None)
@@ -92,25 +92,25 @@ within (y ∷ ys) zero x e = zero-lt-suc (length ys)
 within (y ∷ ys) (suc i) x e = suc-le-suc (within ys i x e)
 
 -- ---- the laws
-abbrev short_ones : Geometry → List ValidityFault
+abbrev pub short_ones : Geometry → List ValidityFault
 short_ones g = map TooFewPoints (numbers 0 (length (lines g)))
 
-abbrev open_ones : Geometry → List ValidityFault
+abbrev pub open_ones : Geometry → List ValidityFault
 open_ones g = map RingNotClosed (numbers 0 (length (rings g)))
 
-abbrev crossed_ones : Geometry → List ValidityFault
+abbrev pub crossed_ones : Geometry → List ValidityFault
 crossed_ones g = map RingNotSimple (numbers 0 (length (rings g)))
 
-abbrev meeting_ones : Geometry → List ValidityFault
+abbrev pub meeting_ones : Geometry → List ValidityFault
 meeting_ones g = of_pairs RingsMeet 0 (length (rings g))
 
-abbrev outside_ones : Geometry → List ValidityFault
+abbrev pub outside_ones : Geometry → List ValidityFault
 outside_ones g = map HoleOutside (numbers 1 (length (rings g)))
 
-abbrev nested_ones : Geometry → List ValidityFault
+abbrev pub nested_ones : Geometry → List ValidityFault
 nested_ones g = of_pairs HolesNested 1 (length (rings g))
 
-are_closed : (g : Geometry) → find (has_fault g) (open_ones g) ≡ None → AreClosed g
+pub are_closed : (g : Geometry) → find (has_fault g) (open_ones g) ≡ None → AreClosed g
 are_closed g none i h = true≢false (sym ((fault_decided g (RingNotClosed i) tt).1 h) ∙ fails_from (has_fault g) RingNotClosed 0 (length (rings g)) i none (omega arith) (within (rings g) i h.0 h.1))
 
 record NoneFound (g : Geometry) : Type 0 where
@@ -130,7 +130,7 @@ none_found g e = let p = has_fault g in
     let f = none_in_two p (short_ones g) (open_ones g) d.0 in
     record { short = f.0; opened = f.1; crossed = d.1; meeting = c.1; outside = b.1; nested = a.1 }
 
-stands_not : (g : Geometry) (fault : ValidityFault) → NeedsClosed g fault → has_fault g fault ≡ false → HasFault g fault → ⊥
+pub stands_not : (g : Geometry) (fault : ValidityFault) → NeedsClosed g fault → has_fault g fault ≡ false → HasFault g fault → ⊥
 stands_not g fault needs none h = true≢false (sym ((fault_decided g fault needs).1 h) ∙ none)
 
 valid_of : (g : Geometry) → NoneFound g → IsValid g

@@ -2,3 +2,4 @@ pub mod SharedPoints
 pub mod OtherPoints
 pub mod FaultFacts
 pub mod FirstFaultFacts
+pub mod FirstPlace

@@ -1,8 +1,8 @@
 -- Laws of the faults of geometries.
-use Rattle.std.specs.Prelude.{◌≡◌, ◌↔◌, ℕ, true, Some, None}
+use Rattle.std.specs.Prelude.{◌≡◌, ◌↔◌, ℕ, true, List, ◌∷◌, ◌++◌, Contains, Some, None}
 use Rattle.geometry_model.specs.Geometries.{Geometry}
 use Rattle.geometry_model.specs.Validity.{HasFault, IsValid}
-use Rattle.geometry_model.specs.FirstFaults.{has_fault, validity_fault}
+use Rattle.geometry_model.specs.FirstFaults.{has_fault, in_order, validity_fault}
 use Rattle.geometry_model.specs.declared.validity_faults.ValidityFault.{ValidityFault}
 use Rattle.geometry_model.specs.declared.validity_faults.ValidityFault.TheVariants.{RingNotClosed}
 
@@ -21,3 +21,15 @@ FirstFaultStands = (g : Geometry) (fault : ValidityFault) → validity_fault g �
 -- none is found exactly where the geometry is valid (profile)
 abbrev pub NoneIsFoundWhereValid : Type 0
 NoneIsFoundWhereValid = (g : Geometry) → (validity_fault g ≡ None) ↔ IsValid g
+
+-- the fault stands, at a place in the order of tests before which none stands (profile)
+pub record IsFirst (g : Geometry) (fault : ValidityFault) : Type 0 where
+  pub before : List ValidityFault
+  pub after : List ValidityFault
+  pub placed : in_order g ≡ before ++ fault ∷ after
+  pub stands : HasFault g fault
+  pub none_before : (earlier : ValidityFault) → Contains before earlier → HasFault g earlier → ⊥
+
+-- the fault that is found is the first that stands (profile)
+abbrev pub FirstFaultIsFirst : Type 0
+FirstFaultIsFirst = (g : Geometry) (fault : ValidityFault) → validity_fault g ≡ Some fault → IsFirst g fault

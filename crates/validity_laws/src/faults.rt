@@ -3,6 +3,7 @@
 ghost use Rattle.validity_laws.specs.FaultLaws.{
   FaultIsDecided,
   FirstFaultStands,
+  FirstFaultIsFirst,
   NoneIsFoundWhereValid,
 };
 
@@ -14,6 +15,11 @@ pub fn fault_is_decided()
 /// The first fault that is found stands.
 pub fn first_fault_stands()
     ensures { FirstFaultStands }
+{}
+
+/// The fault that is found is the first that stands: none before it in the order of tests does.
+pub fn first_fault_is_first()
+    ensures { FirstFaultIsFirst }
 {}
 
 /// None is found exactly where the geometry is valid.
