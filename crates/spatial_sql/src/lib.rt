@@ -12,6 +12,8 @@ pub mod cursor;
 mod definition;
 pub mod lex;
 mod query;
+#[cfg(test)]
+mod query_tests;
 mod references;
 mod schema;
 #[cfg(test)]
