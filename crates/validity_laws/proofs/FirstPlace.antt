@@ -56,7 +56,7 @@ in_two g = append_assoc (early_ones g ++ crossed_ones g ++ meeting_ones g) (outs
     ∙ (append_assoc (early_ones g ++ crossed_ones g) (meeting_ones g) (outside_ones g ++ nested_ones g)
     ∙ append_assoc (early_ones g) (crossed_ones g) (meeting_ones g ++ (outside_ones g ++ nested_ones g)))
 
-each_mapped : (P : ValidityFault → Type 0) (f : ℕ → ValidityFault) → ((k : ℕ) → P (f k)) → (ns : List ℕ) → Each P (map f ns)
+pub each_mapped : (P : ValidityFault → Type 0) (f : ℕ → ValidityFault) → ((k : ℕ) → P (f k)) → (ns : List ℕ) → Each P (map f ns)
 each_mapped P f h [] = tt
 each_mapped P f h (n ∷ ns) = (h n, each_mapped P f h ns)
 

@@ -3,3 +3,4 @@ pub mod OtherPoints
 pub mod FaultFacts
 pub mod FirstFaultFacts
 pub mod FirstPlace
+pub mod TestOrder

@@ -33,3 +33,8 @@ pub record IsFirst (g : Geometry) (fault : ValidityFault) : Type 0 where
 -- the fault that is found is the first that stands (profile)
 abbrev pub FirstFaultIsFirst : Type 0
 FirstFaultIsFirst = (g : Geometry) (fault : ValidityFault) → validity_fault g ≡ Some fault → IsFirst g fault
+
+-- wherever the order of tests is split at the fault that is found, none before it stands (profile)
+abbrev pub NoEarlierFaultStands : Type 0
+NoEarlierFaultStands = (g : Geometry) (fault : ValidityFault) (before after : List ValidityFault) → validity_fault g ≡ Some fault → in_order g ≡ before ++ fault ∷ after
+    → (earlier : ValidityFault) → Contains before earlier → HasFault g earlier → ⊥

@@ -4,6 +4,7 @@ ghost use Rattle.validity_laws.specs.FaultLaws.{
   FaultIsDecided,
   FirstFaultStands,
   FirstFaultIsFirst,
+  NoEarlierFaultStands,
   NoneIsFoundWhereValid,
 };
 
@@ -20,6 +21,11 @@ pub fn first_fault_stands()
 /// The fault that is found is the first that stands: none before it in the order of tests does.
 pub fn first_fault_is_first()
     ensures { FirstFaultIsFirst }
+{}
+
+/// Wherever the order of tests is split at the fault that is found, none before it stands.
+pub fn no_earlier_fault_stands()
+    ensures { NoEarlierFaultStands }
 {}
 
 /// None is found exactly where the geometry is valid.

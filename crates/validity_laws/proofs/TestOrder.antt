@@ -1,0 +1,146 @@
+-- In the order of tests each fault stands once, so the fault that is found has one place there.
+use Rattle.std.proofs.Common.{◌≡◌, ◌≢◌, ℕ, zero, suc, ◌+◌, ◌-◌, ◌<◌, ◌≤◌, List, [], ◌∷◌, ◌++◌, length, map, flat_map, Contains, refl, sym, ap, ◌∙◌, subst, arith}
+use Rattle.std.specs.List.{range_with_len}
+use Rattle.geometry_model.specs.Geometries.{Geometry, lines}
+use Rattle.geometry_model.specs.Validity.{rings}
+use Rattle.geometry_model.specs.FirstFaults.{numbers, in_order}
+use Rattle.geometry_model.specs.declared.validity_faults.ValidityFault.{ValidityFault}
+use Rattle.geometry_model.specs.declared.validity_faults.ValidityFault.TheVariants.{TooFewPoints, RingNotClosed, RingNotSimple, RingsMeet, HoleOutside, HolesNested}
+use Rattle.geometry_laws.proofs.Each.{Each, each_map, each_append, each_right}
+use Rattle.validity_laws.specs.FaultLaws.{NoEarlierFaultStands}
+use Rattle.validity_laws.proofs.FirstFaultFacts.{short_ones, open_ones, crossed_ones, meeting_ones, outside_ones, nested_ones}
+use Rattle.validity_laws.proofs.FirstPlace.{each_mapped, first_fault_is_first}
+
+-- ---- lists without doubles
+abbrev Distinct : List ValidityFault → Type 0
+Distinct [] = Unit {0}
+Distinct (x ∷ xs) = Each (λ y. x ≢ y) xs × Distinct xs
+
+-- two such lists, a number parting the faults of the one from those of the other
+distinct_join : (m : ValidityFault → ℕ) (k : ℕ) (xs ys : List ValidityFault) → Distinct xs → Each (λ x. m x < k) xs → Distinct ys → Each (λ y. k ≤ m y) ys → Distinct (xs ++ ys)
+distinct_join m k [] ys dx low dy high = dy
+distinct_join m k (x ∷ xs) ys dx low dy high = (
+  each_append (λ y. x ≢ y) xs ys dx.0 (each_map (λ y. k ≤ m y) (λ y. x ≢ y) ys (λ y h e. apart (m x) (m y) low.0 h (ap m e)) high),
+  distinct_join m k xs ys dx.1 low.1 dy high,
+)
+  where
+    apart : (s t : ℕ) → s < k → k ≤ t → s ≡ t → ⊥
+    apart s t h g e = omega (arith, h, g, e)
+
+-- one place alone splits such a list at x
+one_split : (x : ValidityFault) (xs ys after rest : List ValidityFault) → xs ++ x ∷ after ≡ ys ++ x ∷ rest → Distinct (xs ++ x ∷ after) → xs ≡ ys
+one_split x [] [] after rest e d = refl
+one_split x [] (y ∷ ys) after rest e d = let tails : after ≡ ys ++ x ∷ rest = cc in
+    absurd ((each_right (λ z. x ≢ z) ys (x ∷ rest) (subst (Each (λ z. x ≢ z)) tails d.0)).0 refl)
+one_split x (z ∷ xs) [] after rest e d = let heads : z ≡ x = cc in absurd ((each_right (λ y. z ≢ y) xs (x ∷ after) d.0).0 heads)
+one_split x (z ∷ xs) (y ∷ ys) after rest e d = let heads : z ≡ y = cc in let tails : xs ++ x ∷ after ≡ ys ++ x ∷ rest = cc in
+    ap (λ (t : ValidityFault). t ∷ xs) heads ∙ ap (λ (l : List ValidityFault). y ∷ l) (one_split x xs ys after rest tails d.1)
+
+-- ---- the kind and the numbers of a fault
+kind_number : ValidityFault → ℕ
+kind_number (TooFewPoints i) = 0
+kind_number (RingNotClosed i) = 1
+kind_number (RingNotSimple i) = 2
+kind_number (RingsMeet i j) = 3
+kind_number (HoleOutside i) = 4
+kind_number (HolesNested i j) = 5
+
+first_number : ValidityFault → ℕ
+first_number (TooFewPoints i) = i
+first_number (RingNotClosed i) = i
+first_number (RingNotSimple i) = i
+first_number (RingsMeet i j) = i
+first_number (HoleOutside i) = i
+first_number (HolesNested i j) = i
+
+second_number : ValidityFault → ℕ
+second_number (TooFewPoints i) = 0
+second_number (RingNotClosed i) = 0
+second_number (RingNotSimple i) = 0
+second_number (RingsMeet i j) = j
+second_number (HoleOutside i) = 0
+second_number (HolesNested i j) = j
+
+at_least : (low s t : ℕ) → t ≡ s → low ≤ s → low ≤ t
+at_least low s t e h = omega (arith, e, h)
+
+below_next : (s t : ℕ) → t ≡ s → t < s + 1
+below_next s t e = omega (arith, e)
+
+numbers_after : (f : ℕ → ValidityFault) (m : ValidityFault → ℕ) → ((k : ℕ) → m (f k) ≡ k) → (count start low : ℕ) → low ≤ start → Each (λ y. low ≤ m y) (map f (range_with_len start count))
+numbers_after f m is zero start low h = tt
+numbers_after f m is (suc count) start low h = (at_least low start (m (f start)) (is start) h, numbers_after f m is count (start + 1) low (omega (arith, h)))
+
+distinct_numbers : (f : ℕ → ValidityFault) (m : ValidityFault → ℕ) → ((k : ℕ) → m (f k) ≡ k) → (count start : ℕ) → Distinct (map f (range_with_len start count))
+distinct_numbers f m is zero start = tt
+distinct_numbers f m is (suc count) start = (
+  each_map (λ y. start + 1 ≤ m y) (λ y. f start ≢ y) (map f (range_with_len (start + 1) count)) (λ y h e. larger start (m (f start)) (m y) (is start) h (ap m e))
+      (numbers_after f m is count (start + 1) (start + 1) (omega arith)),
+  distinct_numbers f m is count (start + 1),
+)
+  where
+    larger : (s t u : ℕ) → t ≡ s → s + 1 ≤ u → t ≡ u → ⊥
+    larger s t u e h g = omega (arith, e, h, g)
+
+each_paired : (P : ValidityFault → Type 0) (f : ℕ → ℕ → ValidityFault) → ((i j : ℕ) → P (f i j)) → (n : ℕ) (ns : List ℕ) → Each P (flat_map (λ i. map (f i) (numbers (i + 1) n)) ns)
+each_paired P f h n [] = tt
+each_paired P f h n (i ∷ ns) = each_append P (map (f i) (numbers (i + 1) n)) (flat_map (λ i. map (f i) (numbers (i + 1) n)) ns) (each_mapped P (f i) (h i) (numbers (i + 1) n)) (each_paired P f h n ns)
+
+pairs_after : (f : ℕ → ℕ → ValidityFault) → ((i j : ℕ) → first_number (f i j) ≡ i) → (n count start low : ℕ) → low ≤ start
+    → Each (λ y. low ≤ first_number y) (flat_map (λ i. map (f i) (numbers (i + 1) n)) (range_with_len start count))
+pairs_after f is n zero start low h = tt
+pairs_after f is n (suc count) start low h = each_append (λ y. low ≤ first_number y) (map (f start) (numbers (start + 1) n)) (flat_map (λ i. map (f i) (numbers (i + 1) n)) (range_with_len (start + 1) count))
+    (each_mapped (λ y. low ≤ first_number y) (f start) (λ j. at_least low start (first_number (f start j)) (is start j) h) (numbers (start + 1) n))
+    (pairs_after f is n count (start + 1) low (omega (arith, h)))
+
+distinct_pairs : (f : ℕ → ℕ → ValidityFault) → ((i j : ℕ) → first_number (f i j) ≡ i) → ((i j : ℕ) → second_number (f i j) ≡ j) → (n count start : ℕ)
+    → Distinct (flat_map (λ i. map (f i) (numbers (i + 1) n)) (range_with_len start count))
+distinct_pairs f is also n zero start = tt
+distinct_pairs f is also n (suc count) start = distinct_join first_number (start + 1) (map (f start) (numbers (start + 1) n)) (flat_map (λ i. map (f i) (numbers (i + 1) n)) (range_with_len (start + 1) count))
+    (distinct_numbers (f start) second_number (also start) (n - (start + 1)) (start + 1))
+    (each_mapped (λ x. first_number x < start + 1) (f start) (λ j. below_next start (first_number (f start j)) (is start j)) (numbers (start + 1) n))
+    (distinct_pairs f is also n count (start + 1))
+    (pairs_after f is n count (start + 1) (start + 1) (omega arith))
+
+-- ---- the order of tests, kind by kind
+record Stage (k : ℕ) (xs : List ValidityFault) : Type 0 where
+  distinct : Distinct xs
+  kinds : Each (λ x. kind_number x < k) xs
+
+grown : (k : ℕ) (xs ys : List ValidityFault) → Stage k xs → Distinct ys → Each (λ y. kind_number y ≡ k) ys → Stage (k + 1) (xs ++ ys)
+grown k xs ys s d e = record {
+  distinct = distinct_join kind_number k xs ys s.distinct s.kinds d (each_map (λ y. kind_number y ≡ k) (λ y. k ≤ kind_number y) ys (λ y h. reached (kind_number y) h) e);
+  kinds = each_append (λ x. kind_number x < k + 1) xs ys
+      (each_map (λ x. kind_number x < k) (λ x. kind_number x < k + 1) xs (λ x h. wider (kind_number x) h) s.kinds)
+      (each_map (λ y. kind_number y ≡ k) (λ x. kind_number x < k + 1) ys (λ y h. below_next k (kind_number y) h) e);
+}
+  where
+    reached : (t : ℕ) → t ≡ k → k ≤ t
+    reached t e = omega (arith, e)
+
+    wider : (t : ℕ) → t < k → t < k + 1
+    wider t h = omega (arith, h)
+
+distinct_in_order : (g : Geometry) → Distinct (in_order g)
+unfolding kind_number first_number second_number
+distinct_in_order g = (grown 5 (short_ones g ++ open_ones g ++ crossed_ones g ++ meeting_ones g ++ outside_ones g) (nested_ones g)
+    (grown 4 (short_ones g ++ open_ones g ++ crossed_ones g ++ meeting_ones g) (outside_ones g)
+    (grown 3 (short_ones g ++ open_ones g ++ crossed_ones g) (meeting_ones g)
+    (grown 2 (short_ones g ++ open_ones g) (crossed_ones g)
+    (grown 1 (short_ones g) (open_ones g)
+    (record {
+      distinct = distinct_numbers TooFewPoints first_number (λ i. refl) (length (lines g) - 0) 0;
+      kinds = each_mapped (λ x. kind_number x < 1) TooFewPoints (λ i. omega arith) (numbers 0 (length (lines g)));
+    })
+    (distinct_numbers RingNotClosed first_number (λ i. refl) (n - 0) 0) (each_mapped (λ y. kind_number y ≡ 1) RingNotClosed (λ i. refl) (numbers 0 n)))
+    (distinct_numbers RingNotSimple first_number (λ i. refl) (n - 0) 0) (each_mapped (λ y. kind_number y ≡ 2) RingNotSimple (λ i. refl) (numbers 0 n)))
+    (distinct_pairs RingsMeet (λ i j. refl) (λ i j. refl) n (n - 0) 0) (each_paired (λ y. kind_number y ≡ 3) RingsMeet (λ i j. refl) n (numbers 0 n)))
+    (distinct_numbers HoleOutside first_number (λ i. refl) (n - 1) 1) (each_mapped (λ y. kind_number y ≡ 4) HoleOutside (λ i. refl) (numbers 1 n)))
+    (distinct_pairs HolesNested (λ i j. refl) (λ i j. refl) n (n - 1) 1) (each_paired (λ y. kind_number y ≡ 5) HolesNested (λ i j. refl) n (numbers 1 n))).distinct
+  where
+    n : ℕ
+    n = length (rings g)
+
+pub no_earlier_fault_stands : NoEarlierFaultStands
+no_earlier_fault_stands g fault before after found placed earlier c h = let f = first_fault_is_first g fault found in
+    f.none_before earlier (subst (λ l. Contains l earlier) (one_split fault before f.before after f.after (sym placed ∙ f.placed) (subst Distinct placed (distinct_in_order g))) c) h
