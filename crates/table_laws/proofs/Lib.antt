@@ -1,0 +1,4 @@
+pub mod Lists
+pub mod Keys
+pub mod Loads
+pub mod Fits

@@ -1,0 +1,36 @@
+-- What holds of each element of a list, and of each element and each later one.
+use Rattle.std.specs.Prelude.{List, [], ◌∷◌, map}
+use Rattle.std.proofs.Common.{arith}
+use Rattle.std.specs.List.{All, AllPairs}
+use Rattle.std.proofs.lemmas.List.Elements.{All-nil, All-cons}
+use Rattle.std.proofs.lemmas.List.Kept.{AllPairs-cons}
+
+-- P holds of each
+abbrev pub Each : {X : Type 0} → (X → Type 0) → List X → Type 0
+Each P [] = Unit {0}
+Each P (x ∷ xs) = P x × Each P xs
+
+-- R holds of each and each later one
+abbrev pub Pairs : {X : Type 0} → (X → X → Type 0) → List X → Type 0
+Pairs R [] = Unit {0}
+Pairs R (x ∷ xs) = Each (R x) xs × Pairs R xs
+
+pub each-weaker : {X : Type 0} (P Q : X → Type 0) → ((x : X) → P x → Q x) → (xs : List X) → Each P xs → Each Q xs
+each-weaker P Q f [] h = tt
+each-weaker P Q f (x ∷ xs) h = (f x h.0, each-weaker P Q f xs h.1)
+
+pub each-all : {X : Type 0} (P : X → Type 0) (xs : List X) → Each P xs → All P xs
+each-all P [] h = All-nil P
+each-all P (x ∷ xs) h = All-cons P x xs h.0 (each-all P xs h.1)
+
+pub pairs-all : {X : Type 0} (R : X → X → Type 0) (xs : List X) → Pairs R xs → AllPairs R xs
+pairs-all R [] h = λ i j d before within. absurd (omega (arith, within))
+pairs-all R (x ∷ xs) h = AllPairs-cons R x xs (each-all (R x) xs h.0) (pairs-all R xs h.1)
+
+pub each-map : {X Y : Type 0} (P : Y → Type 0) (f : X → Y) (xs : List X) → Each P (map f xs) → Each (λ x. P (f x)) xs
+each-map P f [] h = tt
+each-map P f (x ∷ xs) h = (h.0, each-map P f xs h.1)
+
+pub pairs-map : {X Y : Type 0} (R : Y → Y → Type 0) (f : X → Y) (xs : List X) → Pairs R (map f xs) → Pairs (λ a b. R (f a) (f b)) xs
+pairs-map R f [] h = tt
+pairs-map R f (x ∷ xs) h = (each-map (R (f x)) f xs h.0, pairs-map R f xs h.1)
