@@ -13,11 +13,11 @@ use Rattle.table_model.specs.Meanings.{Row}
 use Rattle.table_laws.proofs.Lists.{Each, Pairs, each-weaker, pairs-map}
 
 -- a test of two that neither passes
-or-none : (a b : Bool) → (a || b) ≡ false → (a ≡ false) × (b ≡ false)
+pub or-none : (a b : Bool) → (a || b) ≡ false → (a ≡ false) × (b ≡ false)
 or-none true b h = absurd (false≢true (sym h))
 or-none false b h = (refl, h)
 
-differ : (a b : ℤ) → int_eq b a ≡ false → a ≢ b
+pub differ : (a b : ℤ) → int_eq b a ≡ false → a ≢ b
 differ a b h = λ p. false≢true (sym h ∙ equal_yes b a (sym p))
 
 -- where no key is double they all differ, also from the earlier ones

@@ -1,8 +1,8 @@
 -- What holds of each element of a list, and of each element and each later one.
-use Rattle.std.specs.Prelude.{List, [], ◌∷◌, map}
+use Rattle.std.specs.Prelude.{zero, suc, List, [], ◌∷◌, map}
 use Rattle.std.proofs.Common.{arith}
 use Rattle.std.specs.List.{All, AllPairs}
-use Rattle.std.proofs.lemmas.List.Elements.{All-nil, All-cons}
+use Rattle.std.proofs.lemmas.List.Elements.{All-nil, All-cons, All-head, All-tail}
 use Rattle.std.proofs.lemmas.List.Kept.{AllPairs-cons}
 
 -- P holds of each
@@ -34,3 +34,14 @@ each-map P f (x ∷ xs) h = (h.0, each-map P f xs h.1)
 pub pairs-map : {X Y : Type 0} (R : Y → Y → Type 0) (f : X → Y) (xs : List X) → Pairs R (map f xs) → Pairs (λ a b. R (f a) (f b)) xs
 pairs-map R f [] h = tt
 pairs-map R f (x ∷ xs) h = (each-map (R (f x)) f xs h.0, pairs-map R f xs h.1)
+
+pub all-each : {X : Type 0} (P : X → Type 0) (xs : List X) → All P xs → Each P xs
+all-each P [] h = tt
+all-each P (x ∷ xs) h = (All-head P x xs h, all-each P xs (All-tail P x xs h))
+
+pub all-pairs : {X : Type 0} (R : X → X → Type 0) (xs : List X) → AllPairs R xs → Pairs R xs
+all-pairs R [] h = tt
+all-pairs R (x ∷ xs) h = (
+  all-each (R x) xs (λ k d within. h zero (suc k) d (omega arith) (omega (arith, within))),
+  all-pairs R xs (λ i j d before within. h (suc i) (suc j) d (omega (arith, before)) (omega (arith, within))),
+)

@@ -1,0 +1,13 @@
+//! Laws of the test for double keys.
+
+ghost use Rattle.table_laws.specs.KeyLaws.{DoubleIsFirst, NoneIsDouble};
+
+/// The answered number, counted from 1, is that of the first key that equals an earlier one.
+pub fn double_is_first()
+    ensures { DoubleIsFirst }
+{}
+
+/// No number is answered exactly where no two keys are equal.
+pub fn none_is_double()
+    ensures { NoneIsDouble }
+{}
