@@ -8,12 +8,12 @@ use Rattle.geometry_model.specs.declared.validity_faults.ValidityFault.{Validity
 use Rattle.geometry_model.specs.declared.geometry_faults.GeometryFault.{GeometryFault}
 use Rattle.geometry_model.specs.declared.geometry_faults.GeometryFault.TheVariants as fault
 
--- a geometry without fault, or its fault
+-- a geometry without fault, or its fault (profile)
 abbrev pub valid_or : Geometry → Option ValidityFault → Result Geometry GeometryFault
 valid_or g None = Ok g
 valid_or g (Some f) = Err (fault.Invalid f)
 
--- what was read is tested
+-- what was read is tested (profile)
 abbrev pub tested : Result Geometry TextFault → Result Geometry GeometryFault
 tested (Ok g) = valid_or g (validity_fault g)
 tested (Err f) = Err (fault.Text f)

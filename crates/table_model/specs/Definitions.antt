@@ -12,7 +12,7 @@ abbrev pub names_differ : List (List ℕ) → Bool
 names_differ [] = true
 names_differ (name ∷ names) = not (list_any (same_name name) names) && names_differ names
 
--- whether a column holds whole numbers
+-- whether a column holds whole numbers (profile)
 abbrev pub is_integer : {T : Type 0} → ColumnType T → Bool
 is_integer column.Integer = true
 is_integer column.Text = false
@@ -23,7 +23,7 @@ abbrev pub may_be_key : {T : Type 0} → Option (ColumnDef T) → Bool
 may_be_key None = false
 may_be_key (Some c) = is_integer c.column_type
 
--- the names of a table's columns
+-- the names of a table's columns (profile)
 abbrev pub column_names : {T : Type 0} → List (ColumnDef T) → List (List ℕ)
 column_names columns = map (λ c. c.name) columns
 

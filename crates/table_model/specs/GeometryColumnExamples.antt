@@ -30,11 +30,11 @@ use Rattle.table_model.specs.declared.values.Value.TheVariants as values
 
 -- ---- tables
 
--- a column without NOT NULL
+-- a column without NOT NULL (profile)
 abbrev pub column : List ℕ → ColumnType ColumnShape → ColumnDef ColumnShape
 column name type = record { name = name; column_type = type; not_null = false }
 
--- the table t of a key, a number and a geometry
+-- the table t of a key, a number and a geometry (profile)
 abbrev pub table_of : ColumnShape → TableDef ColumnShape
 table_of shape = record {
   name = codes "t";
@@ -42,51 +42,57 @@ table_of shape = record {
   key = 0;
 }
 
--- its rows, loaded from the records after the header
+-- its rows, loaded from the records after the header (profile)
 abbrev pub loaded : ColumnShape → List Record → Result (List (Row Geometry)) LoadFault
 loaded shape records = load read_geometry (table_of shape) ((codes "id" ∷ codes "pop" ∷ codes "geom" ∷ []) ∷ records)
 
--- a record of three fields
+-- a record of three fields (profile)
 abbrev pub fields : List ℕ → List ℕ → List ℕ → Record
 fields id pop geom = id ∷ pop ∷ geom ∷ []
 
--- a row with a point, and one without
+-- a row with a point, and one without (profile)
 abbrev pub with_point : ℕ → ℕ → ℤ → ℤ → Row Geometry
 with_point id pop x y = values.Integer (pos id) ∷ values.Integer (pos pop) ∷ values.Geometry (Point (Some (at x y))) ∷ []
 
+-- a row without a point (profile)
 abbrev pub without_point : ℕ → ℕ → Row Geometry
 without_point id pop = values.Integer (pos id) ∷ values.Integer (pos pop) ∷ values.Null ∷ []
 
 -- ---- queries, each name with its byte
 
+-- a name at a byte (profile)
 abbrev pub name : List ℕ → ℕ → Name
 name text at = record { text = text; at = at }
 
--- a column without and with its reference
+-- a column without and with its reference (profile)
 abbrev pub bare : List ℕ → ℕ → WrittenColumn
 bare text at = record { reference = None; name = name text at }
 
+-- a column with its reference (profile)
 abbrev pub of : Name → Name → WrittenColumn
 of reference column = record { reference = Some reference; name = column }
 
--- a reference without and with an alias
+-- a reference without and with an alias (profile)
 abbrev pub table : List ℕ → ℕ → WrittenReference
 table text at = record { table = name text at; alias = None }
 
+-- a table reference with an alias (profile)
 abbrev pub aliased : Name → Name → WrittenReference
 aliased text alias = record { table = text; alias = Some alias }
 
--- geometry arguments
+-- geometry arguments (profile)
 abbrev pub geometry_column : List ℕ → ℕ → WrittenGeometry
 geometry_column text at = written_geometry.Column (bare text at)
 
+-- ST_GeomFromText of a string at a byte (profile)
 abbrev pub from_text : List ℕ → ℕ → WrittenGeometry
 from_text text at = written_geometry.FromText (name text at)
 
+-- a column as a side of a comparison (profile)
 abbrev pub operand_column : List ℕ → ℕ → WrittenOperand WrittenGeometry
 operand_column text at = written_operand.Column (bare text at)
 
--- the tables t and u
+-- the tables t and u (profile)
 abbrev pub tables : List (TableDef ColumnShape)
 tables = table_of None ∷ record {
   name = codes "u";
@@ -94,7 +100,7 @@ tables = table_of None ∷ record {
   key = 0;
 } ∷ []
 
--- what a SELECT is bound to over these tables
+-- what a SELECT is bound to over these tables (profile)
 abbrev pub bound : Selection WrittenColumn → WrittenReference → Option WrittenReference → Option (WrittenCond WrittenGeometry) → Checked (Bound (GeometryArgument Geometry) ColumnPlace)
 bound selection first second condition = binding geometry_binding tables (record {
   explain = explains.No;
@@ -105,6 +111,6 @@ bound selection first second condition = binding geometry_binding tables (record
   condition = condition;
 })
 
--- what SELECT id FROM t WHERE is bound to: the condition starts at byte 23
+-- what SELECT id FROM t WHERE is bound to: the condition starts at byte 23 (profile)
 abbrev pub bound_where : WrittenCond WrittenGeometry → Checked (Bound (GeometryArgument Geometry) ColumnPlace)
 bound_where condition = bound (selections.Items (written_item.Column (bare (codes "id") 7) ∷ [])) (table (codes "t") 15) None (Some condition)

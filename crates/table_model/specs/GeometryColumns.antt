@@ -55,7 +55,7 @@ takes_type (Some wanted) type = sameb the_type wanted type
 
 -- ---- fields
 
--- the geometry of a record, of the column's type, or the record's fault
+-- the geometry of a record, of the column's type, or the record's fault (profile)
 abbrev pub of_shape : ℕ → ColumnShape → Result Geometry GeometryFault → Result Geometry LoadFault
 of_shape number shape (Err fault) = Err (load_fault.BadGeometry number fault)
 of_shape number shape (Ok g) = if takes_type shape (type_of g) then Ok g else Err (load_fault.WrongType number)
@@ -75,7 +75,7 @@ geometry_writing = record {
 
 -- ---- queries
 
--- the geometry of a string, a literal, or the fault at the string; its bytes are those of the string's value
+-- the geometry of a string, a literal, or the fault at the string; its bytes are those of the string's value (profile)
 abbrev pub literal : ℕ → Result Geometry GeometryFault → Checked (Typed (GeometryArgument Geometry))
 literal at (Ok g) = Ok (record { part = arguments.Literal g; part_type = types.Geometry })
 literal at (Err fault) = Err (query_fault.BadGeometry at fault)
@@ -93,6 +93,7 @@ bound_place schema references written = do
   found ← bound_column schema references written
   Ok (record { part = found.place; part_type = found.column_type })
 
+-- the pattern, or Q9 at the byte (profile)
 abbrev pub pattern_or : ℕ → Option Pattern → Checked Pattern
 pattern_or at (Some pattern) = Ok pattern
 pattern_or at None = Err (query_fault.BadPattern at)

@@ -21,21 +21,21 @@ use Rattle.table_model.specs.declared.values.Value.TheVariants as value
 abbrev pub Record : Type 0
 Record = List (List ℕ)
 
--- what reads a geometry: a record's number, a type of geometry and a field's bytes give it or the fault
+-- what reads a geometry: a record's number, a type of geometry and a field's bytes give it or the fault (profile)
 abbrev pub GeometryReader : Type 0 → Type 0 → Type 0
 GeometryReader T G = ℕ → T → List ℕ → Result G LoadFault
 
--- an answer goes on with the next step, a fault stands
+-- an answer goes on with the next step, a fault stands (profile)
 abbrev pub and_then : {A B F : Type 0} → Result A F → (A → Result B F) → Result B F
 and_then (Ok x) next = next x
 and_then (Err f) next = Err f
 
--- a fault, where there is one, goes before an answer
+-- a fault, where there is one, goes before an answer (profile)
 abbrev pub unless : {A F : Type 0} → Option F → Result A F → Result A F
 unless None answer = answer
 unless (Some f) answer = Err f
 
--- all the answers, or the first fault among them
+-- all the answers, or the first fault among them (profile)
 abbrev pub each : {A F : Type 0} → List (Result A F) → Result (List A) F
 each [] = Ok []
 each (answer ∷ answers) = and_then answer (λ x. and_then (each answers) (λ xs. Ok (x ∷ xs)))
@@ -58,7 +58,7 @@ abbrev pub is_number : List ℕ → Bool
 is_number text =
     let digits = without_leading_sign text in nat_lt 0 (length digits) && (all_ascii_digits digits && fits_64_bits (signed_digits_value 10 text))
 
--- the whole number that a text is
+-- the whole number that a text is (profile)
 abbrev pub number_in : List ℕ → Option ℤ
 number_in text = if is_number text then Some (signed_digits_value 10 text) else None
 
@@ -81,20 +81,20 @@ value_of geometry number required kind (byte ∷ bytes) = filled_value geometry 
 abbrev pub is_required : {T : Type 0} → TableDef T → ℕ × ColumnDef T → Bool
 is_required table (place, c) = c.not_null || (place == table.key)
 
--- the place of the first field of a header that has this name
+-- the place of the first field of a header that has this name (profile)
 abbrev pub place_in : Record → List ℕ → ℕ
 place_in header name = unwrap_or (position (same_name name) header) 0
 
--- the field of a record that a header calls by this name
+-- the field of a record that a header calls by this name (profile)
 abbrev pub field_under : Record → Record → List ℕ → List ℕ
 field_under header fields name = slice_index_or fields (place_in header name) []
 
--- the value of each column's field in a record, or its fault
+-- the value of each column's field in a record, or its fault (profile)
 abbrev pub values_of : {T G : Type 0} → GeometryReader T G → TableDef T → Record → ℕ → Record → List (Result (Value G) LoadFault)
 values_of geometry table header number fields =
     map (λ c. value_of geometry number (is_required table c) c.1.column_type (field_under header fields c.1.name)) (enumerate_from 0 table.columns)
 
--- the typed row of a record: its fields under the names of the columns, in the order of the columns
+-- the typed row of a record: its fields under the names of the columns, in the order of the columns (profile)
 unfoldable pub row_of : {T G : Type 0} → GeometryReader T G → TableDef T → Record → ℕ → Record → Result (Row G) LoadFault
 row_of geometry table header number fields = each (values_of geometry table header number fields)
 
@@ -110,11 +110,11 @@ checked_row geometry table header (number, fields) =
     else if nat_lt row_limit number then Err fault.TooManyRows
     else row_of geometry table header number fields
 
--- the typed row of each record after the header, or its fault; the records are numbered from 1
+-- the typed row of each record after the header, or its fault; the records are numbered from 1 (profile)
 abbrev pub checked_rows : {T G : Type 0} → GeometryReader T G → TableDef T → Record → List Record → List (Result (Row G) LoadFault)
 checked_rows geometry table header records = map (checked_row geometry table header) (enumerate_from 1 records)
 
--- the typed rows of the records after the header, or the first fault
+-- the typed rows of the records after the header, or the first fault (profile)
 unfoldable pub rows_of : {T G : Type 0} → GeometryReader T G → TableDef T → Record → List Record → Result (List (Row G)) LoadFault
 rows_of geometry table header records = each (checked_rows geometry table header records)
 
@@ -124,13 +124,13 @@ name_fault header name =
     let found = count_by (same_name name) header in
     if found == 0 then Some fault.MissingColumn else if found == 1 then None else Some fault.DoubleHeader
 
--- the first of the faults
+-- the first of the faults (profile)
 abbrev pub first_fault : {F : Type 0} → List (Option F) → Option F
 first_fault [] = None
 first_fault (Some f ∷ more) = Some f
 first_fault (None ∷ more) = first_fault more
 
--- the first fault of the columns' names in a header
+-- the first fault of the columns' names in a header (profile)
 unfoldable pub header_fault : {T : Type 0} → List (ColumnDef T) → Record → Option LoadFault
 header_fault columns header = first_fault (map (λ c. name_fault header c.name) columns)
 
@@ -142,31 +142,32 @@ whole_number (Some value.Null) = pos 0
 whole_number (Some (value.Text bytes)) = pos 0
 whole_number (Some (value.Geometry g)) = pos 0
 
+-- the key of a row: the whole number at the key's place (06-104r4, feature tables)
 abbrev pub key_of : {G : Type 0} → ℕ → Row G → ℤ
 key_of key row = whole_number (slice_get row key)
 
--- the number of the first of these keys that an earlier one equals, where this many stand before them
+-- the number of the first of these keys that an earlier one equals, where this many stand before them (profile)
 abbrev pub double_from : List ℤ → ℕ → List ℤ → Option ℕ
 double_from earlier number [] = None
 double_from earlier number (key ∷ keys) =
     if list_any (int_eq key) earlier then Some number else double_from (key ∷ earlier) (number + 1) keys
 
--- the number of the first record whose key an earlier one has, the first record having the number 1
+-- the number of the first record whose key an earlier one has, the first record having the number 1 (profile)
 unfoldable pub double_key : List ℤ → Option ℕ
 double_key keys = double_from [] 1 keys
 
--- a row put before the first row of a greater key
+-- a row put before the first row of a greater key (profile)
 abbrev pub insert_by_key : {G : Type 0} → ℕ → Row G → List (Row G) → List (Row G)
 insert_by_key key row [] = row ∷ []
 insert_by_key key row (other ∷ rows) =
     if int_lt (key_of key row) (key_of key other) then row ∷ other ∷ rows else other ∷ insert_by_key key row rows
 
--- the rows by ascending key
+-- the rows by ascending key (profile)
 unfoldable pub by_key : {G : Type 0} → ℕ → List (Row G) → List (Row G)
 by_key key [] = []
 by_key key (row ∷ rows) = insert_by_key key row (by_key key rows)
 
--- the rows by ascending key, where no two have one key
+-- the rows by ascending key, where no two have one key (profile)
 abbrev pub keyed_rows : {G : Type 0} → ℕ → List (Row G) → Result (List (Row G)) LoadFault
 keyed_rows key rows = unless (option_map fault.DoubleKey (double_key (map (key_of key) rows))) (Ok (by_key key rows))
 

@@ -27,59 +27,59 @@ use Rattle.table_model.specs.Tokens.{tokens}
 
 -- ---- what rules are made of
 
--- what may be said of tokens
+-- what may be said of tokens (profile)
 abbrev pub Phrase : Type 1
 Phrase = List Token → Type 0
 
--- one token, of which a fact holds
+-- one token, of which a fact holds (profile)
 abbrev pub IsOne : (Token → Type 0) → Phrase
 IsOne P [] = ⊥
 IsOne P (t ∷ []) = P t
 IsOne P (t ∷ u ∷ ts) = ⊥
 
--- one token of a kind
+-- one token of a kind (profile)
 abbrev pub IsToken : TokenKind → Phrase
 IsToken kind = IsOne (λ t. t.kind ≡ kind)
 
--- tokens for one thing, and then tokens for another
+-- tokens for one thing, and then tokens for another (profile)
 infixr 11 ◌▸◌
 abbrev pub ◌▸◌ : Phrase → Phrase → Phrase
 P ▸ Q = λ ts. (before after : List Token) × (ts ≡ before ++ after) × P before × Q after
 
--- one token of a kind, or nothing
+-- one token of a kind, or nothing (profile)
 abbrev pub IsOptional : TokenKind → Phrase
 IsOptional kind ts = (ts ≡ []) ⊎ IsToken kind ts
 
--- one thing and those that follow it, with a token of a kind before each of these
+-- one thing and those that follow it, with a token of a kind before each of these (profile)
 abbrev pub IsParts : {A : Type 0} → TokenKind → (A → Phrase) → A → List A → Phrase
 IsParts between P x [] = P x
 IsParts between P x (y ∷ ys) = P x ▸ IsToken between ▸ IsParts between P y ys
 
 -- ---- names, columns and operands
 
--- a name is a word that isn't reserved
+-- a name is a word that isn't reserved (profile)
 abbrev pub IsName : Name → Phrase
 IsName name = IsOne (λ t. (t.kind ≡ k.Word) × (name ≡ record { text = t.text; at = t.at }))
 
--- col = name ('.' name)?
+-- col = name ('.' name)? (profile)
 abbrev pub IsColumn : WrittenColumn → Phrase
 IsColumn column ts =
     ((name : Name) × (column ≡ record { reference = None; name = name }) × IsName name ts)
     ⊎ ((reference name : Name) × (column ≡ record { reference = Some reference; name = name }) × (IsName reference ▸ IsToken k.Point ▸ IsName name) ts)
 
--- digits whose number, negated or not, is within 64 bits
+-- digits whose number, negated or not, is within 64 bits (profile)
 abbrev pub IsDigits : Bool → ℤ → Phrase
 IsDigits negative n = IsOne (λ t. (t.kind ≡ k.Integer) × (integer_value negative t.text ≡ Some n))
 
--- ('+' | '-')? integer
+-- ('+' | '-')? integer (profile)
 abbrev pub IsInteger : ℤ → Phrase
 IsInteger n ts = IsDigits false n ts ⊎ (IsToken k.Plus ▸ IsDigits false n) ts ⊎ (IsToken k.Minus ▸ IsDigits true n) ts
 
--- a string's text is what stands between its quotes
+-- a string's text is what stands between its quotes (profile)
 abbrev pub IsString : Name → Phrase
 IsString text = IsOne (λ t. (t.kind ≡ k.Text) × (text ≡ record { text = t.text; at = t.at }))
 
--- operand = col | ('+' | '-')? integer | string | 'NULL'
+-- operand = col | ('+' | '-')? integer | string | 'NULL' (profile)
 abbrev pub IsOperand : {A : Type 0} → WrittenOperand A → Phrase
 IsOperand operand ts =
     ((column : WrittenColumn) × (operand ≡ o.Column column) × IsColumn column ts)
@@ -89,11 +89,11 @@ IsOperand operand ts =
 
 -- ---- conditions
 
--- cmp = '=' | '<>' | '!=' | '<' | '<=' | '>' | '>='
+-- cmp = '=' | '<>' | '!=' | '<' | '<=' | '>' | '>=' (profile)
 abbrev pub IsComparison : Comparison → Phrase
 IsComparison comparison = IsOne (λ t. comparison_of t.kind ≡ Some comparison)
 
--- pred = operand cmp operand | operand 'IS' 'NOT'? 'NULL'
+-- pred = operand cmp operand | operand 'IS' 'NOT'? 'NULL' (profile)
 abbrev pub IsPredicate : {A : Type 0} → WrittenCond A → Phrase
 IsPredicate {A} x ts =
     ((comparison : Comparison) × (left right : WrittenOperand A) × (x ≡ c.Compare (place ts) comparison left right)
@@ -101,20 +101,20 @@ IsPredicate {A} x ts =
     ⊎ ((operand : WrittenOperand A) × (x ≡ c.IsNull operand) × (IsOperand operand ▸ IsToken k.Is ▸ IsToken k.Null) ts)
     ⊎ ((operand : WrittenOperand A) × (x ≡ c.Not (c.IsNull operand)) × (IsOperand operand ▸ IsToken k.Is ▸ IsToken k.Not ▸ IsToken k.Null) ts)
 
--- one part alone, or two and more with a word between them
+-- one part alone, or two and more with a word between them (profile)
 abbrev pub IsChain : {A : Type 0} → TokenKind → (List (WrittenCond A) → WrittenCond A) → (WrittenCond A → Phrase) → WrittenCond A → Phrase
 IsChain {A} between join P x ts =
     P x ts ⊎ ((first second : WrittenCond A) × (more : List (WrittenCond A)) × (x ≡ join (first ∷ second ∷ more)) × IsParts between P first (second ∷ more) ts)
 
--- conj = neg ('AND' neg)*
+-- conj = neg ('AND' neg)* (profile)
 abbrev pub IsConjunction : {A : Type 0} → (WrittenCond A → Phrase) → WrittenCond A → Phrase
 IsConjunction = IsChain k.And c.And
 
--- cond = conj ('OR' conj)*
+-- cond = conj ('OR' conj)* (profile)
 abbrev pub IsConditionOf : {A : Type 0} → (WrittenCond A → Phrase) → WrittenCond A → Phrase
 IsConditionOf P = IsChain k.Or c.Or (IsConjunction P)
 
--- neg = 'NOT' neg | '(' cond ')' | pred, where so many NOT and parentheses may nest
+-- neg = 'NOT' neg | '(' cond ')' | pred, where so many NOT and parentheses may nest (profile)
 unfoldable pub IsNegation : {A : Type 0} → ℕ → WrittenCond A → Phrase
 IsNegation zero x ts = IsPredicate x ts
 IsNegation {A} (suc levels) x ts =
@@ -122,46 +122,46 @@ IsNegation {A} (suc levels) x ts =
     ⊎ (IsToken k.LeftParenthesis ▸ IsConditionOf (IsNegation levels) x ▸ IsToken k.RightParenthesis) ts
     ⊎ IsPredicate x ts
 
--- a condition in which NOT and parentheses nest to 64 levels at most
+-- a condition in which NOT and parentheses nest to 64 levels at most (profile)
 abbrev pub IsCondition : {A : Type 0} → WrittenCond A → Phrase
 IsCondition = IsConditionOf (IsNegation most_levels)
 
 -- ---- queries
 
--- item = col
+-- item = col (profile)
 abbrev pub IsItem : {C : Type 0} → WrittenItem C → Phrase
 IsItem item ts = (column : WrittenColumn) × (item ≡ i.Column column) × IsColumn column ts
 
--- items = '*' | item (',' item)*
+-- items = '*' | item (',' item)* (profile)
 abbrev pub IsSelection : {C : Type 0} → Selection C → Phrase
 IsSelection {C} selection ts =
     ((selection ≡ l.All) × IsToken k.Star ts)
     ⊎ ((first : WrittenItem C) × (more : List (WrittenItem C)) × (selection ≡ l.Items (first ∷ more)) × IsParts k.Comma IsItem first more ts)
 
--- ref = name ('AS'? name)?
+-- ref = name ('AS'? name)? (profile)
 abbrev pub IsReference : WrittenReference → Phrase
 IsReference reference ts =
     ((table : Name) × (reference ≡ record { table = table; alias = None }) × IsName table ts)
     ⊎ ((table alias : Name) × (reference ≡ record { table = table; alias = Some alias }) × (IsName table ▸ IsName alias) ts)
     ⊎ ((table alias : Name) × (reference ≡ record { table = table; alias = Some alias }) × (IsName table ▸ IsToken k.As ▸ IsName alias) ts)
 
--- ('WHERE' cond)?
+-- ('WHERE' cond)? (profile)
 abbrev pub IsWhere : {A : Type 0} → Option (WrittenCond A) → Phrase
 IsWhere {A} condition ts =
     ((condition ≡ None) × (ts ≡ []))
     ⊎ ((x : WrittenCond A) × (condition ≡ Some x) × (IsToken k.Where ▸ IsCondition x) ts)
 
--- query = 'SELECT' items 'FROM' ref ('WHERE' cond)? ';'?, and then the text ends
+-- query = 'SELECT' items 'FROM' ref ('WHERE' cond)? ';'?, and then the text ends (profile)
 abbrev pub IsSelect : {A C : Type 0} → Query A C → Phrase
 IsSelect {A} {C} query ts =
     (selection : Selection C) × (first : WrittenReference) × (condition : Option (WrittenCond A))
     × (query ≡ record { explain = explain.No; selection = selection; first = first; second = None; on = None; condition = condition })
     × (IsToken k.Select ▸ IsSelection selection ▸ IsToken k.From ▸ IsReference first ▸ IsWhere condition ▸ IsOptional k.Semicolon ▸ IsToken k.End) ts
 
--- A text is a query: it isn't too long, it is made of tokens, and these are written for the tree.
+-- A text is a query: it isn't too long, it is made of tokens, and these are written for the tree (profile).
 unfoldable pub IsQuery : {A C : Type 0} → List ℕ → Query A C → Type 0
 IsQuery text query = (length text ≤ most_bytes) × (bad_place (tokens true text) ≡ None) × IsSelect query (tokens true text)
 
--- a reader of a text answers the query that it is, whichever that is; want of memory may stand in its place
+-- a reader of a text answers the query that it is, whichever that is; want of memory may stand in its place (profile)
 abbrev pub AnswersQuery : {A C : Type 0} → List ℕ → Result (Query A C) QueryFault → Type 0
 AnswersQuery {A} {C} text result = (query : Query A C) → IsQuery text query → Gives fault.OutOfMemory (λ q. q) result (Ok query)

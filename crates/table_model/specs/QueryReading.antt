@@ -24,16 +24,17 @@ use Rattle.table_model.specs.declared.tokens.TokenKind.TheVariants as k
 use Rattle.table_model.specs.Parsers.{Outcome, Parser, kind, place, spelling, next, written, sees, and_then, ◌>>=◌, ◌>>◌, ◌<$>◌, pure, refuse, eat, expect, parts}
 use Rattle.table_model.specs.Tokens.{same_kind, tokens}
 
+-- a reader of a part of a query (profile)
 abbrev pub Reader : Type 0 → Type 0
 Reader = Parser QueryFault
 
 -- ---- names and columns
 
--- A word that isn't reserved. With `(` after it, it is a function, and none is served.
+-- A word that isn't reserved. With `(` after it, it is a function, and none is served (profile).
 unfoldable pub name : Reader Name
 name ts = if sees k.Word ts && not (sees k.LeftParenthesis (next ts)) then Ok (written ts, next ts) else Err (fault.Syntax (place ts))
 
--- col = name ('.' name)?
+-- col = name ('.' name)? (profile)
 unfoldable pub column : Reader WrittenColumn
 column = do
   first ← name
@@ -42,26 +43,27 @@ column = do
 
 -- ---- operands
 
--- the number of decimal digits, after a number of digits before
+-- the number of decimal digits, after a number of digits before (profile)
 abbrev pub decimal : ℕ → List ℕ → ℕ
 decimal before [] = before
 decimal before (digit ∷ digits) = decimal (10 * before + (digit - 48)) digits
 
--- the number of digits with a sign, within 64 bits
+-- the number of digits with a sign, within 64 bits (profile)
 abbrev pub integer_value : Bool → List ℕ → Option ℤ
 integer_value true digits = if nat_le (decimal 0 digits) (2 ^ 63) then Some (neg_ℤ (pos (decimal 0 digits))) else None
 integer_value false digits = if nat_lt (decimal 0 digits) (2 ^ 63) then Some (pos (decimal 0 digits)) else None
 
+-- the integer, or Q12 at its first digit (profile)
 abbrev pub integer_or : {A : Type 0} → Option ℤ → ℕ → List Token → Outcome QueryFault (WrittenOperand A)
 integer_or None at rest = Err (fault.NumberTooBig at)
 integer_or (Some n) at rest = Ok (o.Integer n, rest)
 
--- digits, after a minus or not
+-- digits, after a minus or not (profile)
 unfoldable pub integer : {A : Type 0} → Bool → Reader (WrittenOperand A)
 integer negative ts =
     if sees k.Integer ts then integer_or (integer_value negative (spelling ts)) (place ts) (next ts) else Err (fault.Syntax (place ts))
 
--- operand = col | ('+' | '-')? integer | string | 'NULL'
+-- operand = col | ('+' | '-')? integer | string | 'NULL' (profile)
 unfoldable pub operand : {A : Type 0} → Reader (WrittenOperand A)
 operand ts =
     if sees k.Null ts then Ok (o.Null, next ts)
@@ -73,7 +75,7 @@ operand ts =
 
 -- ---- conditions
 
--- cmp = '=' | '<>' | '!=' | '<' | '<=' | '>' | '>='
+-- cmp = '=' | '<>' | '!=' | '<' | '<=' | '>' | '>=' (profile)
 abbrev pub comparison_of : TokenKind → Option Comparison
 comparison_of k.Equal = Some m.Equal
 comparison_of k.NotEqual = Some m.NotEqual
@@ -83,102 +85,104 @@ comparison_of k.Greater = Some m.Greater
 comparison_of k.GreaterOrEqual = Some m.GreaterOrEqual
 comparison_of _ = None
 
+-- the rest of a comparison by its sign; where there is none the token can't stand there (profile)
 abbrev pub compared_by : {A : Type 0} → ℕ → WrittenOperand A → Option Comparison → Reader (WrittenCond A)
 compared_by at left None = refuse fault.Syntax
 compared_by at left (Some comparison) = λ ts. (c.Compare at comparison left <$> operand) (next ts)
 
--- the rest of a comparison, after its left side
+-- the rest of a comparison, after its left side (profile)
 unfoldable pub compared : {A : Type 0} → ℕ → WrittenOperand A → Reader (WrittenCond A)
 compared at left ts = compared_by at left (comparison_of (kind ts)) ts
 
--- the rest of IS NULL or IS NOT NULL, after IS
+-- the rest of IS NULL or IS NOT NULL, after IS (profile)
 unfoldable pub null_test : {A : Type 0} → WrittenOperand A → Reader (WrittenCond A)
 null_test left = do
   negated ← eat k.Not
   expect fault.Syntax k.Null
   pure (if negated then c.Not (c.IsNull left) else c.IsNull left)
 
--- pred = operand cmp operand | operand 'IS' 'NOT'? 'NULL'
+-- pred = operand cmp operand | operand 'IS' 'NOT'? 'NULL' (profile)
 unfoldable pub predicate : {A : Type 0} → Reader (WrittenCond A)
 predicate = λ ts. (do
   left ← operand
   tests ← eat k.Is
   if tests then null_test left else compared (place ts) left) ts
 
--- the tree of a first part, read with the word after it, and of those that follow
+-- the tree of a first part, read with the word after it, and of those that follow (profile)
 abbrev pub joined : {A : Type 0} → TokenKind → (List (WrittenCond A) → WrittenCond A) → Reader (WrittenCond A) → WrittenCond A → Reader (WrittenCond A)
 joined between join part first = join <$> parts fault.Syntax between part (first ∷ [])
 
--- parts with a word between them make one tree; a part alone is itself
+-- parts with a word between them make one tree; a part alone is itself (profile)
 abbrev pub chain : {A : Type 0} → TokenKind → (List (WrittenCond A) → WrittenCond A) → Reader (WrittenCond A) → Reader (WrittenCond A)
 chain between join part = do
   first ← part
   more ← eat between
   if more then joined between join part first else pure first
 
--- conj = neg ('AND' neg)*, for a reader of neg
+-- conj = neg ('AND' neg)*, for a reader of neg (profile)
 abbrev pub conjunction : {A : Type 0} → Reader (WrittenCond A) → Reader (WrittenCond A)
 conjunction part = chain k.And c.And part
 
--- cond = conj ('OR' conj)*
+-- cond = conj ('OR' conj)* (profile)
 abbrev pub condition_of : {A : Type 0} → Reader (WrittenCond A) → Reader (WrittenCond A)
 condition_of part = chain k.Or c.Or (conjunction part)
 
--- the rest of '(' cond ')'
+-- the rest of '(' cond ')' (profile)
 abbrev pub group : {A : Type 0} → Reader (WrittenCond A) → Reader (WrittenCond A)
 group part = do
   inner ← condition_of part
   expect fault.Syntax k.RightParenthesis
   pure inner
 
--- neg = 'NOT' neg | '(' cond ')' | pred, where so many NOT and parentheses may still nest
+-- neg = 'NOT' neg | '(' cond ')' | pred, where so many NOT and parentheses may still nest (profile)
 unfoldable pub negation : {A : Type 0} → ℕ → Reader (WrittenCond A)
 negation zero ts = if sees k.Not ts || sees k.LeftParenthesis ts then Err (fault.TooDeep (place ts)) else predicate ts
 negation (suc levels) ts =
     if sees k.Not ts then (c.Not <$> negation levels) (next ts)
     else (if sees k.LeftParenthesis ts then group (negation levels) (next ts) else predicate ts)
 
--- how deep conditions may nest
+-- how deep conditions may nest (profile)
 abbrev pub most_levels : ℕ
 most_levels = 64
 
+-- cond, of 64 levels at most (profile)
 abbrev pub condition : {A : Type 0} → Reader (WrittenCond A)
 condition = condition_of (negation most_levels)
 
 -- ---- queries
 
--- item = col
+-- item = col (profile)
 unfoldable pub item : {C : Type 0} → Reader (WrittenItem C)
 item = i.Column <$> column
 
--- item (',' item)*
+-- item (',' item)* (profile)
 abbrev pub items : {C : Type 0} → Reader (List (WrittenItem C))
 items = parts fault.Syntax k.Comma item []
 
--- items = '*' | item (',' item)*
+-- items = '*' | item (',' item)* (profile)
 unfoldable pub selection : {C : Type 0} → Reader (Selection C)
 selection ts = if sees k.Star ts then Ok (l.All, next ts) else (l.Items <$> items) ts
 
--- ('AS'? name)?
+-- ('AS'? name)? (profile)
 unfoldable pub alias : Reader (Option Name)
 alias ts =
     if sees k.As ts then (Some <$> name) (next ts)
     else (if sees k.Word ts then (Some <$> name) ts else Ok (None, ts))
 
--- ref = name ('AS'? name)?
+-- ref = name ('AS'? name)? (profile)
 unfoldable pub reference : Reader WrittenReference
 reference = do
   table ← name
   alias ← alias
   pure (record { table = table; alias = alias })
 
--- ('WHERE' cond)?
+-- ('WHERE' cond)? (profile)
 unfoldable pub where_condition : {A : Type 0} → Reader (Option (WrittenCond A))
 where_condition = do
   filters ← eat k.Where
   if filters then Some <$> condition else pure None
 
--- query = 'SELECT' items 'FROM' ref ('WHERE' cond)? ';'?
+-- query = 'SELECT' items 'FROM' ref ('WHERE' cond)? ';'? (profile)
 unfoldable pub query : {A C : Type 0} → Reader (Query A C)
 query = do
   expect fault.Syntax k.Select
@@ -190,24 +194,25 @@ query = do
   expect fault.Syntax k.End
   pure (record { explain = explain.No; selection = selection; first = first; second = None; on = None; condition = condition })
 
--- the place of the bad token, where there is one
+-- the place of the bad token, where there is one (profile)
 abbrev pub bad_place : List Token → Option ℕ
 bad_place [] = None
 bad_place (t ∷ ts) = if same_kind t.kind k.Bad then Some t.at else bad_place ts
 
--- what was read, without the tokens that are left
+-- what was read, without the tokens that are left (profile)
 abbrev pub value_of : {A : Type 0} → Outcome QueryFault A → Result A QueryFault
 value_of (Ok p) = Ok p.0
 value_of (Err e) = Err e
 
+-- Q1 at a bad token, and else the query that the tokens are (profile)
 abbrev pub query_by : {A C : Type 0} → Option ℕ → List Token → Result (Query A C) QueryFault
 query_by (Some at) ts = Err (fault.Lex at)
 query_by None ts = value_of (query ts)
 
--- how many bytes a query may have
+-- how many bytes a query may have (profile)
 abbrev pub most_bytes : ℕ
 most_bytes = 65536
 
--- The query that a text is, or its fault: its length first, then its tokens, then its grammar.
+-- The query that a text is, or its fault: its length first, then its tokens, then its grammar (profile).
 unfoldable pub query_of : {A C : Type 0} → List ℕ → Result (Query A C) QueryFault
 query_of text = if nat_lt most_bytes (length text) then Err fault.TooLong else query_by (bad_place (tokens true text)) (tokens true text)
