@@ -277,6 +277,45 @@ fn texts_past_65536_bytes_are_refused(rt: HostRuntime) -> Result<(), Fail> {
     Ok(())
 }
 
+// A text, and then so many of another.
+fn followed(alloc: Global, text: &str, count: usize, more: &str) -> Result<String, AllocError> {
+    let mut whole = String::from_str(alloc, text)?;
+    for _ in 0..count {
+        whole.push_str(more)?;
+    }
+    Ok(whole)
+}
+
+// A schema of one table with so many columns after its key, each name a letter longer than the one before.
+fn wide_schema(alloc: Global, columns: usize) -> Result<String, AllocError> {
+    let mut schema = String::from_str(alloc, "CREATE TABLE t (id INT PRIMARY KEY")?;
+    let mut name = String::from_str(alloc, ", c")?;
+    for _ in 0..columns {
+        schema.push_str(name.as_str())?;
+        schema.push_str(" INT")?;
+        name.push_str("c")?;
+    }
+    schema.push_str(")")?;
+    Ok(schema)
+}
+
+#[test]
+fn one_past_a_limit_is_refused(rt: HostRuntime) -> Result<(), Fail> {
+    let wide = wide_schema(rt.alloc(), 32)?;
+    let run = run_over(&rt, wide.as_bytes(), TABLE.as_bytes(), QUERY)?;
+    assert_eq!(rt; run.err.bytes(), b"sfq: S5 at 718\n".as_slice());
+    assert_eq!(rt; run.status, 3);
+    let most = followed(rt.alloc(), "id,pop,name\n", 100_000, "1,,\n")?;
+    let run = run_over(&rt, SCHEMA.as_bytes(), most.as_bytes(), QUERY)?;
+    assert_eq!(rt; run.err.bytes(), b"sfq: t L9 record 2\n".as_slice());
+    let past = followed(rt.alloc(), most.as_str(), 1, "1,,\n")?;
+    let run = run_over(&rt, SCHEMA.as_bytes(), past.as_bytes(), QUERY)?;
+    assert_eq!(rt; run.err.bytes(), b"sfq: t L10\n".as_slice());
+    assert_eq!(rt; run.out.bytes(), b"".as_slice());
+    assert_eq!(rt; run.status, 4);
+    Ok(())
+}
+
 // Which reads and which put fail, counted from 1 (0: none does).
 #[derive(Clone, Copy)]
 struct Failing {
