@@ -10,3 +10,5 @@ pub mod LawfulSchemas
 pub mod QueryComplete
 pub mod SchemaSound
 pub mod SchemaLaws
+pub mod AsciiWords
+pub mod SchemaComplete

@@ -1,7 +1,9 @@
--- A text that is read as a schema is one.
+-- A text is read exactly where it is a schema, and as those tables.
 use Rattle.std.proofs.Common.{◌≡◌, ℕ, ◌≤◌, Bool, true, false, if◌then◌else◌, List, length, Option, Result, Ok, Err, IfOk, nat_lt, refl, subst}
-use Rattle.std.proofs.lemmas.Bool.{ltb-false}
+use Rattle.std.proofs.lemmas.Bool.{ltb-false, le-ltb}
+use Rattle.spatial_sql.proofs.AsciiWords.{tokens_ascii}
 use Rattle.spatial_sql.proofs.LawfulSchemas.{lawful-from_schema}
+use Rattle.spatial_sql.proofs.SchemaComplete.{schema_complete}
 use Rattle.spatial_sql.proofs.SchemaSound.{IfRead, schema_sound}
 use Rattle.spatial_sql.proofs.TokensEnd.{tokens_once}
 use Rattle.table_model.specs.declared.definitions.TableDef.{TableDef}
@@ -9,7 +11,7 @@ use Rattle.table_model.specs.declared.faults.SchemaFault.{SchemaFault}
 use Rattle.table_model.specs.declared.faults.SchemaFault.TheVariants as fault
 use Rattle.table_model.specs.Outcomes.{Gives}
 use Rattle.table_model.specs.Parsers.{Outcome}
-use Rattle.table_model.specs.SchemaGrammar.{AreTables, IsSchema}
+use Rattle.table_model.specs.SchemaGrammar.{AreTables, IsSchema, AnswersSchema}
 use Rattle.table_model.specs.SchemaReading.{most_bytes, value_of, schema, schema_of}
 use Rattle.table_model.specs.Tokens.{tokens}
 
@@ -32,3 +34,13 @@ schema_of_sound geometry text = by_length geometry text (nat_lt most_bytes (leng
 -- what is given as the text's schema is one
 pub given_is_schema : {T : Type 0} (geometry : List ℕ → Option T) (text : List ℕ) (tables : List (TableDef T)) → schema_of geometry text ≡ Ok tables → IsSchema geometry text tables
 given_is_schema geometry text tables e = subst (λ r. IfOk r (IsSchema geometry text)) e (schema_of_sound geometry text)
+
+schema_of_complete : {T : Type 0} (geometry : List ℕ → Option T) (text : List ℕ) (tables : List (TableDef T)) → IsSchema geometry text tables → schema_of geometry text ≡ Ok tables
+unfolding schema_of IsSchema
+schema_of_complete geometry text tables (short, are, grammar) =
+    rw (le-ltb most_bytes (length text) short, schema_complete geometry tables (tokens false text) grammar (tokens_ascii false text) are) refl
+
+-- whatever schema a text is, that one is given
+pub schema_is_given : {T : Type 0} (geometry : List ℕ → Option T) (text : List ℕ) (r : Result (List (TableDef T)) SchemaFault) → Gives fault.OutOfMemory (λ t. t) r (schema_of geometry text)
+    → AnswersSchema geometry text r
+schema_is_given geometry text r given tables is = subst (λ answer. Gives fault.OutOfMemory (λ t. t) r answer) (schema_of_complete geometry text tables is) given

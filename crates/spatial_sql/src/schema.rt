@@ -3,7 +3,7 @@
 ghost use Rattle.spatial_sql.specs.Outcomes.{ReadsAs};
 ghost use Rattle.std.specs.Prelude.{◌≡◌, IfOk, Ok};
 ghost use Rattle.table_model.specs.Outcomes.{Gives};
-ghost use Rattle.table_model.specs.SchemaGrammar.{IsSchema};
+ghost use Rattle.table_model.specs.SchemaGrammar.{AnswersSchema, IsSchema};
 ghost use Rattle.table_model.specs.SchemaReading as spec;
 
 use crate::cursor::Cursor;
@@ -77,6 +77,7 @@ fn read(alloc: Global, text: &[u8]) -> Result<Schema, SchemaFault>
 /// parenthesis of a table without key; or `OutOfMemory`.
 pub fn read_schema(alloc: Global, text: &[u8]) -> Result<Schema, SchemaFault>
     ensures ok { IfOk result (λ schema. IsSchema spec.no_geometry_type text.now schema) }
+    ensures only { AnswersSchema spec.no_geometry_type text.now result }
     ensures exact { Gives SchemaFault.OutOfMemory (λ schema. schema) result (spec.schema_of spec.no_geometry_type text.now) }
 {
     read(alloc, text)

@@ -1,7 +1,8 @@
 -- The grammar of schemas: a relation for each rule, between a tree and the tokens that are written for it (profile,
 -- after SQL's CREATE TABLE). Generic in what names a type of geometry.
-use Rattle.std.specs.Prelude.{◌≡◌, ◌≤◌, ◌⊎◌, ◌+◌, ℕ, Bool, true, false, if◌then◌else◌, List, [], ◌∷◌, map, codes, length, Option, Some}
+use Rattle.std.specs.Prelude.{◌≡◌, ◌≤◌, ◌⊎◌, ◌+◌, ℕ, Bool, true, false, if◌then◌else◌, List, [], ◌∷◌, map, codes, length, Option, Some, Result, Ok}
 use Rattle.table_model.specs.Definitions.{lawful}
+use Rattle.table_model.specs.Outcomes.{Gives}
 use Rattle.table_model.specs.QueryGrammar.{Phrase, IsOne, IsToken, ◌▸◌, IsOptional, IsParts}
 use Rattle.table_model.specs.SchemaReading.{type_named, most_bytes}
 use Rattle.table_model.specs.Texts.{same_name}
@@ -9,6 +10,8 @@ use Rattle.table_model.specs.Tokens.{tokens}
 use Rattle.table_model.specs.declared.definitions.ColumnType.{ColumnType}
 use Rattle.table_model.specs.declared.definitions.ColumnDef.{ColumnDef}
 use Rattle.table_model.specs.declared.definitions.TableDef.{TableDef}
+use Rattle.table_model.specs.declared.faults.SchemaFault.{SchemaFault}
+use Rattle.table_model.specs.declared.faults.SchemaFault.TheVariants as fault
 use Rattle.table_model.specs.declared.tokens.TokenKind.TheVariants as k
 
 -- a word, in any ASCII case (profile)
@@ -72,3 +75,7 @@ AreTables {T} geometry tables ts =
 -- A text is a schema: it isn't too long, its tokens are written for the tables, and these are lawful (profile).
 unfoldable pub IsSchema : {T : Type 0} → (List ℕ → Option T) → List ℕ → List (TableDef T) → Type 0
 IsSchema geometry text tables = (length text ≤ most_bytes) × (lawful tables ≡ true) × AreTables geometry tables (tokens false text)
+
+-- a reader of a text answers the tables whose schema it is, whichever those are; want of memory may stand in their place (profile)
+abbrev pub AnswersSchema : {T : Type 0} → (List ℕ → Option T) → List ℕ → Result (List (TableDef T)) SchemaFault → Type 0
+AnswersSchema {T} geometry text result = (tables : List (TableDef T)) → IsSchema geometry text tables → Gives fault.OutOfMemory (λ t. t) result (Ok tables)

@@ -1,5 +1,5 @@
 use Rattle.std.proofs.Common.{Result, Ok, Err, IfOk, List, ℕ}
-use Rattle.spatial_sql.proofs.SchemaLaws.{given_is_schema}
+use Rattle.spatial_sql.proofs.SchemaLaws.{given_is_schema, schema_is_given}
 use Rattle.table_model.specs.declared.definitions.TableDef.{TableDef}
 use Rattle.table_model.specs.declared.faults.SchemaFault.{SchemaFault}
 use Rattle.table_model.specs.declared.faults.SchemaFault.TheVariants as fault
@@ -16,3 +16,6 @@ is_schema text (Err e) h = tt
 
 pub returns-clause-ok : goal.returns-clause-ok
 returns-clause-ok c = is_schema c.args.text.now c.read.result c.read.ensures
+
+pub returns-clause-only : goal.returns-clause-only
+returns-clause-only c = schema_is_given spec.no_geometry_type c.args.text.now c.read.result c.read.ensures
