@@ -555,6 +555,6 @@ schema_complete geometry tables ts (inr (first, more, same, (used, tail, cut, p,
     some_read geometry (used ++ tail) (not_end used tail (tables_begin geometry more first used p)) in
     let ended : tables_from geometry (length (used ++ tail)) [] (used ++ tail) ≡ Ok (first ∷ more, n ∷ []) =
     tables_complete geometry more first (length (used ++ tail)) [] used tail n p (words_before used tail ascii) last
-        (turns_before k.Semicolon (IsTable geometry) more first used tail p (tail_there tail q))
-        (record { few = few_tables (length more) (leb-true (length (first ∷ more)) 16 parts.0); differ = others.0; each = others.1 }) in
+    (turns_before k.Semicolon (IsTable geometry) more first used tail p (tail_there tail q))
+    (record { few = few_tables (length more) (leb-true (length (first ∷ more)) 16 parts.0); differ = others.0; each = others.1 }) in
     all_read geometry tables ts n (ap (all_tables geometry) cut ∙ begun ∙ ended ∙ ap (λ l. Ok (l, n ∷ [])) (sym same)) end
