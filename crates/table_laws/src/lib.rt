@@ -3,3 +3,5 @@
 
 pub mod double_keys;
 pub mod loading;
+#[cfg(test)]
+mod tests;
