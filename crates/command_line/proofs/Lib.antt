@@ -1,1 +1,3 @@
+mod FilledRows
 mod OrderLemmas
+mod TakenWords

@@ -1,5 +1,5 @@
 -- What the words of a command line order, by `clap`'s own definition of a command's matches.
-use Rattle.std.specs.Prelude.{◌≡◌, List, Option, Some, true, codes, IsSome}
+use Rattle.std.specs.Prelude.{◌≡◌, ◌⊎◌, List, Option, Some, true, codes, IsSome}
 use Rattle.std.specs.String.{string_bytes}
 use Rattle.clap.specs.Words.{App, Row, Rule, Text, first_of, new_app, new_rule, subcommand_of, with_rule, with_subcommand}
 use Rattle.clap.specs.Simple.{on_top}
@@ -15,31 +15,50 @@ abbrev pub run : App
 run = with_rule (with_rule (with_rule (new_app (codes "run")) (required_word (codes "schema")))
     (required_word (codes "directory"))) (required_word (codes "query"))
 
+-- `relate WKT WKT` (profile)
+abbrev pub relate : App
+relate = with_rule (with_rule (new_app (codes "relate")) (required_word (codes "first")))
+    (required_word (codes "second"))
+
 -- `sfq`, with a subcommand that has to be there (profile)
 abbrev pub sfq : App
-sfq = with_subcommand
-    (on_top (λ s. record s { subcommand_required = true }) (new_app (codes "sfq"))) run.top
+sfq = with_subcommand (with_subcommand
+    (on_top (λ s. record s { subcommand_required = true }) (new_app (codes "sfq"))) run.top) relate.top
 
--- the subcommand is that of the order, and each text of the order is the word in its place (profile)
-abbrev pub OrdersBy : Option (Text × List Row) → Order → Type 0
-OrdersBy met (order.Run schema directory query) = (rows : List Row)
-    × (met ≡ Some (codes "run", rows))
-    × (first_of (codes "schema") rows ≡ Some (string_bytes schema))
+-- the name of the order's subcommand (profile)
+abbrev pub name_of : Order → Text
+name_of (order.Run schema directory query) = codes "run"
+name_of (order.Relate first second) = codes "relate"
+
+-- each text of the order is the word in its place (profile)
+abbrev pub HasTextsOf : List Row → Order → Type 0
+HasTextsOf rows (order.Run schema directory query) =
+    (first_of (codes "schema") rows ≡ Some (string_bytes schema))
     × (first_of (codes "directory") rows ≡ Some (string_bytes directory))
     × (first_of (codes "query") rows ≡ Some (string_bytes query))
+HasTextsOf rows (order.Relate first second) =
+    (first_of (codes "first") rows ≡ Some (string_bytes first))
+    × (first_of (codes "second") rows ≡ Some (string_bytes second))
+
+-- the subcommand is that of the order, and so are its words (profile)
+abbrev pub OrdersBy : Option (Text × List Row) → Order → Type 0
+OrdersBy met order = (rows : List Row) × (met ≡ Some (name_of order, rows)) × HasTextsOf rows order
 
 -- the words give this order (profile)
 abbrev pub Orders : List Text → Order → Type 0
 Orders words = OrdersBy (subcommand_of sfq words)
 
--- the subcommand is `run`, and each of its words is there (profile)
-abbrev pub HasWords : Option (Text × List Row) → Type 0
-HasWords met = (rows : List Row)
-    × (met ≡ Some (codes "run", rows))
-    × IsSome (first_of (codes "schema") rows)
+-- each word of `run` is there (profile)
+abbrev pub HasRunWords : List Row → Type 0
+HasRunWords rows = IsSome (first_of (codes "schema") rows)
     × IsSome (first_of (codes "directory") rows)
     × IsSome (first_of (codes "query") rows)
 
--- the words give some order (profile)
-abbrev pub HasOrder : List Text → Type 0
-HasOrder words = HasWords (subcommand_of sfq words)
+-- each word of `relate` is there (profile)
+abbrev pub HasRelateWords : List Row → Type 0
+HasRelateWords rows = IsSome (first_of (codes "first") rows) × IsSome (first_of (codes "second") rows)
+
+-- the subcommand is `run` or `relate`, and each of its words is there (profile)
+abbrev pub HasWords : Option (Text × List Row) → Type 0
+HasWords met = ((rows : List Row) × (met ≡ Some (codes "run", rows)) × HasRunWords rows)
+    ⊎ ((rows : List Row) × (met ≡ Some (codes "relate", rows)) × HasRelateWords rows)

@@ -12,4 +12,11 @@ pub enum Order {
         /// The text of the SELECT.
         query: String,
     },
+    /// Relate two geometries by their DE-9IM matrix.
+    Relate {
+        /// The well-known text of the first geometry.
+        first: String,
+        /// The well-known text of the second geometry.
+        second: String,
+    },
 }

@@ -1,10 +1,10 @@
 //! The commands of `sfq`, and how its words are read by them.
 
-ghost use Rattle.std.specs.Prelude.{◌≡◌, ◌≢◌, [], true, false, IfOk, IfErr, IfSome, IfNone, OnOk, option_map};
+ghost use Rattle.std.specs.Prelude.{◌≡◌, ◌≢◌, [], true, false, codes, IfOk, IfErr, IfSome, IfNone, OnOk, option_map};
 ghost use Rattle.std.specs.String.{string_bytes};
 ghost use Rattle.clap.specs.Walk.{texts};
-ghost use Rattle.clap.specs.Words.{app_of, rule_of, found_of, first_value, subcommand_rows_of, takes, fault_of, kind_of, HasKind};
-ghost use Rattle.command_line.specs.Orders.{Orders, OrdersBy, HasOrder, HasWords, required_word, run, sfq};
+ghost use Rattle.clap.specs.Words.{app_of, rule_of, rows_of, found_of, first_value, subcommand_rows_of, takes, fault_of, kind_of, HasKind};
+ghost use Rattle.command_line.specs.Orders.{Orders, OrdersBy, HasWords, HasTextsOf, HasRunWords, HasRelateWords, name_of, required_word, run, relate, sfq};
 
 use crate::commands::Order;
 use crate::misuse::Misuse;
@@ -13,36 +13,45 @@ use clap::{Arg, ArgMatches, Command};
 use std::alloc::{AllocError, Global};
 
 /// Reads the words of a command line, the program's name first, by `clap`. At Ok they are the
-/// command and its words. Where `clap` takes the words and they have an order, only want of memory
-/// is refused; where it refuses them, the misuse is of a kind that it names there. (Profile.)
+/// command and its words. Where `clap` takes the words, only want of memory is refused; where it
+/// refuses them, the misuse is of a kind that it names there. (Profile.)
 pub fn order<'a>(alloc: Global, words: &'a [&'a str]) -> Result<Order, Misuse>
     ensures ok { IfOk result (Orders (texts words.entry.now)) }
     ensures accepted { OnOk result (fault_of sfq (texts words.entry.now) ≡ []) }
     ensures taken { IfErr result (λ m. takes sfq (texts words.entry.now) ≡ true
-        → HasOrder (texts words.entry.now) → kind_of m.error ≡ ErrorKind.OutOfMemory) }
+        → kind_of m.error ≡ ErrorKind.OutOfMemory) }
     ensures refused { IfErr result (λ m. fault_of sfq (texts words.entry.now) ≢ []
         → HasKind (fault_of sfq (texts words.entry.now)) m.error) }
 {
     let mut command = sfq_command(alloc)?;
     let matches = command.try_get_matches_from_mut(words)?;
-    match read_run(alloc, &matches)? {
+    match read_order(alloc, &matches)? {
         Some(order) => Ok(order),
-        None => {
-            // The commands ask for all that is read here, so that `clap` answers before this.
-            let error = command.error(ErrorKind::MissingSubcommand, "a command is missing")?;
-            Err(Misuse { error })
-        }
+        // `clap` takes no words in which a command or one of its words is missing.
+        None => unreachable!(),
     }
 }
 
-// The order that the subcommand `run` and its three words give, if they are there.
-fn read_run(alloc: Global, matches: &ArgMatches<'_>) -> Result<Option<Order>, AllocError>
+// The order that the subcommand and its words give, if they are there.
+fn read_order(alloc: Global, matches: &ArgMatches<'_>) -> Result<Option<Order>, AllocError>
     ensures some { IfOk result (λ r. IfSome r (OrdersBy (subcommand_rows_of matches.now))) }
     ensures none { IfOk result (λ r. IfNone r (¬ HasWords (subcommand_rows_of matches.now))) }
 {
-    let Some(run) = matches.subcommand_matches("run") else {
-        return Ok(None);
-    };
+    if let Some(run) = matches.subcommand_matches("run") {
+        return read_run(alloc, run);
+    }
+    if let Some(relate) = matches.subcommand_matches("relate") {
+        return read_relate(alloc, relate);
+    }
+    Ok(None)
+}
+
+// The order that the three words of `run` give, if they are there.
+fn read_run(alloc: Global, run: &ArgMatches<'_>) -> Result<Option<Order>, AllocError>
+    ensures name { IfOk result (λ r. IfSome r (λ o. name_of o ≡ codes "run")) }
+    ensures some { IfOk result (λ r. IfSome r (HasTextsOf (rows_of (found_of run.now)))) }
+    ensures none { IfOk result (λ r. IfNone r (¬ HasRunWords (rows_of (found_of run.now)))) }
+{
     let Some(schema) = text_of(alloc, run, "schema")? else {
         return Ok(None);
     };
@@ -57,6 +66,21 @@ fn read_run(alloc: Global, matches: &ArgMatches<'_>) -> Result<Option<Order>, Al
         directory,
         query,
     }))
+}
+
+// The order that the two words of `relate` give, if they are there.
+fn read_relate(alloc: Global, relate: &ArgMatches<'_>) -> Result<Option<Order>, AllocError>
+    ensures name { IfOk result (λ r. IfSome r (λ o. name_of o ≡ codes "relate")) }
+    ensures some { IfOk result (λ r. IfSome r (HasTextsOf (rows_of (found_of relate.now)))) }
+    ensures none { IfOk result (λ r. IfNone r (¬ HasRelateWords (rows_of (found_of relate.now)))) }
+{
+    let Some(first) = text_of(alloc, relate, "first")? else {
+        return Ok(None);
+    };
+    let Some(second) = text_of(alloc, relate, "second")? else {
+        return Ok(None);
+    };
+    Ok(Some(Order::Relate { first, second }))
 }
 
 // The word of this name, as a text of its own.
@@ -77,7 +101,9 @@ fn sfq_command<'a>(alloc: Global) -> Result<Command<'a>, AllocError>
     let command = Command::new(alloc, "sfq")
         .about(about)
         .subcommand_required(true);
-    command.subcommand(run_command(alloc)?)
+    command
+        .subcommand(run_command(alloc)?)?
+        .subcommand(relate_command(alloc)?)
 }
 
 // `run SCHEMA DIR QUERY`
@@ -104,6 +130,27 @@ fn run_command<'a>(alloc: Global) -> Result<Command<'a>, AllocError>
     );
     let run = Command::new(alloc, "run").about("Writes the rows that a SELECT means, as CSV");
     run.arg(schema)?.arg(directory)?.arg(query)
+}
+
+// `relate WKT WKT`
+fn relate_command<'a>(alloc: Global) -> Result<Command<'a>, AllocError>
+    ensures { IfOk result (λ c. app_of c ≡ relate) }
+{
+    let first = word(
+        alloc,
+        "first",
+        "WKT",
+        "The first geometry, such as POINT(1 2)",
+    );
+    let second = word(
+        alloc,
+        "second",
+        "WKT",
+        "The second geometry, such as MULTIPOINT((1 2),(3 4))",
+    );
+    let about = "Writes the DE-9IM matrix of two geometries in well-known text";
+    let relate = Command::new(alloc, "relate").about(about);
+    relate.arg(first)?.arg(second)
 }
 
 // A required word in its place.

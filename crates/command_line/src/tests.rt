@@ -19,7 +19,10 @@ fn run_has_its_three_words(rt: HostRuntime) -> Result<(), Fail> {
         schema,
         directory,
         query,
-    } = order(rt.alloc(), words.as_slice()).ok().ok_or("an order")?;
+    } = order(rt.alloc(), words.as_slice()).ok().ok_or("an order")?
+    else {
+        return Err(Fail::from("run"));
+    };
     assert_eq!(rt; schema.as_str(), "schema.sql");
     assert_eq!(rt; directory.as_str(), "data");
     assert_eq!(rt; query.as_str(), "SELECT id FROM t");
@@ -29,8 +32,25 @@ fn run_has_its_three_words(rt: HostRuntime) -> Result<(), Fail> {
 #[test]
 fn a_query_that_begins_with_a_comment_follows_two_hyphens(rt: HostRuntime) -> Result<(), Fail> {
     let words = ["sfq", "run", "--", "a", "b", "-- c"];
-    let Order::Run { query, .. } = order(rt.alloc(), words.as_slice()).ok().ok_or("an order")?;
+    let Order::Run { query, .. } = order(rt.alloc(), words.as_slice()).ok().ok_or("an order")?
+    else {
+        return Err(Fail::from("run"));
+    };
     assert_eq!(rt; query.as_str(), "-- c");
+    Ok(())
+}
+
+#[test]
+fn relate_has_its_two_words(rt: HostRuntime) -> Result<(), Fail> {
+    let words = ["sfq", "relate", "POINT(1 2)", "MULTIPOINT((1 2),(3 4))"];
+    let Order::Relate { first, second } = order(rt.alloc(), words.as_slice())
+        .ok()
+        .ok_or("an order")?
+    else {
+        return Err(Fail::from("relate"));
+    };
+    assert_eq!(rt; first.as_str(), "POINT(1 2)");
+    assert_eq!(rt; second.as_str(), "MULTIPOINT((1 2),(3 4))");
     Ok(())
 }
 
@@ -41,6 +61,12 @@ fn mistakes_end_with_2(rt: HostRuntime) {
     assert_eq!(rt; misuse_status(&rt, &["sfq", "run", "a", "b"]), Some(2));
     assert_eq!(rt;
         misuse_status(&rt, &["sfq", "run", "a", "b", "c", "d"]),
+        Some(2)
+    );
+    assert_eq!(rt; misuse_status(&rt, &["sfq", "relate"]), Some(2));
+    assert_eq!(rt; misuse_status(&rt, &["sfq", "relate", "a"]), Some(2));
+    assert_eq!(rt;
+        misuse_status(&rt, &["sfq", "relate", "a", "b", "c"]),
         Some(2)
     );
     assert_eq!(rt;
@@ -58,6 +84,7 @@ fn help_ends_with_0(rt: HostRuntime) {
     assert_eq!(rt; misuse_status(&rt, &["sfq", "--help"]), Some(0));
     assert_eq!(rt; misuse_status(&rt, &["sfq", "help"]), Some(0));
     assert_eq!(rt; misuse_status(&rt, &["sfq", "run", "-h"]), Some(0));
+    assert_eq!(rt; misuse_status(&rt, &["sfq", "help", "relate"]), Some(0));
 }
 
 #[test]
@@ -76,5 +103,9 @@ fn texts_tell_what_is_wrong(rt: HostRuntime) -> Result<(), Fail> {
     let help = order(alloc, &["sfq", "run", "--help"]).err().ok_or("help")?;
     assert!(rt; help.to_string(alloc)?.contains("<SCHEMA> <DIR> <QUERY>"));
     assert!(rt; help.print(&rt).is_ok());
+    let help = order(alloc, &["sfq", "relate", "--help"])
+        .err()
+        .ok_or("help")?;
+    assert!(rt; help.to_string(alloc)?.contains("<WKT> <WKT>"));
     Ok(())
 }

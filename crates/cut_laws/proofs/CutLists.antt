@@ -100,12 +100,12 @@ end_is_cut : (es : List Edge) (ps : List Position) (e : Edge) → Among e es →
 end_is_cut es ps e a q (inl g) = subst (IsLeastCut es ps) (sym g) record {
   is_point = position_is_point e.start;
   is_least = position_is_least e.start;
-  is_cut = IsCut.AtEnd e (contains_from_among es e a) (or_first (same_point (point_at e.start) (point_at e.start)) (same_point (point_at e.end) (point_at e.start)) (same_reflexive (point_at e.start)));
+  is_cut = IsCut.AtEnd (position_is_point e.start) e (contains_from_among es e a) (or_first (same_point (point_at e.start) (point_at e.start)) (same_point (point_at e.end) (point_at e.start)) (same_reflexive (point_at e.start)));
 }
 end_is_cut es ps e a q (inr (inl g)) = subst (IsLeastCut es ps) (sym g) record {
   is_point = position_is_point e.end;
   is_least = position_is_least e.end;
-  is_cut = IsCut.AtEnd e (contains_from_among es e a) (or_second (same_point (point_at e.start) (point_at e.end)) (same_point (point_at e.end) (point_at e.end)) (same_reflexive (point_at e.end)));
+  is_cut = IsCut.AtEnd (position_is_point e.end) e (contains_from_among es e a) (or_second (same_point (point_at e.start) (point_at e.end)) (same_point (point_at e.end) (point_at e.end)) (same_reflexive (point_at e.end)));
 }
 end_is_cut es ps e a q (inr (inr c)) = absurd c
 
@@ -113,14 +113,14 @@ listed_is_cut : (es : List Edge) (ps : List Position) (a : Position) → Among a
 listed_is_cut es ps a h q g = subst (IsLeastCut es ps) (sym g) record {
   is_point = position_is_point a;
   is_least = position_is_least a;
-  is_cut = IsCut.Listed a (contains_from_among ps a h) (same_reflexive (point_at a));
+  is_cut = IsCut.Listed (position_is_point a) a (contains_from_among ps a h) (same_reflexive (point_at a));
 }
 
 crossing_is_cut : (es : List Edge) (ps : List Position) (e f : Edge) → Among e es → Among f es → (q : Point) → IsCrossing e f q → IsLeastCut es ps q
 crossing_is_cut es ps e f a b q h = record {
   is_point = h.is_point;
   is_least = h.is_least;
-  is_cut = IsCut.AtCrossing e f (contains_from_among es e a) (contains_from_among es f b) h.apart h.on_first h.on_second;
+  is_cut = IsCut.AtCrossing h.is_point e f (contains_from_among es e a) (contains_from_among es f b) h.apart h.on_first h.on_second;
 }
 
 pub cut_is_cut : (es : List Edge) (ps : List Position) (q : Point) → Among q (all_cuts es ps) → IsLeastCut es ps q
@@ -157,13 +157,13 @@ in_crossings : (es : List Edge) (ps : List Position) (q : Point) → Among q (fl
 in_crossings es ps q a = among_right q (flat_map end_points es ++ map point_at ps) _ a
 
 pub cut_found : (es : List Edge) (ps : List Position) (p : Point) → IsPoint p → IsCut es ps p → Some_of (λ q. same_point q p ≡ true) (all_cuts es ps)
-cut_found es ps p hp (IsCut.AtEnd e c h) = go (or_either (same_point (point_at e.start) p) (same_point (point_at e.end) p) h)
+cut_found es ps p hp (IsCut.AtEnd _ e c h) = go (or_either (same_point (point_at e.start) p) (same_point (point_at e.end) p) h)
   where
     go : (same_point (point_at e.start) p ≡ true) ⊎ (same_point (point_at e.end) p ≡ true) → Some_of (λ q. same_point q p ≡ true) (all_cuts es ps)
     go (inl g) = record { found = point_at e.start; among = in_ends es ps (point_at e.start) (flat_map_among end_points es e (point_at e.start) (among_from_contains es e c) (inl refl)); has = g }
     go (inr g) = record { found = point_at e.end; among = in_ends es ps (point_at e.end) (flat_map_among end_points es e (point_at e.end) (among_from_contains es e c) (inr (inl refl))); has = g }
-cut_found es ps p hp (IsCut.Listed a c h) = record { found = point_at a; among = in_listed es ps (point_at a) (map_among point_at ps a (among_from_contains ps a c)); has = h }
-cut_found es ps p hp (IsCut.AtCrossing e f c d apart he hf) = go (crossing_found e f p hp apart he hf)
+cut_found es ps p hp (IsCut.Listed _ a c h) = record { found = point_at a; among = in_listed es ps (point_at a) (map_among point_at ps a (among_from_contains ps a c)); has = h }
+cut_found es ps p hp (IsCut.AtCrossing _ e f c d apart he hf) = go (crossing_found e f p hp apart he hf)
   where
     go : Some_of (λ q. same_point q p ≡ true) (crossings e f) → Some_of (λ q. same_point q p ≡ true) (all_cuts es ps)
     go s = record {

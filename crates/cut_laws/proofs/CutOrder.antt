@@ -14,13 +14,13 @@ use Rattle.cut_laws.proofs.CutLists.{IsLeastCut, all_cuts, cut_is_cut, cut_found
 
 -- ---- a cut is one by each of its triples
 pub cut_of_same : (es : List Edge) (ps : List Position) (p q : Point) → IsPoint p → IsPoint q → same_point p q ≡ true → IsCut es ps p → IsCut es ps q
-cut_of_same es ps p q hp hq same (IsCut.AtEnd e c h) = IsCut.AtEnd e c (go (or_either (same_point (point_at e.start) p) (same_point (point_at e.end) p) h))
+cut_of_same es ps p q hp hq same (IsCut.AtEnd _ e c h) = IsCut.AtEnd hq e c (go (or_either (same_point (point_at e.start) p) (same_point (point_at e.end) p) h))
   where
     go : (same_point (point_at e.start) p ≡ true) ⊎ (same_point (point_at e.end) p ≡ true) → (same_point (point_at e.start) q || same_point (point_at e.end) q) ≡ true
     go (inl g) = or_first (same_point (point_at e.start) q) (same_point (point_at e.end) q) (same_transitive (point_at e.start) p q hp g same)
     go (inr g) = or_second (same_point (point_at e.start) q) (same_point (point_at e.end) q) (same_transitive (point_at e.end) p q hp g same)
-cut_of_same es ps p q hp hq same (IsCut.Listed a c h) = IsCut.Listed a c (same_transitive (point_at a) p q hp h same)
-cut_of_same es ps p q hp hq same (IsCut.AtCrossing e f c d apart he hf) = IsCut.AtCrossing e f c d apart
+cut_of_same es ps p q hp hq same (IsCut.Listed _ a c h) = IsCut.Listed hq a c (same_transitive (point_at a) p q hp h same)
+cut_of_same es ps p q hp hq same (IsCut.AtCrossing _ e f c d apart he hf) = IsCut.AtCrossing hq e f c d apart
     (sym (on_respects e p q hp hq same) ∙ he) (sym (on_respects f p q hp hq same) ∙ hf)
 
 -- ---- which points are listed

@@ -9,6 +9,7 @@ use Rattle.geometry_model.specs.Pieces.{Piece, IsPiece, pieces_of_edge, compare_
 use Rattle.geometry_model.proofs.LeastFormFacts.{least_is_unique}
 use Rattle.geometry_laws.proofs.PointOrder.{same_symmetric, equal_is_same}
 use Rattle.geometry_laws.proofs.Respect.{on_respects}
+use Rattle.geometry_laws.proofs.Cuts.{piece_ends}
 use Rattle.geometry_laws.proofs.Each.{Each, Among, each_of}
 use Rattle.cut_laws.proofs.Lists.{Some_of, among_from_contains, contains_from_among, among_flat_map, flat_map_among, among_filter, filter_among}
 use Rattle.cut_laws.proofs.Sorted.{Sorted, Ties, among_ascending, ascending_among, ascending-sorted, filter-sorted, pairs_from_sorted}
@@ -122,10 +123,10 @@ piece_is_listed es ps c hl hg ll lg h = go (ascending_among compare_pieces (all_
     go : Some_of (Ties compare_pieces c) (pieces (cut_points es ps) es) → Among c (pieces (cut_points es ps) es)
     go s = subst (λ d. Among d (pieces (cut_points es ps) es)) (tied s.found (piece_is es ps s.found s.among) s.has) s.among
 
-pub pieces_are_pieces : (es : List Edge) (ps : List Position) (c : Piece) → IsPoint c.lesser → IsPoint c.greater → IsLeast c.lesser → IsLeast c.greater
+pub pieces_are_pieces : (es : List Edge) (ps : List Position) (c : Piece) → IsLeast c.lesser → IsLeast c.greater
     → IsPiece es ps c ↔ Contains (pieces (cut_points es ps) es) c
-pieces_are_pieces es ps c hl hg ll lg = (
-  λ h. contains_from_among (pieces (cut_points es ps) es) c (piece_is_listed es ps c hl hg ll lg h),
+pieces_are_pieces es ps c ll lg = (
+  λ h. contains_from_among (pieces (cut_points es ps) es) c (piece_is_listed es ps c (piece_ends es ps c h).lesser (piece_ends es ps c h).greater ll lg h),
   λ h. (piece_is es ps c (among_from_contains (pieces (cut_points es ps) es) c h)).is_piece,
 )
 

@@ -69,9 +69,9 @@ moved : {X : Type 0} (xs ys : List X) (x : X) → SameMembers xs ys → Contains
 moved xs ys x m c = contains_from_among ys x (m.there x (among_from_contains xs x c))
 
 same_cut : (es fs : List Edge) (ps qs : List Position) → SameParts es fs ps qs → (p : Point) → IsCut es ps p → IsCut fs qs p
-same_cut es fs ps qs h p (IsCut.AtEnd e c k) = IsCut.AtEnd e (moved es fs e h.same_edges c) k
-same_cut es fs ps qs h p (IsCut.Listed a c k) = IsCut.Listed a (moved ps qs a h.same_positions c) k
-same_cut es fs ps qs h p (IsCut.AtCrossing e f c d apart he hf) = IsCut.AtCrossing e f (moved es fs e h.same_edges c) (moved es fs f h.same_edges d) apart he hf
+same_cut es fs ps qs h p (IsCut.AtEnd hp e c k) = IsCut.AtEnd hp e (moved es fs e h.same_edges c) k
+same_cut es fs ps qs h p (IsCut.Listed hp a c k) = IsCut.Listed hp a (moved ps qs a h.same_positions c) k
+same_cut es fs ps qs h p (IsCut.AtCrossing hp e f c d apart he hf) = IsCut.AtCrossing hp e f (moved es fs e h.same_edges c) (moved es fs f h.same_edges d) apart he hf
 
 same_piece : (es fs : List Edge) (ps qs : List Position) → SameParts es fs ps qs → (c : Piece) → IsPiece es ps c → IsPiece fs qs c
 same_piece es fs ps qs h c k = record {

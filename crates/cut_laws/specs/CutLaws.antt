@@ -22,7 +22,7 @@ CutPointsAscend = (es : List Edge) (ps : List Position) → AllPairs (λ p q. co
 
 -- the list of pieces holds exactly the pieces, their ends being in least form (profile)
 abbrev pub PiecesArePieces : Type 0
-PiecesArePieces = (es : List Edge) (ps : List Position) (c : Piece) → IsPoint c.lesser → IsPoint c.greater → IsLeast c.lesser → IsLeast c.greater
+PiecesArePieces = (es : List Edge) (ps : List Position) (c : Piece) → IsLeast c.lesser → IsLeast c.greater
     → IsPiece es ps c ↔ Contains (pieces (cut_points es ps) es) c
 
 -- it is in ascending order, each piece once (profile)

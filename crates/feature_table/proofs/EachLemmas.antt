@@ -1,5 +1,6 @@
 -- Answers taken in turn, up to the first fault.
 use Rattle.std.proofs.Common.{◌≡◌, ◌∙◌, ◌+◌, ◌++◌, ◌<◌, ◌≤◌, ℕ, zero, suc, List, [], ◌∷◌, Result, Ok, Err, ap, arith, get_or, length, map, refl, sym, take}
+use Rattle.std.specs.Prelude.{IsOk}
 use Rattle.std.proofs.lemmas.List.{map-append, take_all, take_more}
 use Rattle.table_model.specs.Loading.{each}
 
@@ -32,3 +33,7 @@ all-ok {F = F} (x ∷ front) = rw (all-ok {F = F} front) refl
 pub passed_all : {A F : Type 0} (answers : List (Result A F)) (i : ℕ) (front : List A) → length answers ≤ i → Passed answers i front
     → each answers ≡ Ok front
 passed_all answers i front past so_far = ap each (sym (take_all i answers past) ∙ so_far) ∙ all-ok front
+
+-- those before a place are no faults
+pub passed_front : {A F : Type 0} (answers : List (Result A F)) (i : ℕ) (front : List A) → Passed answers i front → IsOk (each (take i answers))
+passed_front {F = F} answers i front so_far = rw (so_far, all-ok {F = F} front) refl

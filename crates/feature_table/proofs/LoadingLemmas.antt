@@ -4,10 +4,10 @@ use Rattle.std.proofs.lemmas.Bool.Decides.{nat_tests}
 use Rattle.std.proofs.lemmas.List.{get_or-map, length-map}
 use Rattle.std.proofs.lemmas.List.FromFn.{get_or-enumerate_from, length-enumerate_from}
 use Rattle.std.specs.List.{enumerate_from}
-use Rattle.csv.specs.declared.reader.Reader.{Reader}
 use Rattle.feature_table.proofs.EachLemmas.{Passed, passed_all, passed_fault, passed_more}
-use Rattle.feature_table.specs.Reading.{StillGives}
+use Rattle.feature_table.specs.Records.{Gives}
 use Rattle.feature_table.specs.Stage.{no_geometry}
+use Rattle.feature_table.specs.declared.records.Records.{Records}
 use Rattle.table_model.specs.Loading.{Record, checked_row, checked_rows, row_limit, row_of, rows_of}
 use Rattle.table_model.specs.Meanings.{Row}
 use Rattle.table_model.specs.declared.definitions.TableDef.{TableDef}
@@ -16,9 +16,9 @@ use Rattle.table_model.specs.declared.faults.LoadFault.TheVariants as fault
 use Rattle.table_model.specs.declared.values.NoGeometry.{NoGeometry}
 
 -- so many records are rows, and a reader still gives the rest
-pub record Midway {R : Type 0} (remaining : R → Option (List ℕ)) (reader : Reader R) (table : TableDef NoGeometry) (header : Record) (records : List Record)
+pub record Midway {R : Type 0} (remaining : R → Option (List ℕ)) (reader : Records R) (table : TableDef NoGeometry) (header : Record) (records : List Record)
     (place : ℕ) (rows : List (Row NoGeometry)) : Type 0 where
-  pub gives : StillGives remaining reader (drop place records)
+  pub gives : Gives remaining reader (drop place records)
   pub passed : Passed (checked_rows no_geometry table header records) place rows
 
 -- what stands at a place
@@ -49,9 +49,9 @@ row_at table header records i x d within here =
     let size = length-enumerate_from 1 records in
     get_or-map (checked_row no_geometry table header) (enumerate_from 1 records) i (0, x) d (omega (arith, size)) ∙ ap (checked_row no_geometry table header) pair
 
-pub midway_more : {R : Type 0} (remaining : R → Option (List ℕ)) (old new : Reader R) (table : TableDef NoGeometry) (header : Record) (records : List Record)
+pub midway_more : {R : Type 0} (remaining : R → Option (List ℕ)) (old new : Records R) (table : TableDef NoGeometry) (header : Record) (records : List Record)
     (place : ℕ) (rows : List (Row NoGeometry)) (first : Record) (more : List Record) (row : Row NoGeometry) → Midway remaining old table header records place rows
-    → drop place records ≡ first ∷ more → checked_row no_geometry table header (place + 1, first) ≡ Ok row → StillGives remaining new more
+    → drop place records ≡ first ∷ more → checked_row no_geometry table header (place + 1, first) ≡ Ok row → Gives remaining new more
     → Midway remaining new table header records (place + 1) (rows ++ row ∷ [])
 midway_more remaining old new table header records place rows first more row m takes is gives =
     let at = at_place records place first more takes in
@@ -63,7 +63,7 @@ midway_more remaining old new table header records place rows first more row m t
       passed = passed_more (checked_rows no_geometry table header records) place rows row d (omega (arith, size, at.0)) m.passed here;
     }
 
-pub midway_fault : {R : Type 0} (remaining : R → Option (List ℕ)) (old : Reader R) (table : TableDef NoGeometry) (header : Record) (records : List Record)
+pub midway_fault : {R : Type 0} (remaining : R → Option (List ℕ)) (old : Records R) (table : TableDef NoGeometry) (header : Record) (records : List Record)
     (place : ℕ) (rows : List (Row NoGeometry)) (first : Record) (more : List Record) (f : LoadFault) → Midway remaining old table header records place rows
     → drop place records ≡ first ∷ more → checked_row no_geometry table header (place + 1, first) ≡ Err f
     → rows_of no_geometry table header records ≡ Err f
@@ -75,7 +75,7 @@ midway_fault remaining old table header records place rows first more f m takes 
     let here = row_at table header records place first d at.0 at.1 ∙ is in
     passed_fault (checked_rows no_geometry table header records) place rows f d (omega (arith, size, at.0)) m.passed here
 
-pub midway_end : {R : Type 0} (remaining : R → Option (List ℕ)) (old : Reader R) (table : TableDef NoGeometry) (header : Record) (records : List Record)
+pub midway_end : {R : Type 0} (remaining : R → Option (List ℕ)) (old : Records R) (table : TableDef NoGeometry) (header : Record) (records : List Record)
     (place : ℕ) (rows : List (Row NoGeometry)) → Midway remaining old table header records place rows → drop place records ≡ []
     → rows_of no_geometry table header records ≡ Ok rows
 unfolding rows_of

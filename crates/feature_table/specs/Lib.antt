@@ -2,6 +2,7 @@ pub mod Cells
 pub mod Stage
 pub mod Layouts
 pub mod Reading
+pub mod Records
 pub mod Outcomes
 pub mod RowReading
 pub mod Tables

@@ -1,9 +1,9 @@
 //! Databases: the tables of a schema.
 
-ghost use Rattle.std.specs.Prelude.{◌≡◌, ◌<◌, ℕ, IfOk, List, Some, length, map, slice_get};
+ghost use Rattle.std.specs.Prelude.{◌≡◌, ◌<◌, ℕ, IfErr, IfOk, List, Some, length, map, slice_get};
 ghost use Rattle.std.specs.List.{slice_index_or};
 ghost use Rattle.feature_table.specs.Outcomes.{LoadsTable};
-ghost use Rattle.feature_table.specs.Tables.{table_in, tables_in};
+ghost use Rattle.feature_table.specs.Tables.{EarlierLoad, table_in, tables_in};
 ghost use Rattle.table_model.specs.Databases.{at_table};
 ghost use Rattle.table_model.specs.declared.definitions.TableDef.{TableDef as Definition};
 ghost use Rattle.table_model.specs.declared.values.NoGeometry.{NoGeometry};
@@ -42,7 +42,8 @@ fn load_table<R: Read + Drop>(
     reader: R,
 ) -> Result<Table, TableFault>
     requires { place < length schema.now }
-    ensures { (text : List ℕ) (d : Definition NoGeometry) → R.remaining reader ≡ Some text
+    ensures place { IfErr result (λ f. f.table ≡ place) }
+    ensures loads { (text : List ℕ) (d : Definition NoGeometry) → R.remaining reader ≡ Some text
         → LoadsTable (λ t. t) result (at_table place (table_in (slice_index_or schema.now place d) text)) }
 {
     match Table::load(alloc, schema.table(place), reader) {
@@ -56,7 +57,8 @@ fn load_table<R: Read + Drop>(
 
 impl<'s> Database<'s> {
     /// Loads the tables of a schema in its order, each from the CSV text of one reader. The answer is the first
-    /// fault where there is one, with its table: `Table::load` says which.
+    /// fault where there is one, with its table: `Table::load` says which. So also a fault of reading is that of the
+    /// first table whose reading failed: each table before it has loaded.
     pub fn load<R: Read + Drop>(
         alloc: Global,
         schema: &'s Schema,
@@ -66,6 +68,8 @@ impl<'s> Database<'s> {
         ensures schema { IfOk result (λ d. d.definitions ≡ schema.entry.now) }
         ensures loads { (texts : List (List ℕ)) → map R.remaining readers.items ≡ map Some texts
             → LoadsTable (λ d. d.tables) result (tables_in schema.entry.now texts) }
+        ensures earlier { (texts : List (List ℕ)) → map R.remaining readers.items ≡ map Some texts
+            → IfErr result (λ f. EarlierLoad schema.entry.now texts f.table) }
     {
         let mut tables = Vec::new(alloc);
         for (place, reader) in readers.into_iter().enumerate() {

@@ -1,7 +1,8 @@
 //! The value of a field.
 
-ghost use Rattle.std.specs.Prelude.{◌≡◌, ◌≤◌, drop, length, reverse};
+ghost use Rattle.std.specs.Prelude.{◌≡◌, ◌≤◌, IfErr, drop, false, length, reverse};
 ghost use Rattle.std.specs.List.{prefix_len};
+ghost use Rattle.feature_table.specs.Outcomes.{is_of_reading};
 ghost use Rattle.feature_table.specs.Stage.{no_geometry};
 ghost use Rattle.table_model.specs.Loading as spec;
 ghost use Rattle.table_model.specs.Outcomes.{Gives};
@@ -83,7 +84,8 @@ pub(crate) fn value_of(
     column_type: &ColumnType,
     field: &[u8],
 ) -> Result<Value<NoGeometry>, LoadFault>
-    ensures { Gives fault.OutOfMemory (λ v. v) result (spec.value_of no_geometry number required column_type.now field.now) }
+    ensures not_reading { IfErr result (λ f. is_of_reading f ≡ false) }
+    ensures value { Gives fault.OutOfMemory (λ v. v) result (spec.value_of no_geometry number required column_type.now field.now) }
 {
     if field.is_empty() {
         if required {

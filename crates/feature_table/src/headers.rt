@@ -1,9 +1,10 @@
 //! Where the columns of a table stand in a header.
 
-ghost use Rattle.std.specs.Prelude.{◌≡◌, ◌≢◌, [], IfErr, IfOk, MatchResult, None, Some, length, vec_len};
+ghost use Rattle.std.specs.Prelude.{◌≡◌, ◌≢◌, [], IfErr, IfOk, MatchResult, None, Some, false, length, vec_len};
 ghost use Rattle.std.specs.List.{slice_index_or};
 ghost use Rattle.csv.specs.Records.{fields_of};
 ghost use Rattle.feature_table.specs.Layouts.{IsLayout};
+ghost use Rattle.feature_table.specs.Outcomes.{is_of_reading};
 ghost use Rattle.table_model.specs.Loading as spec;
 ghost use Rattle.table_model.specs.declared.faults.LoadFault.TheVariants as fault;
 
@@ -31,7 +32,8 @@ pub(crate) fn field_at(record: &ByteRecord, place: usize) -> &[u8]
 
 /// The place of the one field of a header that has this name.
 fn place_of(header: &ByteRecord, name: &[u8]) -> Result<usize, LoadFault>
-    ensures { MatchResult result
+    ensures not_reading { IfErr result (λ f. is_of_reading f ≡ false) }
+    ensures place { MatchResult result
         (λ place. (spec.name_fault (fields_of header.now) name.now ≡ None) × (place ≡ spec.place_in (fields_of header.now) name.now))
         (λ f. spec.name_fault (fields_of header.now) name.now ≡ Some f) }
 {
@@ -55,6 +57,7 @@ pub(crate) fn layout_of(
 ) -> Result<Layout, LoadFault>
     ensures size { IfOk result (λ layout. vec_len layout.places ≡ length columns.now) }
     ensures ok { IfOk result (λ layout. (spec.header_fault columns.now (fields_of header.now) ≡ None) × IsLayout columns.now (fields_of header.now) layout) }
+    ensures not_reading { IfErr result (λ f. is_of_reading f ≡ false) }
     ensures fault { IfErr result (λ f. f ≢ fault.OutOfMemory → spec.header_fault columns.now (fields_of header.now) ≡ Some f) }
 {
     let mut places = Vec::with_capacity(alloc, columns.len())?;

@@ -1,6 +1,7 @@
 //! Feature keys: two rows of one key, and the order of rows.
 
-ghost use Rattle.std.specs.Prelude.{◌≡◌, ◌≢◌, IfErr, IfOk, Ok, Err, OnOk, map};
+ghost use Rattle.std.specs.Prelude.{◌≡◌, ◌≢◌, IfErr, IfOk, Ok, Err, OnOk, false, map};
+ghost use Rattle.feature_table.specs.Outcomes.{is_of_reading};
 ghost use Rattle.table_model.specs.Loading as spec;
 ghost use Rattle.table_model.specs.declared.faults.LoadFault.TheVariants as fault;
 
@@ -46,6 +47,7 @@ pub(crate) fn order_by_key(
     key: usize,
 ) -> Result<(), LoadFault>
     ensures ok { OnOk result (spec.keyed_rows key rows.old.items ≡ Ok rows.new.items) }
+    ensures not_reading { IfErr result (λ f. is_of_reading f ≡ false) }
     ensures fault { IfErr result (λ f. f ≢ fault.OutOfMemory → spec.keyed_rows key rows.old.items ≡ Err f) }
 {
     match double_key(alloc, rows.as_slice(), key)? {

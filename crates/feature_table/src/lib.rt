@@ -8,7 +8,7 @@ mod fields;
 mod headers;
 mod keys;
 mod loading;
-mod reading;
+pub mod records;
 mod rows;
 pub mod schemas;
 pub mod tables;
@@ -17,6 +17,7 @@ mod tests;
 
 pub use cells::Field;
 pub use databases::Database;
+pub use records::Records;
 pub use schemas::{ColumnDef, ColumnType, Schema, TableDef, lawful};
 pub use table_model::faults::{LoadFault, TableFault};
 pub use tables::{Row, Table};

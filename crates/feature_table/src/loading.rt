@@ -1,18 +1,18 @@
 //! The rows of a table, read record by record.
 
-ghost use Rattle.std.specs.Prelude.{◌≡◌, List, OnOk, length, vec_len};
+ghost use Rattle.std.specs.Prelude.{◌≡◌, ◌+◌, ◌<◌, ◌≤◌, IfErr, List, OnOk, length, true, vec_len};
 ghost use Rattle.feature_table.specs.Layouts.{IsLayout};
-ghost use Rattle.feature_table.specs.Outcomes.{Loads};
-ghost use Rattle.feature_table.specs.Reading.{IsSteady, StillGives};
+ghost use Rattle.feature_table.specs.Outcomes.{Loads, is_of_reading};
+ghost use Rattle.feature_table.specs.Records.{Gives, IsReady, asked, read_failed, record_limit};
 ghost use Rattle.feature_table.specs.RowReading.{TakesRow};
 ghost use Rattle.feature_table.specs.Stage.{no_geometry};
-ghost use Rattle.table_model.specs.Loading.{Record, rows_of};
+ghost use Rattle.table_model.specs.Loading as spec;
 
 use crate::headers::Layout;
-use crate::reading::next_record;
+use crate::records::{Records, next_record};
 use crate::rows::{ROW_LIMIT, checked_row};
 use crate::schemas::TableDef;
-use csv::{ByteRecord, Reader};
+use csv::ByteRecord;
 use sqlite_items::Items;
 use std::alloc::Global;
 use std::io::Read;
@@ -25,16 +25,19 @@ fn next_row<R: Read + Drop>(
     table: &TableDef,
     layout: &Layout,
     number: usize,
-    reader: &mut Reader<R>,
+    records: &mut Records<R>,
     record: &mut ByteRecord,
 ) -> Result<Option<Items<Value<NoGeometry>>>, LoadFault>
     requires size { vec_len layout.now.places ≡ length table.now.columns }
-    requires steady { IsSteady reader.old }
-    ensures steady { OnOk result (IsSteady reader.new) }
-    ensures takes { (header : Record) (rest : List Record) → IsLayout table.now.columns header layout.now → StillGives R.remaining reader.old rest
-        → TakesRow R.remaining reader.new table.now header number rest result }
+    requires ready { IsReady records.old }
+    requires limit { asked records.old < record_limit }
+    ensures asked { asked records.new ≡ asked records.old + 1 }
+    ensures read_failed { IfErr result (λ f. is_of_reading f ≡ true → read_failed records.new ≡ true) }
+    ensures ready { OnOk result (IsReady records.new) }
+    ensures takes { (header : spec.Record) (rest : List spec.Record) → IsLayout table.now.columns header layout.now → Gives R.remaining records.old rest
+        → TakesRow R.remaining records.new table.now header number rest result }
 {
-    let found = next_record(reader, record)?;
+    let found = next_record(records, record)?;
     if !found {
         return Ok(None);
     }
@@ -47,22 +50,25 @@ pub(crate) fn read_rows<R: Read + Drop>(
     alloc: Global,
     table: &TableDef,
     layout: &Layout,
-    reader: &mut Reader<R>,
+    records: &mut Records<R>,
 ) -> Result<Vec<Items<Value<NoGeometry>>>, LoadFault>
     requires size { vec_len layout.now.places ≡ length table.now.columns }
-    requires steady { IsSteady reader.old }
-    ensures { (header : Record) (records : List Record) → IsLayout table.now.columns header layout.now → StillGives R.remaining reader.old records
-        → Loads (λ rows. rows.items) result (rows_of no_geometry table.now header records) }
+    requires ready { IsReady records.old }
+    requires header { asked records.old ≡ 1 }
+    ensures taken { asked records.new ≤ record_limit }
+    ensures read_failed { IfErr result (λ f. is_of_reading f ≡ true → read_failed records.new ≡ true) }
+    ensures loads { (header : spec.Record) (rest : List spec.Record) → IsLayout table.now.columns header layout.now → Gives R.remaining records.old rest
+        → Loads (λ rows. rows.items) result (spec.rows_of no_geometry table.now header rest) }
 {
     let mut rows = Vec::new(alloc);
     let mut record = ByteRecord::new(alloc);
     for place in 0..ROW_LIMIT {
-        match next_row(alloc, table, layout, place + 1, reader, &mut record)? {
+        match next_row(alloc, table, layout, place + 1, records, &mut record)? {
             Some(row) => rows.push(row)?,
             None => return Ok(rows),
         }
     }
-    match next_row(alloc, table, layout, ROW_LIMIT + 1, reader, &mut record)? {
+    match next_row(alloc, table, layout, ROW_LIMIT + 1, records, &mut record)? {
         Some(_) => Err(LoadFault::TooManyRows),
         None => Ok(rows),
     }

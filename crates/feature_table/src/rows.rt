@@ -1,9 +1,10 @@
 //! The typed row of a record.
 
-ghost use Rattle.std.specs.Prelude.{◌≡◌, ◌<◌, Result, length, map, vec_len};
+ghost use Rattle.std.specs.Prelude.{◌≡◌, ◌<◌, IfErr, Result, false, length, map, vec_len};
 ghost use Rattle.std.specs.List.{slice_index_or};
 ghost use Rattle.csv.specs.Records.{fields_of};
 ghost use Rattle.feature_table.specs.Layouts.{IsLayout};
+ghost use Rattle.feature_table.specs.Outcomes.{is_of_reading};
 ghost use Rattle.feature_table.specs.Stage.{no_geometry};
 ghost use Rattle.table_model.specs.Loading as spec;
 ghost use Rattle.table_model.specs.Outcomes.{Gives};
@@ -42,7 +43,8 @@ fn value_at(
 ) -> Result<Value<NoGeometry>, LoadFault>
     requires places { length places.now ≡ length table.now.columns }
     requires within { place < length places.now }
-    ensures { (header : spec.Record) (d : Result (Value NoGeometry) LoadFault)
+    ensures not_reading { IfErr result (λ f. is_of_reading f ≡ false) }
+    ensures value { (header : spec.Record) (d : Result (Value NoGeometry) LoadFault)
         → places.now ≡ map (λ c. spec.place_in header c.name) table.now.columns
         → Gives fault.OutOfMemory (λ v. v) result
         (slice_index_or (spec.values_of no_geometry table.now header number (fields_of record.now)) place d) }
@@ -69,7 +71,8 @@ fn row_of(
     record: &ByteRecord,
 ) -> Result<Items<Value<NoGeometry>>, LoadFault>
     requires { length places.now ≡ length table.now.columns }
-    ensures { (header : spec.Record) → places.now ≡ map (λ c. spec.place_in header c.name) table.now.columns
+    ensures not_reading { IfErr result (λ f. is_of_reading f ≡ false) }
+    ensures row { (header : spec.Record) → places.now ≡ map (λ c. spec.place_in header c.name) table.now.columns
         → Gives fault.OutOfMemory (λ row. row) result (spec.row_of no_geometry table.now header number (fields_of record.now)) }
 {
     let mut values = Vec::with_capacity(alloc, places.len())?;
@@ -88,7 +91,8 @@ pub(crate) fn checked_row(
     record: &ByteRecord,
 ) -> Result<Items<Value<NoGeometry>>, LoadFault>
     requires { vec_len layout.now.places ≡ length table.now.columns }
-    ensures { (header : spec.Record) → IsLayout table.now.columns header layout.now
+    ensures not_reading { IfErr result (λ f. is_of_reading f ≡ false) }
+    ensures row { (header : spec.Record) → IsLayout table.now.columns header layout.now
         → Gives fault.OutOfMemory (λ row. row) result (spec.checked_row no_geometry table.now header (number, fields_of record.now)) }
 {
     if record.len() != layout.width {

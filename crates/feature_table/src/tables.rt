@@ -1,16 +1,19 @@
 //! Tables of typed rows.
 
-ghost use Rattle.std.specs.Prelude.{◌≡◌, ◌∷◌, ◌<◌, ℕ, IsTrue, List, [], Some, length, slice_get};
+ghost use Rattle.std.specs.Prelude.{◌≡◌, ◌∷◌, ◌<◌, ◌≤◌, ℕ, IfErr, IsTrue, List, [], Some, length, slice_get, true};
 ghost use Rattle.feature_table.specs.Cells.{shown};
-ghost use Rattle.feature_table.specs.Outcomes.{Loads};
+ghost use Rattle.feature_table.specs.Outcomes.{Loads, is_of_reading};
+ghost use Rattle.feature_table.specs.Records.{Gives, IsReady, asked, read_failed, record_limit};
+ghost use Rattle.feature_table.specs.Stage.{no_geometry};
 ghost use Rattle.feature_table.specs.Tables.{table_in};
 ghost use Rattle.table_model.specs.Definitions.{lawful};
+ghost use Rattle.table_model.specs.Loading as spec;
 
 use crate::cells::{Field, field_of};
 use crate::headers::layout_of;
 use crate::keys::order_by_key;
 use crate::loading::read_rows;
-use crate::reading::{next_record, record_reader};
+use crate::records::{Records, next_record};
 use crate::schemas::TableDef;
 use csv::ByteRecord;
 use sqlite_items::Items;
@@ -70,8 +73,9 @@ impl Model for Table {
 
 impl Table {
     /// Loads the table of a definition, which is lawful by itself, from the CSV text that a reader gives. The answer
-    /// is the first fault where there is one: of the header, then of the records in order, then a repeated key. At
-    /// most 100,002 records are read, the header among them. A fault of reading is answered where it comes.
+    /// is the first fault where there is one: of the header, then of the records in order, then a repeated key. A
+    /// fault of reading is answered where it comes. It is `Table::load_from` over the records of the reader, so at
+    /// most 100,002 of them are read, the header among them.
     pub fn load<R: Read + Drop>(
         alloc: Global,
         table: &TableDef,
@@ -80,15 +84,33 @@ impl Table {
         requires { IsTrue (lawful (table.now ∷ [])) }
         ensures { (text : List ℕ) → R.remaining reader ≡ Some text → Loads (λ t. t) result (table_in table.now text) }
     {
-        let mut reader = record_reader(alloc, reader);
+        let mut records = Records::new(alloc, reader);
+        Table::load_from(alloc, table, &mut records)
+    }
+
+    /// Loads the table of a definition, which is lawful by itself, from records of which none was asked for yet. The
+    /// answer is that of `Table::load`. It asks for at most 100,002 records, the header among them, and answers that
+    /// reading failed only where `csv` answered an error of reading.
+    pub fn load_from<R: Read + Drop>(
+        alloc: Global,
+        table: &TableDef,
+        records: &mut Records<R>,
+    ) -> Result<Table, LoadFault>
+        requires lawful { IsTrue (lawful (table.now ∷ [])) }
+        requires ready { IsReady records.old }
+        requires none { asked records.old ≡ 0 }
+        ensures taken { asked records.new ≤ record_limit }
+        ensures read_failed { IfErr result (λ f. is_of_reading f ≡ true → read_failed records.new ≡ true) }
+        ensures loads { (all : List spec.Record) → Gives R.remaining records.old all → Loads (λ t. t) result (spec.load no_geometry table.now all) }
+    {
         let mut header = ByteRecord::new(alloc);
-        let found = next_record(&mut reader, &mut header)?;
+        let found = next_record(records, &mut header)?;
         // No header record is a header without fields, so it lacks the first column.
         if !found {
             return Err(LoadFault::MissingColumn);
         }
         let layout = layout_of(alloc, table.columns.as_slice(), &header)?;
-        let mut rows = read_rows(alloc, table, &layout, &mut reader)?;
+        let mut rows = read_rows(alloc, table, &layout, records)?;
         order_by_key(alloc, &mut rows, table.key)?;
         Ok(Table { rows })
     }

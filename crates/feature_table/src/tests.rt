@@ -3,7 +3,8 @@
 ghost use Rattle.std.specs.Prelude.{◌<◌, length};
 
 use crate::{
-    ColumnDef, ColumnType, Database, Field, LoadFault, Schema, Table, TableDef, TableFault, lawful,
+    ColumnDef, ColumnType, Database, Field, LoadFault, Records, Schema, Table, TableDef,
+    TableFault, lawful,
 };
 use sqlite_items::Items;
 use std::alloc::{AllocError, Global};
@@ -116,5 +117,48 @@ fn each_fault(rt: HostRuntime) -> Result<(), Fail> {
         let fault = Table::load(rt.alloc(), schema.table(0), text).err();
         assert_eq!(rt; fault, want);
     }
+    Ok(())
+}
+
+/// A reader that fails at each read.
+#[derive(Clone, Copy)]
+struct Broken;
+
+impl Read for Broken {
+    fn read(&mut self, _buffer: &mut [u8]) -> io::Result<usize> {
+        Err(io::Error::from(io::ErrorKind::Other))
+    }
+}
+
+#[test]
+fn failed_read_is_told(rt: HostRuntime) -> Result<(), Fail> {
+    let tables = vec![in rt.alloc(); definition(rt.alloc())?]?;
+    assert!(rt; lawful(&tables));
+    let schema = Schema::of(tables);
+    assert!(rt; !schema.tables().is_empty());
+    let mut records = Records::new(rt.alloc(), Broken);
+    let fault = Table::load_from(rt.alloc(), schema.table(0), &mut records).err();
+    assert_eq!(rt; fault, Some(LoadFault::ReadFailed));
+    assert!(rt; records.read_failed());
+    assert_eq!(rt; records.asked(), 1);
+    Ok(())
+}
+
+#[test]
+fn no_record_past_the_last_is_read(rt: HostRuntime) -> Result<(), Fail> {
+    let tables = vec![in rt.alloc(); definition(rt.alloc())?]?;
+    assert!(rt; lawful(&tables));
+    let schema = Schema::of(tables);
+    assert!(rt; !schema.tables().is_empty());
+    let mut text = String::new(rt.alloc());
+    text.push_str("id,pop,name\n")?;
+    for key in 0..100_004u32 {
+        text.push_str(format!(in rt.alloc(); "{key},,\n")?.as_str())?;
+    }
+    let mut records = Records::new(rt.alloc(), text.as_bytes());
+    let fault = Table::load_from(rt.alloc(), schema.table(0), &mut records).err();
+    assert_eq!(rt; fault, Some(LoadFault::TooManyRows));
+    assert!(rt; !records.read_failed());
+    assert_eq!(rt; records.asked(), 100_002);
     Ok(())
 }

@@ -10,14 +10,14 @@ use Rattle.geometry_model.specs.Sides.{side, on, on_one_line}
 use Rattle.geometry_model.specs.Crossings.{spans, side_rightward, strictly_above}
 use Rattle.geometry_model.specs.Dimensions.{area, weighted}
 use Rattle.geometry_model.specs.CutPoints.{IsCut}
-use Rattle.geometry_model.specs.CutPoints.IsCut.{AtEnd, AtCrossing}
+use Rattle.geometry_model.specs.CutPoints.IsCut.{AtEnd, Listed, AtCrossing}
 use Rattle.geometry_model.specs.Pieces.{Piece, IsPiece}
 use Rattle.integers.proofs.Ring.{solve, var, lit, ◌⊕◌, ◌⊗◌}
 use Rattle.integers.proofs.Signs.{strict_plus_plus}
 use Rattle.integers.proofs.Tests.{equal_from}
 use Rattle.geometry_laws.specs.RingLaws.{Misses}
 use Rattle.geometry_laws.specs.PointLaws.{reversed}
-use Rattle.geometry_laws.specs.PieceLaws.{Inside, Ends}
+use Rattle.geometry_laws.specs.PieceLaws.{Inside}
 use Rattle.geometry_laws.proofs.Each.{Among}
 use Rattle.geometry_laws.proofs.Scaling.{and_parts, same_from}
 use Rattle.geometry_laws.proofs.PointOrder.{same_symmetric, same_transitive, compare_reversed, equal_is_same, less_transitive}
@@ -37,6 +37,19 @@ contains_of_among x (y ∷ ys) (inr a) = let c : Contains ys x = contains_of_amo
   where
     more : (k n : ℕ) → k < n → suc k < suc n
     more k n h = omega arith
+
+-- ---- the ends of a piece are points
+pub record Ends (c : Piece) : Type 0 where
+  pub lesser : IsPoint c.lesser
+  pub greater : IsPoint c.greater
+
+cut_is_point : (es : List Edge) (ps : List Position) (p : Point) → IsCut es ps p → IsPoint p
+cut_is_point es ps p (AtEnd hp e c h) = hp
+cut_is_point es ps p (Listed hp a c h) = hp
+cut_is_point es ps p (AtCrossing hp e f c d apart he hf) = hp
+
+pub piece_ends : (es : List Edge) (ps : List Position) (c : Piece) → IsPiece es ps c → Ends c
+piece_ends es ps c h = record { lesser = cut_is_point es ps c.lesser h.lesser_is_cut; greater = cut_is_point es ps c.greater h.greater_is_cut }
 
 -- ---- points strictly within a piece
 pub turn_less : (p q : Point) → compare p q ≡ Greater → compare q p ≡ Less
@@ -64,7 +77,7 @@ inside_sum es ps c h x y m n k i j = record {
 
 -- ---- an edge not on the piece's line has no point within it
 pub off_within : (es : List Edge) (ps : List Position) (c : Piece) (h : IsPiece es ps c) (g : Edge) (x : Point) → Among g es → on_one_line h.edge g ≡ false → Inside es ps c h x → on g x ≡ false
-off_within es ps c h g x a f i = by_contraries (on g x) false (λ k. absurd (h.neighbours x i.is_point i.is_on (AtCrossing h.edge g h.among (contains_of_among g es a) f i.is_on k) i.after i.before)) refl
+off_within es ps c h g x a f i = by_contraries (on g x) false (λ k. absurd (h.neighbours x i.is_point i.is_on (AtCrossing i.is_point h.edge g h.among (contains_of_among g es a) f i.is_on k) i.after i.before)) refl
 
 pub misses_within_piece : (es : List Edge) (ps : List Position) (c : Piece) (h : IsPiece es ps c) (g : Edge) (x y : Point) → Among g es → on_one_line h.edge g ≡ false → Inside es ps c h x → Inside es ps c h y → Misses x y g
 misses_within_piece es ps c h g x y a f i j m n k = off_within es ps c h g (weighted m x n y) a f (inside_sum es ps c h x y m n k i j)
@@ -154,10 +167,10 @@ or_last true t e = refl
 or_last false t e = e
 
 pub start_is_cut : (es : List Edge) (ps : List Position) (g : Edge) → Among g es → IsCut es ps (point_at g.start)
-start_is_cut es ps g a = AtEnd g (contains_of_among g es a) (or_first (same_point (point_at g.start) (point_at g.start)) (same_point (point_at g.end) (point_at g.start)) (same_end g.start))
+start_is_cut es ps g a = AtEnd (position_is_point g.start) g (contains_of_among g es a) (or_first (same_point (point_at g.start) (point_at g.start)) (same_point (point_at g.end) (point_at g.start)) (same_end g.start))
 
 pub end_is_cut : (es : List Edge) (ps : List Position) (g : Edge) → Among g es → IsCut es ps (point_at g.end)
-end_is_cut es ps g a = AtEnd g (contains_of_among g es a) (or_last (same_point (point_at g.start) (point_at g.end)) (same_point (point_at g.end) (point_at g.end)) (same_end g.end))
+end_is_cut es ps g a = AtEnd (position_is_point g.end) g (contains_of_among g es a) (or_last (same_point (point_at g.start) (point_at g.end)) (same_point (point_at g.end) (point_at g.end)) (same_end g.end))
 
 -- ---- an edge holds all points within the piece or none
 pub hull_of_start : (g : Edge) → OnHull g (point_at g.start)

@@ -8,7 +8,8 @@ use Rattle.geometry_model.specs.Locations.{stands_at, locate}
 use Rattle.geometry_model.specs.Labels.{above, below, is_upright, edges_of_both}
 use Rattle.geometry_model.specs.Pieces.{Piece}
 use Rattle.geometry_laws.specs.RingLaws.{IsClosed}
-use Rattle.geometry_laws.specs.PieceLaws.{Ends, HasClosedRings, IsPieceOf, IsInside, IsOff}
+use Rattle.geometry_laws.specs.PieceLaws.{HasClosedRings, IsPieceOf, IsInside, IsOff}
+use Rattle.geometry_laws.proofs.Cuts.{Ends, piece_ends}
 use Rattle.geometry_laws.proofs.Each.{Each, among_left, among_right, each_append}
 use Rattle.geometry_laws.proofs.RingParity.{each_from_all}
 use Rattle.geometry_laws.proofs.Locating.{Off, locate_off, by_contraries}
@@ -21,15 +22,15 @@ first_belongs a b = record { edge = λ e m. among_left e (edges a) (edges b) m; 
 pub second_belongs : (a b : Geometry) → Belongs (edges_of_both a b) (listed a ++ listed b) b
 second_belongs a b = record { edge = λ e m. among_right e (edges a) (edges b) m; position = λ p m. among_right p (listed a) (listed b) m }
 
-pub labels_constant : (a b : Geometry) → HasClosedRings a → HasClosedRings b → (c : Piece) (h : IsPieceOf a b c) → Ends c → (x y : Point) → IsInside a b c h x → IsInside a b c h y → (locate a x ≡ locate a y) × (locate b x ≡ locate b y)
-labels_constant a b ca cb c h d x y i j = (
+pub labels_constant : (a b : Geometry) → HasClosedRings a → HasClosedRings b → (c : Piece) (h : IsPieceOf a b c) → (x y : Point) → IsInside a b c h x → IsInside a b c h y → (locate a x ≡ locate a y) × (locate b x ≡ locate b y)
+labels_constant a b ca cb c h x y i j = let d : Ends c = piece_ends (edges_of_both a b) (listed a ++ listed b) c h in (
   locate_within (edges_of_both a b) (listed a ++ listed b) c h d x y i j a (each_from_all IsClosed (rings a) ca) (first_belongs a b),
   locate_within (edges_of_both a b) (listed a ++ listed b) c h d x y i j b (each_from_all IsClosed (rings b) cb) (second_belongs a b),
 )
 
-pub sides_constant : (a b : Geometry) → HasClosedRings a → HasClosedRings b → (c : Piece) (h : IsPieceOf a b c) → Ends c → is_upright c ≡ false → (x y : Point) → IsInside a b c h x → IsInside a b c h y
+pub sides_constant : (a b : Geometry) → HasClosedRings a → HasClosedRings b → (c : Piece) (h : IsPieceOf a b c) → is_upright c ≡ false → (x y : Point) → IsInside a b c h x → IsInside a b c h y
     → ((above a x ≡ above a y) × (above b x ≡ above b y)) × ((below a x ≡ below a y) × (below b x ≡ below b y))
-sides_constant a b ca cb c h d f x y i j = (
+sides_constant a b ca cb c h f x y i j = let d : Ends c = piece_ends (edges_of_both a b) (listed a ++ listed b) c h in (
   (
     above_within (edges_of_both a b) (listed a ++ listed b) c h d x y i j a (each_from_all IsClosed (rings a) ca) (first_belongs a b),
     above_within (edges_of_both a b) (listed a ++ listed b) c h d x y i j b (each_from_all IsClosed (rings b) cb) (second_belongs a b),

@@ -17,7 +17,7 @@ use Rattle.integers.proofs.Ring.{solve, var, lit, ◌⊕◌, ◌⊖◌, ◌⊗�
 use Rattle.integers.proofs.Signs.{zero_product, three_ways, less_yes, less_no, at_most_yes, at_most_no}
 use Rattle.integers.proofs.Tests.{equal_from, equal_yes, equal_no, not_equal_from}
 use Rattle.geometry_laws.specs.RingLaws.{IsClosed}
-use Rattle.geometry_laws.specs.PieceLaws.{Inside, Ends}
+use Rattle.geometry_laws.specs.PieceLaws.{Inside}
 use Rattle.geometry_laws.proofs.Plane.{right}
 use Rattle.geometry_laws.proofs.Each.{Each, Among, each_of, same_any, none_passes, parity, odd_count, same_parity, parity_xor}
 use Rattle.geometry_laws.proofs.Scaling.{and_parts}
@@ -28,16 +28,16 @@ use Rattle.geometry_laws.proofs.RingParity.{side_is_area, reaches_is, position_i
 use Rattle.geometry_laws.proofs.Locating.{all_ends_even, by_contraries}
 use Rattle.geometry_laws.proofs.Triangles.{dot_coordinate}
 use Rattle.geometry_laws.proofs.LineOrder.{up, Lex, lex_of_less, lex_weak, IsSum, on_sum, x_across, y_across, w_across, drop_area}
-use Rattle.geometry_laws.proofs.Cuts.{contains_of_among, OneLine, one_line, off_within, rightward_on_line, step_within, same_on, Apart, apart, start_is_cut, end_is_cut, inside_on_line, hull_of_start, hull_of_end, or_first, or_last}
+use Rattle.geometry_laws.proofs.Cuts.{Ends, contains_of_among, OneLine, one_line, off_within, rightward_on_line, step_within, same_on, Apart, apart, start_is_cut, end_is_cut, inside_on_line, hull_of_start, hull_of_end, or_first, or_last}
 
 -- ---- what stands at a point within
 pub no_position_within : (es : List Edge) (ps : List Position) (c : Piece) (h : IsPiece es ps c) (x : Point) → Inside es ps c h x → (a : Position) → Among a ps → stands_at x a ≡ false
-no_position_within es ps c h x i a m = by_contraries (stands_at x a) false (λ k. absurd (h.neighbours x i.is_point i.is_on (Listed a (contains_of_among a ps m) k) i.after i.before)) refl
+no_position_within es ps c h x i a m = by_contraries (stands_at x a) false (λ k. absurd (h.neighbours x i.is_point i.is_on (Listed i.is_point a (contains_of_among a ps m) k) i.after i.before)) refl
 
 no_end_within : (es : List Edge) (ps : List Position) (c : Piece) (h : IsPiece es ps c) (x : Point) → Inside es ps c h x → (g : Edge) → Among g es → (stands_at x g.start ≡ false) × (stands_at x g.end ≡ false)
 no_end_within es ps c h x i g m = (
-  by_contraries (stands_at x g.start) false (λ k. absurd (h.neighbours x i.is_point i.is_on (AtEnd g (contains_of_among g es m) (or_first (stands_at x g.start) (stands_at x g.end) k)) i.after i.before)) refl,
-  by_contraries (stands_at x g.end) false (λ k. absurd (h.neighbours x i.is_point i.is_on (AtEnd g (contains_of_among g es m) (or_last (stands_at x g.start) (stands_at x g.end) k)) i.after i.before)) refl,
+  by_contraries (stands_at x g.start) false (λ k. absurd (h.neighbours x i.is_point i.is_on (AtEnd i.is_point g (contains_of_among g es m) (or_first (stands_at x g.start) (stands_at x g.end) k)) i.after i.before)) refl,
+  by_contraries (stands_at x g.end) false (λ k. absurd (h.neighbours x i.is_point i.is_on (AtEnd i.is_point g (contains_of_among g es m) (or_last (stands_at x g.start) (stands_at x g.end) k)) i.after i.before)) refl,
 )
 
 -- the edges and listed positions of a geometry are among all

@@ -17,11 +17,6 @@ pub record Inside (es : List Edge) (ps : List Position) (c : Piece) (h : IsPiece
   pub after : compare c.lesser x ≡ Less
   pub before : compare x c.greater ≡ Less
 
--- a piece whose ends are points (profile)
-pub record Ends (c : Piece) : Type 0 where
-  pub lesser : IsPoint c.lesser
-  pub greater : IsPoint c.greater
-
 -- every ring of the geometry is closed (06-103r4, 6.1.7 and 6.1.11.1)
 abbrev pub HasClosedRings : Geometry → Type 0
 HasClosedRings g = All IsClosed (rings g)
@@ -36,12 +31,12 @@ IsInside a b c h x = Inside (edges_of_both a b) (listed a ++ listed b) c h x
 
 -- all points strictly within a piece stand alike in both geometries (profile)
 abbrev pub LabelsAreConstant : Type 0
-LabelsAreConstant = (a b : Geometry) → HasClosedRings a → HasClosedRings b → (c : Piece) (h : IsPieceOf a b c) → Ends c → (x y : Point) → IsInside a b c h x → IsInside a b c h y
+LabelsAreConstant = (a b : Geometry) → HasClosedRings a → HasClosedRings b → (c : Piece) (h : IsPieceOf a b c) → (x y : Point) → IsInside a b c h x → IsInside a b c h y
     → (locate a x ≡ locate a y) × (locate b x ≡ locate b y)
 
 -- and their upper and lower sides are labelled alike, where the piece isn't upright (profile)
 abbrev pub SidesAreConstant : Type 0
-SidesAreConstant = (a b : Geometry) → HasClosedRings a → HasClosedRings b → (c : Piece) (h : IsPieceOf a b c) → Ends c → is_upright c ≡ false → (x y : Point) → IsInside a b c h x → IsInside a b c h y
+SidesAreConstant = (a b : Geometry) → HasClosedRings a → HasClosedRings b → (c : Piece) (h : IsPieceOf a b c) → is_upright c ≡ false → (x y : Point) → IsInside a b c h x → IsInside a b c h y
     → ((above a x ≡ above a y) × (above b x ≡ above b y)) × ((below a x ≡ below a y) × (below b x ≡ below b y))
 
 -- no edge goes through the point, and no listed position stands there (profile)

@@ -10,7 +10,7 @@ use Rattle.geometry_model.specs.Points.{Position}
 use Rattle.geometry_model.specs.Geometries.{Geometry, Point, MultiPoint, LineString, MultiLineString, Polygon}
 use Rattle.geometry_model.specs.WellKnownText.{begins_with, Rule, ◌⨾◌, Byte, Blank, Space, Padded, Enclosed, Word, Separated, Sign, Digits, Fraction, Numeral, Number, PositionText, PointText, LineText, Body, TaggedText, Writes, IsWithinCounts, written_positions, written_parts, coordinate_limit, position_limit, part_limit, is_white, is_whole, geometry_of}
 use Rattle.geometry_model.specs.TextReading.{Input, Reader, FoundNumber, and_then, pure, after, refuse, too_long, run, eat, ◌>>◌, ◌>>=◌, expect, padded, enclosed, sign, fraction, numeral, coordinate, space, position, point, separated, line, parts, body, lone, first, positions, lists, typed, tagged, whole, outcome, read_text}
-use Rattle.geometry_model.specs.TextRefusals.{IsFirstNumber, HasNumber, IsOffGrid, IsOutOfRange, HasTooManyPositions, HasTooManyParts, TakesNumber}
+use Rattle.geometry_model.specs.TextRefusals.{begins_more, IsFirstNumber, HasNumber, IsOffGrid, IsOutOfRange, HasTooManyPositions, HasTooManyParts, TakesNumber}
 use Rattle.geometry_model.specs.declared.text_faults.TextFault.{TextFault}
 use Rattle.geometry_model.specs.declared.text_faults.TextFault.TheVariants.{Syntax, OffGrid, OutOfRange, TooLong}
 use Rattle.geometry_model.specs.TextLaws.{RefusalsStand}
@@ -65,7 +65,7 @@ record Stuck {A : Type 0} (P : A → Rule) (R : Kind → A → Type 0) (i : Inpu
   place : Where fault tail (total i)
   marked : Marks kind mark
   goes : P x (used ++ (mark ++ closing))
-  no_more : list_any is_ascii_digit closing ≡ false
+  no_more : list_any begins_more closing ≡ false
   counts : R kind x
 
 -- W1 is no matter here
@@ -103,9 +103,9 @@ and_read : {A : Type 0} (P Q : A → Input → Type 0) (r : Result (A × Input) 
 and_read P Q (Ok found) p q = (p, q)
 and_read P Q (Err fault) p q = tt
 
-none_before : (xs ys : List ℕ) → list_any is_ascii_digit xs ≡ false → list_any is_ascii_digit ys ≡ false → list_any is_ascii_digit (xs ++ ys) ≡ false
+none_before : (xs ys : List ℕ) → list_any begins_more xs ≡ false → list_any begins_more ys ≡ false → list_any begins_more (xs ++ ys) ≡ false
 none_before [] ys e f = f
-none_before (x ∷ xs) ys e f = let parts = or_parts (is_ascii_digit x) (list_any is_ascii_digit xs) e in rw parts.0 (none_before xs ys parts.1 f)
+none_before (x ∷ xs) ys e f = let parts = or_parts (begins_more x) (list_any begins_more xs) e in rw parts.0 (none_before xs ys parts.1 f)
 
 where_so : (fault : TextFault) (tail : List ℕ) (m n : ℕ) → m ≡ n → Where fault tail m → Where fault tail n
 where_so fault tail m n e w = subst (Where fault tail) e w
@@ -129,7 +129,7 @@ stuck_behind B P R i j fault t e s = record {
   counts = s.counts;
 }
 
-stuck_before : {A : Type 0} (B : Rule) (P : A → Rule) (R : Kind → A → Type 0) (i : Input) (fault : TextFault) (text : List ℕ) → B text → list_any is_ascii_digit text ≡ false → Stuck P R i fault
+stuck_before : {A : Type 0} (B : Rule) (P : A → Rule) (R : Kind → A → Type 0) (i : Input) (fault : TextFault) (text : List ℕ) → B text → list_any begins_more text ≡ false → Stuck P R i fault
     → Stuck (λ x. P x ⨾ B) R i fault
 stuck_before B P R i fault text b none s = record {
   kind = s.kind;
@@ -227,7 +227,7 @@ number_found k at minus integer digits from false e t = (
   refl,
 )
 
-numeral_first : (i : Input) → IfRead (numeral i) (λ n j. IsFirstNumber i.left n.minus n.whole n.fraction × (n.at ≡ i.at))
+pub numeral_first : (i : Input) → IfRead (numeral i) (λ n j. IsFirstNumber i.left n.minus n.whole n.fraction × (n.at ≡ i.at))
 unfolding numeral
 numeral_first i = then_read (λ minus j. Took i.left (Sign minus) j.left) (sign i) _ _ (sign_sound i)
     (λ minus j t. let n = prefix_len is_ascii_digit j.left in let k = after n j in
@@ -699,7 +699,7 @@ out_of_range text at AtPosition used tail mark closing g split what e marked goe
 out_of_range text at AtPart used tail mark closing g split what e marked goes counts = absurd what
 
 too_many : (text : List ℕ) (k : Kind) (used tail mark closing : List ℕ) (g : Geometry) → text ≡ used ++ tail → What k TooLong tail → Marks k mark
-    → Writes g (used ++ (mark ++ closing)) → list_any is_ascii_digit closing ≡ false → RoomGeometry k g → HasTooManyPositions text ⊎ HasTooManyParts text
+    → Writes g (used ++ (mark ++ closing)) → list_any begins_more closing ≡ false → RoomGeometry k g → HasTooManyPositions text ⊎ HasTooManyParts text
 too_many text AtNumber used tail mark closing g split what marked goes none counts = absurd what
 too_many text AtPosition used tail mark closing g split what marked goes none counts = inl (record {
   front = used;

@@ -85,7 +85,7 @@ read_run test left used rest is all stop = subst (λ l. (take (prefix_len test l
   ap (λ n. drop n (used ++ rest)) (run_is test used rest all stop) ∙ drop-append_seam used rest,
 )
 
-pub apart : (xs zs : List ℕ) (A B : Rule) → Took xs (A ⨾ B) zs → (ys : List ℕ) × Took xs A ys × Took ys B zs
+unfoldable pub apart : (xs zs : List ℕ) (A B : Rule) → Took xs (A ⨾ B) zs → (ys : List ℕ) × Took xs A ys × Took ys B zs
 apart xs zs A B t = (t.2.1 ++ zs, (t.2.0, t.1 ∙ (ap (λ u. u ++ zs) t.2.2 ∙ append_assoc t.2.0 t.2.1 zs), t.2.3), (t.2.1, refl, t.2.4))
 
 pub byte_is : (c : ℕ) (xs ys : List ℕ) → Took xs (λ text. text ≡ c ∷ []) ys → xs ≡ c ∷ ys

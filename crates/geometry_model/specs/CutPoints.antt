@@ -2,7 +2,7 @@
 use Rattle.std.specs.Prelude.{◌≡◌, Bool, true, false, ◌&&◌, ◌||◌, List, [], ◌∷◌, ◌++◌, map, flat_map, Contains, if◌then◌else◌, pos, ◌-ℤ◌, ◌*ℤ◌, int_lt}
 use Rattle.std.specs.declared.cmp.Ordering.{Ordering}
 use Rattle.std.specs.declared.cmp.Ordering.TheVariants.{Less, Equal, Greater}
-use Rattle.geometry_model.specs.Points.{Position, Point, point_at, same_point, compare, least_form}
+use Rattle.geometry_model.specs.Points.{Position, Point, IsPoint, point_at, same_point, compare, least_form}
 use Rattle.geometry_model.specs.Geometries.{Edge}
 use Rattle.geometry_model.specs.Sides.{side, on, on_one_line}
 
@@ -10,11 +10,11 @@ use Rattle.geometry_model.specs.Sides.{side, on, on_one_line}
 abbrev pub is_end : Edge → Point → Bool
 is_end e p = same_point (point_at e.start) p || same_point (point_at e.end) p
 
--- a cut of edges and listed positions: an end, a listed position, or a point that two edges not on one line share; the ends of a stretch that two edges share are ends of edges (profile)
+-- a cut of edges and listed positions: a point that is an end of an edge, a listed position, or shared by two edges not on one line; the ends of a stretch that two edges share are ends of edges (profile)
 pub data IsCut (es : List Edge) (ps : List Position) (p : Point) : Type 0 where
-  AtEnd : (e : Edge) → Contains es e → is_end e p ≡ true → IsCut es ps p
-  Listed : (a : Position) → Contains ps a → same_point (point_at a) p ≡ true → IsCut es ps p
-  AtCrossing : (e f : Edge) → Contains es e → Contains es f → on_one_line e f ≡ false → on e p ≡ true → on f p ≡ true → IsCut es ps p
+  AtEnd : IsPoint p → (e : Edge) → Contains es e → is_end e p ≡ true → IsCut es ps p
+  Listed : IsPoint p → (a : Position) → Contains ps a → same_point (point_at a) p ≡ true → IsCut es ps p
+  AtCrossing : IsPoint p → (e f : Edge) → Contains es e → Contains es f → on_one_line e f ≡ false → on e p ≡ true → on f p ≡ true → IsCut es ps p
 
 -- the triple with W at least 0 that stands for the same point (profile)
 abbrev pub turned_up : Point → Point

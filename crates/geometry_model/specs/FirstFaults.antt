@@ -3,10 +3,10 @@ use Rattle.std.specs.Prelude.{ℕ, ◌+◌, ◌-◌, ◌==◌, ℤ, pos, int_lt,
 use Rattle.std.specs.List.{list_any, range_with_len, enumerate_from}
 use Rattle.geometry_model.specs.Points.{Position, point_at}
 use Rattle.geometry_model.specs.WellKnownText.{same_position}
-use Rattle.geometry_model.specs.Geometries.{Geometry, Edge, lines, edges_of_line}
+use Rattle.geometry_model.specs.Geometries.{Geometry, Edge, lines, edges_of_line, rings}
 use Rattle.geometry_model.specs.Sides.{side, on}
 use Rattle.geometry_model.specs.Locations.{last_after}
-use Rattle.geometry_model.specs.Validity.{rings, is_short, inside}
+use Rattle.geometry_model.specs.Validity.{is_short, inside}
 use Rattle.geometry_model.specs.declared.validity_faults.ValidityFault.{ValidityFault}
 use Rattle.geometry_model.specs.declared.validity_faults.ValidityFault.TheVariants.{TooFewPoints, RingNotClosed, RingNotSimple, RingsMeet, HoleOutside, HolesNested}
 

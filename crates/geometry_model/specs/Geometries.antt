@@ -58,7 +58,7 @@ lines (LineString ps) = ps ∷ []
 lines (MultiLineString ls) = ls
 lines (Polygon rs) = rs
 
--- the rings of a polygon; other types have none (06-103r4, 6.1.11)
+-- the rings of a polygon, the outer one first; other types have none (06-103r4, 6.1.11.1)
 abbrev pub rings : Geometry → List (List Position)
 rings (Point p) = []
 rings (MultiPoint ps) = []

@@ -1,16 +1,16 @@
 -- Which texts are refused, and as what, said apart from any reading: by the bytes that stand before the fault.
-use Rattle.std.specs.Prelude.{◌≡◌, ℕ, ◌+◌, ◌<◌, ◌==◌, ◌⊎◌, Bool, true, false, List, ◌++◌, length, codes}
+use Rattle.std.specs.Prelude.{◌≡◌, ℕ, ◌+◌, ◌<◌, ◌==◌, ◌||◌, ◌⊎◌, Bool, true, false, List, ◌++◌, length, codes}
 use Rattle.std.specs.List.{list_any}
 use Rattle.std.specs.Char.{is_ascii_digit}
 use Rattle.std.specs.Str.Parse.{digits_value}
 use Rattle.geometry_model.specs.Geometries.{Geometry}
-use Rattle.geometry_model.specs.WellKnownText.{begins_with, Numeral, Writes, Spells, is_whole, coordinate_limit, position_limit, part_limit, written_positions, written_parts}
+use Rattle.geometry_model.specs.WellKnownText.{begins_with, Numeral, Writes, Spells, Begins, is_whole, coordinate_limit, position_limit, part_limit, written_positions, written_parts}
 use Rattle.geometry_model.specs.declared.text_faults.TextFault.{TextFault}
 use Rattle.geometry_model.specs.declared.text_faults.TextFault.TheVariants.{Syntax, OffGrid, OutOfRange, TooLong}
 
 -- the text begins a geometry, and a new number can stand behind it: a plus can, which stands nowhere but at the beginning of a number (profile)
 abbrev pub TakesNumber : List ℕ → Type 0
-TakesNumber front = (rest : List ℕ) × (g : Geometry) × Spells (front ++ codes "+" ++ rest) g
+TakesNumber front = Begins (front ++ codes "+")
 
 -- the longest number at the front of the text has this sign and these digits: no digit follows it, and no point that it hasn't already
 -- (06-103r4, 7.2.2: signed numeric literal)
@@ -48,6 +48,10 @@ pub record IsOutOfRange (text : List ℕ) (at : ℕ) : Type 0 where
   pub is_whole : is_whole fraction ≡ true
   pub past : coordinate_limit < digits_value 10 whole
 
+-- a byte of a further number or part: a digit, or an opening parenthesis (profile)
+abbrev pub begins_more : ℕ → Bool
+begins_more c = is_ascii_digit c || c == 40
+
 -- W4 by a position: its first number stands where, the counts set aside, one position more than they allow can be the last (profile)
 pub record HasTooManyPositions (text : List ℕ) : Type 0 where
   pub front : List ℕ
@@ -58,7 +62,7 @@ pub record HasTooManyPositions (text : List ℕ) : Type 0 where
   pub fraction : List ℕ
   pub number : IsFirstNumber tail minus whole fraction
   pub closing : List ℕ
-  pub no_more : list_any is_ascii_digit closing ≡ false
+  pub no_more : list_any begins_more closing ≡ false
   pub written : Geometry
   pub spelled : Writes written (front ++ codes "+0 0" ++ closing)
   pub counted : length (written_positions written) ≡ position_limit + 1
@@ -69,7 +73,7 @@ pub record HasTooManyParts (text : List ℕ) : Type 0 where
   pub tail : List ℕ
   pub split : text ≡ front ++ codes "(" ++ tail
   pub closing : List ℕ
-  pub no_more : list_any is_ascii_digit closing ≡ false
+  pub no_more : list_any begins_more closing ≡ false
   pub written : Geometry
   pub spelled : Writes written (front ++ codes "(+0 0" ++ closing)
   pub counted : length (written_parts written) ≡ part_limit + 1

@@ -1,20 +1,12 @@
 -- Which geometries are valid: what each fault says, as facts about rational points.
 use Rattle.std.specs.Prelude.{◌≡◌, ◌≢◌, ℕ, ◌+◌, ◌<◌, ◌==◌, nat_lt, ◌⊎◌, Bool, true, false, List, [], ◌∷◌, length, Some, slice_get}
 use Rattle.geometry_model.specs.Points.{Position, Point, IsPoint, same_point, point_at}
-use Rattle.geometry_model.specs.Geometries.{Geometry, Polygon, Edge, lines, edges_of_line}
+use Rattle.geometry_model.specs.Geometries.{Geometry, Polygon, Edge, lines, rings, edges_of_line}
 use Rattle.geometry_model.specs.Sides.{on}
 use Rattle.geometry_model.specs.Crossings.{odd_above}
 use Rattle.geometry_model.specs.Locations.{last_after}
 use Rattle.geometry_model.specs.declared.validity_faults.ValidityFault.{ValidityFault}
 use Rattle.geometry_model.specs.declared.validity_faults.ValidityFault.TheVariants.{TooFewPoints, RingNotClosed, RingNotSimple, RingsMeet, HoleOutside, HolesNested}
-
--- the rings of a polygon, the outer one first (06-103r4, 6.1.11.1)
-abbrev pub rings : Geometry → List (List Position)
-rings (Geometry.Point p) = []
-rings (Geometry.MultiPoint ps) = []
-rings (Geometry.LineString ps) = []
-rings (Geometry.MultiLineString ls) = []
-rings (Polygon rs) = rs
 
 -- a part has too few positions: a line that isn't empty fewer than 2, a ring fewer than 4 with the closing one
 -- (06-103r4, 6.1.7 and 6.1.11.1)

@@ -177,7 +177,3 @@ pub record Spells (text : List ℕ) (g : Geometry) : Type 0 where
 -- the text, with some rest behind it, spells some geometry (profile)
 abbrev pub Begins : List ℕ → Type 0
 Begins front = (rest : List ℕ) × (g : Geometry) × Spells (front ++ rest) g
-
--- the same with the two counts set aside (profile)
-abbrev pub BeginsUncounted : List ℕ → Type 0
-BeginsUncounted front = (rest : List ℕ) × (written : Geometry) × Writes written (front ++ rest)

@@ -8,13 +8,13 @@ use Rattle.geometry_model.specs.Sides.{on}
 use Rattle.geometry_model.specs.CutPoints.{IsCut, cut_points}
 use Rattle.geometry_model.specs.CutPoints.IsCut.{AtEnd}
 use Rattle.geometry_model.specs.Pieces.{Piece, IsPiece, stretches, pieces}
-use Rattle.geometry_laws.specs.PieceLaws.{Inside, Ends}
+use Rattle.geometry_laws.specs.PieceLaws.{Inside}
 use Rattle.geometry_laws.proofs.Each.{Each, Among, each_at, each_of}
 use Rattle.geometry_laws.proofs.PointOrder.{same_symmetric, equal_is_same, less_transitive}
 use Rattle.geometry_laws.proofs.Respect.{on_respects}
 use Rattle.geometry_laws.proofs.RingParity.{position_is_point}
 use Rattle.geometry_laws.proofs.Locating.{start_is_on, end_is_on, by_contraries}
-use Rattle.geometry_laws.proofs.Cuts.{contains_of_among, turn_less, not_after_both, not_before_both, start_is_cut, end_is_cut, or_first, or_last, same_end}
+use Rattle.geometry_laws.proofs.Cuts.{Ends, contains_of_among, turn_less, not_after_both, not_before_both, start_is_cut, end_is_cut, or_first, or_last, same_end}
 use Rattle.cut_laws.proofs.Lists.{Some_of, among_filter, filter_among}
 use Rattle.cut_laws.proofs.Sorted.{Sorted, filter-sorted}
 use Rattle.cut_laws.proofs.CutLists.{IsLeastCut}
@@ -138,10 +138,10 @@ within_piece es ps e x a hx h f = go (compare (point_at e.start) x) refl (compar
         (less_left s.cut p x s.is_point hp s.same g) (less_right x q t.cut hq t.is_point k (sym (same_symmetric t.cut q) ∙ t.same)))
 
     start_same : compare (point_at e.start) x ≡ Equal → ⊥
-    start_same g = f (AtEnd e (contains_of_among e es a) (or_first (same_point (point_at e.start) x) (same_point (point_at e.end) x) ((equal_is_same (point_at e.start) x).0 g)))
+    start_same g = f (AtEnd hx e (contains_of_among e es a) (or_first (same_point (point_at e.start) x) (same_point (point_at e.end) x) ((equal_is_same (point_at e.start) x).0 g)))
 
     end_same : compare (point_at e.end) x ≡ Equal → ⊥
-    end_same g = f (AtEnd e (contains_of_among e es a) (or_last (same_point (point_at e.start) x) (same_point (point_at e.end) x) ((equal_is_same (point_at e.end) x).0 g)))
+    end_same g = f (AtEnd hx e (contains_of_among e es a) (or_last (same_point (point_at e.start) x) (same_point (point_at e.end) x) ((equal_is_same (point_at e.end) x).0 g)))
 
     go : (o : Ordering) → compare (point_at e.start) x ≡ o → (t : Ordering) → compare (point_at e.end) x ≡ t → Standing es ps e (point_at e.start) → Standing es ps e (point_at e.end) → Within es ps x
     go Less g Less k s t = absurd (let z : true ≡ false = sym h ∙ not_after_both e x hx g k in cc)

@@ -21,7 +21,7 @@ use Rattle.integers.proofs.Signs.{cancel_zero, at_most_or_less, at_most_yes}
 use Rattle.integers.proofs.Tests.{equal_from, not_equal_from}
 use Rattle.geometry_laws.specs.RingLaws.{IsClosed}
 use Rattle.geometry_laws.specs.CoverLaws.{Line, value, IsLine}
-use Rattle.geometry_laws.specs.PieceLaws.{Ends, IsPieceOf}
+use Rattle.geometry_laws.specs.PieceLaws.{IsPieceOf}
 use Rattle.geometry_laws.proofs.Plane.{right}
 use Rattle.geometry_laws.proofs.Each.{Each, Among, each_at, each_of, each_map, each_append, each_left, each_right, Passing, some_passed, one_passes, none_passed, parity_none}
 use Rattle.geometry_laws.proofs.Scaling.{and_parts, and_from, same_x}
@@ -34,7 +34,7 @@ use Rattle.geometry_laws.proofs.Lines.{line_side, line_side_slope, value_is_side
 use Rattle.geometry_laws.proofs.Locating.{Off, locate_off, by_contraries}
 use Rattle.geometry_laws.proofs.Triangles.{dots, marks, triangle_of_off, dot_coordinate}
 use Rattle.geometry_laws.proofs.LineOrder.{lex_of_less, lex_weak, up}
-use Rattle.geometry_laws.proofs.Cuts.{contains_of_among, or_first}
+use Rattle.geometry_laws.proofs.Cuts.{Ends, contains_of_among, or_first}
 use Rattle.geometry_laws.proofs.WithinPiece.{locate_within, below_within, slant_edge}
 use Rattle.geometry_laws.proofs.PieceTheorems.{first_belongs, second_belongs, off_marks}
 use Rattle.geometry_laws.proofs.SideTriangles.{below_from}
@@ -243,7 +243,7 @@ off_both a b z hz h f = (
 )
   where
     stands : Each (λ p. stands_at z p ≡ false) (listed a ++ listed b)
-    stands = each_of (λ p. stands_at z p ≡ false) (listed a ++ listed b) (λ p m. by_contraries (stands_at z p) false (λ k. absurd (f (Listed p (contains_of_among p (listed a ++ listed b) m) k))) refl)
+    stands = each_of (λ p. stands_at z p ≡ false) (listed a ++ listed b) (λ p m. by_contraries (stands_at z p) false (λ k. absurd (f (Listed hz p (contains_of_among p (listed a ++ listed b) m) k))) refl)
 
 -- nothing above: the exterior
 exterior_above : (g : Geometry) (z : Point) → Each (λ e. strictly_above e z ≡ false) (edges g) → above g z ≡ Exterior

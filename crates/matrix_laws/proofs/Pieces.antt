@@ -10,7 +10,7 @@ use Rattle.geometry_model.specs.Locations.{stands_at, locate}
 use Rattle.geometry_model.specs.Labels.{above, below, is_upright, edges_of_both}
 use Rattle.geometry_model.specs.Pieces.{Piece, IsPiece, sample}
 use Rattle.geometry_laws.specs.RingLaws.{IsClosed}
-use Rattle.geometry_laws.specs.PieceLaws.{Inside, Ends, IsPieceOf}
+use Rattle.geometry_laws.specs.PieceLaws.{Inside, IsPieceOf}
 use Rattle.geometry_laws.proofs.Plane.{right}
 use Rattle.geometry_laws.proofs.Each.{Each, Among, each_of, each_append}
 use Rattle.geometry_laws.proofs.LeftToRight.{right_trans_first}
@@ -22,7 +22,7 @@ use Rattle.geometry_laws.proofs.Triangles.{dots, marks}
 use Rattle.geometry_laws.proofs.Nudge.{IsSlant}
 use Rattle.geometry_laws.proofs.SideTriangles.{lower_triangle, upper_triangle}
 use Rattle.geometry_laws.proofs.LineOrder.{IsSum, on_sum}
-use Rattle.geometry_laws.proofs.Cuts.{inside_sum, off_within, OneLine, one_line, Apart, apart, start_is_cut, end_is_cut, not_after_both, not_before_both, inside_on_line}
+use Rattle.geometry_laws.proofs.Cuts.{Ends, inside_sum, off_within, OneLine, one_line, Apart, apart, start_is_cut, end_is_cut, not_after_both, not_before_both, inside_on_line}
 use Rattle.geometry_laws.proofs.WithinPiece.{locate_within, slant_edge, strictly_right, no_position_within}
 use Rattle.geometry_laws.proofs.PieceTheorems.{first_belongs, second_belongs}
 use Rattle.geometry_laws.proofs.CoverTheorems.{slant_dots}

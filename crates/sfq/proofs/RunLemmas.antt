@@ -15,15 +15,16 @@ use Rattle.table_model.specs.declared.conditions.Bound.{Bound}
 use Rattle.table_model.specs.declared.queries.Query.{Query}
 use Rattle.table_model.specs.declared.values.NoGeometry.{NoGeometry}
 use Rattle.feature_table.specs.Outcomes.{IsFailure}
-use Rattle.feature_table.specs.Tables.{tables_in}
+use Rattle.feature_table.specs.Tables.{EarlierLoad, tables_in}
 use Rattle.table_model.specs.QueryReading.{query_of}
+use Rattle.spatial_sql.specs.Language.{language}
 use Rattle.table_model.specs.declared.faults.LoadFault.{LoadFault}
 use Rattle.table_model.specs.declared.faults.LoadFault.TheVariants as load
 use Rattle.table_model.specs.declared.faults.TableFault.{TableFault}
 use Rattle.table_model.specs.declared.faults.QueryFault.{QueryFault}
 use Rattle.table_model.specs.declared.faults.QueryFault.TheVariants as query
 use Rattle.sfq.specs.Faults.{of_load, of_put, of_query, of_table}
-use Rattle.sfq.specs.Runs.{IsUnread, KeepsRefused, Runs, after, answer_text, outcome, pair_text, query_outcome}
+use Rattle.sfq.specs.Runs.{IsUnread, KeepsRefused, RefusesFirst, Runs, after, answer_text, outcome, pair_text, query_outcome}
 use Rattle.sfq.specs.Stage.{no_writing, pair_rows, plain_meaning}
 use Rattle.sfq.specs.declared.execute.RowPair.{RowPair}
 use Rattle.sfq.specs.declared.fault.Fault.{Fault}
@@ -129,13 +130,87 @@ table-refused r table (load.WrongType n) answer next old is given read = at-faul
 
 -- the outcome of a run once the query is read, and once the tables are loaded
 pub read-outcome : (definitions : List (TableDef NoGeometry)) (texts : List (List ℕ)) (text : List ℕ) (written : Query NoGeometry NoGeometry)
-    → query_of text ≡ Ok written → outcome definitions texts text ≡ after of_table (tables_in definitions texts) (query_outcome definitions written)
+    → query_of language text ≡ Ok written → outcome definitions texts text ≡ after of_table (tables_in definitions texts) (query_outcome definitions written)
 read-outcome definitions texts text written is =
     ap (λ r. after of_query r (λ q. after of_table (tables_in definitions texts) (query_outcome definitions q))) is
 
 pub loaded-outcome : (definitions these : List (TableDef NoGeometry)) (texts : List (List ℕ)) (text : List ℕ) (written : Query NoGeometry NoGeometry) (tables : List (Table NoGeometry))
-    → query_of text ≡ Ok written → tables_in definitions texts ≡ Ok tables → these ≡ definitions
+    → query_of language text ≡ Ok written → tables_in definitions texts ≡ Ok tables → these ≡ definitions
     → query_outcome these written tables ≡ outcome definitions texts text
 loaded-outcome definitions these texts text written tables is loaded same =
     ap (λ ds. query_outcome ds written tables) same
     ∙ sym (read-outcome definitions texts text written is ∙ ap (λ r. after of_table r (query_outcome definitions written)) loaded)
+
+-- what is refused where a fault is one of the query
+of-query-first : (A : Type 0) (e : QueryFault) (definitions : List (TableDef NoGeometry)) (texts : List (List ℕ)) → RefusesFirst {A = A} (Err (of_query e)) definitions texts
+of-query-first A (query.Lex at) definitions texts = tt
+of-query-first A (query.Syntax at) definitions texts = tt
+of-query-first A (query.UnknownTable at) definitions texts = tt
+of-query-first A (query.SameName at) definitions texts = tt
+of-query-first A (query.UnknownColumn at) definitions texts = tt
+of-query-first A (query.AmbiguousColumn at) definitions texts = tt
+of-query-first A (query.TypeMismatch at) definitions texts = tt
+of-query-first A (query.BadGeometry at f) definitions texts = tt
+of-query-first A (query.BadPattern at) definitions texts = tt
+of-query-first A (query.TooDeep at) definitions texts = tt
+of-query-first A query.TooLong definitions texts = tt
+of-query-first A (query.NumberTooBig at) definitions texts = tt
+of-query-first A query.OutOfMemory definitions texts = tt
+
+-- what is refused where a fault is one of a table
+of-load-first : (A : Type 0) (table : ℕ) (f : LoadFault) (definitions : List (TableDef NoGeometry)) (texts : List (List ℕ)) → EarlierLoad definitions texts table
+    → RefusesFirst {A = A} (Err (of_load table f)) definitions texts
+of-load-first A table load.MissingColumn definitions texts is = is
+of-load-first A table load.DoubleHeader definitions texts is = is
+of-load-first A table (load.UnequalRecord n) definitions texts is = is
+of-load-first A table (load.NotUtf8 n) definitions texts is = is
+of-load-first A table (load.BadInteger n) definitions texts is = is
+of-load-first A table (load.BadGeometry n why) definitions texts is = is
+of-load-first A table (load.WrongType n) definitions texts is = is
+of-load-first A table (load.NullNotAllowed n) definitions texts is = is
+of-load-first A table (load.DoubleKey n) definitions texts is = is
+of-load-first A table load.TooManyRows definitions texts is = is
+of-load-first A table load.ReadFailed definitions texts is = is
+of-load-first A table load.OutOfMemory definitions texts is = tt
+
+at-first : {A : Type 0} (r : Result A Fault) (f : Fault) (definitions : List (TableDef NoGeometry)) (texts : List (List ℕ)) → IsErrAnd r (λ x. x ≡ f)
+    → RefusesFirst {A = A} (Err f) definitions texts → RefusesFirst r definitions texts
+at-first (Ok a) f definitions texts is fact = tt
+at-first {A = A} (Err e) f definitions texts is fact = subst (λ x. RefusesFirst {A = A} (Err x) definitions texts) (sym is) fact
+
+pub query-first : {A : Type 0} (r : Result A Fault) (e : QueryFault) (definitions : List (TableDef NoGeometry)) (texts : List (List ℕ)) → IsErrAnd r (λ x. x ≡ of_query e)
+    → RefusesFirst r definitions texts
+query-first {A = A} r e definitions texts is = at-first r (of_query e) definitions texts is (of-query-first A e definitions texts)
+
+pub table-first : {A : Type 0} (r : Result A Fault) (f : TableFault) (definitions : List (TableDef NoGeometry)) (texts : List (List ℕ)) → IsErrAnd r (λ x. x ≡ of_table f)
+    → EarlierLoad definitions texts f.table → RefusesFirst r definitions texts
+table-first {A = A} r f definitions texts is earlier = at-first r (of_table f) definitions texts is (of-load-first A f.table f.fault definitions texts earlier)
+
+no-load : (e : QueryFault) (table : ℕ) (f : LoadFault) → of_query e ≡ faults.Load table f → ⊥
+no-load (query.Lex at) table f is = cc
+no-load (query.Syntax at) table f is = cc
+no-load (query.UnknownTable at) table f is = cc
+no-load (query.SameName at) table f is = cc
+no-load (query.UnknownColumn at) table f is = cc
+no-load (query.AmbiguousColumn at) table f is = cc
+no-load (query.TypeMismatch at) table f is = cc
+no-load (query.BadGeometry at why) table f is = cc
+no-load (query.BadPattern at) table f is = cc
+no-load (query.TooDeep at) table f is = cc
+no-load query.TooLong table f is = cc
+no-load (query.NumberTooBig at) table f is = cc
+no-load query.OutOfMemory table f is = cc
+
+no-table : {X : Type 0} (answer : Result X QueryFault) (text : X → List ℕ) (table : ℕ) (f : LoadFault) → after of_query answer (λ x. Ok (text x)) ≡ Err (faults.Load table f) → ⊥
+no-table (Ok x) text table f is = cc is
+no-table (Err e) text table f is = no-load e table f (cc is)
+
+-- a query over loaded tables refuses none
+pub bound-first : {A : Type 0} (r : Result A Fault) (definitions bound : List (TableDef NoGeometry)) (texts : List (List ℕ)) (written : Query NoGeometry NoGeometry) (tables : List (Table NoGeometry))
+    (old new : Option (List ℕ)) → Runs r (query_outcome bound written tables) old new → RefusesFirst r definitions texts
+bound-first (Ok a) definitions bound texts written tables old new fact = tt
+bound-first (Err (faults.Query f)) definitions bound texts written tables old new fact = tt
+bound-first (Err (faults.Load table f)) definitions bound texts written tables old new fact =
+    absurd (no-table (binding no_geometry bound written) (λ query. answer_text bound tables query) table f fact.0)
+bound-first (Err faults.Sink) definitions bound texts written tables old new fact = tt
+bound-first (Err faults.Memory) definitions bound texts written tables old new fact = tt

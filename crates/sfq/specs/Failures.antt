@@ -1,10 +1,17 @@
 -- The line and the status of a failure of the program, and the parts of its line.
 use Rattle.std.specs.Prelude.{ℕ, List, ◌++◌, Option, Some, None, decimal, codes}
-use Rattle.table_model.specs.FaultLines.{schema_text, load_text, query_text, memory_text, schema_status, load_status, query_status, line_of}
+use Rattle.table_model.specs.FaultLines.{schema_text, load_text, query_text, geometry_text, memory_text, schema_status, load_status, query_status, line_of}
 use Rattle.sfq.specs.declared.failure.Failure.{Failure}
 use Rattle.sfq.specs.declared.failure.Failure.TheVariants as f
+use Rattle.sfq.specs.declared.failure.Operand.{Operand}
+use Rattle.sfq.specs.declared.failure.Operand.TheVariants.{First, Second}
 use Rattle.sfq.specs.declared.failure.FaultWords.{FaultWords}
 use Rattle.sfq.specs.declared.failure.Words.{Words}
+
+-- what a line calls a geometry of `relate` (profile)
+abbrev pub operand_text : Operand → List ℕ
+operand_text First = codes "first"
+operand_text Second = codes "second"
 
 -- the text of a failure (profile)
 abbrev pub failure_text : Failure → List ℕ
@@ -13,6 +20,8 @@ failure_text f.SchemaUnreadable = codes "schema unreadable"
 failure_text (f.Load table fault) = load_text table.now fault
 failure_text (f.TableUnreadable table) = table.now ++ codes " unreadable"
 failure_text (f.Query fault) = query_text fault
+failure_text (f.Refused operand fault) = operand_text operand ++ (codes " " ++ geometry_text fault)
+failure_text (f.NotServed operand) = operand_text operand ++ codes " not served yet"
 failure_text f.WriteFailed = codes "write failed"
 failure_text f.OutOfMemory = memory_text
 
@@ -27,6 +36,8 @@ failure_status f.SchemaUnreadable = 6
 failure_status (f.Load table fault) = load_status fault
 failure_status (f.TableUnreadable table) = 6
 failure_status (f.Query fault) = query_status fault
+failure_status (f.Refused operand fault) = 5
+failure_status (f.NotServed operand) = 5
 failure_status f.WriteFailed = 6
 failure_status f.OutOfMemory = 7
 

@@ -2,3 +2,4 @@ pub mod Failures
 pub mod Stage
 pub mod Runs
 pub mod Faults
+pub mod Relations

@@ -1,17 +1,23 @@
 //! Why the program ends without its answer: the line that it prints then, and its status.
 
-ghost use Rattle.std.specs.Prelude.{◌≡◌, ◌++◌, map, decimal, codes, OnOk, OnErr};
-ghost use Rattle.std.specs.List.{concat};
+ghost use Rattle.std.specs.Prelude.{◌≡◌, ◌++◌, decimal, codes, OnOk, OnErr};
 ghost use Rattle.std.specs.Io.KnownBytes.{Appends};
 ghost use Rattle.table_model.specs.FaultLines.{schema_text, load_text, query_text, geometry_text, schema_status, load_status, query_status, line_of};
 ghost use Rattle.wkt.specs.Sinks.{AppendsFront, CountsFailure};
-ghost use Rattle.sfq.specs.Failures.{failure_text, failure_line, failure_status, digits_of, fault_text, text_with, words_text};
+ghost use Rattle.sfq.specs.Failures.{failure_text, failure_line, failure_status, digits_of, fault_text, operand_text, text_with, words_text};
 ghost use Rattle.geometry_model.specs.declared.geometry_faults.GeometryFault.TheVariants as g;
 
 use geometry_model::{GeometryFault, TextFault, ValidityFault};
 use itoa::Buffer;
 use table_model::faults::{LoadFault, QueryFault, SchemaFault};
-use wkt::{Sink, SinkFault, put_all};
+use wkt::{Sink, SinkFault, put_parts};
+
+/// One of the two geometries that `relate` is given: the a and the b of a.Relate(b) (06-103r4, 6.1.15.2).
+#[derive(Clone, Copy, Debug, PartialEq, Eq)]
+pub enum Operand {
+    First,
+    Second,
+}
 
 /// Why the program ends without its answer. Names of tables are lent, as the schema spells them. (Profile.)
 #[derive(Clone, Copy, Debug)]
@@ -26,6 +32,10 @@ pub enum Failure<'a> {
     TableUnreadable(&'a str),
     /// The query isn't taken.
     Query(QueryFault),
+    /// The text of this geometry spells none, or one that isn't valid.
+    Refused(Operand, GeometryFault),
+    /// This geometry is of a kind whose matrix isn't served yet.
+    NotServed(Operand),
     /// The answer can't be written.
     WriteFailed,
     /// Memory ran out.
@@ -77,8 +87,8 @@ fn digits<'b>(number: Option<usize>, buffer: &'b mut Buffer) -> &'b str
     }
 }
 
-/// The status that the program ends with: 3 for the schema, 4 for a table, 5 for the query, 6 where reading or
-/// writing failed, 7 for want of memory. (Profile.)
+/// The status that the program ends with: 3 for the schema, 4 for a table, 5 for the query or a geometry of
+/// `relate`, 6 where reading or writing failed, 7 for want of memory. (Profile.)
 pub fn status(failure: &Failure<'_>) -> u8
     ensures { result ≡ failure_status failure.now }
 {
@@ -93,7 +103,7 @@ pub fn status(failure: &Failure<'_>) -> u8
         | Failure::WriteFailed => 6,
         Failure::Schema(_) => 3,
         Failure::Load(_, _) => 4,
-        Failure::Query(_) => 5,
+        Failure::Query(_) | Failure::Refused(_, _) | Failure::NotServed(_) => 5,
     }
 }
 
@@ -121,18 +131,6 @@ fn put_line<'l, S: Sink>(
         b"\n",
     ];
     put_parts(sink, &parts)
-}
-
-// Puts these parts, one after another.
-fn put_parts<S: Sink>(sink: &mut S, parts: &[&[u8]]) -> Result<(), SinkFault>
-    ensures ok { OnOk result (Appends (S.taken sink.old) (S.taken sink.new) (concat (map (λ p. p.now) parts.now))) }
-    ensures front { OnErr result (AppendsFront (S.taken sink.old) (S.taken sink.new) (concat (map (λ p. p.now) parts.now))) }
-    ensures failures { CountsFailure (S.failures sink.old) (S.failures sink.new) result }
-{
-    for part in parts {
-        put_all(sink, part)?;
-    }
-    Ok(())
 }
 
 impl<'a> FaultWords<'a> {
@@ -198,6 +196,18 @@ impl<'a> Words<'a> {
         }
     }
 
+    // The words and a geometry's fault.
+    fn of_fault(words: &'a str, fault: GeometryFault) -> Words<'a>
+        ensures { words_text result ≡ words.entry.now ++ (codes " " ++ geometry_text fault) }
+    {
+        Words {
+            table: "",
+            words,
+            number: None,
+            fault: fault_words(fault),
+        }
+    }
+
     // The words, a number and a geometry's fault, after a table's name or the empty one.
     fn with_fault(table: &'a str, words: &'a str, number: usize, fault: GeometryFault) -> Words<'a>
         ensures { words_text result ≡ ((table.entry.now ++ words.entry.now) ++ decimal number) ++ (codes " " ++ geometry_text fault) }
@@ -220,8 +230,28 @@ fn failure_words<'a>(failure: &Failure<'a>) -> Words<'a>
         Failure::Load(table, fault) => load_words(table, fault),
         Failure::TableUnreadable(table) => Words::plain(table, " unreadable"),
         Failure::Query(fault) => query_words(fault),
+        Failure::Refused(operand, fault) => refused_words(operand, fault),
+        Failure::NotServed(operand) => unserved_words(operand),
         Failure::WriteFailed => Words::plain("", "write failed"),
         Failure::OutOfMemory => Words::plain("", "out of memory"),
+    }
+}
+
+fn refused_words<'a>(operand: Operand, fault: GeometryFault) -> Words<'a>
+    ensures { words_text result ≡ operand_text operand ++ (codes " " ++ geometry_text fault) }
+{
+    match operand {
+        Operand::First => Words::of_fault("first", fault),
+        Operand::Second => Words::of_fault("second", fault),
+    }
+}
+
+fn unserved_words<'a>(operand: Operand) -> Words<'a>
+    ensures { words_text result ≡ operand_text operand ++ codes " not served yet" }
+{
+    match operand {
+        Operand::First => Words::plain("first", " not served yet"),
+        Operand::Second => Words::plain("second", " not served yet"),
     }
 }
 

@@ -1,11 +1,13 @@
 //! The program `sfq`: it reads a schema, one CSV file a table and one SELECT, and writes the rows that the
-//! SELECT means.
+//! SELECT means; and it relates two geometries by their DE-9IM matrix.
 #![tactic(auto)]
 
 pub mod execute;
 pub mod failure;
 pub mod fault;
+pub mod first_run;
 pub mod records;
+pub mod relate;
 pub mod run;
 pub mod serve;
 

@@ -7,7 +7,7 @@ ghost use Rattle.std.specs.Io.KnownBytes.{Appends};
 ghost use Rattle.csv.specs.Writing.{row_text, default_writer};
 ghost use Rattle.wkt.specs.Sinks.{AppendsFront};
 ghost use Rattle.table_model.specs.AnswerTexts.{header, record_of};
-ghost use Rattle.sfq.specs.Runs.{CountsPut, IsUnread, KeepsRefused, Runs, count_after, outcome, pair_text, query_outcome};
+ghost use Rattle.sfq.specs.Runs.{CountsPut, IsUnread, KeepsRefused, RefusesFirst, Runs, count_after, outcome, pair_text, query_outcome};
 ghost use Rattle.table_model.specs.Meanings.{referenced};
 ghost use Rattle.sfq.specs.Stage.{HasReferences, IsPlace, no_writing, pair_rows};
 
@@ -33,6 +33,7 @@ pub fn run<R: Read + Drop, S: Sink>(
     requires { length readers.items ≡ length schema.now }
     ensures answer { (texts : List (List ℕ)) → map R.remaining readers.items ≡ map Some texts → ¬ (IsUnread result)
         → Runs result (outcome schema.now texts query.now) (S.taken sink.old) (S.taken sink.new) }
+    ensures earlier { (texts : List (List ℕ)) → map R.remaining readers.items ≡ map Some texts → RefusesFirst result schema.now texts }
     ensures kept { KeepsRefused result (S.taken sink.old) (S.taken sink.new) }
     ensures failures { S.failures sink.new ≡ count_after (S.failures sink.old) result }
 {

@@ -4,25 +4,24 @@ ghost use Rattle.std.specs.Prelude.{◌≡◌, length, IfOk};
 
 use crate::failure::{Failure, fault_line, status};
 use crate::fault::Fault;
+use crate::relate::relate_texts;
 use crate::run::run;
 use command_line::Order;
 use feature_table::Schema;
 use spatial_sql::read_schema;
 use std::alloc::{AllocError, Global};
 use std::io::{ErrorKind, Read};
-use wkt::Sink;
+use wkt::{Sink, put_parts};
 
 /// How many bytes of a schema's file are read: one more than a schema may have.
 const SCHEMA_BYTES: u64 = 65_537;
 
 /// Does what the order says: puts the answer on `out` and the line of a failure on `err`, and answers the status.
-/// The opener gives the reader of the file at a path, and None where it can't be opened. The schema's file is read
-/// first, then the schema, then all files of tables are opened in the schema's order, and then the query is run.
-/// (Profile.)
+/// The opener gives the reader of the file at a path, and None where it can't be opened. (Profile.)
 pub fn serve<R: Read + Drop, F: FnMut(&str) -> Option<R>, S: Sink, E: Sink>(
     alloc: Global,
     order: &Order,
-    mut opener: F,
+    opener: F,
     out: &mut S,
     err: &mut E,
 ) -> u8
@@ -34,23 +33,68 @@ pub fn serve<R: Read + Drop, F: FnMut(&str) -> Option<R>, S: Sink, E: Sink>(
             directory,
             query,
         } => {
-            let text = match schema_text(alloc, opener(schema.as_str())) {
-                Ok(text) => text,
-                Err(failure) => return failed(&failure, err),
+            let paths = Paths {
+                schema: schema.as_str(),
+                directory: directory.as_str(),
             };
-            let schema = match read_schema(alloc, text.as_slice()) {
-                Ok(schema) => schema,
-                Err(fault) => return failed(&Failure::Schema(fault), err),
-            };
-            let readers = match open_tables(alloc, &schema, directory.as_str(), opener) {
-                Ok(readers) => readers,
-                Err(failure) => return failed(&failure, err),
-            };
-            match run(alloc, &schema, readers, query.as_str(), out) {
-                Ok(()) => 0,
-                Err(fault) => failed(&run_failure(&schema, fault), err),
-            }
+            serve_run(alloc, &paths, query.as_str(), opener, out, err)
         }
+        Order::Relate { first, second } => serve_relate(alloc, first, second, out, err),
+    }
+}
+
+// Where the files of a run stand.
+#[derive(Drop)]
+struct Paths<'a> {
+    schema: &'a str,
+    directory: &'a str,
+}
+
+// Answers a query: the schema's file is read first, then the schema, then all files of tables are opened in the
+// schema's order, and then the query is run.
+fn serve_run<R: Read + Drop, F: FnMut(&str) -> Option<R>, S: Sink, E: Sink>(
+    alloc: Global,
+    paths: &Paths<'_>,
+    query: &str,
+    mut opener: F,
+    out: &mut S,
+    err: &mut E,
+) -> u8
+    requires { F.IsAlwaysCallable opener }
+{
+    let text = match schema_text(alloc, opener(paths.schema)) {
+        Ok(text) => text,
+        Err(failure) => return failed(&failure, err),
+    };
+    let schema = match read_schema(alloc, text.as_slice()) {
+        Ok(schema) => schema,
+        Err(fault) => return failed(&Failure::Schema(fault), err),
+    };
+    let readers = match open_tables(alloc, &schema, paths.directory, opener) {
+        Ok(readers) => readers,
+        Err(failure) => return failed(&failure, err),
+    };
+    match run(alloc, &schema, readers, query, out) {
+        Ok(()) => 0,
+        Err(fault) => failed(&run_failure(&schema, fault), err),
+    }
+}
+
+// Puts the nine characters of the matrix of two geometries, and a line feed.
+fn serve_relate<S: Sink, E: Sink>(
+    alloc: Global,
+    first: &str,
+    second: &str,
+    out: &mut S,
+    err: &mut E,
+) -> u8 {
+    let matrix = match relate_texts(alloc, first.as_bytes(), second.as_bytes()) {
+        Ok(matrix) => matrix,
+        Err(failure) => return failed(&failure, err),
+    };
+    match put_parts(out, &[matrix.text().as_slice(), b"\n"]) {
+        Ok(()) => 0,
+        Err(_) => failed(&Failure::WriteFailed, err),
     }
 }
 

@@ -1,8 +1,9 @@
 //! Commands over memory: what they print, and their status.
 
-use crate::failure::{Failure, fault_line, status};
+use crate::failure::{Failure, Operand, fault_line, status};
 use crate::serve::serve;
-use command_line::Order;
+use command_line::{Order, order};
+use geometry_model::{GeometryFault, ValidityFault};
 use std::alloc::{AllocError, Global};
 use std::test::Fail;
 use table_model::faults::LoadFault;
@@ -12,6 +13,9 @@ use wkt::devices::{StopReader, StopSink};
 const SCHEMA: &str = "CREATE TABLE t (id INTEGER PRIMARY KEY, pop INTEGER, name TEXT);";
 
 const TABLE: &str = "id,pop,name\n1,8,a\n2,9,b\n3,,c\n4,7,\n";
+
+// The files of a command that reads none.
+const NO_TEXT: &str = "";
 
 const QUERY: &str = "SELECT id, name FROM t WHERE pop > 5 AND NOT name = 'b'";
 
@@ -24,7 +28,15 @@ fn run_order(alloc: Global, query: &str) -> Result<Order, AllocError> {
     })
 }
 
-// What a run prints on standard output and on standard error, and its status.
+// The order to relate two geometries.
+fn relate_order(alloc: Global, first: &str, second: &str) -> Result<Order, AllocError> {
+    Ok(Order::Relate {
+        first: String::from_str(alloc, first)?,
+        second: String::from_str(alloc, second)?,
+    })
+}
+
+// What a command prints on standard output and on standard error, and its status.
 #[derive(Drop)]
 struct Printed {
     out: MemorySink,
@@ -55,6 +67,18 @@ fn run_over<'a>(
     let mut out = MemorySink::new(alloc);
     let mut err = MemorySink::new(alloc);
     let opener = move |path: &str| file_at(path, schema, table);
+    let status = serve(alloc, &order, opener, &mut out, &mut err);
+    Ok(Printed { out, err, status })
+}
+
+// Relates two geometries in well-known text.
+fn relate(rt: &HostRuntime, first: &str, second: &str) -> Result<Printed, Fail> {
+    let alloc = rt.alloc();
+    let order = relate_order(alloc, first, second)?;
+    let mut out = MemorySink::new(alloc);
+    let mut err = MemorySink::new(alloc);
+    let text = NO_TEXT.as_bytes();
+    let opener = move |path: &str| file_at(path, text, text);
     let status = serve(alloc, &order, opener, &mut out, &mut err);
     Ok(Printed { out, err, status })
 }
@@ -252,6 +276,93 @@ fn faults_have_lines(rt: HostRuntime) -> Result<(), Fail> {
 }
 
 #[test]
+fn geometries_are_related(rt: HostRuntime) -> Result<(), Fail> {
+    for (first, second, matrix) in [
+        ("POINT(1 2)", "MULTIPOINT((1 2),(3 4))", "0FFFFF0F2\n"),
+        ("POINT(1 2)", "multipoint ( 3 4 )", "FF0FFF0F2\n"),
+        ("MULTIPOINT(1 1,1 1)", "POINT(+1.00 01)", "0FFFFFFF2\n"),
+        ("POINT EMPTY", "MULTIPOINT EMPTY", "FFFFFFFF2\n"),
+        ("POINT(1.0 2)", "POINT(0 0)", "FF0FFF0F2\n"),
+        ("POINT(1. .0)", "POINT(0 0)", "FF0FFF0F2\n"),
+        ("MULTIPOINT((1 2),(3 4))", "POINT(1 2)", "0F0FFFFF2\n"),
+        (
+            "POINT(100000 -100000)",
+            "POINT(100000 -100000)",
+            "0FFFFFFF2\n",
+        ),
+    ] {
+        let run = relate(&rt, first, second)?;
+        assert_eq!(rt; run.err.bytes(), b"".as_slice());
+        assert_eq!(rt; run.out.bytes(), matrix.as_bytes());
+        assert_eq!(rt; run.status, 0);
+    }
+    Ok(())
+}
+
+#[test]
+fn geometries_are_refused(rt: HostRuntime) -> Result<(), Fail> {
+    for (first, second, line) in [
+        ("POINT(0 0)", "POINT(100001 0)", "sfq: second W3 at 6\n"),
+        ("POINT(100001 0)", "POINT(0 0)", "sfq: first W3 at 6\n"),
+        ("POINT(1.5 2)", "POINT(0 0)", "sfq: first W2 at 6\n"),
+        ("POINT(1 2", "POINT(0 0)", "sfq: first W1 at 9\n"),
+        ("POINT(1e0 2)", "POINT(0 0)", "sfq: first W1 at 7\n"),
+        ("POINT(1 2", "POINT(1.5 2)", "sfq: first W1 at 9\n"),
+        ("LINESTRING(0 0,1 1)", "POINT(0 0)", "sfq: first W1 at 0\n"),
+        (
+            "POINT(0 0)",
+            " Polygon((0 0,4 0,4 4,0 0))",
+            "sfq: second W1 at 1\n",
+        ),
+        ("", "POINT(0 0)", "sfq: first W1 at 0\n"),
+    ] {
+        let run = relate(&rt, first, second)?;
+        assert_eq!(rt; run.err.bytes(), line.as_bytes());
+        assert_eq!(rt; run.out.bytes(), b"".as_slice());
+        assert_eq!(rt; run.status, 5);
+    }
+    Ok(())
+}
+
+#[test]
+fn too_many_positions_are_refused(rt: HostRuntime) -> Result<(), Fail> {
+    let most = followed(rt.alloc(), "MULTIPOINT(1 1", 9_999, ",1 1")?;
+    let taken = followed(rt.alloc(), most.as_str(), 1, ")")?;
+    let run = relate(&rt, taken.as_str(), "POINT(1 1)")?;
+    assert_eq!(rt; run.out.bytes(), b"0FFFFFFF2\n".as_slice());
+    let past = followed(rt.alloc(), most.as_str(), 1, ",1 1)")?;
+    let run = relate(&rt, past.as_str(), "POINT(1 1)")?;
+    assert_eq!(rt; run.err.bytes(), b"sfq: first W4\n".as_slice());
+    assert_eq!(rt; run.status, 5);
+    Ok(())
+}
+
+#[test]
+fn the_matrix_may_not_be_written(rt: HostRuntime) -> Result<(), Fail> {
+    for (put, out_text) in [(1, ""), (2, "0FF"), (4, "0FFFFFFF2")] {
+        let order = relate_order(rt.alloc(), "POINT(1 1)", "POINT(1 1)")?;
+        let mut out = StopSink::new(rt.alloc(), put, 3);
+        let mut err = MemorySink::new(rt.alloc());
+        let text = NO_TEXT.as_bytes();
+        let opener = move |path: &str| file_at(path, text, text);
+        let status = serve(rt.alloc(), &order, opener, &mut out, &mut err);
+        assert_eq!(rt; err.bytes(), b"sfq: write failed\n".as_slice());
+        assert_eq!(rt; out.bytes(), out_text.as_bytes());
+        assert_eq!(rt; status, 6);
+    }
+    Ok(())
+}
+
+#[test]
+fn relate_with_one_word_is_a_misuse(rt: HostRuntime) -> Result<(), Fail> {
+    let misuse = order(rt.alloc(), &["sfq", "relate", "POINT(1 1)"])
+        .err()
+        .ok_or("a misuse")?;
+    assert_eq!(rt; misuse.status(), 2);
+    Ok(())
+}
+
+#[test]
 fn a_text_that_is_no_utf8_is_refused(rt: HostRuntime) -> Result<(), Fail> {
     let run = run_over(&rt, SCHEMA.as_bytes(), b"id,pop,name\n1,2,\xff\n", QUERY)?;
     assert_eq!(rt; run.err.bytes(), b"sfq: t L4 record 1\n".as_slice());
@@ -397,6 +508,24 @@ fn lines_are_put(rt: HostRuntime) {
             Failure::Load("t", LoadFault::TooManyRows),
             "sfq: t L10\n",
             4,
+        ),
+        (
+            Failure::NotServed(Operand::First),
+            "sfq: first not served yet\n",
+            5,
+        ),
+        (
+            Failure::NotServed(Operand::Second),
+            "sfq: second not served yet\n",
+            5,
+        ),
+        (
+            Failure::Refused(
+                Operand::Second,
+                GeometryFault::Invalid(ValidityFault::RingsMeet(0, 1)),
+            ),
+            "sfq: second V4 0 1\n",
+            5,
         ),
         (Failure::OutOfMemory, "sfq: out of memory\n", 7),
         (Failure::WriteFailed, "sfq: write failed\n", 6),

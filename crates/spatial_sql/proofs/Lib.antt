@@ -1,14 +1,12 @@
 pub mod Lexing
 pub mod Counts
 pub mod Outcomes
-pub mod QuerySound
-pub mod TokensEnd
 pub mod TokenSlices
-pub mod QueryLaws
 pub mod Ascii
 pub mod LawfulSchemas
-pub mod QueryComplete
 pub mod SchemaSound
 pub mod SchemaLaws
 pub mod AsciiWords
 pub mod SchemaComplete
+pub mod SchemaRefused
+pub mod SchemaFirst

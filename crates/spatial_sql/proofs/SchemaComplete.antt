@@ -2,20 +2,19 @@
 use Rattle.std.proofs.Common.{◌≡◌, ◌≤◌, ◌<◌, ◌+◌, ℕ, zero, suc, Bool, true, false, ◌&&◌, ◌||◌, not, List, [], ◌∷◌, ◌++◌, length, map, Option, Some, None, Ok, inl, inr, refl, sym, ap, subst, ◌∙◌, append_assoc, length-append, arith}
 use Rattle.std.specs.List.{list_all, list_any, slice_get}
 use Rattle.std.specs.Prelude.{nat_le, codes}
-use Rattle.std.proofs.lemmas.Bool.{and_parts, or_parts, leb-true, lt-leb, le-ltb, false≢true}
+use Rattle.std.proofs.lemmas.Bool.{and_parts, or_parts, leb-true, lt-leb, false≢true}
 use Rattle.spatial_sql.proofs.AsciiWords.{AsciiWords, words_before, words_behind}
-use Rattle.spatial_sql.proofs.QuerySound.{Begins, one_begins, seq_begins}
+use Rattle.table_model.proofs.QuerySound.{Begins, one_begins, seq_begins}
 use Rattle.table_model.specs.Definitions.{names_differ, is_integer, may_be_key, column_names, lawful_table, lawful}
 use Rattle.table_model.specs.Parsers.{kind, place, spelling, next, sees, after, expect}
 use Rattle.table_model.specs.QueryGrammar.{Phrase, IsOne, IsToken, ◌▸◌, IsOptional, IsParts}
-use Rattle.table_model.specs.SchemaGrammar.{IsWord, IsNamed, IsType, IsNotNull, IsPrimaryKey, IsMark, AreMarks, Marked, IsMarked, key_places, IsTable, AreTables}
+use Rattle.table_model.specs.SchemaGrammar.{IsWord, IsType, AreMarks, Marked, IsMarked, key_places, IsTable, AreTables}
 use Rattle.table_model.specs.SchemaReading.{expect_word, is_ascii, new_name, type_named, column_type, null_mark, key_mark, marks, has_column, column, is_there, key_after, columns_from, columns, has_table, table_name, table, goes_on, tables_from, all_tables, schema}
 use Rattle.table_model.specs.Texts.{same_name}
 use Rattle.table_model.specs.Tokens.{same_kind}
 use Rattle.table_model.specs.declared.definitions.ColumnType.{ColumnType}
 use Rattle.table_model.specs.declared.definitions.ColumnDef.{ColumnDef}
 use Rattle.table_model.specs.declared.definitions.TableDef.{TableDef}
-use Rattle.table_model.specs.declared.faults.SchemaFault.{SchemaFault}
 use Rattle.table_model.specs.declared.faults.SchemaFault.TheVariants as fault
 use Rattle.table_model.specs.declared.tokens.Token.{Token}
 use Rattle.table_model.specs.declared.tokens.TokenKind.{TokenKind}
@@ -28,28 +27,28 @@ unfolding same_kind
 same_itself k.Word = refl
 same_itself _ = refl
 
-is_kind : (kind known : TokenKind) → kind ≡ known → same_kind kind known ≡ true
+pub is_kind : (kind known : TokenKind) → kind ≡ known → same_kind kind known ≡ true
 is_kind kind known e = rw e (same_itself known)
 
 other_kind : (kind known other : TokenKind) → kind ≡ known → same_kind known other ≡ false → same_kind kind other ≡ false
 other_kind kind known other e h = rw e h
 
-one_first : (P : Token → Type 0) (Q : Phrase) (ts : List Token) → (IsOne P ▸ Q) ts → (m : Token) × (d : List Token) × (ts ≡ m ∷ d) × P m × Q d
+pub one_first : (P : Token → Type 0) (Q : Phrase) (ts : List Token) → (IsOne P ▸ Q) ts → (m : Token) × (d : List Token) × (ts ≡ m ∷ d) × P m × Q d
 one_first P Q ts ([], d, e, p, q) = absurd p
 one_first P Q ts (m ∷ [], d, e, p, q) = (m, d, e, p, q)
 one_first P Q ts (m ∷ n ∷ more, d, e, p, q) = absurd p
 
-one_only : (P : Token → Type 0) (ts : List Token) → IsOne P ts → (n : Token) × (ts ≡ n ∷ []) × P n
+pub one_only : (P : Token → Type 0) (ts : List Token) → IsOne P ts → (n : Token) × (ts ≡ n ∷ []) × P n
 one_only P [] p = absurd p
 one_only P (n ∷ []) p = (n, refl, p)
 one_only P (n ∷ v ∷ more) p = absurd p
 
-one_last : (P : Phrase) (Q : Token → Type 0) (ts : List Token) → (P ▸ IsOne Q) ts → (a : List Token) × (m : Token) × (ts ≡ a ++ m ∷ []) × P a × Q m
+pub one_last : (P : Phrase) (Q : Token → Type 0) (ts : List Token) → (P ▸ IsOne Q) ts → (a : List Token) × (m : Token) × (ts ≡ a ++ m ∷ []) × P a × Q m
 one_last P Q ts (a, [], e, p, q) = absurd q
 one_last P Q ts (a, m ∷ [], e, p, q) = (a, m, e, p, q)
 one_last P Q ts (a, m ∷ n ∷ more, e, p, q) = absurd q
 
-two_only : (P Q : Token → Type 0) (ts : List Token) → (IsOne P ▸ IsOne Q) ts → (m n : Token) × (ts ≡ m ∷ n ∷ []) × P m × Q n
+pub two_only : (P Q : Token → Type 0) (ts : List Token) → (IsOne P ▸ IsOne Q) ts → (m n : Token) × (ts ≡ m ∷ n ∷ []) × P m × Q n
 two_only P Q ts p = go (one_first P (IsOne Q) ts p)
   where
     last : (m : Token) (d : List Token) → ts ≡ m ∷ d → P m → ((n : Token) × (d ≡ n ∷ []) × Q n) → (m n : Token) × (ts ≡ m ∷ n ∷ []) × P m × Q n
@@ -58,38 +57,38 @@ two_only P Q ts p = go (one_first P (IsOne Q) ts p)
     go : ((m : Token) × (d : List Token) × (ts ≡ m ∷ d) × P m × IsOne Q d) → (m n : Token) × (ts ≡ m ∷ n ∷ []) × P m × Q n
     go (m, d, e, h, q) = last m d e h (one_only Q d q)
 
-split : (used a b d tail : List Token) (m : Token) → used ≡ a ++ b → b ≡ m ∷ d → used ++ tail ≡ a ++ m ∷ (d ++ tail)
+pub split : (used a b d tail : List Token) (m : Token) → used ≡ a ++ b → b ≡ m ∷ d → used ++ tail ≡ a ++ m ∷ (d ++ tail)
 split used a b d tail m e f = ap (λ l. l ++ tail) e ∙ append_assoc a b tail ∙ ap (λ l. a ++ (l ++ tail)) f
 
 -- ---- names, types and marks
 
-name_read : (full taken : Bool) (u : Token) (ts : List Token) → u.kind ≡ k.Word → is_ascii u.text ≡ true → full ≡ false → taken ≡ false
+pub name_read : (full taken : Bool) (u : Token) (ts : List Token) → u.kind ≡ k.Word → is_ascii u.text ≡ true → full ≡ false → taken ≡ false
     → new_name full taken (u ∷ ts) ≡ Ok (u.text, ts)
 unfolding new_name sees kind next spelling
 name_read full taken u ts word ascii e f = rw (is_kind u.kind k.Word word, ascii, e, f) refl
 
-type_read : {T : Type 0} (geometry : List ℕ → Option T) (type : ColumnType T) (u : Token) (ts : List Token) → u.kind ≡ k.Word → type_named geometry u.text ≡ Some type
+pub type_read : {T : Type 0} (geometry : List ℕ → Option T) (type : ColumnType T) (u : Token) (ts : List Token) → u.kind ≡ k.Word → type_named geometry u.text ≡ Some type
     → column_type geometry (u ∷ ts) ≡ Ok (type, ts)
 unfolding column_type sees kind next spelling
 type_read geometry type u ts word e = rw (is_kind u.kind k.Word word, e) refl
 
-word_read : (word : List ℕ) (u : Token) (ts : List Token) → u.kind ≡ k.Word → same_name u.text word ≡ true → expect_word word (u ∷ ts) ≡ Ok (tt, ts)
+pub word_read : (word : List ℕ) (u : Token) (ts : List Token) → u.kind ≡ k.Word → same_name u.text word ≡ true → expect_word word (u ∷ ts) ≡ Ok (tt, ts)
 unfolding expect_word sees kind next spelling
 word_read word u ts e f = rw (is_kind u.kind k.Word e, f) refl
 
-expect_read : (wanted : TokenKind) (m : Token) (ts : List Token) → m.kind ≡ wanted → expect fault.Syntax wanted (m ∷ ts) ≡ Ok (tt, ts)
+pub expect_read : (wanted : TokenKind) (m : Token) (ts : List Token) → m.kind ≡ wanted → expect fault.Syntax wanted (m ∷ ts) ≡ Ok (tt, ts)
 unfolding expect sees kind next
 expect_read wanted m ts e = rw (is_kind m.kind wanted e) refl
 
-null_read : (m n : Token) (ts : List Token) → m.kind ≡ k.Not → n.kind ≡ k.Null → null_mark (m ∷ n ∷ ts) ≡ Ok (true, ts)
+pub null_read : (m n : Token) (ts : List Token) → m.kind ≡ k.Not → n.kind ≡ k.Null → null_mark (m ∷ n ∷ ts) ≡ Ok (true, ts)
 unfolding null_mark after sees kind next
 null_read m n ts e f = rw (is_kind m.kind k.Not e, expect_read k.Null n ts f) refl
 
-null_absent : (t : Token) (ts : List Token) → same_kind t.kind k.Not ≡ false → null_mark (t ∷ ts) ≡ Ok (false, t ∷ ts)
+pub null_absent : (t : Token) (ts : List Token) → same_kind t.kind k.Not ≡ false → null_mark (t ∷ ts) ≡ Ok (false, t ∷ ts)
 unfolding null_mark after sees kind next
 null_absent t ts e = rw e refl
 
-key_read : {T : Type 0} (has_key : Bool) (type : ColumnType T) (m n : Token) (ts : List Token)
+pub key_read : {T : Type 0} (has_key : Bool) (type : ColumnType T) (m n : Token) (ts : List Token)
     → m.kind ≡ k.Word → same_name m.text (codes "PRIMARY") ≡ true → n.kind ≡ k.Word → same_name n.text (codes "KEY") ≡ true → has_key ≡ false → is_integer type ≡ true
     → key_mark has_key type (m ∷ n ∷ ts) ≡ Ok (true, ts)
 unfolding key_mark sees kind next spelling
@@ -112,10 +111,10 @@ unfolding marks
 marks_late has_key type is_key not_null ts ts1 ts2 ts3 e f g = rw (e, f, g) refl
 
 -- what follows a column begins no mark
-abbrev EndsColumn : TokenKind → Type 0
+abbrev pub EndsColumn : TokenKind → Type 0
 EndsColumn kind = (same_kind kind k.Not ≡ false) × (same_kind kind k.Word ≡ false)
 
-word_not : (kind : TokenKind) → kind ≡ k.Word → same_kind kind k.Not ≡ false
+pub word_not : (kind : TokenKind) → kind ≡ k.Word → same_kind kind k.Not ≡ false
 unfolding same_kind
 word_not kind e = rw e refl
 
@@ -127,10 +126,10 @@ not_word kind e = rw e refl
 abbrev MayBeKey : {T : Type 0} → Bool → ColumnType T → Bool → Type 0
 MayBeKey has_key type is_key = is_key ≡ true → (has_key ≡ false) × (is_integer type ≡ true)
 
-abbrev IsWordOf : List ℕ → Token → Type 0
+abbrev pub IsWordOf : List ℕ → Token → Type 0
 IsWordOf word t = (t.kind ≡ k.Word) × (same_name t.text word ≡ true)
 
-marks_complete : {T : Type 0} (has_key : Bool) (type : ColumnType T) (not_null is_key : Bool) (used : List Token) (t : Token) (rest : List Token)
+pub marks_complete : {T : Type 0} (has_key : Bool) (type : ColumnType T) (not_null is_key : Bool) (used : List Token) (t : Token) (rest : List Token)
     → AreMarks not_null is_key used → EndsColumn t.kind → MayBeKey has_key type is_key → marks has_key type (used ++ t ∷ rest) ≡ Ok ((not_null, is_key), t ∷ rest)
 marks_complete has_key type true true used t rest (inl (a, b, e, p, q)) f may =
     let (m, n, ea, isnt, null) = two_only (λ t. t.kind ≡ k.Not) (λ t. t.kind ≡ k.Null) a p in
@@ -177,7 +176,7 @@ marks_complete has_key type false false used t rest (inr (b, a, e, none, empty))
 
 -- ---- columns
 
-column_read : {T : Type 0} (geometry : List ℕ → Option T) (found : List (ColumnDef T)) (has_key : Bool) (type : ColumnType T) (not_null is_key : Bool) (u v : Token) (ts tail : List Token)
+pub column_read : {T : Type 0} (geometry : List ℕ → Option T) (found : List (ColumnDef T)) (has_key : Bool) (type : ColumnType T) (not_null is_key : Bool) (u v : Token) (ts tail : List Token)
     → u.kind ≡ k.Word → is_ascii u.text ≡ true → nat_le 32 (length found) ≡ false → has_column found u.text ≡ false
     → v.kind ≡ k.Word → type_named geometry v.text ≡ Some type → marks has_key type ts ≡ Ok ((not_null, is_key), tail)
     → column geometry found has_key (u ∷ v ∷ ts) ≡ Ok ((record { name = u.text; column_type = type; not_null = not_null }, is_key), tail)
@@ -270,23 +269,23 @@ key_whole (Some key) place found c false more h may e = absurd (false≢true e)
 
 -- ---- lists of columns
 
-column_then : {T : Type 0} (geometry : List ℕ → Option T) (n : ℕ) (found : List (ColumnDef T)) (key : Option ℕ) (x : Marked T) (ts : List Token) (m : Token) (rest : List Token)
+pub column_then : {T : Type 0} (geometry : List ℕ → Option T) (n : ℕ) (found : List (ColumnDef T)) (key : Option ℕ) (x : Marked T) (ts : List Token) (m : Token) (rest : List Token)
     → column geometry found (is_there key) ts ≡ Ok (x, m ∷ rest) → m.kind ≡ k.Comma
     → columns_from geometry (suc n) found key ts ≡ columns_from geometry n (found ++ x.0 ∷ []) (key_after key (length found) x.1) rest
 unfolding columns_from after sees kind next
 column_then geometry n found key x ts m rest e g = rw (e, is_kind m.kind k.Comma g) refl
 
-column_last : {T : Type 0} (geometry : List ℕ → Option T) (n : ℕ) (found : List (ColumnDef T)) (key : Option ℕ) (x : Marked T) (ts : List Token) (t : Token) (rest : List Token)
+pub column_last : {T : Type 0} (geometry : List ℕ → Option T) (n : ℕ) (found : List (ColumnDef T)) (key : Option ℕ) (x : Marked T) (ts : List Token) (t : Token) (rest : List Token)
     → column geometry found (is_there key) ts ≡ Ok (x, t ∷ rest) → same_kind t.kind k.Comma ≡ false
     → columns_from geometry (suc n) found key ts ≡ Ok ((found ++ x.0 ∷ [], key_after key (length found) x.1), t ∷ rest)
 unfolding columns_from after sees kind next
 column_last geometry n found key x ts t rest e g = rw (e, g) refl
 
-comma_ends : (kind : TokenKind) → kind ≡ k.Comma → EndsColumn kind
+pub comma_ends : (kind : TokenKind) → kind ≡ k.Comma → EndsColumn kind
 unfolding same_kind
 comma_ends kind e = rw e (refl, refl)
 
-parenthesis_ends : (kind : TokenKind) → kind ≡ k.RightParenthesis → EndsColumn kind × (same_kind kind k.Comma ≡ false)
+pub parenthesis_ends : (kind : TokenKind) → kind ≡ k.RightParenthesis → EndsColumn kind × (same_kind kind k.Comma ≡ false)
 unfolding same_kind
 parenthesis_ends kind e = rw e ((refl, refl), refl)
 
@@ -349,7 +348,7 @@ columns_complete {T} geometry place (y ∷ more) x (suc n) found key used t rest
         ∙ ap (λ l. Ok ((l, Some place), t ∷ rest)) (append_assoc found (x.0 ∷ []) (y.0 ∷ firsts more))
 
 -- there are no more parts than tokens
-turns_suffice : {A : Type 0} (between : TokenKind) (P : A → Phrase) (more : List A) (x : A) (used : List Token) (t : Token) (rest : List Token)
+pub turns_suffice : {A : Type 0} (between : TokenKind) (P : A → Phrase) (more : List A) (x : A) (used : List Token) (t : Token) (rest : List Token)
     → IsParts between P x more used → length more < length (used ++ t ∷ rest)
 turns_suffice between P [] x used t rest p = omega (arith, length-append used (t ∷ rest))
 turns_suffice {A} between P (y ∷ more) x used t rest (a, b, e, p, q) = go (λ d h. turns_suffice between P more y d t rest h) (one_first _ (IsParts between P y more) b q)
@@ -360,7 +359,7 @@ turns_suffice {A} between P (y ∷ more) x used t rest (a, b, e, p, q) = go (λ 
 
 -- ---- tables
 
-table_read : {T : Type 0} (geometry : List ℕ → Option T) (found : List (TableDef T)) (cols : List (ColumnDef T)) (key : ℕ) (u1 u2 u3 u4 : Token) (ts : List Token) (m : Token) (tail : List Token)
+pub table_read : {T : Type 0} (geometry : List ℕ → Option T) (found : List (TableDef T)) (cols : List (ColumnDef T)) (key : ℕ) (u1 u2 u3 u4 : Token) (ts : List Token) (m : Token) (tail : List Token)
     → IsWordOf (codes "CREATE") u1 → IsWordOf (codes "TABLE") u2 → u3.kind ≡ k.Word → is_ascii u3.text ≡ true → nat_le 16 (length found) ≡ false → has_table found u3.text ≡ false
     → u4.kind ≡ k.LeftParenthesis → columns geometry ts ≡ Ok ((cols, Some key), m ∷ tail) → m.kind ≡ k.RightParenthesis
     → table geometry found (u1 ∷ u2 ∷ u3 ∷ u4 ∷ ts) ≡ Ok (record { name = u3.text; columns = cols; key = key }, tail)
@@ -420,7 +419,7 @@ semicolon_read : (m n : Token) → m.kind ≡ k.Semicolon → n.kind ≡ k.End �
 unfolding goes_on after sees kind next same_kind
 semicolon_read m n e g = rw (e, g) refl
 
-separator_read : (m : Token) (rest : List Token) → m.kind ≡ k.Semicolon → sees k.End rest ≡ false → goes_on (m ∷ rest) ≡ Ok (true, rest)
+pub separator_read : (m : Token) (rest : List Token) → m.kind ≡ k.Semicolon → sees k.End rest ≡ false → goes_on (m ∷ rest) ≡ Ok (true, rest)
 unfolding goes_on after sees kind next
 separator_read m rest e h = rw (is_kind m.kind k.Semicolon e, h) refl
 
@@ -449,7 +448,7 @@ tail_there ts ([], last, e, inl none, p) = let (n, f, end) = one_only (λ t. t.k
 tail_there ts (s ∷ semi, last, e, q, p) = (s, semi ++ last, e)
 tail_there ts ([], last, e, inr s, p) = absurd s
 
-abbrev IsWordKind : TokenKind → Type 0
+abbrev pub IsWordKind : TokenKind → Type 0
 IsWordKind kind = kind ≡ k.Word
 
 table_begins : {T : Type 0} (geometry : List ℕ → Option T) (x : TableDef T) (ts : List Token) → IsTable geometry x ts → Begins IsWordKind ts
@@ -463,13 +462,13 @@ word_no_end : (kind : TokenKind) → kind ≡ k.Word → same_kind kind k.End �
 unfolding same_kind
 word_no_end kind e = rw e refl
 
-not_end : (used tail : List Token) → Begins IsWordKind used → sees k.End (used ++ tail) ≡ false
+pub not_end : (used tail : List Token) → Begins IsWordKind used → sees k.End (used ++ tail) ≡ false
 unfolding sees kind
 not_end used tail (t, more, e, f) = ap (λ l. sees k.End (l ++ tail)) e ∙ word_no_end t.kind f
 
 -- ---- lists of tables
 
-table_then : {T : Type 0} (geometry : List ℕ → Option T) (n : ℕ) (found : List (TableDef T)) (x : TableDef T) (ts mid rest : List Token)
+pub table_then : {T : Type 0} (geometry : List ℕ → Option T) (n : ℕ) (found : List (TableDef T)) (x : TableDef T) (ts mid rest : List Token)
     → table geometry found ts ≡ Ok (x, mid) → goes_on mid ≡ Ok (true, rest) → tables_from geometry (suc n) found ts ≡ tables_from geometry n (found ++ x ∷ []) rest
 unfolding tables_from
 table_then geometry n found x ts mid rest e g = rw (e, g) refl

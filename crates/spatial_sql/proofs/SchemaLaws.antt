@@ -5,7 +5,7 @@ use Rattle.spatial_sql.proofs.AsciiWords.{tokens_ascii}
 use Rattle.spatial_sql.proofs.LawfulSchemas.{lawful-from_schema}
 use Rattle.spatial_sql.proofs.SchemaComplete.{schema_complete}
 use Rattle.spatial_sql.proofs.SchemaSound.{IfRead, schema_sound}
-use Rattle.spatial_sql.proofs.TokensEnd.{tokens_once}
+use Rattle.table_model.proofs.TokensEnd.{tokens_once}
 use Rattle.table_model.specs.declared.definitions.TableDef.{TableDef}
 use Rattle.table_model.specs.declared.faults.SchemaFault.{SchemaFault}
 use Rattle.table_model.specs.declared.faults.SchemaFault.TheVariants as fault

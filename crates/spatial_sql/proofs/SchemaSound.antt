@@ -1,17 +1,16 @@
 -- What the readers of a schema read stands in its grammar.
-use Rattle.std.proofs.Common.{◌≡◌, ◌⊎◌, ◌+◌, ◌≤◌, ◌&&◌, ◌||◌, not, ℕ, zero, suc, Bool, true, false, cond, if◌then◌else◌, List, [], ◌∷◌, ◌++◌, length, map, Option, Some, None, Ok, Err, inl, inr, refl, sym, ap, subst, ◌∙◌, append_assoc, append-nil, arith, rules}
+use Rattle.std.proofs.Common.{◌≡◌, ◌⊎◌, ◌+◌, ◌&&◌, ◌||◌, not, ℕ, zero, suc, Bool, true, false, if◌then◌else◌, List, [], ◌∷◌, ◌++◌, length, map, Option, Some, None, Ok, Err, inl, inr, refl, sym, ap, subst, ◌∙◌, append_assoc, append-nil, arith, rules}
 use denote.Enum.Bare.{same_true}
 use Rattle.std.specs.Option.{option_to_list}
-use Rattle.spatial_sql.proofs.QuerySound.{EndsOnce}
+use Rattle.table_model.proofs.QuerySound.{EndsOnce}
 use Rattle.std.specs.Prelude.{nat_le, codes}
 use Rattle.std.proofs.lemmas.Bool.{and_parts, false≢true}
 use Rattle.table_model.specs.contracts.tokens.TokenKind.{the_type}
 use Rattle.table_model.specs.Definitions.{is_integer}
-use Rattle.table_model.specs.Parsers.{Outcome, Parser, kind, place, spelling, next, sees, after, and_then, ◌>>=◌, pure, eat, expect}
-use Rattle.table_model.specs.QueryGrammar.{Phrase, IsOne, IsToken, ◌▸◌, IsOptional, IsParts}
+use Rattle.table_model.specs.Parsers.{Outcome, kind, place, spelling, next, sees, after, and_then, ◌>>=◌, pure, expect}
+use Rattle.table_model.specs.QueryGrammar.{Phrase, IsToken, ◌▸◌, IsOptional, IsParts}
 use Rattle.table_model.specs.SchemaGrammar.{IsWord, IsNamed, IsType, IsNotNull, IsPrimaryKey, IsMark, AreMarks, Marked, IsMarked, key_places, IsTable, AreTables}
-use Rattle.table_model.specs.SchemaReading.{Reader, sees_word, expect_word, is_ascii, sees_name, new_name, type_named, type_or, column_type, null_mark, key_mark, marks, has_column, most_columns, column, is_there, key_after, columns_from, columns, closed, close, table_name, table, goes_on, tables_from, all_tables, schema}
-use Rattle.table_model.specs.Texts.{same_name}
+use Rattle.table_model.specs.SchemaReading.{Reader, sees_word, expect_word, sees_name, new_name, type_named, type_or, column_type, null_mark, key_mark, marks, has_column, most_columns, column, is_there, key_after, columns_from, columns, closed, close, table_name, table, goes_on, tables_from, all_tables, schema}
 use Rattle.table_model.specs.Tokens.{same_kind}
 use Rattle.table_model.specs.declared.definitions.ColumnType.{ColumnType}
 use Rattle.table_model.specs.declared.definitions.ColumnDef.{ColumnDef}
@@ -55,24 +54,24 @@ eaten wanted ts p q Q f g = eaten_by (sees wanted ts) ts p q Q f g
 
 -- ---- what was taken
 
-same : (a b : TokenKind) → same_kind a b ≡ true → a ≡ b
+pub same : (a b : TokenKind) → same_kind a b ≡ true → a ≡ b
 unfolding same_kind
 same a b h = same_true the_type (search rules) a b h
 
-one : (wanted : TokenKind) (ts : List Token) → (k.Bad ≡ wanted → ⊥) → sees wanted ts ≡ true → Took ts (IsToken wanted) (next ts)
+pub one : (wanted : TokenKind) (ts : List Token) → (k.Bad ≡ wanted → ⊥) → sees wanted ts ≡ true → Took ts (IsToken wanted) (next ts)
 unfolding sees kind next
 one wanted [] good h = absurd (good (same k.Bad wanted h))
 one wanted (t ∷ ts) good h = (t ∷ [], refl, same t.kind wanted h)
 
-seq : (P Q : Phrase) (ts mid rest : List Token) → Took ts P mid → Took mid Q rest → Took ts (P ▸ Q) rest
+pub seq : (P Q : Phrase) (ts mid rest : List Token) → Took ts P mid → Took mid Q rest → Took ts (P ▸ Q) rest
 seq P Q ts mid rest p q =
     (p.0 ++ q.0, p.1 ∙ ap (λ r. p.0 ++ r) q.1 ∙ sym (append_assoc p.0 q.0 rest), (p.0, q.0, refl, p.2, q.2))
 
-but : (P R : Phrase) (ts rest : List Token) → Took ts P rest → ((used : List Token) → P used → R used) → Took ts R rest
+pub but : (P R : Phrase) (ts rest : List Token) → Took ts P rest → ((used : List Token) → P used → R used) → Took ts R rest
 but P R ts rest p f = (p.0, p.1, f p.0 p.2)
 
 -- nothing was taken before
-skip : (P : Phrase) (ts mid rest : List Token) → Took ts (λ used. used ≡ []) mid → Took mid P rest → Took ts P rest
+pub skip : (P : Phrase) (ts mid rest : List Token) → Took ts (λ used. used ≡ []) mid → Took mid P rest → Took ts P rest
 skip P ts mid rest p q = (q.0, p.1 ∙ ap (λ u. u ++ mid) p.2 ∙ q.1, q.2)
 
 expect_sound : (wanted : TokenKind) → (k.Bad ≡ wanted → ⊥) → (ts : List Token) → IfRead (expect fault.Syntax wanted ts) (λ x rest. Took ts (IsToken wanted) rest)
@@ -81,7 +80,7 @@ expect_sound wanted good ts = if_read (sees wanted ts) _ _ (λ x rest. Took ts (
 
 -- ---- words and names
 
-word_taken : (word : List ℕ) (ts : List Token) → sees_word word ts ≡ true → Took ts (IsWord word) (next ts)
+pub word_taken : (word : List ℕ) (ts : List Token) → sees_word word ts ≡ true → Took ts (IsWord word) (next ts)
 unfolding sees kind next spelling
 word_taken word [] h = absurd (let e = same k.Bad k.Word (and_parts _ _ h).0 in cc)
 word_taken word (t ∷ ts) h = (t ∷ [], refl, (same t.kind k.Word (and_parts _ _ h).0, (and_parts _ _ h).1))
@@ -90,12 +89,12 @@ expect_word_sound : (word : List ℕ) (ts : List Token) → IfRead (expect_word 
 unfolding expect_word
 expect_word_sound word ts = if_read (sees_word word ts) _ _ (λ x rest. Took ts (IsWord word) rest) (λ h. word_taken word ts h) (λ _. tt)
 
-named_taken : (ts : List Token) → sees k.Word ts ≡ true → Took ts (IsNamed (spelling ts)) (next ts)
+pub named_taken : (ts : List Token) → sees k.Word ts ≡ true → Took ts (IsNamed (spelling ts)) (next ts)
 unfolding sees kind next spelling
 named_taken [] h = absurd (let e = same k.Bad k.Word h in cc)
 named_taken (t ∷ ts) h = (t ∷ [], refl, (same t.kind k.Word h, refl))
 
-not_false : (b : Bool) → not b ≡ false → b ≡ true
+pub not_false : (b : Bool) → not b ≡ false → b ≡ true
 not_false true h = refl
 not_false false h = sym h
 

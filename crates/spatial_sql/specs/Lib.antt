@@ -1,3 +1,4 @@
+pub mod Language
 pub mod Strings
 pub mod Sides
 pub mod Outcomes

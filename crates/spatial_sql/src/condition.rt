@@ -2,10 +2,13 @@
 //! `specs/QueryReading.antt` of `table_model`, which has the grammar.
 
 ghost use Rattle.std.specs.Prelude.{◌≡◌, ◌≤◌, ◌<◌, ◌∷◌, [], ◌^◌, MatchOption, false, true};
+ghost use Rattle.std.specs.Char as chars;
+ghost use Rattle.std.specs.Str.Parse.{digits_value};
 ghost use Rattle.table_model.specs.declared.queries.WrittenCond.TheVariants as tree;
 ghost use Rattle.table_model.specs.QueryReading as spec;
 ghost use Rattle.table_model.specs.Parsers as steps;
 ghost use Rattle.table_model.specs.Parsers.{Reads};
+ghost use Rattle.spatial_sql.specs.Language.{language};
 
 use crate::cursor::Cursor;
 use sqlite_items::{Boxed, Items};
@@ -46,7 +49,7 @@ pub fn expect(tokens: &mut Cursor<'_, '_>, wanted: TokenKind) -> Result<(), Quer
     }
 }
 
-/// Reads a name: a word that isn't reserved. With `(` after it, it is a function, and none is served.
+/// Reads a name: a word that isn't reserved. With `(` after it, it is a function and no name.
 #[tactic(auto, unfolding(table_model::specs::QueryReading::name))]
 pub fn name<'a>(tokens: &mut Cursor<'_, 'a>) -> Result<Name<'a>, QueryFault>
     ensures { Reads QueryFault.OutOfMemory (spec.name tokens.old) result tokens.new }
@@ -80,14 +83,25 @@ pub fn column<'a>(tokens: &mut Cursor<'_, 'a>) -> Result<WrittenColumn<'a>, Quer
     }
 }
 
+/// The value of a digit; any other byte counts for more than 9.
+fn digit_value(byte: u8) -> u64
+    ensures value { result ≡ chars.digit_value byte }
+    ensures small { result ≤ 36 }
+{
+    match char::from(byte).to_digit(36) {
+        Some(digit) => u64::from(digit),
+        None => 36,
+    }
+}
+
 /// The number of decimal digits, where it isn't past a limit.
 fn magnitude(digits: &[u8], limit: u64) -> Option<u64>
-    requires { (255 ≤ limit) × (limit ≤ 2 ^ 63) }
-    ensures { MatchOption result (limit < spec.decimal 0 digits.now) (λ n. (n ≡ spec.decimal 0 digits.now) × (n ≤ limit)) }
+    requires { (36 ≤ limit) × (limit ≤ 2 ^ 63) }
+    ensures { MatchOption result (limit < digits_value 10 digits.now) (λ n. (n ≡ digits_value 10 digits.now) × (n ≤ limit)) }
 {
     let mut value: u64 = 0;
     for byte in digits {
-        let digit = u64::from(byte.saturating_sub(b'0'));
+        let digit = digit_value(*byte);
         if value > (limit - digit) / 10 {
             return None;
         }
@@ -136,7 +150,7 @@ fn integer<'a>(
 /// Reads a side of a comparison.
 #[tactic(auto, unfolding(table_model::specs::QueryReading::operand))]
 fn operand<'a>(tokens: &mut Cursor<'_, 'a>) -> Result<WrittenOperand<'a>, QueryFault>
-    ensures { Reads QueryFault.OutOfMemory (spec.operand tokens.old) result tokens.new }
+    ensures { Reads QueryFault.OutOfMemory (spec.operand language.functions tokens.old) result tokens.new }
 {
     if tokens.sees(TokenKind::Null) {
         tokens.advance();
@@ -179,7 +193,7 @@ fn compared<'a>(
     at: usize,
     left: WrittenOperand<'a>,
 ) -> Result<WrittenCond<'a>, QueryFault>
-    ensures { Reads QueryFault.OutOfMemory (spec.compared at left.entry tokens.old) result tokens.new }
+    ensures { Reads QueryFault.OutOfMemory (spec.compared language.functions at left.entry tokens.old) result tokens.new }
 {
     let Some(comparison) = comparison_of(tokens.kind()) else {
         return Err(refuse(tokens));
@@ -209,9 +223,9 @@ fn null_test<'a>(
 }
 
 /// Reads a predicate.
-#[tactic(auto, unfolding(table_model::specs::QueryReading::predicate))]
+#[tactic(auto, unfolding(table_model::specs::QueryReading::predicate, table_model::specs::QueryReading::comparison))]
 fn predicate<'a>(alloc: Global, tokens: &mut Cursor<'_, 'a>) -> Result<WrittenCond<'a>, QueryFault>
-    ensures { Reads QueryFault.OutOfMemory (spec.predicate tokens.old) result tokens.new }
+    ensures { Reads QueryFault.OutOfMemory (spec.predicate language.functions tokens.old) result tokens.new }
 {
     let at = tokens.place();
     let left = operand(tokens)?;
@@ -231,7 +245,7 @@ fn disjuncts<'a>(
     levels: usize,
     first: WrittenCond<'a>,
 ) -> Result<WrittenCond<'a>, QueryFault>
-    ensures { Reads QueryFault.OutOfMemory (spec.joined TokenKind.Or tree.Or (spec.conjunction (spec.negation levels)) first.entry tokens.old) result tokens.new }
+    ensures { Reads QueryFault.OutOfMemory (spec.joined TokenKind.Or tree.Or (spec.conjunction (spec.negation language.functions levels)) first.entry tokens.old) result tokens.new }
 {
     let mut parts = Items::new(alloc);
     parts.push(first)?;
@@ -251,7 +265,7 @@ pub fn condition<'a>(
     tokens: &mut Cursor<'_, 'a>,
     levels: usize,
 ) -> Result<WrittenCond<'a>, QueryFault>
-    ensures { Reads QueryFault.OutOfMemory (spec.condition_of (spec.negation levels) tokens.old) result tokens.new }
+    ensures { Reads QueryFault.OutOfMemory (spec.condition_of (spec.negation language.functions levels) tokens.old) result tokens.new }
 {
     let first = conjunction(alloc, tokens, levels)?;
     if tokens.eat(TokenKind::Or) {
@@ -270,7 +284,7 @@ fn conjuncts<'a>(
     levels: usize,
     first: WrittenCond<'a>,
 ) -> Result<WrittenCond<'a>, QueryFault>
-    ensures { Reads QueryFault.OutOfMemory (spec.joined TokenKind.And tree.And (spec.negation levels) first.entry tokens.old) result tokens.new }
+    ensures { Reads QueryFault.OutOfMemory (spec.joined TokenKind.And tree.And (spec.negation language.functions levels) first.entry tokens.old) result tokens.new }
 {
     let mut parts = Items::new(alloc);
     parts.push(first)?;
@@ -290,7 +304,7 @@ fn conjunction<'a>(
     tokens: &mut Cursor<'_, 'a>,
     levels: usize,
 ) -> Result<WrittenCond<'a>, QueryFault>
-    ensures { Reads QueryFault.OutOfMemory (spec.conjunction (spec.negation levels) tokens.old) result tokens.new }
+    ensures { Reads QueryFault.OutOfMemory (spec.conjunction (spec.negation language.functions levels) tokens.old) result tokens.new }
 {
     let first = negation(alloc, tokens, levels)?;
     if tokens.eat(TokenKind::And) {
@@ -307,7 +321,7 @@ fn group<'a>(
     tokens: &mut Cursor<'_, 'a>,
     levels: usize,
 ) -> Result<WrittenCond<'a>, QueryFault>
-    ensures { Reads QueryFault.OutOfMemory (spec.group (spec.negation levels) tokens.old) result tokens.new }
+    ensures { Reads QueryFault.OutOfMemory (spec.group (spec.negation language.functions levels) tokens.old) result tokens.new }
 {
     let inner = condition(alloc, tokens, levels)?;
     expect(tokens, TokenKind::RightParenthesis)?;
@@ -322,7 +336,7 @@ fn negation<'a>(
     tokens: &mut Cursor<'_, 'a>,
     levels: usize,
 ) -> Result<WrittenCond<'a>, QueryFault>
-    ensures { Reads QueryFault.OutOfMemory (spec.negation levels tokens.old) result tokens.new }
+    ensures { Reads QueryFault.OutOfMemory (spec.negation language.functions levels tokens.old) result tokens.new }
 {
     if levels == 0 {
         if tokens.sees(TokenKind::Not) || tokens.sees(TokenKind::LeftParenthesis) {

@@ -5,6 +5,7 @@ ghost use Rattle.table_model.specs.Outcomes.{Gives};
 ghost use Rattle.table_model.specs.Parsers.{Reads};
 ghost use Rattle.table_model.specs.QueryGrammar.{AnswersQuery, IsQuery};
 ghost use Rattle.table_model.specs.QueryReading as spec;
+ghost use Rattle.spatial_sql.specs.Language.{language};
 
 use crate::Query;
 use crate::condition::{MOST_LEVELS, column, condition, expect, name, refuse};
@@ -29,7 +30,7 @@ const MOST_BYTES: usize = 65536;
 /// Reads an item of the select list.
 #[tactic(auto, unfolding(table_model::specs::QueryReading::item))]
 fn item<'a>(tokens: &mut Cursor<'_, 'a>) -> Result<WrittenItem<'a>, QueryFault>
-    ensures { Reads QueryFault.OutOfMemory (spec.item tokens.old) result tokens.new }
+    ensures { Reads QueryFault.OutOfMemory (spec.item language.functions tokens.old) result tokens.new }
 {
     Ok(WrittenItem::Column(column(tokens)?))
 }
@@ -40,7 +41,7 @@ fn items<'a>(
     alloc: Global,
     tokens: &mut Cursor<'_, 'a>,
 ) -> Result<Items<WrittenItem<'a>>, QueryFault>
-    ensures { Reads QueryFault.OutOfMemory (spec.items tokens.old) result tokens.new }
+    ensures { Reads QueryFault.OutOfMemory (spec.items language.functions tokens.old) result tokens.new }
 {
     let mut items = Items::new(alloc);
     for _turn in 0..tokens.count() {
@@ -55,7 +56,7 @@ fn items<'a>(
 /// Reads what SELECT lists.
 #[tactic(auto, unfolding(table_model::specs::QueryReading::selection))]
 fn selection<'a>(alloc: Global, tokens: &mut Cursor<'_, 'a>) -> Result<Selection<'a>, QueryFault>
-    ensures { Reads QueryFault.OutOfMemory (spec.selection tokens.old) result tokens.new }
+    ensures { Reads QueryFault.OutOfMemory (spec.selection language.functions tokens.old) result tokens.new }
 {
     if tokens.sees(TokenKind::Star) {
         tokens.advance();
@@ -96,7 +97,7 @@ fn where_condition<'a>(
     alloc: Global,
     tokens: &mut Cursor<'_, 'a>,
 ) -> Result<Option<WrittenCond<'a>>, QueryFault>
-    ensures { Reads QueryFault.OutOfMemory (spec.where_condition tokens.old) result tokens.new }
+    ensures { Reads QueryFault.OutOfMemory (spec.where_condition language.functions tokens.old) result tokens.new }
 {
     if tokens.eat(TokenKind::Where) {
         Ok(Some(condition(alloc, tokens, MOST_LEVELS)?))
@@ -108,7 +109,7 @@ fn where_condition<'a>(
 /// Reads a query, to the end of its tokens.
 #[tactic(auto, unfolding(table_model::specs::QueryReading::query))]
 fn query<'a>(alloc: Global, tokens: &mut Cursor<'_, 'a>) -> Result<Query<'a>, QueryFault>
-    ensures { Reads QueryFault.OutOfMemory (spec.query tokens.old) result tokens.new }
+    ensures { Reads QueryFault.OutOfMemory (spec.query language tokens.old) result tokens.new }
 {
     expect(tokens, TokenKind::Select)?;
     let selection = selection(alloc, tokens)?;
@@ -142,7 +143,7 @@ fn bad_place(tokens: &[Token<'_>]) -> Option<usize>
 /// Reads the text of a query: its length is looked at first, then its tokens, then its grammar.
 #[tactic(auto, unfolding(table_model::specs::QueryReading::query_of))]
 fn read<'a>(alloc: Global, text: &'a str) -> Result<Query<'a>, QueryFault>
-    ensures { Gives QueryFault.OutOfMemory (λ q. q) result (spec.query_of text.now) }
+    ensures { Gives QueryFault.OutOfMemory (λ q. q) result (spec.query_of language text.now) }
 {
     if text.len() > MOST_BYTES {
         return Err(QueryFault::TooLong);
@@ -163,9 +164,9 @@ fn read<'a>(alloc: Global, text: &'a str) -> Result<Query<'a>, QueryFault>
 /// Syntax, TooDeep at the 65th level of NOT and parentheses, and NumberTooBig at the first digit of a number that
 /// 64 bits don't hold. OutOfMemory may come in the place of any answer.
 pub fn read_query<'a>(alloc: Global, text: &'a str) -> Result<Query<'a>, QueryFault>
-    ensures ok { IfOk result (λ q. IsQuery text.now q) }
-    ensures only { AnswersQuery text.now result }
-    ensures exact { Gives QueryFault.OutOfMemory (λ q. q) result (spec.query_of text.now) }
+    ensures ok { IfOk result (λ q. IsQuery language text.now q) }
+    ensures only { AnswersQuery language text.now result }
+    ensures exact { Gives QueryFault.OutOfMemory (λ q. q) result (spec.query_of language text.now) }
 {
     read(alloc, text)
 }

@@ -1,10 +1,12 @@
 //! Reads schemas.
 
 ghost use Rattle.spatial_sql.specs.Outcomes.{ReadsAs};
-ghost use Rattle.std.specs.Prelude.{◌≡◌, IfOk, Ok};
+ghost use Rattle.std.specs.Prelude.{◌≡◌, IfErr, IfOk, Ok};
 ghost use Rattle.table_model.specs.Outcomes.{Gives};
 ghost use Rattle.table_model.specs.SchemaGrammar.{AnswersSchema, IsSchema};
 ghost use Rattle.table_model.specs.SchemaReading as spec;
+ghost use Rattle.table_model.specs.SchemaRefusals.{AnswersFirst, StandsInSchema};
+ghost use Rattle.table_model.specs.declared.values.NoGeometry.{NoGeometry};
 
 use crate::cursor::Cursor;
 use crate::definition::{expect, refuse, table};
@@ -78,6 +80,8 @@ fn read(alloc: Global, text: &[u8]) -> Result<Schema, SchemaFault>
 pub fn read_schema(alloc: Global, text: &[u8]) -> Result<Schema, SchemaFault>
     ensures ok { IfOk result (λ schema. IsSchema spec.no_geometry_type text.now schema) }
     ensures only { AnswersSchema spec.no_geometry_type text.now result }
+    ensures first { AnswersFirst spec.no_geometry_type text.now result }
+    ensures stands { IfErr result (λ fault. StandsInSchema {T = NoGeometry} spec.no_geometry_type text.now fault) }
     ensures exact { Gives SchemaFault.OutOfMemory (λ schema. schema) result (spec.schema_of spec.no_geometry_type text.now) }
 {
     read(alloc, text)

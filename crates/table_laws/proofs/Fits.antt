@@ -58,7 +58,7 @@ pub record Parts {A F : Type 0} (first : Result A F) (answers : List (Result A F
   pub tail_is : each answers ≡ Ok tail
   pub all_is : head ∷ tail ≡ all
 
-parts : {A F : Type 0} (first : Result A F) (answers : List (Result A F)) (all : List A) → each (first ∷ answers) ≡ Ok all → Parts first answers all
+pub parts : {A F : Type 0} (first : Result A F) (answers : List (Result A F)) (all : List A) → each (first ∷ answers) ≡ Ok all → Parts first answers all
 parts {A = A} {F = F} first answers all e = go first refl (each answers) refl e
   where
     go : (r : Result A F) → first ≡ r → (rest : Result (List A) F) → each answers ≡ rest

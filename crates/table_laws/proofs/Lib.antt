@@ -3,3 +3,5 @@ pub mod Keys
 pub mod Loads
 pub mod Fits
 pub mod Doubles
+pub mod TableFacts
+pub mod ReadGeometries

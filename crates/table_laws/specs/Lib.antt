@@ -1,2 +1,3 @@
 pub mod LoadLaws
 pub mod KeyLaws
+pub mod FeatureTableLaws

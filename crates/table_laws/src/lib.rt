@@ -2,6 +2,7 @@
 #![tactic(auto)]
 
 pub mod double_keys;
+pub mod feature_tables;
 pub mod loading;
 #[cfg(test)]
 mod tests;

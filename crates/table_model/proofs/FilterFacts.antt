@@ -3,7 +3,9 @@ use Rattle.std.specs.Prelude.{◌≡◌, refl, ℕ, suc, zero, ◌+◌, ◌<◌,
 use Rattle.std.specs.List.{enumerate_from, range_with_len, cons_option}
 use Rattle.std.proofs.Common.{arith, ap, ◌∙◌, sym, inl, inr}
 use mathlib.Core.Path.{fun_ext}
+use Rattle.std.proofs.lemmas.Bool.{ltb-true, ltb-false}
 use Rattle.std.proofs.lemmas.List.Sums.{sum_by-cons, sum_by-append}
+use Rattle.std.specs.Prelude.{nat_lt}
 use Rattle.table_model.specs.Plans.{places_where, filters, possible_counts, predicate_count}
 use Rattle.table_model.specs.declared.conditions.Cond.{Cond}
 
@@ -97,9 +99,36 @@ part_of_sum f (x ∷ xs) zero d l = omega (arith, sum_by-cons f x xs)
 part_of_sum f (x ∷ xs) (suc k) d l = omega (arith, sum_by-cons f x xs, part_of_sum f xs k d (omega (arith, l)))
 
 -- each conjunct stands once among the filters
-pub filters_once : {A : Type 0} (conjuncts : List (Cond A)) (k : ℕ) → k < length conjuncts → times k (filters conjuncts) ≡ 1
+filters_once : {A : Type 0} (conjuncts : List (Cond A)) (k : ℕ) → k < length conjuncts → times k (filters conjuncts) ≡ 1
 filters_once [] k l = absurd (omega (arith, l))
 filters_once {A = A} (c ∷ cs) k l =
     times-flat_map k (λ n. places_where (λ e. predicate_count e == n) (c ∷ cs)) (possible_counts (c ∷ cs))
     ∙ ap (λ f. sum_by f (possible_counts (c ∷ cs))) (fun_ext (λ n. ap (λ j. times j (places_where (λ e. predicate_count e == n) (c ∷ cs))) (sym (zero_add k)) ∙ once (λ e. predicate_count e == n) (c ∷ cs) 0 k c l))
     ∙ met (predicate_count (get_or (c ∷ cs) k c)) 0 (sum_by predicate_count (c ∷ cs) + 1) (omega arith) (omega (arith, part_of_sum predicate_count (c ∷ cs) k c l))
+
+-- a place behind all of them stands nowhere
+none_behind : {X : Type 0} (test : X → Bool) (xs : List X) (m k : ℕ) → m + length xs ≤ k → times k (places_from m test xs) ≡ 0
+none_behind test [] m k l = refl
+none_behind test (x ∷ xs) m k l = go (test x) (none_behind test xs (m + 1) k (omega (arith, l)))
+  where
+    go : (b : Bool) → times k (places_from (m + 1) test xs) ≡ 0 → times k (cons_option (if b then Some m else None) (places_from (m + 1) test xs)) ≡ 0
+    go true rest = passed k m (places_from (m + 1) test xs) 0 (differ m k (omega (arith, l))) rest
+    go false rest = rest
+
+zeros : (ns : List ℕ) → sum_by (λ n. 0) ns ≡ 0
+zeros [] = refl
+zeros (n ∷ ns) = sum_by-cons (λ n. 0) n ns ∙ zero_add (sum_by (λ n. 0) ns) ∙ zeros ns
+
+filters_none : {A : Type 0} (conjuncts : List (Cond A)) (k : ℕ) → length conjuncts ≤ k → times k (filters conjuncts) ≡ 0
+filters_none {A = A} conjuncts k l =
+    times-flat_map k (λ n. places_where (λ e. predicate_count e == n) conjuncts) (possible_counts conjuncts)
+    ∙ ap (λ f. sum_by f (possible_counts conjuncts)) (fun_ext (λ n. none_behind (λ e. predicate_count e == n) conjuncts 0 k (omega (arith, l))))
+    ∙ zeros (possible_counts conjuncts)
+
+-- the place of each conjunct stands once among the filters, and no other number does
+pub filters_counted : {A : Type 0} (conjuncts : List (Cond A)) (k : ℕ) → times k (filters conjuncts) ≡ (if nat_lt k (length conjuncts) then 1 else 0)
+filters_counted conjuncts k = go (nat_lt k (length conjuncts)) refl
+  where
+    go : (b : Bool) → nat_lt k (length conjuncts) ≡ b → times k (filters conjuncts) ≡ (if b then 1 else 0)
+    go true is = filters_once conjuncts k (ltb-true k (length conjuncts) is)
+    go false is = filters_none conjuncts k (ltb-false k (length conjuncts) is)

@@ -27,7 +27,6 @@ use Rattle.table_model.specs.declared.queries.WrittenItem.TheVariants as written
 use Rattle.table_model.specs.declared.queries.Selection.{Selection}
 use Rattle.table_model.specs.declared.queries.Selection.TheVariants as selections
 use Rattle.table_model.specs.declared.queries.Query.{Query}
-use Rattle.table_model.specs.declared.conditions.ColumnPlace.{ColumnPlace}
 use Rattle.table_model.specs.declared.conditions.Comparison.{Comparison}
 use Rattle.table_model.specs.declared.typing.OperandType.{OperandType}
 use Rattle.table_model.specs.declared.typing.OperandType.TheVariants as types

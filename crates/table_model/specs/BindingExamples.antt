@@ -1,5 +1,5 @@
 -- Worked examples of binding: a table of three columns, and names written at byte 7 of a query.
-use Rattle.std.specs.Prelude.{ℕ, false, List, [], ◌∷◌, codes, Option, Some, None, Result}
+use Rattle.std.specs.Prelude.{ℕ, false, List, [], ◌∷◌, codes, Some, None, Result}
 use Rattle.table_model.specs.Binding.{bound_comparison, no_geometry}
 use Rattle.table_model.specs.declared.conditions.Comparison.TheVariants as signs
 use Rattle.table_model.specs.declared.conditions.Cond.{Cond}
@@ -7,24 +7,25 @@ use Rattle.table_model.specs.declared.conditions.Reference.{Reference}
 use Rattle.table_model.specs.declared.definitions.ColumnType.TheVariants as types
 use Rattle.table_model.specs.declared.definitions.TableDef.{TableDef}
 use Rattle.table_model.specs.declared.faults.QueryFault.{QueryFault}
-use Rattle.table_model.specs.declared.queries.Name.{Name}
 use Rattle.table_model.specs.declared.queries.WrittenColumn.{WrittenColumn}
 use Rattle.table_model.specs.declared.queries.WrittenOperand.TheVariants as operands
 use Rattle.table_model.specs.declared.values.NoGeometry.{NoGeometry}
 
--- the schema of one table t with columns id, the key, pop and name (profile)
+-- a table t with columns id, the key, pop and name (profile)
+abbrev pub town_table : TableDef NoGeometry
+town_table = record {
+  name = codes "t";
+  columns =
+      record { name = codes "id"; column_type = types.Integer; not_null = false }
+      ∷ record { name = codes "pop"; column_type = types.Integer; not_null = false }
+      ∷ record { name = codes "name"; column_type = types.Text; not_null = false }
+      ∷ [];
+  key = 0;
+}
+
+-- the schema of this one table (profile)
 abbrev pub towns : List (TableDef NoGeometry)
-towns =
-    record {
-      name = codes "t";
-      columns =
-          record { name = codes "id"; column_type = types.Integer; not_null = false }
-          ∷ record { name = codes "pop"; column_type = types.Integer; not_null = false }
-          ∷ record { name = codes "name"; column_type = types.Text; not_null = false }
-          ∷ [];
-      key = 0;
-    }
-    ∷ []
+towns = town_table ∷ []
 
 -- a reference of that table by some name (profile)
 abbrev pub called : List ℕ → Reference

@@ -1,14 +1,16 @@
 -- Words for worked rows of tables and queries with geometries.
-use Rattle.std.specs.Prelude.{ℕ, ℤ, pos, false, List, [], ◌∷◌, codes, Option, Some, None, Result}
+use Rattle.std.specs.Prelude.{ℕ, ℤ, pos, false, List, [], ◌∷◌, map, codes, Option, Some, None, Result}
 use Rattle.geometry_model.specs.Geometries.{Geometry, Point}
 use Rattle.geometry_model.specs.TextExamples.{at}
+use Rattle.table_model.specs.AnswerTexts.{answer_records}
 use Rattle.table_model.specs.Binding.{Checked, binding}
-use Rattle.table_model.specs.GeometryColumns.{ColumnShape, read_geometry, geometry_binding}
+use Rattle.table_model.specs.GeometryColumns.{ColumnShape, read_geometry, geometry_binding, geometry_writing}
 use Rattle.table_model.specs.Loading.{Record, load}
 use Rattle.table_model.specs.Meanings.{Row}
 use Rattle.table_model.specs.declared.conditions.Bound.{Bound}
 use Rattle.table_model.specs.declared.conditions.ColumnPlace.{ColumnPlace}
 use Rattle.table_model.specs.declared.conditions.GeometryArgument.{GeometryArgument}
+use Rattle.table_model.specs.declared.conditions.Item.TheVariants as items
 use Rattle.table_model.specs.declared.definitions.ColumnDef.{ColumnDef}
 use Rattle.table_model.specs.declared.definitions.ColumnType.{ColumnType}
 use Rattle.table_model.specs.declared.definitions.ColumnType.TheVariants as columns
@@ -26,6 +28,7 @@ use Rattle.table_model.specs.declared.queries.WrittenItem.TheVariants as written
 use Rattle.table_model.specs.declared.queries.WrittenOperand.{WrittenOperand}
 use Rattle.table_model.specs.declared.queries.WrittenOperand.TheVariants as written_operand
 use Rattle.table_model.specs.declared.queries.WrittenReference.{WrittenReference}
+use Rattle.table_model.specs.declared.values.Value.{Value}
 use Rattle.table_model.specs.declared.values.Value.TheVariants as values
 
 -- ---- tables
@@ -114,3 +117,26 @@ bound selection first second condition = binding geometry_binding tables (record
 -- what SELECT id FROM t WHERE is bound to: the condition starts at byte 23 (profile)
 abbrev pub bound_where : WrittenCond WrittenGeometry → Checked (Bound (GeometryArgument Geometry) ColumnPlace)
 bound_where condition = bound (selections.Items (written_item.Column (bare (codes "id") 7) ∷ [])) (table (codes "t") 15) None (Some condition)
+
+-- ---- answers
+
+-- a row of t with this geometry field (profile)
+abbrev pub shaped : ℕ → Value Geometry → Row Geometry
+shaped id geometry = values.Integer (pos id) ∷ values.Null ∷ geometry ∷ []
+
+-- where the geometry column stands (profile)
+abbrev pub geometry_place : ColumnPlace
+geometry_place = record { reference = 0; column = 2 }
+
+-- SELECT ST_AsText(geom), ST_Dimension(geom), ST_IsEmpty(geom) FROM t (profile)
+abbrev pub functions_query : Bound (GeometryArgument Geometry) ColumnPlace
+functions_query = record {
+  explain = explains.No;
+  references = record { table = 0; name = codes "t" } ∷ [];
+  items = items.AsText geometry_place ∷ items.Dimension geometry_place ∷ items.IsEmpty geometry_place ∷ [];
+  conjuncts = [];
+}
+
+-- the records of its answer over these rows (profile)
+abbrev pub told : List (Row Geometry) → List Record
+told rows = answer_records geometry_writing tables functions_query (map (λ row. row ∷ []) rows)

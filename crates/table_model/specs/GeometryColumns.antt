@@ -33,11 +33,11 @@ use Rattle.table_model.specs.declared.typing.Typed.{Typed}
 
 -- ---- types of columns
 
--- the type of a geometry column: one of the instantiable types, or none for GEOMETRY, which takes them all (06-104r4, 7.1)
+-- the type of a geometry column: one of the instantiable types, or none for GEOMETRY, which takes them all (06-104r4, 7.2)
 abbrev pub ColumnShape : Type 0
 ColumnShape = Option GeometryType
 
--- the type of geometry that a word of a schema names, in any ASCII case (06-104r4, 7.1: names of types)
+-- the type of geometry that a word of a schema names, in any ASCII case (06-104r4, 7.2: names of types)
 abbrev pub shape_named : List ℕ → Option ColumnShape
 shape_named word =
     if same_name word (codes "GEOMETRY") then Some None
@@ -48,7 +48,7 @@ shape_named word =
     else if same_name word (codes "POLYGON") then Some (Some shapes.Polygon)
     else None
 
--- whether a column takes geometries of this type (06-104r4, 7.1)
+-- whether a column takes geometries of this type (06-104r4, 7.2)
 abbrev pub takes_type : ColumnShape → GeometryType → Bool
 takes_type None type = true
 takes_type (Some wanted) type = sameb the_type wanted type

@@ -10,8 +10,11 @@ pub mod Binding
 pub mod Definitions
 pub mod Loading
 pub mod Databases
+pub mod Served
 pub mod QueryReading
 pub mod QueryGrammar
+pub mod QueryLaws
+pub mod QueryExamples
 pub mod SchemaReading
 pub mod Arguments
 pub mod Plans
@@ -24,3 +27,7 @@ pub mod SchemaGrammar
 pub mod BindingExamples
 pub mod GeometryColumns
 pub mod GeometryColumnExamples
+pub mod FirstRunExamples
+pub mod SchemaRefusals
+pub mod FeatureTables
+pub mod SchemaExamples

@@ -152,7 +152,8 @@ double_from earlier number [] = None
 double_from earlier number (key ∷ keys) =
     if list_any (int_eq key) earlier then Some number else double_from (key ∷ earlier) (number + 1) keys
 
--- the number of the first record whose key an earlier one has, the first record having the number 1 (profile)
+-- the number of the first record whose key an earlier one has, the first record having the number 1 (profile). In plain
+-- words: the laws `double_is_first` and `none_is_double` of `table_laws`.
 unfoldable pub double_key : List ℤ → Option ℕ
 double_key keys = double_from [] 1 keys
 
@@ -162,7 +163,8 @@ insert_by_key key row [] = row ∷ []
 insert_by_key key row (other ∷ rows) =
     if int_lt (key_of key row) (key_of key other) then row ∷ other ∷ rows else other ∷ insert_by_key key row rows
 
--- the rows by ascending key (profile)
+-- the rows by ascending key (profile). In plain words: the laws `rows_ascend` and `rows_are_permuted` of `table_laws`, by
+-- which the rows of a table are the typed rows of its records, each key below those of all later rows.
 unfoldable pub by_key : {G : Type 0} → ℕ → List (Row G) → List (Row G)
 by_key key [] = []
 by_key key (row ∷ rows) = insert_by_key key row (by_key key rows)

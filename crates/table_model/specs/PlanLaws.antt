@@ -1,5 +1,5 @@
 -- Laws of the chosen plan, each as one statement.
-use Rattle.std.specs.Prelude.{◌≡◌, ℕ, ◌<◌, ◌≤◌, ◌==◌, List, [], ◌∷◌, ◌++◌, length, count_by, All, Some, IsSome}
+use Rattle.std.specs.Prelude.{◌≡◌, ℕ, ◌<◌, ◌≤◌, ◌==◌, if◌then◌else◌, nat_lt, List, [], ◌∷◌, ◌++◌, length, count_by, All, Some, IsSome}
 use Rattle.geometry_model.specs.Geometries.{Geometry}
 use Rattle.table_model.specs.Candidates.{candidates}
 use Rattle.table_model.specs.Meanings.{Table, product, referenced}
@@ -53,6 +53,8 @@ abbrev pub ScanGivesTable : Type 0
 ScanGivesTable = (tables : List (Table Geometry)) (query : GeometryQuery) → length query.references ≡ 1
     → candidates tables query (record { reference = 0; method = methods.Scan } ∷ []) ≡ product (referenced tables query.references)
 
--- the filters of every plan are all conjuncts, each once (profile)
+-- the filters of every plan are all conjuncts, each once: the place of a conjunct stands once among them, and no other
+-- number does (profile)
 abbrev pub FiltersAreConjuncts : Type 0
-FiltersAreConjuncts = (conjuncts : List (Cond (GeometryArgument Geometry))) (place : ℕ) → place < length conjuncts → count_by (λ k. k == place) (filters conjuncts) ≡ 1
+FiltersAreConjuncts = (conjuncts : List (Cond (GeometryArgument Geometry))) (place : ℕ)
+    → count_by (λ k. k == place) (filters conjuncts) ≡ (if nat_lt place (length conjuncts) then 1 else 0)

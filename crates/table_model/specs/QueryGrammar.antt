@@ -1,21 +1,26 @@
 -- The grammar of queries: a relation for each rule, between a tree and the tokens that are written for it. SELECT over
--- one table, after the query expressions of 06-104r4 (profile). Generic in what geometry arguments are.
-use Rattle.std.specs.Prelude.{◌≡◌, ◌≤◌, ◌⊎◌, ℕ, zero, suc, Bool, true, false, ℤ, List, [], ◌∷◌, ◌++◌, length, Option, Some, None, Result, Ok}
+-- one table or two, after the query expressions of 06-104r4, with its functions (profile). Each part that may be served
+-- or not is a parameter.
+use Rattle.std.specs.Prelude.{◌≡◌, ◌≤◌, ◌⊎◌, ℕ, zero, suc, Bool, true, false, ℤ, List, [], ◌∷◌, ◌++◌, length, Option, Some, None, Result, Ok, codes}
+use Rattle.std.specs.Str.Parse.{digits_value}
+use Rattle.geometry_model.specs.declared.relations.Predicate.{Predicate}
+use Rattle.geometry_model.specs.declared.relations.Predicate.TheVariants as p
 use Rattle.table_model.specs.declared.conditions.Comparison.{Comparison}
 use Rattle.table_model.specs.declared.faults.QueryFault.{QueryFault}
 use Rattle.table_model.specs.declared.faults.QueryFault.TheVariants as fault
+use Rattle.table_model.specs.declared.queries.Explain.{Explain}
 use Rattle.table_model.specs.declared.queries.Explain.TheVariants as explain
 use Rattle.table_model.specs.declared.queries.Name.{Name}
-use Rattle.table_model.specs.declared.queries.Query.{Query}
 use Rattle.table_model.specs.declared.queries.Selection.{Selection}
 use Rattle.table_model.specs.declared.queries.Selection.TheVariants as l
 use Rattle.table_model.specs.declared.queries.WrittenColumn.{WrittenColumn}
 use Rattle.table_model.specs.declared.queries.WrittenCond.{WrittenCond}
 use Rattle.table_model.specs.declared.queries.WrittenCond.TheVariants as c
-use Rattle.table_model.specs.declared.queries.WrittenItem.{WrittenItem}
+use Rattle.table_model.specs.declared.queries.WrittenGeometry.{WrittenGeometry}
+use Rattle.table_model.specs.declared.queries.WrittenGeometry.TheVariants as g
 use Rattle.table_model.specs.declared.queries.WrittenItem.TheVariants as i
-use Rattle.table_model.specs.declared.queries.WrittenOperand.{WrittenOperand}
 use Rattle.table_model.specs.declared.queries.WrittenOperand.TheVariants as o
+use Rattle.table_model.specs.declared.queries.WrittenPredicate.TheVariants as w
 use Rattle.table_model.specs.declared.queries.WrittenReference.{WrittenReference}
 use Rattle.table_model.specs.declared.tokens.Token.{Token}
 use Rattle.table_model.specs.declared.tokens.TokenKind.{TokenKind}
@@ -23,6 +28,8 @@ use Rattle.table_model.specs.declared.tokens.TokenKind.TheVariants as k
 use Rattle.table_model.specs.Outcomes.{Gives}
 use Rattle.table_model.specs.Parsers.{place}
 use Rattle.table_model.specs.QueryReading.{integer_value, comparison_of, most_levels, most_bytes, bad_place}
+use Rattle.table_model.specs.Served.{Served, ItemArgument, ServedOperand, ServedCond, ServedItem, ServedQuery}
+use Rattle.table_model.specs.Texts.{same_name}
 use Rattle.table_model.specs.Tokens.{tokens}
 
 -- ---- what rules are made of
@@ -79,27 +86,92 @@ IsInteger n ts = IsDigits false n ts ⊎ (IsToken k.Plus ▸ IsDigits false n) t
 abbrev pub IsString : Name → Phrase
 IsString text = IsOne (λ t. (t.kind ≡ k.Text) × (text ≡ record { text = t.text; at = t.at }))
 
--- operand = col | ('+' | '-')? integer | string | 'NULL' (profile)
-abbrev pub IsOperand : {A : Type 0} → WrittenOperand A → Phrase
-IsOperand operand ts =
+-- ---- functions
+
+-- a word that isn't reserved, in any ASCII case (profile)
+abbrev pub IsWord : List ℕ → Phrase
+IsWord word = IsOne (λ t. (t.kind ≡ k.Word) × (same_name t.text word ≡ true))
+
+-- a function with what stands between its parentheses (profile)
+abbrev pub IsCall : List ℕ → Phrase → Phrase
+IsCall function P = IsWord function ▸ IsToken k.LeftParenthesis ▸ P ▸ IsToken k.RightParenthesis
+
+-- geom = col | 'ST_GeomFromText' '(' string ')' (profile)
+abbrev pub IsGeometry : WrittenGeometry → Phrase
+IsGeometry geometry ts =
+    ((column : WrittenColumn) × (geometry ≡ g.Column column) × IsColumn column ts)
+    ⊎ ((text : Name) × (geometry ≡ g.FromText text) × IsCall (codes "ST_GeomFromText") (IsString text) ts)
+
+-- 'ST_AsText' '(' geom ')' | 'ST_Dimension' '(' geom ')', where functions are served (profile)
+abbrev pub IsOperandFunction : (functions : Bool) → ServedOperand functions → Phrase
+IsOperandFunction false operand ts = ⊥
+IsOperandFunction true operand ts =
+    ((geometry : WrittenGeometry) × (operand ≡ o.AsText (place ts) geometry) × IsCall (codes "ST_AsText") (IsGeometry geometry) ts)
+    ⊎ ((geometry : WrittenGeometry) × (operand ≡ o.Dimension (place ts) geometry) × IsCall (codes "ST_Dimension") (IsGeometry geometry) ts)
+
+-- operand = col | ('+' | '-')? integer | string | 'NULL' | 'ST_AsText' '(' geom ')' | 'ST_Dimension' '(' geom ')' (profile)
+abbrev pub IsOperand : (functions : Bool) → ServedOperand functions → Phrase
+IsOperand functions operand ts =
     ((column : WrittenColumn) × (operand ≡ o.Column column) × IsColumn column ts)
     ⊎ ((n : ℤ) × (operand ≡ o.Integer n) × IsInteger n ts)
     ⊎ ((text : Name) × (operand ≡ o.Text text) × IsString text ts)
     ⊎ ((operand ≡ o.Null) × IsToken k.Null ts)
+    ⊎ IsOperandFunction functions operand ts
 
--- ---- conditions
+-- ---- predicates
 
 -- cmp = '=' | '<>' | '!=' | '<' | '<=' | '>' | '>=' (profile)
 abbrev pub IsComparison : Comparison → Phrase
 IsComparison comparison = IsOne (λ t. comparison_of t.kind ≡ Some comparison)
 
--- pred = operand cmp operand | operand 'IS' 'NOT'? 'NULL' (profile)
-abbrev pub IsPredicate : {A : Type 0} → WrittenCond A → Phrase
-IsPredicate {A} x ts =
-    ((comparison : Comparison) × (left right : WrittenOperand A) × (x ≡ c.Compare (place ts) comparison left right)
-    × (IsOperand left ▸ IsComparison comparison ▸ IsOperand right) ts)
-    ⊎ ((operand : WrittenOperand A) × (x ≡ c.IsNull operand) × (IsOperand operand ▸ IsToken k.Is ▸ IsToken k.Null) ts)
-    ⊎ ((operand : WrittenOperand A) × (x ≡ c.Not (c.IsNull operand)) × (IsOperand operand ▸ IsToken k.Is ▸ IsToken k.Not ▸ IsToken k.Null) ts)
+-- the name of a predicate of two geometries as a function (06-103r4, 6.1.15.3; the names: profile)
+abbrev pub function_of : Predicate → Option (List ℕ)
+function_of p.Equals = Some (codes "ST_Equals")
+function_of p.Disjoint = Some (codes "ST_Disjoint")
+function_of p.Intersects = Some (codes "ST_Intersects")
+function_of p.Touches = Some (codes "ST_Touches")
+function_of p.Crosses = Some (codes "ST_Crosses")
+function_of p.Within = Some (codes "ST_Within")
+function_of p.Contains = Some (codes "ST_Contains")
+function_of p.Overlaps = Some (codes "ST_Overlaps")
+function_of (p.Relate pattern) = None
+
+-- geom ',' geom (profile)
+abbrev pub IsPair : WrittenGeometry → WrittenGeometry → Phrase
+IsPair a b = IsGeometry a ▸ IsToken k.Comma ▸ IsGeometry b
+
+-- bool = rel '(' geom ',' geom ')' | 'ST_Relate' '(' geom ',' geom ',' string ')' | 'ST_IsEmpty' '(' geom ')', where
+-- functions are served (06-103r4, 6.1.15.3, 6.1.15.2 and 6.1.2.2; profile)
+abbrev pub IsBool : (functions : Bool) → ServedCond functions → Phrase
+IsBool false x ts = ⊥
+IsBool true x ts =
+    ((predicate : Predicate) × (function : List ℕ) × (a b : WrittenGeometry) × (function_of predicate ≡ Some function)
+    × (x ≡ c.Relates (place ts) (w.Named predicate) a b) × IsCall function (IsPair a b) ts)
+    ⊎ ((a b : WrittenGeometry) × (pattern : Name) × (x ≡ c.Relates (place ts) (w.Relate pattern) a b)
+    × IsCall (codes "ST_Relate") (IsGeometry a ▸ IsToken k.Comma ▸ IsGeometry b ▸ IsToken k.Comma ▸ IsString pattern) ts)
+    ⊎ ((a : WrittenGeometry) × (x ≡ c.IsEmpty (place ts) a) × IsCall (codes "ST_IsEmpty") (IsGeometry a) ts)
+
+-- an integer without a sign, of a value (profile)
+abbrev pub IsNumber : ℕ → Phrase
+IsNumber n = IsOne (λ t. (t.kind ≡ k.Integer) × (digits_value 10 t.text ≡ n))
+
+-- ('=' ('1' | '0'))? after a bool: `= 1` means it, `= 0` its NOT (profile)
+abbrev pub IsTest : {A : Type 0} → WrittenCond A → WrittenCond A → Phrase
+IsTest bool x ts =
+    ((x ≡ bool) × (ts ≡ []))
+    ⊎ ((x ≡ bool) × (IsToken k.Equal ▸ IsNumber 1) ts)
+    ⊎ ((x ≡ c.Not bool) × (IsToken k.Equal ▸ IsNumber 0) ts)
+
+-- pred = operand cmp operand | operand 'IS' 'NOT'? 'NULL' | bool ('=' ('1' | '0'))? (profile)
+abbrev pub IsPredicate : (functions : Bool) → ServedCond functions → Phrase
+IsPredicate functions x ts =
+    ((comparison : Comparison) × (left right : ServedOperand functions) × (x ≡ c.Compare (place ts) comparison left right)
+    × (IsOperand functions left ▸ IsComparison comparison ▸ IsOperand functions right) ts)
+    ⊎ ((operand : ServedOperand functions) × (x ≡ c.IsNull operand) × (IsOperand functions operand ▸ IsToken k.Is ▸ IsToken k.Null) ts)
+    ⊎ ((operand : ServedOperand functions) × (x ≡ c.Not (c.IsNull operand)) × (IsOperand functions operand ▸ IsToken k.Is ▸ IsToken k.Not ▸ IsToken k.Null) ts)
+    ⊎ ((bool : ServedCond functions) × (IsBool functions bool ▸ IsTest bool x) ts)
+
+-- ---- conditions
 
 -- one part alone, or two and more with a word between them (profile)
 abbrev pub IsChain : {A : Type 0} → TokenKind → (List (WrittenCond A) → WrittenCond A) → (WrittenCond A → Phrase) → WrittenCond A → Phrase
@@ -115,28 +187,40 @@ abbrev pub IsConditionOf : {A : Type 0} → (WrittenCond A → Phrase) → Writt
 IsConditionOf P = IsChain k.Or c.Or (IsConjunction P)
 
 -- neg = 'NOT' neg | '(' cond ')' | pred, where so many NOT and parentheses may nest (profile)
-unfoldable pub IsNegation : {A : Type 0} → ℕ → WrittenCond A → Phrase
-IsNegation zero x ts = IsPredicate x ts
-IsNegation {A} (suc levels) x ts =
-    ((y : WrittenCond A) × (x ≡ c.Not y) × (IsToken k.Not ▸ IsNegation levels y) ts)
-    ⊎ (IsToken k.LeftParenthesis ▸ IsConditionOf (IsNegation levels) x ▸ IsToken k.RightParenthesis) ts
-    ⊎ IsPredicate x ts
+unfoldable pub IsNegation : (functions : Bool) → ℕ → ServedCond functions → Phrase
+IsNegation functions zero x ts = IsPredicate functions x ts
+IsNegation functions (suc levels) x ts =
+    ((y : ServedCond functions) × (x ≡ c.Not y) × (IsToken k.Not ▸ IsNegation functions levels y) ts)
+    ⊎ (IsToken k.LeftParenthesis ▸ IsConditionOf (IsNegation functions levels) x ▸ IsToken k.RightParenthesis) ts
+    ⊎ IsPredicate functions x ts
 
 -- a condition in which NOT and parentheses nest to 64 levels at most (profile)
-abbrev pub IsCondition : {A : Type 0} → WrittenCond A → Phrase
-IsCondition = IsConditionOf (IsNegation most_levels)
+abbrev pub IsCondition : (functions : Bool) → ServedCond functions → Phrase
+IsCondition functions = IsConditionOf (IsNegation functions most_levels)
 
--- ---- queries
+-- ---- the select list
 
--- item = col (profile)
-abbrev pub IsItem : {C : Type 0} → WrittenItem C → Phrase
-IsItem item ts = (column : WrittenColumn) × (item ≡ i.Column column) × IsColumn column ts
+-- 'ST_AsText' '(' col ')' | 'ST_Dimension' '(' col ')' | 'ST_IsEmpty' '(' col ')', where functions are served (profile)
+abbrev pub IsItemFunction : (functions : Bool) → ServedItem functions → Phrase
+IsItemFunction false item ts = ⊥
+IsItemFunction true item ts =
+    ((column : WrittenColumn) × (item ≡ i.AsText (place ts) column) × IsCall (codes "ST_AsText") (IsColumn column) ts)
+    ⊎ ((column : WrittenColumn) × (item ≡ i.Dimension (place ts) column) × IsCall (codes "ST_Dimension") (IsColumn column) ts)
+    ⊎ ((column : WrittenColumn) × (item ≡ i.IsEmpty (place ts) column) × IsCall (codes "ST_IsEmpty") (IsColumn column) ts)
+
+-- item = col | 'ST_AsText' '(' col ')' | 'ST_Dimension' '(' col ')' | 'ST_IsEmpty' '(' col ')' (profile)
+abbrev pub IsItem : (functions : Bool) → ServedItem functions → Phrase
+IsItem functions item ts =
+    ((column : WrittenColumn) × (item ≡ i.Column column) × IsColumn column ts)
+    ⊎ IsItemFunction functions item ts
 
 -- items = '*' | item (',' item)* (profile)
-abbrev pub IsSelection : {C : Type 0} → Selection C → Phrase
-IsSelection {C} selection ts =
+abbrev pub IsSelection : (functions : Bool) → Selection (ItemArgument functions) → Phrase
+IsSelection functions selection ts =
     ((selection ≡ l.All) × IsToken k.Star ts)
-    ⊎ ((first : WrittenItem C) × (more : List (WrittenItem C)) × (selection ≡ l.Items (first ∷ more)) × IsParts k.Comma IsItem first more ts)
+    ⊎ ((first : ServedItem functions) × (more : List (ServedItem functions)) × (selection ≡ l.Items (first ∷ more)) × IsParts k.Comma (IsItem functions) first more ts)
+
+-- ---- table references
 
 -- ref = name ('AS'? name)? (profile)
 abbrev pub IsReference : WrittenReference → Phrase
@@ -145,23 +229,47 @@ IsReference reference ts =
     ⊎ ((table alias : Name) × (reference ≡ record { table = table; alias = Some alias }) × (IsName table ▸ IsName alias) ts)
     ⊎ ((table alias : Name) × (reference ≡ record { table = table; alias = Some alias }) × (IsName table ▸ IsToken k.As ▸ IsName alias) ts)
 
--- ('WHERE' cond)? (profile)
-abbrev pub IsWhere : {A : Type 0} → Option (WrittenCond A) → Phrase
-IsWhere {A} condition ts =
-    ((condition ≡ None) × (ts ≡ []))
-    ⊎ ((x : WrittenCond A) × (condition ≡ Some x) × (IsToken k.Where ▸ IsCondition x) ts)
+-- ',' ref | 'CROSS' 'JOIN' ref, a second reference without a condition (profile)
+abbrev pub IsCrossed : WrittenReference → Phrase
+IsCrossed reference ts = (IsToken k.Comma ▸ IsReference reference) ts ⊎ (IsToken k.Cross ▸ IsToken k.Join ▸ IsReference reference) ts
 
--- query = 'SELECT' items 'FROM' ref ('WHERE' cond)? ';'?, and then the text ends (profile)
-abbrev pub IsSelect : {A C : Type 0} → Query A C → Phrase
-IsSelect {A} {C} query ts =
-    (selection : Selection C) × (first : WrittenReference) × (condition : Option (WrittenCond A))
-    × (query ≡ record { explain = explain.No; selection = selection; first = first; second = None; on = None; condition = condition })
-    × (IsToken k.Select ▸ IsSelection selection ▸ IsToken k.From ▸ IsReference first ▸ IsWhere condition ▸ IsOptional k.Semicolon ▸ IsToken k.End) ts
+-- 'INNER'? 'JOIN' ref 'ON' cond (profile)
+abbrev pub IsJoined : (functions : Bool) → WrittenReference → ServedCond functions → Phrase
+IsJoined functions reference on = IsOptional k.Inner ▸ IsToken k.Join ▸ IsReference reference ▸ IsToken k.On ▸ IsCondition functions on
+
+-- second? where second = ',' ref | 'CROSS' 'JOIN' ref | 'INNER'? 'JOIN' ref 'ON' cond, where it is served (profile)
+abbrev pub IsSecond : (served : Served) → Option WrittenReference → Option (ServedCond served.functions) → Phrase
+IsSecond served second on ts =
+    ((second ≡ None) × (on ≡ None) × (ts ≡ []))
+    ⊎ ((served.second_reference ≡ true) × (reference : WrittenReference) × (second ≡ Some reference) × (on ≡ None) × IsCrossed reference ts)
+    ⊎ ((served.second_reference ≡ true) × (reference : WrittenReference) × (x : ServedCond served.functions) × (second ≡ Some reference) × (on ≡ Some x)
+    × IsJoined served.functions reference x ts)
+
+-- ---- queries
+
+-- ('WHERE' cond)? (profile)
+abbrev pub IsWhere : (functions : Bool) → Option (ServedCond functions) → Phrase
+IsWhere functions condition ts =
+    ((condition ≡ None) × (ts ≡ []))
+    ⊎ ((x : ServedCond functions) × (condition ≡ Some x) × (IsToken k.Where ▸ IsCondition functions x) ts)
+
+-- ('EXPLAIN' 'ANALYZE'?)?, where they are served; neither word is reserved (profile)
+abbrev pub IsExplain : Served → Explain → Phrase
+IsExplain served told ts =
+    ((told ≡ explain.No) × (ts ≡ []))
+    ⊎ ((served.explain ≡ true) × (told ≡ explain.Plan) × IsWord (codes "EXPLAIN") ts)
+    ⊎ ((served.explain ≡ true) × (served.analyze ≡ true) × (told ≡ explain.Analyze) × (IsWord (codes "EXPLAIN") ▸ IsWord (codes "ANALYZE")) ts)
+
+-- query = ('EXPLAIN' 'ANALYZE'?)? 'SELECT' items 'FROM' ref second? ('WHERE' cond)? ';'?, and then the text ends (profile)
+abbrev pub IsSelect : (served : Served) → ServedQuery served → Phrase
+IsSelect served query =
+    IsExplain served query.explain ▸ IsToken k.Select ▸ IsSelection served.functions query.selection ▸ IsToken k.From
+    ▸ IsReference query.first ▸ IsSecond served query.second query.on ▸ IsWhere served.functions query.condition ▸ IsOptional k.Semicolon ▸ IsToken k.End
 
 -- A text is a query: it isn't too long, it is made of tokens, and these are written for the tree (profile).
-unfoldable pub IsQuery : {A C : Type 0} → List ℕ → Query A C → Type 0
-IsQuery text query = (length text ≤ most_bytes) × (bad_place (tokens true text) ≡ None) × IsSelect query (tokens true text)
+unfoldable pub IsQuery : (served : Served) → List ℕ → ServedQuery served → Type 0
+IsQuery served text query = (length text ≤ most_bytes) × (bad_place (tokens true text) ≡ None) × IsSelect served query (tokens true text)
 
 -- a reader of a text answers the query that it is, whichever that is; want of memory may stand in its place (profile)
-abbrev pub AnswersQuery : {A C : Type 0} → List ℕ → Result (Query A C) QueryFault → Type 0
-AnswersQuery {A} {C} text result = (query : Query A C) → IsQuery text query → Gives fault.OutOfMemory (λ q. q) result (Ok query)
+abbrev pub AnswersQuery : (served : Served) → List ℕ → Result (ServedQuery served) QueryFault → Type 0
+AnswersQuery served text result = (query : ServedQuery served) → IsQuery served text query → Gives fault.OutOfMemory (λ q. q) result (Ok query)

@@ -1,27 +1,34 @@
--- Reading of a query: the tree of a text, or the first fault from left to right. SELECT over one table, after the
--- query expressions of 06-104r4 (profile). Generic in what geometry arguments are; no function is served yet.
-use Rattle.std.specs.Prelude.{ℕ, zero, suc, ◌+◌, ◌*◌, ◌-◌, ◌^◌, Bool, true, false, not, ◌&&◌, ◌||◌, if◌then◌else◌, nat_le, nat_lt, ℤ, pos, neg_ℤ, List, [], ◌∷◌, length, Option, Some, None, Result, Ok, Err}
+-- Reading of a query: the tree of a text, or the first fault from left to right. SELECT over one table or two, after
+-- the query expressions of 06-104r4, with its functions (profile). Each part that may be served or not is a parameter.
+use Rattle.std.specs.Prelude.{ℕ, zero, suc, ◌^◌, Bool, true, false, not, ◌&&◌, ◌||◌, if◌then◌else◌, ◌==◌, nat_le, nat_lt, ℤ, pos, neg_ℤ, List, [], ◌∷◌, length, Option, Some, None, Result, Ok, Err, codes}
+use Rattle.std.specs.Str.Parse.{digits_value}
+use Rattle.geometry_model.specs.declared.relations.Predicate.{Predicate}
+use Rattle.geometry_model.specs.declared.relations.Predicate.TheVariants as p
 use Rattle.table_model.specs.declared.conditions.Comparison.{Comparison}
 use Rattle.table_model.specs.declared.conditions.Comparison.TheVariants as m
 use Rattle.table_model.specs.declared.faults.QueryFault.{QueryFault}
 use Rattle.table_model.specs.declared.faults.QueryFault.TheVariants as fault
+use Rattle.table_model.specs.declared.queries.Explain.{Explain}
 use Rattle.table_model.specs.declared.queries.Explain.TheVariants as explain
 use Rattle.table_model.specs.declared.queries.Name.{Name}
-use Rattle.table_model.specs.declared.queries.Query.{Query}
 use Rattle.table_model.specs.declared.queries.Selection.{Selection}
 use Rattle.table_model.specs.declared.queries.Selection.TheVariants as l
 use Rattle.table_model.specs.declared.queries.WrittenColumn.{WrittenColumn}
 use Rattle.table_model.specs.declared.queries.WrittenCond.{WrittenCond}
 use Rattle.table_model.specs.declared.queries.WrittenCond.TheVariants as c
-use Rattle.table_model.specs.declared.queries.WrittenItem.{WrittenItem}
+use Rattle.table_model.specs.declared.queries.WrittenGeometry.{WrittenGeometry}
+use Rattle.table_model.specs.declared.queries.WrittenGeometry.TheVariants as g
 use Rattle.table_model.specs.declared.queries.WrittenItem.TheVariants as i
 use Rattle.table_model.specs.declared.queries.WrittenOperand.{WrittenOperand}
 use Rattle.table_model.specs.declared.queries.WrittenOperand.TheVariants as o
+use Rattle.table_model.specs.declared.queries.WrittenPredicate.TheVariants as w
 use Rattle.table_model.specs.declared.queries.WrittenReference.{WrittenReference}
 use Rattle.table_model.specs.declared.tokens.Token.{Token}
 use Rattle.table_model.specs.declared.tokens.TokenKind.{TokenKind}
 use Rattle.table_model.specs.declared.tokens.TokenKind.TheVariants as k
-use Rattle.table_model.specs.Parsers.{Outcome, Parser, kind, place, spelling, next, written, sees, and_then, ◌>>=◌, ◌>>◌, ◌<$>◌, pure, refuse, eat, expect, parts}
+use Rattle.table_model.specs.Parsers.{Outcome, Parser, kind, place, spelling, next, written, sees, after, ◌>>=◌, ◌>>◌, ◌<$>◌, pure, refuse, eat, expect, parts}
+use Rattle.table_model.specs.Served.{Served, ItemArgument, ServedOperand, ServedCond, ServedItem, ServedQuery}
+use Rattle.table_model.specs.Texts.{same_name}
 use Rattle.table_model.specs.Tokens.{same_kind, tokens}
 
 -- a reader of a part of a query (profile)
@@ -30,7 +37,7 @@ Reader = Parser QueryFault
 
 -- ---- names and columns
 
--- A word that isn't reserved. With `(` after it, it is a function, and none is served (profile).
+-- A word that isn't reserved. With `(` after it, it is a function and no name (profile).
 unfoldable pub name : Reader Name
 name ts = if sees k.Word ts && not (sees k.LeftParenthesis (next ts)) then Ok (written ts, next ts) else Err (fault.Syntax (place ts))
 
@@ -41,17 +48,43 @@ column = do
   qualified ← eat k.Point
   if qualified then (λ second. record { reference = Some first; name = second }) <$> name else pure (record { reference = None; name = first })
 
--- ---- operands
+-- ---- functions
 
--- the number of decimal digits, after a number of digits before (profile)
-abbrev pub decimal : ℕ → List ℕ → ℕ
-decimal before [] = before
-decimal before (digit ∷ digits) = decimal (10 * before + (digit - 48)) digits
+-- whether a function of this name, in any ASCII case, is called next: a word that isn't reserved, and `(` (profile)
+unfoldable pub calls : List ℕ → List Token → Bool
+calls function ts = sees k.Word ts && sees k.LeftParenthesis (next ts) && same_name (spelling ts) function
+
+-- functions by their names, each with the reader of what stands after its name (profile)
+abbrev pub Functions : Type 0 → Type 0
+Functions A = List (List ℕ × Reader A)
+
+-- the rest of a call of the first of some functions that is called next; where none is, what another reader reads (profile)
+abbrev pub called_or : {A : Type 0} → Functions A → Reader A → Reader A
+called_or [] other ts = other ts
+called_or (f ∷ more) other ts = if calls f.0 ts then f.1 (next ts) else called_or more other ts
+
+-- what stands between parentheses (profile)
+abbrev pub enclosed : {A : Type 0} → Reader A → Reader A
+enclosed inside = do
+  expect fault.Syntax k.LeftParenthesis
+  x ← inside
+  expect fault.Syntax k.RightParenthesis
+  pure x
+
+-- a string (profile)
+unfoldable pub string : Reader Name
+string ts = if sees k.Text ts then Ok (written ts, next ts) else Err (fault.Syntax (place ts))
+
+-- geom = col | 'ST_GeomFromText' '(' string ')' (profile)
+unfoldable pub geometry : Reader WrittenGeometry
+geometry = called_or ((codes "ST_GeomFromText", enclosed (g.FromText <$> string)) ∷ []) (g.Column <$> column)
+
+-- ---- operands
 
 -- the number of digits with a sign, within 64 bits (profile)
 abbrev pub integer_value : Bool → List ℕ → Option ℤ
-integer_value true digits = if nat_le (decimal 0 digits) (2 ^ 63) then Some (neg_ℤ (pos (decimal 0 digits))) else None
-integer_value false digits = if nat_lt (decimal 0 digits) (2 ^ 63) then Some (pos (decimal 0 digits)) else None
+integer_value true digits = if nat_le (digits_value 10 digits) (2 ^ 63) then Some (neg_ℤ (pos (digits_value 10 digits))) else None
+integer_value false digits = if nat_lt (digits_value 10 digits) (2 ^ 63) then Some (pos (digits_value 10 digits)) else None
 
 -- the integer, or Q12 at its first digit (profile)
 abbrev pub integer_or : {A : Type 0} → Option ℤ → ℕ → List Token → Outcome QueryFault (WrittenOperand A)
@@ -63,17 +96,25 @@ unfoldable pub integer : {A : Type 0} → Bool → Reader (WrittenOperand A)
 integer negative ts =
     if sees k.Integer ts then integer_or (integer_value negative (spelling ts)) (place ts) (next ts) else Err (fault.Syntax (place ts))
 
--- operand = col | ('+' | '-')? integer | string | 'NULL' (profile)
-unfoldable pub operand : {A : Type 0} → Reader (WrittenOperand A)
-operand ts =
+-- the functions that are operands, where functions are served; the number is the byte of the name (profile)
+abbrev pub operand_functions : (functions : Bool) → ℕ → Functions (ServedOperand functions)
+operand_functions false at = []
+operand_functions true at =
+    (codes "ST_AsText", enclosed (o.AsText at <$> geometry))
+    ∷ (codes "ST_Dimension", enclosed (o.Dimension at <$> geometry))
+    ∷ []
+
+-- operand = col | ('+' | '-')? integer | string | 'NULL' | 'ST_AsText' '(' geom ')' | 'ST_Dimension' '(' geom ')' (profile)
+unfoldable pub operand : (functions : Bool) → Reader (ServedOperand functions)
+operand functions ts =
     if sees k.Null ts then Ok (o.Null, next ts)
     else (if sees k.Text ts then Ok (o.Text (written ts), next ts)
     else (if sees k.Plus ts then integer false (next ts)
     else (if sees k.Minus ts then integer true (next ts)
     else (if sees k.Integer ts then integer false ts
-    else (o.Column <$> column) ts))))
+    else called_or (operand_functions functions (place ts)) (o.Column <$> column) ts))))
 
--- ---- conditions
+-- ---- predicates
 
 -- cmp = '=' | '<>' | '!=' | '<' | '<=' | '>' | '>=' (profile)
 abbrev pub comparison_of : TokenKind → Option Comparison
@@ -86,13 +127,13 @@ comparison_of k.GreaterOrEqual = Some m.GreaterOrEqual
 comparison_of _ = None
 
 -- the rest of a comparison by its sign; where there is none the token can't stand there (profile)
-abbrev pub compared_by : {A : Type 0} → ℕ → WrittenOperand A → Option Comparison → Reader (WrittenCond A)
-compared_by at left None = refuse fault.Syntax
-compared_by at left (Some comparison) = λ ts. (c.Compare at comparison left <$> operand) (next ts)
+abbrev pub compared_by : (functions : Bool) → ℕ → ServedOperand functions → Option Comparison → Reader (ServedCond functions)
+compared_by functions at left None = refuse fault.Syntax
+compared_by functions at left (Some comparison) = λ ts. (c.Compare at comparison left <$> operand functions) (next ts)
 
 -- the rest of a comparison, after its left side (profile)
-unfoldable pub compared : {A : Type 0} → ℕ → WrittenOperand A → Reader (WrittenCond A)
-compared at left ts = compared_by at left (comparison_of (kind ts)) ts
+unfoldable pub compared : (functions : Bool) → ℕ → ServedOperand functions → Reader (ServedCond functions)
+compared functions at left ts = compared_by functions at left (comparison_of (kind ts)) ts
 
 -- the rest of IS NULL or IS NOT NULL, after IS (profile)
 unfoldable pub null_test : {A : Type 0} → WrittenOperand A → Reader (WrittenCond A)
@@ -101,12 +142,70 @@ null_test left = do
   expect fault.Syntax k.Null
   pure (if negated then c.Not (c.IsNull left) else c.IsNull left)
 
--- pred = operand cmp operand | operand 'IS' 'NOT'? 'NULL' (profile)
-unfoldable pub predicate : {A : Type 0} → Reader (WrittenCond A)
-predicate = λ ts. (do
-  left ← operand
+-- operand cmp operand | operand 'IS' 'NOT'? 'NULL' (profile)
+unfoldable pub comparison : (functions : Bool) → Reader (ServedCond functions)
+comparison functions = λ ts. (do
+  left ← operand functions
   tests ← eat k.Is
-  if tests then null_test left else compared (place ts) left) ts
+  if tests then null_test left else compared functions (place ts) left) ts
+
+-- '1' or '0' after a predicate and '=', an integer token of that value: the predicate, or its NOT (profile)
+unfoldable pub truth_value : {A : Type 0} → WrittenCond A → Reader (WrittenCond A)
+truth_value x ts =
+    if sees k.Integer ts && digits_value 10 (spelling ts) == 1 then Ok (x, next ts)
+    else (if sees k.Integer ts && digits_value 10 (spelling ts) == 0 then Ok (c.Not x, next ts)
+    else Err (fault.Syntax (place ts)))
+
+-- ('=' ('1' | '0'))? after a predicate (profile)
+unfoldable pub truth_test : {A : Type 0} → WrittenCond A → Reader (WrittenCond A)
+truth_test x = do
+  tested ← eat k.Equal
+  if tested then truth_value x else pure x
+
+-- the arguments of a predicate, and what it is compared with (profile)
+abbrev pub tested : {A : Type 0} → Reader (WrittenCond A) → Reader (WrittenCond A)
+tested arguments = enclosed arguments >>= truth_test
+
+-- geom ',' geom, the arguments of a predicate that is named (06-103r4, 6.1.15.3)
+unfoldable pub relates : ℕ → Predicate → Reader (WrittenCond WrittenGeometry)
+relates at predicate = do
+  a ← geometry
+  expect fault.Syntax k.Comma
+  b ← geometry
+  pure (c.Relates at (w.Named predicate) a b)
+
+-- geom ',' geom ',' string, the arguments of ST_Relate (06-103r4, 6.1.15.2)
+unfoldable pub relates_by : ℕ → Reader (WrittenCond WrittenGeometry)
+relates_by at = do
+  a ← geometry
+  expect fault.Syntax k.Comma
+  b ← geometry
+  expect fault.Syntax k.Comma
+  pattern ← string
+  pure (c.Relates at (w.Relate pattern) a b)
+
+-- The functions that are predicates, where functions are served; the number is the byte of the name (06-103r4, 6.1.15.3
+-- and 6.1.2.2; their names: profile).
+abbrev pub predicate_functions : (functions : Bool) → ℕ → Functions (ServedCond functions)
+predicate_functions false at = []
+predicate_functions true at =
+    (codes "ST_Equals", tested (relates at p.Equals))
+    ∷ (codes "ST_Disjoint", tested (relates at p.Disjoint))
+    ∷ (codes "ST_Intersects", tested (relates at p.Intersects))
+    ∷ (codes "ST_Touches", tested (relates at p.Touches))
+    ∷ (codes "ST_Crosses", tested (relates at p.Crosses))
+    ∷ (codes "ST_Within", tested (relates at p.Within))
+    ∷ (codes "ST_Contains", tested (relates at p.Contains))
+    ∷ (codes "ST_Overlaps", tested (relates at p.Overlaps))
+    ∷ (codes "ST_Relate", tested (relates_by at))
+    ∷ (codes "ST_IsEmpty", tested (c.IsEmpty at <$> geometry))
+    ∷ []
+
+-- pred = operand cmp operand | operand 'IS' 'NOT'? 'NULL' | bool ('=' ('1' | '0'))? (profile)
+unfoldable pub predicate : (functions : Bool) → Reader (ServedCond functions)
+predicate functions ts = called_or (predicate_functions functions (place ts)) (comparison functions) ts
+
+-- ---- conditions
 
 -- the tree of a first part, read with the word after it, and of those that follow (profile)
 abbrev pub joined : {A : Type 0} → TokenKind → (List (WrittenCond A) → WrittenCond A) → Reader (WrittenCond A) → WrittenCond A → Reader (WrittenCond A)
@@ -135,33 +234,44 @@ group part = do
   pure inner
 
 -- neg = 'NOT' neg | '(' cond ')' | pred, where so many NOT and parentheses may still nest (profile)
-unfoldable pub negation : {A : Type 0} → ℕ → Reader (WrittenCond A)
-negation zero ts = if sees k.Not ts || sees k.LeftParenthesis ts then Err (fault.TooDeep (place ts)) else predicate ts
-negation (suc levels) ts =
-    if sees k.Not ts then (c.Not <$> negation levels) (next ts)
-    else (if sees k.LeftParenthesis ts then group (negation levels) (next ts) else predicate ts)
+unfoldable pub negation : (functions : Bool) → ℕ → Reader (ServedCond functions)
+negation functions zero ts = if sees k.Not ts || sees k.LeftParenthesis ts then Err (fault.TooDeep (place ts)) else predicate functions ts
+negation functions (suc levels) ts =
+    if sees k.Not ts then (c.Not <$> negation functions levels) (next ts)
+    else (if sees k.LeftParenthesis ts then group (negation functions levels) (next ts) else predicate functions ts)
 
 -- how deep conditions may nest (profile)
 abbrev pub most_levels : ℕ
 most_levels = 64
 
 -- cond, of 64 levels at most (profile)
-abbrev pub condition : {A : Type 0} → Reader (WrittenCond A)
-condition = condition_of (negation most_levels)
+abbrev pub condition : (functions : Bool) → Reader (ServedCond functions)
+condition functions = condition_of (negation functions most_levels)
 
--- ---- queries
+-- ---- the select list
 
--- item = col (profile)
-unfoldable pub item : {C : Type 0} → Reader (WrittenItem C)
-item = i.Column <$> column
+-- the functions of the select list, where functions are served; the number is the byte of the name (06-103r4, 6.1.2.2; profile)
+abbrev pub item_functions : (functions : Bool) → ℕ → Functions (ServedItem functions)
+item_functions false at = []
+item_functions true at =
+    (codes "ST_AsText", enclosed (i.AsText at <$> column))
+    ∷ (codes "ST_Dimension", enclosed (i.Dimension at <$> column))
+    ∷ (codes "ST_IsEmpty", enclosed (i.IsEmpty at <$> column))
+    ∷ []
+
+-- item = col | 'ST_AsText' '(' col ')' | 'ST_Dimension' '(' col ')' | 'ST_IsEmpty' '(' col ')' (profile)
+unfoldable pub item : (functions : Bool) → Reader (ServedItem functions)
+item functions ts = called_or (item_functions functions (place ts)) (i.Column <$> column) ts
 
 -- item (',' item)* (profile)
-abbrev pub items : {C : Type 0} → Reader (List (WrittenItem C))
-items = parts fault.Syntax k.Comma item []
+abbrev pub items : (functions : Bool) → Reader (List (ServedItem functions))
+items functions = parts fault.Syntax k.Comma (item functions) []
 
 -- items = '*' | item (',' item)* (profile)
-unfoldable pub selection : {C : Type 0} → Reader (Selection C)
-selection ts = if sees k.Star ts then Ok (l.All, next ts) else (l.Items <$> items) ts
+unfoldable pub selection : (functions : Bool) → Reader (Selection (ItemArgument functions))
+selection functions ts = if sees k.Star ts then Ok (l.All, next ts) else (l.Items <$> items functions) ts
+
+-- ---- table references
 
 -- ('AS'? name)? (profile)
 unfoldable pub alias : Reader (Option Name)
@@ -176,23 +286,64 @@ reference = do
   alias ← alias
   pure (record { table = table; alias = alias })
 
--- ('WHERE' cond)? (profile)
-unfoldable pub where_condition : {A : Type 0} → Reader (Option (WrittenCond A))
-where_condition = do
-  filters ← eat k.Where
-  if filters then Some <$> condition else pure None
+-- a second reference and its condition of ON, or neither (profile)
+abbrev pub Second : Bool → Type 0
+Second functions = Option WrittenReference × Option (ServedCond functions)
 
--- query = 'SELECT' items 'FROM' ref ('WHERE' cond)? ';'? (profile)
-unfoldable pub query : {A C : Type 0} → Reader (Query A C)
-query = do
+-- ref, which has no condition (profile)
+unfoldable pub crossed : (functions : Bool) → Reader (Second functions)
+crossed functions = (λ reference. (Some reference, None)) <$> reference
+
+-- 'JOIN' ref 'ON' cond (profile)
+unfoldable pub joined_on : (functions : Bool) → Reader (Second functions)
+joined_on functions = do
+  expect fault.Syntax k.Join
+  reference ← reference
+  expect fault.Syntax k.On
+  x ← condition functions
+  pure (Some reference, Some x)
+
+-- second? where second = ',' ref | 'CROSS' 'JOIN' ref | 'INNER'? 'JOIN' ref 'ON' cond, where it is served (profile)
+abbrev pub second : (served : Served) → Reader (Second served.functions)
+second served ts =
+    if served.second_reference && sees k.Comma ts then crossed served.functions (next ts)
+    else (if served.second_reference && sees k.Cross ts then (expect fault.Syntax k.Join >> crossed served.functions) (next ts)
+    else (if served.second_reference && (sees k.Inner ts || sees k.Join ts) then joined_on served.functions (after k.Inner ts)
+    else Ok ((None, None), ts)))
+
+-- ---- queries
+
+-- ('WHERE' cond)? (profile)
+unfoldable pub where_condition : (functions : Bool) → Reader (Option (ServedCond functions))
+where_condition functions = do
+  filters ← eat k.Where
+  if filters then Some <$> condition functions else pure None
+
+-- Whether this word stands next, in any ASCII case. It isn't reserved; with `(` after it, it is a function (profile).
+unfoldable pub says : List ℕ → List Token → Bool
+says word ts = sees k.Word ts && not (sees k.LeftParenthesis (next ts)) && same_name (spelling ts) word
+
+-- 'ANALYZE'? after EXPLAIN, where it is served (profile)
+abbrev pub analyzed : Served → Reader Explain
+analyzed served ts = if served.analyze && says (codes "ANALYZE") ts then Ok (explain.Analyze, next ts) else Ok (explain.Plan, ts)
+
+-- ('EXPLAIN' 'ANALYZE'?)?, where it is served (profile)
+abbrev pub explained : Served → Reader Explain
+explained served ts = if served.explain && says (codes "EXPLAIN") ts then analyzed served (next ts) else Ok (explain.No, ts)
+
+-- query = ('EXPLAIN' 'ANALYZE'?)? 'SELECT' items 'FROM' ref second? ('WHERE' cond)? ';'?, and then the text ends (profile)
+unfoldable pub query : (served : Served) → Reader (ServedQuery served)
+query served = do
+  told ← explained served
   expect fault.Syntax k.Select
-  selection ← selection
+  selection ← selection served.functions
   expect fault.Syntax k.From
   first ← reference
-  condition ← where_condition
+  second ← second served
+  condition ← where_condition served.functions
   eat k.Semicolon
   expect fault.Syntax k.End
-  pure (record { explain = explain.No; selection = selection; first = first; second = None; on = None; condition = condition })
+  pure (record { explain = told; selection = selection; first = first; second = second.0; on = second.1; condition = condition })
 
 -- the place of the bad token, where there is one (profile)
 abbrev pub bad_place : List Token → Option ℕ
@@ -205,14 +356,14 @@ value_of (Ok p) = Ok p.0
 value_of (Err e) = Err e
 
 -- Q1 at a bad token, and else the query that the tokens are (profile)
-abbrev pub query_by : {A C : Type 0} → Option ℕ → List Token → Result (Query A C) QueryFault
-query_by (Some at) ts = Err (fault.Lex at)
-query_by None ts = value_of (query ts)
+abbrev pub query_by : (served : Served) → Option ℕ → List Token → Result (ServedQuery served) QueryFault
+query_by served (Some at) ts = Err (fault.Lex at)
+query_by served None ts = value_of (query served ts)
 
 -- how many bytes a query may have (profile)
 abbrev pub most_bytes : ℕ
 most_bytes = 65536
 
 -- The query that a text is, or its fault: its length first, then its tokens, then its grammar (profile).
-unfoldable pub query_of : {A C : Type 0} → List ℕ → Result (Query A C) QueryFault
-query_of text = if nat_lt most_bytes (length text) then Err fault.TooLong else query_by (bad_place (tokens true text)) (tokens true text)
+unfoldable pub query_of : (served : Served) → List ℕ → Result (ServedQuery served) QueryFault
+query_of served text = if nat_lt most_bytes (length text) then Err fault.TooLong else query_by served (bad_place (tokens true text)) (tokens true text)

@@ -4,7 +4,7 @@ use Rattle.std.specs.Prelude.{ℕ, zero, suc, Bool, true, false, not, ◌&&◌, 
 use Rattle.std.specs.List.{list_all, list_any}
 use Rattle.std.specs.Option.{option_map}
 use Rattle.table_model.specs.Definitions.{is_integer}
-use Rattle.table_model.specs.Parsers.{Outcome, Parser, place, spelling, next, sees, and_then, ◌>>=◌, ◌>>◌, ◌<$>◌, pure, refuse, eat, expect}
+use Rattle.table_model.specs.Parsers.{Outcome, Parser, place, spelling, next, sees, ◌>>=◌, ◌>>◌, ◌<$>◌, pure, refuse, eat, expect}
 use Rattle.table_model.specs.Texts.{same_name}
 use Rattle.table_model.specs.Tokens.{tokens}
 use Rattle.table_model.specs.declared.definitions.ColumnType.{ColumnType}

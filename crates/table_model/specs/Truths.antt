@@ -1,5 +1,5 @@
 -- Three-valued truth, and the truth of a condition at rows.
-use Rattle.std.specs.Prelude.{ℕ, ℤ, pos, Bool, true, false, List, [], fold, slice_get, unwrap_or, Option, Some, None}
+use Rattle.std.specs.Prelude.{ℤ, pos, Bool, true, false, List, [], fold, slice_get, unwrap_or, Option, Some, None}
 use Rattle.std.specs.Ordering.{int_cmp, nat_cmp, is_eq, is_ne, is_lt, is_le, is_gt, is_ge}
 use Rattle.std.specs.Cmp.Lexicographic.{slice_cmp}
 use Rattle.std.specs.declared.cmp.Ordering.{Ordering}

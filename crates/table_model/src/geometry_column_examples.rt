@@ -3,6 +3,8 @@
 #![tactic(auto, unfolding(geometry_model::specs::CheckedTexts::geometry_in_text, geometry_model::specs::TextReading::read_text, geometry_model::specs::TextReading::whole, geometry_model::specs::TextReading::tagged, geometry_model::specs::TextReading::typed, geometry_model::specs::TextReading::body, geometry_model::specs::TextReading::parts, geometry_model::specs::TextReading::line, geometry_model::specs::TextReading::separated, geometry_model::specs::TextReading::point, geometry_model::specs::TextReading::position, geometry_model::specs::TextReading::space, geometry_model::specs::TextReading::coordinate, geometry_model::specs::TextReading::numeral, geometry_model::specs::TextReading::fraction, geometry_model::specs::TextReading::sign, crate::specs::Texts::same_name, crate::specs::Loading::load, crate::specs::Loading::by_key, crate::specs::Loading::double_key, crate::specs::Loading::header_fault, crate::specs::Loading::checked_row, crate::specs::Loading::row_of, crate::specs::Loading::rows_of, crate::specs::Loading::value_of, crate::specs::Loading::integer_of,))]
 
 ghost use Rattle.std.specs.Prelude.{◌≡◌, [], ◌∷◌, codes, pos, Some, None, Ok, Err};
+ghost use Rattle.geometry_model.specs.Geometries.{MultiPoint, Polygon};
+ghost use Rattle.geometry_model.specs.TextExamples.{at};
 ghost use Rattle.geometry_model.specs.declared.geometry_faults.GeometryFault.TheVariants.{Text, Invalid};
 ghost use Rattle.geometry_model.specs.declared.shapes.GeometryType.TheVariants.{LineString};
 ghost use Rattle.geometry_model.specs.declared.text_faults.TextFault.TheVariants.{Syntax, TooLong};
@@ -24,6 +26,8 @@ ghost use Rattle.table_model.specs.GeometryColumnExamples.{
   operand_column,
   bound,
   bound_where,
+  shaped,
+  told,
 };
 ghost use Rattle.table_model.specs.declared.conditions.Comparison.TheVariants.{Equal};
 ghost use Rattle.table_model.specs.declared.faults.LoadFault.TheVariants as load;
@@ -33,6 +37,7 @@ ghost use Rattle.table_model.specs.declared.queries.WrittenCond.TheVariants as c
 ghost use Rattle.table_model.specs.declared.queries.WrittenItem.TheVariants as items;
 ghost use Rattle.table_model.specs.declared.queries.WrittenOperand.TheVariants as operands;
 ghost use Rattle.table_model.specs.declared.queries.WrittenPredicate.TheVariants as predicates;
+ghost use Rattle.table_model.specs.declared.values.Value.TheVariants as values;
 
 /// Records with geometries: an empty field is null, and the first fault of a field is that of its text, then of
 /// its geometry, then of its type.
@@ -87,4 +92,18 @@ pub fn geometry_fault_texts()
     ensures string { query_text (query.BadGeometry 40 (Text (Syntax 9))) ≡ codes "Q8 at 40 W1 at 9" }
     ensures ring { query_text (query.BadGeometry 40 (Invalid (RingNotSimple 0))) ≡ codes "Q8 at 40 V3 0" }
     ensures pattern { query_text (query.BadPattern 40) ≡ codes "Q9 at 40" }
+{}
+
+/// Functions of the select list: the canonical text, the dimension by the kind, whether it is empty; of null, nothing.
+pub fn functions_of_geometries()
+    ensures { told (
+        shaped 1 (values.Geometry (MultiPoint (at (pos 1) (pos 2) ∷ at (pos 3) (pos 4) ∷ [])))
+        ∷ shaped 2 values.Null
+        ∷ shaped 3 (values.Geometry (Polygon []))
+        ∷ [])
+        ≡ (codes "ST_AsText(geom)" ∷ codes "ST_Dimension(geom)" ∷ codes "ST_IsEmpty(geom)" ∷ [])
+        ∷ (codes "MULTIPOINT((1 2),(3 4))" ∷ codes "0" ∷ codes "0" ∷ [])
+        ∷ ([] ∷ [] ∷ [] ∷ [])
+        ∷ (codes "POLYGON EMPTY" ∷ codes "2" ∷ codes "1" ∷ [])
+        ∷ [] }
 {}

@@ -6,10 +6,10 @@ use Rattle.std.proofs.lemmas.Bool.{true≢false, false_from_ne_true}
 use Rattle.std.proofs.lemmas.Bool.Decides.{Decides-eqb, Decides-ltb}
 use Rattle.geometry_model.specs.Points.{Position, same_point, point_at}
 use Rattle.geometry_model.specs.Sides.{on}
-use Rattle.geometry_model.specs.Geometries.{Geometry, Edge, lines, edges_of_line}
+use Rattle.geometry_model.specs.Geometries.{Geometry, Edge, lines, edges_of_line, rings}
 use Rattle.geometry_model.specs.Locations.{last_after}
 use Rattle.geometry_model.specs.WellKnownText.{same_position}
-use Rattle.geometry_model.specs.Validity.{rings, is_short, ShareOther, Clash, IsNotSimple, RingsShare, inside, IsNotClosed, HasFault}
+use Rattle.geometry_model.specs.Validity.{is_short, ShareOther, Clash, IsNotSimple, RingsShare, inside, IsNotClosed, HasFault}
 use Rattle.geometry_model.specs.FirstFaults.{share_point, share_other, clash, any_pair, is_not_simple, rings_share, is_not_closed, test_of, test_of_both, has_fault}
 use Rattle.geometry_model.specs.declared.validity_faults.ValidityFault.{ValidityFault}
 use Rattle.geometry_model.specs.declared.validity_faults.ValidityFault.TheVariants.{TooFewPoints, RingNotClosed, RingNotSimple, RingsMeet, HoleOutside, HolesNested}

@@ -3,8 +3,8 @@ use Rattle.std.proofs.Common.{◌≡◌, ◌⊎◌, inl, inr, ℕ, zero, suc, �
 use Rattle.std.specs.List.{range_with_len}
 use Rattle.std.proofs.lemmas.Bool.{true≢false}
 use Rattle.geometry_model.specs.Points.{Position}
-use Rattle.geometry_model.specs.Geometries.{Geometry, lines}
-use Rattle.geometry_model.specs.Validity.{rings, HasFault, IsValid}
+use Rattle.geometry_model.specs.Geometries.{Geometry, lines, rings}
+use Rattle.geometry_model.specs.Validity.{HasFault, IsValid}
 use Rattle.geometry_model.specs.FirstFaults.{has_fault, numbers, of_pairs, in_order, validity_fault}
 use Rattle.geometry_model.specs.declared.validity_faults.ValidityFault.{ValidityFault}
 use Rattle.geometry_model.specs.declared.validity_faults.ValidityFault.TheVariants.{TooFewPoints, RingNotClosed, RingNotSimple, RingsMeet, HoleOutside, HolesNested}

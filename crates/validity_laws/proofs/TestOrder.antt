@@ -1,8 +1,7 @@
 -- In the order of tests each fault stands once, so the fault that is found has one place there.
 use Rattle.std.proofs.Common.{◌≡◌, ◌≢◌, ℕ, zero, suc, ◌+◌, ◌-◌, ◌<◌, ◌≤◌, List, [], ◌∷◌, ◌++◌, length, map, flat_map, Contains, refl, sym, ap, ◌∙◌, subst, arith}
 use Rattle.std.specs.List.{range_with_len}
-use Rattle.geometry_model.specs.Geometries.{Geometry, lines}
-use Rattle.geometry_model.specs.Validity.{rings}
+use Rattle.geometry_model.specs.Geometries.{Geometry, lines, rings}
 use Rattle.geometry_model.specs.FirstFaults.{numbers, in_order}
 use Rattle.geometry_model.specs.declared.validity_faults.ValidityFault.{ValidityFault}
 use Rattle.geometry_model.specs.declared.validity_faults.ValidityFault.TheVariants.{TooFewPoints, RingNotClosed, RingNotSimple, RingsMeet, HoleOutside, HolesNested}

@@ -1,7 +1,7 @@
 //! What a sink is, and the loop that puts a whole text.
 
-ghost use Rattle.std.specs.Prelude.{◌≡◌, ◌≢◌, ◌≤◌, ℕ, List, [], length, OnOk, OnErr, IfOk};
-ghost use Rattle.std.specs.Prelude.{Option};
+ghost use Rattle.std.specs.Prelude.{◌≡◌, ◌≢◌, ◌≤◌, ℕ, List, [], Option, length, map, OnOk, OnErr, IfOk};
+ghost use Rattle.std.specs.List.{concat};
 ghost use Rattle.std.specs.Io.KnownBytes.{Appends, WriteAppends};
 ghost use Rattle.wkt.specs.Sinks.{AppendsFront, CountsFailure};
 
@@ -40,6 +40,19 @@ pub fn put_all<S: Sink>(sink: &mut S, text: &[u8]) -> Result<(), SinkFault>
     let mut at = 0;
     while at < text.len() {
         at += sink.put(&text[at..])?;
+    }
+    Ok(())
+}
+
+/// Puts these texts, one after another, and stops at the first failed put: a beginning of them all has been put by
+/// then, and one failure more is counted. (Profile.)
+pub fn put_parts<S: Sink>(sink: &mut S, parts: &[&[u8]]) -> Result<(), SinkFault>
+    ensures ok { OnOk result (Appends (S.taken sink.old) (S.taken sink.new) (concat (map (λ p. p.now) parts.now))) }
+    ensures front { OnErr result (AppendsFront (S.taken sink.old) (S.taken sink.new) (concat (map (λ p. p.now) parts.now))) }
+    ensures failures { CountsFailure (S.failures sink.old) (S.failures sink.new) result }
+{
+    for part in parts {
+        put_all(sink, part)?;
     }
     Ok(())
 }

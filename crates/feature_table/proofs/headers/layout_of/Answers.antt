@@ -12,7 +12,7 @@ loop-column-preserved c =
     let header = fields_of c.args.header.now in
     let i = c.loop-column.column-index in
     let column = c.column-item.result in
-    let found = c.in_ok-place_of.ensures in
+    let found = c.in_ok-place_of.ensures.place in
     let none : name_fault header (get_or columns i column).name ≡ None =
     ap (λ c. name_fault header c.name) (sym c.column-item.is) ∙ ap (name_fault header) (sym c.bytes.ensures) ∙ found.0 in
     let place : c.in_ok-place_of.field-0 ≡ place_in header (get_or columns i column).name =
@@ -29,7 +29,7 @@ returns-in_err-place_of-clause-fault c =
     let i = c.loop-column.column-index in
     let column = c.column-item.result in
     let p = err_from_is_err_and c.from_residual-in_err-place_of.result c.from_residual-in_err-place_of.ensures.1 in
-    let some = ap (λ c. name_fault header c.name) (sym c.column-item.is) ∙ ap (name_fault header) (sym c.bytes.ensures) ∙ c.in_err-place_of.ensures in
+    let some = ap (λ c. name_fault header c.name) (sym c.column-item.is) ∙ ap (name_fault header) (sym c.bytes.ensures) ∙ c.in_err-place_of.ensures.place in
     rw (p.1, p.2) (λ other. sym c.loop-column.invariant.faults ∙ fault_here columns header i column c.in_err-place_of.field-0.0 c.loop-column-test.true some)
 
 pub returns-clause-ok : goal.returns-clause-ok

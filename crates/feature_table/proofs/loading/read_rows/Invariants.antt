@@ -1,13 +1,14 @@
-use Rattle.std.proofs.Common.{List}
+use Rattle.std.proofs.Common.{◌+◌, ◌≡◌, List}
 use Rattle.feature_table.proofs.LoadingLemmas.{Midway}
 use Rattle.feature_table.specs.Layouts.{IsLayout}
-use Rattle.feature_table.specs.Reading.{IsSteady, StillGives}
+use Rattle.feature_table.specs.Records.{Gives, IsReady, asked}
 use Rattle.table_model.specs.Loading.{Record}
 use Rattle.feature_table.proofs.loading.read_rows.Given as goal
 
 abbrev pub invariant-loop-place : goal.invariant-loop-place
 invariant-loop-place g l = record {
-  steady : IsSteady l.reader;
-  midway : (header : Record) (records : List Record) → IsLayout l.table.columns header l.layout → StillGives g.R.Read.remaining l.fn.reader records
-      → Midway g.R.Read.remaining l.reader l.table header records l.place l.rows.items;
+  ready : IsReady l.records;
+  asked : asked l.records ≡ 1 + l.place;
+  midway : (header : Record) (rest : List Record) → IsLayout l.table.columns header l.layout → Gives g.R.Read.remaining l.fn.records rest
+      → Midway g.R.Read.remaining l.records l.table header rest l.place l.rows.items;
 }

@@ -13,22 +13,22 @@ loop-place-preserved c header is =
     let values = values_of no_geometry c.args.table.now header c.args.number (fields_of c.args.record.now) in
     let size = length-values no_geometry c.args.table.now header c.args.number (fields_of c.args.record.now) in
     let within : c.loop-place.place < length values = omega (arith, size) in
-    let here = c.in_ok-value_at.ensures header (Err fault.TooManyRows) is in
+    let here = c.in_ok-value_at.ensures.value header (Err fault.TooManyRows) is in
     rw c.in_ok-push.ensures.items (passed_more values c.loop-place.place c.loop-place.values.items c.in_ok-value_at.field-0 (Err fault.TooManyRows) within (c.loop-place.invariant header is) here)
 
-pub returns-in_err-value_at : goal.returns-in_err-value_at
+pub returns-in_err-value_at-clause-row : goal.returns-in_err-value_at-clause-row
 unfolding row_of
-returns-in_err-value_at c header is =
+returns-in_err-value_at-clause-row c header is =
     let values = values_of no_geometry c.args.table.now header c.args.number (fields_of c.args.record.now) in
     let size = length-values no_geometry c.args.table.now header c.args.number (fields_of c.args.record.now) in
     let within : c.loop-place.place < length values = omega (arith, size) in
     let p = err_from_is_err_and c.from_residual-in_err-value_at.result c.from_residual-in_err-value_at.ensures.1 in
     rw (p.1, p.2) (λ other. passed_fault values c.loop-place.place c.loop-place.values.items c.in_err-value_at.field-0.0 (Err fault.TooManyRows) within
-    (c.loop-place.invariant header is) (c.in_err-value_at.ensures header (Err fault.TooManyRows) is other))
+    (c.loop-place.invariant header is) (c.in_err-value_at.ensures.value header (Err fault.TooManyRows) is other))
 
-pub returns : goal.returns
+pub returns-clause-row : goal.returns-clause-row
 unfolding row_of
-returns c header is =
+returns-clause-row c header is =
     let values = values_of no_geometry c.args.table.now header c.args.number (fields_of c.args.record.now) in
     let size = length-values no_geometry c.args.table.now header c.args.number (fields_of c.args.record.now) in
     let past : length values ≤ c.loop-place.place = omega (arith, size) in

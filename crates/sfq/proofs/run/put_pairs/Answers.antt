@@ -4,7 +4,7 @@ use Rattle.csv.specs.Writing.{row_text, default_writer}
 use Rattle.table_model.specs.Meanings.{referenced}
 use Rattle.wkt.proofs.SinkLemmas.{OnErr-holds}
 use Rattle.sfq.specs.Runs.{pair_text}
-use Rattle.sfq.proofs.TextLemmas.{parts-begun, text-front, text-put}
+use Rattle.wkt.proofs.PartLemmas.{parts-begun, text-front, text-put}
 use Rattle.sfq.proofs.run.put_pairs.Goals as goal
 
 pub returns-in_err-record-clause-front : goal.returns-in_err-record-clause-front

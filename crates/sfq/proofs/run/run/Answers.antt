@@ -2,7 +2,7 @@
 use Rattle.std.proofs.Common.{subst, sym}
 use Rattle.sfq.specs.Faults.{of_query}
 use Rattle.sfq.specs.Runs.{Runs}
-use Rattle.sfq.proofs.RunLemmas.{at-fault, loaded-outcome, query-refused, read-outcome, table-refused}
+use Rattle.sfq.proofs.RunLemmas.{at-fault, bound-first, loaded-outcome, query-first, query-refused, read-outcome, table-first, table-refused}
 use Rattle.sfq.proofs.run.run.Goals as goal
 
 pub returns-in_err-query-clause-answer : goal.returns-in_err-query-clause-answer
@@ -23,3 +23,16 @@ returns-clause-answer g c = λ texts known unread.
     (loaded-outcome c.args.schema.now c.in_ok-database.database.definitions texts c.args.query.now c.in_ok-query.query c.in_ok-database.database.tables
     c.in_ok-query.ensures.exact (c.in_ok-database.ensures.loads texts known) c.in_ok-database.ensures.schema)
     c.answer_query.ensures.answer
+
+pub returns-in_err-query-clause-earlier : goal.returns-in_err-query-clause-earlier
+returns-in_err-query-clause-earlier g c = λ texts known.
+    query-first c.from_residual.result c.in_err-query.field-0.0 c.args.schema.now texts c.from_residual.ensures.1
+
+pub returns-in_err-database-clause-earlier : goal.returns-in_err-database-clause-earlier
+returns-in_err-database-clause-earlier g c = λ texts known.
+    table-first c.from_residual-in_err-database.result c.in_err-database.field-0.0 c.args.schema.now texts c.from_residual-in_err-database.ensures.1 (c.in_err-database.ensures.earlier texts known)
+
+pub returns-clause-earlier : goal.returns-clause-earlier
+returns-clause-earlier g c = λ texts known.
+    bound-first c.answer_query.result c.args.schema.now c.in_ok-database.database.definitions texts c.in_ok-query.query c.in_ok-database.database.tables
+    (g.S.Sink.taken c.args.sink.now) (g.S.Sink.taken c.answer_query.new.sink) c.answer_query.ensures.answer

@@ -3,6 +3,7 @@ use Rattle.table_model.specs.declared.faults.QueryFault.TheVariants as fault
 use Rattle.table_model.specs.declared.tokens.TokenKind.TheVariants as k
 use Rattle.table_model.specs.Parsers.{parts_from, parts}
 use Rattle.table_model.specs.QueryReading.{conjunction, negation}
+use Rattle.spatial_sql.specs.Language.{language}
 use Rattle.spatial_sql.proofs.condition.+conditions.Given as goal
 
 abbrev pub decreases-negation : goal.decreases-negation
@@ -25,10 +26,10 @@ decreases-group l = 6 * l.levels + 5
 
 abbrev pub invariant-conjuncts-loop-turn : goal.invariant-conjuncts-loop-turn
 invariant-conjuncts-loop-turn l =
-    parts fault.Syntax k.And (negation l.levels) (l.fn.first ∷ []) l.fn.tokens
-    ≡ parts_from fault.Syntax k.And (negation l.levels) (l._turn-end - l._turn) l.parts l.tokens
+    parts fault.Syntax k.And (negation language.functions l.levels) (l.fn.first ∷ []) l.fn.tokens
+    ≡ parts_from fault.Syntax k.And (negation language.functions l.levels) (l._turn-end - l._turn) l.parts l.tokens
 
 abbrev pub invariant-disjuncts-loop-turn : goal.invariant-disjuncts-loop-turn
 invariant-disjuncts-loop-turn l =
-    parts fault.Syntax k.Or (conjunction (negation l.levels)) (l.fn.first ∷ []) l.fn.tokens
-    ≡ parts_from fault.Syntax k.Or (conjunction (negation l.levels)) (l._turn-end - l._turn) l.parts l.tokens
+    parts fault.Syntax k.Or (conjunction (negation language.functions l.levels)) (l.fn.first ∷ []) l.fn.tokens
+    ≡ parts_from fault.Syntax k.Or (conjunction (negation language.functions l.levels)) (l._turn-end - l._turn) l.parts l.tokens

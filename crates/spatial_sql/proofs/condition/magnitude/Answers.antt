@@ -1,15 +1,16 @@
-use Rattle.std.proofs.Common.{ℕ, ◌+◌, ◌*◌, ◌-◌, ◌<◌, ◌≤◌, List, [], ◌∷◌, length, drop, get_or, drop-cons, suc, arith}
-use Rattle.table_model.specs.QueryReading.{decimal}
+use Rattle.std.proofs.Common.{ℕ, ◌+◌, ◌*◌, ◌<◌, ◌≤◌, List, [], ◌∷◌, length, drop, get_or, drop-cons, suc, arith}
+use Rattle.std.specs.Char.{digit_value}
+use Rattle.std.specs.Str.Parse.{digits_value_after}
 use Rattle.spatial_sql.proofs.condition.magnitude.Goals as goal
 
 -- more digits make no smaller number
-decimal-grows : (n : ℕ) (ds : List ℕ) → n ≤ decimal n ds
-decimal-grows n [] = omega arith
-decimal-grows n (d ∷ ds) = omega (arith, decimal-grows (10 * n + (d - 48)) ds)
+value-grows : (n : ℕ) (ds : List ℕ) → n ≤ digits_value_after 10 n ds
+value-grows n [] = omega arith
+value-grows n (d ∷ ds) = omega (arith, value-grows (n * 10 + digit_value d) ds)
 
-past : (n limit i : ℕ) (ds : List ℕ) → i < length ds → limit < 10 * n + (get_or ds i 0 - 48) → limit < decimal n (drop i ds)
+past : (n limit i : ℕ) (ds : List ℕ) → i < length ds → limit < n * 10 + digit_value (get_or ds i 0) → limit < digits_value_after 10 n (drop i ds)
 past n limit i ds inside h =
-    let grows : 10 * n + (get_or ds i 0 - 48) ≤ decimal n (get_or ds i 0 ∷ drop (suc i) ds) = decimal-grows (10 * n + (get_or ds i 0 - 48)) (drop (suc i) ds) in
+    let grows : n * 10 + digit_value (get_or ds i 0) ≤ digits_value_after 10 n (get_or ds i 0 ∷ drop (suc i) ds) = value-grows (n * 10 + digit_value (get_or ds i 0)) (drop (suc i) ds) in
     rw (drop-cons ds i 0) (omega arith)
 
 pub returns-then-value-limit : goal.returns-then-value-limit

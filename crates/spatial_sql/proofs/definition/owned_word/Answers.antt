@@ -1,4 +1,3 @@
-use Rattle.std.proofs.Common.{rules, arith}
 use Rattle.spatial_sql.proofs.Ascii.{IsUtf8-from_is_ascii}
 use Rattle.spatial_sql.proofs.definition.owned_word.Goals as goal
 

@@ -1,5 +1,7 @@
 use Rattle.std.proofs.Common.{Result, Ok, Err, IfOk, List, ℕ}
+use Rattle.spatial_sql.proofs.SchemaFirst.{first_is_given}
 use Rattle.spatial_sql.proofs.SchemaLaws.{given_is_schema, schema_is_given}
+use Rattle.spatial_sql.proofs.SchemaRefused.{given_stands}
 use Rattle.table_model.specs.declared.definitions.TableDef.{TableDef}
 use Rattle.table_model.specs.declared.faults.SchemaFault.{SchemaFault}
 use Rattle.table_model.specs.declared.faults.SchemaFault.TheVariants as fault
@@ -19,3 +21,9 @@ returns-clause-ok c = is_schema c.args.text.now c.read.result c.read.ensures
 
 pub returns-clause-only : goal.returns-clause-only
 returns-clause-only c = schema_is_given spec.no_geometry_type c.args.text.now c.read.result c.read.ensures
+
+pub returns-clause-stands : goal.returns-clause-stands
+returns-clause-stands c = given_stands spec.no_geometry_type c.args.text.now c.read.result c.read.ensures
+
+pub returns-clause-first : goal.returns-clause-first
+returns-clause-first c = first_is_given spec.no_geometry_type c.args.text.now c.read.result c.read.ensures

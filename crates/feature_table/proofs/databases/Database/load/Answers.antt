@@ -8,7 +8,7 @@ use Rattle.std.specs.Iterator.Adapters.{enumerate_source}
 use Rattle.std.specs.Result.{is_ok}
 use Rattle.std.specs.Vec.Iter.{into_iter_items, into_iter_len}
 use Rattle.feature_table.proofs.DatabaseLemmas.{length-tables, length-texts, no_definition, no_table, reader_at, table_at, text_at}
-use Rattle.feature_table.proofs.EachLemmas.{passed_all, passed_fault, passed_more}
+use Rattle.feature_table.proofs.EachLemmas.{passed_all, passed_fault, passed_front, passed_more}
 use Rattle.feature_table.specs.Stage.{no_geometry}
 use Rattle.feature_table.specs.Tables.{records_in}
 use Rattle.table_model.specs.Databases.{load_tables, loaded_tables}
@@ -51,7 +51,7 @@ loop-place-preserved g c =
           let many = length-texts g.R.Read.remaining readers texts known in
           let same : length c.args.schema.now ≡ length texts = omega (arith, many, c.requires) in
           let whole = length-tables c.args.schema.now texts same in
-          let here = rw turned.1 at (c.in_ok-table.ensures (get_or texts n []) no_definition text.1) in
+          let here = rw turned.1 at (c.in_ok-table.ensures.loads (get_or texts n []) no_definition text.1) in
           rw (longer, pushed) (passed_more tables n c.loop-place.tables.items c.in_ok-table.table no_table (omega (arith, whole, turned.0, c.requires))
           (c.loop-place.invariant.passed texts known) (table_at c.args.schema.now texts n no_definition no_table same (omega (arith, turned.0, c.requires)) ∙ here));
     }
@@ -76,7 +76,7 @@ returns-in_err-table-clause-loads g c texts known =
     let whole = length-tables c.args.schema.now texts same in
     let p = err_from_is_err_and c.from_residual.result c.from_residual.ensures.1 in
     rw (p.1, p.2) (λ other.
-    let here = rw turned.1 at (c.in_err-table.ensures (get_or texts n []) no_definition text.1 other) in
+    let here = rw turned.1 at (c.in_err-table.ensures.loads (get_or texts n []) no_definition text.1 other) in
     passed_fault tables n c.loop-place.tables.items c.in_err-table.field-0.0 no_table (omega (arith, whole, turned.0, c.requires))
     (c.loop-place.invariant.passed texts known) (table_at c.args.schema.now texts n no_definition no_table same (omega (arith, turned.0, c.requires)) ∙ here))
 
@@ -97,3 +97,34 @@ returns-clause-loads g c texts known =
     let same : length c.args.schema.now ≡ length texts = omega (arith, many, c.requires) in
     let whole = length-tables c.args.schema.now texts same in
     passed_all tables (length c.loop-place.yielded) c.loop-place.tables.items (omega (arith, whole, numbered, t.1, c.requires)) (c.loop-place.invariant.passed texts known)
+
+pub returns-in_err-table-clause-earlier : goal.returns-in_err-table-clause-earlier
+returns-in_err-table-clause-earlier g c texts known =
+    let readers = c.args.readers.items in
+    let start = c.into_iter-place-iterator.ensures.into_iter_gives in
+    let size : vec_len c.args.readers ≡ length readers = omega (arith, c.args.readers.ok.0) in
+    let items = c.enumerate-place-items.result in
+    let from = c.enumerate-place-items.ensures.source in
+    let source = YieldsList-from_vec {s = enumerate_source items} readers (ap into_iter_items from ∙ c.into_iter.ensures.rest) (ap into_iter_len from ∙ c.into_iter.ensures.len ∙ size) in
+    let all = YieldsList-from_enumerate {s = items} source c.enumerate-place-items.ensures.count in
+    let t = YieldsList-turn all c.loop-place.yielded _ (rw start at c.loop-place.yielded_by) c.next.result c.next.new.self (c.in-Some.place, c.in-Some.reader) c.in-Some.is c.next.ensures.steps in
+    let n = length c.loop-place.yielded in
+    let turned = reader_at readers n c.in-Some.place c.in-Some.reader t.0 t.1 in
+    let tables = loaded_tables no_geometry c.args.schema.now (map records_in texts) in
+    let p = err_from_is_err_and c.from_residual.result c.from_residual.ensures.1 in
+    rw (p.1, p.2, c.in_err-table.ensures.place, turned.1) (passed_front tables n c.loop-place.tables.items (c.loop-place.invariant.passed texts known))
+
+pub returns-then-is_err-clause-earlier : goal.returns-then-is_err-clause-earlier
+returns-then-is_err-clause-earlier g c texts known =
+    let readers = c.args.readers.items in
+    let start = c.into_iter-place-iterator.ensures.into_iter_gives in
+    let size : vec_len c.args.readers ≡ length readers = omega (arith, c.args.readers.ok.0) in
+    let items = c.enumerate-place-items.result in
+    let from = c.enumerate-place-items.ensures.source in
+    let source = YieldsList-from_vec {s = enumerate_source items} readers (ap into_iter_items from ∙ c.into_iter.ensures.rest) (ap into_iter_len from ∙ c.into_iter.ensures.len ∙ size) in
+    let all = YieldsList-from_enumerate {s = items} source c.enumerate-place-items.ensures.count in
+    let t = YieldsList-turn all c.loop-place.yielded _ (rw start at c.loop-place.yielded_by) c.next.result c.next.new.self (c.in-Some.place, c.in-Some.reader) c.in-Some.is c.next.ensures.steps in
+    let n = length c.loop-place.yielded in
+    let turned = reader_at readers n c.in-Some.place c.in-Some.reader t.0 t.1 in
+    let tables = loaded_tables no_geometry c.args.schema.now (map records_in texts) in
+    rw turned.1 (passed_front tables n c.loop-place.tables.items (c.loop-place.invariant.passed texts known))

@@ -1,0 +1,4 @@
+pub mod AnyFacts
+pub mod PatternFacts
+pub mod PointMatrixFacts
+pub mod SortedPositions

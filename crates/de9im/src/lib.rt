@@ -1,0 +1,19 @@
+//! The dimensionally extended nine-intersection model of two geometries (OGC 06-103r4, 6.1.15): their matrix, patterns
+//! that it is matched with, and the spatial predicates that it decides.
+#![tactic(auto)]
+
+mod matrix;
+mod pattern;
+mod predicate;
+mod relating;
+mod work;
+
+pub use geometry_model::{Dimension, Kind, Location, Pattern, PatternCharacter, Predicate};
+pub use matrix::Matrix;
+pub use pattern::MatrixPattern;
+pub use predicate::{SpatialPredicate, holds};
+pub use relating::relate;
+pub use work::Work;
+
+#[cfg(test)]
+mod tests;

@@ -1,0 +1,53 @@
+//! How many matrices were computed.
+
+use std::marker::Model;
+
+/// How many matrices were computed. The count stays at the greatest u64 once it is there. (Profile.)
+#[derive(Debug, Drop)]
+pub struct Work {
+    count: u64,
+}
+
+impl Model for Work {
+    ghost use Rattle.std.specs.Prelude.{ℕ};
+
+    ghost Value = { ℕ };
+
+    ghost view = { λ w. w.count };
+}
+
+impl Work {
+    ghost use Rattle.std.specs.Prelude.{◌≡◌};
+    ghost use Rattle.de9im.specs.Counts.{one_more};
+
+    /// No matrix yet. (Profile.)
+    pub fn new() -> Work
+        ensures { result ≡ 0 }
+    {
+        Work { count: 0 }
+    }
+
+    /// The number of matrices. (Profile.)
+    pub fn count(&self) -> u64
+        ensures { result ≡ self.now }
+    {
+        self.count
+    }
+
+    // One matrix more.
+    pub(crate) fn add_one(&mut self)
+        ensures { self.new ≡ one_more self.old }
+    {
+        self.count = self.count.saturating_add(1);
+    }
+}
+
+impl Default for Work {
+    ghost use Rattle.std.specs.Prelude.{◌≡◌};
+
+    ghost is_default = { λ w. w ≡ 0 };
+
+    fn default() -> Work {
+        Work::new()
+    }
+}

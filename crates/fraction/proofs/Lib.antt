@@ -1,0 +1,4 @@
+pub mod RangeLemmas
+pub mod DivisorLemmas
+pub mod OrderLemmas
+pub mod MediantLemmas

@@ -1,0 +1,5 @@
+pub mod Ranges
+pub mod Fractions
+pub mod Orders
+pub mod OrderLaws
+pub mod Between

@@ -1,0 +1,29 @@
+-- The ranges of the numbers of positions and points.
+use Rattle.std.specs.Prelude.{ℕ, ◌*◌, ◌≤◌, pos, ◌≤ℤ◌, unsigned_abs}
+use Rattle.geometry_model.specs.Points.{Position, Point, IsPoint, IsLeast}
+use Rattle.geometry_model.specs.WellKnownText.{coordinate_limit}
+
+-- a position has both coordinates within the limit (profile)
+pub record IsOnGrid (a : Position) : Type 0 where
+  pub x : unsigned_abs a.x ≤ coordinate_limit
+  pub y : unsigned_abs a.y ≤ coordinate_limit
+
+-- the greatest denominator of a point that meeting segments of the grid have (profile)
+abbrev pub meeting_limit : ℕ
+meeting_limit = 8 * coordinate_limit * coordinate_limit
+
+-- the greatest denominator of a point: twice that, so that the mediant of two points that meeting segments have is one (profile)
+abbrev pub denominator_limit : ℕ
+denominator_limit = 16 * coordinate_limit * coordinate_limit
+
+-- the numbers of a point that lies within the limit and has a denominator within its own (profile)
+pub record IsInRange (p : Point) : Type 0 where
+  pub positive : IsPoint p
+  pub denominator : p.W ≤ℤ pos denominator_limit
+  pub x : unsigned_abs p.X ≤ coordinate_limit * unsigned_abs p.W
+  pub y : unsigned_abs p.Y ≤ coordinate_limit * unsigned_abs p.W
+
+-- a point as it is kept: its numbers are in range and in least form (profile)
+pub record IsKeptPoint (p : Point) : Type 0 where
+  pub range : IsInRange p
+  pub least : IsLeast p

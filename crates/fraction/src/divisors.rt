@@ -1,0 +1,36 @@
+//! Common divisors, by Euclid's remainders, and quotients.
+
+ghost use Rattle.std.specs.Prelude.{◌≡◌, pos, ◌<ℤ◌, unsigned_abs, int_div};
+ghost use Rattle.geometry_model.specs.Points.{gcd};
+
+/// The greatest number that divides both; the other where one is 0.
+fn greatest_common_divisor(a: u64, b: u64) -> u64
+    ensures { result ≡ gcd a b }
+{
+    let mut last = a;
+    let mut next = b;
+    while next != 0 {
+        let rest = last % next;
+        last = next;
+        next = rest;
+    }
+    last
+}
+
+/// The greatest number that divides all three, of which the last is at least 1.
+pub(crate) fn common_divisor(x: i64, y: i64, w: i64) -> i64
+    requires { pos 0 <ℤ w }
+    ensures exact { result ≡ pos (gcd (gcd (unsigned_abs x) (unsigned_abs y)) (unsigned_abs w)) }
+    ensures positive { pos 0 <ℤ result }
+{
+    let of_two = greatest_common_divisor(x.unsigned_abs(), y.unsigned_abs());
+    greatest_common_divisor(of_two, w.unsigned_abs()) as i64
+}
+
+/// The quotient by a number of at least 1, rounded towards 0.
+pub(crate) fn quotient(number: i64, divisor: i64) -> i64
+    requires { pos 0 <ℤ divisor }
+    ensures { result ≡ int_div number divisor }
+{
+    number / divisor
+}

@@ -1,0 +1,17 @@
+//! Positions of the grid and rational points of the plane, with their exact order: numbers, no floats.
+//!
+//! A position has two whole coordinates within 100,000 either way. A point is three whole numbers X, Y, W in least form
+//! that stand for (X/W, Y/W). Nothing here takes memory.
+#![tactic(auto)]
+
+mod divisors;
+pub mod fractions;
+pub mod grid_points;
+pub mod rational_points;
+
+pub use fractions::Frac;
+pub use grid_points::GridPoint;
+pub use rational_points::RatPoint;
+
+#[cfg(test)]
+mod tests;

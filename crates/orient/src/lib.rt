@@ -1,0 +1,14 @@
+//! Segments of the grid, and how a rational point lies to one: on which side, on it, below it. Nothing here takes memory.
+#![tactic(auto)]
+
+pub mod crossings;
+mod products;
+pub mod segments;
+pub mod sides;
+
+pub use crossings::{at_or_above, crosses_up};
+pub use segments::Segment;
+pub use sides::{on, side};
+
+#[cfg(test)]
+mod tests;

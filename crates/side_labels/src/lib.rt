@@ -1,0 +1,10 @@
+//! Where points stand in a geometry. Nothing here takes memory.
+#![tactic(auto)]
+
+pub mod location;
+
+pub use geometry_model::Location;
+pub use location::locate;
+
+#[cfg(test)]
+mod tests;

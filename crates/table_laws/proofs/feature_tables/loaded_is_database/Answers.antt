@@ -1,0 +1,5 @@
+use Rattle.table_laws.proofs.ReadGeometries.{loaded_is_database as law}
+use Rattle.table_laws.proofs.feature_tables.loaded_is_database.Goals as goal
+
+pub returns : goal.returns
+returns c = law

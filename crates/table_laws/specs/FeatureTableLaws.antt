@@ -1,0 +1,36 @@
+-- Laws of feature tables: what loads is a table, or a database, as the facts say.
+use Rattle.std.specs.Prelude.{◌≡◌, true, List, Ok, length}
+use Rattle.table_model.specs.Databases.{load_tables}
+use Rattle.table_model.specs.Definitions.{lawful}
+use Rattle.table_model.specs.FeatureTables.{AreRows, IsDatabase, Takes, TakesNone, TakesValid}
+use Rattle.table_model.specs.GeometryColumns.{read_geometry}
+use Rattle.table_model.specs.Loading.{GeometryReader, Record, load}
+use Rattle.table_model.specs.Meanings.{Table}
+use Rattle.table_model.specs.declared.definitions.TableDef.{TableDef}
+use Rattle.table_model.specs.declared.values.NoGeometry.{NoGeometry}
+
+-- what loads for a table with this reader of geometries are the rows of one (06-104r4, feature tables)
+abbrev pub LoadsRows : {T G : Type 0} → Takes T G → GeometryReader T G → Type 0
+LoadsRows {T} {G} takes geometry = (table : TableDef T) (records : List Record) (rows : Table G) → load geometry table records ≡ Ok rows → AreRows takes table rows
+
+-- what loads for lawful definitions with this reader of geometries is a database (06-104r4)
+abbrev pub LoadsDatabase : {T G : Type 0} → Takes T G → GeometryReader T G → Type 0
+LoadsDatabase {T} {G} takes geometry = (definitions : List (TableDef T)) (texts : List (List Record)) (tables : List (Table G))
+    → lawful definitions ≡ true → length texts ≡ length definitions → load_tables geometry definitions texts ≡ Ok tables
+    → IsDatabase takes (record { definitions = definitions; tables = tables })
+
+-- a table with geometry columns that loads: its geometries are valid and of their columns' types (06-104r4, 7.2)
+abbrev pub LoadedAreRows : Type 0
+LoadedAreRows = LoadsRows TakesValid read_geometry
+
+-- tables with geometry columns that load (06-104r4)
+abbrev pub LoadedIsDatabase : Type 0
+LoadedIsDatabase = LoadsDatabase TakesValid read_geometry
+
+-- a table without geometry columns that loads (06-104r4, feature tables)
+abbrev pub PlainAreRows : Type 0
+PlainAreRows = (geometry : GeometryReader NoGeometry NoGeometry) → LoadsRows TakesNone geometry
+
+-- tables without geometry columns that load (06-104r4)
+abbrev pub PlainIsDatabase : Type 0
+PlainIsDatabase = (geometry : GeometryReader NoGeometry NoGeometry) → LoadsDatabase TakesNone geometry

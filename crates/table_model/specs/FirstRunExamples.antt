@@ -1,0 +1,147 @@
+-- Words for the worked run over a table of numbers and texts: its records, its queries, its rows.
+use Rattle.std.specs.Prelude.{ℕ, pos, true, List, [], ◌∷◌, codes, Some, None}
+use Rattle.geometry_model.specs.Labels.{labelled_matrix}
+use Rattle.table_model.specs.AnswerTexts.{Writing, answer_records}
+use Rattle.table_model.specs.Binding.{Checked, binding, no_geometry}
+use Rattle.table_model.specs.BindingExamples.{towns}
+use Rattle.table_model.specs.Loading.{GeometryReader, Record}
+use Rattle.table_model.specs.Meanings.{Row, meaning}
+use Rattle.table_model.specs.Truths.{truth, no_argument}
+use Rattle.table_model.specs.declared.conditions.Bound.{Bound}
+use Rattle.table_model.specs.declared.conditions.ColumnPlace.{ColumnPlace}
+use Rattle.table_model.specs.declared.conditions.Comparison.TheVariants as signs
+use Rattle.table_model.specs.declared.conditions.Cond.{Cond}
+use Rattle.table_model.specs.declared.conditions.Cond.TheVariants as conds
+use Rattle.table_model.specs.declared.conditions.Item.{Item}
+use Rattle.table_model.specs.declared.conditions.Item.TheVariants as items
+use Rattle.table_model.specs.declared.conditions.Operand.{Operand}
+use Rattle.table_model.specs.declared.conditions.Operand.TheVariants as operands
+use Rattle.table_model.specs.declared.queries.Explain.TheVariants as explains
+use Rattle.table_model.specs.declared.queries.Selection.TheVariants as selections
+use Rattle.table_model.specs.declared.queries.WrittenCond.{WrittenCond}
+use Rattle.table_model.specs.declared.queries.WrittenCond.TheVariants as written_conds
+use Rattle.table_model.specs.declared.queries.WrittenItem.{WrittenItem}
+use Rattle.table_model.specs.declared.queries.WrittenItem.TheVariants as written_items
+use Rattle.table_model.specs.declared.queries.WrittenOperand.{WrittenOperand}
+use Rattle.table_model.specs.declared.queries.WrittenOperand.TheVariants as written_operands
+use Rattle.table_model.specs.declared.values.NoGeometry.{NoGeometry}
+use Rattle.table_model.specs.declared.values.Value.{Value}
+use Rattle.table_model.specs.declared.values.Value.TheVariants as values
+
+-- what the table's rows are, as records: the header first (profile)
+abbrev pub town_records : List Record
+town_records =
+    (codes "id" ∷ codes "pop" ∷ codes "name" ∷ [])
+    ∷ (codes "1" ∷ codes "8" ∷ codes "a" ∷ [])
+    ∷ (codes "2" ∷ codes "9" ∷ codes "b" ∷ [])
+    ∷ (codes "3" ∷ [] ∷ codes "c" ∷ [])
+    ∷ (codes "4" ∷ codes "7" ∷ [] ∷ [])
+    ∷ []
+
+-- no column is of a geometry, so nothing is read (profile)
+abbrev pub plain_reader : GeometryReader NoGeometry NoGeometry
+plain_reader number kind bytes = elim kind [ ]
+
+-- a row of a key, a number and a text (profile)
+abbrev pub town : ℕ → Value NoGeometry → Value NoGeometry → Row NoGeometry
+town id pop name = values.Integer (pos id) ∷ pop ∷ name ∷ []
+
+-- the rows (profile)
+abbrev pub first_town : Row NoGeometry
+first_town = town 1 (values.Integer (pos 8)) (values.Text (codes "a"))
+
+-- the second, third and fourth (profile)
+abbrev pub second_town : Row NoGeometry
+second_town = town 2 (values.Integer (pos 9)) (values.Text (codes "b"))
+
+-- the one whose number isn't known (profile)
+abbrev pub third_town : Row NoGeometry
+third_town = town 3 values.Null (values.Text (codes "c"))
+
+-- the one without a name (profile)
+abbrev pub fourth_town : Row NoGeometry
+fourth_town = town 4 (values.Integer (pos 7)) values.Null
+
+-- the table (profile)
+abbrev pub town_rows : List (Row NoGeometry)
+town_rows = first_town ∷ second_town ∷ third_town ∷ fourth_town ∷ []
+
+-- a column as it is written, at a byte (profile)
+abbrev pub written_column : List ℕ → ℕ → WrittenOperand NoGeometry
+written_column name at = written_operands.Column (record { reference = None; name = record { text = name; at = at } })
+
+-- a column of the select list as it is written, at a byte (profile)
+abbrev pub written_item : List ℕ → ℕ → WrittenItem NoGeometry
+written_item name at = written_items.Column (record { reference = None; name = record { text = name; at = at } })
+
+-- SELECT id, name FROM t with this WHERE, bound to the table (profile)
+abbrev pub bound_names : WrittenCond NoGeometry → Checked (Bound NoGeometry NoGeometry)
+bound_names condition = binding no_geometry towns (record {
+  explain = explains.No;
+  selection = selections.Items (written_item (codes "id") 7 ∷ written_item (codes "name") 11 ∷ []);
+  first = record { table = record { text = codes "t"; at = 21 }; alias = None };
+  second = None;
+  on = None;
+  condition = Some condition;
+})
+
+-- pop > 5 AND NOT name = 'b' (profile)
+abbrev pub many_but_b : WrittenCond NoGeometry
+many_but_b = written_conds.And (
+    written_conds.Compare 29 signs.Greater (written_column (codes "pop") 29) (written_operands.Integer (pos 5))
+    ∷ written_conds.Not (written_conds.Compare 45 signs.Equal (written_column (codes "name") 45) (written_operands.Text (record { text = codes "b"; at = 52 })))
+    ∷ [])
+
+-- the place of a column of the one reference (profile)
+abbrev pub column_at : ℕ → ColumnPlace
+column_at column = record { reference = 0; column = column }
+
+-- a side that is a column (profile)
+abbrev pub side : ℕ → Operand NoGeometry
+side column = operands.Column (column_at column)
+
+-- the condition pop > 5 (profile)
+abbrev pub many : Cond NoGeometry
+many = conds.Compare signs.Greater (side 1) (operands.Integer (pos 5))
+
+-- the condition that the name is this (profile)
+abbrev pub name_is : List ℕ → Cond NoGeometry
+name_is name = conds.Compare signs.Equal (side 2) (operands.Text name)
+
+-- a query of these columns and conjuncts (profile)
+abbrev pub query_of_columns : List (Item NoGeometry) → List (Cond NoGeometry) → Bound NoGeometry NoGeometry
+query_of_columns columns conjuncts = record {
+  explain = explains.No;
+  references = record { table = 0; name = codes "t" } ∷ [];
+  items = columns;
+  conjuncts = conjuncts;
+}
+
+-- SELECT id, name FROM t WHERE pop > 5 AND NOT name = 'b' (profile)
+abbrev pub first_query : Bound NoGeometry NoGeometry
+first_query = query_of_columns (items.Column (column_at 0) ∷ items.Column (column_at 2) ∷ []) (many ∷ conds.Not (name_is (codes "b")) ∷ [])
+
+-- SELECT id FROM t WHERE pop > 5 OR name = 'c' (profile)
+abbrev pub second_query : Bound NoGeometry NoGeometry
+second_query = query_of_columns (items.Column (column_at 0) ∷ []) (conds.Or (many ∷ name_is (codes "c") ∷ []) ∷ [])
+
+-- SELECT id FROM t WHERE NOT pop > 7 (profile)
+abbrev pub third_query : Bound NoGeometry NoGeometry
+third_query = query_of_columns (items.Column (column_at 0) ∷ []) (conds.Not (conds.Compare signs.Greater (side 1) (operands.Integer (pos 7))) ∷ [])
+
+-- what a query means over the table (profile)
+abbrev pub meant : Bound NoGeometry NoGeometry → List (List (Row NoGeometry))
+meant query = meaning (truth labelled_matrix no_argument) (town_rows ∷ []) query
+
+-- where no geometry is served, none is written (profile)
+abbrev pub plain_writing : Writing NoGeometry NoGeometry
+plain_writing = record {
+  place = λ c. column_at 0;
+  text = λ g. [];
+  dimension = λ g. pos 0;
+  is_empty = λ g. true;
+}
+
+-- the records of its answer (profile)
+abbrev pub answered : Bound NoGeometry NoGeometry → List Record
+answered query = answer_records plain_writing towns query (meant query)

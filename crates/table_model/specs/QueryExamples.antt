@@ -1,0 +1,33 @@
+-- Words for worked texts of queries, read with the whole language served.
+use Rattle.std.specs.Prelude.{ℕ, true, List, ◌++◌, codes, Option, Some, None, Result, Ok}
+use Rattle.table_model.specs.GeometryColumnExamples.{table}
+use Rattle.table_model.specs.Served.{ServedCond, ServedQuery, all_served, nothing_served}
+use Rattle.table_model.specs.QueryReading.{query_of}
+use Rattle.table_model.specs.declared.faults.QueryFault.{QueryFault}
+use Rattle.table_model.specs.declared.queries.Explain.{Explain}
+use Rattle.table_model.specs.declared.queries.Explain.TheVariants as explains
+use Rattle.table_model.specs.declared.queries.Selection.{Selection}
+use Rattle.table_model.specs.declared.queries.Selection.TheVariants as selections
+use Rattle.table_model.specs.declared.queries.WrittenColumn.{WrittenColumn}
+use Rattle.table_model.specs.declared.queries.WrittenReference.{WrittenReference}
+
+-- what a text reads as where the whole language is served (profile)
+abbrev pub read : List ℕ → Result (ServedQuery all_served) QueryFault
+read text = query_of all_served text
+
+-- what a text reads as where a SELECT over one table without functions is served (profile)
+abbrev pub read_plain : List ℕ → Result (ServedQuery nothing_served) QueryFault
+read_plain text = query_of nothing_served text
+
+-- what a SELECT of all columns of the table t with this condition, from byte 22 on, reads as (profile)
+abbrev pub read_where : List ℕ → Result (ServedQuery all_served) QueryFault
+read_where condition = read (codes "SELECT * FROM t WHERE " ++ condition)
+
+-- the tree of a SELECT over two tables, with its condition of ON, or of one over one table (profile)
+abbrev pub joined : Explain → Selection WrittenColumn → WrittenReference → Option WrittenReference → Option (ServedCond true) → Option (ServedCond true) → Result (ServedQuery all_served) QueryFault
+joined told selection first second on condition =
+    Ok (record { explain = told; selection = selection; first = first; second = second; on = on; condition = condition })
+
+-- the tree of a SELECT of all columns of the table t with a condition (profile)
+abbrev pub all_where : ServedCond true → Result (ServedQuery all_served) QueryFault
+all_where condition = joined explains.No selections.All (table (codes "t") 14) None None (Some condition)

@@ -1,0 +1,17 @@
+-- The laws of queries: reading and the grammar agree, whichever parts of the language are served.
+use Rattle.std.specs.Prelude.{◌≡◌, ℕ, List, Ok}
+use Rattle.table_model.specs.QueryGrammar.{IsQuery}
+use Rattle.table_model.specs.QueryReading.{query_of}
+use Rattle.table_model.specs.Served.{Served, ServedQuery}
+
+-- what a text is read as, it is by the grammar (profile)
+abbrev pub ReadIsQuery : Type 0
+ReadIsQuery = (served : Served) (text : List ℕ) (query : ServedQuery served) → query_of served text ≡ Ok query → IsQuery served text query
+
+-- whatever query a text is by the grammar, it is read as that one (profile)
+abbrev pub QueryIsRead : Type 0
+QueryIsRead = (served : Served) (text : List ℕ) (query : ServedQuery served) → IsQuery served text query → query_of served text ≡ Ok query
+
+-- a text is one query at most (profile)
+abbrev pub OneTree : Type 0
+OneTree = (served : Served) (text : List ℕ) (a b : ServedQuery served) → IsQuery served text a → IsQuery served text b → a ≡ b

@@ -1,0 +1,51 @@
+-- The parts of the query language that a reader of queries serves. All that differs with them stands here; the rules
+-- of the language take it as a parameter (profile).
+use Rattle.std.specs.Prelude.{Bool, true, false}
+use Rattle.table_model.specs.declared.queries.Query.{Query}
+use Rattle.table_model.specs.declared.queries.WrittenColumn.{WrittenColumn}
+use Rattle.table_model.specs.declared.queries.WrittenCond.{WrittenCond}
+use Rattle.table_model.specs.declared.queries.WrittenGeometry.{WrittenGeometry}
+use Rattle.table_model.specs.declared.queries.WrittenItem.{WrittenItem}
+use Rattle.table_model.specs.declared.queries.WrittenOperand.{WrittenOperand}
+use Rattle.table_model.specs.declared.values.NoGeometry.{NoGeometry}
+
+-- functions, a second table reference, EXPLAIN, and ANALYZE after it, each served or not (profile)
+pub record Served : Type 0 where
+  pub functions : Bool
+  pub second_reference : Bool
+  pub explain : Bool
+  pub analyze : Bool
+
+-- the whole language (profile)
+abbrev pub all_served : Served
+all_served = record { functions = true; second_reference = true; explain = true; analyze = true }
+
+-- a SELECT over one table without functions (profile)
+abbrev pub nothing_served : Served
+nothing_served = record { functions = false; second_reference = false; explain = false; analyze = false }
+
+-- a geometry argument in the tree of a condition; there is none where functions aren't served (profile)
+abbrev pub Argument : Bool → Type 0
+Argument true = WrittenGeometry
+Argument false = NoGeometry
+
+-- an argument in the tree of the select list; there is none where functions aren't served (profile)
+abbrev pub ItemArgument : Bool → Type 0
+ItemArgument true = WrittenColumn
+ItemArgument false = NoGeometry
+
+-- an operand, with functions or without (profile)
+abbrev pub ServedOperand : Bool → Type 0
+ServedOperand functions = WrittenOperand (Argument functions)
+
+-- a condition, with functions or without (profile)
+abbrev pub ServedCond : Bool → Type 0
+ServedCond functions = WrittenCond (Argument functions)
+
+-- an item of the select list, with functions or without (profile)
+abbrev pub ServedItem : Bool → Type 0
+ServedItem functions = WrittenItem (ItemArgument functions)
+
+-- a query of the parts that are served (profile)
+abbrev pub ServedQuery : Served → Type 0
+ServedQuery served = Query (Argument served.functions) (ItemArgument served.functions)

@@ -1,0 +1,113 @@
+-- Texts that share a front, read from their beginning: the second ends with the fault of its number.
+use Rattle.std.proofs.Common.{◌≡◌, refl, ap, ◌∙◌, subst, ℕ, zero, suc, ◌-◌, ◌==◌, inl, inr, false, List, [], ◌∷◌, ◌++◌, length, Result, Ok, Err, codes, if◌then◌else◌, suc-ne-zero}
+use Rattle.std.proofs.lemmas.Bool.{false_from_ne_true}
+use Rattle.std.proofs.lemmas.Bool.Decides.{Decides-eqb}
+use Rattle.std.specs.Char.{is_ascii_alphabetic}
+use Rattle.std.specs.Str.{str_eq_ignore_ascii_case}
+use Rattle.geometry_model.specs.Points.{Position}
+use Rattle.geometry_model.specs.Geometries.{Geometry, Point, MultiPoint, LineString, MultiLineString, Polygon}
+use Rattle.geometry_model.specs.WellKnownText.{is_white, position_limit, part_limit}
+use Rattle.geometry_model.specs.TextReading.{Input, Reader, and_then, pure, refuse, too_long, run, eat, place, sees, ◌>>◌, ◌>>=◌, expect, padded, enclosed, position, point, separated, line, parts, body, lone, first, positions, lists, typed, tagged, end, whole}
+use Rattle.geometry_model.specs.declared.text_faults.TextFault.{TextFault}
+use Rattle.geometry_model.proofs.TextSound.{IfRead}
+use Rattle.text_laws.proofs.Fronts.{Fork, plus, Shares, Alike, Follows, Stays, then_follows, then_on, if_follows, weaker_follows, pure_follows, refuse_follows, place_follows, run_follows, sees_follows, eat_follows, not_eaten, expect_follows, padded_follows, enclosed_follows}
+use Rattle.text_laws.proofs.FrontNumbers.{position_follows}
+
+point_follows : (f : Fork) (room : ℕ) → Follows f (Unit {0}) (point room)
+unfolding point
+point_follows f room = then_on f (Unit {0}) (sees (λ c. c == 40)) (λ met. if met then enclosed (padded (position room)) else position room) (sees_follows f (λ c. c == 40) refl f.not_open)
+    (λ met. if_follows f (Unit {0}) met (enclosed (padded (position room))) (position room)
+    (weaker_follows f (Unit {0}) (enclosed (padded (position room))) (enclosed_follows f (Unit {0}) (padded (position room)) (padded_follows f (Unit {0}) (position room) (position_follows f room))))
+    (position_follows f room))
+
+-- what may come behind an item: a comma and more
+abbrev going_on : {A : Type 0} → A → Reader (List A) → Reader (List A)
+going_on x more = eat 44 >>= λ met. (if met then (more >>= λ xs. pure (x ∷ xs)) else pure (x ∷ []))
+
+going_on_follows : {A : Type 0} (f : Fork) (S : Type 0) (x : A) (more : Reader (List A)) → Follows f S more → ((xs : List A) → S → Stays f S (pure (x ∷ xs))) → Follows f S (going_on x more)
+going_on_follows f S x more h stays = then_on f S (eat 44) (λ met. (if met then (more >>= λ xs. pure (x ∷ xs)) else pure (x ∷ []))) (eat_follows f 44 refl f.not_comma)
+    (λ met. if_follows f S met (more >>= λ xs. pure (x ∷ xs)) (pure (x ∷ [])) (then_follows f S S more (λ xs. pure (x ∷ xs)) h (λ xs. pure_follows f S (x ∷ xs)) (λ s xs. stays xs s)) (pure_follows f S (x ∷ [])))
+
+going_on_stays : {A : Type 0} (f : Fork) (x : A) (more : Reader (List A)) → Stays f (Unit {0}) (going_on x more)
+going_on_stays f x more i e = rw (not_eaten f 44 refl i e) (tt, e)
+
+separated_follows : {A : Type 0} (f : Fork) (item : ℕ → Reader A) → ((room : ℕ) → Follows f (Unit {0}) (item room)) → (room : ℕ) → Follows f (Unit {0}) (separated item room)
+unfolding separated
+separated_follows f item h zero = then_follows f (Unit {0}) (Unit {0}) (padded (item zero)) (λ x. pure (x ∷ [])) (padded_follows f (Unit {0}) (item zero) (h zero))
+    (λ x. pure_follows f (Unit {0}) (x ∷ [])) (λ _ x i e. (tt, e))
+separated_follows f item h (suc room) = then_follows f (Unit {0}) (Unit {0}) (padded (item (suc room))) (λ x. going_on x (separated item room)) (padded_follows f (Unit {0}) (item (suc room)) (h (suc room)))
+    (λ x. going_on_follows f (Unit {0}) x (separated item room) (separated_follows f item h room) (λ xs _ i e. (tt, e)))
+    (λ _ x. going_on_stays f x (separated item room))
+
+line_follows : (f : Fork) (room : ℕ) → Follows f ⊥ (line room)
+unfolding line
+line_follows f room = enclosed_follows f (Unit {0}) (separated position room) (separated_follows f position (position_follows f) room)
+
+parts_follow : (f : Fork) (count room : ℕ) → Follows f ⊥ (parts count room)
+unfolding parts
+parts_follow f zero room = padded_follows f ⊥ (expect 40 >> too_long) (then_on f ⊥ (expect 40) (λ _. too_long) (expect_follows f 40 refl f.not_open) (λ _ i j h. tt))
+parts_follow f (suc count) room = then_on f ⊥ (padded (line room)) (λ x. going_on x (parts count (room - length x))) (padded_follows f ⊥ (line room) (line_follows f room))
+    (λ x. going_on_follows f ⊥ x (parts count (room - length x)) (parts_follow f count (room - length x)) (λ xs s. absurd s))
+
+body_follows : {A : Type 0} (f : Fork) (S : Type 0) (inner : Reader (List A)) → Follows f S inner → Follows f ⊥ (body inner)
+unfolding body
+body_follows {A} f S inner h = then_on f ⊥ (run is_white) _ (run_follows f is_white refl f.not_white)
+    (λ _. then_on f ⊥ place _ (place_follows f)
+    (λ at. then_on f ⊥ (run is_ascii_alphabetic) _ (run_follows f is_ascii_alphabetic refl f.not_letter)
+    (λ word. if_follows f ⊥ (length word == 0) (enclosed inner) (if str_eq_ignore_ascii_case word (codes "EMPTY") then pure [] else refuse at)
+    (enclosed_follows f S inner h)
+    (if_follows f ⊥ (str_eq_ignore_ascii_case word (codes "EMPTY")) (pure []) (refuse at) (pure_follows f ⊥ []) (refuse_follows (List A) f ⊥ at)))))
+
+lone_follows : (f : Fork) → Follows f ⊥ lone
+lone_follows f = body_follows f (Unit {0}) (padded (position position_limit) >>= λ p. pure (p ∷ []))
+    (then_follows f (Unit {0}) (Unit {0}) (padded (position position_limit)) (λ p. pure (p ∷ [])) (padded_follows f (Unit {0}) (position position_limit) (position_follows f position_limit))
+    (λ p. pure_follows f (Unit {0}) (p ∷ [])) (λ _ p i e. (tt, e)))
+
+positions_follow : (f : Fork) (item : ℕ → Reader Position) → ((room : ℕ) → Follows f (Unit {0}) (item room)) → Follows f ⊥ (positions item)
+positions_follow f item h = body_follows f (Unit {0}) (separated item position_limit) (separated_follows f item h position_limit)
+
+lists_follow : (f : Fork) → Follows f ⊥ lists
+lists_follow f = body_follows f ⊥ (parts part_limit position_limit) (parts_follow f part_limit position_limit)
+
+-- what a type's name makes of what was read
+made_follows : {A B : Type 0} (f : Fork) (step : Reader A) (make : A → B) → Follows f ⊥ step → Follows f ⊥ (step >>= λ x. pure (make x))
+made_follows f step make h = then_on f ⊥ step (λ x. pure (make x)) h (λ x. pure_follows f ⊥ (make x))
+
+typed_follows : (f : Fork) (at : ℕ) (name : List ℕ) → Follows f ⊥ (typed at name)
+unfolding typed
+typed_follows f at name = if_follows f ⊥ (str_eq_ignore_ascii_case name (codes "POINT")) _ _ (made_follows f lone (λ ps. Point (first ps)) (lone_follows f))
+    (if_follows f ⊥ (str_eq_ignore_ascii_case name (codes "MULTIPOINT")) _ _ (made_follows f (positions point) MultiPoint (positions_follow f point (point_follows f)))
+    (if_follows f ⊥ (str_eq_ignore_ascii_case name (codes "LINESTRING")) _ _ (made_follows f (positions position) LineString (positions_follow f position (position_follows f)))
+    (if_follows f ⊥ (str_eq_ignore_ascii_case name (codes "MULTILINESTRING")) _ _ (made_follows f lists MultiLineString (lists_follow f))
+    (if_follows f ⊥ (str_eq_ignore_ascii_case name (codes "POLYGON")) _ _ (made_follows f lists Polygon (lists_follow f)) (refuse_follows Geometry f ⊥ at)))))
+
+tagged_follows : (f : Fork) → Follows f ⊥ tagged
+unfolding tagged
+tagged_follows f = then_on f ⊥ place (λ at. run is_ascii_alphabetic >>= λ name. typed at name) (place_follows f)
+    (λ at. then_on f ⊥ (run is_ascii_alphabetic) (λ name. typed at name) (run_follows f is_ascii_alphabetic refl f.not_letter) (λ name. typed_follows f at name))
+
+-- ---- whole texts
+abbrev ended : Geometry → Reader Geometry
+ended g = end >> pure g
+
+not_zero : (n : ℕ) → (suc n == 0) ≡ false
+not_zero n = false_from_ne_true (suc n == 0) (λ e. suc-ne-zero n ((Decides-eqb (suc n) 0).0 e))
+
+-- the first reading can't end behind the front: the plus is still there
+not_at_end : (f : Fork) (g : Geometry) (i : Input) (front : List ℕ) → i.left ≡ front ++ plus f → IfRead (ended g i) (λ _ _. ⊥)
+not_at_end f g i front e = rw (ap (λ l. length l == 0) e ∙ long front) tt
+  where
+    long : (xs : List ℕ) → (length (xs ++ plus f) == 0) ≡ false
+    long [] = not_zero (length f.more)
+    long (x ∷ xs) = not_zero (length (xs ++ plus f))
+
+closed : (f : Fork) (r q : Result (Geometry × Input) TextFault) (found : Geometry × Input) → Alike f ⊥ r q → and_then r ended ≡ Ok found → and_then q ended ≡ Err f.fault
+closed f (Err fault) q found h e = absurd (let k : Err fault ≡ Ok found = e in cc)
+closed f (Ok a) (Err fault) found (inl k) e = ap Err k
+closed f (Ok a) (Err fault) found (inr h) e = absurd h.0
+closed f (Ok a) (Ok b) found (inl h) e = absurd (subst (λ r. IfRead r (λ _ _. ⊥)) e (not_at_end f a.0 a.1 h.1.front h.1.first))
+closed f (Ok a) (Ok b) found (inr h) e = absurd h.0
+
+pub whole_ends : (f : Fork) (i j : Input) → Shares f i j → (found : Geometry × Input) → whole i ≡ Ok found → whole j ≡ Err f.fault
+unfolding whole
+whole_ends f i j h found e = closed f (padded tagged i) (padded tagged j) found (padded_follows f ⊥ tagged (tagged_follows f) i j h) e

@@ -1,0 +1,386 @@
+-- A text whose last position is one too many is read as too long, whatever stands behind the first number of that position.
+use Rattle.std.proofs.Common.{◌≡◌, refl, sym, ap, ◌∙◌, subst, ℕ, zero, suc, ◌+◌, ◌-◌, ◌<◌, ◌≤◌, ◌==◌, ◌⊎◌, inl, inr, Bool, true, false, List, [], ◌∷◌, ◌++◌, length, drop, map, Some, None, Ok, Err, codes, append_assoc, append-nil, length-append, zero-lt-suc, arith}
+use Rattle.std.specs.List.{list_all, list_any, prefix_len, flat_map}
+use Rattle.std.specs.Char.{is_ascii_alphabetic, is_ascii_digit, to_ascii_lowercase}
+use Rattle.std.proofs.lemmas.Bool.{or_parts}
+use Rattle.geometry_model.specs.Points.{Position}
+use Rattle.geometry_model.specs.Geometries.{Geometry, Point, MultiPoint, LineString, MultiLineString, Polygon}
+use Rattle.geometry_model.specs.WellKnownText.{begins_with, Rule, ◌⨾◌, Byte, Blank, Padded, Enclosed, Separated, PositionText, PointText, LineText, Writes, is_white, written_positions, position_limit, part_limit}
+use Rattle.geometry_model.specs.TextReading.{Input, Reader, FoundNumber, and_then, pure, after, too_long, ◌>>◌, ◌>>=◌, expect, padded, numeral, coordinate, space, position, point, separated, line, parts, positions, typed, whole, outcome, read_text}
+use Rattle.geometry_model.specs.TextRefusals.{begins_more, HasTooManyPositions, IsFirstNumber}
+use Rattle.geometry_model.specs.declared.text_faults.TextFault.TheVariants.{TooLong}
+use Rattle.geometry_model.proofs.TextSteps.{Took, apart, byte_is, read_run}
+use Rattle.geometry_model.proofs.TextComplete.{Begins, Complete, Ends, closed_by_comma, expect_read, named, digit_not_white, differs, numeral_begins, position_not_white, position_read, point_not_white, point_read, padded_read, padded_line_read}
+use Rattle.text_laws.proofs.FullTexts.{IsFull, full_then, then_full, full_is}
+use Rattle.text_laws.proofs.OpenParts.{no_part, Layout, layout, Named, whole_by_list, lines_named, rings_named}
+use Rattle.text_laws.proofs.RefusedNumbers.{Read, first_number}
+use Rattle.text_laws.proofs.LastNumbers.{pair, HasDigit, NoDigit, Within, within, any_left, any_right, none_of_both, blank_no_digit, position_digit, blank_before}
+
+-- what stands there is a number
+record Stands (other : List ℕ) : Type 0 where
+  read : (j : Input) → j.left ≡ other → (n : FoundNumber) × (k : Input) × (numeral j ≡ Ok (n, k))
+  not_white : begins_with is_white other ≡ false
+  not_open : begins_with (λ c. c == 40) other ≡ false
+
+-- ---- a position where none may come
+position_stops : (other : List ℕ) → Stands other → (j : Input) → j.left ≡ other → IsFull (position zero j)
+unfolding position
+position_stops other s j is = let r = s.read j is in subst (λ q. IsFull {A = Position} (and_then q (λ n. (too_long >>= λ x. (space >> (numeral >>= λ m. (coordinate m >>= λ y. pure (record { x = x; y = y })))))))) (sym r.2) tt
+
+behind_white : (i : Input) (white other : List ℕ) → list_all is_white white ≡ true → i.left ≡ white ++ other → begins_with is_white other ≡ false → drop (prefix_len is_white i.left) i.left ≡ other
+behind_white i white other all is quiet = (read_run is_white i.left white other is all quiet).1
+
+-- where an item begins at the pair, and none may come
+abbrev Last : {A : Type 0} → (A → Rule) → Reader A → Type 0
+Last {A} P step = (x : A) (i : Input) (front closing other from rest : List ℕ) → Took from (Padded (P x)) rest → from ≡ front ++ pair closing → NoDigit rest → NoDigit closing → Stands other
+    → i.left ≡ front ++ other → IsFull (padded step i)
+
+position_last : Last PositionText (position zero)
+position_last x i front closing other from rest t split none quiet s is =
+    let j = after (prefix_len is_white i.left) i in
+    full_then (position zero j) _ (position_stops other s j (behind_white i front other (blank_before front closing from rest x t split none) is s.not_white))
+
+-- the parts of a point in parentheses
+abbrev Inside : Position → List ℕ → List ℕ → Type 0
+Inside p from rest = (white V more : List ℕ) × (from ≡ white ++ (40 ∷ V)) × (list_all is_white white ≡ true) × Took V (Padded (PositionText p)) (41 ∷ more) × (NoDigit rest → NoDigit more)
+
+point_cases : (p : Position) (from rest : List ℕ) → Took from (Padded (PointText p)) rest → Took from (Padded (PositionText p)) rest ⊎ Inside p from rest
+point_cases p from rest t = go (apart from rest Blank (PointText p ⨾ Blank) t)
+  where
+    whole_of : (ys : List ℕ) → Took from Blank ys → (zs : List ℕ) → (u : List ℕ) → ys ≡ u ++ zs → PositionText p u → Took zs Blank rest → Took from (Padded (PositionText p)) rest
+    whole_of ys a zs u e h b = (
+      a.0 ++ (u ++ b.0),
+      a.1 ∙ (ap (λ l. a.0 ++ l) (e ∙ (ap (λ l. u ++ l) b.1 ∙ sym (append_assoc u b.0 rest))) ∙ sym (append_assoc a.0 (u ++ b.0) rest)),
+      (a.0, u ++ b.0, refl, a.2, (u, b.0, refl, h, b.2)),
+    )
+
+    inside_of : (ys : List ℕ) → Took from Blank ys → (zs : List ℕ) → Took ys (Enclosed (Padded (PositionText p))) zs → Took zs Blank rest → Inside p from rest
+    inside_of ys a zs u b =
+        let c = apart ys zs (Byte 40) (Padded (PositionText p) ⨾ Byte 41) u in
+        let d = apart c.0 zs (Padded (PositionText p)) (Byte 41) c.2 in (
+          a.0,
+          c.0,
+          zs,
+          a.1 ∙ ap (λ l. a.0 ++ l) (byte_is 40 ys c.0 c.1),
+          a.2,
+          subst (λ l. Took c.0 (Padded (PositionText p)) l) (byte_is 41 d.0 zs d.2) d.1,
+          λ none. ap (list_any is_ascii_digit) b.1 ∙ none_of_both is_ascii_digit b.0 rest (blank_no_digit b.0 b.2) none,
+        )
+
+    pick : (ys : List ℕ) → Took from Blank ys → (zs : List ℕ) → (u : List ℕ) → ys ≡ u ++ zs → PointText p u → Took zs Blank rest → Took from (Padded (PositionText p)) rest ⊎ Inside p from rest
+    pick ys a zs u e (inl h) b = inl (whole_of ys a zs u e h b)
+    pick ys a zs u e (inr h) b = inr (inside_of ys a zs (u, e, h) b)
+
+    go : (ys : List ℕ) × Took from Blank ys × Took ys (PointText p ⨾ Blank) rest → Took from (Padded (PositionText p)) rest ⊎ Inside p from rest
+    go a = next (apart a.0 rest (PointText p) Blank a.2)
+      where
+        next : (zs : List ℕ) × Took a.0 (PointText p) zs × Took zs Blank rest → Took from (Padded (PositionText p)) rest ⊎ Inside p from rest
+        next b = pick a.0 a.1 b.0 b.1.0 b.1.1 b.1.2 b.2
+
+padded_digit : {A : Type 0} (P : A → Rule) (x : A) (from rest : List ℕ) → ((text : List ℕ) → P x text → HasDigit text) → Took from (Padded (P x)) rest → HasDigit from
+padded_digit P x from rest digit t = go (apart from rest Blank (P x ⨾ Blank) t)
+  where
+    go : (ys : List ℕ) × Took from Blank ys × Took ys (P x ⨾ Blank) rest → HasDigit from
+    go a = next (apart a.0 rest (P x) Blank a.2)
+      where
+        next : (zs : List ℕ) × Took a.0 (P x) zs × Took zs Blank rest → HasDigit from
+        next b = ap (list_any is_ascii_digit) a.1.1 ∙ any_right is_ascii_digit a.1.0 a.0 (ap (list_any is_ascii_digit) b.1.1 ∙ any_left is_ascii_digit b.1.0 b.0 (digit b.1.0 b.1.2))
+
+point_last : Last PointText (point zero)
+unfolding point
+point_last x i front closing other from rest t split none quiet s is = go (point_cases x from rest t)
+  where
+    go : Took from (Padded (PositionText x)) rest ⊎ Inside x from rest → IsFull (padded (point zero) i)
+    go (inl p) =
+        let j = after (prefix_len is_white i.left) i in
+        let j_is : j.left ≡ other = behind_white i front other (blank_before front closing from rest x p split none) is s.not_white in
+        full_then (point zero j) _ (rw (ap (begins_with (λ c. c == 40)) j_is ∙ s.not_open) (position_stops other s j j_is))
+    go (inr p) = next (within front p.0 40 p.1 closing (inl refl) (sym split ∙ p.3) (padded_digit PositionText x p.1 (41 ∷ p.2) (position_digit x) p.5) quiet)
+      where
+        next : Within front p.0 40 p.1 closing → IsFull (padded (point zero) i)
+        next b =
+            let j = after (prefix_len is_white i.left) i in
+            let j_is : j.left ≡ 40 ∷ (b.rest ++ other) = behind_white i p.0 (40 ∷ (b.rest ++ other)) p.4 (is ∙ (ap (λ f. f ++ other) b.front_is ∙ append_assoc p.0 (40 ∷ b.rest) other)) refl in
+            full_then (point zero j) _ (rw (ap (begins_with (λ c. c == 40)) j_is)
+            (then_full (λ _ k. k.left ≡ b.rest ++ other) (expect 40 j) _ (expect_read 40 j (b.rest ++ other) j_is)
+            (λ _ k k_is. full_then (padded (position zero) k) _ (position_last x k b.rest closing other p.1 (41 ∷ p.2) p.5 b.left_is (p.6 none) quiet s k_is))))
+
+-- ---- lists
+separated_digit : {A : Type 0} (P : A → Rule) → ((x : A) (text : List ℕ) → P x text → HasDigit text) → (xs : List A) (from rest : List ℕ) → Took from (Separated P xs) rest → HasDigit from
+separated_digit P digit [] from rest t = absurd t.2
+separated_digit P digit (x ∷ []) from rest t = padded_digit P x from rest (digit x) t
+separated_digit P digit (x ∷ y ∷ more) from rest t = go (apart from rest (Padded (P x)) (Byte 44 ⨾ Separated P (y ∷ more)) t)
+  where
+    go : (ys : List ℕ) × Took from (Padded (P x)) ys × Took ys (Byte 44 ⨾ Separated P (y ∷ more)) rest → HasDigit from
+    go a = padded_digit P x from a.0 (digit x) a.1
+
+separated_last : {A : Type 0} (P : A → Rule) (item : ℕ → Reader A) → Begins P is_white → ((room : ℕ) → 0 < room → Complete P Ends (item room)) → ((x : A) (text : List ℕ) → P x text → HasDigit text) → Last P (item zero)
+    → (room : ℕ) (xs : List A) (i : Input) (front closing other from rest : List ℕ) → length xs ≡ room + 1 → Took from (Separated P xs) rest → from ≡ front ++ pair closing → NoDigit rest → NoDigit closing → Stands other
+    → i.left ≡ front ++ other → IsFull (separated item room i)
+unfolding separated
+separated_last P item starts complete digit last room [] i front closing other from rest many t split none quiet s is = absurd t.2
+separated_last P item starts complete digit last zero (x ∷ []) i front closing other from rest many t split none quiet s is = full_then (padded (item zero) i) _ (last x i front closing other from rest t split none quiet s is)
+separated_last P item starts complete digit last zero (x ∷ y ∷ more) i front closing other from rest many t split none quiet s is = absurd (omega (arith, many))
+separated_last P item starts complete digit last (suc room) (x ∷ []) i front closing other from rest many t split none quiet s is = absurd (omega (arith, many))
+separated_last P item starts complete digit last (suc room) (x ∷ y ∷ more) i front closing other from rest many t split none quiet s is =
+    go (apart from rest (Padded (P x)) (Byte 44 ⨾ Separated P (y ∷ more)) t)
+    (λ j f g took split_too left_is. separated_last P item starts complete digit last room (y ∷ more) j f closing other g rest (one_less (length (y ∷ more)) room many) took split_too none quiet s left_is)
+  where
+    one_less : (m n : ℕ) → suc m ≡ suc n + 1 → m ≡ n + 1
+    one_less m n e = omega (arith, e)
+
+    go : (ys : List ℕ) × Took from (Padded (P x)) ys × Took ys (Byte 44 ⨾ Separated P (y ∷ more)) rest
+        → ((j : Input) (f g : List ℕ) → Took g (Separated P (y ∷ more)) rest → g ≡ f ++ pair closing → j.left ≡ f ++ other → IsFull (separated item room j)) → IsFull (separated item (suc room) i)
+    go a again = next (apart a.0 rest (Byte 44) (Separated P (y ∷ more)) a.2)
+      where
+        next : (ys : List ℕ) × Took a.0 (Byte 44) ys × Took ys (Separated P (y ∷ more)) rest → IsFull (separated item (suc room) i)
+        next b = read (within front a.1.0 44 b.0 closing (inr refl) (sym split ∙ (a.1.1 ∙ ap (λ l. a.1.0 ++ l) (byte_is 44 a.0 b.0 b.1))) (separated_digit P digit (y ∷ more) b.0 rest b.2) quiet)
+          where
+            read : Within front a.1.0 44 b.0 closing → IsFull (separated item (suc room) i)
+            read w =
+                let behind = 44 ∷ (w.rest ++ other) in
+                then_full (λ z j. (z ≡ x) × (j.left ≡ behind)) (padded (item (suc room)) i) _
+                (padded_read P (item (suc room)) starts (complete (suc room) (omega arith)) i x behind
+                (a.1.0, is ∙ (ap (λ f. f ++ other) w.front_is ∙ append_assoc a.1.0 (44 ∷ w.rest) other), a.1.2) (closed_by_comma (w.rest ++ other)))
+                (λ z j known. rw (ap (begins_with (λ c. c == 44)) known.1) (full_then (separated item room (after 1 j)) _ (again (after 1 j) w.rest b.0 b.2 w.left_is (ap (drop 1) known.1))))
+
+point_digit : (p : Position) (text : List ℕ) → PointText p text → HasDigit text
+point_digit p text (inl h) = position_digit p text h
+point_digit p text (inr h) = enclosed_digit (apart text [] (Byte 40) (Padded (PositionText p) ⨾ Byte 41) (text, sym (append-nil text), h))
+  where
+    enclosed_digit : (ys : List ℕ) × Took text (Byte 40) ys × Took ys (Padded (PositionText p) ⨾ Byte 41) [] → HasDigit text
+    enclosed_digit a = next (apart a.0 [] (Padded (PositionText p)) (Byte 41) a.2)
+      where
+        next : (ys : List ℕ) × Took a.0 (Padded (PositionText p)) ys × Took ys (Byte 41) [] → HasDigit text
+        next b = ap (list_any is_ascii_digit) (byte_is 40 text a.0 a.1) ∙ padded_digit PositionText p a.0 b.0 (position_digit p) b.1
+
+line_last : (room : ℕ) (ps : List Position) (i : Input) (front closing other from rest : List ℕ) → length ps ≡ room + 1 → Took from (LineText ps) rest → from ≡ front ++ pair closing → NoDigit rest → NoDigit closing → Stands other
+    → i.left ≡ front ++ other → IsFull (line room i)
+unfolding line
+line_last room ps i front closing other from rest many t split none quiet s is = go (apart from rest (Byte 40) (Separated PositionText ps ⨾ Byte 41) t)
+  where
+    go : (ys : List ℕ) × Took from (Byte 40) ys × Took ys (Separated PositionText ps ⨾ Byte 41) rest → IsFull (line room i)
+    go a = next (apart a.0 rest (Separated PositionText ps) (Byte 41) a.2)
+      where
+        next : (ys : List ℕ) × Took a.0 (Separated PositionText ps) ys × Took ys (Byte 41) rest → IsFull (line room i)
+        next b = read (within front [] 40 a.0 closing (inl refl) (sym split ∙ byte_is 40 from a.0 a.1) (separated_digit PositionText position_digit ps a.0 b.0 b.1) quiet)
+          where
+            read : Within front [] 40 a.0 closing → IsFull (line room i)
+            read w = then_full (λ _ k. k.left ≡ w.rest ++ other) (expect 40 i) _ (expect_read 40 i (w.rest ++ other) (is ∙ ap (λ f. f ++ other) w.front_is))
+                (λ _ k k_is. full_then (separated position room k) _ (separated_last PositionText position position_not_white position_read position_digit position_last room ps k w.rest closing other a.0 (41 ∷ rest) many
+                (subst (Took a.0 (Separated PositionText ps)) (byte_is 41 b.0 rest b.2) b.1) w.left_is none quiet s k_is))
+
+line_digit : (ps : List Position) (text : List ℕ) → LineText ps text → HasDigit text
+line_digit ps text t = go (apart text [] (Byte 40) (Separated PositionText ps ⨾ Byte 41) (text, sym (append-nil text), t))
+  where
+    go : (ys : List ℕ) × Took text (Byte 40) ys × Took ys (Separated PositionText ps ⨾ Byte 41) [] → HasDigit text
+    go a = next (apart a.0 [] (Separated PositionText ps) (Byte 41) a.2)
+      where
+        next : (ys : List ℕ) × Took a.0 (Separated PositionText ps) ys × Took ys (Byte 41) [] → HasDigit text
+        next b = ap (list_any is_ascii_digit) (byte_is 40 text a.0 a.1) ∙ separated_digit PositionText position_digit ps a.0 b.0 b.1
+
+-- a line behind white space: the pair stands behind its parenthesis
+record Opened (front from rest closing : List ℕ) (ps : List Position) : Type 0 where
+  white : List ℕ
+  inside : List ℕ
+  left : List ℕ
+  end : List ℕ
+  all_white : list_all is_white white ≡ true
+  front_is : front ≡ white ++ (40 ∷ inside)
+  line_is : Took left (LineText ps) end
+  left_is : left ≡ (40 ∷ inside) ++ pair closing
+  quiet : NoDigit rest → NoDigit end
+
+opened_line : (ps : List Position) (front closing from rest : List ℕ) → Took from (Padded (LineText ps)) rest → from ≡ front ++ pair closing → NoDigit closing → Opened front from rest closing ps
+opened_line ps front closing from rest t split none = go (apart from rest Blank (LineText ps ⨾ Blank) t)
+  where
+    go : (ys : List ℕ) × Took from Blank ys × Took ys (LineText ps ⨾ Blank) rest → Opened front from rest closing ps
+    go a = next (apart a.0 rest (LineText ps) Blank a.2)
+      where
+        next : (ys : List ℕ) × Took a.0 (LineText ps) ys × Took ys Blank rest → Opened front from rest closing ps
+        next b = after_open (apart a.0 b.0 (Byte 40) (Separated PositionText ps ⨾ Byte 41) b.1)
+          where
+            after_open : (ys : List ℕ) × Took a.0 (Byte 40) ys × Took ys (Separated PositionText ps ⨾ Byte 41) b.0 → Opened front from rest closing ps
+            after_open c = listed (apart c.0 b.0 (Separated PositionText ps) (Byte 41) c.2)
+              where
+                opens_here : a.0 ≡ 40 ∷ c.0
+                opens_here = byte_is 40 a.0 c.0 c.1
+
+                made : Within front a.1.0 40 c.0 closing → Opened front from rest closing ps
+                made w = record {
+                  white = a.1.0;
+                  inside = w.rest;
+                  left = a.0;
+                  end = b.0;
+                  all_white = a.1.2;
+                  front_is = w.front_is;
+                  line_is = b.1;
+                  left_is = opens_here ∙ ap (λ l. 40 ∷ l) w.left_is;
+                  quiet = λ none. ap (list_any is_ascii_digit) b.2.1 ∙ none_of_both is_ascii_digit b.2.0 rest (blank_no_digit b.2.0 b.2.2) none;
+                }
+
+                listed : (ys : List ℕ) × Took c.0 (Separated PositionText ps) ys × Took ys (Byte 41) b.0 → Opened front from rest closing ps
+                listed d = made (within front a.1.0 40 c.0 closing (inl refl) (sym split ∙ (a.1.1 ∙ ap (λ l. a.1.0 ++ l) opens_here)) (separated_digit PositionText position_digit ps c.0 d.0 d.1) none)
+
+at_white : (white inside other front left : List ℕ) → front ≡ white ++ (40 ∷ inside) → left ≡ front ++ other → left ≡ white ++ (40 ∷ (inside ++ other))
+at_white white inside other front left e is = is ∙ (ap (λ f. f ++ other) e ∙ append_assoc white (40 ∷ inside) other)
+
+padded_line_last : (room : ℕ) (ps : List Position) (i : Input) (front closing other from rest : List ℕ) → length ps ≡ room + 1 → Took from (Padded (LineText ps)) rest → from ≡ front ++ pair closing → NoDigit rest → NoDigit closing → Stands other
+    → i.left ≡ front ++ other → IsFull (padded (line room) i)
+padded_line_last room ps i front closing other from rest many t split none quiet s is = go (opened_line ps front closing from rest t split quiet)
+  where
+    go : Opened front from rest closing ps → IsFull (padded (line room) i)
+    go o = let j = after (prefix_len is_white i.left) i in
+        full_then (line room j) _ (line_last room ps j (40 ∷ o.inside) closing other o.left o.end many o.line_is o.left_is (o.quiet none) quiet s
+        (behind_white i o.white (40 ∷ (o.inside ++ other)) o.all_white (at_white o.white o.inside other front i.left o.front_is is) refl))
+
+no_part_last : (ps : List Position) (i : Input) (front closing other from rest : List ℕ) → Took from (Padded (LineText ps)) rest → from ≡ front ++ pair closing → NoDigit closing → i.left ≡ front ++ other
+    → IsFull {A = List (List Position)} (padded (expect 40 >> too_long) i)
+no_part_last ps i front closing other from rest t split none is = go (opened_line ps front closing from rest t split none)
+  where
+    go : Opened front from rest closing ps → IsFull {A = List (List Position)} (padded (expect 40 >> too_long) i)
+    go o = no_part i o.white (o.inside ++ other) o.all_white (at_white o.white o.inside other front i.left o.front_is is)
+
+-- each line has a position
+line_long : (ps : List Position) (text rest : List ℕ) → Took text (LineText ps) rest → 0 < length ps
+line_long [] text rest t = go (apart text rest (Byte 40) (Separated PositionText [] ⨾ Byte 41) t)
+  where
+    go : (ys : List ℕ) × Took text (Byte 40) ys × Took ys (Separated PositionText [] ⨾ Byte 41) rest → 0 < 0
+    go a = absurd (apart a.0 rest (Separated PositionText []) (Byte 41) a.2).1.2
+line_long (p ∷ ps) text rest t = omega arith
+
+lines_long : (ls : List (List Position)) (from rest : List ℕ) → Took from (Separated LineText ls) rest → 0 < length (flat_map (λ l. l) ls)
+lines_long [] from rest t = absurd t.2
+lines_long (l ∷ []) from rest t = go (apart (apart from rest Blank (LineText l ⨾ Blank) t).0 rest (LineText l) Blank (apart from rest Blank (LineText l ⨾ Blank) t).2)
+  where
+    go : (zs : List ℕ) × Took (apart from rest Blank (LineText l ⨾ Blank) t).0 (LineText l) zs × Took zs Blank rest → 0 < length (l ++ [])
+    go b = longer (length l) (length (l ++ [])) (line_long l _ b.0 b.1) (length-append l [])
+      where
+        longer : (m n : ℕ) → 0 < m → n ≡ m + 0 → 0 < n
+        longer m n h e = omega (arith, h, e)
+lines_long (l ∷ k ∷ more) from rest t = go (apart from rest (Padded (LineText l)) (Byte 44 ⨾ Separated LineText (k ∷ more)) t)
+  where
+    longer : (m n k : ℕ) → 0 < m → n ≡ m + k → 0 < n
+    longer m n k h e = omega (arith, h, e)
+
+    go : (ys : List ℕ) × Took from (Padded (LineText l)) ys × Took ys (Byte 44 ⨾ Separated LineText (k ∷ more)) rest → 0 < length (l ++ flat_map (λ z. z) (k ∷ more))
+    go a = next (apart from a.0 Blank (LineText l ⨾ Blank) a.1)
+      where
+        next : (ys : List ℕ) × Took from Blank ys × Took ys (LineText l ⨾ Blank) a.0 → 0 < length (l ++ flat_map (λ z. z) (k ∷ more))
+        next b = longer (length l) (length (l ++ flat_map (λ z. z) (k ∷ more))) (length (flat_map (λ z. z) (k ∷ more))) (line_long l b.0 (apart b.0 a.0 (LineText l) Blank b.2).0 (apart b.0 a.0 (LineText l) Blank b.2).1) (length-append l (flat_map (λ z. z) (k ∷ more)))
+
+parts_last : (count room : ℕ) (xs : List (List Position)) (i : Input) (front closing other from rest : List ℕ) → length (flat_map (λ l. l) xs) ≡ room + 1 → Took from (Separated LineText xs) rest → from ≡ front ++ pair closing
+    → NoDigit rest → NoDigit closing → Stands other → i.left ≡ front ++ other → IsFull (parts count room i)
+unfolding parts
+parts_last count room [] i front closing other from rest many t split none quiet s is = absurd t.2
+parts_last zero room (x ∷ []) i front closing other from rest many t split none quiet s is = no_part_last x i front closing other from rest t split quiet is
+parts_last zero room (x ∷ y ∷ more) i front closing other from rest many t split none quiet s is = go (apart from rest (Padded (LineText x)) (Byte 44 ⨾ Separated LineText (y ∷ more)) t)
+  where
+    go : (ys : List ℕ) × Took from (Padded (LineText x)) ys × Took ys (Byte 44 ⨾ Separated LineText (y ∷ more)) rest → IsFull {A = List (List Position)} (padded (expect 40 >> too_long) i)
+    go a = no_part_last x i front closing other from a.0 a.1 split quiet is
+parts_last (suc count) room (x ∷ []) i front closing other from rest many t split none quiet s is = full_then (padded (line room) i) _
+    (padded_line_last room x i front closing other from rest (alone (length x) (length (x ++ [])) room (length-append x []) many) t split none quiet s is)
+  where
+    alone : (m n k : ℕ) → n ≡ m + 0 → n ≡ k + 1 → m ≡ k + 1
+    alone m n k e f = omega (arith, e, f)
+parts_last (suc count) room (x ∷ y ∷ more) i front closing other from rest many t split none quiet s is =
+    go (apart from rest (Padded (LineText x)) (Byte 44 ⨾ Separated LineText (y ∷ more)) t)
+    (λ r j f g few took split_too left_is. parts_last count r (y ∷ more) j f closing other g rest few took split_too none quiet s left_is)
+  where
+    go : (ys : List ℕ) × Took from (Padded (LineText x)) ys × Took ys (Byte 44 ⨾ Separated LineText (y ∷ more)) rest
+        → ((r : ℕ) (j : Input) (f g : List ℕ) → length (flat_map (λ l. l) (y ∷ more)) ≡ r + 1 → Took g (Separated LineText (y ∷ more)) rest → g ≡ f ++ pair closing → j.left ≡ f ++ other → IsFull (parts count r j)) → IsFull (parts (suc count) room i)
+    go a again = next (apart a.0 rest (Byte 44) (Separated LineText (y ∷ more)) a.2)
+      where
+        next : (ys : List ℕ) × Took a.0 (Byte 44) ys × Took ys (Separated LineText (y ∷ more)) rest → IsFull (parts (suc count) room i)
+        next b = read (within front a.1.0 44 b.0 closing (inr refl) (sym split ∙ (a.1.1 ∙ ap (λ l. a.1.0 ++ l) (byte_is 44 a.0 b.0 b.1))) (separated_digit LineText line_digit (y ∷ more) b.0 rest b.2) quiet)
+            (lines_long (y ∷ more) b.0 rest b.2) (length-append x (flat_map (λ l. l) (y ∷ more)))
+          where
+            few_of : (m k n t : ℕ) → 0 < k → t ≡ m + k → t ≡ n + 1 → m ≤ n
+            few_of m k n t long e f = omega (arith, long, e, f)
+
+            left_of : (m k n t : ℕ) → 0 < k → t ≡ m + k → t ≡ n + 1 → k ≡ (n - m) + 1
+            left_of m k n t long e f = omega (arith, long, e, f)
+
+            read : Within front a.1.0 44 b.0 closing → 0 < length (flat_map (λ l. l) (y ∷ more)) → length (x ++ flat_map (λ l. l) (y ∷ more)) ≡ length x + length (flat_map (λ l. l) (y ∷ more)) → IsFull (parts (suc count) room i)
+            read w long total =
+                let behind = 44 ∷ (w.rest ++ other) in
+                let k = length (flat_map (λ l. l) (y ∷ more)) in
+                let sum = length (x ++ flat_map (λ l. l) (y ∷ more)) in
+                then_full (λ z j. (z ≡ x) × (j.left ≡ behind)) (padded (line room) i) _
+                (padded_line_read room x i behind (few_of (length x) k room sum long total many)
+                (a.1.0, is ∙ (ap (λ f. f ++ other) w.front_is ∙ append_assoc a.1.0 (44 ∷ w.rest) other), a.1.2) (closed_by_comma (w.rest ++ other)))
+                (λ z j known. rw (ap (begins_with (λ c. c == 44)) known.1)
+                (full_then (parts count (room - length z) (after 1 j)) _ (again (room - length z) (after 1 j) w.rest b.0
+                (left_of (length x) k room sum long total many ∙ ap (λ v. (room - length v) + 1) (sym known.0)) b.2 w.left_is (ap (drop 1) known.1))))
+
+-- ---- whole texts
+points_named : Named (codes "MULTIPOINT") (separated point position_limit)
+unfolding typed
+points_named at n i w full = rw (named n (codes "MULTIPOINT") (codes "POINT") w, named n (codes "MULTIPOINT") (codes "MULTIPOINT") w) (full_then (positions point i) _ full)
+
+line_named : Named (codes "LINESTRING") (separated position position_limit)
+unfolding typed
+line_named at n i w full =
+    rw (named n (codes "LINESTRING") (codes "POINT") w, named n (codes "LINESTRING") (codes "MULTIPOINT") w, named n (codes "LINESTRING") (codes "LINESTRING") w) (full_then (positions position i) _ full)
+
+-- the list begins before the pair
+whole_last : {A : Type 0} (own : List ℕ) (P : A → Rule) (x : A) (xs : List A) (text front closing other : List ℕ) (inner : Reader (List A)) → list_all is_ascii_alphabetic (map to_ascii_lowercase own) ≡ true → 0 < length own
+    → Named own inner → ((y : A) (part : List ℕ) → P y part → HasDigit part) → Layout own P (x ∷ xs) text → text ≡ front ++ pair closing → NoDigit closing
+    → ((i : Input) (f from rest : List ℕ) → Took from (Separated P (x ∷ xs)) rest → from ≡ f ++ pair closing → NoDigit rest → i.left ≡ f ++ other → IsFull (inner i))
+    → IsFull (whole (record { left = front ++ other; at = 0 }))
+whole_last own P x xs text front closing other inner letters_are long named_full digit y split none full = go
+    (within front (y.before ++ (y.name ++ y.white)) 40 y.list closing (inl refl) (sym split ∙ y.text_is) (separated_digit P digit (x ∷ xs) y.list (41 ∷ y.end) y.items_are) none)
+  where
+    go : Within front (y.before ++ (y.name ++ y.white)) 40 y.list closing → IsFull (whole (record { left = front ++ other; at = 0 }))
+    go w = whole_by_list own P (x ∷ xs) text inner letters_are long named_full y (record { left = front ++ other; at = 0 }) (w.rest ++ other)
+        (ap (λ f. f ++ other) w.front_is ∙ append_assoc (y.before ++ (y.name ++ y.white)) (40 ∷ w.rest) other)
+        (λ k k_is. full k w.rest y.list (41 ∷ y.end) y.items_are w.left_is (blank_no_digit y.end y.end_white) k_is)
+
+none_long : (n : ℕ) → 0 ≡ n + 1 → ⊥
+none_long n e = omega (arith, e)
+
+one_long : 1 ≡ position_limit + 1 → ⊥
+one_long e = omega (arith, e)
+
+lasting : (w : Geometry) (text front closing other : List ℕ) → Writes w text → text ≡ front ++ pair closing → NoDigit closing → Stands other → length (written_positions w) ≡ position_limit + 1
+    → IsFull (whole (record { left = front ++ other; at = 0 }))
+lasting (Point None) text front closing other t split none s counted = absurd (none_long position_limit counted)
+lasting (Point (Some p)) text front closing other t split none s counted = absurd (one_long counted)
+lasting (MultiPoint []) text front closing other t split none s counted = absurd (none_long position_limit counted)
+lasting (LineString []) text front closing other t split none s counted = absurd (none_long position_limit counted)
+lasting (MultiLineString []) text front closing other t split none s counted = absurd (none_long position_limit counted)
+lasting (Polygon []) text front closing other t split none s counted = absurd (none_long position_limit counted)
+lasting (MultiPoint (p ∷ ps)) text front closing other t split none s counted = whole_last (codes "MULTIPOINT") PointText p ps text front closing other (separated point position_limit) refl (zero-lt-suc 9) points_named point_digit
+    (layout (codes "MULTIPOINT") PointText p ps text t) split none
+    (λ i f from rest took split_too quiet is. separated_last PointText point point_not_white point_read point_digit point_last position_limit (p ∷ ps) i f closing other from rest counted took split_too quiet none s is)
+lasting (LineString (p ∷ ps)) text front closing other t split none s counted = whole_last (codes "LINESTRING") PositionText p ps text front closing other (separated position position_limit) refl (zero-lt-suc 9) line_named position_digit
+    (layout (codes "LINESTRING") PositionText p ps text t) split none
+    (λ i f from rest took split_too quiet is. separated_last PositionText position position_not_white position_read position_digit position_last position_limit (p ∷ ps) i f closing other from rest counted took split_too quiet none s is)
+lasting (MultiLineString (l ∷ ls)) text front closing other t split none s counted = whole_last (codes "MULTILINESTRING") LineText l ls text front closing other (parts part_limit position_limit) refl (zero-lt-suc 14) lines_named line_digit
+    (layout (codes "MULTILINESTRING") LineText l ls text t) split none
+    (λ i f from rest took split_too quiet is. parts_last part_limit position_limit (l ∷ ls) i f closing other from rest counted took split_too quiet none s is)
+lasting (Polygon (r ∷ rs)) text front closing other t split none s counted = whole_last (codes "POLYGON") LineText r rs text front closing other (parts part_limit position_limit) refl (zero-lt-suc 6) rings_named line_digit
+    (layout (codes "POLYGON") LineText r rs text t) split none
+    (λ i f from rest took split_too quiet is. parts_last part_limit position_limit (r ∷ rs) i f closing other from rest counted took split_too quiet none s is)
+
+no_digit : (xs : List ℕ) → list_any begins_more xs ≡ false → NoDigit xs
+no_digit [] e = refl
+no_digit (x ∷ xs) e = let parts = or_parts (begins_more x) (list_any begins_more xs) e in
+    let here = or_parts (is_ascii_digit x) (x == 40) parts.0 in
+    rw here.0 (no_digit xs parts.1)
+
+stands : (tail : List ℕ) (minus : Bool) (integer digits : List ℕ) → IsFirstNumber tail minus integer digits → Stands tail
+stands tail minus integer digits f = record {
+  read = λ j is. numbered j (first_number tail minus integer digits f j is);
+  not_white = ap (begins_with is_white) f.split ∙ numeral_begins is_white refl refl refl digit_not_white minus integer digits f.number f.rest f.numeral;
+  not_open = ap (begins_with (λ c. c == 40)) f.split ∙ numeral_begins (λ c. c == 40) refl refl refl (λ c is. differs c 40 is refl) minus integer digits f.number f.rest f.numeral;
+}
+  where
+    numbered : (j : Input) → Read tail minus integer digits j → (n : FoundNumber) × (k : Input) × (numeral j ≡ Ok (n, k))
+    numbered j r = (r.n, r.k, r.is)
+
+pub too_many_positions_are_too_long : (text : List ℕ) → HasTooManyPositions text → read_text text ≡ Err TooLong
+unfolding read_text
+too_many_positions_are_too_long text h = ap outcome (full_is (whole (record { left = text; at = 0 })) (subst (λ u. IsFull (whole (record { left = u; at = 0 }))) (sym h.split)
+    (lasting h.written (h.front ++ codes "+0 0" ++ h.closing) h.front h.closing h.tail h.spelled (append_assoc h.front (codes "+0 0") h.closing) (no_digit h.closing h.no_more)
+    (stands h.tail h.minus h.whole h.fraction h.number) h.counted)))

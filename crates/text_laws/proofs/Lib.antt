@@ -1,0 +1,9 @@
+pub mod Fronts
+pub mod FrontNumbers
+pub mod FrontTexts
+pub mod RefusedNumbers
+pub mod RefusedTexts
+pub mod FullTexts
+pub mod OpenParts
+pub mod LastNumbers
+pub mod LastPositions

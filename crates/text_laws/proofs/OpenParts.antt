@@ -1,0 +1,292 @@
+-- A text whose last parenthesis opens a part too many is read as too long, whatever stands behind the parenthesis.
+use Rattle.std.proofs.Common.{◌≡◌, refl, sym, ap, ◌∙◌, subst, ℕ, zero, suc, ◌+◌, ◌-◌, ◌<◌, ◌≤◌, ◌==◌, ◌||◌, ◌⊎◌, inl, inr, Bool, true, false, List, [], ◌∷◌, ◌++◌, length, take, drop, map, Err, codes, append_assoc, append-nil, le_of_suc-le-suc, zero-lt-suc, arith}
+use Rattle.std.specs.List.{list_all, list_any, prefix_len}
+use Rattle.std.specs.Char.{is_ascii_alphabetic, is_ascii_digit}
+use Rattle.std.specs.Char.{to_ascii_lowercase}
+use Rattle.std.specs.Str.{str_to_ascii_lowercase}
+use Rattle.std.proofs.lemmas.Bool.{true≢false, and_parts, or_parts}
+use Rattle.geometry_model.specs.Points.{Position}
+use Rattle.geometry_model.specs.Geometries.{Geometry, Point, MultiPoint, LineString, MultiLineString, Polygon}
+use Rattle.geometry_model.specs.WellKnownText.{begins_with, Rule, ◌⨾◌, Byte, Blank, Padded, Enclosed, Word, Separated, PositionText, LineText, Body, Writes, is_white, written_parts, position_limit, part_limit}
+use Rattle.geometry_model.specs.TextReading.{Input, Reader, after, too_long, ◌>>◌, expect, padded, line, parts, body, lists, typed, tagged, whole, outcome, read_text}
+use Rattle.geometry_model.specs.TextRefusals.{begins_more, HasTooManyParts}
+use Rattle.geometry_model.specs.declared.text_faults.TextFault.TheVariants.{TooLong}
+use Rattle.geometry_model.proofs.TextSteps.{Took, apart, byte_is, no_run, read_run}
+use Rattle.geometry_model.proofs.TextComplete.{expect_read, closed_by_comma, white_byte, letters, word_begins, same_length, named, padded_line_read}
+use Rattle.text_laws.proofs.FullTexts.{IsFull, full_then, then_full, full_is, fits_or_not, padded_line_full}
+
+-- ---- the last opening parenthesis of a text
+abbrev opens : ℕ → Bool
+opens c = c == 40
+
+-- a text with the parenthesis stands behind this byte, so the parenthesis does
+record Behind (front : List ℕ) (P : List ℕ) (c : ℕ) (V : List ℕ) (tail : List ℕ) : Type 0 where
+  rest : List ℕ
+  front_is : front ≡ P ++ (c ∷ rest)
+  left_is : V ≡ rest ++ (40 ∷ tail)
+
+pub or_last : (a b : Bool) → b ≡ true → (a || b) ≡ true
+or_last true b e = refl
+or_last false b e = e
+
+pub any_within : (test : ℕ → Bool) (P : List ℕ) (c : ℕ) (V : List ℕ) → list_any test V ≡ true → list_any test (P ++ (c ∷ V)) ≡ true
+any_within test [] c V e = or_last (test c) (list_any test V) e
+any_within test (p ∷ P) c V e = or_last (test p) (list_any test (P ++ (c ∷ V))) (any_within test P c V e)
+
+pub tail_of : (x y : ℕ) (xs ys : List ℕ) → x ∷ xs ≡ y ∷ ys → xs ≡ ys
+tail_of x y xs ys e = ap (drop 1) e
+
+pub head_of : (x y : ℕ) (xs ys : List ℕ) → x ∷ xs ≡ y ∷ ys → x ≡ y
+head_of x y xs ys e = ap (λ l. first_or l) e
+  where
+    first_or : List ℕ → ℕ
+    first_or [] = 0
+    first_or (z ∷ zs) = z
+
+behind : (front P : List ℕ) (c : ℕ) (V tail : List ℕ) → front ++ (40 ∷ tail) ≡ P ++ (c ∷ V) → list_any opens V ≡ true → list_any opens tail ≡ false → Behind front P c V tail
+behind [] [] c V tail e has none = absurd (true≢false (sym has ∙ (ap (list_any opens) (sym (tail_of 40 c tail V e)) ∙ none)))
+behind (x ∷ xs) [] c V tail e has none = record { rest = xs; front_is = ap (λ z. z ∷ xs) (head_of x c (xs ++ (40 ∷ tail)) V e); left_is = sym (tail_of x c (xs ++ (40 ∷ tail)) V e) }
+behind [] (p ∷ P) c V tail e has none = absurd (true≢false (sym (any_within opens P c V has) ∙ (ap (list_any opens) (sym (tail_of 40 p tail (P ++ (c ∷ V)) e)) ∙ none)))
+behind (x ∷ xs) (p ∷ P) c V tail e has none = go (behind xs P c V tail (tail_of x p (xs ++ (40 ∷ tail)) (P ++ (c ∷ V)) e) has none)
+  where
+    go : Behind xs P c V tail → Behind (x ∷ xs) (p ∷ P) c V tail
+    go b = record { rest = b.rest; front_is = ap (λ z. z ∷ xs) (head_of x p (xs ++ (40 ∷ tail)) (P ++ (c ∷ V)) e) ∙ ap (λ l. p ∷ l) b.front_is; left_is = b.left_is }
+
+-- ---- what the parts are read from: their text up to the last parenthesis, and anything behind it
+-- the first parenthesis, behind white space
+record Opening (left white : List ℕ) : Type 0 where
+  more : List ℕ
+  is : left ≡ white ++ (40 ∷ more)
+
+opening : (front tail other white V : List ℕ) → list_all is_white white ≡ true → front ++ (40 ∷ tail) ≡ white ++ (40 ∷ V) → Opening (front ++ (40 ∷ other)) white
+opening [] tail other [] V all e = record { more = other; is = refl }
+opening (x ∷ xs) tail other [] V all e = record { more = xs ++ (40 ∷ other); is = ap (λ z. z ∷ (xs ++ (40 ∷ other))) (head_of x 40 (xs ++ (40 ∷ tail)) V e) }
+opening [] tail other (w ∷ ws) V all e = absurd (true≢false (sym (and_parts (is_white w) (list_all is_white ws) all).0 ∙ ap is_white (sym (head_of 40 w tail (ws ++ (40 ∷ V)) e))))
+opening (x ∷ xs) tail other (w ∷ ws) V all e = go (opening xs tail other ws V (and_parts (is_white w) (list_all is_white ws) all).1 (tail_of x w (xs ++ (40 ∷ tail)) (ws ++ (40 ∷ V)) e))
+  where
+    go : Opening (xs ++ (40 ∷ other)) ws → Opening ((x ∷ xs) ++ (40 ∷ other)) (w ∷ ws)
+    go o = record { more = o.more; is = ap (λ z. z ∷ (xs ++ (40 ∷ other))) (head_of x w (xs ++ (40 ∷ tail)) (ws ++ (40 ∷ V)) e) ∙ ap (λ l. w ∷ l) o.is }
+
+-- a line's text opens
+line_opens : (ps : List Position) (from rest : List ℕ) (t : Took from (Padded (LineText ps)) rest) → (V : List ℕ) × (from ≡ t.2.0 ++ (40 ∷ V)) × (list_all is_white t.2.0 ≡ true)
+unfolding apart
+line_opens ps from rest t =
+    let a = apart from rest Blank (LineText ps ⨾ Blank) t in
+    let b = apart a.0 rest (LineText ps) Blank a.2 in
+    let c = apart a.0 b.0 (Byte 40) (Separated PositionText ps ⨾ Byte 41) b.1 in
+    (c.0, a.1.1 ∙ ap (λ l. t.2.0 ++ l) (byte_is 40 a.0 c.0 c.1), a.1.2)
+
+any_open : (white V : List ℕ) → list_any opens (white ++ (40 ∷ V)) ≡ true
+any_open [] V = refl
+any_open (w ∷ ws) V = or_last (opens w) (list_any opens (ws ++ (40 ∷ V))) (any_open ws V)
+
+separated_opens : (xs : List (List Position)) (from rest : List ℕ) → Took from (Separated LineText xs) rest → list_any opens from ≡ true
+separated_opens [] from rest t = absurd t.2
+separated_opens (x ∷ []) from rest t = let o = line_opens x from rest t in ap (list_any opens) o.1 ∙ any_open t.2.0 o.0
+separated_opens (x ∷ y ∷ more) from rest t = go (apart from rest (Padded (LineText x)) (Byte 44 ⨾ Separated LineText (y ∷ more)) t)
+  where
+    go : (ys : List ℕ) × Took from (Padded (LineText x)) ys × Took ys (Byte 44 ⨾ Separated LineText (y ∷ more)) rest → list_any opens from ≡ true
+    go a = let o = line_opens x from a.0 a.1 in ap (list_any opens) o.1 ∙ any_open a.1.2.0 o.0
+
+-- ---- parts
+-- where no part may come, its parenthesis is enough
+pub no_part : (i : Input) (white V : List ℕ) → list_all is_white white ≡ true → i.left ≡ white ++ (40 ∷ V) → IsFull {A = List (List Position)} (padded (expect 40 >> too_long) i)
+no_part i white V all is =
+    let j = after (prefix_len is_white i.left) i in
+    let j_is : j.left ≡ 40 ∷ V = (read_run is_white i.left white (40 ∷ V) is all refl).1 in
+    full_then {A = List (List Position)} ((expect 40 >> too_long) j) _
+    (then_full (λ _ k. k.left ≡ V) (expect 40 j) (λ _. too_long) (expect_read 40 j V j_is) (λ _ k known. tt))
+
+open_parts : (count room : ℕ) (xs : List (List Position)) (i : Input) (front tail other from rest : List ℕ) → count < length xs → from ≡ front ++ (40 ∷ tail) → list_any opens tail ≡ false
+    → Took from (Separated LineText xs) rest → i.left ≡ front ++ (40 ∷ other) → IsFull (parts count room i)
+unfolding parts
+open_parts count room [] i front tail other from rest many split none t is = absurd t.2
+open_parts zero room (x ∷ []) i front tail other from rest many split none t is =
+    let o = line_opens x from rest t in
+    let p = opening front tail other t.2.0 o.0 o.2 (sym split ∙ o.1) in
+    no_part i t.2.0 p.more o.2 (is ∙ p.is)
+open_parts zero room (x ∷ y ∷ more) i front tail other from rest many split none t is = go (apart from rest (Padded (LineText x)) (Byte 44 ⨾ Separated LineText (y ∷ more)) t)
+  where
+    go : (ys : List ℕ) × Took from (Padded (LineText x)) ys × Took ys (Byte 44 ⨾ Separated LineText (y ∷ more)) rest → IsFull {A = List (List Position)} (padded (expect 40 >> too_long) i)
+    go a =
+        let o = line_opens x from a.0 a.1 in
+        let p = opening front tail other a.1.2.0 o.0 o.2 (sym split ∙ o.1) in
+        no_part i a.1.2.0 p.more o.2 (is ∙ p.is)
+open_parts (suc count) room (x ∷ []) i front tail other from rest many split none t is = absurd (omega (arith, many))
+open_parts (suc count) room (x ∷ y ∷ more) i front tail other from rest many split none t is =
+    go (apart from rest (Padded (LineText x)) (Byte 44 ⨾ Separated LineText (y ∷ more)) t) (fits_or_not (length x) room)
+    (λ r j f g took split_too left_is. open_parts count r (y ∷ more) j f tail other g rest (le_of_suc-le-suc many) split_too none took left_is)
+  where
+    go : (ys : List ℕ) × Took from (Padded (LineText x)) ys × Took ys (Byte 44 ⨾ Separated LineText (y ∷ more)) rest → (length x ≤ room) ⊎ (room < length x)
+        → ((r : ℕ) (j : Input) (f g : List ℕ) → Took g (Separated LineText (y ∷ more)) rest → g ≡ f ++ (40 ∷ tail) → j.left ≡ f ++ (40 ∷ other) → IsFull (parts count r j))
+        → IsFull (parts (suc count) room i)
+    go a fits again = made fits
+      where
+        b : (ys : List ℕ) × Took a.0 (Byte 44) ys × Took ys (Separated LineText (y ∷ more)) rest
+        b = apart a.0 rest (Byte 44) (Separated LineText (y ∷ more)) a.2
+
+        found : Behind front a.1.0 44 b.0 tail
+        found = behind front a.1.0 44 b.0 tail (sym split ∙ (a.1.1 ∙ ap (λ l. a.1.0 ++ l) (byte_is 44 a.0 b.0 b.1))) (separated_opens (y ∷ more) b.0 rest b.2) none
+
+        here : Took i.left (Padded (LineText x)) (44 ∷ (found.rest ++ (40 ∷ other)))
+        here = (a.1.0, is ∙ (ap (λ f. f ++ (40 ∷ other)) found.front_is ∙ append_assoc a.1.0 (44 ∷ found.rest) (40 ∷ other)), a.1.2)
+
+        made : (length x ≤ room) ⊎ (room < length x) → IsFull (parts (suc count) room i)
+        made (inr much) = full_then (padded (line room) i) _ (padded_line_full room x i (44 ∷ (found.rest ++ (40 ∷ other))) much here (closed_by_comma (found.rest ++ (40 ∷ other))))
+        made (inl few) = then_full (λ z j. (z ≡ x) × (j.left ≡ 44 ∷ (found.rest ++ (40 ∷ other)))) (padded (line room) i) _
+            (padded_line_read room x i (44 ∷ (found.rest ++ (40 ∷ other))) few here (closed_by_comma (found.rest ++ (40 ∷ other))))
+            (λ z j known. rw (ap (begins_with (λ c. c == 44)) known.1)
+            (full_then (parts count (room - length z) (after 1 j)) _ (again (room - length z) (after 1 j) found.rest b.0 b.2 found.left_is (ap (drop 1) known.1))))
+
+-- ---- the whole text
+-- behind the name: white space, the list's parenthesis and the parts
+pub body_open : {A : Type 0} (inner : Reader (List A)) (i : Input) (white L : List ℕ) → list_all is_white white ≡ true → i.left ≡ white ++ (40 ∷ L) → ((j : Input) → j.left ≡ L → IsFull (inner j)) → IsFull (body inner i)
+unfolding body
+body_open inner i white L all is full =
+    let left = drop (prefix_len is_white i.left) i.left in
+    let left_is : left ≡ 40 ∷ L = (read_run is_white i.left white (40 ∷ L) is all refl).1 in
+    let no_letter : prefix_len is_ascii_alphabetic left ≡ 0 = no_run is_ascii_alphabetic left (ap (begins_with is_ascii_alphabetic) left_is) in
+    let past : drop (prefix_len is_ascii_alphabetic left) left ≡ 40 ∷ L = ap (λ n. drop n left) no_letter ∙ left_is in
+    let k = after (prefix_len is_ascii_alphabetic left) (after (prefix_len is_white i.left) i) in
+    rw (ap (λ n. length (take n left) == 0) no_letter)
+    (then_full (λ _ j. j.left ≡ L) (expect 40 k) _ (expect_read 40 k L past) (λ _ j j_is. full_then (inner j) _ (full j j_is)))
+
+pub not_letter : (white L : List ℕ) → list_all is_white white ≡ true → begins_with is_ascii_alphabetic (white ++ (40 ∷ L)) ≡ false
+not_letter [] L all = refl
+not_letter (w ∷ ws) L all = (white_byte w [] (and_parts (is_white w) (list_all is_white ws) all).0).2
+
+-- a text that isn't empty: white space, the name, white space, the parenthesis, the items, the other parenthesis
+pub record Layout {A : Type 0} (own : List ℕ) (P : A → Rule) (xs : List A) (text : List ℕ) : Type 0 where
+  pub before : List ℕ
+  pub name : List ℕ
+  pub white : List ℕ
+  pub list : List ℕ
+  pub end : List ℕ
+  pub before_white : list_all is_white before ≡ true
+  pub name_is : Word own name
+  pub all_white : list_all is_white white ≡ true
+  pub items_are : Took list (Separated P xs) (41 ∷ end)
+  pub end_white : list_all is_white end ≡ true
+  pub text_is : text ≡ (before ++ (name ++ white)) ++ (40 ∷ list)
+
+pub layout : {A : Type 0} (own : List ℕ) (P : A → Rule) (x : A) (xs : List A) (text : List ℕ) → Padded (Word own ⨾ Body P (x ∷ xs)) text → Layout own P (x ∷ xs) text
+layout own P x xs text t = go (apart text [] Blank ((Word own ⨾ Body P (x ∷ xs)) ⨾ Blank) (text, sym (append-nil text), t))
+  where
+    made : (ys zs end : List ℕ) → Took text Blank ys → Took ys (Word own) zs → Took zs (Blank ⨾ Enclosed (Separated P (x ∷ xs))) end → list_all is_white end ≡ true → Layout own P (x ∷ xs) text
+    made ys zs end a w m white =
+        let p = apart zs end Blank (Enclosed (Separated P (x ∷ xs))) m in
+        let q = apart p.0 end (Byte 40) (Separated P (x ∷ xs) ⨾ Byte 41) p.2 in
+        let r = apart q.0 end (Separated P (x ∷ xs)) (Byte 41) q.2 in
+        record {
+          before = a.0;
+          name = w.0;
+          white = p.1.0;
+          list = q.0;
+          end = end;
+          before_white = a.2;
+          name_is = w.2;
+          all_white = p.1.2;
+          items_are = subst (Took q.0 (Separated P (x ∷ xs))) (byte_is 41 r.0 end r.2) r.1;
+          end_white = white;
+          text_is = a.1 ∙ (ap (λ u. a.0 ++ u) (w.1 ∙ (ap (λ u. w.0 ++ u) (p.1.1 ∙ ap (λ u. p.1.0 ++ u) (byte_is 40 p.0 q.0 q.1)) ∙ sym (append_assoc w.0 p.1.0 (40 ∷ q.0))))
+              ∙ sym (append_assoc a.0 (w.0 ++ p.1.0) (40 ∷ q.0)));
+        }
+
+    all_of : (zs : List ℕ) → Took zs Blank [] → list_all is_white zs ≡ true
+    all_of zs b = ap (list_all is_white) (b.1 ∙ append-nil b.0) ∙ b.2
+
+    tagged_at : (ys : List ℕ) → Took text Blank ys → (zs : List ℕ) × Took ys (Word own ⨾ Body P (x ∷ xs)) zs × Took zs Blank [] → Layout own P (x ∷ xs) text
+    tagged_at ys a b = word_at_it (apart ys b.0 (Word own) (Body P (x ∷ xs)) b.1)
+      where
+        word_at_it : (zs : List ℕ) × Took ys (Word own) zs × Took zs (Body P (x ∷ xs)) b.0 → Layout own P (x ∷ xs) text
+        word_at_it c = made ys c.0 b.0 a c.1 c.2 (all_of b.0 b.2)
+
+    go : (ys : List ℕ) × Took text Blank ys × Took ys ((Word own ⨾ Body P (x ∷ xs)) ⨾ Blank) [] → Layout own P (x ∷ xs) text
+    go a = tagged_at a.0 a.1 (apart a.0 [] (Word own ⨾ Body P (x ∷ xs)) Blank a.2)
+
+-- what a type's name makes of a list that is too long
+abbrev pub Named : {A : Type 0} → List ℕ → Reader (List A) → Type 0
+Named own inner = (at : ℕ) (n : List ℕ) (i : Input) → Word own n → IsFull (body inner i) → IsFull (typed at n i)
+
+-- a text with this layout up to the list's parenthesis is too long where what stands behind is
+pub whole_by_list : {A : Type 0} (own : List ℕ) (P : A → Rule) (xs : List A) (text : List ℕ) (inner : Reader (List A)) → list_all is_ascii_alphabetic (map to_ascii_lowercase own) ≡ true → 0 < length own
+    → Named own inner → (y : Layout own P xs text) (i : Input) (L : List ℕ) → i.left ≡ (y.before ++ (y.name ++ y.white)) ++ (40 ∷ L) → ((k : Input) → k.left ≡ L → IsFull (inner k)) → IsFull (whole i)
+unfolding whole tagged
+whole_by_list own P xs text inner letters_are long named_full y i L is full =
+    let behind_name = y.white ++ (40 ∷ L) in
+    let j = after (prefix_len is_white i.left) i in
+    let j_is : j.left ≡ y.name ++ behind_name = (read_run is_white i.left y.before (y.name ++ behind_name) left_is y.before_white (word_begins y.name behind_name name_letters name_long)).1 in
+    let r = read_run is_ascii_alphabetic j.left y.name behind_name j_is name_letters (not_letter y.white L y.all_white) in
+    let n = prefix_len is_ascii_alphabetic j.left in
+    full_then (padded tagged i) _ (full_then (tagged j) _ (named_full j.at (take n j.left) (after n j) (ap str_to_ascii_lowercase r.0 ∙ y.name_is) (body_open inner (after n j) y.white L y.all_white r.1 full)))
+  where
+    name_letters : list_all is_ascii_alphabetic y.name ≡ true
+    name_letters = letters y.name (ap (list_all is_ascii_alphabetic) y.name_is ∙ letters_are)
+
+    name_long : 0 < length y.name
+    name_long = subst (λ n. 0 < n) (sym (same_length y.name own y.name_is)) long
+
+    left_is : i.left ≡ y.before ++ (y.name ++ (y.white ++ (40 ∷ L)))
+    left_is = is ∙ (append_assoc y.before (y.name ++ y.white) (40 ∷ L) ∙ ap (λ u. y.before ++ u) (append_assoc y.name y.white (40 ∷ L)))
+
+-- ---- the types with parts
+pub lines_named : Named (codes "MULTILINESTRING") (parts part_limit position_limit)
+unfolding typed
+lines_named at n i w full =
+    rw (named n (codes "MULTILINESTRING") (codes "POINT") w, named n (codes "MULTILINESTRING") (codes "MULTIPOINT") w, named n (codes "MULTILINESTRING") (codes "LINESTRING") w, named n (codes "MULTILINESTRING") (codes "MULTILINESTRING") w)
+    (full_then (lists i) _ full)
+
+pub rings_named : Named (codes "POLYGON") (parts part_limit position_limit)
+unfolding typed
+rings_named at n i w full =
+    rw (
+      named n (codes "POLYGON") (codes "POINT") w,
+      named n (codes "POLYGON") (codes "MULTIPOINT") w,
+      named n (codes "POLYGON") (codes "LINESTRING") w,
+      named n (codes "POLYGON") (codes "MULTILINESTRING") w,
+      named n (codes "POLYGON") (codes "POLYGON") w,
+    )
+    (full_then (lists i) _ full)
+
+whole_open : (own : List ℕ) (ls : List (List Position)) (text front tail other : List ℕ) → list_all is_ascii_alphabetic (map to_ascii_lowercase own) ≡ true → 0 < length own
+    → Named own (parts part_limit position_limit) → Layout own LineText ls text → text ≡ front ++ (40 ∷ tail) → list_any opens tail ≡ false → part_limit < length ls
+    → IsFull (whole (record { left = front ++ (40 ∷ other); at = 0 }))
+whole_open own ls text front tail other letters_are long named_full y split none many = go
+    (behind front (y.before ++ (y.name ++ y.white)) 40 y.list tail (sym split ∙ y.text_is) (separated_opens ls y.list (41 ∷ y.end) y.items_are) none)
+  where
+    go : Behind front (y.before ++ (y.name ++ y.white)) 40 y.list tail → IsFull (whole (record { left = front ++ (40 ∷ other); at = 0 }))
+    go b = whole_by_list own LineText ls text (parts part_limit position_limit) letters_are long named_full y (record { left = front ++ (40 ∷ other); at = 0 }) (b.rest ++ (40 ∷ other))
+        (ap (λ f. f ++ (40 ∷ other)) b.front_is ∙ append_assoc (y.before ++ (y.name ++ y.white)) (40 ∷ b.rest) (40 ∷ other))
+        (λ k k_is. open_parts part_limit position_limit ls k b.rest tail other y.list (41 ∷ y.end) many b.left_is none y.items_are k_is)
+
+no_parts : (m n : ℕ) → m ≡ 0 → m ≡ n + 1 → ⊥
+no_parts m n e k = omega (arith, e, k)
+
+opened : (w : Geometry) (text front tail other : List ℕ) → Writes w text → text ≡ front ++ (40 ∷ tail) → list_any opens tail ≡ false → length (written_parts w) ≡ part_limit + 1
+    → IsFull (whole (record { left = front ++ (40 ∷ other); at = 0 }))
+opened (Point p) text front tail other t split none counted = absurd (no_parts 0 part_limit refl counted)
+opened (MultiPoint ps) text front tail other t split none counted = absurd (no_parts 0 part_limit refl counted)
+opened (LineString ps) text front tail other t split none counted = absurd (no_parts 0 part_limit refl counted)
+opened (MultiLineString []) text front tail other t split none counted = absurd (no_parts 0 part_limit refl counted)
+opened (Polygon []) text front tail other t split none counted = absurd (no_parts 0 part_limit refl counted)
+opened (MultiLineString (l ∷ ls)) text front tail other t split none counted = whole_open (codes "MULTILINESTRING") (l ∷ ls) text front tail other refl (zero-lt-suc 14) lines_named
+    (layout (codes "MULTILINESTRING") LineText l ls text t) split none (omega (arith, counted))
+opened (Polygon (r ∷ rs)) text front tail other t split none counted = whole_open (codes "POLYGON") (r ∷ rs) text front tail other refl (zero-lt-suc 6) rings_named
+    (layout (codes "POLYGON") LineText r rs text t) split none (omega (arith, counted))
+
+no_opening : (xs : List ℕ) → list_any begins_more xs ≡ false → list_any opens xs ≡ false
+no_opening [] e = refl
+no_opening (x ∷ xs) e = let parts = or_parts (begins_more x) (list_any begins_more xs) e in
+    let here = or_parts (is_ascii_digit x) (x == 40) parts.0 in
+    rw here.1 (no_opening xs parts.1)
+
+pub too_many_parts_are_too_long : (text : List ℕ) → HasTooManyParts text → read_text text ≡ Err TooLong
+unfolding read_text
+too_many_parts_are_too_long text h = ap outcome (full_is (whole (record { left = text; at = 0 })) (subst (λ u. IsFull (whole (record { left = u; at = 0 }))) (sym (h.split ∙ open_behind h.front h.tail))
+    (opened h.written (h.front ++ codes "(+0 0" ++ h.closing) h.front (codes "+0 0" ++ h.closing) h.tail h.spelled (zero_behind h.front h.closing) (no_opening h.closing h.no_more) h.counted)))
+  where
+    open_behind : (front rest : List ℕ) → front ++ codes "(" ++ rest ≡ front ++ (40 ∷ rest)
+    open_behind front rest = append_assoc front (codes "(") rest
+
+    zero_behind : (front rest : List ℕ) → front ++ codes "(+0 0" ++ rest ≡ front ++ (40 ∷ (codes "+0 0" ++ rest))
+    zero_behind front rest = append_assoc front (codes "(+0 0") rest

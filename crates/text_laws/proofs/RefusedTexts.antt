@@ -1,0 +1,44 @@
+-- What reading answers is what stands.
+use Rattle.std.proofs.Common.{◌≡◌, refl, sym, ◌∙◌, ℕ, inl, inr, List, Result, Ok, Err}
+use Rattle.geometry_model.specs.Geometries.{Geometry}
+use Rattle.geometry_model.specs.TextReading.{read_text}
+use Rattle.geometry_model.specs.TextRefusals.{IsRefusedAs}
+use Rattle.geometry_model.specs.declared.text_faults.TextFault.{TextFault}
+use Rattle.geometry_model.specs.declared.text_faults.TextFault.TheVariants.{Syntax, OffGrid, OutOfRange, TooLong}
+use Rattle.geometry_model.proofs.TextSound.{read_is_spelled}
+use Rattle.geometry_model.proofs.TextComplete.{spelled_is_read}
+use Rattle.geometry_model.proofs.TextRefused.{refusals_stand}
+use Rattle.text_laws.proofs.RefusedNumbers.{off_grid_is_answered, out_of_range_is_answered}
+use Rattle.text_laws.proofs.OpenParts.{too_many_parts_are_too_long}
+use Rattle.text_laws.proofs.LastPositions.{too_many_positions_are_too_long}
+use Rattle.text_laws.specs.RefusalLaws.{RefusalIsAnswered, SyntaxIsAnswered, AnswerStands}
+
+pub refusal_is_answered : RefusalIsAnswered
+refusal_is_answered text (Syntax at) h = absurd h
+refusal_is_answered text (OffGrid at) h = off_grid_is_answered text at h
+refusal_is_answered text (OutOfRange at) h = out_of_range_is_answered text at h
+refusal_is_answered text TooLong (inl h) = too_many_positions_are_too_long text h
+refusal_is_answered text TooLong (inr h) = too_many_parts_are_too_long text h
+
+pub syntax_is_answered : SyntaxIsAnswered
+syntax_is_answered text at h = go (read_text text) refl
+  where
+    go : (r : Result Geometry TextFault) → read_text text ≡ r → (byte : ℕ) × (read_text text ≡ Err (Syntax byte))
+    go (Ok g) e = absurd (h.0 g (read_is_spelled text g e))
+    go (Err (Syntax byte)) e = (byte, e)
+    go (Err (OffGrid byte)) e = absurd (h.1 (OffGrid byte) ((refusals_stand text byte).0 e))
+    go (Err (OutOfRange byte)) e = absurd (h.1 (OutOfRange byte) ((refusals_stand text byte).1 e))
+    go (Err TooLong) e = absurd (h.1 TooLong ((refusals_stand text 0).2 e))
+
+-- W1 is no other fault
+other : (byte : ℕ) (text : List ℕ) → read_text text ≡ Err (Syntax byte) → (fault : TextFault) → IsRefusedAs text fault → ⊥
+other byte text e (Syntax at) h = h
+other byte text e (OffGrid at) h = let k : Err (Syntax byte) ≡ Err (OffGrid at) = sym e ∙ refusal_is_answered text (OffGrid at) h in absurd (cc)
+other byte text e (OutOfRange at) h = let k : Err (Syntax byte) ≡ Err (OutOfRange at) = sym e ∙ refusal_is_answered text (OutOfRange at) h in absurd (cc)
+other byte text e TooLong h = let k : Err (Syntax byte) ≡ Err TooLong = sym e ∙ refusal_is_answered text TooLong h in absurd (cc)
+
+pub answer_stands : AnswerStands
+answer_stands text (Syntax byte) e = ((λ g h. let k : Err (Syntax byte) ≡ Ok g = sym e ∙ spelled_is_read text g h in absurd (cc)), other byte text e)
+answer_stands text (OffGrid byte) e = (refusals_stand text byte).0 e
+answer_stands text (OutOfRange byte) e = (refusals_stand text byte).1 e
+answer_stands text TooLong e = (refusals_stand text 0).2 e

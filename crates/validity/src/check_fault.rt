@@ -1,0 +1,63 @@
+//! Why a geometry isn't taken as valid.
+
+ghost use Rattle.std.specs.Prelude.{◌≡◌};
+ghost use Rattle.validity.specs.CheckFaults.{fault_in};
+
+use geometry_model::ValidityFault;
+use std::alloc::AllocError;
+use thiserror::Error;
+
+/// Why a geometry isn't taken as valid: its first fault (06-103r4, 6.1.7 and 6.1.11; the order is a profile), or want
+/// of memory. Elements and rings are numbered from 0, and ring 0 is the outer one.
+#[derive(Clone, Copy, Debug, PartialEq, Eq, Error)]
+pub enum CheckFault {
+    /// V1: the line with this number has a single position, or the ring fewer than 4 with the closing one.
+    #[error("part {0} has too few points")]
+    TooFewPoints(usize),
+    /// V2: the ring's first position isn't its last.
+    #[error("ring {0} isn't closed")]
+    RingNotClosed(usize),
+    /// V3: the ring meets or covers itself.
+    #[error("ring {0} isn't simple")]
+    RingNotSimple(usize),
+    /// V4: the two rings share a point; the lesser number comes first.
+    #[error("rings {0} and {1} meet")]
+    RingsMeet(usize, usize),
+    /// V5: the hole isn't inside the outer ring.
+    #[error("hole {0} is outside")]
+    HoleOutside(usize),
+    /// V6: of the two holes one is inside the other; the lesser number comes first.
+    #[error("holes {0} and {1} are nested")]
+    HolesNested(usize, usize),
+    /// Memory ran out. It is no fault of the geometry.
+    #[error("out of memory")]
+    OutOfMemory,
+}
+
+impl CheckFault {
+    /// The fault of the geometry; none where memory ran out. (Profile.)
+    pub fn validity_fault(self) -> Option<ValidityFault>
+        ensures { result ≡ fault_in self }
+    {
+        match self {
+            CheckFault::TooFewPoints(part) => Some(ValidityFault::TooFewPoints(part)),
+            CheckFault::RingNotClosed(ring) => Some(ValidityFault::RingNotClosed(ring)),
+            CheckFault::RingNotSimple(ring) => Some(ValidityFault::RingNotSimple(ring)),
+            CheckFault::RingsMeet(i, j) => Some(ValidityFault::RingsMeet(i, j)),
+            CheckFault::HoleOutside(ring) => Some(ValidityFault::HoleOutside(ring)),
+            CheckFault::HolesNested(i, j) => Some(ValidityFault::HolesNested(i, j)),
+            CheckFault::OutOfMemory => None,
+        }
+    }
+}
+
+impl From<AllocError> for CheckFault {
+    ghost use Rattle.std.specs.Prelude.{◌≡◌};
+    ghost use Rattle.validity.specs.declared.check_fault.CheckFault.TheVariants as fault;
+
+    ghost from_gives = { λ _ f. f ≡ fault.OutOfMemory };
+
+    fn from(_error: AllocError) -> CheckFault {
+        CheckFault::OutOfMemory
+    }
+}

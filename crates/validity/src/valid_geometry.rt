@@ -1,0 +1,85 @@
+//! Valid geometries, and the test that makes them.
+
+ghost use Rattle.std.specs.Prelude.{◌≡◌, IfOk, OnOk, IfErr, None};
+ghost use Rattle.geometry_model.specs.Geometries as spec;
+ghost use Rattle.geometry_model.specs.Validity.{IsValid};
+ghost use Rattle.geometry_model.specs.FirstFaults.{validity_fault};
+ghost use Rattle.validity.specs.CheckFaults.{IsFaultOf};
+
+use crate::check_fault::CheckFault;
+use geometry_model::Kind;
+use orient::Segment;
+use std::alloc::Global;
+use std::marker::Model;
+use wkt::Geometry;
+
+/// A geometry without fault (06-103r4, 6.1.7 and 6.1.11). Contracts see it as that geometry.
+#[derive(Debug, Drop)]
+pub struct Valid {
+    geometry: Geometry,
+    segments: Vec<Segment>,
+}
+
+impl Model for Valid {
+    ghost use Rattle.geometry_model.specs.Geometries as spec;
+    ghost use Rattle.validity.specs.ValidGeometries.{IsKept};
+
+    ghost Value = { spec.Geometry };
+
+    ghost view = { λ v. v.geometry };
+
+    ghost invariant = { λ v. IsKept v.geometry v.segments.items };
+}
+
+impl Valid {
+    /// Lends the geometry.
+    pub fn geometry(&self) -> &Geometry
+        ensures same { result.now ≡ self.now }
+        ensures valid { IsValid self.now }
+    {
+        &self.geometry
+    }
+
+    /// Its kind: points, lines or areas, also where it is empty (06-103r4, 6.1.15.3).
+    pub fn kind(&self) -> Kind
+        ensures { result ≡ spec.kind self.now }
+    {
+        self.geometry.kind()
+    }
+
+    /// Whether it is the empty set of points (06-103r4, 6.1.2.2).
+    pub fn is_empty(&self) -> bool
+        ensures { result ≡ spec.is_empty self.now }
+    {
+        self.geometry.is_empty()
+    }
+
+    /// Lends its edges, in order; points have none (06-103r4, 6.1.7 to 6.1.11).
+    pub fn segments(&self) -> &[Segment]
+        ensures { result.now ≡ spec.edges self.now }
+    {
+        self.segments.as_slice()
+    }
+}
+
+/// The edges of a geometry, in order. Points have none.
+fn edges_of(alloc: Global, geometry: &Geometry) -> Vec<Segment>
+    ensures { result.items ≡ spec.edges geometry.now }
+{
+    match geometry.kind() {
+        Kind::Point => Vec::new(alloc),
+        Kind::Line | Kind::Area => unreachable!("no geometry of these kinds is made yet"),
+    }
+}
+
+/// Takes a geometry as valid where it has no fault, and otherwise answers its first fault: the faults are tested in
+/// their order, V1 to V6, and within one the least numbers first (06-103r4, 6.1.7 and 6.1.11; the order is a
+/// profile). Points need no test. It may fail for want of memory too.
+pub fn check(alloc: Global, geometry: Geometry) -> Result<Valid, CheckFault>
+    ensures same { IfOk result (λ valid. valid ≡ geometry) }
+    ensures faultless { OnOk result (validity_fault geometry ≡ None) }
+    ensures fault { IfErr result (IsFaultOf geometry) }
+{
+    let segments = edges_of(alloc, &geometry);
+    Ok(Valid { geometry, segments })
+}

@@ -1,0 +1,136 @@
+-- Each geometry that a text spells is kept.
+use Rattle.std.proofs.Common.{◌≡◌, ◌≢◌, ℕ, suc, ◌<◌, ◌≤◌, ℤ, Bool, true, false, cond, List, [], ◌∷◌, length, map, refl, sym, subst, arith, zero-lt-suc, zero-le, le_refl, le_trans, length-append}
+use Rattle.std.specs.List.{All, dedup_from, flat_map}
+use Rattle.std.specs.Ordering.{int_eq}
+use Rattle.std.proofs.lemmas.Int.{ints}
+use Rattle.std.proofs.lemmas.List.Elements.{All-nil, All-cons, All-append}
+use Rattle.geometry_model.specs.Points.{Position}
+use Rattle.geometry_model.specs.Geometries.{Geometry, Point, MultiPoint, LineString, MultiLineString, Polygon, Edge, edges, edges_of_line, edges_of_lines}
+use Rattle.geometry_model.specs.WellKnownText.{Separated, LineText, Body, TaggedText, IsWithinCounts, written_parts, same_position, without_repeats, geometry_of}
+use Rattle.wkt.specs.KeptGeometries.{IsKept, SpelledIsKept}
+
+-- neighbours
+
+equals_itself : (z : ℤ) → int_eq z z ≡ true
+equals_itself z = grind (arith, ints)
+
+same_itself : (p : Position) → same_position p p ≡ true
+same_itself p = rw (equals_itself p.x, equals_itself p.y) refl
+
+apart : (a b : Position) → same_position b a ≡ false → a ≢ b
+apart a b other same =
+    let yes : same_position b a ≡ true = subst (λ p. same_position p a ≡ true) same (same_itself a) in
+    grind (arith, yes, other)
+
+abbrev Apart : Edge → Type 0
+Apart edge = edge.start ≢ edge.end
+
+-- what is kept begins with the first
+first_kept : (k : Position) (xs : List Position) → (rest : List Position) × (dedup_from same_position k xs ≡ k ∷ rest)
+first_kept k [] = ([], refl)
+first_kept k (x ∷ xs) = by_test (same_position x k) (first_kept k xs)
+  where
+    by_test : (same : Bool) → ((rest : List Position) × (dedup_from same_position k xs ≡ k ∷ rest))
+        → (rest : List Position) × (cond same (dedup_from same_position k xs) (k ∷ dedup_from same_position x xs) ≡ k ∷ rest)
+    by_test true here = here
+    by_test false here = (dedup_from same_position x xs, refl)
+
+from_apart : (k : Position) (xs : List Position) → All Apart (edges_of_line (dedup_from same_position k xs))
+from_apart k [] = All-nil Apart
+from_apart k (x ∷ xs) = by_test (same_position x k) refl (from_apart k xs) (from_apart x xs) (first_kept x xs)
+  where
+    by_test : (same : Bool) → same_position x k ≡ same → All Apart (edges_of_line (dedup_from same_position k xs)) → All Apart (edges_of_line (dedup_from same_position x xs))
+        → ((rest : List Position) × (dedup_from same_position x xs ≡ x ∷ rest))
+        → All Apart (edges_of_line (cond same (dedup_from same_position k xs) (k ∷ dedup_from same_position x xs)))
+    by_test true is here behind first = here
+    by_test false is here behind first =
+        subst (λ l. All Apart (edges_of_line (k ∷ l))) (sym first.1)
+        (All-cons Apart (record { start = k; end = x }) (edges_of_line (x ∷ first.0)) (apart k x is)
+        (subst (λ l. All Apart (edges_of_line l)) first.1 behind))
+
+line_apart : (ps : List Position) → All Apart (edges_of_line (without_repeats ps))
+line_apart [] = All-nil Apart
+line_apart (p ∷ ps) = from_apart p ps
+
+lines_apart : (ls : List (List Position)) → All Apart (edges_of_lines (map without_repeats ls))
+lines_apart [] = All-nil Apart
+lines_apart (l ∷ ls) = All-append Apart (edges_of_line (without_repeats l)) (edges_of_lines (map without_repeats ls)) (line_apart l) (lines_apart ls)
+
+ends_apart : (w : Geometry) → All Apart (edges (geometry_of w))
+ends_apart (Point p) = All-nil Apart
+ends_apart (MultiPoint ps) = All-nil Apart
+ends_apart (LineString ps) = lines_apart (ps ∷ [])
+ends_apart (MultiLineString ls) = lines_apart ls
+ends_apart (Polygon rs) = lines_apart rs
+
+-- rings and elements
+
+abbrev HasPositions : List Position → Type 0
+HasPositions part = 0 < length part
+
+still_some : (ps : List Position) → HasPositions ps → HasPositions (without_repeats ps)
+still_some [] some = absurd (omega (arith, some))
+still_some (p ∷ ps) some = subst HasPositions (sym (first_kept p ps).1) (zero-lt-suc (length (first_kept p ps).0))
+
+line_has_positions : (ps : List Position) (text : List ℕ) → LineText ps text → HasPositions ps
+line_has_positions [] text t = absurd t.4.3
+line_has_positions (p ∷ ps) text t = zero-lt-suc (length ps)
+
+separated_have_positions : (ls : List (List Position)) (text : List ℕ) → Separated LineText ls text → All HasPositions (map without_repeats ls)
+separated_have_positions [] text t = absurd t
+separated_have_positions (l ∷ []) text t =
+    All-cons HasPositions (without_repeats l) [] (still_some l (line_has_positions l t.4.0 t.4.3)) (All-nil HasPositions)
+separated_have_positions (l ∷ m ∷ more) text t =
+    All-cons HasPositions (without_repeats l) (map without_repeats (m ∷ more)) (still_some l (line_has_positions l t.3.4.0 t.3.4.3))
+    (separated_have_positions (m ∷ more) t.4.1 t.4.4)
+
+body_has_positions : (ls : List (List Position)) (text : List ℕ) → Body LineText ls text → All HasPositions (map without_repeats ls)
+body_has_positions [] text t = All-nil HasPositions
+body_has_positions (l ∷ more) text t = separated_have_positions (l ∷ more) t.4.4.0 t.4.4.3
+
+parts_have_positions : (w : Geometry) (text : List ℕ) → TaggedText w text → All HasPositions (written_parts (geometry_of w))
+parts_have_positions (Point p) text t = All-nil HasPositions
+parts_have_positions (MultiPoint ps) text t = All-nil HasPositions
+parts_have_positions (LineString ps) text t = All-nil HasPositions
+parts_have_positions (MultiLineString ls) text t = body_has_positions ls t.1 t.4
+parts_have_positions (Polygon rs) text t = body_has_positions rs t.1 t.4
+
+-- counts
+
+shorter_from : (k : Position) (xs : List Position) → length (dedup_from same_position k xs) ≤ suc (length xs)
+shorter_from k [] = le_refl 1
+shorter_from k (x ∷ xs) = by_test (same_position x k) (shorter_from k xs) (shorter_from x xs)
+  where
+    by_test : (same : Bool) → length (dedup_from same_position k xs) ≤ suc (length xs) → length (dedup_from same_position x xs) ≤ suc (length xs)
+        → length (cond same (dedup_from same_position k xs) (k ∷ dedup_from same_position x xs)) ≤ suc (suc (length xs))
+    by_test true here behind = omega (arith, here)
+    by_test false here behind = omega (arith, behind)
+
+shorter : (ps : List Position) → length (without_repeats ps) ≤ length ps
+shorter [] = zero-le
+shorter (p ∷ ps) = shorter_from p ps
+
+shorter_each : (ls : List (List Position)) → length (flat_map (λ l. l) (map without_repeats ls)) ≤ length (flat_map (λ l. l) ls)
+shorter_each [] = zero-le
+shorter_each (l ∷ ls) =
+    omega (arith, shorter l, shorter_each ls, length-append l (flat_map (λ m. m) ls), length-append (without_repeats l) (flat_map (λ m. m) (map without_repeats ls)))
+
+as_many : (ls : List (List Position)) → length (map without_repeats ls) ≤ length ls
+as_many [] = zero-le
+as_many (l ∷ ls) = omega (arith, as_many ls)
+
+counts : (w : Geometry) → IsWithinCounts w → IsWithinCounts (geometry_of w)
+counts (Point p) within = within
+counts (MultiPoint ps) within = within
+counts (LineString ps) within = (le_trans (shorter ps) within.0, within.1)
+counts (MultiLineString ls) within = (le_trans (shorter_each ls) within.0, le_trans (as_many ls) within.1)
+counts (Polygon rs) within = (le_trans (shorter_each rs) within.0, le_trans (as_many rs) within.1)
+
+pub spelled_is_kept : SpelledIsKept
+spelled_is_kept text g spelled =
+    let w = spelled.written in
+    subst IsKept (sym spelled.meant) (record {
+      counts = counts w spelled.counts;
+      ends_differ = ends_apart w;
+      parts_have_positions = parts_have_positions w spelled.spelled.4.0 spelled.spelled.4.3;
+    })

@@ -1,0 +1,7 @@
+use Rattle.geometry_model.proofs.TextSteps.{all_pass}
+use Rattle.wkt.specs.ReadingSteps.{of_class}
+use Rattle.wkt.proofs.cursor.Cursor.run.Goals as goal
+
+pub returns-clause-all : goal.returns-clause-all
+returns-clause-all c =
+    rw (c.split_at.ensures.front, c.run_length.ensures.value) (all_pass (of_class c.args.class) c.self.inside.left.now)

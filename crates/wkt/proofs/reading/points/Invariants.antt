@@ -1,0 +1,13 @@
+use Rattle.std.proofs.Common.{◌≡◌, ◌+◌, length}
+use Rattle.geometry_model.specs.TextReading.{separated, point}
+use Rattle.wkt.proofs.Bodies.{behind}
+use Rattle.wkt.proofs.reading.points.Given as goal
+
+abbrev pub invariant-loop-points : goal.invariant-loop-points
+invariant-loop-points l = record {
+  read : separated point l.most l.fn.cursor ≡ behind l.points.items (separated point l.room l.cursor);
+  counted : length l.points.items + l.room ≡ l.most;
+}
+
+abbrev pub decreases-loop-points : goal.decreases-loop-points
+decreases-loop-points l = l.room

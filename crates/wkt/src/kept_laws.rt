@@ -1,0 +1,8 @@
+//! The facts that stand in the type of geometries leave no geometry out that a text spells.
+
+ghost use Rattle.wkt.specs.KeptGeometries.{SpelledIsKept};
+
+/// Each geometry that a text spells is kept, of any type.
+pub fn spelled_is_kept()
+    ensures { SpelledIsKept }
+{}

@@ -1,0 +1,104 @@
+//! The canonical text of a geometry, put into a sink.
+
+ghost use Rattle.std.specs.Prelude.{◌≡◌, ◌++◌, codes, map, OnOk, OnErr};
+ghost use Rattle.std.specs.List.{concat};
+ghost use Rattle.std.specs.Option.{option_to_list};
+ghost use Rattle.std.specs.Io.KnownBytes.{Appends};
+ghost use Rattle.geometry_model.specs.CanonicalText.{canonical_text, point_text, position_text, tagged_text};
+ghost use Rattle.wkt.specs.Printing.{HoldsText};
+ghost use Rattle.wkt.specs.Sinks.{AppendsFront, CountsFailure};
+
+use crate::geometry::{Geometry, Shape};
+use crate::sink::{Sink, SinkFault, put_all, put_parts};
+use fraction::GridPoint;
+use itoa::Buffer;
+
+/// Puts the canonical text of a geometry: the type's name in capitals; ` EMPTY` for an empty one; else the positions
+/// in parentheses, with commas between, no white space but one space between x and y, numbers in shortest decimal
+/// form, and each point of a MULTIPOINT in parentheses (06-103r4, 7.2.2; which of its texts: profile). It takes no
+/// memory. At Err the sink failed, and a beginning of the text has been put.
+pub fn print<S: Sink>(geometry: &Geometry, sink: &mut S) -> Result<(), SinkFault>
+    ensures ok { OnOk result (Appends (S.taken sink.old) (S.taken sink.new) (canonical_text geometry.now)) }
+    ensures front { OnErr result (AppendsFront (S.taken sink.old) (S.taken sink.new) (canonical_text geometry.now)) }
+    ensures failures { CountsFailure (S.failures sink.old) (S.failures sink.new) result }
+    ensures spells { OnOk result (HoldsText (S.taken sink.old) (S.taken sink.new) geometry.now) }
+{
+    match geometry.shape() {
+        Shape::Point(position) => put_point(sink, *position),
+        Shape::MultiPoint(points) => put_multi_point(sink, points.as_slice()),
+    }
+}
+
+// Puts the text of the POINT at a position, or of the empty one.
+fn put_point<S: Sink>(sink: &mut S, position: Option<GridPoint>) -> Result<(), SinkFault>
+    ensures ok { OnOk result (Appends (S.taken sink.old) (S.taken sink.new) (tagged_text (codes "POINT") (map position_text (option_to_list position)))) }
+    ensures front { OnErr result (AppendsFront (S.taken sink.old) (S.taken sink.new) (tagged_text (codes "POINT") (map position_text (option_to_list position)))) }
+    ensures failures { CountsFailure (S.failures sink.old) (S.failures sink.new) result }
+{
+    match position {
+        None => put_all(sink, b"POINT EMPTY"),
+        Some(position) => put_position(sink, b"POINT(", &position, b")"),
+    }
+}
+
+// Puts the text of the MULTIPOINT of these points.
+fn put_multi_point<S: Sink>(sink: &mut S, points: &[GridPoint]) -> Result<(), SinkFault>
+    ensures ok { OnOk result (Appends (S.taken sink.old) (S.taken sink.new) (tagged_text (codes "MULTIPOINT") (map point_text points.now))) }
+    ensures front { OnErr result (AppendsFront (S.taken sink.old) (S.taken sink.new) (tagged_text (codes "MULTIPOINT") (map point_text points.now))) }
+    ensures failures { CountsFailure (S.failures sink.old) (S.failures sink.new) result }
+{
+    match points.split_first() {
+        None => put_all(sink, b"MULTIPOINT EMPTY"),
+        Some((first, more)) => {
+            put_position(sink, b"MULTIPOINT((", first, b")")?;
+            put_more_points(sink, more)?;
+            put_all(sink, b")")
+        }
+    }
+}
+
+// Puts the texts of these points of a MULTIPOINT, with a comma before each.
+fn put_more_points<S: Sink>(sink: &mut S, points: &[GridPoint]) -> Result<(), SinkFault>
+    ensures ok { OnOk result (Appends (S.taken sink.old) (S.taken sink.new) (concat (map (λ p. codes "," ++ point_text p) points.now))) }
+    ensures front { OnErr result (AppendsFront (S.taken sink.old) (S.taken sink.new) (concat (map (λ p. codes "," ++ point_text p) points.now))) }
+    ensures failures { CountsFailure (S.failures sink.old) (S.failures sink.new) result }
+{
+    for point in points {
+        put_position(sink, b",(", point, b")")?;
+    }
+    Ok(())
+}
+
+// Puts the numbers of a position, with these texts before and behind.
+fn put_position<'p, S: Sink>(
+    sink: &mut S,
+    before: &'p [u8],
+    position: &GridPoint,
+    behind: &'p [u8],
+) -> Result<(), SinkFault>
+    ensures ok { OnOk result (Appends (S.taken sink.old) (S.taken sink.new) (before.now ++ position_text position.now ++ behind.now)) }
+    ensures front { OnErr result (AppendsFront (S.taken sink.old) (S.taken sink.new) (before.now ++ position_text position.now ++ behind.now)) }
+    ensures failures { CountsFailure (S.failures sink.old) (S.failures sink.new) result }
+{
+    let mut x = Buffer::new();
+    let mut y = Buffer::new();
+    let x = x.format(position.x());
+    let y = y.format(position.y());
+    put_numbers(sink, before, x, y, behind)
+}
+
+// Puts two numbers with a space between, and these texts before and behind.
+fn put_numbers<'p, S: Sink>(
+    sink: &mut S,
+    before: &'p [u8],
+    x: &'p str,
+    y: &'p str,
+    behind: &'p [u8],
+) -> Result<(), SinkFault>
+    ensures ok { OnOk result (Appends (S.taken sink.old) (S.taken sink.new) (before.now ++ (x.now ++ codes " " ++ y.now) ++ behind.now)) }
+    ensures front { OnErr result (AppendsFront (S.taken sink.old) (S.taken sink.new) (before.now ++ (x.now ++ codes " " ++ y.now) ++ behind.now)) }
+    ensures failures { CountsFailure (S.failures sink.old) (S.failures sink.new) result }
+{
+    let parts = [before, x.as_bytes(), b" ", y.as_bytes(), behind];
+    put_parts(sink, &parts)
+}

@@ -1,0 +1,153 @@
+//! Texts of points: what each spells, or its fault.
+
+use crate::{MemorySink, WktFault, print, read};
+use geometry_model::GeometryType;
+use std::alloc::Global;
+use std::test::Fail;
+
+// A MULTIPOINT with this many positions (0, 0), and then another text.
+fn zeros_and(alloc: Global, count: usize, rest: &[u8]) -> Result<Vec<u8>, Fail> {
+    let mut text = Vec::new(alloc);
+    text.extend_from_slice(b"MULTIPOINT(")?;
+    for _turn in 0..count {
+        text.extend_from_slice(b"0 0,")?;
+    }
+    text.extend_from_slice(rest)?;
+    Ok(text)
+}
+
+#[test]
+fn texts_of_a_point(rt: HostRuntime) -> Result<(), Fail> {
+    for (text, x, y) in [
+        ("POINT(1 2)", 1, 2),
+        ("POINT(+1.00 01)", 1, 1),
+        ("POINT(1.0 2)", 1, 2),
+        ("POINT(1. .0)", 1, 0),
+        ("POINT(-0 -2)", 0, -2),
+        ("POINT(-100000 100000)", -100_000, 100_000),
+        ("POINT(000000000000000000000000000007 2)", 7, 2),
+        ("\r\n point\t( 1\n2 ) ", 1, 2),
+    ] {
+        let geometry = read(rt.alloc(), text.as_bytes())?;
+        assert_eq!(rt; geometry.geometry_type(), GeometryType::Point, "{text}");
+        assert_eq!(rt; geometry.listed().len(), 1, "{text}");
+        for position in geometry.listed() {
+            assert_eq!(rt; (position.x(), position.y()), (x, y), "{text}");
+        }
+    }
+    Ok(())
+}
+
+#[test]
+fn texts_of_points(rt: HostRuntime) -> Result<(), Fail> {
+    for (text, expected) in [
+        ("MULTIPOINT((1 2),(3 4))", [(1, 2), (3, 4)].as_slice()),
+        ("multipoint ( 3 4 )", &[(3, 4)]),
+        ("MULTIPOINT(1 1,1 1)", &[(1, 1), (1, 1)]),
+        ("MultiPoint( 1 2 , ( 3 4.0 ))", &[(1, 2), (3, 4)]),
+        ("MULTIPOINT EMPTY", &[]),
+    ] {
+        let geometry = read(rt.alloc(), text.as_bytes())?;
+        assert_eq!(rt;
+            geometry.geometry_type(),
+            GeometryType::MultiPoint,
+            "{text}"
+        );
+        assert_eq!(rt; geometry.listed().len(), expected.len(), "{text}");
+        for (position, wanted) in geometry.listed().iter().zip(expected) {
+            assert_eq!(rt; (position.x(), position.y()), *wanted, "{text}");
+        }
+    }
+    Ok(())
+}
+
+#[test]
+fn no_point(rt: HostRuntime) -> Result<(), Fail> {
+    for text in ["POINT EMPTY", " Point\tEmpty\n"] {
+        let geometry = read(rt.alloc(), text.as_bytes())?;
+        assert_eq!(rt; geometry.geometry_type(), GeometryType::Point, "{text}");
+        assert!(rt; geometry.is_empty(), "{text}");
+    }
+    Ok(())
+}
+
+#[test]
+fn canonical_texts(rt: HostRuntime) -> Result<(), Fail> {
+    for (text, canonical) in [
+        ("POINT(+1.00 01)", "POINT(1 1)"),
+        ("point ( -0 -2. )", "POINT(0 -2)"),
+        ("multipoint ( 3 4 )", "MULTIPOINT((3 4))"),
+        ("MULTIPOINT(1 1,1 1)", "MULTIPOINT((1 1),(1 1))"),
+        ("MultiPoint\tempty", "MULTIPOINT EMPTY"),
+    ] {
+        let mut sink = MemorySink::new(rt.alloc());
+        print(&read(rt.alloc(), text.as_bytes())?, &mut sink)?;
+        assert_eq!(rt; sink.bytes(), canonical.as_bytes(), "{text}");
+    }
+    Ok(())
+}
+
+#[test]
+fn texts_that_are_refused(rt: HostRuntime) {
+    for (text, fault) in [
+        ("", WktFault::Syntax(0)),
+        ("POIN", WktFault::Syntax(0)),
+        ("  CIRCLE(1 2)", WktFault::Syntax(2)),
+        ("LINESTRING EMPTY", WktFault::Syntax(0)),
+        (" multilinestring((0 0,1 1))", WktFault::Syntax(1)),
+        ("Polygon EMPTY", WktFault::Syntax(0)),
+        ("pointempty", WktFault::Syntax(0)),
+        ("POINT EMPT", WktFault::Syntax(6)),
+        ("POINT(1 2", WktFault::Syntax(9)),
+        ("POINT(1e0 2)", WktFault::Syntax(7)),
+        ("POINT(-", WktFault::Syntax(6)),
+        ("POINT(1 .)", WktFault::Syntax(8)),
+        ("POINT(1-2)", WktFault::Syntax(7)),
+        ("POINT(1.0.5 2)", WktFault::Syntax(9)),
+        ("POINT(1 2 3)", WktFault::Syntax(10)),
+        ("POINT((1 2))", WktFault::Syntax(6)),
+        ("POINT()", WktFault::Syntax(6)),
+        ("MULTIPOINT(EMPTY)", WktFault::Syntax(11)),
+        ("MULTIPOINT(1 2,)", WktFault::Syntax(15)),
+        ("MULTIPOINT((1 2)(3 4))", WktFault::Syntax(16)),
+        ("POINT EMPTY x", WktFault::Syntax(12)),
+        ("POINT(1 2);", WktFault::Syntax(10)),
+        ("PÖINT(1 2)", WktFault::Syntax(0)),
+        ("POINT(1\u{a0}2)", WktFault::Syntax(7)),
+        ("POINT(1.5 2)", WktFault::OffGrid(6)),
+        ("POINT(1 -0.001)", WktFault::OffGrid(8)),
+        ("POINT(100001.5 0)", WktFault::OffGrid(6)),
+        ("POINT(100001 0)", WktFault::OutOfRange(6)),
+        ("POINT(-100001.0 0)", WktFault::OutOfRange(6)),
+        (
+            "MULTIPOINT(0 18446744073709551616,1.5 2)",
+            WktFault::OutOfRange(13),
+        ),
+    ] {
+        assert_eq!(rt;
+            read(rt.alloc(), text.as_bytes()).err(),
+            Some(fault),
+            "{text}"
+        );
+    }
+}
+
+#[test]
+fn counted_positions(rt: HostRuntime) -> Result<(), Fail> {
+    let most = zeros_and(rt.alloc(), 9_999, b"0 0)")?;
+    assert_eq!(rt; read(rt.alloc(), most.as_slice())?.listed().len(), 10_000);
+    for (rest, fault) in [
+        ("0 0)", WktFault::TooLong),
+        ("1.5 0)", WktFault::TooLong),
+        ("(100001 0))", WktFault::TooLong),
+        (")", WktFault::Syntax(40_011)),
+    ] {
+        let text = zeros_and(rt.alloc(), 10_000, rest.as_bytes())?;
+        assert_eq!(rt;
+            read(rt.alloc(), text.as_slice()).err(),
+            Some(fault),
+            "{rest}"
+        );
+    }
+    Ok(())
+}
