@@ -8,10 +8,10 @@ use Rattle.spatial_sql.proofs.SchemaSound.{Took, one, seq, but, skip, same, word
 use Rattle.table_model.specs.Definitions.{is_integer}
 use Rattle.table_model.specs.Outcomes.{Gives}
 use Rattle.table_model.specs.Parsers.{Outcome, kind, place, spelling, next, sees, after, and_then, ◌>>=◌, pure, expect}
-use Rattle.table_model.specs.QueryGrammar.{Phrase, IsToken, ◌▸◌, IsParts}
+use Rattle.table_model.specs.QueryGrammar.{Phrase, IsToken, ◌▸◌, IsParts, AreEnded}
 use Rattle.table_model.specs.SchemaGrammar.{IsWord, IsNamed, IsType, IsNotNull, IsPrimaryKey, IsMark, AreMarks, Marked}
 use Rattle.table_model.specs.SchemaReading.{Reader, sees_word, expect_word, sees_name, new_name, type_named, type_or, column_type, null_mark, key_mark, marks, has_column, column, is_there, key_after, columns_from, columns, closed, close, has_table, most_bytes, table_name, table, goes_on, tables_from, all_tables, schema, schema_of, value_of}
-use Rattle.table_model.specs.SchemaRefusals.{Written, IsColumn, IsCreateTable, IsWritten, AreEnded, BeforeTable, BeforeColumns, BeforeColumn, BeforeKey, BeforeClose, has_key, is_among, names_of, is_at_token, StandsAt, StandsIn, StandsInSchema}
+use Rattle.table_model.specs.SchemaRefusals.{Written, IsColumn, IsCreateTable, IsWritten, BeforeTable, BeforeColumns, BeforeColumn, BeforeKey, BeforeClose, has_key, is_among, names_of, is_at_token, StandsAt, StandsIn, StandsInSchema}
 use Rattle.table_model.specs.Texts.{same_name}
 use Rattle.table_model.specs.Tokens.{tokens}
 use Rattle.table_model.specs.declared.definitions.ColumnType.{ColumnType}

@@ -8,3 +8,4 @@ pub mod QuerySound
 pub mod TokensEnd
 pub mod QueryLaws
 pub mod QueryComplete
+pub mod QueryRefused

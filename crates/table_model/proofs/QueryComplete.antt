@@ -24,7 +24,7 @@ use Rattle.table_model.specs.declared.tokens.Token.{Token}
 use Rattle.table_model.specs.declared.tokens.TokenKind.{TokenKind}
 use Rattle.table_model.specs.declared.tokens.TokenKind.TheVariants as k
 use Rattle.table_model.specs.Parsers.{kind, place, spelling, next, written, sees, after, and_then, expect, parts_from}
-use Rattle.table_model.specs.QueryGrammar.{Phrase, IsOne, IsToken, ◌▸◌, IsOptional, IsParts, IsName, IsColumn, IsDigits, IsInteger, IsString, IsWord, IsCall, IsGeometry, IsOperandFunction, IsOperand, IsComparison, function_of, IsPair, IsBool, IsNumber, IsTest, IsPredicate, IsChain, IsConjunction, IsConditionOf, IsNegation, IsCondition, IsItemFunction, IsItem, IsSelection, IsReference, IsCrossed, IsJoined, IsSecond, IsWhere, IsExplain, IsSelect}
+use Rattle.table_model.specs.QueryGrammar.{Phrase, IsOne, IsToken, ◌▸◌, IsOptional, IsParts, IsName, IsColumn, IsDigits, IsInteger, IsString, IsWord, IsCall, IsGeometry, IsOperandFunction, IsOperand, IsComparison, function_of, IsPair, IsBool, IsNumber, IsTest, IsPredicate, IsChain, IsConjunction, IsConditionOf, IsNegationOf, IsNegation, IsCondition, IsItemFunction, IsItem, IsSelection, IsReference, IsCrossed, IsJoined, IsSecond, IsWhere, IsExplain, IsSelect}
 use Rattle.table_model.specs.QueryReading.{Reader, Functions, name, column, calls, called_or, enclosed, string, geometry, integer, operand_functions, operand, comparison_of, compared, null_test, comparison, truth_value, truth_test, tested, relates, relates_by, predicate_functions, predicate, chain, conjunction, condition_of, group, negation, condition, item_functions, item, items, selection, alias, reference, Second, crossed, joined_on, second, where_condition, says, explained, query}
 use Rattle.table_model.specs.Served.{Served, Argument, ItemArgument, ServedOperand, ServedCond, ServedItem, ServedQuery}
 use Rattle.table_model.specs.Texts.{same_name}
@@ -819,7 +819,7 @@ predicate_alone functions levels x used t rest p f =
     negation_predicate functions levels (used ++ t ∷ rest) unseen.0 unseen.1 ∙ predicate_complete functions x used t rest p f
 
 negation_complete : (functions : Bool) (levels : ℕ) → Complete (negation functions levels) (IsNegation functions levels) EndsPredicate
-unfolding IsNegation
+unfolding IsNegationOf
 negation_complete functions zero x used t rest p f = predicate_alone functions 0 x used t rest p f
 negation_complete functions (suc levels) x used t rest (inl (y, ex, p)) f = nested_not functions levels x y used t rest ex (negation_complete functions levels) f (one_first _ (IsNegation functions levels y) used p)
 negation_complete functions (suc levels) x used t rest (inr (inl p)) f =

@@ -27,7 +27,7 @@ use Rattle.table_model.specs.declared.tokens.Token.{Token}
 use Rattle.table_model.specs.declared.tokens.TokenKind.{TokenKind}
 use Rattle.table_model.specs.declared.tokens.TokenKind.TheVariants as k
 use Rattle.table_model.specs.Parsers.{Outcome, kind, place, spelling, next, written, sees, after, and_then, expect, parts_from, parts}
-use Rattle.table_model.specs.QueryGrammar.{Phrase, IsOne, IsToken, ◌▸◌, IsOptional, IsParts, IsName, IsColumn, IsDigits, IsInteger, IsString, IsWord, IsCall, IsGeometry, IsOperandFunction, IsOperand, IsComparison, function_of, IsPair, IsBool, IsNumber, IsTest, IsPredicate, IsChain, IsConjunction, IsConditionOf, IsNegation, IsCondition, IsItem, IsSelection, IsReference, IsSecond, IsWhere, IsExplain, IsSelect}
+use Rattle.table_model.specs.QueryGrammar.{Phrase, IsOne, IsToken, ◌▸◌, IsOptional, IsParts, IsName, IsColumn, IsDigits, IsInteger, IsString, IsWord, IsCall, IsGeometry, IsOperandFunction, IsOperand, IsComparison, function_of, IsPair, IsBool, IsNumber, IsTest, IsPredicate, IsChain, IsConjunction, IsConditionOf, IsNegationOf, IsNegation, IsCondition, IsItem, IsSelection, IsReference, IsSecond, IsWhere, IsExplain, IsSelect}
 use Rattle.table_model.specs.QueryReading.{Reader, Functions, name, column, calls, called_or, enclosed, string, geometry, integer, integer_value, integer_or, operand_functions, operand, comparison_of, compared, compared_by, null_test, comparison, truth_value, truth_test, tested, relates, relates_by, predicate_functions, predicate, chain, conjunction, condition_of, group, negation, condition, item_functions, item, items, selection, alias, reference, Second, crossed, joined_on, second, where_condition, says, analyzed, explained, query}
 use Rattle.table_model.specs.Served.{Served, Argument, ItemArgument, ServedOperand, ServedCond, ServedItem, ServedQuery}
 use Rattle.table_model.specs.Texts.{same_name}
@@ -73,23 +73,23 @@ eaten wanted ts p q Q f g = eaten_by (sees wanted ts) ts p q Q f g
 
 -- ---- what was taken
 
-same : (a b : TokenKind) → same_kind a b ≡ true → a ≡ b
+pub same : (a b : TokenKind) → same_kind a b ≡ true → a ≡ b
 unfolding same_kind
 same a b h = same_true the_type (search rules) a b h
 
-one : (wanted : TokenKind) (ts : List Token) → (k.Bad ≡ wanted → ⊥) → sees wanted ts ≡ true → Took ts (IsToken wanted) (next ts)
+pub one : (wanted : TokenKind) (ts : List Token) → (k.Bad ≡ wanted → ⊥) → sees wanted ts ≡ true → Took ts (IsToken wanted) (next ts)
 unfolding sees kind next
 one wanted [] good h = absurd (good (same k.Bad wanted h))
 one wanted (t ∷ ts) good h = (t ∷ [], refl, same t.kind wanted h)
 
-seq : (P Q : Phrase) (ts mid rest : List Token) → Took ts P mid → Took mid Q rest → Took ts (P ▸ Q) rest
+pub seq : (P Q : Phrase) (ts mid rest : List Token) → Took ts P mid → Took mid Q rest → Took ts (P ▸ Q) rest
 seq P Q ts mid rest p q =
     (p.0 ++ q.0, p.1 ∙ ap (λ r. p.0 ++ r) q.1 ∙ sym (append_assoc p.0 q.0 rest), (p.0, q.0, refl, p.2, q.2))
 
-but : (P R : Phrase) (ts rest : List Token) → Took ts P rest → ((used : List Token) → P used → R used) → Took ts R rest
+pub but : (P R : Phrase) (ts rest : List Token) → Took ts P rest → ((used : List Token) → P used → R used) → Took ts R rest
 but P R ts rest p f = (p.0, p.1, f p.0 p.2)
 
-expect_sound : (wanted : TokenKind) (ts : List Token) → (k.Bad ≡ wanted → ⊥) → IfRead (expect fault.Syntax wanted ts) (λ x rest. Took ts (IsToken wanted) rest)
+pub expect_sound : (wanted : TokenKind) (ts : List Token) → (k.Bad ≡ wanted → ⊥) → IfRead (expect fault.Syntax wanted ts) (λ x rest. Took ts (IsToken wanted) rest)
 unfolding expect
 expect_sound wanted ts good = if_read (sees wanted ts) _ _ _ (λ h. one wanted ts good h) (λ _. tt)
 
@@ -337,7 +337,7 @@ TookCompared functions at left ts x rest =
 abbrev pub TookNull : {A : Type 0} → WrittenOperand A → List Token → WrittenCond A → List Token → Type 0
 TookNull left ts x rest = ((x ≡ c.IsNull left) × Took ts (IsToken k.Null) rest) ⊎ ((x ≡ c.Not (c.IsNull left)) × Took ts (IsToken k.Not ▸ IsToken k.Null) rest)
 
-comparison_taken : (ts : List Token) (comparison : Comparison) → comparison_of (kind ts) ≡ Some comparison → Took ts (IsComparison comparison) (next ts)
+pub comparison_taken : (ts : List Token) (comparison : Comparison) → comparison_of (kind ts) ≡ Some comparison → Took ts (IsComparison comparison) (next ts)
 unfolding kind next
 comparison_taken [] comparison h = absurd (cc)
 comparison_taken (t ∷ ts) comparison h = (t ∷ [], refl, h)
@@ -559,7 +559,7 @@ parts_sound {A} between part P good sound (suc n) found ts = then_read (part ts)
     (λ _. (x, [], refl, took)))
     (sound ts)
 
-chain_sound : {A : Type 0} (between : TokenKind) (join : List (WrittenCond A) → WrittenCond A) (part : Reader (WrittenCond A)) (P : WrittenCond A → Phrase)
+pub chain_sound : {A : Type 0} (between : TokenKind) (join : List (WrittenCond A) → WrittenCond A) (part : Reader (WrittenCond A)) (P : WrittenCond A → Phrase)
     → (k.Bad ≡ between → ⊥) → Sound part P → Sound (chain between join part) (IsChain between join P)
 chain_sound {A} between join part P good sound ts = then_read (part ts) _ (λ x rest. Took ts (P x) rest) (λ x rest. Took ts (IsChain between join P x) rest)
     (λ first mid took. eaten between mid _ _ (λ x rest. Took ts (IsChain between join P x) rest)
@@ -574,7 +574,7 @@ chain_sound {A} between join part P good sound ts = then_read (part ts) _ (λ x 
     (λ _. but _ _ ts mid took (λ used p. inl p)))
     (sound ts)
 
-condition_of_sound : {A : Type 0} (part : Reader (WrittenCond A)) (P : WrittenCond A → Phrase) → Sound part P → Sound (condition_of part) (IsConditionOf P)
+pub condition_of_sound : {A : Type 0} (part : Reader (WrittenCond A)) (P : WrittenCond A → Phrase) → Sound part P → Sound (condition_of part) (IsConditionOf P)
 condition_of_sound part P sound = chain_sound k.Or c.Or (conjunction part) (IsConjunction P) (λ e. cc) (chain_sound k.And c.And part P (λ e. cc) sound)
 
 group_sound : {A : Type 0} (part : Reader (WrittenCond A)) (P : WrittenCond A → Phrase) → Sound part P → Sound (group part) (λ x. IsConditionOf P x ▸ IsToken k.RightParenthesis)
@@ -584,8 +584,8 @@ group_sound part P sound ts = then_read (condition_of part ts) _ (λ x rest. Too
     (expect_sound k.RightParenthesis mid (λ e. cc)))
     (condition_of_sound part P sound ts)
 
-negation_sound : (functions : Bool) (levels : ℕ) → Sound (negation functions levels) (IsNegation functions levels)
-unfolding negation IsNegation
+pub negation_sound : (functions : Bool) (levels : ℕ) → Sound (negation functions levels) (IsNegation functions levels)
+unfolding negation IsNegationOf
 negation_sound functions zero ts =
     if_read (sees k.Not ts || sees k.LeftParenthesis ts) _ _ (λ x rest. Took ts (IsPredicate functions x) rest) (λ _. tt) (λ _. predicate_sound functions ts)
 negation_sound functions (suc levels) ts =
@@ -625,7 +625,7 @@ item_sound functions ts = called_sound (item_functions functions (place ts)) _ t
     (map_read _ (λ x rest. Took ts (IsMade i.Column IsColumn x) rest) (λ x rest. Took ts (IsItem functions x) rest)
     (λ x rest q. but _ _ ts rest q (λ used p. inl p)) (made_sound i.Column column IsColumn ts column_sound))
 
-selection_sound : (functions : Bool) → Sound (selection functions) (IsSelection functions)
+pub selection_sound : (functions : Bool) → Sound (selection functions) (IsSelection functions)
 unfolding selection
 selection_sound functions ts =
     let Q : Selection (ItemArgument functions) → List Token → Type 0 = λ x rest. Took ts (IsSelection functions x) rest in
@@ -660,14 +660,14 @@ reference_taken table (Some given) ts mid rest p (used, e, inl q) = but _ _ ts r
 reference_taken table (Some given) ts mid rest p (used, e, inr q) =
     but _ _ ts rest (seq (IsName table) (IsToken k.As ▸ IsName given) ts mid rest p (used, e, q)) (λ used h. inr (inr (table, given, refl, h)))
 
-reference_sound : Sound reference IsReference
+pub reference_sound : Sound reference IsReference
 unfolding reference
 reference_sound ts = then_read (name ts) _ (λ x rest. Took ts (IsName x) rest) (λ x rest. Took ts (IsReference x) rest)
     (λ table mid p. then_read (alias mid) _ (λ x rest. Took mid (IsAlias x) rest) (λ x rest. Took ts (IsReference x) rest)
     (λ given rest q. reference_taken table given ts mid rest p q) (alias_sound mid))
     (name_sound ts)
 
-optional : (wanted : TokenKind) (ts : List Token) → (k.Bad ≡ wanted → ⊥) → Took ts (IsOptional wanted) (after wanted ts)
+pub optional : (wanted : TokenKind) (ts : List Token) → (k.Bad ≡ wanted → ⊥) → Took ts (IsOptional wanted) (after wanted ts)
 unfolding after
 optional wanted ts good = go (sees wanted ts) refl
   where
@@ -710,7 +710,7 @@ joined_sound functions ts =
     (reference_sound ts1))
     (expect_sound k.Join ts (λ e. cc))
 
-second_sound : (served : Served) → Sound (second served) (IsBoth served)
+pub second_sound : (served : Served) → Sound (second served) (IsBoth served)
 second_sound served ts =
     let F : Bool = served.functions in
     let Q : Second F → List Token → Type 0 = λ both rest. Took ts (IsBoth served both) rest in
@@ -749,7 +749,7 @@ analyzed_sound served ts e h =
     (λ used p. inr (inr (e, and_left _ _ h2, refl, p))))
     (λ _. but _ _ ts (next ts) (says_taken (codes "EXPLAIN") ts h) (λ used p. inr (inl (e, refl, p))))
 
-explained_sound : (served : Served) → Sound (explained served) (IsExplain served)
+pub explained_sound : (served : Served) → Sound (explained served) (IsExplain served)
 explained_sound served ts =
     if_read (served.explain && says (codes "EXPLAIN") ts) _ _ (λ told rest. Took ts (IsExplain served told) rest)
     (λ h. analyzed_sound served ts (and_left _ _ h) (and_right _ _ h)) (λ _. ([], refl, inl (refl, refl)))

@@ -13,6 +13,7 @@ pub mod Databases
 pub mod Served
 pub mod QueryReading
 pub mod QueryGrammar
+pub mod QueryRefusals
 pub mod QueryLaws
 pub mod QueryExamples
 pub mod SchemaReading

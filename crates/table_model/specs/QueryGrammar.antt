@@ -62,6 +62,11 @@ abbrev pub IsParts : {A : Type 0} → TokenKind → (A → Phrase) → A → Lis
 IsParts between P x [] = P x
 IsParts between P x (y ∷ ys) = P x ▸ IsToken between ▸ IsParts between P y ys
 
+-- things with another behind each (profile)
+abbrev pub AreEnded : {A : Type 0} → Phrase → (A → Phrase) → List A → Phrase
+AreEnded end P [] = λ ts. ts ≡ []
+AreEnded end P (x ∷ xs) = P x ▸ end ▸ AreEnded end P xs
+
 -- ---- names, columns and operands
 
 -- a name is a word that isn't reserved (profile)
@@ -162,14 +167,18 @@ IsTest bool x ts =
     ⊎ ((x ≡ bool) × (IsToken k.Equal ▸ IsNumber 1) ts)
     ⊎ ((x ≡ c.Not bool) × (IsToken k.Equal ▸ IsNumber 0) ts)
 
--- pred = operand cmp operand | operand 'IS' 'NOT'? 'NULL' | bool ('=' ('1' | '0'))? (profile)
-abbrev pub IsPredicate : (functions : Bool) → ServedCond functions → Phrase
-IsPredicate functions x ts =
+-- pred = operand cmp operand | operand 'IS' 'NOT'? 'NULL' | bool ('=' ('1' | '0'))?, for a rule of operands (profile)
+abbrev pub IsPredicateOf : (functions : Bool) → (ServedOperand functions → Phrase) → ServedCond functions → Phrase
+IsPredicateOf functions P x ts =
     ((comparison : Comparison) × (left right : ServedOperand functions) × (x ≡ c.Compare (place ts) comparison left right)
-    × (IsOperand functions left ▸ IsComparison comparison ▸ IsOperand functions right) ts)
-    ⊎ ((operand : ServedOperand functions) × (x ≡ c.IsNull operand) × (IsOperand functions operand ▸ IsToken k.Is ▸ IsToken k.Null) ts)
-    ⊎ ((operand : ServedOperand functions) × (x ≡ c.Not (c.IsNull operand)) × (IsOperand functions operand ▸ IsToken k.Is ▸ IsToken k.Not ▸ IsToken k.Null) ts)
+    × (P left ▸ IsComparison comparison ▸ P right) ts)
+    ⊎ ((operand : ServedOperand functions) × (x ≡ c.IsNull operand) × (P operand ▸ IsToken k.Is ▸ IsToken k.Null) ts)
+    ⊎ ((operand : ServedOperand functions) × (x ≡ c.Not (c.IsNull operand)) × (P operand ▸ IsToken k.Is ▸ IsToken k.Not ▸ IsToken k.Null) ts)
     ⊎ ((bool : ServedCond functions) × (IsBool functions bool ▸ IsTest bool x) ts)
+
+-- pred, of operands (profile)
+abbrev pub IsPredicate : (functions : Bool) → ServedCond functions → Phrase
+IsPredicate functions = IsPredicateOf functions (IsOperand functions)
 
 -- ---- conditions
 
@@ -186,13 +195,17 @@ IsConjunction = IsChain k.And c.And
 abbrev pub IsConditionOf : {A : Type 0} → (WrittenCond A → Phrase) → WrittenCond A → Phrase
 IsConditionOf P = IsChain k.Or c.Or (IsConjunction P)
 
--- neg = 'NOT' neg | '(' cond ')' | pred, where so many NOT and parentheses may nest (profile)
-unfoldable pub IsNegation : (functions : Bool) → ℕ → ServedCond functions → Phrase
-IsNegation functions zero x ts = IsPredicate functions x ts
-IsNegation functions (suc levels) x ts =
-    ((y : ServedCond functions) × (x ≡ c.Not y) × (IsToken k.Not ▸ IsNegation functions levels y) ts)
-    ⊎ (IsToken k.LeftParenthesis ▸ IsConditionOf (IsNegation functions levels) x ▸ IsToken k.RightParenthesis) ts
-    ⊎ IsPredicate functions x ts
+-- neg = 'NOT' neg | '(' cond ')' | pred, where so many NOT and parentheses may nest, for a rule of predicates (profile)
+unfoldable pub IsNegationOf : {A : Type 0} → (WrittenCond A → Phrase) → ℕ → WrittenCond A → Phrase
+IsNegationOf P zero x ts = P x ts
+IsNegationOf {A} P (suc levels) x ts =
+    ((y : WrittenCond A) × (x ≡ c.Not y) × (IsToken k.Not ▸ IsNegationOf P levels y) ts)
+    ⊎ (IsToken k.LeftParenthesis ▸ IsConditionOf (IsNegationOf P levels) x ▸ IsToken k.RightParenthesis) ts
+    ⊎ P x ts
+
+-- neg, of predicates (profile)
+abbrev pub IsNegation : (functions : Bool) → ℕ → ServedCond functions → Phrase
+IsNegation functions = IsNegationOf (IsPredicate functions)
 
 -- a condition in which NOT and parentheses nest to 64 levels at most (profile)
 abbrev pub IsCondition : (functions : Bool) → ServedCond functions → Phrase

@@ -5,7 +5,7 @@ use Rattle.std.specs.Prelude.{◌≡◌, ◌≤◌, ◌<◌, ◌⊎◌, ℕ, Boo
 use Rattle.std.specs.List.{list_any}
 use Rattle.table_model.specs.Definitions.{is_integer}
 use Rattle.table_model.specs.Outcomes.{Gives}
-use Rattle.table_model.specs.QueryGrammar.{Phrase, IsToken, ◌▸◌, IsParts}
+use Rattle.table_model.specs.QueryGrammar.{Phrase, IsToken, ◌▸◌, IsParts, AreEnded}
 use Rattle.table_model.specs.SchemaGrammar.{IsWord, IsNamed, IsType, IsNotNull, IsMark, Marked, IsMarked}
 use Rattle.table_model.specs.SchemaReading.{most_bytes, most_columns, most_tables}
 use Rattle.table_model.specs.Texts.{same_name}
@@ -38,11 +38,6 @@ IsWritten {T} geometry table ts =
     × (IsCreateTable ▸ IsNamed table.0 ▸ IsToken k.LeftParenthesis ▸ IsParts k.Comma (IsColumn geometry) first more ▸ IsToken k.RightParenthesis) ts
 
 -- ---- fronts of it
-
--- tables, or columns, with a token behind each (profile)
-abbrev pub AreEnded : {A : Type 0} → Phrase → (A → Phrase) → List A → Phrase
-AreEnded end P [] = λ ts. ts ≡ []
-AreEnded end P (x ∷ xs) = P x ▸ end ▸ AreEnded end P xs
 
 -- what stands before the name of a table, after these tables (profile)
 abbrev pub BeforeTable : {T : Type 0} → (List ℕ → Option T) → List (Written T) → Phrase
