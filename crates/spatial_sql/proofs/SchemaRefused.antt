@@ -13,6 +13,7 @@ use Rattle.table_model.specs.SchemaGrammar.{IsWord, IsNamed, IsType, IsNotNull, 
 use Rattle.table_model.specs.SchemaReading.{Reader, sees_word, expect_word, sees_name, new_name, type_named, type_or, column_type, null_mark, key_mark, marks, has_column, column, is_there, key_after, columns_from, columns, closed, close, has_table, most_bytes, table_name, table, goes_on, tables_from, all_tables, schema, schema_of, value_of}
 use Rattle.table_model.specs.SchemaRefusals.{Written, IsColumn, IsCreateTable, IsWritten, BeforeTable, BeforeColumns, BeforeColumn, BeforeKey, BeforeClose, has_key, is_among, names_of, is_at_token, StandsAt, StandsIn, StandsInSchema}
 use Rattle.table_model.specs.Texts.{same_name}
+use Rattle.table_model.proofs.QueryRefused.{ended_more}
 use Rattle.table_model.specs.Tokens.{tokens}
 use Rattle.table_model.specs.declared.definitions.ColumnType.{ColumnType}
 use Rattle.table_model.specs.declared.definitions.ColumnDef.{ColumnDef}
@@ -244,13 +245,6 @@ column_answers geometry all tables name m ts few stood =
     (name_answers geometry all P (nat_le 32 (length (firsts m))) (has_column (firsts m)) ts stood (column_may geometry tables name m few))
 
 -- ---- lists
-
--- one more, with the token behind it
-ended_more : {A : Type 0} (end : Phrase) (P : A → Phrase) (xs : List A) (x : A) (used more : List Token) → AreEnded end P xs used → (P x ▸ end) more
-    → AreEnded end P (xs ++ x ∷ []) (used ++ more)
-ended_more end P [] x used more none (a, b, e, p, q) = (a, b, ap (λ l. l ++ more) none ∙ e, p, (b, [], sym (append-nil b), q, refl))
-ended_more end P (y ∷ xs) x used more (a, b, e, p, (c, d, e2, q, h)) last =
-    (a, b ++ more, ap (λ l. l ++ more) e ∙ append_assoc a b more, p, (c, d ++ more, ap (λ l. l ++ more) e2 ∙ append_assoc c d more, q, ended_more end P xs x d more h last))
 
 -- the last, without one
 abbrev AreParts : {A : Type 0} → TokenKind → (A → Phrase) → List A → Phrase

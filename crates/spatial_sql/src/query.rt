@@ -1,10 +1,11 @@
 //! Reads queries.
 
-ghost use Rattle.std.specs.Prelude.{◌≡◌, IfOk};
+ghost use Rattle.std.specs.Prelude.{◌≡◌, IfErr, IfOk};
 ghost use Rattle.table_model.specs.Outcomes.{Gives};
 ghost use Rattle.table_model.specs.Parsers.{Reads};
 ghost use Rattle.table_model.specs.QueryGrammar.{AnswersQuery, IsQuery};
 ghost use Rattle.table_model.specs.QueryReading as spec;
+ghost use Rattle.table_model.specs.QueryRefusals.{AnswersFirst, StandsInQuery};
 ghost use Rattle.spatial_sql.specs.Language.{language};
 
 use crate::Query;
@@ -166,6 +167,8 @@ fn read<'a>(alloc: Global, text: &'a str) -> Result<Query<'a>, QueryFault>
 pub fn read_query<'a>(alloc: Global, text: &'a str) -> Result<Query<'a>, QueryFault>
     ensures ok { IfOk result (λ q. IsQuery language text.now q) }
     ensures only { AnswersQuery language text.now result }
+    ensures first { AnswersFirst language text.now result }
+    ensures stands { IfErr result (λ fault. StandsInQuery language text.now fault) }
     ensures exact { Gives QueryFault.OutOfMemory (λ q. q) result (spec.query_of language text.now) }
 {
     read(alloc, text)

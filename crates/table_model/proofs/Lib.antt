@@ -9,3 +9,4 @@ pub mod TokensEnd
 pub mod QueryLaws
 pub mod QueryComplete
 pub mod QueryRefused
+pub mod QueryFirst

@@ -37,33 +37,33 @@ Complete {A} p P Follows = (x : A) (used : List Token) (t : Token) (rest : List 
 
 -- ---- kinds and first tokens
 
-same_itself : (known : TokenKind) → same_kind known known ≡ true
+pub same_itself : (known : TokenKind) → same_kind known known ≡ true
 unfolding same_kind
 same_itself k.Word = refl
 same_itself _ = refl
 
-is_kind : (kind known : TokenKind) → kind ≡ known → same_kind kind known ≡ true
+pub is_kind : (kind known : TokenKind) → kind ≡ known → same_kind kind known ≡ true
 is_kind kind known e = rw e (same_itself known)
 
-one_first : (P : Token → Type 0) (Q : Phrase) (ts : List Token) → (IsOne P ▸ Q) ts → (m : Token) × (d : List Token) × (ts ≡ m ∷ d) × P m × Q d
+pub one_first : (P : Token → Type 0) (Q : Phrase) (ts : List Token) → (IsOne P ▸ Q) ts → (m : Token) × (d : List Token) × (ts ≡ m ∷ d) × P m × Q d
 one_first P Q ts ([], d, e, p, q) = absurd p
 one_first P Q ts (m ∷ [], d, e, p, q) = (m, d, e, p, q)
 one_first P Q ts (m ∷ n ∷ more, d, e, p, q) = absurd p
 
-one_last : (P : Phrase) (Q : Token → Type 0) (ts : List Token) → (P ▸ IsOne Q) ts → (a : List Token) × (m : Token) × (ts ≡ a ++ m ∷ []) × P a × Q m
+pub one_last : (P : Phrase) (Q : Token → Type 0) (ts : List Token) → (P ▸ IsOne Q) ts → (a : List Token) × (m : Token) × (ts ≡ a ++ m ∷ []) × P a × Q m
 one_last P Q ts (a, [], e, p, q) = absurd q
 one_last P Q ts (a, m ∷ [], e, p, q) = (a, m, e, p, q)
 one_last P Q ts (a, m ∷ n ∷ more, e, p, q) = absurd q
 
-one_only : (P : Token → Type 0) (ts : List Token) → IsOne P ts → (n : Token) × (ts ≡ n ∷ []) × P n
+pub one_only : (P : Token → Type 0) (ts : List Token) → IsOne P ts → (n : Token) × (ts ≡ n ∷ []) × P n
 one_only P [] p = absurd p
 one_only P (n ∷ []) p = (n, refl, p)
 one_only P (n ∷ v ∷ more) p = absurd p
 
-split : (used a b d tail : List Token) (m : Token) → used ≡ a ++ b → b ≡ m ∷ d → used ++ tail ≡ a ++ m ∷ (d ++ tail)
+pub split : (used a b d tail : List Token) (m : Token) → used ≡ a ++ b → b ≡ m ∷ d → used ++ tail ≡ a ++ m ∷ (d ++ tail)
 split used a b d tail m e f = ap (λ l. l ++ tail) e ∙ append_assoc a b tail ∙ ap (λ l. a ++ (l ++ tail)) f
 
-kind_after : (known : TokenKind) (used tail : List Token) → Begins (λ kind. kind ≡ known) used → kind (used ++ tail) ≡ known
+pub kind_after : (known : TokenKind) (used tail : List Token) → Begins (λ kind. kind ≡ known) used → kind (used ++ tail) ≡ known
 unfolding kind
 kind_after known used tail (t, more, e, f) = rw e f
 
@@ -81,7 +81,7 @@ name_complete x [] t rest p f = absurd p
 name_complete x (u ∷ []) t rest (word, is) f = rw (is_kind u.kind k.Word word, f, is) refl
 name_complete x (u ∷ v ∷ more) t rest p f = absurd p
 
-ends_by : (F : TokenKind → Type 0) (kind known : TokenKind) → kind ≡ known → F known → F kind
+pub ends_by : (F : TokenKind → Type 0) (kind known : TokenKind) → kind ≡ known → F known → F kind
 ends_by F kind known e h = subst F (sym e) h
 
 qualified_complete : (first second : Name) (a d : List Token) (m t : Token) (rest : List Token) → IsName first a → m.kind ≡ k.Point → IsName second d → EndsColumn t.kind
@@ -130,11 +130,11 @@ uncalled : (function : List ℕ) (ts : List Token) → sees k.LeftParenthesis (n
 unfolding calls
 uncalled function ts e = and_none (sees k.Word ts) (sees k.LeftParenthesis (next ts)) (same_name (spelling ts) function) e
 
-unnamed : (function : List ℕ) (ts : List Token) → sees k.Word ts ≡ false → calls function ts ≡ false
+pub unnamed : (function : List ℕ) (ts : List Token) → sees k.Word ts ≡ false → calls function ts ≡ false
 unfolding calls
 unnamed function ts e = rw e refl
 
-none_called : {A : Type 0} (functions : Functions A) (other : Reader A) (ts : List Token) → ((function : List ℕ) → calls function ts ≡ false) → called_or functions other ts ≡ other ts
+pub none_called : {A : Type 0} (functions : Functions A) (other : Reader A) (ts : List Token) → ((function : List ℕ) → calls function ts ≡ false) → called_or functions other ts ≡ other ts
 none_called [] other ts none = refl
 none_called (f ∷ more) other ts none = rw (none f.0) (none_called more other ts none)
 
@@ -262,15 +262,15 @@ operand_of_word : (functions : Bool) (ts : List Token) → kind ts ≡ k.Word
 unfolding operand sees same_kind
 operand_of_word functions ts e = rw e refl
 
-operand_of_digits : (functions : Bool) (ts : List Token) → kind ts ≡ k.Integer → operand functions ts ≡ integer false ts
+pub operand_of_digits : (functions : Bool) (ts : List Token) → kind ts ≡ k.Integer → operand functions ts ≡ integer false ts
 unfolding operand sees same_kind
 operand_of_digits functions ts e = rw e refl
 
-operand_of_plus : (functions : Bool) (ts : List Token) → kind ts ≡ k.Plus → operand functions ts ≡ integer false (next ts)
+pub operand_of_plus : (functions : Bool) (ts : List Token) → kind ts ≡ k.Plus → operand functions ts ≡ integer false (next ts)
 unfolding operand sees same_kind
 operand_of_plus functions ts e = rw e refl
 
-operand_of_minus : (functions : Bool) (ts : List Token) → kind ts ≡ k.Minus → operand functions ts ≡ integer true (next ts)
+pub operand_of_minus : (functions : Bool) (ts : List Token) → kind ts ≡ k.Minus → operand functions ts ≡ integer true (next ts)
 unfolding operand sees same_kind
 operand_of_minus functions ts e = rw e refl
 
@@ -296,7 +296,7 @@ column_operand functions x used t rest p f =
     ∙ none_called (operand_functions functions (place (used ++ t ∷ rest))) (λ l. and_then (column l) (λ x rest. Ok (o.Column x, rest))) (used ++ t ∷ rest) (column_uncalled x used t rest p f)
     ∙ ap (λ r. and_then r (λ x rest. Ok (o.Column x, rest))) (column_complete x used t rest p f)
 
-digits_begin : (negative : Bool) (n : ℤ) (ts : List Token) → IsDigits negative n ts → Begins (λ kind. kind ≡ k.Integer) ts
+pub digits_begin : (negative : Bool) (n : ℤ) (ts : List Token) → IsDigits negative n ts → Begins (λ kind. kind ≡ k.Integer) ts
 digits_begin negative n ts p = one_begins (λ kind. kind ≡ k.Integer) _ (λ t q. q.0) ts p
 
 -- digits after a sign
@@ -371,7 +371,7 @@ function_operand true x used t rest (inr (y, e, p)) =
     ))
     ∙ ap (λ z. Ok (z, t ∷ rest)) (sym e)
 
-operand_complete : (functions : Bool) → Complete (operand functions) (IsOperand functions) EndsColumn
+pub operand_complete : (functions : Bool) → Complete (operand functions) (IsOperand functions) EndsColumn
 operand_complete functions x used t rest (inl (column, e, p)) f = column_operand functions column used t rest p f ∙ ap (λ y. Ok (y, t ∷ rest)) (sym e)
 operand_complete functions x used t rest (inr (inl (n, e, p))) f = integer_operand functions n used (t ∷ rest) p ∙ ap (λ y. Ok (y, t ∷ rest)) (sym e)
 operand_complete functions x used t rest (inr (inr (inl (text, e, p)))) f = text_operand functions text used (t ∷ rest) p ∙ ap (λ y. Ok (y, t ∷ rest)) (sym e)
@@ -380,7 +380,7 @@ operand_complete functions x used t rest (inr (inr (inr (inr p)))) f = function_
 
 -- ---- comparisons
 
-compares_ends : (kind : TokenKind) (comparison : Comparison) → comparison_of kind ≡ Some comparison → EndsColumn kind × (same_kind kind k.Is ≡ false)
+pub compares_ends : (kind : TokenKind) (comparison : Comparison) → comparison_of kind ≡ Some comparison → EndsColumn kind × (same_kind kind k.Is ≡ false)
 unfolding same_kind
 compares_ends k.LeftParenthesis comparison e = absurd (cc)
 compares_ends k.Point comparison e = absurd (cc)
@@ -412,7 +412,7 @@ not_null_complete functions operand a m v n t rest p is isnt null =
 abbrev pub EndsPredicate : TokenKind → Type 0
 EndsPredicate kind = EndsColumn kind × (same_kind kind k.Equal ≡ false)
 
-not_word : (used tail : List Token) (known : TokenKind) → same_kind known k.Word ≡ false → Begins (λ kind. kind ≡ known) used → sees k.Word (used ++ tail) ≡ false
+pub not_word : (used tail : List Token) (known : TokenKind) → same_kind known k.Word ≡ false → Begins (λ kind. kind ≡ known) used → sees k.Word (used ++ tail) ≡ false
 unfolding sees kind
 not_word used tail known other (t, more, e, f) = rw (e, f) other
 
@@ -440,7 +440,7 @@ other_call word P a tail d p = rw (
 ) refl
 
 -- before an operand stands no predicate that is a function
-no_predicate : (functions : Bool) (x : ServedOperand functions) (a : List Token) (m : Token) (tail : List Token) → IsOperand functions x a → EndsColumn m.kind
+pub no_predicate : (functions : Bool) (x : ServedOperand functions) (a : List Token) (m : Token) (tail : List Token) → IsOperand functions x a → EndsColumn m.kind
     → predicate functions (a ++ m ∷ tail) ≡ comparison functions (a ++ m ∷ tail)
 unfolding predicate same_kind same_name
 no_predicate functions x a m tail (inl (column, e, p)) f = none_called (predicate_functions functions (place (a ++ m ∷ tail))) (comparison functions) (a ++ m ∷ tail) (column_uncalled column a m tail p f)
@@ -498,7 +498,7 @@ comma_ends : (kind : TokenKind) → kind ≡ k.Comma → EndsColumn kind
 unfolding same_kind
 comma_ends kind e = ends_by EndsColumn kind k.Comma e (refl, refl)
 
-expect_read : (wanted : TokenKind) (m : Token) (ts : List Token) → m.kind ≡ wanted → expect fault.Syntax wanted (m ∷ ts) ≡ Ok (tt, ts)
+pub expect_read : (wanted : TokenKind) (m : Token) (ts : List Token) → m.kind ≡ wanted → expect fault.Syntax wanted (m ∷ ts) ≡ Ok (tt, ts)
 unfolding expect sees kind next
 expect_read wanted m ts e = rw (is_kind m.kind wanted e) refl
 
@@ -647,7 +647,7 @@ bool_complete bool x a b t rest (inr (inr (y, ex, call))) test f =
     (ap (λ n. c.IsEmpty n y) (call_begins (codes "ST_IsEmpty") (IsGeometry y) a (b ++ t ∷ rest) call) ∙ sym ex) test f
     (first_empty at (IsGeometry y) a (b ++ t ∷ rest) call)
 
-bool_begins : (functions : Bool) (x : ServedCond functions) (ts : List Token) → IsBool functions x ts → Begins BeginsOperand ts
+pub bool_begins : (functions : Bool) (x : ServedCond functions) (ts : List Token) → IsBool functions x ts → Begins BeginsOperand ts
 bool_begins false x ts p = absurd p
 bool_begins true x ts (inl (predicate, function, y, z, names, ex, call)) = word_begins function _ ts call
 bool_begins true x ts (inr (inl (y, z, pattern, ex, call))) = word_begins (codes "ST_Relate") _ ts call
@@ -659,7 +659,7 @@ predicate_begins functions x ts (inr (inl (operand, e, p))) = seq_begins BeginsO
 predicate_begins functions x ts (inr (inr (inl (operand, e, p)))) = seq_begins BeginsOperand (IsOperand functions operand) _ (operand_begins functions operand) ts p
 predicate_begins functions x ts (inr (inr (inr (bool, p)))) = seq_begins BeginsOperand (IsBool functions bool) _ (bool_begins functions bool) ts p
 
-is_ends : (kind : TokenKind) → kind ≡ k.Is → EndsColumn kind
+pub is_ends : (kind : TokenKind) → kind ≡ k.Is → EndsColumn kind
 unfolding same_kind
 is_ends kind e = ends_by EndsColumn kind k.Is e (refl, refl)
 
@@ -701,7 +701,7 @@ predicate_complete true x used t rest (inr (inr (inr (bool, (a, b, e, p, q))))) 
 
 -- ---- conditions
 
-part_then : {A : Type 0} (between : TokenKind) (part : Reader A) (n : ℕ) (found : List A) (x : A) (ts : List Token) (m : Token) (rest : List Token)
+pub part_then : {A : Type 0} (between : TokenKind) (part : Reader A) (n : ℕ) (found : List A) (x : A) (ts : List Token) (m : Token) (rest : List Token)
     → part ts ≡ Ok (x, m ∷ rest) → m.kind ≡ between
     → parts_from fault.Syntax between part (suc n) found ts ≡ parts_from fault.Syntax between part n (found ++ x ∷ []) rest
 unfolding parts_from after sees kind next
@@ -713,7 +713,7 @@ part_last : {A : Type 0} (between : TokenKind) (part : Reader A) (n : ℕ) (foun
 unfolding parts_from after sees kind next
 part_last between part n found x ts t rest e g = rw (e, g) refl
 
-parts_complete : {A : Type 0} (between : TokenKind) (part : Reader A) (P : A → Phrase) (F : TokenKind → Type 0) → F between → Complete part P F
+pub parts_complete : {A : Type 0} (between : TokenKind) (part : Reader A) (P : A → Phrase) (F : TokenKind → Type 0) → F between → Complete part P F
     → (more : List A) (x : A) (n : ℕ) (found : List A) (used : List Token) (t : Token) (rest : List Token)
     → IsParts between P x more used → F t.kind → same_kind t.kind between ≡ false → length more < n
     → parts_from fault.Syntax between part n found (used ++ t ∷ rest) ≡ Ok (found ++ x ∷ more, t ∷ rest)
@@ -733,7 +733,7 @@ parts_complete {A} between part P F mid whole (y ∷ more) x (suc n) found used 
         ∙ ap (λ l. Ok (l, t ∷ rest)) (append_assoc found (x ∷ []) (y ∷ more))
 
 -- there are no more parts than tokens, and one token follows
-turns_suffice : {A : Type 0} (between : TokenKind) (P : A → Phrase) (more : List A) (x : A) (used : List Token) (t : Token) (rest : List Token)
+pub turns_suffice : {A : Type 0} (between : TokenKind) (P : A → Phrase) (more : List A) (x : A) (used : List Token) (t : Token) (rest : List Token)
     → IsParts between P x more used → length more < length (used ++ t ∷ rest)
 turns_suffice between P [] x used t rest p = omega (arith, length-append used (t ∷ rest))
 turns_suffice {A} between P (y ∷ more) x used t rest (a, b, e, p, q) = go (λ d h. turns_suffice between P more y d t rest h) (one_first _ (IsParts between P y more) b q)
@@ -742,7 +742,7 @@ turns_suffice {A} between P (y ∷ more) x used t rest (a, b, e, p, q) = go (λ 
     go others (m, d, g, is, h) =
         omega (arith, others d h, ap length (split used a b d (t ∷ rest) m e g), length-append a (m ∷ (d ++ t ∷ rest)))
 
-chain_complete : {A : Type 0} (between : TokenKind) (join : List (WrittenCond A) → WrittenCond A) (part : Reader (WrittenCond A)) (P : WrittenCond A → Phrase) (F : TokenKind → Type 0)
+pub chain_complete : {A : Type 0} (between : TokenKind) (join : List (WrittenCond A) → WrittenCond A) (part : Reader (WrittenCond A)) (P : WrittenCond A → Phrase) (F : TokenKind → Type 0)
     → F between → Complete part P F → Complete (chain between join part) (IsChain between join P) (λ kind. F kind × (same_kind kind between ≡ false))
 unfolding after sees kind next
 chain_complete between join part P F mid whole x used t rest (inl p) f = rw (whole x used t rest p f.0, f.1) refl
@@ -764,7 +764,7 @@ EndsConjunction kind = EndsPredicate kind × (same_kind kind k.And ≡ false)
 abbrev pub EndsCondition : TokenKind → Type 0
 EndsCondition kind = EndsConjunction kind × (same_kind kind k.Or ≡ false)
 
-condition_of_complete : {A : Type 0} (part : Reader (WrittenCond A)) (P : WrittenCond A → Phrase) → Complete part P EndsPredicate
+pub condition_of_complete : {A : Type 0} (part : Reader (WrittenCond A)) (P : WrittenCond A → Phrase) → Complete part P EndsPredicate
     → Complete (condition_of part) (IsConditionOf P) EndsCondition
 unfolding same_kind
 condition_of_complete part P whole =
@@ -776,21 +776,21 @@ unfolding expect sees kind next same_kind
 group_complete part P whole x a n t rest p right =
     rw (condition_of_complete part P whole x a n (t ∷ rest) p (ends_by EndsCondition n.kind k.RightParenthesis right ((((refl, refl), refl), refl), refl)), right) refl
 
-not_seen : (used tail : List Token) → Begins BeginsOperand used → (sees k.Not (used ++ tail) ≡ false) × (sees k.LeftParenthesis (used ++ tail) ≡ false)
+pub not_seen : (used tail : List Token) → Begins BeginsOperand used → (sees k.Not (used ++ tail) ≡ false) × (sees k.LeftParenthesis (used ++ tail) ≡ false)
 unfolding sees kind
 not_seen used tail (t, more, e, f) = rw e f
 
-negation_predicate : (functions : Bool) (levels : ℕ) (ts : List Token) → sees k.Not ts ≡ false → sees k.LeftParenthesis ts ≡ false → negation functions levels ts ≡ predicate functions ts
+pub negation_predicate : (functions : Bool) (levels : ℕ) (ts : List Token) → sees k.Not ts ≡ false → sees k.LeftParenthesis ts ≡ false → negation functions levels ts ≡ predicate functions ts
 unfolding negation
 negation_predicate functions zero ts g h = rw (g, h) refl
 negation_predicate functions (suc levels) ts g h = rw (g, h) refl
 
-negation_not : (functions : Bool) (levels : ℕ) (m : Token) (ts : List Token) → m.kind ≡ k.Not
+pub negation_not : (functions : Bool) (levels : ℕ) (m : Token) (ts : List Token) → m.kind ≡ k.Not
     → negation functions (suc levels) (m ∷ ts) ≡ and_then (negation functions levels ts) (λ y rest. Ok (c.Not y, rest))
 unfolding negation sees kind next
 negation_not functions levels m ts e = rw (is_kind m.kind k.Not e) refl
 
-negation_group : (functions : Bool) (levels : ℕ) (m : Token) (ts : List Token) → m.kind ≡ k.LeftParenthesis
+pub negation_group : (functions : Bool) (levels : ℕ) (m : Token) (ts : List Token) → m.kind ≡ k.LeftParenthesis
     → negation functions (suc levels) (m ∷ ts) ≡ group (negation functions levels) ts
 unfolding negation sees kind next same_kind
 negation_group functions levels m ts e = rw e refl
@@ -818,7 +818,7 @@ predicate_alone functions levels x used t rest p f =
     let unseen = not_seen used (t ∷ rest) (predicate_begins functions x used p) in
     negation_predicate functions levels (used ++ t ∷ rest) unseen.0 unseen.1 ∙ predicate_complete functions x used t rest p f
 
-negation_complete : (functions : Bool) (levels : ℕ) → Complete (negation functions levels) (IsNegation functions levels) EndsPredicate
+pub negation_complete : (functions : Bool) (levels : ℕ) → Complete (negation functions levels) (IsNegation functions levels) EndsPredicate
 unfolding IsNegationOf
 negation_complete functions zero x used t rest p f = predicate_alone functions 0 x used t rest p f
 negation_complete functions (suc levels) x used t rest (inl (y, ex, p)) f = nested_not functions levels x y used t rest ex (negation_complete functions levels) f (one_first _ (IsNegation functions levels y) used p)
@@ -826,12 +826,12 @@ negation_complete functions (suc levels) x used t rest (inr (inl p)) f =
     nested_group functions levels x used t rest (negation_complete functions levels) (one_first _ (IsConditionOf (IsNegation functions levels) x ▸ IsToken k.RightParenthesis) used p)
 negation_complete functions (suc levels) x used t rest (inr (inr p)) f = predicate_alone functions (suc levels) x used t rest p f
 
-condition_complete : (functions : Bool) → Complete (condition functions) (IsCondition functions) EndsCondition
+pub condition_complete : (functions : Bool) → Complete (condition functions) (IsCondition functions) EndsCondition
 condition_complete functions = condition_of_complete (negation functions 64) (IsNegation functions 64) (negation_complete functions 64)
 
 -- ---- queries
 
-complete_at : {A : Type 0} (p : Reader A) (P : A → Phrase) (F : TokenKind → Type 0) → Complete p P F → (x : A) (used tail : List Token) → P x used → Begins F tail → p (used ++ tail) ≡ Ok (x, tail)
+pub complete_at : {A : Type 0} (p : Reader A) (P : A → Phrase) (F : TokenKind → Type 0) → Complete p P F → (x : A) (used tail : List Token) → P x used → Begins F tail → p (used ++ tail) ≡ Ok (x, tail)
 complete_at p P F whole x used tail h (t, r, e, f) = ap (λ l. p (used ++ l)) e ∙ whole x used t r h f ∙ ap (λ l. Ok (x, l)) (sym e)
 
 column_whole : Complete column IsColumn EndsArgument
@@ -899,7 +899,7 @@ items_complete functions first more used t rest p f =
     parts_complete k.Comma (item functions) (IsItem functions) EndsColumn (refl, refl) (item_complete functions) more first (length (used ++ t ∷ rest)) [] used t rest p f.0 f.1
     (turns_suffice k.Comma (IsItem functions) more first used t rest p)
 
-selection_complete : (functions : Bool) → Complete (selection functions) (IsSelection functions) EndsItems
+pub selection_complete : (functions : Bool) → Complete (selection functions) (IsSelection functions) EndsItems
 selection_complete functions x used t rest (inl (e, p)) f =
     let star = one_only _ used p in
     ap (λ l. selection functions (l ++ t ∷ rest)) star.1 ∙ selection_of_star functions star.0 (t ∷ rest) star.2 ∙ ap (λ y. Ok (y, t ∷ rest)) (sym e)
@@ -939,7 +939,7 @@ reference_by : (table : Name) (given : Option Name) (ts mid rest : List Token) �
 unfolding reference
 reference_by table given ts mid rest e g = rw (e, g) refl
 
-reference_complete : Complete reference IsReference EndsReference
+pub reference_complete : Complete reference IsReference EndsReference
 unfolding same_kind
 reference_complete x used t rest (inl (table, ex, p)) f =
     reference_by table None (used ++ t ∷ rest) (t ∷ rest) (t ∷ rest) (name_complete table used t rest p f.0) (alias_of_none t rest f) ∙ ap (λ y. Ok (y, t ∷ rest)) (sym ex)
@@ -966,28 +966,28 @@ reference_complete x used t rest (inr (inr (table, given, ex, (a, b, e, p, q))))
 abbrev pub EndsSecond : TokenKind → Type 0
 EndsSecond kind = EndsCondition kind × EndsReference kind × (same_kind kind k.Comma ≡ false) × (same_kind kind k.Cross ≡ false) × (same_kind kind k.Inner ≡ false) × (same_kind kind k.Join ≡ false)
 
-and_false : (a b : Bool) → b ≡ false → (a && b) ≡ false
+pub and_false : (a b : Bool) → b ≡ false → (a && b) ≡ false
 and_false true b e = e
 and_false false b e = refl
 
-second_of_none : (served : Served) (t : Token) (rest : List Token) → EndsSecond t.kind → second served (t ∷ rest) ≡ Ok ((None, None), t ∷ rest)
+pub second_of_none : (served : Served) (t : Token) (rest : List Token) → EndsSecond t.kind → second served (t ∷ rest) ≡ Ok ((None, None), t ∷ rest)
 unfolding sees kind
 second_of_none served t rest f = rw (f.2, f.3, f.4, f.5, and_false served.second_reference false refl) refl
 
-second_of_comma : (served : Served) (m : Token) (ts : List Token) → served.second_reference ≡ true → m.kind ≡ k.Comma → second served (m ∷ ts) ≡ crossed served.functions ts
+pub second_of_comma : (served : Served) (m : Token) (ts : List Token) → served.second_reference ≡ true → m.kind ≡ k.Comma → second served (m ∷ ts) ≡ crossed served.functions ts
 unfolding sees kind next
 second_of_comma served m ts is_served e = rw (is_served, is_kind m.kind k.Comma e) refl
 
-second_of_cross : (served : Served) (m : Token) (ts : List Token) → served.second_reference ≡ true → m.kind ≡ k.Cross
+pub second_of_cross : (served : Served) (m : Token) (ts : List Token) → served.second_reference ≡ true → m.kind ≡ k.Cross
     → second served (m ∷ ts) ≡ and_then (expect fault.Syntax k.Join ts) (λ _ l. crossed served.functions l)
 unfolding sees kind next same_kind
 second_of_cross served m ts is_served e = rw (is_served, e) refl
 
-second_of_inner : (served : Served) (m : Token) (ts : List Token) → served.second_reference ≡ true → m.kind ≡ k.Inner → second served (m ∷ ts) ≡ joined_on served.functions ts
+pub second_of_inner : (served : Served) (m : Token) (ts : List Token) → served.second_reference ≡ true → m.kind ≡ k.Inner → second served (m ∷ ts) ≡ joined_on served.functions ts
 unfolding after sees kind next same_kind
 second_of_inner served m ts is_served e = rw (is_served, e) refl
 
-second_of_join : (served : Served) (m : Token) (ts : List Token) → served.second_reference ≡ true → m.kind ≡ k.Join → second served (m ∷ ts) ≡ joined_on served.functions (m ∷ ts)
+pub second_of_join : (served : Served) (m : Token) (ts : List Token) → served.second_reference ≡ true → m.kind ≡ k.Join → second served (m ∷ ts) ≡ joined_on served.functions (m ∷ ts)
 unfolding after sees kind next same_kind
 second_of_join served m ts is_served e = rw (is_served, e) refl
 
@@ -1002,7 +1002,7 @@ joined_by_steps : (functions : Bool) (given : WrittenReference) (x : ServedCond 
 unfolding joined_on
 joined_by_steps functions given x ts ts1 ts2 ts3 ts4 e1 e2 e3 e4 = rw (e1, e2, e3, e4) refl
 
-on_ends : (kind : TokenKind) → kind ≡ k.On → EndsReference kind
+pub on_ends : (kind : TokenKind) → kind ≡ k.On → EndsReference kind
 unfolding same_kind
 on_ends kind e = ends_by EndsReference kind k.On e (refl, refl, refl)
 
@@ -1049,7 +1049,7 @@ joined_second served given x used t rest is_served (a, b, e, inr p, q) f =
     let same : used ≡ inner.0 ∷ b = e ∙ ap (λ l. l ++ b) inner.1 in
     ap (λ l. second served (l ++ t ∷ rest)) same ∙ second_of_inner served inner.0 (b ++ t ∷ rest) is_served inner.2 ∙ joined_complete served.functions given x b t rest q f
 
-second_complete : (served : Served) → Complete (second served) (IsBoth served) EndsSecond
+pub second_complete : (served : Served) → Complete (second served) (IsBoth served) EndsSecond
 second_complete served (x, y) used t rest (inl (ex, ey, none)) f =
     ap (λ l. second served (l ++ t ∷ rest)) none ∙ second_of_none served t rest f ∙ ap (λ z. Ok ((z, None), t ∷ rest)) (sym ex) ∙ ap (λ z. Ok ((x, z), t ∷ rest)) (sym ey)
 second_complete served (x, y) used t rest (inr (inl (is_served, given, ex, ey, p))) f =
@@ -1070,7 +1070,7 @@ says_word word m n ts e same other = rw (is_kind m.kind k.Word e, other, same) r
 no_left : (kind known : TokenKind) → kind ≡ known → same_kind known k.LeftParenthesis ≡ false → same_kind kind k.LeftParenthesis ≡ false
 no_left kind known e h = rw e h
 
-explained_complete : (served : Served) (told : Explain) (used : List Token) (t : Token) (rest : List Token) → IsExplain served told used → t.kind ≡ k.Select
+pub explained_complete : (served : Served) (told : Explain) (used : List Token) (t : Token) (rest : List Token) → IsExplain served told used → t.kind ≡ k.Select
     → explained served (used ++ t ∷ rest) ≡ Ok (told, t ∷ rest)
 unfolding same_kind next
 explained_complete served told used t rest (inl (e, none)) select =
@@ -1107,7 +1107,7 @@ where_of_none : (functions : Bool) (t : Token) (rest : List Token) → same_kind
 unfolding where_condition after sees kind next
 where_of_none functions t rest f = rw f refl
 
-where_of_word : (functions : Bool) (m : Token) (ts : List Token) → m.kind ≡ k.Where → where_condition functions (m ∷ ts) ≡ and_then (condition functions ts) (λ x rest. Ok (Some x, rest))
+pub where_of_word : (functions : Bool) (m : Token) (ts : List Token) → m.kind ≡ k.Where → where_condition functions (m ∷ ts) ≡ and_then (condition functions ts) (λ x rest. Ok (Some x, rest))
 unfolding where_condition after sees kind next
 where_of_word functions m ts e = rw (is_kind m.kind k.Where e) refl
 
@@ -1161,10 +1161,10 @@ tail_begins ts (semi, last, e, inr s, p) =
     let first = one_only _ semi s in
     (first.0, last, e ∙ ap (λ l. l ++ last) first.1, semicolon_ends first.0.kind first.2)
 
-begins_but : (F G : TokenKind → Type 0) (ts : List Token) → ((kind : TokenKind) → F kind → G kind) → Begins F ts → Begins G ts
+pub begins_but : (F G : TokenKind → Type 0) (ts : List Token) → ((kind : TokenKind) → F kind → G kind) → Begins F ts → Begins G ts
 begins_but F G ts h (t, more, e, f) = (t, more, e, h t.kind f)
 
-where_ends : (kind : TokenKind) → kind ≡ k.Where → EndsSecond kind
+pub where_ends : (kind : TokenKind) → kind ≡ k.Where → EndsSecond kind
 unfolding same_kind
 where_ends kind e = ends_by EndsSecond kind k.Where e (((((refl, refl), refl), refl), refl), (refl, refl, refl), refl, refl, refl, refl)
 
@@ -1177,7 +1177,7 @@ where_begins functions filter a b ts e (inr (y, ex, p)) q = go (one_first _ (IsC
     go : ((m : Token) × (d : List Token) × (a ≡ m ∷ d) × (m.kind ≡ k.Where) × IsCondition functions y d) → Begins EndsSecond ts
     go (m, d, g, word, h) = (m, d ++ b, e ∙ ap (λ l. l ++ b) g, where_ends m.kind word)
 
-ends_reference : (kind known : TokenKind) → kind ≡ known → EndsReference known → EndsReference kind
+pub ends_reference : (kind known : TokenKind) → kind ≡ known → EndsReference known → EndsReference kind
 ends_reference kind known e h = ends_by EndsReference kind known e h
 
 second_begins : (served : Served) (both : Second served.functions) (a b ts : List Token) → ts ≡ a ++ b → IsBoth served both a → Begins EndsSecond b → Begins EndsReference ts
@@ -1231,7 +1231,7 @@ rest4 served both filter ts (a, b, e, p, q) =
       second_begins served both a b ts e p more.3,
     )
 
-from_ends : (kind : TokenKind) → kind ≡ k.From → EndsItems kind
+pub from_ends : (kind : TokenKind) → kind ≡ k.From → EndsItems kind
 unfolding same_kind
 from_ends kind e = ends_by EndsItems kind k.From e ((refl, refl), refl)
 

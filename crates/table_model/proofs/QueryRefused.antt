@@ -8,8 +8,6 @@ use Rattle.geometry_model.specs.declared.relations.Predicate.TheVariants as p
 use Rattle.table_model.specs.declared.conditions.Comparison.{Comparison}
 use Rattle.table_model.specs.declared.faults.QueryFault.{QueryFault}
 use Rattle.table_model.specs.declared.faults.QueryFault.TheVariants as fault
-use Rattle.table_model.specs.declared.queries.Explain.{Explain}
-use Rattle.table_model.specs.declared.queries.Selection.{Selection}
 use Rattle.table_model.specs.declared.queries.WrittenCond.{WrittenCond}
 use Rattle.table_model.specs.declared.queries.WrittenCond.TheVariants as c
 use Rattle.table_model.specs.declared.queries.WrittenOperand.{WrittenOperand}
@@ -19,10 +17,10 @@ use Rattle.table_model.specs.declared.tokens.TokenKind.{TokenKind}
 use Rattle.table_model.specs.declared.tokens.TokenKind.TheVariants as k
 use Rattle.table_model.specs.Outcomes.{Gives}
 use Rattle.table_model.specs.Parsers.{Outcome, kind, place, spelling, next, sees, after, and_then, expect, parts_from}
-use Rattle.table_model.specs.QueryGrammar.{Phrase, IsToken, ◌▸◌, IsOptional, IsParts, AreEnded, IsOperand, IsComparison, IsPredicateOf, IsPredicate, IsChain, IsConjunction, IsConditionOf, IsNegationOf, IsNegation, IsCondition, IsSelection, IsReference, IsCrossed, IsExplain}
-use Rattle.table_model.specs.QueryReading.{Reader, Functions, name, column, calls, called_or, enclosed, string, geometry, integer, integer_value, integer_or, operand_functions, operand, comparison_of, compared, compared_by, null_test, comparison, truth_value, truth_test, tested, relates, relates_by, predicate_functions, predicate, chain, conjunction, condition_of, group, negation, most_levels, most_bytes, condition, item_functions, item, items, selection, alias, reference, Second, crossed, joined_on, second, where_condition, says, analyzed, explained, query, bad_place, value_of, query_by, query_of}
-use Rattle.table_model.specs.QueryRefusals.{IsAnyInteger, IsAnyOperand, IsAnyNegation, IsAnyCondition, BeforeSecond, BeforeOn, BeforeWhere, AreParts, BeforeNegation, BeforeOperand, IsTooDeep, IsTooBig, StandsAt, StandsIn, is_at_token, StandsInQuery}
-use Rattle.table_model.specs.Served.{Served, Argument, ItemArgument, ServedOperand, ServedCond, ServedItem, ServedQuery}
+use Rattle.table_model.specs.QueryGrammar.{Phrase, IsToken, ◌▸◌, IsOptional, IsParts, AreEnded, IsOperand, IsComparison, IsPredicateOf, IsPredicate, IsChain, IsConjunction, IsConditionOf, IsNegationOf, IsNegation, IsCondition, IsSelection, IsReference, IsExplain}
+use Rattle.table_model.specs.QueryReading.{Reader, Functions, name, column, calls, called_or, enclosed, string, geometry, integer, integer_value, integer_or, operand_functions, operand, comparison_of, compared, compared_by, null_test, comparison, truth_value, truth_test, tested, relates, relates_by, predicate_functions, predicate, chain, conjunction, condition_of, group, negation, most_levels, most_bytes, condition, item_functions, item, items, selection, alias, reference, Second, crossed, joined_on, second, where_condition, says, explained, query, bad_place, value_of, query_by, query_of}
+use Rattle.table_model.specs.QueryRefusals.{IsAnyOperand, IsAnyNegation, IsAnyCondition, BeforeSecond, BeforeOn, BeforeWhere, AreParts, BeforeNegation, BeforeOperand, IsTooBig, StandsIn, is_at_token, StandsInQuery}
+use Rattle.table_model.specs.Served.{Served, Argument, ServedOperand, ServedCond, ServedQuery}
 use Rattle.table_model.specs.Tokens.{same_kind, tokens}
 use Rattle.table_model.proofs.QuerySound.{IfRead, Took, Sound, map_read, same, one, seq, but, operand_sound, comparison_taken, chain_sound, negation_sound, explained_sound, selection_sound, reference_sound, expect_sound, second_sound, optional, IsBoth}
 
@@ -556,7 +554,8 @@ by_place served text None short good =
     (by_value text (StandsIn served (tokens true text)) (query served (tokens true text)) (query_faults served (tokens true text)))
 by_place served text (Some at) short bad = λ e. absurd (false≢true e)
 
-query_of_stands : (served : Served) (text : List ℕ) → IfErr (query_of served text) (StandsInQuery served text)
+-- a fault at a token that is read stands there
+pub query_of_stands : (served : Served) (text : List ℕ) → IfErr (query_of served text) (StandsInQuery served text)
 unfolding query_of
 query_of_stands served text = go (nat_lt most_bytes (length text)) refl
   where

@@ -1,7 +1,7 @@
 -- The refusals of a query at a token, apart from how a query is read: the tokens up to it, itself among them, are a
 -- front of the grammar in which the rules on the size of an operand's integer and on how deep conditions nest are set
 -- aside (profile). Generic in the parts of the language that are served.
-use Rattle.std.specs.Prelude.{◌≡◌, ◌≤◌, ◌⊎◌, ℕ, zero, suc, Bool, true, false, List, [], ◌∷◌, ◌++◌, length, Option, None, Result, Err}
+use Rattle.std.specs.Prelude.{◌≡◌, ◌≤◌, ◌⊎◌, ℕ, zero, suc, Bool, true, false, List, [], ◌∷◌, ◌++◌, length, None, Result, Err}
 use Rattle.table_model.specs.Outcomes.{Gives}
 use Rattle.table_model.specs.QueryGrammar.{Phrase, IsToken, ◌▸◌, IsOptional, AreEnded, IsOperand, IsComparison, IsPredicateOf, IsConjunction, IsConditionOf, IsNegationOf, IsSelection, IsReference, IsCrossed, IsExplain}
 use Rattle.table_model.specs.QueryReading.{bad_place, integer_value, most_bytes, most_levels}

@@ -1,5 +1,7 @@
 use Rattle.spatial_sql.specs.Language.{language}
+use Rattle.table_model.proofs.QueryFirst.{first_is_given}
 use Rattle.table_model.proofs.QueryLaws.{given_is_query, query_is_given}
+use Rattle.table_model.proofs.QueryRefused.{given_stands}
 use Rattle.spatial_sql.proofs.query.read_query.Goals as goal
 
 pub returns-clause-ok : goal.returns-clause-ok
@@ -7,3 +9,9 @@ returns-clause-ok c = given_is_query language c.args.text.now c.read.result c.re
 
 pub returns-clause-only : goal.returns-clause-only
 returns-clause-only c = query_is_given language c.args.text.now c.read.result c.read.ensures
+
+pub returns-clause-first : goal.returns-clause-first
+returns-clause-first c = first_is_given language c.args.text.now c.read.result c.read.ensures
+
+pub returns-clause-stands : goal.returns-clause-stands
+returns-clause-stands c = given_stands language c.args.text.now c.read.result c.read.ensures
