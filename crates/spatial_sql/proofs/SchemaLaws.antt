@@ -4,7 +4,8 @@ use Rattle.std.proofs.lemmas.Bool.{ltb-false, le-ltb}
 use Rattle.spatial_sql.proofs.AsciiWords.{tokens_ascii}
 use Rattle.spatial_sql.proofs.LawfulSchemas.{lawful-from_schema}
 use Rattle.spatial_sql.proofs.SchemaComplete.{schema_complete}
-use Rattle.spatial_sql.proofs.SchemaSound.{IfRead, schema_sound}
+use Rattle.spatial_sql.proofs.SchemaSound.{schema_sound}
+use Rattle.table_model.proofs.TokenReaders.{IfRead}
 use Rattle.table_model.proofs.TokensEnd.{tokens_once}
 use Rattle.table_model.specs.declared.definitions.TableDef.{TableDef}
 use Rattle.table_model.specs.declared.faults.SchemaFault.{SchemaFault}

@@ -4,7 +4,8 @@ use Rattle.std.specs.Prelude.{nat_le, nat_lt, codes, IfErr}
 use Rattle.std.proofs.lemmas.Bool.{and_parts, false≢true, leb-true, leb-false}
 use Rattle.std.proofs.lemmas.List.{map-append}
 use Rattle.std.proofs.lemmas.List.Folds.{list_any-append}
-use Rattle.spatial_sql.proofs.SchemaSound.{Took, one, seq, but, skip, same, word_taken, named_taken, not_false}
+use Rattle.spatial_sql.proofs.SchemaSound.{skip, word_taken, named_taken, not_false}
+use Rattle.table_model.proofs.TokenReaders.{Took, one, seq, but, same, ended_more}
 use Rattle.table_model.specs.Definitions.{is_integer}
 use Rattle.table_model.specs.Outcomes.{Gives}
 use Rattle.table_model.specs.Parsers.{Outcome, kind, place, spelling, next, sees, after, and_then, ◌>>=◌, pure, expect}
@@ -13,7 +14,6 @@ use Rattle.table_model.specs.SchemaGrammar.{IsWord, IsNamed, IsType, IsNotNull, 
 use Rattle.table_model.specs.SchemaReading.{Reader, sees_word, expect_word, sees_name, new_name, type_named, type_or, column_type, null_mark, key_mark, marks, has_column, column, is_there, key_after, columns_from, columns, closed, close, has_table, most_bytes, table_name, table, goes_on, tables_from, all_tables, schema, schema_of, value_of}
 use Rattle.table_model.specs.SchemaRefusals.{Written, IsColumn, IsCreateTable, IsWritten, BeforeTable, BeforeColumns, BeforeColumn, BeforeKey, BeforeClose, has_key, is_among, names_of, is_at_token, StandsAt, StandsIn, StandsInSchema}
 use Rattle.table_model.specs.Texts.{same_name}
-use Rattle.table_model.proofs.QueryRefused.{ended_more}
 use Rattle.table_model.specs.Tokens.{tokens}
 use Rattle.table_model.specs.declared.definitions.ColumnType.{ColumnType}
 use Rattle.table_model.specs.declared.definitions.ColumnDef.{ColumnDef}

@@ -1,11 +1,10 @@
 -- What the readers of a schema read stands in its grammar.
 use Rattle.std.proofs.Common.{◌≡◌, ◌⊎◌, ◌+◌, ◌&&◌, ◌||◌, not, ℕ, zero, suc, Bool, true, false, if◌then◌else◌, List, [], ◌∷◌, ◌++◌, length, map, Option, Some, None, Ok, Err, inl, inr, refl, sym, ap, subst, ◌∙◌, append_assoc, append-nil, arith, rules}
-use denote.Enum.Bare.{same_true}
 use Rattle.std.specs.Option.{option_to_list}
-use Rattle.table_model.proofs.QuerySound.{EndsOnce}
+use Rattle.table_model.proofs.QuerySound.{EndsOnce, ends_after, ends_left, all_taken}
+use Rattle.table_model.proofs.TokenReaders.{IfRead, Took, then_read, if_read, map_read, eaten, same, one, seq, but, expect_taken}
 use Rattle.std.specs.Prelude.{nat_le, codes}
 use Rattle.std.proofs.lemmas.Bool.{and_parts, false≢true}
-use Rattle.table_model.specs.contracts.tokens.TokenKind.{the_type}
 use Rattle.table_model.specs.Definitions.{is_integer}
 use Rattle.table_model.specs.Parsers.{Outcome, kind, place, spelling, next, sees, after, and_then, ◌>>=◌, pure, expect}
 use Rattle.table_model.specs.QueryGrammar.{Phrase, IsToken, ◌▸◌, IsOptional, IsParts}
@@ -21,62 +20,14 @@ use Rattle.table_model.specs.declared.tokens.Token.{Token}
 use Rattle.table_model.specs.declared.tokens.TokenKind.{TokenKind}
 use Rattle.table_model.specs.declared.tokens.TokenKind.TheVariants as k
 
--- ---- what a reader answers
-
-abbrev pub IfRead : {A : Type 0} → Outcome SchemaFault A → (A → List Token → Type 0) → Type 0
-IfRead (Ok p) Q = Q p.0 p.1
-IfRead (Err e) Q = Unit {0}
-
--- the tokens of a phrase were read, and others are left
-abbrev pub Took : List Token → Phrase → List Token → Type 0
-Took ts P rest = (used : List Token) × (ts ≡ used ++ rest) × P used
-
-then_read : {A B : Type 0} (r : Outcome SchemaFault A) (f : A → Reader B) (Q : A → List Token → Type 0) (R : B → List Token → Type 0)
-    → ((x : A) (rest : List Token) → Q x rest → IfRead (f x rest) R) → IfRead r Q → IfRead (and_then r f) R
-then_read (Ok p) f Q R g q = g p.0 p.1 q
-then_read (Err e) f Q R g q = tt
-
-if_read : {A : Type 0} (b : Bool) (x y : Outcome SchemaFault A) (Q : A → List Token → Type 0)
-    → (b ≡ true → IfRead x Q) → (b ≡ false → IfRead y Q) → IfRead (if b then x else y) Q
-if_read true x y Q f g = f refl
-if_read false x y Q f g = g refl
-
-eaten_by : {A : Type 0} (b : Bool) (ts : List Token) (p q : Reader A) (Q : A → List Token → Type 0)
-    → (b ≡ true → IfRead (p (next ts)) Q) → (b ≡ false → IfRead (q ts) Q) → IfRead ((if b then p else q) (if b then next ts else ts)) Q
-eaten_by true ts p q Q f g = f refl
-eaten_by false ts p q Q f g = g refl
-
-eaten : {A : Type 0} (wanted : TokenKind) (ts : List Token) (p q : Reader A) (Q : A → List Token → Type 0)
-    → (sees wanted ts ≡ true → IfRead (p (next ts)) Q) → (sees wanted ts ≡ false → IfRead (q ts) Q)
-    → IfRead ((if sees wanted ts then p else q) (after wanted ts)) Q
-unfolding after
-eaten wanted ts p q Q f g = eaten_by (sees wanted ts) ts p q Q f g
-
 -- ---- what was taken
-
-pub same : (a b : TokenKind) → same_kind a b ≡ true → a ≡ b
-unfolding same_kind
-same a b h = same_true the_type (search rules) a b h
-
-pub one : (wanted : TokenKind) (ts : List Token) → (k.Bad ≡ wanted → ⊥) → sees wanted ts ≡ true → Took ts (IsToken wanted) (next ts)
-unfolding sees kind next
-one wanted [] good h = absurd (good (same k.Bad wanted h))
-one wanted (t ∷ ts) good h = (t ∷ [], refl, same t.kind wanted h)
-
-pub seq : (P Q : Phrase) (ts mid rest : List Token) → Took ts P mid → Took mid Q rest → Took ts (P ▸ Q) rest
-seq P Q ts mid rest p q =
-    (p.0 ++ q.0, p.1 ∙ ap (λ r. p.0 ++ r) q.1 ∙ sym (append_assoc p.0 q.0 rest), (p.0, q.0, refl, p.2, q.2))
-
-pub but : (P R : Phrase) (ts rest : List Token) → Took ts P rest → ((used : List Token) → P used → R used) → Took ts R rest
-but P R ts rest p f = (p.0, p.1, f p.0 p.2)
 
 -- nothing was taken before
 pub skip : (P : Phrase) (ts mid rest : List Token) → Took ts (λ used. used ≡ []) mid → Took mid P rest → Took ts P rest
 skip P ts mid rest p q = (q.0, p.1 ∙ ap (λ u. u ++ mid) p.2 ∙ q.1, q.2)
 
 expect_sound : (wanted : TokenKind) → (k.Bad ≡ wanted → ⊥) → (ts : List Token) → IfRead (expect fault.Syntax wanted ts) (λ x rest. Took ts (IsToken wanted) rest)
-unfolding expect
-expect_sound wanted good ts = if_read (sees wanted ts) _ _ (λ x rest. Took ts (IsToken wanted) rest) (λ h. one wanted ts good h) (λ _. tt)
+expect_sound wanted good ts = expect_taken fault.Syntax wanted ts good
 
 -- ---- words and names
 
@@ -246,10 +197,6 @@ columns_more geometry m x ts mid r rest took h (y, ys, firsts, keys, more) = (
       (seq (IsToken k.Comma) (IsParts k.Comma (IsMarked geometry) y ys) mid (next mid) rest (one k.Comma mid (λ e. cc) h) more),
 )
 
-if_took : {A : Type 0} (r : Outcome SchemaFault A) (Q R : A → List Token → Type 0) → ((x : A) (rest : List Token) → Q x rest → R x rest) → IfRead r Q → IfRead r R
-if_took (Ok p) Q R f q = f p.0 p.1 q
-if_took (Err e) Q R f q = tt
-
 columns_sound : {T : Type 0} (geometry : List ℕ → Option T) (n : ℕ) (found : List (ColumnDef T)) (key : Option ℕ) (ts : List Token) (m : List (Marked T))
     → found ≡ map (λ c. c.0) m → key_places 0 m ≡ option_to_list key → IfRead (columns_from geometry n found key ts) (ColumnsTook geometry m ts)
 unfolding columns_from
@@ -261,7 +208,7 @@ columns_sound geometry (suc n) found key ts m is keys =
     let firsts : found ++ read.0 ∷ [] ≡ map (λ c. c.0) (m ++ read ∷ []) = ap (λ f. f ++ read.0 ∷ []) is ∙ sym (firsts-snoc m read) in
     let last : key_places 0 (m ++ read ∷ []) ≡ option_to_list (key_after key (length found) read.1) = key-step m key (length found) read.0 read.1 count took.0 keys in
     eaten k.Comma mid _ _ (ColumnsTook geometry m ts)
-    (λ h. if_took (columns_from geometry n (found ++ read.0 ∷ []) (key_after key (length found) read.1) (next mid)) (ColumnsTook geometry (m ++ read ∷ []) (next mid)) (ColumnsTook geometry m ts)
+    (λ h. map_read (columns_from geometry n (found ++ read.0 ∷ []) (key_after key (length found) read.1) (next mid)) (ColumnsTook geometry (m ++ read ∷ []) (next mid)) (ColumnsTook geometry m ts)
     (λ r rest more. columns_more geometry m read ts mid r rest took.1 h more)
     (columns_sound geometry n (found ++ read.0 ∷ []) (key_after key (length found) read.1) (next mid) (m ++ read ∷ []) firsts last))
     (λ _. (read, [], firsts, last, took.1)))
@@ -287,7 +234,7 @@ close_sound : {T : Type 0} (geometry : List ℕ → Option T) (name : List ℕ) 
     → IfRead (close name r mid) (BodyTook geometry name ts)
 close_sound geometry name ts mid r (x, xs, firsts, keys, took) =
     then_read (expect fault.Syntax k.RightParenthesis mid) _ (λ u rest. Took mid (IsToken k.RightParenthesis) rest) (BodyTook geometry name ts)
-    (λ u rest took2. if_took (closed name r.0 r.1 (place mid) rest) _ (BodyTook geometry name ts)
+    (λ u rest took2. map_read (closed name r.0 r.1 (place mid) rest) _ (BodyTook geometry name ts)
     (λ t last is. (
       x,
       xs,
@@ -312,7 +259,7 @@ table_sound {T = T} geometry found ts =
     (λ u2 ts2 took2. then_read (table_name found ts2) _ (λ name rest. Took ts2 (IsNamed name) rest) (TableTook geometry ts)
     (λ name ts3 took3. then_read (expect fault.Syntax k.LeftParenthesis ts3) _ (λ u rest. Took ts3 (IsToken k.LeftParenthesis) rest) (TableTook geometry ts)
     (λ u4 ts4 took4. then_read (columns geometry ts4) (close name) (ColumnsTook geometry [] ts4) (TableTook geometry ts)
-    (λ r mid took5. if_took (close name r mid) (BodyTook geometry name ts4) (TableTook geometry ts)
+    (λ r mid took5. map_read (close name r mid) (BodyTook geometry name ts4) (TableTook geometry ts)
     (λ t rest body. whole name t ts1 ts2 ts3 ts4 rest took1 took2 took3 took4 body)
     (close_sound geometry name ts4 mid r took5))
     (columns_sound geometry (length ts4) [] None ts4 [] refl refl))
@@ -374,7 +321,7 @@ tables_then : {T : Type 0} (geometry : List ℕ → Option T) (n : ℕ) (found :
     → IfRead (tables_from geometry n (found ++ read ∷ []) mid2) (TablesTook geometry (found ++ read ∷ []) mid2)
     → IfRead ((if more then tables_from geometry n (found ++ read ∷ []) else pure (found ++ read ∷ [])) mid2) (TablesTook geometry found ts)
 tables_then geometry n found read true ts mid mid2 took sep h =
-    if_took (tables_from geometry n (found ++ read ∷ []) mid2) (TablesTook geometry (found ++ read ∷ []) mid2) (TablesTook geometry found ts)
+    map_read (tables_from geometry n (found ++ read ∷ []) mid2) (TablesTook geometry (found ++ read ∷ []) mid2) (TablesTook geometry found ts)
     (λ r rest all. tables_more geometry found read ts mid mid2 r rest took (but (IsSeparator true) (IsToken k.Semicolon) mid mid2 sep (λ used p. p.0 refl)) all)
     h
 tables_then geometry n found read false ts mid mid2 took sep h =
@@ -396,7 +343,7 @@ AllTook geometry ts r rest = ((r ≡ []) × (ts ≡ rest)) ⊎ TablesTook geomet
 
 all_tables_sound : {T : Type 0} (geometry : List ℕ → Option T) (ts : List Token) → IfRead (all_tables geometry ts) (AllTook geometry ts)
 all_tables_sound geometry ts = if_read (sees k.End ts) _ _ (AllTook geometry ts) (λ _. inl (refl, refl))
-    (λ _. if_took (tables_from geometry (length ts) [] ts) (TablesTook geometry [] ts) (AllTook geometry ts) (λ r rest all. inr all) (tables_sound geometry (length ts) [] ts))
+    (λ _. map_read (tables_from geometry (length ts) [] ts) (TablesTook geometry [] ts) (AllTook geometry ts) (λ r rest all. inr all) (tables_sound geometry (length ts) [] ts))
 
 ended : {T : Type 0} (geometry : List ℕ → Option T) (ts mid : List Token) (r : List (TableDef T)) (rest : List Token) → AllTook geometry ts r mid → Took mid (IsToken k.End) rest
     → Took ts (AreTables geometry r) rest
@@ -409,13 +356,6 @@ ended geometry ts mid r rest (inr (x, xs, e, took)) end =
     (seq parts (IsOptional k.Semicolon ▸ IsToken k.End) ts mid1 rest first (seq (IsOptional k.Semicolon) (IsToken k.End) mid1 mid rest last end))
     (λ used p. inr (x, xs, e, p))
 
-ends_after : (before behind : List Token) → EndsOnce (before ++ behind) → EndsOnce behind
-ends_after [] behind h = h
-ends_after (t ∷ before) behind h = ends_after before behind h.1
-
-ends_left : (P : Phrase) (ts rest : List Token) → EndsOnce ts → Took ts P rest → EndsOnce rest
-ends_left P ts rest h p = ends_after p.0 rest (subst EndsOnce p.1 h)
-
 ends_all : {T : Type 0} (geometry : List ℕ → Option T) (ts mid : List Token) (r : List (TableDef T)) → EndsOnce ts → AllTook geometry ts r mid → EndsOnce mid
 ends_all geometry ts mid r once (inl (none, here)) = subst EndsOnce here once
 ends_all geometry ts mid r once (inr (x, xs, e, took)) = ends_left (IsParts k.Semicolon (IsTable geometry) x xs ▸ IsOptional k.Semicolon) ts mid once took
@@ -424,9 +364,6 @@ end_taken : (mid rest : List Token) → EndsOnce mid → Took mid (IsToken k.End
 end_taken mid rest once ([], e, p) = absurd p
 end_taken mid rest once (t ∷ [], e, p) = (let both : EndsOnce (t ∷ rest) = subst EndsOnce e once in both).0 p
 end_taken mid rest once (t ∷ u ∷ us, e, p) = absurd p
-
-all_taken : (P : Phrase) (ts rest : List Token) → Took ts P rest → rest ≡ [] → P ts
-all_taken P ts rest (used, e, p) none = subst P (sym (e ∙ ap (λ r. used ++ r) none ∙ append-nil used)) p
 
 -- the tables of a schema that was read stand in the grammar
 pub schema_sound : {T : Type 0} (geometry : List ℕ → Option T) (ts : List Token) → EndsOnce ts → IfRead (schema geometry ts) (λ r rest. AreTables geometry r ts)

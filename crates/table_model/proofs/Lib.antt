@@ -4,6 +4,7 @@ pub mod WorkFacts
 pub mod ScanFacts
 pub mod FilterFacts
 pub mod WrittenFolds
+pub mod TokenReaders
 pub mod QuerySound
 pub mod TokensEnd
 pub mod QueryLaws

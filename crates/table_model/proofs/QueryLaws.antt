@@ -10,7 +10,8 @@ use Rattle.table_model.specs.QueryReading.{most_bytes, bad_place, value_of, quer
 use Rattle.table_model.specs.Served.{Served, ServedQuery}
 use Rattle.table_model.specs.Tokens.{tokens}
 use Rattle.table_model.proofs.QueryComplete.{select_complete}
-use Rattle.table_model.proofs.QuerySound.{IfRead, map_read, query_sound}
+use Rattle.table_model.proofs.QuerySound.{query_sound}
+use Rattle.table_model.proofs.TokenReaders.{IfRead, map_read}
 use Rattle.table_model.proofs.TokensEnd.{tokens_once}
 
 value_read : {A : Type 0} (r : Outcome QueryFault A) (P : A → Type 0) → IfRead r (λ x rest. P x) → IfOk (value_of r) P

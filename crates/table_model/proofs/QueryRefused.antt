@@ -1,5 +1,5 @@
 -- A fault at a token that the readers of a query answer stands there.
-use Rattle.std.proofs.Common.{◌≡◌, ◌⊎◌, ◌≤◌, ◌+◌, ℕ, zero, suc, Bool, true, false, not, ◌&&◌, ◌||◌, if◌then◌else◌, ◌==◌, ℤ, List, [], ◌∷◌, ◌++◌, length, Option, Some, None, Result, Ok, Err, inl, inr, refl, sym, ap, subst, ◌∙◌, append_assoc, append-nil, codes, arith}
+use Rattle.std.proofs.Common.{◌≡◌, ◌⊎◌, ◌≤◌, ◌+◌, ℕ, zero, suc, Bool, true, false, not, ◌&&◌, ◌||◌, if◌then◌else◌, ◌==◌, ℤ, List, [], ◌∷◌, ◌++◌, length, Option, Some, None, Result, Ok, Err, inl, inr, refl, sym, ap, subst, ◌∙◌, append_assoc, codes, arith}
 use Rattle.std.specs.Prelude.{IfErr, nat_lt}
 use Rattle.std.specs.Str.Parse.{digits_value}
 use Rattle.std.proofs.lemmas.Bool.{false≢true, ltb-false}
@@ -22,7 +22,8 @@ use Rattle.table_model.specs.QueryReading.{Reader, Functions, name, column, call
 use Rattle.table_model.specs.QueryRefusals.{IsAnyOperand, IsAnyNegation, IsAnyCondition, BeforeSecond, BeforeOn, BeforeWhere, AreParts, BeforeNegation, BeforeOperand, IsTooBig, StandsIn, is_at_token, StandsInQuery}
 use Rattle.table_model.specs.Served.{Served, Argument, ServedOperand, ServedCond, ServedQuery}
 use Rattle.table_model.specs.Tokens.{same_kind, tokens}
-use Rattle.table_model.proofs.QuerySound.{IfRead, Took, Sound, map_read, same, one, seq, but, operand_sound, comparison_taken, chain_sound, negation_sound, explained_sound, selection_sound, reference_sound, expect_sound, second_sound, optional, IsBoth}
+use Rattle.table_model.proofs.QuerySound.{Sound, operand_sound, comparison_taken, chain_sound, negation_sound, explained_sound, selection_sound, reference_sound, expect_sound, second_sound, optional, IsBoth}
+use Rattle.table_model.proofs.TokenReaders.{IfRead, Took, map_read, same, one, seq, but, ended_more}
 
 -- ---- the faults of a reader
 
@@ -208,13 +209,6 @@ regroup P Q R all ts took = but ((P ▸ Q) ▸ R) (P ▸ Q ▸ R) all ts took (�
 -- nothing more was taken
 none_more : (P Q : Phrase) (all ts : List Token) → ((used : List Token) → used ≡ [] → Q used) → Took all P ts → Took all (P ▸ Q) ts
 none_more P Q all ts nothing took = seq P Q all ts ts took ([], refl, nothing [] refl)
-
--- one more, with what stands behind it
-pub ended_more : {A : Type 0} (end : Phrase) (P : A → Phrase) (xs : List A) (x : A) (used more : List Token) → AreEnded end P xs used → (P x ▸ end) more
-    → AreEnded end P (xs ++ x ∷ []) (used ++ more)
-ended_more end P [] x used more none (a, b, e, p, q) = (a, b, ap (λ l. l ++ more) none ∙ e, p, (b, [], sym (append-nil b), q, refl))
-ended_more end P (y ∷ xs) x used more (a, b, e, p, (c, d, e2, q, h)) last =
-    (a, b ++ more, ap (λ l. l ++ more) e ∙ append_assoc a b more, p, (c, d ++ more, ap (λ l. l ++ more) e2 ∙ append_assoc c d more, q, ended_more end P xs x d more h last))
 
 -- one more part was taken, with the token behind it, after parts that stand behind a phrase
 part_more : {A : Type 0} (C end : Phrase) (P : A → Phrase) (xs : List A) (x : A) (all ts mid rest : List Token) → Took all (C ▸ AreEnded end P xs) ts → Took ts (P x) mid → Took mid end rest

@@ -1,13 +1,10 @@
 -- What the readers of a query read stands in its grammar.
-use Rattle.std.proofs.Common.{◌≡◌, ◌⊎◌, ℕ, zero, suc, Bool, true, false, not, ◌&&◌, ◌||◌, if◌then◌else◌, ◌==◌, ℤ, List, [], ◌∷◌, ◌++◌, length, Option, Some, None, Ok, Err, inl, inr, refl, sym, ap, subst, ◌∙◌, append_assoc, append-nil, codes, rules}
+use Rattle.std.proofs.Common.{◌≡◌, ◌⊎◌, ℕ, zero, suc, Bool, true, false, not, ◌&&◌, ◌||◌, if◌then◌else◌, ◌==◌, ℤ, List, [], ◌∷◌, ◌++◌, length, Option, Some, None, Ok, inl, inr, refl, sym, ap, subst, ◌∙◌, append_assoc, append-nil, codes}
 use Rattle.std.proofs.lemmas.Bool.{eqb-true}
 use Rattle.std.specs.Str.Parse.{digits_value}
 use Rattle.geometry_model.specs.declared.relations.Predicate.{Predicate}
 use Rattle.geometry_model.specs.declared.relations.Predicate.TheVariants as p
-use denote.Enum.Bare.{same_true}
-use Rattle.table_model.specs.contracts.tokens.TokenKind.{the_type}
 use Rattle.table_model.specs.declared.conditions.Comparison.{Comparison}
-use Rattle.table_model.specs.declared.faults.QueryFault.{QueryFault}
 use Rattle.table_model.specs.declared.faults.QueryFault.TheVariants as fault
 use Rattle.table_model.specs.declared.queries.Explain.{Explain}
 use Rattle.table_model.specs.declared.queries.Name.{Name}
@@ -26,72 +23,21 @@ use Rattle.table_model.specs.declared.queries.WrittenReference.{WrittenReference
 use Rattle.table_model.specs.declared.tokens.Token.{Token}
 use Rattle.table_model.specs.declared.tokens.TokenKind.{TokenKind}
 use Rattle.table_model.specs.declared.tokens.TokenKind.TheVariants as k
-use Rattle.table_model.specs.Parsers.{Outcome, kind, place, spelling, next, written, sees, after, and_then, expect, parts_from, parts}
+use Rattle.table_model.specs.Parsers.{kind, place, spelling, next, written, sees, after, and_then, expect, parts_from, parts}
 use Rattle.table_model.specs.QueryGrammar.{Phrase, IsOne, IsToken, ◌▸◌, IsOptional, IsParts, IsName, IsColumn, IsDigits, IsInteger, IsString, IsWord, IsCall, IsGeometry, IsOperandFunction, IsOperand, IsComparison, function_of, IsPair, IsBool, IsNumber, IsTest, IsPredicate, IsChain, IsConjunction, IsConditionOf, IsNegationOf, IsNegation, IsCondition, IsItem, IsSelection, IsReference, IsSecond, IsWhere, IsExplain, IsSelect}
 use Rattle.table_model.specs.QueryReading.{Reader, Functions, name, column, calls, called_or, enclosed, string, geometry, integer, integer_value, integer_or, operand_functions, operand, comparison_of, compared, compared_by, null_test, comparison, truth_value, truth_test, tested, relates, relates_by, predicate_functions, predicate, chain, conjunction, condition_of, group, negation, condition, item_functions, item, items, selection, alias, reference, Second, crossed, joined_on, second, where_condition, says, analyzed, explained, query}
 use Rattle.table_model.specs.Served.{Served, Argument, ItemArgument, ServedOperand, ServedCond, ServedItem, ServedQuery}
 use Rattle.table_model.specs.Texts.{same_name}
 use Rattle.table_model.specs.Tokens.{same_kind}
+use Rattle.table_model.proofs.TokenReaders.{IfRead, Took, then_read, if_read, map_read, eaten, same, one, seq, but, expect_taken}
 
 -- ---- what a reader answers
-
-abbrev pub IfRead : {A : Type 0} → Outcome QueryFault A → (A → List Token → Type 0) → Type 0
-IfRead (Ok p) Q = Q p.0 p.1
-IfRead (Err e) Q = Unit {0}
-
--- the tokens of a phrase were read, and others are left
-abbrev pub Took : List Token → Phrase → List Token → Type 0
-Took ts P rest = (used : List Token) × (ts ≡ used ++ rest) × P used
 
 abbrev pub Sound : {A : Type 0} → Reader A → (A → Phrase) → Type 0
 Sound {A} p P = (ts : List Token) → IfRead (p ts) (λ x rest. Took ts (P x) rest)
 
-then_read : {A B : Type 0} (r : Outcome QueryFault A) (f : A → Reader B) (Q : A → List Token → Type 0) (R : B → List Token → Type 0)
-    → ((x : A) (rest : List Token) → Q x rest → IfRead (f x rest) R) → IfRead r Q → IfRead (and_then r f) R
-then_read (Ok p) f Q R g q = g p.0 p.1 q
-then_read (Err e) f Q R g q = tt
-
-if_read : {A : Type 0} (b : Bool) (x y : Outcome QueryFault A) (Q : A → List Token → Type 0)
-    → (b ≡ true → IfRead x Q) → (b ≡ false → IfRead y Q) → IfRead (if b then x else y) Q
-if_read true x y Q f g = f refl
-if_read false x y Q f g = g refl
-
-pub map_read : {A : Type 0} (r : Outcome QueryFault A) (Q R : A → List Token → Type 0) → ((x : A) (rest : List Token) → Q x rest → R x rest) → IfRead r Q → IfRead r R
-map_read (Ok p) Q R g q = g p.0 p.1 q
-map_read (Err e) Q R g q = tt
-
-eaten_by : {A : Type 0} (b : Bool) (ts : List Token) (p q : Reader A) (Q : A → List Token → Type 0)
-    → (b ≡ true → IfRead (p (next ts)) Q) → (b ≡ false → IfRead (q ts) Q) → IfRead ((if b then p else q) (if b then next ts else ts)) Q
-eaten_by true ts p q Q f g = f refl
-eaten_by false ts p q Q f g = g refl
-
-eaten : {A : Type 0} (wanted : TokenKind) (ts : List Token) (p q : Reader A) (Q : A → List Token → Type 0)
-    → (sees wanted ts ≡ true → IfRead (p (next ts)) Q) → (sees wanted ts ≡ false → IfRead (q ts) Q)
-    → IfRead ((if sees wanted ts then p else q) (after wanted ts)) Q
-unfolding after
-eaten wanted ts p q Q f g = eaten_by (sees wanted ts) ts p q Q f g
-
--- ---- what was taken
-
-pub same : (a b : TokenKind) → same_kind a b ≡ true → a ≡ b
-unfolding same_kind
-same a b h = same_true the_type (search rules) a b h
-
-pub one : (wanted : TokenKind) (ts : List Token) → (k.Bad ≡ wanted → ⊥) → sees wanted ts ≡ true → Took ts (IsToken wanted) (next ts)
-unfolding sees kind next
-one wanted [] good h = absurd (good (same k.Bad wanted h))
-one wanted (t ∷ ts) good h = (t ∷ [], refl, same t.kind wanted h)
-
-pub seq : (P Q : Phrase) (ts mid rest : List Token) → Took ts P mid → Took mid Q rest → Took ts (P ▸ Q) rest
-seq P Q ts mid rest p q =
-    (p.0 ++ q.0, p.1 ∙ ap (λ r. p.0 ++ r) q.1 ∙ sym (append_assoc p.0 q.0 rest), (p.0, q.0, refl, p.2, q.2))
-
-pub but : (P R : Phrase) (ts rest : List Token) → Took ts P rest → ((used : List Token) → P used → R used) → Took ts R rest
-but P R ts rest p f = (p.0, p.1, f p.0 p.2)
-
 pub expect_sound : (wanted : TokenKind) (ts : List Token) → (k.Bad ≡ wanted → ⊥) → IfRead (expect fault.Syntax wanted ts) (λ x rest. Took ts (IsToken wanted) rest)
-unfolding expect
-expect_sound wanted ts good = if_read (sees wanted ts) _ _ _ (λ h. one wanted ts good h) (λ _. tt)
+expect_sound = expect_taken fault.Syntax
 
 -- ---- names and columns
 
@@ -769,11 +715,11 @@ abbrev pub EndsOnce : List Token → Type 0
 EndsOnce [] = Unit {0}
 EndsOnce (t ∷ ts) = (t.kind ≡ k.End → ts ≡ []) × EndsOnce ts
 
-ends_after : (a b : List Token) → EndsOnce (a ++ b) → EndsOnce b
+pub ends_after : (a b : List Token) → EndsOnce (a ++ b) → EndsOnce b
 ends_after [] b h = h
 ends_after (t ∷ a) b h = ends_after a b h.1
 
-ends_left : (P : Phrase) (ts rest : List Token) → EndsOnce ts → Took ts P rest → EndsOnce rest
+pub ends_left : (P : Phrase) (ts rest : List Token) → EndsOnce ts → Took ts P rest → EndsOnce rest
 ends_left P ts rest h p = ends_after p.0 rest (subst EndsOnce p.1 h)
 
 ended : (ts : List Token) → EndsOnce ts → sees k.End ts ≡ true → next ts ≡ []
@@ -781,7 +727,7 @@ unfolding sees kind next
 ended [] h e = refl
 ended (t ∷ ts) h e = h.0 (same t.kind k.End e)
 
-all_taken : (P : Phrase) (ts rest : List Token) → Took ts P rest → rest ≡ [] → P ts
+pub all_taken : (P : Phrase) (ts rest : List Token) → Took ts P rest → rest ≡ [] → P ts
 all_taken P ts rest p e = subst P (sym (p.1 ∙ ap (λ r. p.0 ++ r) e ∙ append-nil p.0)) p.2
 
 end_sound : (ts : List Token) → EndsOnce ts → IfRead (expect fault.Syntax k.End ts) (λ u rest. Took ts (IsToken k.End) rest × (rest ≡ []))
