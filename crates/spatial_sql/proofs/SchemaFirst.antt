@@ -12,7 +12,7 @@ use Rattle.table_model.specs.Outcomes.{Gives}
 use Rattle.table_model.specs.Parsers.{Outcome, kind, place, spelling, next, sees, after}
 use Rattle.table_model.specs.QueryGrammar.{Phrase, IsToken, ◌▸◌, IsParts, AreEnded}
 use Rattle.table_model.specs.SchemaGrammar.{IsWord, IsType, IsNotNull, IsMark, AreMarks, Marked}
-use Rattle.table_model.specs.SchemaReading.{is_ascii, new_name, type_named, column_type, null_mark, key_mark, marks, has_column, column, is_there, key_after, columns_from, columns, has_table, table_name, table, tables_from, schema, schema_of, most_bytes}
+use Rattle.table_model.specs.SchemaReading.{is_ascii, new_name, type_named, null_mark, key_mark, marks, has_column, column, is_there, key_after, columns_from, columns, has_table, table_name, table, tables_from, schema, schema_of, most_bytes}
 use Rattle.table_model.specs.SchemaRefusals.{Written, IsColumn, IsCreateTable, IsWritten, BeforeTable, BeforeColumns, BeforeColumn, BeforeKey, BeforeClose, has_key, is_among, names_of, is_at_token, StandsAt, StandsIn, AnswersFirst}
 use Rattle.table_model.specs.Texts.{same_name}
 use Rattle.table_model.specs.Tokens.{same_kind, tokens}

@@ -1,20 +1,18 @@
 -- What the readers of a schema read stands in its grammar.
-use Rattle.std.proofs.Common.{◌≡◌, ◌⊎◌, ◌+◌, ◌&&◌, ◌||◌, not, ℕ, zero, suc, Bool, true, false, if◌then◌else◌, List, [], ◌∷◌, ◌++◌, length, map, Option, Some, None, Ok, Err, inl, inr, refl, sym, ap, subst, ◌∙◌, append_assoc, append-nil, arith, rules}
+use Rattle.std.proofs.Common.{◌≡◌, ◌⊎◌, ◌+◌, ◌&&◌, ◌||◌, not, ℕ, zero, suc, Bool, true, false, if◌then◌else◌, List, [], ◌∷◌, ◌++◌, length, map, Option, Some, None, inl, inr, refl, sym, ap, subst, ◌∙◌, append_assoc, arith}
 use Rattle.std.specs.Option.{option_to_list}
-use Rattle.table_model.proofs.QuerySound.{EndsOnce, ends_after, ends_left, all_taken}
+use Rattle.table_model.proofs.QuerySound.{EndsOnce, ends_left, all_taken}
 use Rattle.table_model.proofs.TokenReaders.{IfRead, Took, then_read, if_read, map_read, eaten, same, one, seq, but, expect_taken}
 use Rattle.std.specs.Prelude.{nat_le, codes}
 use Rattle.std.proofs.lemmas.Bool.{and_parts, false≢true}
 use Rattle.table_model.specs.Definitions.{is_integer}
-use Rattle.table_model.specs.Parsers.{Outcome, kind, place, spelling, next, sees, after, and_then, ◌>>=◌, pure, expect}
+use Rattle.table_model.specs.Parsers.{kind, place, spelling, next, sees, after, and_then, ◌>>=◌, pure, expect}
 use Rattle.table_model.specs.QueryGrammar.{Phrase, IsToken, ◌▸◌, IsOptional, IsParts}
 use Rattle.table_model.specs.SchemaGrammar.{IsWord, IsNamed, IsType, IsNotNull, IsPrimaryKey, IsMark, AreMarks, Marked, IsMarked, key_places, IsTable, AreTables}
-use Rattle.table_model.specs.SchemaReading.{Reader, sees_word, expect_word, sees_name, new_name, type_named, type_or, column_type, null_mark, key_mark, marks, has_column, most_columns, column, is_there, key_after, columns_from, columns, closed, close, table_name, table, goes_on, tables_from, all_tables, schema}
-use Rattle.table_model.specs.Tokens.{same_kind}
+use Rattle.table_model.specs.SchemaReading.{sees_word, expect_word, sees_name, new_name, type_named, type_or, column_type, null_mark, key_mark, marks, has_column, most_columns, column, is_there, key_after, columns_from, columns, closed, close, table_name, table, goes_on, tables_from, all_tables, schema}
 use Rattle.table_model.specs.declared.definitions.ColumnType.{ColumnType}
 use Rattle.table_model.specs.declared.definitions.ColumnDef.{ColumnDef}
 use Rattle.table_model.specs.declared.definitions.TableDef.{TableDef}
-use Rattle.table_model.specs.declared.faults.SchemaFault.{SchemaFault}
 use Rattle.table_model.specs.declared.faults.SchemaFault.TheVariants as fault
 use Rattle.table_model.specs.declared.tokens.Token.{Token}
 use Rattle.table_model.specs.declared.tokens.TokenKind.{TokenKind}
