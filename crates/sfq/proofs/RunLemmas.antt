@@ -1,11 +1,11 @@
 -- What the exits of a run say.
-use Rattle.std.proofs.Common.{◌≡◌, ◌≢◌, inl, inr, ℕ, List, [], ◌∷◌, ◌++◌, map, Option, None, Some, Result, Ok, Err, refl, sym, ◌∙◌, ap, subst}
+use Rattle.std.proofs.Common.{◌≡◌, ◌≢◌, inl, inr, ℕ, List, ◌++◌, map, Option, None, Some, Result, Ok, Err, refl, sym, ◌∙◌, ap, subst}
 use Rattle.std.specs.Prelude.{IsErrAnd, MatchResult}
 use Rattle.std.specs.List.{concat}
-use Rattle.std.specs.Io.KnownBytes.{Appends, Keeps}
+use Rattle.std.specs.Io.KnownBytes.{Keeps}
 use Rattle.std.proofs.lemmas.Simd.{map-map}
 use Rattle.csv.specs.Writing.{row_text, default_writer}
-use Rattle.wkt.specs.Sinks.{AppendsFront, one_more}
+use Rattle.wkt.specs.Sinks.{AppendsFront}
 use Rattle.wkt.proofs.SinkLemmas.{AppendsFront-kept}
 use Rattle.table_model.specs.AnswerTexts.{header, record_of}
 use Rattle.table_model.specs.Binding.{binding, no_geometry}
@@ -24,7 +24,7 @@ use Rattle.table_model.specs.declared.faults.TableFault.{TableFault}
 use Rattle.table_model.specs.declared.faults.QueryFault.{QueryFault}
 use Rattle.table_model.specs.declared.faults.QueryFault.TheVariants as query
 use Rattle.sfq.specs.Faults.{of_load, of_put, of_query, of_table}
-use Rattle.sfq.specs.Runs.{IsUnread, KeepsRefused, RefusesFirst, Runs, after, answer_text, outcome, pair_text, query_outcome}
+use Rattle.sfq.specs.Runs.{IsUnread, KeepsRefused, RefusesFirst, RefusesQuery, Runs, after, answer_text, bound_query, outcome, pair_text, query_outcome}
 use Rattle.sfq.specs.Stage.{no_writing, pair_rows, plain_meaning}
 use Rattle.sfq.specs.declared.execute.RowPair.{RowPair}
 use Rattle.sfq.specs.declared.fault.Fault.{Fault}
@@ -214,3 +214,67 @@ bound-first (Err (faults.Load table f)) definitions bound texts written tables o
     absurd (no-table (binding no_geometry bound written) (λ query. answer_text bound tables query) table f fact.0)
 bound-first (Err faults.Sink) definitions bound texts written tables old new fact = tt
 bound-first (Err faults.Memory) definitions bound texts written tables old new fact = tt
+
+-- what is refused of the query by a certain fault
+at-query : {A X : Type 0} (r : Result A Fault) (f : Fault) (bound : Result X Fault) → IsErrAnd r (λ x. x ≡ f) → RefusesQuery {A = A} (Err f) bound → RefusesQuery r bound
+at-query (Ok a) f bound is fact = tt
+at-query {A = A} (Err e) f bound is fact = subst (λ x. RefusesQuery {A = A} (Err x) bound) (sym is) fact
+
+-- a fault of a step on the query is that of the step
+of-step : (A : Type 0) {X Y : Type 0} (e : QueryFault) (answer : Result X QueryFault) (next : X → Result Y Fault)
+    → (e ≢ query.OutOfMemory → answer ≡ Err e) → RefusesQuery {A = A} (Err (of_query e)) (after of_query answer next)
+of-step A query.OutOfMemory answer next given = tt
+of-step A (query.Lex at) answer next given = ap (λ r. after of_query r next) (given (λ q. cc))
+of-step A (query.Syntax at) answer next given = ap (λ r. after of_query r next) (given (λ q. cc))
+of-step A (query.UnknownTable at) answer next given = ap (λ r. after of_query r next) (given (λ q. cc))
+of-step A (query.SameName at) answer next given = ap (λ r. after of_query r next) (given (λ q. cc))
+of-step A (query.UnknownColumn at) answer next given = ap (λ r. after of_query r next) (given (λ q. cc))
+of-step A (query.AmbiguousColumn at) answer next given = ap (λ r. after of_query r next) (given (λ q. cc))
+of-step A (query.TypeMismatch at) answer next given = ap (λ r. after of_query r next) (given (λ q. cc))
+of-step A (query.BadGeometry at f) answer next given = ap (λ r. after of_query r next) (given (λ q. cc))
+of-step A (query.BadPattern at) answer next given = ap (λ r. after of_query r next) (given (λ q. cc))
+of-step A (query.TooDeep at) answer next given = ap (λ r. after of_query r next) (given (λ q. cc))
+of-step A query.TooLong answer next given = ap (λ r. after of_query r next) (given (λ q. cc))
+of-step A (query.NumberTooBig at) answer next given = ap (λ r. after of_query r next) (given (λ q. cc))
+
+pub text-refused : {A : Type 0} (r : Result A Fault) (e : QueryFault) (definitions : List (TableDef NoGeometry)) (text : List ℕ) → IsErrAnd r (λ x. x ≡ of_query e)
+    → (e ≢ query.OutOfMemory → query_of language text ≡ Err e) → RefusesQuery r (bound_query definitions text)
+text-refused {A = A} r e definitions text is given =
+    at-query r (of_query e) (bound_query definitions text) is
+    (of-step A e (query_of language text) (λ written. after of_query (binding no_geometry definitions written) (λ bound. Ok bound)) given)
+
+-- a fault of a table is none of the query
+of-load-alone : (A : Type 0) {X : Type 0} (table : ℕ) (f : LoadFault) (bound : Result X Fault) → RefusesQuery {A = A} (Err (of_load table f)) bound
+of-load-alone A table load.MissingColumn bound = tt
+of-load-alone A table load.DoubleHeader bound = tt
+of-load-alone A table (load.UnequalRecord n) bound = tt
+of-load-alone A table (load.NotUtf8 n) bound = tt
+of-load-alone A table (load.BadInteger n) bound = tt
+of-load-alone A table (load.BadGeometry n why) bound = tt
+of-load-alone A table (load.WrongType n) bound = tt
+of-load-alone A table (load.NullNotAllowed n) bound = tt
+of-load-alone A table (load.DoubleKey n) bound = tt
+of-load-alone A table load.TooManyRows bound = tt
+of-load-alone A table load.ReadFailed bound = tt
+of-load-alone A table load.OutOfMemory bound = tt
+
+pub table-alone : {A X : Type 0} (r : Result A Fault) (f : TableFault) (bound : Result X Fault) → IsErrAnd r (λ x. x ≡ of_table f) → RefusesQuery r bound
+table-alone {A = A} r f bound is = at-query r (of_table f) bound is (of-load-alone A f.table f.fault bound)
+
+-- a fault of binding, whatever would follow
+same-fault : {X Y Z : Type 0} (answer : Result X QueryFault) (one : X → Y) (other : X → Z) (f : QueryFault)
+    → after of_query answer (λ x. Ok (one x)) ≡ Err (faults.Query f) → after of_query answer (λ x. Ok (other x)) ≡ Err (faults.Query f)
+same-fault (Ok x) one other f is = cc
+same-fault (Err e) one other f is = let same : of_query e ≡ faults.Query f = cc in ap Err same
+
+-- a query over loaded tables is refused only where it isn't bound
+pub binding-refused : {A : Type 0} (r : Result A Fault) (definitions these : List (TableDef NoGeometry)) (text : List ℕ) (written : Query NoGeometry NoGeometry) (tables : List (Table NoGeometry))
+    (old new : Option (List ℕ)) → query_of language text ≡ Ok written → these ≡ definitions → Runs r (query_outcome these written tables) old new → RefusesQuery r (bound_query definitions text)
+binding-refused (Ok a) definitions these text written tables old new is same fact = tt
+binding-refused (Err (faults.Query f)) definitions these text written tables old new is same fact =
+    ap (λ r. after of_query r (λ w. after of_query (binding no_geometry definitions w) (λ bound. Ok bound))) is
+    ∙ same-fault (binding no_geometry definitions written) (λ query. answer_text definitions tables query) (λ bound. bound) f
+    (subst (λ ds. query_outcome ds written tables ≡ Err (faults.Query f)) same fact.0)
+binding-refused (Err (faults.Load table f)) definitions these text written tables old new is same fact = tt
+binding-refused (Err faults.Sink) definitions these text written tables old new is same fact = tt
+binding-refused (Err faults.Memory) definitions these text written tables old new is same fact = tt

@@ -1,5 +1,5 @@
 -- What a run answers and puts.
-use Rattle.std.specs.Prelude.{◌≡◌, ◌≢◌, ℕ, List, [], ◌∷◌, map, Option, Result, Ok, Err, MatchResult, ⊤}
+use Rattle.std.specs.Prelude.{◌≡◌, ℕ, List, map, Option, Result, Ok, Err, MatchResult, ⊤}
 use Rattle.std.specs.List.{concat}
 use Rattle.std.specs.Io.KnownBytes.{Appends, Keeps}
 use Rattle.csv.specs.Writing.{row_text, default_writer}
@@ -10,7 +10,7 @@ use Rattle.table_model.specs.Binding.{binding, no_geometry}
 use Rattle.table_model.specs.declared.definitions.TableDef.{TableDef}
 use Rattle.table_model.specs.declared.conditions.Bound.{Bound}
 use Rattle.table_model.specs.declared.values.NoGeometry.{NoGeometry}
-use Rattle.sfq.specs.Stage.{PlainRow, no_writing, pair_rows, plain_meaning}
+use Rattle.sfq.specs.Stage.{no_writing, pair_rows, plain_meaning}
 use Rattle.sfq.specs.declared.execute.RowPair.{RowPair}
 use Rattle.table_model.specs.declared.queries.Query.{Query}
 use Rattle.table_model.specs.QueryReading.{query_of}
@@ -31,7 +31,7 @@ csv_text rows = concat (map (row_text default_writer) rows)
 abbrev pub answer_text : List (TableDef NoGeometry) → List (Table NoGeometry) → Bound NoGeometry NoGeometry → List ℕ
 answer_text definitions tables query = csv_text (answer_records no_writing definitions query (plain_meaning tables query))
 
--- the text of the record of a pair
+-- the text of the record of a pair (profile)
 abbrev pub pair_text : List (Table NoGeometry) → Bound NoGeometry NoGeometry → RowPair → List ℕ
 pair_text tables query pair = row_text default_writer (record_of no_writing query (pair_rows tables pair))
 
@@ -90,6 +90,20 @@ KeepsRefused (Err (faults.Query f)) old new = Keeps old new
 KeepsRefused (Err (faults.Load table f)) old new = Keeps old new
 KeepsRefused (Err faults.Sink) old new = ⊤
 KeepsRefused (Err faults.Memory) old new = ⊤
+
+-- the query that a text is, bound to the tables of a schema, or the fault: that of the text, else that of binding (SQL, the
+-- query; the order: profile)
+abbrev pub bound_query : List (TableDef NoGeometry) → List ℕ → Result (Bound NoGeometry NoGeometry) Fault
+bound_query definitions query =
+    after of_query (query_of language query) (λ written. after of_query (binding no_geometry definitions written) (λ bound. Ok bound))
+
+-- the query is refused only where it has this fault, whatever is told of the tables (profile)
+abbrev pub RefusesQuery : {A X : Type 0} → Result A Fault → Result X Fault → Type 0
+RefusesQuery (Ok a) bound = ⊤
+RefusesQuery (Err (faults.Query f)) bound = bound ≡ Err (faults.Query f)
+RefusesQuery (Err (faults.Load table f)) bound = ⊤
+RefusesQuery (Err faults.Sink) bound = ⊤
+RefusesQuery (Err faults.Memory) bound = ⊤
 
 -- a table is refused, or its reading fails, only where the text of each table before it loads (profile)
 abbrev pub RefusesFirst : {A : Type 0} → Result A Fault → List (TableDef NoGeometry) → List (List ℕ) → Type 0

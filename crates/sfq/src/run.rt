@@ -1,13 +1,13 @@
 //! A run: from a query's text and the tables' texts to the text of the answer.
 
-ghost use Rattle.std.specs.Prelude.{◌≡◌, ◌⊎◌, ◌<◌, ◌++◌, ℕ, List, Some, All, length, map, IfOk, OnOk, OnErr};
+ghost use Rattle.std.specs.Prelude.{◌≡◌, ◌<◌, ◌++◌, ℕ, List, Some, All, length, map, IfOk, OnOk, OnErr};
 ghost use Rattle.csv.specs.Records.{fields_of};
 ghost use Rattle.std.specs.List.{concat};
 ghost use Rattle.std.specs.Io.KnownBytes.{Appends};
 ghost use Rattle.csv.specs.Writing.{row_text, default_writer};
 ghost use Rattle.wkt.specs.Sinks.{AppendsFront};
 ghost use Rattle.table_model.specs.AnswerTexts.{header, record_of};
-ghost use Rattle.sfq.specs.Runs.{CountsPut, IsUnread, KeepsRefused, RefusesFirst, Runs, count_after, outcome, pair_text, query_outcome};
+ghost use Rattle.sfq.specs.Runs.{CountsPut, IsUnread, KeepsRefused, RefusesFirst, RefusesQuery, Runs, bound_query, count_after, outcome, pair_text, query_outcome};
 ghost use Rattle.table_model.specs.Meanings.{referenced};
 ghost use Rattle.sfq.specs.Stage.{HasReferences, IsPlace, no_writing, pair_rows};
 
@@ -22,7 +22,8 @@ use std::io::Read;
 use wkt::{Sink, put_all};
 
 /// Answers a query over the tables that the readers give, one for each table of the schema, in its order: reads
-/// the query, loads all tables, binds, and puts the header and the rows. (Profile.)
+/// the query, loads all tables, binds, and puts the header and the rows. The query is refused only with its own
+/// fault, whatever the readers give. (Profile.)
 pub fn run<R: Read + Drop, S: Sink>(
     alloc: Global,
     schema: &Schema,
@@ -34,6 +35,7 @@ pub fn run<R: Read + Drop, S: Sink>(
     ensures answer { (texts : List (List ℕ)) → map R.remaining readers.items ≡ map Some texts → ¬ (IsUnread result)
         → Runs result (outcome schema.now texts query.now) (S.taken sink.old) (S.taken sink.new) }
     ensures earlier { (texts : List (List ℕ)) → map R.remaining readers.items ≡ map Some texts → RefusesFirst result schema.now texts }
+    ensures refused { RefusesQuery result (bound_query schema.now query.now) }
     ensures kept { KeepsRefused result (S.taken sink.old) (S.taken sink.new) }
     ensures failures { S.failures sink.new ≡ count_after (S.failures sink.old) result }
 {

@@ -1,8 +1,8 @@
 -- Each exit of the steps of a run.
 use Rattle.std.proofs.Common.{subst, sym}
 use Rattle.sfq.specs.Faults.{of_query}
-use Rattle.sfq.specs.Runs.{Runs}
-use Rattle.sfq.proofs.RunLemmas.{at-fault, bound-first, loaded-outcome, query-first, query-refused, read-outcome, table-first, table-refused}
+use Rattle.sfq.specs.Runs.{Runs, bound_query}
+use Rattle.sfq.proofs.RunLemmas.{at-fault, binding-refused, bound-first, loaded-outcome, query-first, query-refused, read-outcome, table-alone, table-first, table-refused, text-refused}
 use Rattle.sfq.proofs.run.run.Goals as goal
 
 pub returns-in_err-query-clause-answer : goal.returns-in_err-query-clause-answer
@@ -36,3 +36,16 @@ pub returns-clause-earlier : goal.returns-clause-earlier
 returns-clause-earlier g c = λ texts known.
     bound-first c.answer_query.result c.args.schema.now c.in_ok-database.database.definitions texts c.in_ok-query.query c.in_ok-database.database.tables
     (g.S.Sink.taken c.args.sink.now) (g.S.Sink.taken c.answer_query.new.sink) c.answer_query.ensures.answer
+
+pub returns-in_err-query-clause-refused : goal.returns-in_err-query-clause-refused
+returns-in_err-query-clause-refused g c =
+    text-refused c.from_residual.result c.in_err-query.field-0.0 c.args.schema.now c.args.query.now c.from_residual.ensures.1 c.in_err-query.ensures.exact
+
+pub returns-in_err-database-clause-refused : goal.returns-in_err-database-clause-refused
+returns-in_err-database-clause-refused g c =
+    table-alone c.from_residual-in_err-database.result c.in_err-database.field-0.0 (bound_query c.args.schema.now c.args.query.now) c.from_residual-in_err-database.ensures.1
+
+pub returns-clause-refused : goal.returns-clause-refused
+returns-clause-refused g c =
+    binding-refused c.answer_query.result c.args.schema.now c.in_ok-database.database.definitions c.args.query.now c.in_ok-query.query c.in_ok-database.database.tables
+    (g.S.Sink.taken c.args.sink.now) (g.S.Sink.taken c.answer_query.new.sink) c.in_ok-query.ensures.exact c.in_ok-database.ensures.schema c.answer_query.ensures.answer
