@@ -17,26 +17,23 @@ use std::alloc::{AllocError, Global};
 use std::io::{self, BufWriter, ErrorKind};
 use std::process::ExitCode;
 use std::{env, fs};
-use wkt::StdSink;
+use wkt::{Sink, StdSink, put_all};
 
 /// The status for words of the command line that are no order.
 const MISUSE: u8 = 2;
 
-/// The status where memory ran out.
-const OUT_OF_MEMORY: u8 = 7;
+/// What is told of words that aren't UTF-8, which `clap` never sees.
+const NOT_UTF8: &[u8] = b"error: invalid UTF-8 was detected in one or more arguments\n";
 
 fn main(rt: HostRuntime) -> ExitCode {
     let mut err = StdSink::new(rt.stderr());
     let words = match read_words(&rt) {
         Ok(words) => words,
-        Err(status) => return ExitCode::from(status),
+        Err(error) => return ExitCode::from(failed_words(&error, &mut err)),
     };
     let order = match read_order(rt.alloc(), &words) {
         Ok(order) => order,
-        Err(misuse) => {
-            let _ = misuse.print(&rt);
-            return ExitCode::from(misuse.status());
-        }
+        Err(misuse) => return ExitCode::from(failed_order(&rt, &misuse, &mut err)),
     };
     let buffer = match BufWriter::new(rt.alloc(), rt.stdout()) {
         Ok(buffer) => buffer,
@@ -51,24 +48,34 @@ fn main(rt: HostRuntime) -> ExitCode {
     ExitCode::from(status)
 }
 
-// The words of the command line, the program's name first, or the status to end with where they can't be had.
-fn read_words(rt: &HostRuntime) -> Result<Vec<String>, u8> {
+// The words of the command line, the program's name first.
+fn read_words(rt: &HostRuntime) -> io::Result<Vec<String>> {
     let mut words = Vec::new(rt.alloc());
-    for word in env::args(rt).map_err(words_status)? {
+    for word in env::args(rt)? {
         if words.push(word).is_err() {
-            return Err(OUT_OF_MEMORY);
+            return Err(io::Error::from(ErrorKind::OutOfMemory));
         }
     }
     Ok(words)
 }
 
-// The status where the words of the command line can't be had: they are no UTF-8, or memory ran out.
-fn words_status(error: io::Error) -> u8 {
+// Tells why the words of the command line can't be had, and answers the status: memory ran out, or they aren't UTF-8.
+fn failed_words<E: Sink>(error: &io::Error, err: &mut E) -> u8 {
     if error.kind() == ErrorKind::OutOfMemory {
-        OUT_OF_MEMORY
-    } else {
-        MISUSE
+        return serve::failed(&Failure::OutOfMemory, err);
     }
+    let _ = put_all(err, NOT_UTF8);
+    MISUSE
+}
+
+// Prints `clap`'s text, and answers the status. Help that can't be written is an answer that can't be.
+fn failed_order<E: Sink>(rt: &HostRuntime, misuse: &Misuse, err: &mut E) -> u8 {
+    let is_printed = misuse.print(rt).is_ok();
+    let status = misuse.status();
+    if status == 0 && !is_printed {
+        return serve::failed(&Failure::WriteFailed, err);
+    }
+    status
 }
 
 // What the words of the command line order.

@@ -1,6 +1,7 @@
 //! What the program does with its order, over readers and sinks of any kind.
 
 ghost use Rattle.std.specs.Prelude.{◌≡◌, length, IfOk};
+ghost use Rattle.sfq.specs.Failures.{failure_status};
 
 use crate::failure::{Failure, fault_line, status};
 use crate::fault::Fault;
@@ -99,7 +100,9 @@ fn serve_relate<S: Sink, E: Sink>(
 }
 
 /// Puts the line of a failure, and answers its status, also where the line can't be put. (Profile.)
-pub fn failed<E: Sink>(failure: &Failure<'_>, err: &mut E) -> u8 {
+pub fn failed<E: Sink>(failure: &Failure<'_>, err: &mut E) -> u8
+    ensures { result ≡ failure_status failure.now }
+{
     let _ = fault_line(failure, err);
     status(failure)
 }
