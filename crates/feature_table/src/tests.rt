@@ -57,21 +57,29 @@ fn first_run_loads(rt: HostRuntime) -> Result<(), Fail> {
     assert!(rt; lawful(&tables));
     let schema = Schema::of(tables);
     assert!(rt; !schema.tables().is_empty());
-    let text: &[u8] = b"id,pop,name\n4,7,\n1,8,a\n3,,c\n2, +9\t,\"b,\"\"b\"\n";
-    let table = match Table::load(rt.alloc(), schema.table(0), text) {
-        Ok(table) => table,
-        Err(fault) => {
-            assert_eq!(rt; Some(fault), None);
-            return Ok(());
+    let cases: [(&[u8], [&str; 4]); 2] = [
+        (
+            b"id,pop,name\n1,8,a\n2,9,b\n3,,c\n4,7,\n",
+            ["|1|8|a", "|2|9|b", "|3||c", "|4|7|"],
+        ),
+        (
+            b"id,pop,name\n4,7,\n1,8,a\n3,,c\n2, +9\t,\"b,\"\"b\"\n",
+            ["|1|8|a", "|2|9|b,\"b", "|3||c", "|4|7|"],
+        ),
+    ];
+    for (text, rows) in cases {
+        let table = match Table::load(rt.alloc(), schema.table(0), text) {
+            Ok(table) => table,
+            Err(fault) => {
+                assert_eq!(rt; Some(fault), None);
+                return Ok(());
+            }
+        };
+        assert_eq!(rt; table.rows(), 4);
+        for (i, want) in rows.iter().enumerate() {
+            assert!(rt; i < table.rows());
+            assert_eq!(rt; line(rt.alloc(), &table, i)?.as_str(), *want);
         }
-    };
-    assert_eq!(rt; table.rows(), 4);
-    for (i, want) in ["|1|8|a", "|2|9|b,\"b", "|3||c", "|4|7|"]
-        .iter()
-        .enumerate()
-    {
-        assert!(rt; i < table.rows());
-        assert_eq!(rt; line(rt.alloc(), &table, i)?.as_str(), *want);
     }
     Ok(())
 }

@@ -124,20 +124,20 @@ fn queries_are_answered(rt: HostRuntime) -> Result<(), Fail> {
 
 #[test]
 fn tables_are_printed_by_key(rt: HostRuntime) -> Result<(), Fail> {
-    for (table, out) in [
-        ("id,pop,name\n", "name\n"),
-        ("id,pop,name\n2,,a\n1,,a\n", "name\na\na\n"),
+    for (table, query, out) in [
+        ("id,pop,name\n", "SELECT id FROM t", "id\n"),
+        (
+            "id,pop,name\n2,,a\n1,,a\n",
+            "SELECT name FROM t",
+            "name\na\na\n",
+        ),
         (
             "pop,name,x,id\n7,\"a,\"\"b\",,-1\n7,c,,-2\n",
+            "SELECT name FROM t",
             "name\nc\n\"a,\"\"b\"\n",
         ),
     ] {
-        let run = run_over(
-            &rt,
-            SCHEMA.as_bytes(),
-            table.as_bytes(),
-            "SELECT name FROM t",
-        )?;
+        let run = run_over(&rt, SCHEMA.as_bytes(), table.as_bytes(), query)?;
         assert_eq!(rt; run.out.bytes(), out.as_bytes(), "of {table}");
         assert_eq!(rt; run.status, 0);
     }
@@ -176,11 +176,18 @@ fn faults_have_lines(rt: HostRuntime) -> Result<(), Fail> {
             "sfq: S4 at 42\n",
             3,
         ),
+        (
+            "CREATE TABLE t (id INT PRIMARY KEY, geom GEOMETRY)",
+            TABLE,
+            QUERY,
+            "sfq: S1 at 41\n",
+            3,
+        ),
         (SCHEMA, "id,pop\n", QUERY, "sfq: t L1\n", 4),
         (SCHEMA, "id,pop,name,POP\n", QUERY, "sfq: t L2\n", 4),
         (
             SCHEMA,
-            "id,pop,name\n1,2,\n2\n",
+            "id,pop,name\n1,2,\n2",
             QUERY,
             "sfq: t L3 record 2\n",
             4,
@@ -225,6 +232,28 @@ fn faults_have_lines(rt: HostRuntime) -> Result<(), Fail> {
             TABLE,
             "EXPLAIN SELECT id FROM t",
             "sfq: Q2 at 0\n",
+            5,
+        ),
+        (SCHEMA, TABLE, "SELECT id FROM t, t", "sfq: Q2 at 16\n", 5),
+        (
+            SCHEMA,
+            TABLE,
+            "SELECT id FROM t JOIN t u ON 1 = 1",
+            "sfq: Q2 at 17\n",
+            5,
+        ),
+        (
+            SCHEMA,
+            TABLE,
+            "SELECT id FROM t x INNER JOIN t u ON 1 = 1",
+            "sfq: Q2 at 19\n",
+            5,
+        ),
+        (
+            SCHEMA,
+            TABLE,
+            "SELECT id FROM t WHERE ST_IsEmpty(name)",
+            "sfq: Q2 at 23\n",
             5,
         ),
         (SCHEMA, TABLE, "SELECT id FROM u", "sfq: Q3 at 15\n", 5),
@@ -498,6 +527,47 @@ fn reading_and_writing_may_fail(rt: HostRuntime) -> Result<(), Fail> {
         assert_eq!(rt; out.bytes(), out_text.as_bytes());
         assert_eq!(rt; status, 6);
     }
+    Ok(())
+}
+
+// A schema of two tables.
+const TWO_TABLES: &str =
+    "CREATE TABLE t (id INTEGER PRIMARY KEY); CREATE TABLE u (id INTEGER PRIMARY KEY)";
+
+// The reader of the file at a path, which fails at its first read where it is that of the table u.
+fn unread_second<'a>(path: &str, table: &'a [u8]) -> Option<StopReader<'a>> {
+    if path == "s" {
+        return Some(StopReader::new(TWO_TABLES.as_bytes(), 0));
+    }
+    if path == "d/u.csv" {
+        return Some(StopReader::new(table, 1));
+    }
+    Some(StopReader::new(table, 0))
+}
+
+#[test]
+fn a_failed_reading_is_told_of_its_table(rt: HostRuntime) -> Result<(), Fail> {
+    for (table, line, wanted) in [
+        ("id\n1\n", "sfq: u L11\n", 6),
+        ("id\nx\n", "sfq: t L5 record 1\n", 4),
+    ] {
+        let order = run_order(rt.alloc(), "SELECT id FROM t")?;
+        let mut out = MemorySink::new(rt.alloc());
+        let mut err = MemorySink::new(rt.alloc());
+        let opener = move |path: &str| unread_second(path, table.as_bytes());
+        let status = serve(rt.alloc(), &order, opener, &mut out, &mut err);
+        assert_eq!(rt; err.bytes(), line.as_bytes());
+        assert_eq!(rt; out.bytes(), b"".as_slice());
+        assert_eq!(rt; status, wanted);
+    }
+    Ok(())
+}
+
+#[test]
+fn all_tables_are_opened_before_one_is_read(rt: HostRuntime) -> Result<(), Fail> {
+    let run = run_over(&rt, TWO_TABLES.as_bytes(), b"id\nx\n", QUERY)?;
+    assert_eq!(rt; run.err.bytes(), b"sfq: u unreadable\n".as_slice());
+    assert_eq!(rt; run.status, 6);
     Ok(())
 }
 
