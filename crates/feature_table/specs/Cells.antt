@@ -5,7 +5,7 @@ use Rattle.table_model.specs.declared.values.NoGeometry.{NoGeometry}
 use Rattle.table_model.specs.declared.values.Value.{Value}
 use Rattle.table_model.specs.declared.values.Value.TheVariants as value
 
--- the value that a field shows: of what is lent, its bytes
+-- the value that a field shows: of what is lent, its bytes (profile)
 abbrev pub shown : Field → Value NoGeometry
 shown field.Null = value.Null
 shown (field.Int n) = value.Integer n

@@ -10,27 +10,27 @@ use Rattle.table_model.specs.Loading.{Record, row_limit}
 abbrev pub record_limit : ℕ
 record_limit = 1 + row_limit + 1
 
--- how many records csv was asked for
+-- how many records csv was asked for (profile)
 abbrev pub asked : {R : Type 0} → Records R → ℕ
 asked r = r.asked
 
--- whether csv answered the last time that reading failed
+-- whether csv answered the last time that reading failed (profile)
 abbrev pub read_failed : {R : Type 0} → Records R → Bool
 read_failed r = r.read_failed
 
--- whether csv answered an error, and one of reading
+-- whether csv answered an error, and one of reading (profile)
 abbrev pub tells_of_reading : {A : Type 0} → Result A Error → Bool
 tells_of_reading (Ok x) = false
 tells_of_reading (Err e) = is_io (error_kind e)
 
--- a record may be asked for: none was refused yet
+-- a record may be asked for: none was refused yet (profile)
 abbrev pub IsReady : {R : Type 0} → Records R → Type 0
 IsReady r = IsSteady r.reader
 
--- the bytes underneath are known, and these records of them are left
+-- the bytes underneath are known, and these records of them are left (profile)
 abbrev pub Gives : {R : Type 0} → (R → Option (List ℕ)) → Records R → List Record → Type 0
 Gives remaining r rest = StillGives remaining r.reader rest
 
--- the first of the records that were left was taken, or none was left
+-- the first of the records that were left was taken, or none was left (profile)
 abbrev pub GivesFirst : {R : Type 0} → (R → Option (List ℕ)) → Records R → List Record → Bool → Record → Type 0
 GivesFirst remaining r rest found fields = TakesFirst remaining r.reader rest found fields

@@ -10,7 +10,7 @@ use Rattle.table_model.specs.declared.definitions.TableDef.{TableDef}
 use Rattle.table_model.specs.declared.faults.LoadFault.{LoadFault}
 use Rattle.table_model.specs.declared.values.NoGeometry.{NoGeometry}
 
--- no record was left, or the first of them was taken and is this row, or has this fault
+-- no record was left, or the first of them was taken and is this row, or has this fault (profile)
 abbrev pub TakesRow : {R : Type 0} → (R → Option (List ℕ)) → Records R → TableDef NoGeometry → Record → ℕ → List Record
     → Result (Option (Row NoGeometry)) LoadFault → Type 0
 TakesRow remaining records table header number rest (Ok None) = rest ≡ []

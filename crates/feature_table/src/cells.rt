@@ -5,7 +5,7 @@ ghost use Rattle.feature_table.specs.Cells.{shown};
 
 use table_model::values::{NoGeometry, Value};
 
-/// A field of a row, its text or geometry lent by the table.
+/// A field of a row, its text or geometry lent by the table. (06-104r4, feature tables.)
 #[derive(Clone, Copy)]
 pub enum Field<'a> {
     /// No value.

@@ -15,7 +15,7 @@ use std::io::Read;
 use std::marker::Model;
 use table_model::faults::{LoadFault, TableFault};
 
-/// The tables of a schema, which it borrows.
+/// The tables of a schema, which it borrows. (06-104r4, feature tables.)
 #[derive(Drop)]
 pub struct Database<'s> {
     schema: &'s Schema,
@@ -58,7 +58,7 @@ fn load_table<R: Read + Drop>(
 impl<'s> Database<'s> {
     /// Loads the tables of a schema in its order, each from the CSV text of one reader. The answer is the first
     /// fault where there is one, with its table: `Table::load` says which. So also a fault of reading is that of the
-    /// first table whose reading failed: each table before it has loaded.
+    /// first table whose reading failed: each table before it has loaded. (Profile.)
     pub fn load<R: Read + Drop>(
         alloc: Global,
         schema: &'s Schema,
@@ -84,14 +84,14 @@ impl<'s> Database<'s> {
         Ok(Database { schema, tables })
     }
 
-    /// Lends the definitions of the tables, in the order of the schema.
+    /// Lends the definitions of the tables, in the order of the schema. (Profile.)
     pub fn definitions(&self) -> &'s [TableDef]
         ensures { result.now ≡ self.now.definitions }
     {
         self.schema.tables()
     }
 
-    /// Lends the table at a place of the schema.
+    /// Lends the table at a place of the schema. (Profile.)
     pub fn table(&self, i: usize) -> &Table
         requires { i < length self.now.definitions }
         ensures { slice_get self.now.tables i ≡ Some result.now }

@@ -38,7 +38,7 @@ fn record_reader<R: Read + Drop>(alloc: Global, reader: R) -> Reader<R>
 }
 
 impl<R: Read + Drop> Records<R> {
-    /// The records of the CSV text that a reader gives. None is read yet.
+    /// The records of the CSV text that a reader gives. None is read yet. (Profile.)
     pub fn new(alloc: Global, reader: R) -> Records<R>
         ensures ready { IsReady result }
         ensures none { asked result ≡ 0 }
@@ -67,7 +67,7 @@ impl<R: Read + Drop> Records<R> {
     }
 
     /// Asks `csv` for the next record, and says whether there is one. An error is that of `csv`; it is one of reading
-    /// or tells that memory ran out, and no record is asked for after it.
+    /// or tells that memory ran out, and no record is asked for after it. (Profile.)
     pub fn read(&mut self, record: &mut ByteRecord) -> Result<bool, Error>
         requires ready { IsReady self.old }
         requires limit { asked self.old < record_limit }

@@ -10,22 +10,22 @@ use std::marker::Model;
 use table_model::texts::same_name;
 use table_model::values::NoGeometry;
 
-/// The type of a column: whole numbers or texts. No type of geometry is served.
+/// The type of a column: whole numbers or texts. No type of geometry is served. (SQL; profile.)
 pub type ColumnType = table_model::definitions::ColumnType<NoGeometry>;
 
-/// A column of a table.
+/// A column of a table. (06-104r4, feature tables.)
 pub type ColumnDef = table_model::definitions::ColumnDef<NoGeometry>;
 
-/// A table: its columns in order, one of which is the feature key.
+/// A table: its columns in order, one of which is the feature key. (06-104r4, feature tables.)
 pub type TableDef = table_model::definitions::TableDef<NoGeometry>;
 
-/// The most tables that a schema may have.
+/// The most tables that a schema may have. (Profile.)
 pub const TABLE_LIMIT: usize = 16;
 
-/// The most columns that a table may have.
+/// The most columns that a table may have. (Profile.)
 pub const COLUMN_LIMIT: usize = 32;
 
-/// A lawful list of table definitions, which contracts see as that list.
+/// A lawful list of table definitions, which contracts see as that list. (06-104r4, feature tables; profile.)
 #[derive(Drop)]
 pub struct Schema {
     tables: Items<TableDef>,
@@ -45,7 +45,7 @@ impl Model for Schema {
 }
 
 impl Schema {
-    /// The schema of a lawful list of definitions. It takes no memory.
+    /// The schema of a lawful list of definitions. It takes no memory. (Profile.)
     pub fn of(tables: Vec<TableDef>) -> Schema
         requires { IsTrue (lawful tables.items) }
         ensures { result ≡ tables.items }
@@ -55,7 +55,7 @@ impl Schema {
         }
     }
 
-    /// Lends the definitions, in the order of the schema. They are lawful.
+    /// Lends the definitions, in the order of the schema. They are lawful. (Profile.)
     pub fn tables(&self) -> &[TableDef]
         ensures value { result.now ≡ self.now }
         ensures lawful { IsTrue (lawful self.now) }
@@ -153,7 +153,7 @@ fn are_lawful(tables: &[TableDef]) -> bool
 
 /// Whether a list of table definitions is lawful: at most 16 tables of at most 32 columns, names of tables and
 /// names of columns that differ without regard to ASCII case, and of each table a key, which is an INTEGER
-/// column. The empty list is lawful. It takes no memory.
+/// column. The empty list is lawful. It takes no memory. (06-104r4, feature tables, of the key; profile.)
 #[tactic(auto, unfolding(table_model::specs::Definitions::lawful))]
 pub fn lawful(tables: &[TableDef]) -> bool
     ensures { result ≡ lawful tables.now }

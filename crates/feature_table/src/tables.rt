@@ -23,7 +23,7 @@ use std::marker::Model;
 use table_model::faults::LoadFault;
 use table_model::values::{NoGeometry, Value};
 
-/// A row of a table, which contracts see as the list of its values.
+/// A row of a table, which contracts see as the list of its values. (06-104r4, feature tables.)
 #[derive(Drop)]
 pub struct Row<'a> {
     values: &'a Items<Value<NoGeometry>>,
@@ -39,14 +39,14 @@ impl<'a> Model for Row<'a> {
 }
 
 impl<'a> Row<'a> {
-    /// How many fields the row has: as many as its table has columns.
+    /// How many fields the row has. Of a table that was loaded they are as many as its columns. (Profile.)
     pub fn len(&self) -> usize
         ensures { result ≡ length self.now }
     {
         self.values.len()
     }
 
-    /// Lends the field of the column at a place.
+    /// Lends the field of the column at a place. (Profile.)
     pub fn field(&self, column: usize) -> Field<'a>
         requires { column < length self.now }
         ensures { slice_get self.now column ≡ Some (shown result) }
@@ -56,7 +56,7 @@ impl<'a> Row<'a> {
     }
 }
 
-/// A table: its rows by ascending key. Contracts see it as that list.
+/// A table: its rows by ascending key. Contracts see it as that list. (06-104r4, feature tables.)
 #[derive(Drop)]
 pub struct Table {
     rows: Vec<Items<Value<NoGeometry>>>,
@@ -75,7 +75,7 @@ impl Table {
     /// Loads the table of a definition, which is lawful by itself, from the CSV text that a reader gives. The answer
     /// is the first fault where there is one: of the header, then of the records in order, then a repeated key. A
     /// fault of reading is answered where it comes. It is `Table::load_from` over the records of the reader, so at
-    /// most 100,002 of them are read, the header among them.
+    /// most 100,002 of them are read, the header among them. (Profile.)
     pub fn load<R: Read + Drop>(
         alloc: Global,
         table: &TableDef,
@@ -90,7 +90,7 @@ impl Table {
 
     /// Loads the table of a definition, which is lawful by itself, from records of which none was asked for yet. The
     /// answer is that of `Table::load`. It asks for at most 100,002 records, the header among them, and answers that
-    /// reading failed only where `csv` answered an error of reading.
+    /// reading failed only where `csv` answered an error of reading. (Profile.)
     pub fn load_from<R: Read + Drop>(
         alloc: Global,
         table: &TableDef,
@@ -115,14 +115,14 @@ impl Table {
         Ok(Table { rows })
     }
 
-    /// How many rows there are.
+    /// How many rows there are. (Profile.)
     pub fn rows(&self) -> usize
         ensures { result ≡ length self.now }
     {
         self.rows.len()
     }
 
-    /// Lends the row at a place.
+    /// Lends the row at a place. (Profile.)
     pub fn row(&self, i: usize) -> Row<'_>
         requires { i < length self.now }
         ensures { slice_get self.now i ≡ Some result }

@@ -41,6 +41,7 @@ of_load table (load.DoubleKey n) = faults.Load table (load.DoubleKey n)
 of_load table load.TooManyRows = faults.Load table load.TooManyRows
 of_load table load.ReadFailed = faults.Load table load.ReadFailed
 
+-- a fault of loading with its table, and want of memory (profile)
 abbrev pub of_table : TableFault → Fault
 of_table f = of_load f.table f.fault
 

@@ -1,5 +1,5 @@
 -- The definitions at what is served: no geometry stands in a row, a condition or an item.
-use Rattle.std.specs.Prelude.{◌≡◌, ◌⊎◌, All, Bool, ℕ, pos, true, List, [], ◌∷◌, map, Option, Some, None, IfSome, ◌<◌, length, slice_get, unwrap_or}
+use Rattle.std.specs.Prelude.{◌≡◌, ◌⊎◌, All, Bool, ℕ, pos, true, List, [], ◌∷◌, Option, Some, None, IfSome, ◌<◌, length, slice_get, unwrap_or}
 use Rattle.geometry_model.specs.Labels.{labelled_matrix}
 use Rattle.table_model.specs.AnswerTexts.{Writing}
 use Rattle.table_model.specs.Meanings.{Row, Table, all_true, meaning}
@@ -12,23 +12,23 @@ use Rattle.table_model.specs.declared.conditions.Reference.{Reference}
 use Rattle.table_model.specs.declared.definitions.TableDef.{TableDef}
 use Rattle.sfq.specs.declared.execute.RowPair.{RowPair}
 
--- a row as it is served
+-- a row as it is served (profile)
 abbrev pub PlainRow : Type 0
 PlainRow = Row NoGeometry
 
--- the truth of a condition at some rows, the matrix being the one by labels
+-- the truth of a condition at some rows, the matrix being the one by labels (SQL's three-valued logic)
 abbrev pub value_at : List PlainRow → Cond NoGeometry → Truth
 value_at = truth labelled_matrix no_argument
 
--- whether each of these conditions is true at some rows
+-- whether each of these conditions is true at some rows (profile)
 abbrev pub holds_at : List (Cond NoGeometry) → List PlainRow → Bool
 holds_at = all_true value_at
 
--- the meaning of a query over some tables
+-- the meaning of a query over some tables (SQL)
 abbrev pub plain_meaning : List (Table NoGeometry) → Bound NoGeometry NoGeometry → List (List PlainRow)
 plain_meaning = meaning value_at
 
--- how geometries are written where there is none
+-- how geometries are written where there is none (profile)
 abbrev pub no_writing : Writing NoGeometry NoGeometry
 no_writing = record {
   place = λ c. record { reference = 0; column = 0 };
@@ -37,23 +37,24 @@ no_writing = record {
   is_empty = λ g. true;
 }
 
--- the row at a place of a table
+-- the row at a place of a table (profile)
 abbrev pub row_at : List PlainRow → ℕ → PlainRow
 row_at table place = unwrap_or (slice_get table place) []
 
--- the rows of a pair, from the first table, and from the second where there is one
+-- the row of a pair from the second table, where there is one (profile)
 abbrev pub second_rows : List PlainRow → Option ℕ → List PlainRow
 second_rows table None = []
 second_rows table (Some place) = row_at table place ∷ []
 
+-- the rows of a pair, from the first table, and from the second where there is one (profile)
 abbrev pub pair_rows : List (Table NoGeometry) → RowPair → List PlainRow
 pair_rows tables pair = row_at (unwrap_or (slice_get tables 0) []) pair.first ∷ second_rows (unwrap_or (slice_get tables 1) []) pair.second
 
--- the places of a pair are there
+-- the places of a pair are there (profile)
 abbrev pub IsPlace : List (Table NoGeometry) → RowPair → Type 0
 IsPlace tables pair = (pair.first < length (unwrap_or (slice_get tables 0) []))
     × IfSome pair.second (λ place. place < length (unwrap_or (slice_get tables 1) []))
 
--- there are one or two references, and the table of each is there
+-- there are one or two references, and the table of each is there (profile)
 abbrev pub HasReferences : {T : Type 0} → List (TableDef T) → List Reference → Type 0
 HasReferences tables references = ((length references ≡ 1) ⊎ (length references ≡ 2)) × All (λ (r : Reference). r.table < length tables) references

@@ -2,7 +2,7 @@
 
 ghost use Rattle.std.specs.Prelude.{◌≡◌, ◌++◌, decimal, codes, OnOk, OnErr};
 ghost use Rattle.std.specs.Io.KnownBytes.{Appends};
-ghost use Rattle.table_model.specs.FaultLines.{schema_text, load_text, query_text, geometry_text, schema_status, load_status, query_status, line_of};
+ghost use Rattle.table_model.specs.FaultLines.{schema_text, load_text, query_text, geometry_text, line_of};
 ghost use Rattle.wkt.specs.Sinks.{AppendsFront, CountsFailure};
 ghost use Rattle.sfq.specs.Failures.{failure_text, failure_line, failure_status, digits_of, fault_text, operand_text, text_with, words_text};
 ghost use Rattle.geometry_model.specs.declared.geometry_faults.GeometryFault.TheVariants as g;

@@ -5,7 +5,7 @@ use table_model::faults::{LoadFault, QueryFault, TableFault};
 use thiserror::Error;
 use wkt::SinkFault;
 
-/// Why a run ends without an answer, in the order of its steps but for want of memory, which may come at each.
+/// Why a run ends without an answer, in the order of its steps but for want of memory, which may come at each. (Profile.)
 #[derive(Clone, Copy, Debug, PartialEq, Eq, Error)]
 pub enum Fault {
     /// The query isn't taken.
@@ -75,7 +75,7 @@ impl From<AllocError> for Fault {
     }
 }
 
-/// Why records aren't put.
+/// Why records aren't put. (Profile.)
 #[derive(Clone, Copy, Debug, PartialEq, Eq)]
 pub enum PutFault {
     /// The sink failed.

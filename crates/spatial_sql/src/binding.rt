@@ -137,7 +137,7 @@ fn bound_query(
 /// ON and of WHERE, and answers the first fault from left to right with its byte:
 /// `UnknownTable` at a table's name, `SameName` at the name of a second reference that has the first's name,
 /// `UnknownColumn` and `AmbiguousColumn` at a column's first byte, `TypeMismatch` at the first byte of a comparison
-/// whose sides are not both INTEGER or both TEXT, NULL being either; or `OutOfMemory`.
+/// whose sides are not both INTEGER or both TEXT, NULL being either; or `OutOfMemory`. (SQL; the order: profile.)
 pub fn bind(alloc: Global, query: &Query<'_>, database: &Database<'_>) -> Result<Bound, QueryFault>
     ensures { Gives QueryFault.OutOfMemory (λ bound. bound) result (spec.binding spec.no_geometry database.now.definitions query.now) }
 {

@@ -1,7 +1,7 @@
 //! Reads names, operands and conditions. Each function ensures the outcome of the reader of its name in
 //! `specs/QueryReading.antt` of `table_model`, which has the grammar.
 
-ghost use Rattle.std.specs.Prelude.{◌≡◌, ◌≤◌, ◌<◌, ◌∷◌, [], ◌^◌, MatchOption, false, true};
+ghost use Rattle.std.specs.Prelude.{◌≡◌, ◌≤◌, ◌<◌, ◌^◌, MatchOption, false, true};
 ghost use Rattle.std.specs.Char as chars;
 ghost use Rattle.std.specs.Str.Parse.{digits_value};
 ghost use Rattle.table_model.specs.declared.queries.WrittenCond.TheVariants as tree;

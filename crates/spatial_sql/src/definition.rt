@@ -1,7 +1,7 @@
 //! Reads the definition of a table. Each function ensures the outcome of the reader of its name in
 //! `specs/SchemaReading.antt` of `table_model`, which has the grammar.
 
-ghost use Rattle.std.specs.Prelude.{◌≡◌, ◌≢◌, ◌<◌, ◌≤◌, ◌++◌, [], ◌∷◌, true, IfOk, IsTrue, Result, codes};
+ghost use Rattle.std.specs.Prelude.{◌≡◌, true, IfOk};
 ghost use Rattle.table_model.specs.Definitions.{is_integer};
 ghost use Rattle.table_model.specs.SchemaReading as spec;
 ghost use Rattle.table_model.specs.Parsers as steps;

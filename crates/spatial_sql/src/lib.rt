@@ -28,11 +28,11 @@ use table_model::values::NoGeometry;
 pub use table_model::values::Truth;
 pub use truth::value;
 
-/// A SELECT as it is written. Names and strings are parts of the query's text.
+/// A SELECT as it is written. Names and strings are parts of the query's text. (SQL, the query; profile.)
 pub type Query<'a> = table_model::queries::Query<'a, NoGeometry, NoGeometry>;
 
-/// A query whose names have become places of a database.
+/// A query whose names have become places of a database. (SQL, the query.)
 pub type Bound = table_model::conditions::Bound<NoGeometry, NoGeometry>;
 
-/// A condition over the rows of a bound query.
+/// A condition over the rows of a bound query. (SQL, the search condition.)
 pub type Cond = table_model::conditions::Cond<NoGeometry>;

@@ -1,6 +1,6 @@
 //! The value of a condition at rows.
 
-ghost use Rattle.std.specs.Prelude.{◌≡◌, map, drop, fold};
+ghost use Rattle.std.specs.Prelude.{◌≡◌, map};
 ghost use Rattle.geometry_model.specs.Labels.{labelled_matrix};
 ghost use Rattle.feature_table.specs.Cells.{shown};
 ghost use Rattle.spatial_sql.specs.Sides.{side_value};
@@ -163,7 +163,7 @@ fn null_test(operand: &Operand<NoGeometry>, rows: &[Row<'_>]) -> Truth
 
 /// The truth of a condition at rows, one for each reference in the query's order: TEXT is compared by bytes, a
 /// comparison with NULL is unknown, and so is NOT of what is unknown. Each part is evaluated, from left to right. A
-/// place that the rows don't have is NULL. It takes no memory.
+/// place that the rows don't have is NULL. It takes no memory. (SQL's three-valued logic; order of texts: profile.)
 #[cycle(value)]
 pub fn value(cond: &Cond, rows: &[Row<'_>]) -> Truth
     ensures { result ≡ spec.truth labelled_matrix spec.no_argument rows.now cond.now }

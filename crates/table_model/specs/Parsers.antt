@@ -9,7 +9,7 @@ use Rattle.table_model.specs.Tokens.{same_kind}
 
 -- ---- the next token, of those that are left; past the last one nothing can be read
 
--- its kind, End where no token is left (profile)
+-- its kind, Bad where no token is left (profile)
 unfoldable pub kind : List Token → TokenKind
 kind [] = k.Bad
 kind (t ∷ ts) = t.kind

@@ -3,7 +3,7 @@
 use crate::texts::OwnedText;
 use sqlite_items::Items;
 
-/// The type of a column, generic in what names a type of geometry.
+/// The type of a column, generic in what names a type of geometry. (SQL; 06-104r4, 7.2.)
 #[derive(Debug, Drop)]
 pub enum ColumnType<T> {
     /// Whole numbers of 64 bits with a sign.
@@ -14,7 +14,7 @@ pub enum ColumnType<T> {
     Geometry(T),
 }
 
-/// A column of a table.
+/// A column of a table. (06-104r4, feature tables.)
 #[derive(Debug, Drop)]
 pub struct ColumnDef<T> {
     /// The name as the schema spells it.
@@ -24,7 +24,7 @@ pub struct ColumnDef<T> {
     pub not_null: bool,
 }
 
-/// A table: its columns in order, one of which is the feature key.
+/// A table: its columns in order, one of which is the feature key. (06-104r4, feature tables.)
 #[derive(Debug, Drop)]
 pub struct TableDef<T> {
     /// The name as the schema spells it.

@@ -5,21 +5,21 @@ use crate::texts::Slice;
 use geometry_model::Predicate;
 use sqlite_items::{Boxed, Items};
 
-/// A name or a string, and the byte from 0 at which its token starts in the query's text.
+/// A name or a string, and the byte from 0 at which its token starts in the query's text. (Profile.)
 #[derive(Debug, Drop)]
 pub struct Name<'a> {
     pub text: Slice<'a>,
     pub at: usize,
 }
 
-/// A column as it is written, with the name of its reference where one is written.
+/// A column as it is written, with the name of its reference where one is written. (SQL, column names.)
 #[derive(Debug, Drop)]
 pub struct WrittenColumn<'a> {
     pub reference: Option<Name<'a>>,
     pub name: Name<'a>,
 }
 
-/// A geometry argument as it is written.
+/// A geometry argument as it is written. (06-104r4, 7.2.)
 #[derive(Debug, Drop)]
 pub enum WrittenGeometry<'a> {
     Column(WrittenColumn<'a>),
@@ -28,6 +28,7 @@ pub enum WrittenGeometry<'a> {
 }
 
 /// A side of a comparison as it is written, generic in what a geometry argument is.
+/// (SQL, comparison; of geometries: 06-103r4, 6.1.2.2.)
 #[derive(Debug, Drop)]
 pub enum WrittenOperand<'a, A> {
     Column(WrittenColumn<'a>),
@@ -40,7 +41,7 @@ pub enum WrittenOperand<'a, A> {
     Dimension(usize, A),
 }
 
-/// Which DE-9IM predicate is written: ST_Relate has its pattern as a string.
+/// Which DE-9IM predicate is written: ST_Relate has its pattern as a string. (06-103r4, 6.1.15.)
 #[derive(Debug, Drop)]
 pub enum WrittenPredicate<'a> {
     Named(Predicate),
@@ -48,7 +49,7 @@ pub enum WrittenPredicate<'a> {
 }
 
 /// A condition as it is written, generic in what a geometry argument is. The number of a predicate is the byte
-/// at which it starts.
+/// at which it starts. (SQL, the search condition.)
 #[derive(Debug, Drop)]
 pub enum WrittenCond<'a, A> {
     Or(Items<WrittenCond<'a, A>>),
@@ -60,7 +61,7 @@ pub enum WrittenCond<'a, A> {
     Relates(usize, WrittenPredicate<'a>, A, A),
 }
 
-/// An item of the select list as it is written, generic in what the argument of a function is.
+/// An item of the select list as it is written, generic in what the argument of a function is. (SQL, the select list.)
 #[derive(Debug, Drop)]
 pub enum WrittenItem<'a, C> {
     Column(WrittenColumn<'a>),
@@ -70,7 +71,7 @@ pub enum WrittenItem<'a, C> {
     IsEmpty(usize, C),
 }
 
-/// What SELECT lists.
+/// What SELECT lists. (SQL, the select list.)
 #[derive(Debug, Drop)]
 pub enum Selection<'a, C> {
     /// `*`
@@ -78,14 +79,14 @@ pub enum Selection<'a, C> {
     Items(Items<WrittenItem<'a, C>>),
 }
 
-/// A table reference as it is written.
+/// A table reference as it is written. (SQL, FROM.)
 #[derive(Debug, Drop)]
 pub struct WrittenReference<'a> {
     pub table: Name<'a>,
     pub alias: Option<Name<'a>>,
 }
 
-/// Whether a query is to be answered, or its plan to be told.
+/// Whether a query is to be answered, or its plan to be told. (Profile.)
 #[derive(Clone, Copy, Debug, PartialEq, Eq)]
 pub enum Explain {
     /// Rows are wanted.
@@ -97,7 +98,7 @@ pub enum Explain {
 }
 
 /// A SELECT as it is written, generic in what a geometry argument is in a condition (`A`) and what the argument
-/// of a function is in the select list (`C`).
+/// of a function is in the select list (`C`). (SQL, the query.)
 #[derive(Debug, Drop)]
 pub struct Query<'a, A, C> {
     pub explain: Explain,

@@ -2,7 +2,7 @@
 
 use crate::conditions::ColumnPlace;
 
-/// The type of a part of a query.
+/// The type of a part of a query. (SQL, comparison.)
 #[derive(Clone, Copy, Debug, PartialEq, Eq)]
 pub enum OperandType {
     Integer,
@@ -12,14 +12,14 @@ pub enum OperandType {
     Null,
 }
 
-/// What the name of a column stands for.
+/// What the name of a column stands for. (Profile.)
 #[derive(Clone, Copy, Debug, PartialEq, Eq)]
 pub struct Found {
     pub place: ColumnPlace,
     pub column_type: OperandType,
 }
 
-/// A part of a query with the type that it has.
+/// A part of a query with the type that it has. (Profile.)
 #[derive(Debug, Drop)]
 pub struct Typed<P> {
     pub part: P,

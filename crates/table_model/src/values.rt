@@ -2,7 +2,7 @@
 
 use crate::texts::OwnedText;
 
-/// A field of a typed row, generic in what a geometry is.
+/// A field of a typed row, generic in what a geometry is. (SQL; 06-104r4, feature tables.)
 #[derive(Debug, Drop)]
 pub enum Value<G> {
     /// No value.
@@ -15,7 +15,7 @@ pub enum Value<G> {
     Geometry(G),
 }
 
-/// The three values of a condition: what is neither true nor false is unknown.
+/// The three values of a condition: what is neither true nor false is unknown. (SQL's three-valued logic.)
 #[derive(Clone, Copy, Debug, PartialEq, Eq)]
 pub enum Truth {
     True,
@@ -24,6 +24,6 @@ pub enum Truth {
 }
 
 /// Stands in the place of a geometry, or of what speaks of one, where none is served: it has no value. It derives no
-/// method beside its drop, since none could be called.
+/// method beside its drop, since none could be called. (Profile.)
 #[derive(Drop)]
 pub enum NoGeometry {}
