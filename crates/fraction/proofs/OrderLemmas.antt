@@ -10,10 +10,11 @@ use Rattle.std.specs.Int.{int_max}
 use Rattle.integers.proofs.Signs.{less_no}
 use Rattle.integers.proofs.Tests.{equal_yes}
 use Rattle.geometry_model.specs.Points.{Position, Point, IsPoint, point_at, same_point, compare_x, compare_y, compare}
+use Rattle.geometry_model.specs.WellKnownText.{same_position}
 use Rattle.geometry_model.proofs.LeastFormFacts.{least_is_unique}
 use Rattle.fraction.specs.Fractions.{Fraction, IsFraction, x_of, y_of, compare_fractions}
 use Rattle.fraction.specs.Ranges.{IsKeptPoint}
-use Rattle.fraction.specs.Orders.{position_order, position_equality, made_fraction, fraction_order, point_order}
+use Rattle.fraction.specs.Orders.{position_order, made_fraction, fraction_order, point_order}
 
 made_as_it_is : (f : Fraction) → IsFraction f → made_fraction f ≡ f
 made_as_it_is f h = λ i. record { numerator = f.numerator; denominator = at_least_one f.denominator h i }
@@ -51,5 +52,5 @@ times_one z = omega (arith, ints)
 pub position_order_is : (a b : Position) → position_order a b ≡ compare (point_at a) (point_at b)
 position_order_is a b = ap₂ ordering_then (ap₂ int_cmp (times_one a.x) (times_one b.x)) (ap₂ int_cmp (times_one a.y) (times_one b.y))
 
-pub position_equality_is : (a b : Position) → position_equality a b ≡ same_point (point_at a) (point_at b)
-position_equality_is a b = ap₂ (λ s t. s && t) (ap₂ int_eq (times_one a.x) (times_one b.x)) (ap₂ int_eq (times_one a.y) (times_one b.y))
+pub same_position_is : (a b : Position) → same_position a b ≡ same_point (point_at a) (point_at b)
+same_position_is a b = ap₂ (λ s t. s && t) (ap₂ int_eq (times_one a.x) (times_one b.x)) (ap₂ int_eq (times_one a.y) (times_one b.y))

@@ -1,16 +1,22 @@
--- The orders of fractions and of points are lawful.
+-- The equality of positions, and the orders of fractions and of points, are lawful.
 use Rattle.std.proofs.Common.{◌≡◌, sym, ap, ap₂, ◌∙◌, [], ◌∷◌, ℤ, pos, ◌*ℤ◌, ◌<ℤ◌, arith}
 use Rattle.std.proofs.lemmas.Int.{ints}
-use Rattle.std.proofs.lemmas.Cmp.{int_cmp_total, on_total, then_total}
-use Rattle.std.specs.Cmp.{IsTotalOrder}
+use Rattle.std.proofs.lemmas.Cmp.{int_cmp_total, on_total, then_total, and_equiv, on_equiv, int_eq_equiv}
+use Rattle.std.specs.Cmp.{IsTotalOrder, IsEquivalence}
 use Rattle.std.specs.declared.cmp.Ordering.TheVariants.{Less, Equal}
 use Rattle.std.specs.Ordering.{int_cmp}
 use Rattle.std.specs.Int.{int_max}
 use Rattle.integers.proofs.Ring.{solve, var, ◌⊗◌}
 use Rattle.integers.proofs.Quotients.{trans_less}
 use Rattle.integers.proofs.Tests.{cmp_less, cmp_less_from, cmp_equal_from, cmp_two_scaled}
+use Rattle.geometry_model.specs.WellKnownText.{same_position}
 use Rattle.fraction.specs.Fractions.{Fraction, IsFraction, x_of, y_of, compare_fractions}
 use Rattle.fraction.specs.Orders.{made_fraction, fraction_order, point_order}
+
+-- ---- positions
+
+pub same_position_equiv : IsEquivalence same_position
+same_position_equiv = and_equiv (on_equiv (λ a. a.x) int_eq_equiv) (on_equiv (λ a. a.y) int_eq_equiv)
 
 -- ---- over fractions with denominators above 0
 

@@ -1,7 +1,7 @@
 -- The orders as the comparison traits want them: lawful over all records of numbers, also over those that stand for nothing.
-use Rattle.std.specs.Prelude.{Bool, pos}
+use Rattle.std.specs.Prelude.{pos}
 use Rattle.std.specs.declared.cmp.Ordering.{Ordering}
-use Rattle.std.specs.Ordering.{int_cmp, int_eq, on, then_cmp, eq_of_both}
+use Rattle.std.specs.Ordering.{int_cmp, on, then_cmp}
 use Rattle.std.specs.Int.{int_max}
 use Rattle.geometry_model.specs.Points.{Position, Point}
 use Rattle.fraction.specs.Fractions.{Fraction, x_of, y_of, compare_fractions}
@@ -9,10 +9,6 @@ use Rattle.fraction.specs.Fractions.{Fraction, x_of, y_of, compare_fractions}
 -- positions by x, then by y (profile)
 abbrev pub position_order : Position → Position → Ordering
 position_order = then_cmp (on (λ a. a.x) int_cmp) (on (λ a. a.y) int_cmp)
-
--- positions with equal coordinates (profile)
-abbrev pub position_equality : Position → Position → Bool
-position_equality = eq_of_both (on (λ a. a.x) int_eq) (on (λ a. a.y) int_eq)
 
 -- a denominator below 1 is read as 1; no fraction of the code has one (profile)
 abbrev pub made_fraction : Fraction → Fraction

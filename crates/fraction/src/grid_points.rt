@@ -1,13 +1,15 @@
 //! Positions of the grid: two whole coordinates within the limit.
 
 ghost use Rattle.std.specs.Prelude.{◌≡◌, IsSome, IfSome, Some, ◌↔◌};
-ghost use Rattle.std.specs.Cmp.{partial_order_from_own_ties};
+ghost use Rattle.std.specs.Cmp.{partial_equiv_from_equiv, partial_order_from_own_ties};
 ghost use Rattle.std.specs.Cmp.Rules.{comparing};
 ghost use Rattle.std.specs.Ordering.{as_partial_cmp};
 ghost use Rattle.std.proofs.Common.{rules};
 ghost use Rattle.geometry_model.specs.Points.{Position, point_at, same_point, compare};
 ghost use Rattle.fraction.specs.Ranges.{IsOnGrid};
-ghost use Rattle.fraction.specs.Orders.{position_order, position_equality};
+ghost use Rattle.geometry_model.specs.WellKnownText.{same_position};
+ghost use Rattle.fraction.specs.Orders.{position_order};
+ghost use Rattle.fraction.specs.OrderLaws.{same_position_equiv};
 
 use std::cmp::Ordering;
 use std::marker::Model;
@@ -34,7 +36,8 @@ impl Model for GridPoint {
 }
 
 impl GridPoint {
-    /// The position (x, y); `None` exactly where a coordinate is past the limit.
+    /// The position (x, y); `None` exactly where a coordinate is past the limit (OGC 06-103r4, 6.1.4; the limit:
+    /// profile).
     pub fn new(x: i32, y: i32) -> Option<GridPoint>
         ensures taken { IsSome result ↔ IsOnGrid (record { x = x; y = y }) }
         ensures value { IfSome result (λ a. a ≡ record { x = x; y = y }) }
@@ -47,7 +50,7 @@ impl GridPoint {
         }
     }
 
-    /// The first coordinate, in grid steps.
+    /// The first coordinate, in grid steps (OGC 06-103r4, 6.1.4: X).
     pub fn x(&self) -> i32
         ensures value { result ≡ self.now.x }
         ensures on_grid { IsOnGrid self.now }
@@ -55,7 +58,7 @@ impl GridPoint {
         self.x
     }
 
-    /// The second coordinate, in grid steps.
+    /// The second coordinate, in grid steps (OGC 06-103r4, 6.1.4: Y).
     pub fn y(&self) -> i32
         ensures value { result ≡ self.now.y }
         ensures on_grid { IsOnGrid self.now }
@@ -96,13 +99,13 @@ impl PartialOrd for GridPoint {
 }
 
 impl PartialEq for GridPoint {
-    ghost eq = { position_equality };
+    ghost eq = { same_position };
 
-    ghost laws = { Prim.search (comparing, rules) };
+    ghost laws = { partial_equiv_from_equiv same_position_equiv };
 
     /// Whether both coordinates are equal. (Profile.)
     fn eq(&self, other: &GridPoint) -> bool
-        ensures both { result ≡ position_equality self.now other.now }
+        ensures both { result ≡ same_position self.now other.now }
         ensures exact { result ≡ same_point (point_at self.now) (point_at other.now) }
     {
         (self.x, self.y) == (other.x, other.y)
@@ -110,5 +113,5 @@ impl PartialEq for GridPoint {
 }
 
 impl Eq for GridPoint {
-    ghost laws = { Prim.search (comparing, rules) };
+    ghost laws = { same_position_equiv };
 }

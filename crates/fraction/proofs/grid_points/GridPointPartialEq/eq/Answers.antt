@@ -1,7 +1,7 @@
 use Rattle.std.proofs.Common.{rules, ◌≡◌, ◌∙◌}
-use Rattle.fraction.specs.Orders.{position_equality}
-use Rattle.fraction.proofs.OrderLemmas.{position_equality_is}
+use Rattle.geometry_model.specs.WellKnownText.{same_position}
+use Rattle.fraction.proofs.OrderLemmas.{same_position_is}
 use Rattle.fraction.proofs.grid_points.GridPointPartialEq.eq.Goals as goal
 
 pub returns-clause-exact : goal.returns-clause-exact
-returns-clause-exact c = let e : c.eq.result ≡ position_equality c.args.self.now c.args.other.now = search rules in e ∙ position_equality_is c.args.self.now c.args.other.now
+returns-clause-exact c = let e : c.eq.result ≡ same_position c.args.self.now c.args.other.now = search rules in e ∙ same_position_is c.args.self.now c.args.other.now
