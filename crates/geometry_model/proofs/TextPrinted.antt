@@ -88,7 +88,8 @@ geometry_again (LineString ps) = ap LineString (repeats_once ps)
 geometry_again (MultiLineString ls) = ap MultiLineString (repeats_once_each ls)
 geometry_again (Polygon rs) = ap Polygon (repeats_once_each rs)
 
-counts_again : (w : Geometry) → IsWithinCounts w → IsWithinCounts (geometry_of w)
+-- dropping repeats keeps what is written within the counts
+pub counts_again : (w : Geometry) → IsWithinCounts w → IsWithinCounts (geometry_of w)
 counts_again (Point p) within = within
 counts_again (MultiPoint ps) within = within
 counts_again (LineString ps) within = (le_trans (shorter ps) within.0, within.1)

@@ -1,12 +1,13 @@
 -- Each geometry that a text spells is kept.
-use Rattle.std.proofs.Common.{◌≡◌, ◌≢◌, ℕ, suc, ◌<◌, ◌≤◌, ℤ, Bool, true, false, cond, List, [], ◌∷◌, length, map, refl, sym, subst, arith, zero-lt-suc, zero-le, le_refl, le_trans, length-append}
-use Rattle.std.specs.List.{All, dedup_from, flat_map}
+use Rattle.std.proofs.Common.{◌≡◌, ◌≢◌, ℕ, ◌<◌, ℤ, Bool, true, false, cond, List, [], ◌∷◌, length, map, refl, sym, subst, arith, zero-lt-suc}
+use Rattle.std.specs.List.{All, dedup_from}
 use Rattle.std.specs.Ordering.{int_eq}
 use Rattle.std.proofs.lemmas.Int.{ints}
 use Rattle.std.proofs.lemmas.List.Elements.{All-nil, All-cons, All-append}
 use Rattle.geometry_model.specs.Points.{Position}
 use Rattle.geometry_model.specs.Geometries.{Geometry, Point, MultiPoint, LineString, MultiLineString, Polygon, Edge, edges, edges_of_line, edges_of_lines}
-use Rattle.geometry_model.specs.WellKnownText.{Separated, LineText, Body, TaggedText, IsWithinCounts, written_parts, same_position, without_repeats, geometry_of}
+use Rattle.geometry_model.specs.WellKnownText.{Separated, LineText, Body, TaggedText, written_parts, same_position, without_repeats, geometry_of}
+use Rattle.geometry_model.proofs.TextPrinted.{counts_again}
 use Rattle.wkt.specs.KeptGeometries.{IsKept, SpelledIsKept}
 
 -- neighbours
@@ -95,42 +96,11 @@ parts_have_positions (LineString ps) text t = All-nil HasPositions
 parts_have_positions (MultiLineString ls) text t = body_has_positions ls t.1 t.4
 parts_have_positions (Polygon rs) text t = body_has_positions rs t.1 t.4
 
--- counts
-
-shorter_from : (k : Position) (xs : List Position) → length (dedup_from same_position k xs) ≤ suc (length xs)
-shorter_from k [] = le_refl 1
-shorter_from k (x ∷ xs) = by_test (same_position x k) (shorter_from k xs) (shorter_from x xs)
-  where
-    by_test : (same : Bool) → length (dedup_from same_position k xs) ≤ suc (length xs) → length (dedup_from same_position x xs) ≤ suc (length xs)
-        → length (cond same (dedup_from same_position k xs) (k ∷ dedup_from same_position x xs)) ≤ suc (suc (length xs))
-    by_test true here behind = omega (arith, here)
-    by_test false here behind = omega (arith, behind)
-
-shorter : (ps : List Position) → length (without_repeats ps) ≤ length ps
-shorter [] = zero-le
-shorter (p ∷ ps) = shorter_from p ps
-
-shorter_each : (ls : List (List Position)) → length (flat_map (λ l. l) (map without_repeats ls)) ≤ length (flat_map (λ l. l) ls)
-shorter_each [] = zero-le
-shorter_each (l ∷ ls) =
-    omega (arith, shorter l, shorter_each ls, length-append l (flat_map (λ m. m) ls), length-append (without_repeats l) (flat_map (λ m. m) (map without_repeats ls)))
-
-as_many : (ls : List (List Position)) → length (map without_repeats ls) ≤ length ls
-as_many [] = zero-le
-as_many (l ∷ ls) = omega (arith, as_many ls)
-
-counts : (w : Geometry) → IsWithinCounts w → IsWithinCounts (geometry_of w)
-counts (Point p) within = within
-counts (MultiPoint ps) within = within
-counts (LineString ps) within = (le_trans (shorter ps) within.0, within.1)
-counts (MultiLineString ls) within = (le_trans (shorter_each ls) within.0, le_trans (as_many ls) within.1)
-counts (Polygon rs) within = (le_trans (shorter_each rs) within.0, le_trans (as_many rs) within.1)
-
 pub spelled_is_kept : SpelledIsKept
 spelled_is_kept text g spelled =
     let w = spelled.written in
     subst IsKept (sym spelled.meant) (record {
-      counts = counts w spelled.counts;
+      counts = counts_again w spelled.counts;
       ends_differ = ends_apart w;
       parts_have_positions = parts_have_positions w spelled.spelled.4.0 spelled.spelled.4.3;
     })
