@@ -76,7 +76,7 @@ impl Matrix {
     }
 
     /// The matrix of the two geometries the other way round. (Profile.)
-    pub fn transposed(&self) -> Matrix
+    pub(crate) fn transposed(&self) -> Matrix
         ensures { result ≡ transposed self.now }
     {
         Matrix {
