@@ -7,7 +7,7 @@ use crate::matrix::Matrix;
 use crate::pattern::MatrixPattern;
 use geometry_model::{Kind, Pattern, PatternCharacter, Predicate};
 
-/// What a spatial predicate says of itself. [`Predicate`] alone has it.
+/// What a spatial predicate says of itself. [`Predicate`] alone has it. (Profile.)
 pub trait SpatialPredicate {
     /// Whether the envelopes of two geometries meet wherever the predicate holds of them (profile): of Equals,
     /// Intersects, Touches, Crosses, Within, Contains and Overlaps, and of a pattern with T, 0, 1 or 2 in a cell of

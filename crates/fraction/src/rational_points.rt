@@ -39,7 +39,7 @@ impl Model for RatPoint {
 }
 
 impl RatPoint {
-    /// The point at a position of the grid, with denominator 1.
+    /// The point at a position of the grid, with denominator 1. (Profile.)
     pub fn of_grid(at: GridPoint) -> RatPoint
         ensures { result ≡ point_at at }
     {
@@ -51,7 +51,7 @@ impl RatPoint {
     }
 
     /// The point (x/w, y/w): its triple in least form. It asks that w is from 1 to 16 L L and that x and y are within L w
-    /// either way, L being the limit of coordinates.
+    /// either way, L being the limit of coordinates. (Profile.)
     pub fn reduced(x: i64, y: i64, w: i64) -> RatPoint
         requires in_range { IsInRange (record { X = x; Y = y; W = w }) }
         ensures exact { result ≡ least_form (record { X = x; Y = y; W = w }) }
@@ -82,7 +82,7 @@ impl RatPoint {
         )
     }
 
-    /// X, the numerator of the first coordinate.
+    /// X, the numerator of the first coordinate. (Profile.)
     pub fn numerator_x(&self) -> i64
         ensures value { result ≡ self.now.X }
         ensures kept { IsKeptPoint self.now }
@@ -90,7 +90,7 @@ impl RatPoint {
         self.numerator_x
     }
 
-    /// Y, the numerator of the second coordinate.
+    /// Y, the numerator of the second coordinate. (Profile.)
     pub fn numerator_y(&self) -> i64
         ensures value { result ≡ self.now.Y }
         ensures kept { IsKeptPoint self.now }
@@ -98,7 +98,7 @@ impl RatPoint {
         self.numerator_y
     }
 
-    /// W, the denominator of both coordinates.
+    /// W, the denominator of both coordinates. (Profile.)
     pub fn denominator(&self) -> i64
         ensures value { result ≡ self.now.W }
         ensures kept { IsKeptPoint self.now }
@@ -106,14 +106,14 @@ impl RatPoint {
         self.denominator
     }
 
-    /// The first coordinate, X/W.
+    /// The first coordinate, X/W. (Profile.)
     pub fn x(&self) -> Frac
         ensures { result ≡ x_of self.now }
     {
         Frac::new(self.numerator_x, self.denominator)
     }
 
-    /// The second coordinate, Y/W.
+    /// The second coordinate, Y/W. (Profile.)
     pub fn y(&self) -> Frac
         ensures { result ≡ y_of self.now }
     {

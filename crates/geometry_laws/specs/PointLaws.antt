@@ -21,7 +21,7 @@ SameIsSymmetric = (p q : Point) → same_point p q ≡ same_point q p
 abbrev pub SameIsTransitive : Type 0
 SameIsTransitive = (p q r : Point) → IsPoint q → same_point p q ≡ true → same_point q r ≡ true → same_point p r ≡ true
 
--- the other way round
+-- the other way round (profile)
 abbrev pub reversed : Ordering → Ordering
 reversed Less = Greater
 reversed Equal = Equal
@@ -44,7 +44,7 @@ abbrev pub MediantIsBetween : Type 0
 MediantIsBetween = (p q : Point) → IsPoint p → IsPoint q → compare p q ≡ Less
     → IsPoint (mediant p q) × (compare p (mediant p q) ≡ Less) × (compare (mediant p q) q ≡ Less)
 
--- what is said of a point is said of all triples that stand for it
+-- what is said of a point is said of all triples that stand for it (profile)
 abbrev pub Respects : {A : Type 0} → (Point → A) → Type 0
 Respects f = (p q : Point) → IsPoint p → IsPoint q → same_point p q ≡ true → f p ≡ f q
 

@@ -2,22 +2,22 @@
 
 ghost use Rattle.geometry_laws.specs.CoverLaws.{PointsDontCover, LinesDontCover, FirstIsAbove, SidesHaveTriangles};
 
-/// Finitely many points don't cover a segment.
+/// Finitely many points don't cover a segment. (Profile.)
 pub fn points_dont_cover()
     ensures { PointsDontCover }
 {}
 
-/// Finitely many lines don't cover a triangle.
+/// Finitely many lines don't cover a triangle. (Profile.)
 pub fn lines_dont_cover()
     ensures { LinesDontCover }
 {}
 
-/// Where some edge is strictly above a point there is a first one: at its point straight above, just those edges are at or above that are strictly above the point itself.
+/// Where some edge is strictly above a point there is a first one: at its point straight above, just those edges are at or above that are strictly above the point itself. (Profile.)
 pub fn first_is_above()
     ensures { FirstIsAbove }
 {}
 
-/// Just below and just above a point through which no upright edge goes there are triangles of points that stand as the sides say.
+/// Just below and just above a point through which no upright edge goes there are triangles of points that stand as the sides say. (Profile.)
 pub fn sides_have_triangles()
     ensures { SidesHaveTriangles }
 {}

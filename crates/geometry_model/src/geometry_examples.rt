@@ -32,7 +32,7 @@ ghost use Rattle.geometry_model.specs.declared.relations.Predicate.TheVariants.{
   Overlaps,
 };
 
-/// One point by several triples, its least form, the order of points, and a point between two.
+/// One point by several triples, its least form, the order of points, and a point between two. (Profile.)
 pub fn rational_points()
     ensures multiples { same_point (point (pos 6) (pos 2) (pos 5)) (point (pos 12) (pos 4) (pos 10)) ≡ true }
     ensures different { same_point (point (pos 6) (pos 2) (pos 5)) (point (pos 12) (pos 5) (pos 10)) ≡ false }
@@ -44,7 +44,7 @@ pub fn rational_points()
     ensures between { mediant (point (pos 0) (pos 0) (pos 1)) (point (pos 6) (pos 2) (pos 5)) ≡ point (pos 6) (pos 2) (pos 6) }
 {}
 
-/// Where points stand: ends of lines, corners of rings, holes.
+/// Where points stand: ends of lines, corners of rings, holes (06-103r4, 6.1.15.2).
 pub fn locations()
     ensures two_ends { place (codes "MULTILINESTRING((0 0,2 0),(2 0,4 0))") (point (pos 2) (pos 0) (pos 1)) ≡ Some Interior }
     ensures three_ends { place (codes "MULTILINESTRING((0 0,2 0),(2 0,4 0),(2 0,2 2))") (point (pos 2) (pos 0) (pos 1)) ≡ Some Boundary }
@@ -60,7 +60,7 @@ pub fn locations()
     ensures beside_a_hole { place frame (point (pos 7) (pos 10) (pos 2)) ≡ Some Interior }
 {}
 
-/// Cut points and pieces of two lines that cross, of two that share a stretch, and of an upright one.
+/// Cut points and pieces of two lines that cross, of two that share a stretch, and of an upright one. (Profile.)
 pub fn cut_points_and_pieces()
     ensures crossing { cuts (codes "LINESTRING(0 0,3 1)") (codes "LINESTRING(0 1,2 0)")
         ≡ Some (point (pos 0) (pos 0) (pos 1) ∷ point (pos 0) (pos 1) (pos 1) ∷ point (pos 6) (pos 2) (pos 5) ∷ point (pos 2) (pos 0) (pos 1) ∷ point (pos 3) (pos 1) (pos 1) ∷ []) }
@@ -83,7 +83,7 @@ pub fn cut_points_and_pieces()
         ∷ point (pos 99999) (negsuc 99999) (pos 1) ∷ point (pos 100000) (pos 99999) (pos 1) ∷ []) }
 {}
 
-/// Texts of patterns: nine characters, letters in either case.
+/// Texts of patterns: nine characters, letters in either case (06-103r4, 6.1.15.2).
 pub fn pattern_texts()
     ensures too_short { pattern_of_text (codes "TTT") ≡ None }
     ensures too_long { pattern_of_text (codes "T*F**F****") ≡ None }
@@ -91,7 +91,7 @@ pub fn pattern_texts()
     ensures small_letters { pattern_of_text (codes "t*f**f012") ≡ pattern_of_text (codes "T*F**F012") }
 {}
 
-/// Predicates of worked rows, by their label matrices.
+/// Predicates of worked rows, by their label matrices (06-103r4, 6.1.15.3).
 pub fn predicates_of_rows()
     ensures empty_geometries_are_equal { tested Equals (codes "POINT EMPTY") (codes "LINESTRING EMPTY") ≡ Some true }
     ensures two_elements_are_equal { tested Equals (codes "LINESTRING(0 0,2 0)") (codes "MULTILINESTRING((0 0,1 0),(1 0,2 0))") ≡ Some true }
@@ -108,7 +108,7 @@ pub fn predicates_of_rows()
     ensures points_do_not_touch { tested Touches (codes "POINT(1 1)") (codes "POINT(1 1)") ≡ Some false }
 {}
 
-/// Predicates and patterns that want a common point, so that envelopes meet where they hold.
+/// Predicates and patterns that want a common point, so that envelopes meet where they hold. (Profile.)
 pub fn meeting_is_forced()
     ensures disjoint { forces_meeting Disjoint ≡ false }
     ensures equals { forces_meeting Equals ≡ true }
@@ -118,7 +118,7 @@ pub fn meeting_is_forced()
     ensures exteriors_alone { forces (codes "FF2FF1212") ≡ Some false }
 {}
 
-/// Envelopes, and whether two meet: edges counted, and two absent ones do.
+/// Envelopes, and whether two meet: edges counted, and two absent ones do (06-103r4, 6.1.2.2).
 pub fn envelopes()
     ensures of_a_line { bounds (codes "LINESTRING(3 -1,0 5,7 2)") ≡ Some (Some record { least_x = pos 0; greatest_x = pos 7; least_y = negsuc 0; greatest_y = pos 5 }) }
     ensures of_an_empty_geometry { bounds (codes "POLYGON EMPTY") ≡ Some None }

@@ -3,17 +3,17 @@
 
 ghost use Rattle.geometry_model.specs.LeastFormLaws.{GcdIsGcd, LeastFormIsLeast, LeastFormIsUnique};
 
-/// What Euclid's remainders end with is the greatest common divisor.
+/// What Euclid's remainders end with is the greatest common divisor. (Profile.)
 pub fn gcd_is_greatest()
     ensures { GcdIsGcd }
 {}
 
-/// The least form of a point is a point in least form, and the same point.
+/// The least form of a point is a point in least form, and the same point. (Profile.)
 pub fn least_form_is_least()
     ensures { LeastFormIsLeast }
 {}
 
-/// Two triples in least form that stand for one point are one triple.
+/// Two triples in least form that stand for one point are one triple. (Profile.)
 pub fn least_form_is_unique()
     ensures { LeastFormIsUnique }
 {}

@@ -4,7 +4,7 @@
 ghost use Rattle.std.specs.Prelude.{◌≡◌, codes, Some};
 ghost use Rattle.geometry_model.specs.GeometryExamples.{relate, square, frame};
 
-/// A point with points, lines and areas.
+/// A point with points, lines and areas (06-103r4, 6.1.15.2).
 pub fn matrices_of_points()
     ensures one_of_two { relate (codes "POINT(1 2)") (codes "MULTIPOINT((1 2),(3 4))") ≡ Some (codes "0FFFFF0F2") }
     ensures apart { relate (codes "POINT(1 2)") (codes "multipoint ( 3 4 )") ≡ Some (codes "FF0FFF0F2") }
@@ -16,7 +16,7 @@ pub fn matrices_of_points()
     ensures at_the_limit { relate (codes "POINT(-100000 100000)") (codes "LINESTRING(-100000 -100000,-100000 100000)") ≡ Some (codes "F0FFFF102") }
 {}
 
-/// The ends of lines: an odd number of ends at a point makes it boundary.
+/// The ends of lines: an odd number of ends at a point makes it boundary (06-103r4, 6.1.8.1 and 6.1.15.2).
 pub fn matrices_of_line_ends()
     ensures closed_line { relate (codes "POINT(0 0)") (codes "LINESTRING(0 0,2 0,2 2,0 0)") ≡ Some (codes "0FFFFF1F2") }
     ensures two_ends { relate (codes "POINT(2 0)") (codes "MULTILINESTRING((0 0,2 0),(2 0,4 0))") ≡ Some (codes "0FFFFF102") }
@@ -25,7 +25,7 @@ pub fn matrices_of_line_ends()
     ensures crosses_itself { relate (codes "POINT(1 1)") (codes "LINESTRING(0 0,2 2,2 0,0 2)") ≡ Some (codes "0FFFFF102") }
 {}
 
-/// Lines with lines: crossings at rational points, one line in two elements.
+/// Lines with lines: crossings at rational points, one line in two elements (06-103r4, 6.1.15.2).
 pub fn matrices_of_lines()
     ensures crossing_at_fifths { relate (codes "LINESTRING(0 0,3 1)") (codes "LINESTRING(0 1,2 0)") ≡ Some (codes "0F1FF0102") }
     ensures crossing_at_the_limit { relate (codes "LINESTRING(-100000 -100000,100000 99999)") (codes "LINESTRING(-100000 -99999,100000 99998)") ≡ Some (codes "0F1FF0102") }
@@ -33,7 +33,7 @@ pub fn matrices_of_lines()
     ensures shared_stretch { relate (codes "LINESTRING(0 0,4 0)") (codes "LINESTRING(6 0,2 0)") ≡ Some (codes "1010F0102") }
 {}
 
-/// Lines with areas: through corners, along edges, across, level and upright.
+/// Lines with areas: through corners, along edges, across, level and upright (06-103r4, 6.1.15.2).
 pub fn matrices_of_lines_and_areas()
     ensures through_a_corner { relate (codes "LINESTRING(-2 2,2 -2)") square ≡ Some (codes "F01FF0212") }
     ensures along_a_level_edge { relate (codes "LINESTRING(0 0,4 0)") square ≡ Some (codes "F1FF0F212") }
@@ -43,7 +43,7 @@ pub fn matrices_of_lines_and_areas()
     ensures across_a_hole_turned_round { relate frame (codes "LINESTRING(-1 5,11 5)") ≡ Some (codes "1F20F1102") }
 {}
 
-/// Areas with areas: shared edges, overlap, one in the other's hole, a reversed ring.
+/// Areas with areas: shared edges, overlap, one in the other's hole, a reversed ring (06-103r4, 6.1.15.2).
 pub fn matrices_of_areas()
     ensures shared_upright_edge { relate square (codes "POLYGON((4 0,8 0,8 4,4 4,4 0))") ≡ Some (codes "FF2F11212") }
     ensures shared_level_edge { relate square (codes "POLYGON((0 4,4 4,4 8,0 8,0 4))") ≡ Some (codes "FF2F11212") }
@@ -52,7 +52,7 @@ pub fn matrices_of_areas()
     ensures fills_the_hole { relate (codes "POLYGON((4 4,6 4,6 6,4 6,4 4))") frame ≡ Some (codes "FF2F1F212") }
 {}
 
-/// Empty geometries: no interior and no boundary, and the whole plane as exterior.
+/// Empty geometries: no interior and no boundary, and the whole plane as exterior (06-103r4, 6.1.15.2).
 pub fn matrices_of_empty_geometries()
     ensures two_empty_types { relate (codes "POINT EMPTY") (codes "LINESTRING EMPTY") ≡ Some (codes "FFFFFFFF2") }
     ensures two_empty_point_types { relate (codes "POINT EMPTY") (codes "MULTIPOINT EMPTY") ≡ Some (codes "FFFFFFFF2") }

@@ -19,7 +19,7 @@ ghost use Rattle.geometry_model.specs.declared.text_faults.TextFault.TheVariants
   TooLong,
 };
 
-/// Texts of points: signs, leading zeros, points without digits on one side, white space, any case.
+/// Texts of points: signs, leading zeros, points without digits on one side, white space, any case (06-103r4, 7.2).
 pub fn texts_of_points()
     ensures plain { read_text (codes "POINT(1 2)") ≡ Ok (Point (Some (at (pos 1) (pos 2)))) }
     ensures zeros { read_text (codes "POINT(1.0 2)") ≡ Ok (Point (Some (at (pos 1) (pos 2)))) }
@@ -32,7 +32,7 @@ pub fn texts_of_points()
     ensures empty { read_text (codes " Point\tEmpty\n") ≡ Ok (Point None) }
 {}
 
-/// Consecutive equal positions become one in lines and rings, and stay in a MULTIPOINT.
+/// Consecutive equal positions become one in lines and rings, and stay in a MULTIPOINT. (Profile.)
 pub fn repeated_positions()
     ensures points { read_text (codes "MULTIPOINT(1 1,1 1)") ≡ Ok (MultiPoint (at (pos 1) (pos 1) ∷ at (pos 1) (pos 1) ∷ [])) }
     ensures line { read_text (codes "LINESTRING(0 0,0 0,1 0)") ≡ Ok (LineString (at (pos 0) (pos 0) ∷ at (pos 1) (pos 0) ∷ [])) }
@@ -42,7 +42,7 @@ pub fn repeated_positions()
         ≡ Ok (MultiLineString ((at (pos 0) (pos 0) ∷ []) ∷ (at (pos 0) (pos 0) ∷ at (pos 1) (pos 0) ∷ at (pos 0) (pos 0) ∷ []) ∷ [])) }
 {}
 
-/// The first fault of a text, and its byte.
+/// The first fault of a text, and its byte. (Profile.)
 pub fn first_faults()
     ensures nothing { read_text [] ≡ Err (Syntax 0) }
     ensures half_a_word { read_text (codes "POLYGO") ≡ Err (Syntax 0) }
@@ -63,7 +63,7 @@ pub fn first_faults()
 {}
 
 /// The counts of positions and parts, at limits of two: the fault comes at the first number of the position, and
-/// at the parenthesis of the part, before any other fault there.
+/// at the parenthesis of the part, before any other fault there. (Profile.)
 pub fn counted_parts()
     ensures position { separated position 2 (input (codes "1 1,2 2,3.5 3")) ≡ Err TooLong }
     ensures no_number { separated position 2 (input (codes "1 1,2 2,)")) ≡ Err (Syntax 8) }
@@ -71,7 +71,7 @@ pub fn counted_parts()
     ensures position_of_a_part { parts 2 2 (input (codes "(1 1,2 2),(3 3)")) ≡ Err TooLong }
 {}
 
-/// Canonical texts.
+/// Canonical texts (06-103r4, 7.2).
 pub fn canonical_texts()
     ensures point { canonical_text (Point (Some (at (negsuc 0) (pos 20)))) ≡ codes "POINT(-1 20)" }
     ensures points { canonical_text (MultiPoint (at (pos 1) (pos 2) ∷ at (pos 3) (pos 4) ∷ [])) ≡ codes "MULTIPOINT((1 2),(3 4))" }

@@ -12,7 +12,8 @@ ghost use Rattle.geometry_model.specs.declared.validity_faults.ValidityFault.The
   HolesNested,
 };
 
-/// Geometries without fault: points are always valid, and empty geometries, and lines that cross themselves.
+/// Geometries without fault: points are always valid, and empty geometries, and lines that cross themselves
+/// (06-103r4, 6.1.7 and 6.1.11.1).
 pub fn valid_geometries()
     ensures points { fault_of (codes "MULTIPOINT(1 1,1 1)") ≡ Some None }
     ensures crossed_line { fault_of (codes "LINESTRING(0 0,2 2,2 0,0 2)") ≡ Some None }
@@ -25,7 +26,7 @@ pub fn valid_geometries()
     ensures empty_polygon { fault_of (codes "POLYGON EMPTY") ≡ Some None }
 {}
 
-/// Too few positions, and rings that aren't closed.
+/// Too few positions, and rings that aren't closed (06-103r4, 6.1.7 and 6.1.11.1).
 pub fn short_and_open_parts()
     ensures short_line { fault_of (codes "LINESTRING(3 3,3 3)") ≡ Some (Some (TooFewPoints 0)) }
     ensures short_element { fault_of (codes "MULTILINESTRING((0 0,1 0),(2 2,2 2,2 2))") ≡ Some (Some (TooFewPoints 1)) }
@@ -35,7 +36,7 @@ pub fn short_and_open_parts()
     ensures short_before_open { fault_of (codes "POLYGON((0 0,4 0,4 4,0 4),(1 1,2 1,1 1))") ≡ Some (Some (TooFewPoints 1)) }
 {}
 
-/// Rings that meet or cover themselves.
+/// Rings that meet or cover themselves (06-103r4, 6.1.7).
 pub fn rings_not_simple()
     ensures level { fault_of (codes "POLYGON((0 0,1 1,2 2,0 0))") ≡ Some (Some (RingNotSimple 0)) }
     ensures crossed { fault_of (codes "POLYGON((0 0,4 4,4 0,0 4,0 0))") ≡ Some (Some (RingNotSimple 0)) }
@@ -45,7 +46,7 @@ pub fn rings_not_simple()
     ensures hole_crossed { fault_of (codes "POLYGON((0 0,9 0,9 9,0 9,0 0),(1 1,3 3,3 1,1 3,1 1))") ≡ Some (Some (RingNotSimple 1)) }
 {}
 
-/// Rings that share a point, a position of both or not, and holes outside or in other holes.
+/// Rings that share a point, a position of both or not, and holes outside or in other holes (06-103r4, 6.1.11.1).
 pub fn rings_in_the_wrong_place()
     ensures position_on_an_edge { fault_of (codes "POLYGON((0 0,4 0,4 4,0 4,0 0),(0 2,1 1,1 3,0 2))") ≡ Some (Some (RingsMeet 0 1)) }
     ensures crossing_edges { fault_of (codes "POLYGON((0 0,4 0,4 4,0 4,0 0),(1 1,5 2,1 3,1 1))") ≡ Some (Some (RingsMeet 0 1)) }

@@ -3,37 +3,37 @@
 
 ghost use Rattle.integers.specs.Laws.{Distributes, Associates, ProductOfDifferences, LessIsTransitive, AtMostIsTransitive, ZeroProduct, SignIsKept};
 
-/// A product goes over a sum: `a (b + c) = a b + a c`.
+/// A product goes over a sum: `a (b + c) = a b + a c`. (Profile.)
 pub fn product_distributes()
     ensures { Distributes }
 {}
 
-/// Three factors may be grouped either way: `(a b) c = a (b c)`.
+/// Three factors may be grouped either way: `(a b) c = a (b c)`. (Profile.)
 pub fn product_associates()
     ensures { Associates }
 {}
 
-/// The product of two differences, multiplied out.
+/// The product of two differences, multiplied out. (Profile.)
 pub fn product_of_differences()
     ensures { ProductOfDifferences }
 {}
 
-/// A product is 0 only where a factor is.
+/// A product is 0 only where a factor is. (Profile.)
 pub fn zero_product()
     ensures { ZeroProduct }
 {}
 
-/// Of quotients with divisors of at least 1, compared by cross-multiplication, 'less than' is transitive.
+/// Of quotients with divisors of at least 1, compared by cross-multiplication, 'less than' is transitive. (Profile.)
 pub fn less_is_transitive()
     ensures { LessIsTransitive }
 {}
 
-/// Of quotients with divisors of at least 1, compared by cross-multiplication, 'at most' is transitive.
+/// Of quotients with divisors of at least 1, compared by cross-multiplication, 'at most' is transitive. (Profile.)
 pub fn at_most_is_transitive()
     ensures { AtMostIsTransitive }
 {}
 
-/// A number times one of at least 1 has its sign.
+/// A number times one of at least 1 has its sign. (Profile.)
 pub fn sign_is_kept()
     ensures { SignIsKept }
 {}

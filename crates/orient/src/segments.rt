@@ -26,7 +26,8 @@ impl Model for Segment {
 }
 
 impl Segment {
-    /// The segment from a to b; `None` exactly where they are the same position.
+    /// The segment from a to b; `None` exactly where they are the same position (OGC 06-103r4, 6.1.7: Line;
+    /// `None`: profile).
     pub fn new(a: GridPoint, b: GridPoint) -> Option<Segment>
         ensures none { IsNone result ↔ (a ≡ b) }
         ensures ends { IfSome result (λ s. s ≡ record { start = a; end = b }) }
@@ -38,14 +39,14 @@ impl Segment {
         }
     }
 
-    /// Where it starts.
+    /// Where it starts (OGC 06-103r4, 6.1.6.2: StartPoint).
     pub fn start(&self) -> GridPoint
         ensures { result ≡ self.now.start }
     {
         self.start
     }
 
-    /// Where it ends.
+    /// Where it ends (OGC 06-103r4, 6.1.6.2: EndPoint).
     pub fn end(&self) -> GridPoint
         ensures { result ≡ self.now.end }
     {

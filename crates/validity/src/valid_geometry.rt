@@ -32,7 +32,7 @@ impl Model for Valid {
 }
 
 impl Valid {
-    /// Lends the geometry.
+    /// Lends the geometry. (Profile.)
     pub fn geometry(&self) -> &Geometry
         ensures same { result.now ≡ self.now }
         ensures valid { IsValid self.now }

@@ -6,7 +6,7 @@ use Rattle.geometry_model.specs.FirstFaults.{has_fault, in_order, validity_fault
 use Rattle.geometry_model.specs.declared.validity_faults.ValidityFault.{ValidityFault}
 use Rattle.geometry_model.specs.declared.validity_faults.ValidityFault.TheVariants.{RingNotClosed}
 
--- each ring is closed
+-- each ring is closed (06-103r4, 6.1.7: LinearRing)
 abbrev pub AreClosed : Geometry → Type 0
 AreClosed g = (i : ℕ) → HasFault g (RingNotClosed i) → ⊥
 

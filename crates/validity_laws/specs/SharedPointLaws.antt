@@ -9,7 +9,7 @@ use Rattle.geometry_model.specs.FirstFaults.{share_point, share_other}
 abbrev pub SharedPointIsDecided : Type 0
 SharedPointIsDecided = (e f : Edge) → (share_point e f ≡ true) ↔ SharePoint e f
 
--- the position is an end of the edge
+-- the position is an end of the edge (06-103r4, 6.1.6.1)
 abbrev pub IsEnd : Position → Edge → Type 0
 IsEnd p e = (e.start ≡ p) ⊎ (e.end ≡ p)
 

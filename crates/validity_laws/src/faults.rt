@@ -8,27 +8,27 @@ ghost use Rattle.validity_laws.specs.FaultLaws.{
   NoneIsFoundWhereValid,
 };
 
-/// Where each ring is closed, the tests of faults say exactly what the faults say of rational points.
+/// Where each ring is closed, the tests of faults say exactly what the faults say of rational points. (Profile.)
 pub fn fault_is_decided()
     ensures { FaultIsDecided }
 {}
 
-/// The first fault that is found stands.
+/// The first fault that is found stands. (Profile.)
 pub fn first_fault_stands()
     ensures { FirstFaultStands }
 {}
 
-/// The fault that is found is the first that stands: none before it in the order of tests does.
+/// The fault that is found is the first that stands: none before it in the order of tests does. (Profile.)
 pub fn first_fault_is_first()
     ensures { FirstFaultIsFirst }
 {}
 
-/// Wherever the order of tests is split at the fault that is found, none before it stands.
+/// Wherever the order of tests is split at the fault that is found, none before it stands. (Profile.)
 pub fn no_earlier_fault_stands()
     ensures { NoEarlierFaultStands }
 {}
 
-/// None is found exactly where the geometry is valid.
+/// None is found exactly where the geometry is valid. (Profile.)
 pub fn none_is_found_where_valid()
     ensures { NoneIsFoundWhereValid }
 {}

@@ -7,7 +7,7 @@ use crate::sink::{Sink, SinkFault};
 use std::alloc::Global;
 use std::io::{self, Error, ErrorKind, Read, Write};
 
-/// A sink over memory that fails at one call of `put`, and takes short pieces at the others.
+/// A sink over memory that fails at one call of `put`, and takes short pieces at the others. (Profile.)
 #[derive(Drop)]
 pub struct StopSink {
     bytes: Vec<u8>,
@@ -95,7 +95,7 @@ impl Sink for StopSink {
     }
 }
 
-/// A reader over bytes of which one read fails, with an error of kind `Other`, and gives none.
+/// A reader over bytes of which one read fails, with an error of kind `Other`, and gives none. (Profile.)
 #[derive(Clone, Copy)]
 pub struct StopReader<'a> {
     rest: &'a [u8],
@@ -142,7 +142,7 @@ impl Read for StopReader<'_> {
     }
 }
 
-/// A writer that takes no byte and answers no error.
+/// A writer that takes no byte and answers no error. (Profile.)
 #[derive(Clone, Copy, Debug, Default)]
 pub struct ZeroWriter;
 

@@ -2,7 +2,7 @@
 
 ghost use Rattle.wkt.specs.KeptGeometries.{SpelledIsKept};
 
-/// Each geometry that a text spells is kept, of any type.
+/// Each geometry that a text spells is kept, of any type (06-103r4, 7.2).
 pub fn spelled_is_kept()
     ensures { SpelledIsKept }
 {}

@@ -5,7 +5,7 @@ ghost use Rattle.std.specs.Prelude.{◌≡◌, [], Some};
 use crate::sink::{Sink, SinkFault};
 use std::alloc::Global;
 
-/// A sink that keeps what it took in memory. A refused growth is its failure.
+/// A sink that keeps what it took in memory. A refused growth is its failure. (Profile.)
 #[derive(Drop)]
 pub struct MemorySink {
     bytes: Vec<u8>,

@@ -7,7 +7,7 @@ ghost use Rattle.wkt.specs.Sinks.{AppendsFront, CountsFailure};
 
 use thiserror::Error;
 
-/// A sink took nothing of the piece that it was given.
+/// A sink took nothing of the piece that it was given. (Profile.)
 #[derive(Clone, Copy, Debug, PartialEq, Eq, Error)]
 #[error("the sink failed")]
 pub struct SinkFault;

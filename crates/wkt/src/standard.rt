@@ -6,7 +6,7 @@ use crate::sink::{Sink, SinkFault};
 use std::io::Write;
 
 /// A sink over a writer, as standard output or a buffer before it. An error of the writer is a
-/// failure, and so are 0 bytes of a piece that has any. Nothing is tried twice.
+/// failure, and so are 0 bytes of a piece that has any. Nothing is tried twice. (Profile.)
 #[derive(Drop)]
 pub struct StdSink<W: Write> {
     writer: W,
