@@ -332,7 +332,11 @@ fn geometries_are_related(rt: HostRuntime) -> Result<(), Fail> {
 fn geometries_are_refused(rt: HostRuntime) -> Result<(), Fail> {
     for (first, second, line) in [
         ("POINT(0 0)", "POINT(100001 0)", "sfq: second W3 at 6\n"),
-        ("POINT(100001 0)", "POINT(0 0)", "sfq: first W3 at 6\n"),
+        (
+            "POINT(100001 0)",
+            "POLYGON((0 0,4 0,4 4,0 4,0 0))",
+            "sfq: first W3 at 6\n",
+        ),
         ("POINT(1.5 2)", "POINT(0 0)", "sfq: first W2 at 6\n"),
         ("POINT(1 2", "POINT(0 0)", "sfq: first W1 at 9\n"),
         ("POINT(1e0 2)", "POINT(0 0)", "sfq: first W1 at 7\n"),
