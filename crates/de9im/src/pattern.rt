@@ -1,25 +1,31 @@
 //! Patterns: how they are read, and which matrices they match.
 
-ghost use Rattle.std.specs.Prelude.{◌≡◌};
+ghost use Rattle.std.specs.Prelude.{◌≡◌, option_map};
 ghost use Rattle.geometry_model.specs.Patterns.{takes, matches, character_of, pattern_of_text};
+ghost use Rattle.geometry_model.specs.declared.relations.Pattern.{Pattern};
 
 use crate::matrix::Matrix;
 use geometry_model::{Dimension, Pattern, PatternCharacter};
 
 /// What a pattern of the DE-9IM matrix does (06-103r4, 6.1.15.2). [`Pattern`] alone has it.
 pub trait MatrixPattern: Sized {
-    /// The pattern that a text of nine characters `T F * 0 1 2` writes, by rows, `t` and `f` being taken too; of any
-    /// other text None. It takes no memory.
-    fn read(text: &str) -> Option<Self>;
+    // The pattern that a value is.
+    ghost pattern: { Self → Pattern };
 
-    /// Whether each character of the pattern takes its cell of the matrix.
-    fn matches(&self, matrix: &Matrix) -> bool;
+    /// The pattern that a text of nine characters `T F * 0 1 2` writes, by rows, `t` and `f` being taken too; of any
+    /// other text None. It takes no memory. (06-103r4, 6.1.15.2; small letters: profile.)
+    fn read(text: &str) -> Option<Self>
+        ensures { option_map pattern result ≡ pattern_of_text text.now };
+
+    /// Whether each character of the pattern takes its cell of the matrix (06-103r4, 6.1.15.2).
+    fn matches(&self, matrix: &Matrix) -> bool
+        ensures { result ≡ matches (pattern self.now) matrix.now };
 }
 
 impl MatrixPattern for Pattern {
-    fn read(text: &str) -> Option<Pattern>
-        ensures { result ≡ pattern_of_text text.now }
-    {
+    ghost pattern = { λ p. p };
+
+    fn read(text: &str) -> Option<Pattern> {
         match text.as_bytes() {
             [ii, ib, ie, bi, bb, be, ei, eb, ee] => Some(Pattern {
                 interior_interior: character(*ii)?,
@@ -36,9 +42,7 @@ impl MatrixPattern for Pattern {
         }
     }
 
-    fn matches(&self, matrix: &Matrix) -> bool
-        ensures { result ≡ matches self.now matrix.now }
-    {
+    fn matches(&self, matrix: &Matrix) -> bool {
         takes(self.interior_interior, matrix.interior_interior)
             && takes(self.interior_boundary, matrix.interior_boundary)
             && takes(self.interior_exterior, matrix.interior_exterior)

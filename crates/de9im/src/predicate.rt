@@ -2,6 +2,7 @@
 
 ghost use Rattle.std.specs.Prelude.{◌≡◌};
 ghost use Rattle.geometry_model.specs.Predicates.{like, crosses, overlaps, holds, wants_point, wants_common_point, forces_meeting};
+ghost use Rattle.geometry_model.specs.declared.relations.Predicate.{Predicate};
 
 use crate::matrix::Matrix;
 use crate::pattern::MatrixPattern;
@@ -9,16 +10,20 @@ use geometry_model::{Kind, Pattern, PatternCharacter, Predicate};
 
 /// What a spatial predicate says of itself. [`Predicate`] alone has it. (Profile.)
 pub trait SpatialPredicate {
+    // The predicate that a value is.
+    ghost predicate: { Self → Predicate };
+
     /// Whether the envelopes of two geometries meet wherever the predicate holds of them (profile): of Equals,
     /// Intersects, Touches, Crosses, Within, Contains and Overlaps, and of a pattern with T, 0, 1 or 2 in a cell of
     /// interiors and boundaries alone. It takes no memory.
-    fn forces_meeting(&self) -> bool;
+    fn forces_meeting(&self) -> bool
+        ensures { result ≡ forces_meeting (predicate self.now) };
 }
 
 impl SpatialPredicate for Predicate {
-    fn forces_meeting(&self) -> bool
-        ensures { result ≡ forces_meeting self.now }
-    {
+    ghost predicate = { λ p. p };
+
+    fn forces_meeting(&self) -> bool {
         match self {
             Predicate::Disjoint => false,
             Predicate::Equals
