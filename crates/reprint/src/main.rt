@@ -6,17 +6,17 @@ ghost use Rattle.std.specs.Prelude.{OnOk};
 ghost use Rattle.reprint.specs.Reprinting.{Reprints};
 
 use std::alloc::Global;
-use std::io::{BufWriter, Read};
+use std::io::{BufWriter, ErrorKind, Read};
 use std::process::ExitCode;
 use wkt::{Sink, StdSink, WktFault, print, put_all, read};
 
-/// How many bytes are read at most: beyond them the text is cut.
+/// The most bytes that a text has here: of a longer one a part could spell another geometry, so none of it is taken.
 const TEXT_BYTES: u64 = 1 << 24;
 
 /// The status where the text spells no geometry.
 const NO_GEOMETRY: u8 = 5;
 
-/// The status where reading or writing failed.
+/// The status where reading or writing failed, or the text is too long.
 const FAILED: u8 = 6;
 
 /// The status where memory ran out.
@@ -24,8 +24,12 @@ const OUT_OF_MEMORY: u8 = 7;
 
 fn main(rt: HostRuntime) -> ExitCode {
     let mut text = Vec::new(rt.alloc());
-    if rt.stdin().take(TEXT_BYTES).read_to_end(&mut text).is_err() {
-        return ExitCode::from(FAILED);
+    match rt.stdin().take(TEXT_BYTES + 1).read_to_end(&mut text) {
+        Ok(_) if text.len() as u64 <= TEXT_BYTES => {}
+        Err(error) if error.kind() == ErrorKind::OutOfMemory => {
+            return ExitCode::from(OUT_OF_MEMORY);
+        }
+        _ => return ExitCode::from(FAILED),
     }
     let buffer = match BufWriter::new(rt.alloc(), rt.stdout()) {
         Ok(buffer) => buffer,
