@@ -11,3 +11,4 @@ pub mod QueryLaws
 pub mod QueryComplete
 pub mod QueryRefused
 pub mod QueryFirst
+pub mod TruthFacts

@@ -5,6 +5,7 @@ pub mod Meanings
 pub mod AnswerTexts
 pub mod FaultLines
 pub mod Truths
+pub mod TruthLaws
 pub mod Tokens
 pub mod Binding
 pub mod Definitions

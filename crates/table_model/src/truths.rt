@@ -1,6 +1,7 @@
 //! Laws of three-valued truth.
 
 ghost use Rattle.std.specs.Prelude.{◌≡◌, [], ◌∷◌};
+ghost use Rattle.table_model.specs.TruthLaws.{ConjunctsAreJoined, NestedAndsAreOne, OneConjunctIsItsAnd};
 ghost use Rattle.table_model.specs.Truths.{not_of, and_of, or_of, all_of, any_of};
 ghost use Rattle.table_model.specs.declared.values.Truth.TheVariants.{True, False, Unknown};
 
@@ -21,4 +22,21 @@ pub fn unknown_parts()
     ensures all_unknown { all_of (True ∷ Unknown ∷ True ∷ []) ≡ Unknown }
     ensures any_true { any_of (Unknown ∷ False ∷ True ∷ []) ≡ True }
     ensures any_unknown { any_of (False ∷ Unknown ∷ False ∷ []) ≡ Unknown }
+{}
+
+/// Conditions are all true at the rows where their AND is. (SQL's three-valued logic.)
+pub fn conjuncts_are_joined()
+    ensures { ConjunctsAreJoined }
+{}
+
+/// An AND within an AND has the truth of the parts of both in one, so that conjuncts may be listed flat. (SQL's
+/// three-valued logic.)
+pub fn nested_ands_are_one()
+    ensures { NestedAndsAreOne }
+{}
+
+/// The condition that stands for some conjuncts has the truth of their AND, also where there is one alone. (SQL's
+/// three-valued logic.)
+pub fn one_conjunct_is_its_and()
+    ensures { OneConjunctIsItsAnd }
 {}

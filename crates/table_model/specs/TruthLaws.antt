@@ -1,0 +1,29 @@
+-- The laws by which a condition is the AND of its conjuncts, which is what the meaning of a query asks for.
+use Rattle.std.specs.Prelude.{◌≡◌, List, ◌∷◌, ◌++◌, Option}
+use Rattle.geometry_model.specs.Geometries.{Geometry}
+use Rattle.geometry_model.specs.Dimensions.{Matrix}
+use Rattle.table_model.specs.Binding.{condition_of}
+use Rattle.table_model.specs.Meanings.{is_true, all_true}
+use Rattle.table_model.specs.Truths.{Rows, truth}
+use Rattle.table_model.specs.declared.conditions.Cond.{Cond}
+use Rattle.table_model.specs.declared.conditions.Cond.TheVariants as conds
+use Rattle.table_model.specs.declared.conditions.GeometryArgument.{GeometryArgument}
+
+-- a geometry argument of a condition (06-104r4, the routines' arguments)
+abbrev pub Argument : Type 0
+Argument = GeometryArgument Geometry
+
+-- conditions are all true at the rows where their AND is (SQL's three-valued logic)
+abbrev pub ConjunctsAreJoined : Type 0
+ConjunctsAreJoined = (matrix : Geometry → Geometry → Matrix) (denotes : Rows Geometry → Argument → Option Geometry) (rows : Rows Geometry) (conjuncts : List (Cond Argument))
+    → is_true (truth matrix denotes rows (conds.And conjuncts)) ≡ all_true (truth matrix denotes) conjuncts rows
+
+-- an AND within an AND has the truth of the parts of both in one (SQL's three-valued logic)
+abbrev pub NestedAndsAreOne : Type 0
+NestedAndsAreOne = (matrix : Geometry → Geometry → Matrix) (denotes : Rows Geometry → Argument → Option Geometry) (rows : Rows Geometry) (before inside after : List (Cond Argument))
+    → truth matrix denotes rows (conds.And (before ++ conds.And inside ∷ after)) ≡ truth matrix denotes rows (conds.And (before ++ (inside ++ after)))
+
+-- the condition that stands for some conjuncts has the truth of their AND, also where there is one alone (SQL's three-valued logic)
+abbrev pub OneConjunctIsItsAnd : Type 0
+OneConjunctIsItsAnd = (matrix : Geometry → Geometry → Matrix) (denotes : Rows Geometry → Argument → Option Geometry) (rows : Rows Geometry) (conjuncts : List (Cond Argument))
+    → truth matrix denotes rows (condition_of conjuncts) ≡ truth matrix denotes rows (conds.And conjuncts)
