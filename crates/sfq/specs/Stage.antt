@@ -1,5 +1,6 @@
 -- The definitions at what is served: no geometry stands in a row, a condition or an item.
-use Rattle.std.specs.Prelude.{◌≡◌, ◌⊎◌, All, Bool, ℕ, pos, true, List, [], ◌∷◌, Option, Some, None, IfSome, ◌<◌, length, slice_get, unwrap_or}
+use Rattle.std.specs.Prelude.{◌≡◌, ◌⊎◌, All, Bool, ℕ, pos, true, List, [], ◌∷◌, map, Option, Some, None, IfSome, ◌<◌, length, slice_get, unwrap_or}
+use Rattle.std.specs.List.{enumerate_from, filter, flat_map}
 use Rattle.geometry_model.specs.Labels.{labelled_matrix}
 use Rattle.table_model.specs.AnswerTexts.{Writing}
 use Rattle.table_model.specs.Meanings.{Row, Table, all_true, meaning}
@@ -49,6 +50,16 @@ second_rows table (Some place) = row_at table place ∷ []
 -- the rows of a pair, from the first table, and from the second where there is one (profile)
 abbrev pub pair_rows : List (Table NoGeometry) → RowPair → List PlainRow
 pair_rows tables pair = row_at (unwrap_or (slice_get tables 0) []) pair.first ∷ second_rows (unwrap_or (slice_get tables 1) []) pair.second
+
+-- every pair of places of one table, or of two, by the first, then the second (profile)
+abbrev pub place_pairs : List (Table NoGeometry) → List RowPair
+place_pairs [] = []
+place_pairs (table ∷ []) = map (λ r. record { first = r.0; second = None }) (enumerate_from 0 table)
+place_pairs (table ∷ other ∷ more) = flat_map (λ r. map (λ s. record { first = r.0; second = Some s.0 }) (enumerate_from 0 other)) (enumerate_from 0 table)
+
+-- every pair of places at whose rows each of these conditions is true, in that order (profile)
+abbrev pub passing_pairs : List (Cond NoGeometry) → List (Table NoGeometry) → List RowPair
+passing_pairs conjuncts tables = filter (λ pair. holds_at conjuncts (pair_rows tables pair)) (place_pairs tables)
 
 -- the places of a pair are there (profile)
 abbrev pub IsPlace : List (Table NoGeometry) → RowPair → Type 0
