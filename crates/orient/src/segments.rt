@@ -1,6 +1,6 @@
 //! Segments between two positions of the grid.
 
-ghost use Rattle.std.specs.Prelude.{◌≡◌, ◌↔◌, IsNone, IfSome};
+ghost use Rattle.std.specs.Prelude.{◌≡◌, ◌≢◌, ◌↔◌, IsNone, IfSome};
 
 use fraction::GridPoint;
 use std::marker::Model;
@@ -46,9 +46,10 @@ impl Segment {
         self.start
     }
 
-    /// Where it ends (OGC 06-103r4, 6.1.6.2: EndPoint).
+    /// Where it ends, which isn't where it starts (OGC 06-103r4, 6.1.6.2: EndPoint).
     pub fn end(&self) -> GridPoint
-        ensures { result ≡ self.now.end }
+        ensures value { result ≡ self.now.end }
+        ensures differ { self.now.start ≢ self.now.end }
     {
         self.end
     }

@@ -24,6 +24,6 @@ returns-then-is_between c =
     let y_of = λ (a : Position). a.y in
     by_second c.is_between.result c.is_between-then-is_between.result c.x.result c.x-2.result c.numerator_x.result c.y.result c.y-then-is_between.result c.numerator_y.result c.denominator-w.result
     c.args.segment.now.start.x c.args.segment.now.end.x c.args.p.now.X c.args.segment.now.start.y c.args.segment.now.end.y c.args.p.now.Y c.args.p.now.W
-    (c.x.ensures.value ∙ ap x_of c.start-start.ensures) (c.x-2.ensures.value ∙ ap x_of c.end-end.ensures) c.numerator_x.ensures.value
-    (c.y.ensures.value ∙ ap y_of c.start-start.ensures) (c.y-then-is_between.ensures.value ∙ ap y_of c.end-end.ensures) c.numerator_y.ensures.value
+    (c.x.ensures.value ∙ ap x_of c.start-start.ensures) (c.x-2.ensures.value ∙ ap x_of c.end-end.ensures.value) c.numerator_x.ensures.value
+    (c.y.ensures.value ∙ ap y_of c.start-start.ensures) (c.y-then-is_between.ensures.value ∙ ap y_of c.end-end.ensures.value) c.numerator_y.ensures.value
     c.denominator-w.ensures.value c.if-is_between.true (simp to_z-of_z at c.is_between.ensures) (simp to_z-of_z at c.is_between-then-is_between.ensures)

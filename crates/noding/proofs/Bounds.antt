@@ -1,0 +1,139 @@
+-- The numbers that sides and meeting points are made of fit 64 bits, and their denominators keep the limit.
+use Rattle.std.specs.Prelude.{◌≡◌, ℕ, ◌+◌, ◌*◌, ◌/◌, ◌≤◌, [], ◌∷◌, ℤ, pos, negsuc, ◌+ℤ◌, ◌-ℤ◌, ◌*ℤ◌, ◌≤ℤ◌, ◌<ℤ◌, unsigned_abs, int_div}
+use Rattle.std.proofs.Common.{sym, ap, ap₂, subst, ◌∙◌, arith}
+use Rattle.std.proofs.Math.Nat.{mul-le-mul}
+use Rattle.std.proofs.lemmas.Int.{ints, unsigned_abs-mul}
+use native.Mathlib.Nat.{div-le_self}
+use mir.Syntax.{w64}
+use mir.Val.{SFits}
+use Rattle.integers.proofs.Ring.{solve, var, lit, ◌⊖◌, ◌⊗◌}
+use Rattle.geometry_model.specs.Points.{Position, Point, IsPoint, point_at, gcd, least_form}
+use Rattle.geometry_model.specs.Sides.{side}
+use Rattle.geometry_model.specs.WellKnownText.{coordinate_limit}
+use Rattle.fraction.specs.Ranges.{IsOnGrid, IsInRange, meeting_limit, denominator_limit}
+
+-- a product's absolute value
+product_within : (a b : ℤ) (m n : ℕ) → unsigned_abs a ≤ m → unsigned_abs b ≤ n → unsigned_abs (a *ℤ b) ≤ m * n
+product_within a b m n h k = rw unsigned_abs-mul (mul-le-mul h k)
+
+-- ---- a vector product of steps
+pub record VectorFits (dx dy ex ey : ℤ) : Type 0 where
+  pub first : SFits w64 (dx *ℤ ey)
+  pub second : SFits w64 (dy *ℤ ex)
+  pub difference : SFits w64 (dx *ℤ ey -ℤ dy *ℤ ex)
+
+fits : (z : ℤ) → unsigned_abs z ≤ meeting_limit → SFits w64 z
+fits z h = omega (arith, ints)
+
+difference_within : (y z : ℤ) → unsigned_abs y ≤ 2 * coordinate_limit * (2 * coordinate_limit) → unsigned_abs z ≤ 2 * coordinate_limit * (2 * coordinate_limit) → unsigned_abs (y -ℤ z) ≤ meeting_limit
+difference_within y z h k = omega (arith, ints)
+
+weaker : (n : ℕ) → n ≤ 2 * coordinate_limit * (2 * coordinate_limit) → n ≤ meeting_limit
+weaker n h = omega arith
+
+vector_within : (dx dy ex ey : ℤ) → unsigned_abs dx ≤ 2 * coordinate_limit → unsigned_abs dy ≤ 2 * coordinate_limit → unsigned_abs ex ≤ 2 * coordinate_limit → unsigned_abs ey ≤ 2 * coordinate_limit
+    → unsigned_abs (dx *ℤ ey -ℤ dy *ℤ ex) ≤ meeting_limit
+vector_within dx dy ex ey hdx hdy hex hey = difference_within (dx *ℤ ey) (dy *ℤ ex)
+    (product_within dx ey (2 * coordinate_limit) (2 * coordinate_limit) hdx hey) (product_within dy ex (2 * coordinate_limit) (2 * coordinate_limit) hdy hex)
+
+pub vector_fits : (dx dy ex ey : ℤ) → unsigned_abs dx ≤ 2 * coordinate_limit → unsigned_abs dy ≤ 2 * coordinate_limit → unsigned_abs ex ≤ 2 * coordinate_limit → unsigned_abs ey ≤ 2 * coordinate_limit
+    → VectorFits dx dy ex ey
+vector_fits dx dy ex ey hdx hdy hex hey = record {
+  first = fits (dx *ℤ ey) (weaker (unsigned_abs (dx *ℤ ey)) (product_within dx ey (2 * coordinate_limit) (2 * coordinate_limit) hdx hey));
+  second = fits (dy *ℤ ex) (weaker (unsigned_abs (dy *ℤ ex)) (product_within dy ex (2 * coordinate_limit) (2 * coordinate_limit) hdy hex));
+  difference = fits (dx *ℤ ey -ℤ dy *ℤ ex) (vector_within dx dy ex ey hdx hdy hex hey);
+}
+
+-- ---- a sum with weights
+pub record SumFits (m a n b : ℤ) : Type 0 where
+  pub one : SFits w64 a
+  pub other : SFits w64 b
+  pub first : SFits w64 (m *ℤ a)
+  pub second : SFits w64 (n *ℤ b)
+  pub sum : SFits w64 (m *ℤ a +ℤ n *ℤ b)
+  pub bound : unsigned_abs (m *ℤ a +ℤ n *ℤ b) ≤ coordinate_limit * unsigned_abs (m +ℤ n)
+
+pub sum_fits : (m a n b : ℤ) → pos 0 ≤ℤ m → pos 0 ≤ℤ n → (m +ℤ n) ≤ℤ pos meeting_limit → unsigned_abs a ≤ coordinate_limit → unsigned_abs b ≤ coordinate_limit → SumFits m a n b
+sum_fits m a n b hm hn h ha hb = record {
+  one = short a ha;
+  other = short b hb;
+  first = part m n (m *ℤ a) hm hn h one;
+  second = part' m n (n *ℤ b) hm hn h other;
+  sum = whole m n (m *ℤ a +ℤ n *ℤ b) h (positive m n hm hn) both;
+  bound = both;
+}
+  where
+    short : (z : ℤ) → unsigned_abs z ≤ coordinate_limit → SFits w64 z
+    short z h = omega (arith, ints)
+
+    one : unsigned_abs (m *ℤ a) ≤ unsigned_abs m * coordinate_limit
+    one = product_within m a (unsigned_abs m) coordinate_limit (omega arith) ha
+
+    other : unsigned_abs (n *ℤ b) ≤ unsigned_abs n * coordinate_limit
+    other = product_within n b (unsigned_abs n) coordinate_limit (omega arith) hb
+
+    part : (m n z : ℤ) → pos 0 ≤ℤ m → pos 0 ≤ℤ n → (m +ℤ n) ≤ℤ pos meeting_limit → unsigned_abs z ≤ unsigned_abs m * coordinate_limit → SFits w64 z
+    part m n z h k l e = omega (arith, ints)
+
+    part' : (m n z : ℤ) → pos 0 ≤ℤ m → pos 0 ≤ℤ n → (m +ℤ n) ≤ℤ pos meeting_limit → unsigned_abs z ≤ unsigned_abs n * coordinate_limit → SFits w64 z
+    part' m n z h k l e = omega (arith, ints)
+
+    positive : (m n : ℤ) → pos 0 ≤ℤ m → pos 0 ≤ℤ n → pos 0 ≤ℤ (m +ℤ n)
+    positive m n h k = omega (arith, ints)
+
+    whole : (m n z : ℤ) → (m +ℤ n) ≤ℤ pos meeting_limit → pos 0 ≤ℤ (m +ℤ n) → unsigned_abs z ≤ coordinate_limit * unsigned_abs (m +ℤ n) → SFits w64 z
+    whole m n z h k e = omega (arith, ints)
+
+    together : (m n y z : ℤ) → pos 0 ≤ℤ m → pos 0 ≤ℤ n → unsigned_abs y ≤ unsigned_abs m * coordinate_limit → unsigned_abs z ≤ unsigned_abs n * coordinate_limit → unsigned_abs (y +ℤ z) ≤ coordinate_limit * unsigned_abs (m +ℤ n)
+    together m n y z h k e f = omega (arith, ints)
+
+    both : unsigned_abs (m *ℤ a +ℤ n *ℤ b) ≤ coordinate_limit * unsigned_abs (m +ℤ n)
+    both = together m n (m *ℤ a) (n *ℤ b) hm hn one other
+
+-- ---- the weights of both ends, and the point that they make
+pub weights_fit : (m n : ℤ) → pos 0 ≤ℤ m → pos 0 ≤ℤ n → (m +ℤ n) ≤ℤ pos meeting_limit → SFits w64 (m +ℤ n)
+weights_fit m n h k l = omega (arith, ints)
+
+pub sum_in_range : (x y w : ℤ) → pos 0 <ℤ w → w ≤ℤ pos meeting_limit → unsigned_abs x ≤ coordinate_limit * unsigned_abs w → unsigned_abs y ≤ coordinate_limit * unsigned_abs w → IsInRange (record { X = x; Y = y; W = w })
+sum_in_range x y w h k ex ey = record { positive = h; denominator = omega (arith, ints); x = ex; y = ey }
+
+-- the least form has no greater denominator
+quotient_at_most : (w : ℤ) (g : ℕ) → pos 0 <ℤ w → int_div w (pos g) ≤ℤ w
+quotient_at_most (pos a) g h = let less : a / g ≤ a = div-le_self a g in omega (arith, ints)
+quotient_at_most (negsuc a) g h = absurd (omega (arith, ints))
+
+pub least_within : (p : Point) (l : ℕ) → IsPoint p → p.W ≤ℤ pos l → (least_form p).W ≤ℤ pos l
+least_within p l h k = through (least_form p).W p.W (pos l) (quotient_at_most p.W (gcd (gcd (unsigned_abs p.X) (unsigned_abs p.Y)) (unsigned_abs p.W)) h) k
+  where
+    through : (a b c : ℤ) → a ≤ℤ b → b ≤ℤ c → a ≤ℤ c
+    through a b c h k = omega (arith, ints)
+
+-- ---- the sides of two positions differ by no more than the limit
+pub side_at : (a b c : Position) → side a b (point_at c) ≡ (b.x -ℤ a.x) *ℤ (c.y -ℤ a.y) -ℤ (b.y -ℤ a.y) *ℤ (c.x -ℤ a.x)
+side_at a b c = solve (a.x ∷ a.y ∷ b.x ∷ b.y ∷ c.x ∷ c.y ∷ [])
+    ((var 2 ⊖ var 0) ⊗ (var 5 ⊖ var 1 ⊗ lit (pos 1)) ⊖ (var 3 ⊖ var 1) ⊗ (var 4 ⊖ var 0 ⊗ lit (pos 1))) ((var 2 ⊖ var 0) ⊗ (var 5 ⊖ var 1) ⊖ (var 3 ⊖ var 1) ⊗ (var 4 ⊖ var 0)) tt
+
+sides_differ : (a b c d : Position) → side a b (point_at d) -ℤ side a b (point_at c) ≡ (b.x -ℤ a.x) *ℤ (d.y -ℤ c.y) -ℤ (b.y -ℤ a.y) *ℤ (d.x -ℤ c.x)
+sides_differ a b c d = solve (a.x ∷ a.y ∷ b.x ∷ b.y ∷ c.x ∷ c.y ∷ d.x ∷ d.y ∷ [])
+    (((var 2 ⊖ var 0) ⊗ (var 7 ⊖ var 1 ⊗ lit (pos 1)) ⊖ (var 3 ⊖ var 1) ⊗ (var 6 ⊖ var 0 ⊗ lit (pos 1))) ⊖ ((var 2 ⊖ var 0) ⊗ (var 5 ⊖ var 1 ⊗ lit (pos 1)) ⊖ (var 3 ⊖ var 1) ⊗ (var 4 ⊖ var 0 ⊗ lit (pos 1))))
+    ((var 2 ⊖ var 0) ⊗ (var 7 ⊖ var 5) ⊖ (var 3 ⊖ var 1) ⊗ (var 6 ⊖ var 4)) tt
+
+pub sides_within : (a b c d : Position) → IsOnGrid a → IsOnGrid b → IsOnGrid c → IsOnGrid d → (side a b (point_at d) -ℤ side a b (point_at c)) ≤ℤ pos meeting_limit
+sides_within a b c d ha hb hc hd = at_most (side a b (point_at d) -ℤ side a b (point_at c)) _ (sides_differ a b c d)
+    (vector_within (b.x -ℤ a.x) (b.y -ℤ a.y) (d.x -ℤ c.x) (d.y -ℤ c.y) (apart a.x b.x ha.x hb.x) (apart a.y b.y ha.y hb.y) (apart c.x d.x hc.x hd.x) (apart c.y d.y hc.y hd.y))
+  where
+    apart : (x y : ℤ) → unsigned_abs x ≤ coordinate_limit → unsigned_abs y ≤ coordinate_limit → unsigned_abs (y -ℤ x) ≤ 2 * coordinate_limit
+    apart x y h k = omega (arith, ints)
+
+    at_most : (y z : ℤ) → y ≡ z → unsigned_abs z ≤ meeting_limit → y ≤ℤ pos meeting_limit
+    at_most y z e h = omega (arith, ints)
+
+-- ---- the weights that the sides of both ends give
+pub record WeightsFit (s t : ℤ) : Type 0 where
+  pub opposite : SFits w64 (pos 0 -ℤ s)
+  pub positive : pos 0 ≤ℤ (pos 0 -ℤ s)
+  pub some : pos 0 <ℤ (t +ℤ (pos 0 -ℤ s))
+  pub limit : (t +ℤ (pos 0 -ℤ s)) ≤ℤ pos meeting_limit
+
+pub side_weights_fit : (s t : ℤ) → s ≤ℤ pos 0 → pos 0 ≤ℤ t → s <ℤ t → (t -ℤ s) ≤ℤ pos meeting_limit → WeightsFit s t
+side_weights_fit s t h k d l = record { opposite = omega (arith, ints); positive = omega (arith, ints); some = omega (arith, ints); limit = omega (arith, ints) }

@@ -1,0 +1,6 @@
+pub mod Bounds
+pub mod Order
+pub mod Crossing
+pub mod Turned
+pub mod Ends
+pub mod OneLine

@@ -1,0 +1,47 @@
+use Rattle.std.proofs.Common.{◌≡◌, true, sym, ap, ap₂, subst, ◌∙◌, ℤ, pos, ◌-ℤ◌, ◌≤ℤ◌, w64}
+use Rattle.std.proofs.lemmas.Int.{to_z-of_z}
+use mir.Val.{to_z, of_z, SFits}
+use Rattle.integers.proofs.Tests.{cmp_equal_from}
+use Rattle.geometry_model.specs.Points.{Position, Point, point_at}
+use Rattle.geometry_model.specs.Geometries.{Edge}
+use Rattle.geometry_model.specs.Sides.{side}
+use Rattle.fraction.specs.Ranges.{meeting_limit}
+use Rattle.noding.specs.Meetings.{IsMeeting}
+use Rattle.noding.proofs.Crossing.{edge}
+use Rattle.noding.proofs.Turned.{meeting_turned, apart_parallel, numbers_within}
+use Rattle.noding.proofs.meetings.meet.Goals as goal
+
+pub crossing-requires-clause-limit : goal.crossing-requires-clause-limit
+crossing-requires-clause-limit c =
+    let from : SFits w64 c.side_number-from.result = record { sfits = c.side_number-from.type_inv } in
+    let to : SFits w64 c.side_number-to.result = record { sfits = c.side_number-to.type_inv } in
+    numbers_within c.args.first.now.start c.args.first.now.end c.start-start.result c.end-end.result _ _
+    (to_z-of_z w64 c.side_number-from.result from ∙ c.side_number-from.ensures.value) (to_z-of_z w64 c.side_number-to.result to ∙ c.side_number-to.ensures.value)
+    c.side_number-from.ensures.start c.side_number-from.ensures.end c.side_number-from.ensures.position c.side_number-to.ensures.position
+
+pub crossing-requires-in-Greater-clause-limit : goal.crossing-requires-in-Greater-clause-limit
+crossing-requires-in-Greater-clause-limit c =
+    let from : SFits w64 c.side_number-from.result = record { sfits = c.side_number-from.type_inv } in
+    let to : SFits w64 c.side_number-to.result = record { sfits = c.side_number-to.type_inv } in
+    numbers_within c.args.first.now.start c.args.first.now.end c.end-end.result c.start-start.result _ _
+    (to_z-of_z w64 c.side_number-to.result to ∙ c.side_number-to.ensures.value) (to_z-of_z w64 c.side_number-from.result from ∙ c.side_number-from.ensures.value)
+    c.side_number-from.ensures.start c.side_number-from.ensures.end c.side_number-to.ensures.position c.side_number-from.ensures.position
+
+pub returns-in-Less-clause-exact : goal.returns-in-Less-clause-exact
+returns-in-Less-clause-exact c = subst (λ (f : Edge). IsMeeting c.args.first.now f c.crossing.result) (ap₂ edge c.start-start.ensures c.end-end.ensures.value) c.crossing.ensures.exact
+
+pub returns-in-Greater-clause-exact : goal.returns-in-Greater-clause-exact
+returns-in-Greater-clause-exact c = subst (λ (f : Edge). IsMeeting c.args.first.now f c.crossing-in-Greater.result) (ap₂ edge c.start-start.ensures c.end-end.ensures.value)
+    (meeting_turned c.args.first.now c.start-start.result c.end-end.result c.crossing-in-Greater.result c.crossing-in-Greater.ensures.exact)
+
+pub returns-in-Equal-2-clause-exact : goal.returns-in-Equal-2-clause-exact
+returns-in-Equal-2-clause-exact c =
+    let e : Edge = c.args.first.now in
+    let f : Edge = c.args.second.now in
+    let from : SFits w64 c.side_number-from.result = record { sfits = c.side_number-from.type_inv } in
+    let to : SFits w64 c.side_number-to.result = record { sfits = c.side_number-to.type_inv } in
+    let from_is : c.side_number-from.result ≡ side e.start e.end (point_at f.start) = c.side_number-from.ensures.value ∙ ap (λ (a : Position). side e.start e.end (point_at a)) c.start-start.ensures in
+    let to_is : c.side_number-to.result ≡ side e.start e.end (point_at f.end) = c.side_number-to.ensures.value ∙ ap (λ (a : Position). side e.start e.end (point_at a)) c.end-end.ensures.value in
+    let same : to_z w64 (of_z w64 c.side_number-from.result) ≡ to_z w64 (of_z w64 c.side_number-to.result) = cmp_equal_from _ _ (sym c.cmp.ensures ∙ c.in-Equal-2.is) in
+    apart_parallel e f (sym (to_z-of_z w64 c.side_number-from.result from ∙ from_is) ∙ same ∙ to_z-of_z w64 c.side_number-to.result to ∙ to_is)
+    (λ z. c.if-from-eq0.false (ap (of_z w64) (from_is ∙ z)))

@@ -1,0 +1,67 @@
+//! Segments that cross, touch, overlap and miss one another, with values worked out by hand.
+
+use crate::{Meet, meet};
+use fraction::{GridPoint, RatPoint};
+use orient::Segment;
+use std::test::Fail;
+
+type Place = (i32, i32);
+
+fn position((x, y): Place) -> Result<GridPoint, Fail> {
+    Ok(GridPoint::new(x, y).ok_or("past the limit")?)
+}
+
+fn segment((a, b): (Place, Place)) -> Result<Segment, Fail> {
+    Ok(Segment::new(position(a)?, position(b)?).ok_or("equal ends")?)
+}
+
+/// The same segment from its end to its start.
+fn turned((a, b): (Place, Place)) -> (Place, Place) {
+    (b, a)
+}
+
+#[test]
+fn meetings(rt: HostRuntime) -> Result<(), Fail> {
+    let crossing = Meet::At(RatPoint::reduced(6, 2, 5));
+    let stretch = Meet::Along(RatPoint::reduced(2, 0, 1), RatPoint::reduced(4, 0, 1));
+    let touching = Meet::At(RatPoint::reduced(2, 0, 1));
+    let whole = Meet::Along(RatPoint::reduced(0, 0, 1), RatPoint::reduced(2, 2, 1));
+    let finest = Meet::At(RatPoint::reduced(-100_000, -39_999_900_000, 79_999_600_001));
+    let upright = Meet::Along(RatPoint::reduced(1, 0, 1), RatPoint::reduced(1, 3, 1));
+    let cases = [
+        (((0, 0), (3, 1)), ((0, 1), (2, 0)), crossing),
+        (((0, 0), (4, 0)), ((6, 0), (2, 0)), stretch),
+        (((0, 0), (2, 0)), ((2, 0), (4, 0)), touching),
+        (((0, 0), (2, 2)), ((1, 0), (3, 2)), Meet::Apart),
+        (((0, 0), (2, 2)), ((2, 2), (0, 0)), whole),
+        (
+            ((-100_000, -100_000), (100_000, 99_999)),
+            ((-100_000, 100_000), (99_999, -100_000)),
+            finest,
+        ),
+        // One end on the other segment, and on its line past its end.
+        (((0, 0), (4, 0)), ((2, 0), (3, 5)), touching),
+        (((0, 0), (1, 0)), ((2, 0), (3, 5)), Meet::Apart),
+        // Their lines cross within the one and not within the other.
+        (((0, 0), (4, 0)), ((2, 1), (3, 5)), Meet::Apart),
+        (((0, 0), (4, 0)), ((5, -1), (5, 1)), Meet::Apart),
+        // On one line, and apart.
+        (((0, 0), (1, 1)), ((2, 2), (3, 3)), Meet::Apart),
+        // Upright, one within the other.
+        (((1, -4), (1, 5)), ((1, 3), (1, 0)), upright),
+        // Two ends in common, and not on one line.
+        (((2, 0), (4, 1)), ((2, 0), (4, 2)), touching),
+    ];
+    for (first, second, wanted) in cases {
+        for (one, other) in [
+            (first, second),
+            (turned(first), second),
+            (first, turned(second)),
+            (second, first),
+            (turned(second), turned(first)),
+        ] {
+            assert_eq!(rt; meet(&segment(one)?, &segment(other)?), wanted);
+        }
+    }
+    Ok(())
+}
