@@ -1,6 +1,6 @@
 -- The numbers that sides and meeting points are made of fit 64 bits, and their denominators keep the limit.
-use Rattle.std.specs.Prelude.{◌≡◌, ℕ, ◌+◌, ◌*◌, ◌/◌, ◌≤◌, [], ◌∷◌, ℤ, pos, negsuc, ◌+ℤ◌, ◌-ℤ◌, ◌*ℤ◌, ◌≤ℤ◌, ◌<ℤ◌, unsigned_abs, int_div}
-use Rattle.std.proofs.Common.{sym, ap, ap₂, subst, ◌∙◌, arith}
+use Rattle.std.specs.Prelude.{◌≡◌, ℕ, ◌*◌, ◌/◌, ◌≤◌, [], ◌∷◌, ℤ, pos, negsuc, ◌+ℤ◌, ◌-ℤ◌, ◌*ℤ◌, ◌≤ℤ◌, ◌<ℤ◌, unsigned_abs, int_div}
+use Rattle.std.proofs.Common.{arith}
 use Rattle.std.proofs.Math.Nat.{mul-le-mul}
 use Rattle.std.proofs.lemmas.Int.{ints, unsigned_abs-mul}
 use native.Mathlib.Nat.{div-le_self}
@@ -10,7 +10,7 @@ use Rattle.integers.proofs.Ring.{solve, var, lit, ◌⊖◌, ◌⊗◌}
 use Rattle.geometry_model.specs.Points.{Position, Point, IsPoint, point_at, gcd, least_form}
 use Rattle.geometry_model.specs.Sides.{side}
 use Rattle.geometry_model.specs.WellKnownText.{coordinate_limit}
-use Rattle.fraction.specs.Ranges.{IsOnGrid, IsInRange, meeting_limit, denominator_limit}
+use Rattle.fraction.specs.Ranges.{IsOnGrid, IsInRange, meeting_limit}
 
 -- a product's absolute value
 product_within : (a b : ℤ) (m n : ℕ) → unsigned_abs a ≤ m → unsigned_abs b ≤ n → unsigned_abs (a *ℤ b) ≤ m * n

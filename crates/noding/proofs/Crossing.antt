@@ -1,9 +1,9 @@
 -- Edges whose lines cross: the point between two positions on either side of a line.
-use Rattle.std.proofs.Common.{◌≡◌, ◌⊎◌, inl, inr, ℕ, ◌+◌, ◌<◌, Bool, true, false, ◌&&◌, if◌then◌else◌, refl, sym, ap, ap₂, ◌∙◌, arith, [], ◌∷◌, ℤ, pos, ◌+ℤ◌, ◌-ℤ◌, ◌*ℤ◌, ◌≤ℤ◌, ◌<ℤ◌, int_le}
+use Rattle.std.proofs.Common.{◌≡◌, ◌⊎◌, inl, inr, Bool, true, false, ◌&&◌, if◌then◌else◌, sym, ap, ap₂, ◌∙◌, arith, [], ◌∷◌, ℤ, pos, ◌+ℤ◌, ◌-ℤ◌, ◌*ℤ◌, ◌≤ℤ◌, ◌<ℤ◌, int_le}
 use borrow.Author.Differences.{ints}
 use Rattle.std.specs.Cmp.{both_ways}
-use Rattle.std.specs.declared.cmp.Ordering.TheVariants.{Less, Equal, Greater}
-use Rattle.std.specs.Ordering.{int_cmp, int_eq}
+use Rattle.std.specs.declared.cmp.Ordering.TheVariants.{Equal, Greater}
+use Rattle.std.specs.Ordering.{int_cmp}
 use Rattle.integers.proofs.Ring.{solve, var, lit, ◌⊕◌, ◌⊖◌, ◌⊗◌}
 use Rattle.integers.proofs.Signs.{at_most_from, at_most_yes, at_most_or_less}
 use Rattle.integers.proofs.Tests.{cmp_equal, cmp_greater}
@@ -13,16 +13,15 @@ use Rattle.geometry_model.specs.Sides.{side, on, on_one_line}
 use Rattle.geometry_model.specs.Dimensions.{weighted}
 use Rattle.geometry_model.proofs.DimensionFacts.{is_false}
 use Rattle.geometry_laws.proofs.Scaling.{and_parts, and_from, same_from}
-use Rattle.geometry_laws.proofs.PointOrder.{same_symmetric, same_transitive}
+use Rattle.geometry_laws.proofs.PointOrder.{same_transitive}
 use Rattle.geometry_laws.proofs.Respect.{on_respects, side_respects}
 use Rattle.geometry_laws.proofs.LineSides.{side_turned}
-use Rattle.geometry_laws.proofs.Hulls.{OnHull, on_from_hull, hull_from_on, on_parts}
+use Rattle.geometry_laws.proofs.Hulls.{on_from_hull, hull_from_on, on_parts}
 use Rattle.geometry_laws.proofs.Lines.{value_weighted, value_is_side, line_side, sum_positive, weighted_is_point}
 use Rattle.geometry_laws.proofs.RingParity.{position_is_point}
 use Rattle.geometry_laws.proofs.Cuts.{Weighs, weighs, OneLine, one_line}
 use Rattle.cut_laws.proofs.Meeting.{SharesPoint, shares_point}
 use Rattle.noding.specs.Meetings.{on_both, IsMeeting}
-use Rattle.noding.specs.declared.answers.Meet.{Meet}
 use Rattle.noding.specs.declared.answers.Meet.TheVariants.{Apart, At}
 
 -- the edge between two positions
@@ -85,7 +84,7 @@ left_of_line a b c d r hr hc hd z g = go (weighs (edge c d) r hr (hull_from_on (
     go w =
         let p : Point = weighted w.m (point_at c) w.n (point_at d) in
         let is_sum : side a b p ≡ pos w.m *ℤ side a b (point_at c) +ℤ pos w.n *ℤ side a b (point_at d) = sym (value_is_side a b p) ∙ value_weighted (line_side a b) w.m (point_at c) w.n (point_at d)
-            ∙ ap₂ (λ (y z : ℤ). pos w.m *ℤ y +ℤ pos w.n *ℤ z) (value_is_side a b (point_at c)) (value_is_side a b (point_at d)) in
+        ∙ ap₂ (λ (y z : ℤ). pos w.m *ℤ y +ℤ pos w.n *ℤ z) (value_is_side a b (point_at c)) (value_is_side a b (point_at d)) in
         let above : pos 0 <ℤ side a b p = carried (side a b p) _ is_sum (sum_positive w.m w.n (side a b (point_at c)) (side a b (point_at d)) w.some hc hd) in
         let alike : int_cmp (side a b p) (pos 0) ≡ int_cmp (side a b r) (pos 0) = side_respects a b p r (weighted_is_point w.m (point_at c) w.n (point_at d) (position_is_point c) (position_is_point d) w.some) hr w.same in
         let clash : Greater ≡ Equal = sym (cmp_greater (side a b p) (pos 0) above) ∙ alike ∙ cmp_equal (side a b r) (pos 0) z in

@@ -6,12 +6,12 @@ use Rattle.std.specs.declared.cmp.Ordering.TheVariants.{Less, Equal, Greater}
 use Rattle.std.specs.Ordering.{is_lt, ord_max, ord_min}
 use Rattle.geometry_model.specs.Points.{Position, Point, IsPoint, point_at, same_point, compare}
 use Rattle.geometry_model.specs.Geometries.{Edge}
-use Rattle.geometry_model.specs.Sides.{side, on}
+use Rattle.geometry_model.specs.Sides.{on}
 use Rattle.geometry_model.specs.Dimensions.{area}
 use Rattle.fraction.specs.Orders.{position_order}
 use Rattle.fraction.proofs.OrderLemmas.{position_order_is}
 use Rattle.geometry_laws.proofs.Scaling.{same_x, same_y}
-use Rattle.geometry_laws.proofs.PointOrder.{same_symmetric, equal_is_same, less_transitive}
+use Rattle.geometry_laws.proofs.PointOrder.{equal_is_same, less_transitive}
 use Rattle.geometry_laws.proofs.Respect.{on_respects}
 use Rattle.geometry_laws.proofs.Hulls.{OnHull, on_from_hull}
 use Rattle.geometry_laws.proofs.LineOrder.{sum_between, on_sum}
@@ -22,7 +22,6 @@ use Rattle.noding.proofs.Order.{NotAfter, not_after_cases, not_after_or}
 pub record HasEnds (e : Edge) (low high : Position) : Type 0 where
   pub in_order : compare (point_at low) (point_at high) ≡ Less
   pub are_ends : ((low ≡ e.start) × (high ≡ e.end)) ⊎ ((low ≡ e.end) × (high ≡ e.start))
-
 
 same_position : (a b : Position) → same_point (point_at a) (point_at b) ≡ true → a ≡ b
 same_position a b e = λ i. record { x = plain a.x b.x (same_x (point_at a) (point_at b) e) i; y = plain a.y b.y (same_y (point_at a) (point_at b) e) i }

@@ -4,3 +4,4 @@ pub mod Crossing
 pub mod Turned
 pub mod Ends
 pub mod OneLine
+pub mod NamedCuts

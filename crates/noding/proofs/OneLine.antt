@@ -1,5 +1,5 @@
 -- Edges on one line: what both hold is what lies from the greater of their lesser ends to the lesser of their greater ends.
-use Rattle.std.proofs.Common.{◌≡◌, ◌⊎◌, inl, inr, Bool, true, false, ◌&&◌, refl, sym, ap, subst, ◌∙◌, ℤ, pos}
+use Rattle.std.proofs.Common.{◌≡◌, ◌⊎◌, inl, inr, true, false, ◌&&◌, sym, ap, subst, ◌∙◌, pos}
 use Rattle.std.specs.Cmp.{both_ways}
 use Rattle.std.specs.declared.cmp.Ordering.TheVariants.{Less, Equal, Greater}
 use Rattle.std.specs.Ordering.{int_eq, is_le, ord_max, ord_min}
@@ -17,9 +17,9 @@ use Rattle.geometry_laws.proofs.Hulls.{on_parts, on_from_hull}
 use Rattle.geometry_laws.proofs.LineOrder.{area_on_line}
 use Rattle.geometry_laws.proofs.RingParity.{position_is_point, side_is_area}
 use Rattle.geometry_laws.proofs.Cuts.{hull_of_start, hull_of_end, not_less_self, OneLine, one_line}
-use Rattle.noding.specs.Meetings.{on_both, on_stretch, IsCommonStretch, IsMeeting}
+use Rattle.noding.specs.Meetings.{on_both, on_stretch, IsMeeting}
 use Rattle.noding.specs.declared.answers.Meet.TheVariants.{Apart, At, Along}
-use Rattle.noding.proofs.Order.{NotAfter, not_after_less, not_after_same, not_after_trans, not_after_both, IsGreater, IsLesser, greater_is, lesser_is}
+use Rattle.noding.proofs.Order.{NotAfter, not_after_same, not_after_trans, not_after_both, IsGreater, IsLesser, greater_is, lesser_is}
 use Rattle.noding.proofs.Ends.{HasEnds, has_ends, at_low, at_high, not_before_low, not_after_high, held}
 
 -- the greater of two edges' lesser ends, and the lesser of their greater ends

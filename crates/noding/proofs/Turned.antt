@@ -1,5 +1,5 @@
 -- The same edge from its end to its start, and edges on two lines that don't cross.
-use Rattle.std.proofs.Common.{◌≡◌, Bool, true, ◌&&◌, sym, ap, ap₂, ◌∙◌, arith, ℤ, pos, ◌+ℤ◌, ◌-ℤ◌, ◌*ℤ◌, ◌≤ℤ◌}
+use Rattle.std.proofs.Common.{◌≡◌, Bool, true, false, ◌&&◌, sym, ap, ap₂, ◌∙◌, arith, ℤ, pos, ◌+ℤ◌, ◌-ℤ◌, ◌*ℤ◌, ◌≤ℤ◌}
 use borrow.Author.Differences.{ints}
 use Rattle.std.specs.Cmp.{both_ways}
 use Rattle.geometry_model.specs.Points.{Position, Point, IsPoint, point_at}
@@ -42,6 +42,10 @@ pub meeting_turned : (e : Edge) (c d : Position) (m : Meet) → IsMeeting e (edg
 meeting_turned e c d Apart h = λ p hp. same_turned e c d p hp ∙ h p hp
 meeting_turned e c d (At q) h = λ p hp. same_turned e c d p hp ∙ h p hp
 meeting_turned e c d (Along q r) h = record { in_order = h.in_order; exact = λ p hp. same_turned e c d p hp ∙ h.exact p hp }
+
+-- one end is farther on one side of the other edge's line
+pub unequal_sides : (e f : Edge) → (side e.start e.end (point_at f.start) ≡ side e.start e.end (point_at f.end) → ⊥) → on_one_line e f ≡ false
+unequal_sides e f differ = is_false (on_one_line e f) (λ k. differ ((one_line e f k).start ∙ sym (one_line e f k).end))
 
 -- both ends are equally far on one side of the other edge's line
 pub apart_parallel : (e f : Edge) → side e.start e.end (point_at f.start) ≡ side e.start e.end (point_at f.end) → (side e.start e.end (point_at f.start) ≡ pos 0 → ⊥) → IsMeeting e f Apart

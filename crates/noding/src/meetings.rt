@@ -1,6 +1,7 @@
 //! What two segments have in common.
 
-ghost use Rattle.std.specs.Prelude.{All, pos, ◌≤ℤ◌};
+ghost use Rattle.std.specs.Prelude.{[], ◌∷◌, All, pos, ◌≤ℤ◌};
+ghost use Rattle.geometry_model.specs.CutPoints.{IsCut};
 ghost use Rattle.fraction.specs.Ranges.{meeting_limit};
 ghost use Rattle.noding.specs.Meetings.{IsMeeting, named};
 
@@ -12,9 +13,10 @@ use orient::Segment;
 use std::cmp::Ordering;
 
 /// The points that two segments have in common: none, one or a stretch (OGC 06-103r4, 6.1.15.2: intersection). It is exact,
-/// and the denominators are at most 8 L L, L being the limit of coordinates.
+/// each point that it names is a cut of the two, and the denominators are at most 8 L L, L being the limit of coordinates.
 pub fn meet(first: &Segment, second: &Segment) -> Meet
     ensures exact { IsMeeting first.now second.now result }
+    ensures cuts { All (IsCut (first.now ∷ second.now ∷ []) []) (named result) }
     ensures limit { All (λ p. p.W ≤ℤ pos meeting_limit) (named result) }
 {
     let start = second.start();

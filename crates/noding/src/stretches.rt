@@ -1,7 +1,8 @@
 //! Segments on one line.
 
-ghost use Rattle.std.specs.Prelude.{◌≡◌, true, All, pos, ◌≤ℤ◌};
+ghost use Rattle.std.specs.Prelude.{◌≡◌, true, [], ◌∷◌, All, pos, ◌≤ℤ◌};
 ghost use Rattle.geometry_model.specs.Sides.{on_one_line};
+ghost use Rattle.geometry_model.specs.CutPoints.{IsCut};
 ghost use Rattle.fraction.specs.Ranges.{meeting_limit};
 ghost use Rattle.noding.specs.Meetings.{IsMeeting, named};
 
@@ -15,6 +16,7 @@ use std::cmp::Ordering;
 pub(crate) fn common_stretch(first: &Segment, second: &Segment) -> Meet
     requires one_line { on_one_line first.now second.now ≡ true }
     ensures exact { IsMeeting first.now second.now result }
+    ensures cuts { All (IsCut (first.now ∷ second.now ∷ []) []) (named result) }
     ensures limit { All (λ p. p.W ≤ℤ pos meeting_limit) (named result) }
 {
     let (a, b) = (first.start(), first.end());

@@ -1,14 +1,15 @@
-use Rattle.std.proofs.Common.{◌≡◌, true, sym, ap, ap₂, subst, ◌∙◌, ℤ, pos, ◌-ℤ◌, ◌≤ℤ◌, w64}
+use Rattle.std.proofs.Common.{◌≡◌, sym, ap, ap₂, subst, ◌∙◌, ℤ, ◌<ℤ◌, arith, w64}
+use borrow.Author.Differences.{ints}
 use Rattle.std.proofs.lemmas.Int.{to_z-of_z}
 use mir.Val.{to_z, of_z, SFits}
-use Rattle.integers.proofs.Tests.{cmp_equal_from}
-use Rattle.geometry_model.specs.Points.{Position, Point, point_at}
+use Rattle.integers.proofs.Tests.{cmp_less_from, cmp_greater_from, cmp_equal_from}
+use Rattle.geometry_model.specs.Points.{Position, point_at}
 use Rattle.geometry_model.specs.Geometries.{Edge}
 use Rattle.geometry_model.specs.Sides.{side}
-use Rattle.fraction.specs.Ranges.{meeting_limit}
 use Rattle.noding.specs.Meetings.{IsMeeting}
 use Rattle.noding.proofs.Crossing.{edge}
-use Rattle.noding.proofs.Turned.{meeting_turned, apart_parallel, numbers_within}
+use Rattle.noding.proofs.Turned.{meeting_turned, unequal_sides, apart_parallel, numbers_within}
+use Rattle.noding.proofs.NamedCuts.{named_at_crossing}
 use Rattle.noding.proofs.meetings.meet.Goals as goal
 
 pub crossing-requires-clause-limit : goal.crossing-requires-clause-limit
@@ -45,3 +46,33 @@ returns-in-Equal-2-clause-exact c =
     let same : to_z w64 (of_z w64 c.side_number-from.result) ≡ to_z w64 (of_z w64 c.side_number-to.result) = cmp_equal_from _ _ (sym c.cmp.ensures ∙ c.in-Equal-2.is) in
     apart_parallel e f (sym (to_z-of_z w64 c.side_number-from.result from ∙ from_is) ∙ same ∙ to_z-of_z w64 c.side_number-to.result to ∙ to_is)
     (λ z. c.if-from-eq0.false (ap (of_z w64) (from_is ∙ z)))
+
+-- ---- the points named are cuts
+
+-- sides whose numbers differ differ
+differ : (s t s' t' : ℤ) → s ≡ s' → t ≡ t' → s <ℤ t → s' ≡ t' → ⊥
+differ s t s' t' e f h k = omega (arith, ints)
+
+pub returns-in-Less-clause-cuts : goal.returns-in-Less-clause-cuts
+returns-in-Less-clause-cuts c =
+    let e : Edge = c.args.first.now in
+    let f : Edge = c.args.second.now in
+    let from : SFits w64 c.side_number-from.result = record { sfits = c.side_number-from.type_inv } in
+    let to : SFits w64 c.side_number-to.result = record { sfits = c.side_number-to.type_inv } in
+    let from_is : c.side_number-from.result ≡ side e.start e.end (point_at f.start) = c.side_number-from.ensures.value ∙ ap (λ (a : Position). side e.start e.end (point_at a)) c.start-start.ensures in
+    let to_is : c.side_number-to.result ≡ side e.start e.end (point_at f.end) = c.side_number-to.ensures.value ∙ ap (λ (a : Position). side e.start e.end (point_at a)) c.end-end.ensures.value in
+    named_at_crossing e f
+    (unequal_sides e f (differ _ _ _ _ (to_z-of_z w64 c.side_number-from.result from ∙ from_is) (to_z-of_z w64 c.side_number-to.result to ∙ to_is) (cmp_less_from _ _ (sym c.cmp.ensures ∙ c.in-Less.is))))
+    c.crossing.result (returns-in-Less-clause-exact c) c.crossing.ensures.points
+
+pub returns-in-Greater-clause-cuts : goal.returns-in-Greater-clause-cuts
+returns-in-Greater-clause-cuts c =
+    let e : Edge = c.args.first.now in
+    let f : Edge = c.args.second.now in
+    let from : SFits w64 c.side_number-from.result = record { sfits = c.side_number-from.type_inv } in
+    let to : SFits w64 c.side_number-to.result = record { sfits = c.side_number-to.type_inv } in
+    let from_is : c.side_number-from.result ≡ side e.start e.end (point_at f.start) = c.side_number-from.ensures.value ∙ ap (λ (a : Position). side e.start e.end (point_at a)) c.start-start.ensures in
+    let to_is : c.side_number-to.result ≡ side e.start e.end (point_at f.end) = c.side_number-to.ensures.value ∙ ap (λ (a : Position). side e.start e.end (point_at a)) c.end-end.ensures.value in
+    named_at_crossing e f
+    (unequal_sides e f (λ k. differ _ _ _ _ (to_z-of_z w64 c.side_number-to.result to ∙ to_is) (to_z-of_z w64 c.side_number-from.result from ∙ from_is) (cmp_greater_from _ _ (sym c.cmp.ensures ∙ c.in-Greater.is)) (sym k)))
+    c.crossing-in-Greater.result (returns-in-Greater-clause-exact c) c.crossing-in-Greater.ensures.points

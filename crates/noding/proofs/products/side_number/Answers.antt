@@ -29,11 +29,11 @@ returns-clause-value c =
     let ey : SFits w64 c.step-ey.result = record { sfits = c.step-ey.type_inv } in
     let r : SFits w64 c.vector_product.result = record { sfits = c.vector_product.type_inv } in
     to_z-of_z w64 c.vector_product.result r
-        ∙ product_is c.vector_product.result c.step-dx.result c.step-dy.result c.step-ex.result c.step-ey.result c.x.result c.y.result c.x-2.result c.y-2.result c.x-4.result c.y-4.result c.x-3.result c.y-3.result
-        c.args.segment.now.start c.args.segment.now.end c.args.at
-        (simp to_z-of_z at c.vector_product.ensures) (simp to_z-of_z at c.step-dx.ensures.value) (simp to_z-of_z at c.step-dy.ensures.value) (simp to_z-of_z at c.step-ex.ensures.value) (simp to_z-of_z at c.step-ey.ensures.value)
-        (c.x.ensures.value ∙ ap x_of c.start-start.ensures) (c.y.ensures.value ∙ ap y_of c.start-start.ensures)
-        (c.x-3.ensures.value ∙ ap x_of c.start-start.ensures) (c.y-3.ensures.value ∙ ap y_of c.start-start.ensures)
-        (c.x-2.ensures.value ∙ ap x_of c.end-end.ensures.value) (c.y-2.ensures.value ∙ ap y_of c.end-end.ensures.value)
-        c.x-4.ensures.value c.y-4.ensures.value
-        ∙ sym (side_at c.args.segment.now.start c.args.segment.now.end c.args.at)
+    ∙ product_is c.vector_product.result c.step-dx.result c.step-dy.result c.step-ex.result c.step-ey.result c.x.result c.y.result c.x-2.result c.y-2.result c.x-4.result c.y-4.result c.x-3.result c.y-3.result
+    c.args.segment.now.start c.args.segment.now.end c.args.at
+    (simp to_z-of_z at c.vector_product.ensures) (simp to_z-of_z at c.step-dx.ensures.value) (simp to_z-of_z at c.step-dy.ensures.value) (simp to_z-of_z at c.step-ex.ensures.value) (simp to_z-of_z at c.step-ey.ensures.value)
+    (c.x.ensures.value ∙ ap x_of c.start-start.ensures) (c.y.ensures.value ∙ ap y_of c.start-start.ensures)
+    (c.x-3.ensures.value ∙ ap x_of c.start-start.ensures) (c.y-3.ensures.value ∙ ap y_of c.start-start.ensures)
+    (c.x-2.ensures.value ∙ ap x_of c.end-end.ensures.value) (c.y-2.ensures.value ∙ ap y_of c.end-end.ensures.value)
+    c.x-4.ensures.value c.y-4.ensures.value
+    ∙ sym (side_at c.args.segment.now.start c.args.segment.now.end c.args.at)

@@ -4,8 +4,9 @@ use Rattle.std.specs.Ordering.{ord_max, ord_min}
 use Rattle.geometry_model.specs.Points.{Position, Point, point_at, same_point, compare}
 use Rattle.geometry_model.specs.Geometries.{Edge}
 use Rattle.fraction.specs.Orders.{position_order}
-use Rattle.noding.specs.Meetings.{on_both, IsCommonStretch}
+use Rattle.noding.specs.Meetings.{IsCommonStretch}
 use Rattle.noding.proofs.OneLine.{Lined, lined, from_of, to_of, apart_on_line, touching_on_line, along_the_line}
+use Rattle.noding.proofs.NamedCuts.{CutOf, one_cut, two_cuts, from_is_cut, to_is_cut}
 use Rattle.noding.proofs.stretches.common_stretch.Goals as goal
 
 -- the ends that the code reads, and how it compares the two that it chooses
@@ -47,3 +48,20 @@ returns-in-Greater-clause-exact c p hp =
     let low = from_is e f c.start-a.result c.end-b.result c.start-c.result c.end-d.result c.min.result c.min-2.result c.max-from.result c.start-a.ensures c.end-b.ensures.value c.start-c.ensures c.end-d.ensures.value c.min.ensures c.min-2.ensures c.max-from.ensures in
     let high = to_is e f c.start-a.result c.end-b.result c.start-c.result c.end-d.result c.max.result c.max-2.result c.min-to.result c.start-a.ensures c.end-b.ensures.value c.start-c.ensures c.end-d.ensures.value c.max.ensures c.max-2.ensures c.min-to.ensures in
     apart_on_line e f l (order_is e f c.max-from.result c.min-to.result c.cmp.result low high c.cmp.ensures.exact ∙ c.in-Greater.is) p hp
+
+pub returns-in-Less-clause-cuts : goal.returns-in-Less-clause-cuts
+returns-in-Less-clause-cuts c =
+    let e : Edge = c.args.first.now in
+    let f : Edge = c.args.second.now in
+    let l : Lined e f = lined e f c.end-b.ensures.differ c.end-d.ensures.differ c.requires.one_line in
+    let low = from_is e f c.start-a.result c.end-b.result c.start-c.result c.end-d.result c.min.result c.min-2.result c.max-from.result c.start-a.ensures c.end-b.ensures.value c.start-c.ensures c.end-d.ensures.value c.min.ensures c.min-2.ensures c.max-from.ensures in
+    let high = to_is e f c.start-a.result c.end-b.result c.start-c.result c.end-d.result c.max.result c.max-2.result c.min-to.result c.start-a.ensures c.end-b.ensures.value c.start-c.ensures c.end-d.ensures.value c.max.ensures c.max-2.ensures c.min-to.ensures in
+    two_cuts e f c.of_grid.result c.of_grid-in-Less.result (subst (CutOf e f) (sym (c.of_grid.ensures ∙ ap point_at low)) (from_is_cut e f l)) (subst (CutOf e f) (sym (c.of_grid-in-Less.ensures ∙ ap point_at high)) (to_is_cut e f l))
+
+pub returns-in-Equal-clause-cuts : goal.returns-in-Equal-clause-cuts
+returns-in-Equal-clause-cuts c =
+    let e : Edge = c.args.first.now in
+    let f : Edge = c.args.second.now in
+    let l : Lined e f = lined e f c.end-b.ensures.differ c.end-d.ensures.differ c.requires.one_line in
+    let low = from_is e f c.start-a.result c.end-b.result c.start-c.result c.end-d.result c.min.result c.min-2.result c.max-from.result c.start-a.ensures c.end-b.ensures.value c.start-c.ensures c.end-d.ensures.value c.min.ensures c.min-2.ensures c.max-from.ensures in
+    one_cut e f c.of_grid-in-Equal.result (subst (CutOf e f) (sym (c.of_grid-in-Equal.ensures ∙ ap point_at low)) (from_is_cut e f l))
