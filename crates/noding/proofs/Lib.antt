@@ -5,3 +5,4 @@ pub mod Turned
 pub mod Ends
 pub mod OneLine
 pub mod NamedCuts
+pub mod Found

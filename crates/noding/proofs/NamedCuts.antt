@@ -30,15 +30,15 @@ cut_of_both e f apart p hp k =
     let both : (on e p ≡ true) × (on f p ≡ true) = and_parts (on e p) (on f p) k in
     AtCrossing hp e f (contains_of_among e (e ∷ f ∷ []) (inl refl)) (contains_of_among f (e ∷ f ∷ []) (inr (inl refl))) apart both.0 both.1
 
-area_at_first : (p q : Point) → area p q p ≡ pos 0
+pub area_at_first : (p q : Point) → area p q p ≡ pos 0
 area_at_first p q = solve (p.X ∷ p.Y ∷ p.W ∷ q.X ∷ q.Y ∷ q.W ∷ [])
     ((var 0 ⊗ (var 4 ⊗ var 2 ⊖ var 1 ⊗ var 5) ⊖ var 1 ⊗ (var 3 ⊗ var 2 ⊖ var 0 ⊗ var 5)) ⊕ var 2 ⊗ (var 3 ⊗ var 1 ⊖ var 0 ⊗ var 4)) (lit (pos 0)) tt
 
-area_at_second : (p q : Point) → area p q q ≡ pos 0
+pub area_at_second : (p q : Point) → area p q q ≡ pos 0
 area_at_second p q = solve (p.X ∷ p.Y ∷ p.W ∷ q.X ∷ q.Y ∷ q.W ∷ [])
     ((var 0 ⊗ (var 4 ⊗ var 5 ⊖ var 4 ⊗ var 5) ⊖ var 1 ⊗ (var 3 ⊗ var 5 ⊖ var 3 ⊗ var 5)) ⊕ var 2 ⊗ (var 3 ⊗ var 4 ⊖ var 3 ⊗ var 4)) (lit (pos 0)) tt
 
-stretch_has : (p q r : Point) → area p q r ≡ pos 0 → NotAfter p r → NotAfter r q → on_stretch (record { lesser = p; greater = q }) r ≡ true
+pub stretch_has : (p q r : Point) → area p q r ≡ pos 0 → NotAfter p r → NotAfter r q → on_stretch (record { lesser = p; greater = q }) r ≡ true
 stretch_has p q r z f g = and_from (int_eq (area p q r) (pos 0) && is_le (compare p r)) (is_le (compare r q)) (and_from (int_eq (area p q r) (pos 0)) (is_le (compare p r)) (equal_yes (area p q r) (pos 0) z) f) g
 
 pub named_at_crossing : (e f : Edge) → on_one_line e f ≡ false → (m : Meet) → IsMeeting e f m → All IsPoint (named m) → All (CutOf e f) (named m)
@@ -88,3 +88,6 @@ one_cut e f p h = all_from_each (CutOf e f) (p ∷ []) (h, tt)
 
 pub two_cuts : (e f : Edge) (p q : Point) → CutOf e f p → CutOf e f q → All (CutOf e f) (p ∷ q ∷ [])
 two_cuts e f p q h k = all_from_each (CutOf e f) (p ∷ q ∷ []) (h, (k, tt))
+
+pub no_cuts : (e f : Edge) → All (CutOf e f) []
+no_cuts e f = all_from_each (CutOf e f) [] tt

@@ -1,11 +1,12 @@
 -- What two edges have in common.
-use Rattle.std.specs.Prelude.{◌≡◌, Bool, false, ◌&&◌, List, [], ◌∷◌, pos}
+use Rattle.std.specs.Prelude.{◌≡◌, Bool, false, true, not, ◌&&◌, ◌||◌, List, [], ◌∷◌, Any, pos}
 use Rattle.std.specs.declared.cmp.Ordering.TheVariants.{Less}
 use Rattle.std.specs.Ordering.{int_eq, is_le}
 use Rattle.geometry_model.specs.Points.{Point, IsPoint, same_point, compare}
 use Rattle.geometry_model.specs.Geometries.{Edge}
-use Rattle.geometry_model.specs.Sides.{on}
+use Rattle.geometry_model.specs.Sides.{on, on_one_line}
 use Rattle.geometry_model.specs.Dimensions.{area}
+use Rattle.geometry_model.specs.CutPoints.{is_end}
 use Rattle.geometry_model.specs.Pieces.{Piece}
 use Rattle.noding.specs.declared.answers.Meet.{Meet}
 use Rattle.noding.specs.declared.answers.Meet.TheVariants.{Apart, At, Along}
@@ -34,3 +35,11 @@ abbrev pub named : Meet → List Point
 named Apart = []
 named (At p) = p ∷ []
 named (Along p q) = p ∷ q ∷ []
+
+-- both hold the point, and one of them ends there or they aren't on one line: so it is a cut of the two (profile)
+abbrev pub is_common_cut : Edge → Edge → Point → Bool
+is_common_cut e f p = on_both e f p && (is_end e p || is_end f p || not (on_one_line e f))
+
+-- the answer names each such point (profile)
+abbrev pub NamesCommonCuts : Edge → Edge → Meet → Type 0
+NamesCommonCuts e f m = (p : Point) → IsPoint p → is_common_cut e f p ≡ true → Any (λ q. same_point q p ≡ true) (named m)

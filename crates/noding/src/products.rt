@@ -1,6 +1,6 @@
 //! The numbers that sides and meeting points are made of. Each is bounded, so that none passes 64 bits.
 
-ghost use Rattle.std.specs.Prelude.{◌≡◌, IsTrue, ◌*◌, ◌≤◌, pos, ◌≤ℤ◌, ◌<ℤ◌, ◌+ℤ◌, ◌-ℤ◌, ◌*ℤ◌, unsigned_abs};
+ghost use Rattle.std.specs.Prelude.{◌≡◌, ◌≢◌, IsTrue, ◌*◌, ◌≤◌, pos, ◌≤ℤ◌, ◌<ℤ◌, ◌+ℤ◌, ◌-ℤ◌, ◌*ℤ◌, unsigned_abs};
 ghost use Rattle.geometry_model.specs.Points.{point_at, same_point};
 ghost use Rattle.geometry_model.specs.Sides.{side};
 ghost use Rattle.geometry_model.specs.WellKnownText.{coordinate_limit};
@@ -33,6 +33,7 @@ fn vector_product(dx: i64, dy: i64, ex: i64, ey: i64) -> i64
 /// The number whose sign is the side of a position, seen from the segment's start to its end.
 pub(crate) fn side_number(segment: &Segment, at: GridPoint) -> i64
     ensures value { result ≡ side segment.now.start segment.now.end (point_at at) }
+    ensures differ { segment.now.start ≢ segment.now.end }
     ensures start { IsOnGrid segment.now.start }
     ensures end { IsOnGrid segment.now.end }
     ensures position { IsOnGrid at }

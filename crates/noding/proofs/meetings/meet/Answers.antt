@@ -7,9 +7,11 @@ use Rattle.geometry_model.specs.Points.{Position, point_at}
 use Rattle.geometry_model.specs.Geometries.{Edge}
 use Rattle.geometry_model.specs.Sides.{side}
 use Rattle.noding.specs.Meetings.{IsMeeting}
+use Rattle.noding.specs.declared.answers.Meet.TheVariants.{Apart}
 use Rattle.noding.proofs.Crossing.{edge}
 use Rattle.noding.proofs.Turned.{meeting_turned, unequal_sides, apart_parallel, numbers_within}
-use Rattle.noding.proofs.NamedCuts.{named_at_crossing}
+use Rattle.noding.proofs.NamedCuts.{named_at_crossing, no_cuts}
+use Rattle.noding.proofs.Found.{names_cuts}
 use Rattle.noding.proofs.meetings.meet.Goals as goal
 
 pub crossing-requires-clause-limit : goal.crossing-requires-clause-limit
@@ -76,3 +78,17 @@ returns-in-Greater-clause-cuts c =
     named_at_crossing e f
     (unequal_sides e f (λ k. differ _ _ _ _ (to_z-of_z w64 c.side_number-to.result to ∙ to_is) (to_z-of_z w64 c.side_number-from.result from ∙ from_is) (cmp_greater_from _ _ (sym c.cmp.ensures ∙ c.in-Greater.is)) (sym k)))
     c.crossing-in-Greater.result (returns-in-Greater-clause-exact c) c.crossing-in-Greater.ensures.points
+
+-- ---- and all common cuts are named
+
+pub returns-in-Less-clause-found : goal.returns-in-Less-clause-found
+returns-in-Less-clause-found c = names_cuts c.args.first.now c.args.second.now c.side_number-from.ensures.differ c.end-end.ensures.differ c.crossing.result (returns-in-Less-clause-exact c) (returns-in-Less-clause-cuts c)
+
+pub returns-in-Greater-clause-found : goal.returns-in-Greater-clause-found
+returns-in-Greater-clause-found c = names_cuts c.args.first.now c.args.second.now c.side_number-from.ensures.differ c.end-end.ensures.differ c.crossing-in-Greater.result (returns-in-Greater-clause-exact c) (returns-in-Greater-clause-cuts c)
+
+pub returns-in-Equal-clause-found : goal.returns-in-Equal-clause-found
+returns-in-Equal-clause-found c = names_cuts c.args.first.now c.args.second.now c.side_number-from.ensures.differ c.end-end.ensures.differ c.common_stretch.result c.common_stretch.ensures.exact c.common_stretch.ensures.cuts
+
+pub returns-in-Equal-2-clause-found : goal.returns-in-Equal-2-clause-found
+returns-in-Equal-2-clause-found c = names_cuts c.args.first.now c.args.second.now c.side_number-from.ensures.differ c.end-end.ensures.differ Apart (returns-in-Equal-2-clause-exact c) (no_cuts c.args.first.now c.args.second.now)
