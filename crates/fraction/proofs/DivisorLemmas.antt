@@ -36,7 +36,7 @@ divisor_fits (negsuc n) a b g h fits e f = absurd (omega (arith, ints))
 
 -- ---- the least form in range
 
-quotient_at_most : (w : ℤ) (g : ℕ) → pos 0 <ℤ w → int_div w (pos g) ≤ℤ w
+pub quotient_at_most : (w : ℤ) (g : ℕ) → pos 0 <ℤ w → int_div w (pos g) ≤ℤ w
 quotient_at_most (pos a) g h = let less : a / g ≤ a = div-le_self a g in omega (arith, ints)
 quotient_at_most (negsuc a) g h = absurd (omega (arith, ints))
 

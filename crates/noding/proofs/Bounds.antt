@@ -1,20 +1,16 @@
 -- The numbers that sides and meeting points are made of fit 64 bits, and their denominators keep the limit.
-use Rattle.std.specs.Prelude.{◌≡◌, ℕ, ◌*◌, ◌/◌, ◌≤◌, [], ◌∷◌, ℤ, pos, negsuc, ◌+ℤ◌, ◌-ℤ◌, ◌*ℤ◌, ◌≤ℤ◌, ◌<ℤ◌, unsigned_abs, int_div}
+use Rattle.std.specs.Prelude.{◌≡◌, ℕ, ◌*◌, ◌≤◌, [], ◌∷◌, ℤ, pos, ◌+ℤ◌, ◌-ℤ◌, ◌*ℤ◌, ◌≤ℤ◌, ◌<ℤ◌, unsigned_abs}
 use Rattle.std.proofs.Common.{arith}
-use Rattle.std.proofs.Math.Nat.{mul-le-mul}
-use Rattle.std.proofs.lemmas.Int.{ints, unsigned_abs-mul}
-use native.Mathlib.Nat.{div-le_self}
+use Rattle.std.proofs.lemmas.Int.{ints}
 use mir.Syntax.{w64}
 use mir.Val.{SFits}
 use Rattle.integers.proofs.Ring.{solve, var, lit, ◌⊖◌, ◌⊗◌}
+use Rattle.orient.proofs.Bounds.{product_within}
 use Rattle.geometry_model.specs.Points.{Position, Point, IsPoint, point_at, gcd, least_form}
 use Rattle.geometry_model.specs.Sides.{side}
 use Rattle.geometry_model.specs.WellKnownText.{coordinate_limit}
+use Rattle.fraction.proofs.DivisorLemmas.{quotient_at_most}
 use Rattle.fraction.specs.Ranges.{IsOnGrid, IsInRange, meeting_limit}
-
--- a product's absolute value
-product_within : (a b : ℤ) (m n : ℕ) → unsigned_abs a ≤ m → unsigned_abs b ≤ n → unsigned_abs (a *ℤ b) ≤ m * n
-product_within a b m n h k = rw unsigned_abs-mul (mul-le-mul h k)
 
 -- ---- a vector product of steps
 pub record VectorFits (dx dy ex ey : ℤ) : Type 0 where
@@ -98,10 +94,6 @@ pub sum_in_range : (x y w : ℤ) → pos 0 <ℤ w → w ≤ℤ pos meeting_limit
 sum_in_range x y w h k ex ey = record { positive = h; denominator = omega (arith, ints); x = ex; y = ey }
 
 -- the least form has no greater denominator
-quotient_at_most : (w : ℤ) (g : ℕ) → pos 0 <ℤ w → int_div w (pos g) ≤ℤ w
-quotient_at_most (pos a) g h = let less : a / g ≤ a = div-le_self a g in omega (arith, ints)
-quotient_at_most (negsuc a) g h = absurd (omega (arith, ints))
-
 pub least_within : (p : Point) (l : ℕ) → IsPoint p → p.W ≤ℤ pos l → (least_form p).W ≤ℤ pos l
 least_within p l h k = through (least_form p).W p.W (pos l) (quotient_at_most p.W (gcd (gcd (unsigned_abs p.X) (unsigned_abs p.Y)) (unsigned_abs p.W)) h) k
   where

@@ -7,7 +7,7 @@ use mir.Syntax.{w32, w64, w128}
 use mir.Val.{SFits}
 
 -- a product's absolute value
-product_within : (a b : ℤ) (m n : ℕ) → unsigned_abs a ≤ m → unsigned_abs b ≤ n → unsigned_abs (a *ℤ b) ≤ m * n
+pub product_within : (a b : ℤ) (m n : ℕ) → unsigned_abs a ≤ m → unsigned_abs b ≤ n → unsigned_abs (a *ℤ b) ≤ m * n
 product_within a b m n h k = rw unsigned_abs-mul (mul-le-mul h k)
 
 -- ---- how far a coordinate lies beyond that of a position
