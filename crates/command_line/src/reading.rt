@@ -1,6 +1,6 @@
 //! The commands of `sfq`, and how its words are read by them.
 
-ghost use Rattle.std.specs.Prelude.{◌≡◌, ◌≢◌, [], true, false, codes, IfOk, IfErr, IfSome, IfNone, OnOk, option_map};
+ghost use Rattle.std.specs.Prelude.{◌≡◌, [], true, false, codes, IfOk, IfErr, IfSome, IfNone, OnOk, option_map};
 ghost use Rattle.std.specs.String.{string_bytes};
 ghost use Rattle.clap.specs.Walk.{texts};
 ghost use Rattle.clap.specs.Words.{app_of, rule_of, rows_of, found_of, first_value, subcommand_rows_of, takes, fault_of, kind_of, HasKind};
@@ -13,15 +13,15 @@ use clap::{Arg, ArgMatches, Command};
 use std::alloc::{AllocError, Global};
 
 /// Reads the words of a command line, the program's name first, by `clap`. At Ok they are the
-/// command and its words. Where `clap` takes the words, only want of memory is refused; where it
-/// refuses them, the misuse is of a kind that it names there. (Profile.)
+/// command and its words, and no step of `clap` refuses them. A misuse is want of memory or of a kind
+/// that the step which refuses the words names, so it is want of memory where `clap` takes them.
+/// (Profile.)
 pub fn order<'a>(alloc: Global, words: &'a [&'a str]) -> Result<Order, Misuse>
     ensures ok { IfOk result (Orders (texts words.entry.now)) }
     ensures accepted { OnOk result (fault_of sfq (texts words.entry.now) ≡ []) }
     ensures taken { IfErr result (λ m. takes sfq (texts words.entry.now) ≡ true
         → kind_of m.error ≡ ErrorKind.OutOfMemory) }
-    ensures refused { IfErr result (λ m. fault_of sfq (texts words.entry.now) ≢ []
-        → HasKind (fault_of sfq (texts words.entry.now)) m.error) }
+    ensures refused { IfErr result (λ m. HasKind (fault_of sfq (texts words.entry.now)) m.error) }
 {
     let mut command = sfq_command(alloc)?;
     let matches = command.try_get_matches_from_mut(words)?;

@@ -100,12 +100,32 @@ fn texts_tell_what_is_wrong(rt: HostRuntime) -> Result<(), Fail> {
         .ok_or("a misuse")?;
     assert!(rt; missing.to_string(alloc)?.contains("<QUERY>"));
     assert!(rt; missing.print(&rt).is_ok());
-    let help = order(alloc, &["sfq", "run", "--help"]).err().ok_or("help")?;
-    assert!(rt; help.to_string(alloc)?.contains("<SCHEMA> <DIR> <QUERY>"));
-    assert!(rt; help.print(&rt).is_ok());
-    let help = order(alloc, &["sfq", "relate", "--help"])
+    Ok(())
+}
+
+// Whether the help of a command has each of these texts.
+fn has_help(rt: &HostRuntime, command: &str, texts: &[&str]) -> Result<bool, Fail> {
+    let help = order(rt.alloc(), &["sfq", command, "--help"])
         .err()
         .ok_or("help")?;
-    assert!(rt; help.to_string(alloc)?.contains("<WKT> <WKT>"));
+    let shown = help.to_string(rt.alloc())?;
+    Ok(texts.iter().all(|text| shown.contains(*text)) && help.print(rt).is_ok())
+}
+
+#[test]
+fn help_tells_what_each_word_is(rt: HostRuntime) -> Result<(), Fail> {
+    let run = [
+        "<SCHEMA> <DIR> <QUERY>",
+        "The file of CREATE TABLE statements",
+        "The directory of the tables: t.csv for table t",
+        "The SELECT (after -- where it begins with a -)",
+    ];
+    assert!(rt; has_help(&rt, "run", &run)?);
+    let relate = [
+        "<WKT> <WKT>",
+        "The first geometry, such as POINT(1 2)",
+        "The second geometry, such as MULTIPOINT((1 2),(3 4))",
+    ];
+    assert!(rt; has_help(&rt, "relate", &relate)?);
     Ok(())
 }

@@ -22,7 +22,7 @@ returns-in_err-matches-clause-refused c =
     let words = texts c.args.words.now in
     misuse-keeps c.from_residual-in_err-matches.result c.in_err-matches.field-0.0 _
     c.from_residual-in_err-matches.ensures.1
-    (λ refused. subst (λ (a : App). HasKind (fault_of a words) c.in_err-matches.field-0.0) command_is
+    (subst (λ (a : App). HasKind (fault_of a words) c.in_err-matches.field-0.0) command_is
     (c.in_err-matches.ensures.kinds (ap is_simple_and_free command_is ∙ sfq-free)))
 
 pub returns-clause-accepted : goal.returns-clause-accepted
