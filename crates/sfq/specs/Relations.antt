@@ -1,5 +1,5 @@
 -- Relating two geometries that stand as texts: their matrix, or the failure.
-use Rattle.std.specs.Prelude.{◌≡◌, ◌⊎◌, ℕ, List, Result, Ok, Err}
+use Rattle.std.specs.Prelude.{◌≡◌, ◌⊎◌, ℕ, List, Option, Some, None, Result, Ok, Err}
 use Rattle.geometry_model.specs.CheckedTexts.{tested}
 use Rattle.geometry_model.specs.Dimensions.{IsMatrix, Matrix}
 use Rattle.geometry_model.specs.Geometries.{Geometry, kind}
@@ -50,3 +50,8 @@ RelatesTexts first second m = (a b : Geometry) × Spells first a × Spells secon
 -- the failure is that of the outcome, or of want of memory (profile)
 abbrev pub IsFailureOf : {A : Type 0} → Result A Failure → Failure → Type 0
 IsFailureOf outcome failure = (failure ≡ f.OutOfMemory) ⊎ (outcome ≡ Err failure)
+
+-- the failure that a geometry's fault is, and want of memory where there is none (profile)
+abbrev pub refused_or_memory : Operand → Option GeometryFault → Failure
+refused_or_memory operand (Some fault) = f.Refused operand fault
+refused_or_memory operand None = f.OutOfMemory

@@ -1,14 +1,15 @@
 //! The command `relate`: the DE-9IM matrix of two geometries in well-known text.
 
-ghost use Rattle.std.specs.Prelude.{◌≡◌, Result, Ok, Err, IfOk, IfErr, IfSome};
+ghost use Rattle.std.specs.Prelude.{◌≡◌, Result, Ok, Err, IfOk, IfErr, IfSome, option_map};
 ghost use Rattle.geometry_model.specs.CheckedTexts.{tested};
 ghost use Rattle.geometry_model.specs.Dimensions.{IsMatrix};
 ghost use Rattle.geometry_model.specs.Geometries.{Geometry, kind};
 ghost use Rattle.geometry_model.specs.WellKnownText.{Spells};
+ghost use Rattle.geometry_model.specs.declared.geometry_faults.GeometryFault.TheVariants as g;
 ghost use Rattle.geometry_model.specs.declared.text_faults.TextFault.{TextFault};
-ghost use Rattle.validity.specs.CheckFaults.{IsFaultOf};
+ghost use Rattle.validity.specs.CheckFaults.{IsFaultOf, fault_in};
 ghost use Rattle.wkt.specs.TextFaults.{text_fault};
-ghost use Rattle.sfq.specs.Relations.{IsFailureOf, RelatesTexts, operand_in, or_refused, relation, served_matrix};
+ghost use Rattle.sfq.specs.Relations.{IsFailureOf, RelatesTexts, operand_in, or_refused, refused_or_memory, relation, served_matrix};
 
 use crate::failure::{Failure, Operand};
 use de9im::{Matrix, Work, relate};
@@ -48,8 +49,9 @@ fn geometry_of(alloc: Global, operand: Operand, text: &[u8]) -> Result<Valid, Fa
 
 // The failure that a fault of a geometry's text is.
 fn text_failure(operand: Operand, fault: WktFault) -> Failure<'static>
-    ensures { (read : Result Geometry TextFault) → IfSome (text_fault fault) (λ found. read ≡ Err found)
+    ensures failure { (read : Result Geometry TextFault) → IfSome (text_fault fault) (λ found. read ≡ Err found)
         → IsFailureOf (or_refused operand (tested read)) result }
+    ensures exact { result ≡ refused_or_memory operand (option_map g.Text (text_fault fault)) }
 {
     match fault.text_fault() {
         Some(fault) => Failure::Refused(operand, GeometryFault::Text(fault)),
@@ -59,7 +61,8 @@ fn text_failure(operand: Operand, fault: WktFault) -> Failure<'static>
 
 // The failure that a fault of a geometry is.
 fn validity_failure(operand: Operand, fault: CheckFault) -> Failure<'static>
-    ensures { (g : Geometry) → IsFaultOf g fault → IsFailureOf (or_refused operand (tested (Ok g))) result }
+    ensures failure { (g : Geometry) → IsFaultOf g fault → IsFailureOf (or_refused operand (tested (Ok g))) result }
+    ensures exact { result ≡ refused_or_memory operand (option_map g.Invalid (fault_in fault)) }
 {
     match fault.validity_fault() {
         Some(fault) => Failure::Refused(operand, GeometryFault::Invalid(fault)),

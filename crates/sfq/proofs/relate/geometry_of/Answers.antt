@@ -8,9 +8,9 @@ use Rattle.sfq.specs.Relations.{IsFailureOf, or_refused}
 use Rattle.sfq.proofs.relate.geometry_of.Goals as goal
 
 pub returns-in-Err-clause-failure : goal.returns-in-Err-clause-failure
-returns-in-Err-clause-failure c = c.text_failure.ensures (read_served c.args.text.now) c.in-Err.ensures.fault
+returns-in-Err-clause-failure c = c.text_failure.ensures.failure (read_served c.args.text.now) c.in-Err.ensures.fault
 
 pub returns-in-Err-check-clause-failure : goal.returns-in-Err-check-clause-failure
 returns-in-Err-check-clause-failure c =
     subst (λ (r : Result Geometry TextFault). IsFailureOf (or_refused c.args.operand (tested r)) c.validity_failure.result) (sym c.in-Ok.ensures.ok)
-    (c.validity_failure.ensures c.in-Ok.geometry c.in-Err-check.ensures.fault)
+    (c.validity_failure.ensures.failure c.in-Ok.geometry c.in-Err-check.ensures.fault)
