@@ -1,14 +1,22 @@
-//! What two segments of the grid have in common, exactly. Nothing here takes memory.
+//! What segments of the grid have in common, exactly: of two of them the points, of many the nodes and the pieces between
+//! them.
 #![tactic(auto)]
 
 pub mod answers;
+mod breaks;
 mod crossings;
 pub mod meetings;
+pub mod noded;
+pub mod nodings;
+mod orders;
+mod places;
 mod products;
 mod stretches;
 
 pub use answers::Meet;
 pub use meetings::meet;
+pub use noded::Noded;
+pub use nodings::node;
 
 #[cfg(test)]
 mod tests;

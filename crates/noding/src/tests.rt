@@ -1,8 +1,9 @@
 //! Segments that cross, touch, overlap and miss one another, with values worked out by hand.
 
-use crate::{Meet, meet};
+use crate::{Meet, Noded, meet, node};
 use fraction::{GridPoint, RatPoint};
 use orient::Segment;
+use std::alloc::Global;
 use std::test::Fail;
 
 type Place = (i32, i32);
@@ -61,6 +62,168 @@ fn meetings(rt: HostRuntime) -> Result<(), Fail> {
             (turned(second), turned(first)),
         ] {
             assert_eq!(rt; meet(&segment(one)?, &segment(other)?), wanted);
+        }
+    }
+    Ok(())
+}
+
+type Numbers = (i64, i64, i64);
+
+fn point((x, y, w): Numbers) -> RatPoint {
+    RatPoint::reduced(x, y, w)
+}
+
+fn noded(alloc: Global, lines: &[(Place, Place)], places: &[Place]) -> Result<Noded, Fail> {
+    let mut segments = Vec::new(alloc);
+    for line in lines {
+        segments.push(segment(*line)?)?;
+    }
+    let mut listed = Vec::new(alloc);
+    for place in places {
+        listed.push(position(*place)?)?;
+    }
+    Ok(node(alloc, segments.as_slice(), listed.as_slice())?)
+}
+
+#[test]
+fn nodes_of_segments(rt: HostRuntime) -> Result<(), Fail> {
+    let alloc = rt.alloc();
+    // The segments and listed positions, and the nodes.
+    let cases: [(&[(Place, Place)], &[Place], &[Numbers]); 7] = [
+        (&[], &[], &[]),
+        (&[], &[(3, 1), (0, 2), (3, 1)], &[(0, 2, 1), (3, 1, 1)]),
+        // Two that cross.
+        (
+            &[((0, 0), (3, 1)), ((0, 1), (2, 0))],
+            &[],
+            &[(0, 0, 1), (0, 1, 1), (6, 2, 5), (2, 0, 1), (3, 1, 1)],
+        ),
+        // One that ends on another.
+        (
+            &[((0, 0), (4, 0)), ((2, 0), (2, 3))],
+            &[],
+            &[(0, 0, 1), (2, 0, 1), (2, 3, 1), (4, 0, 1)],
+        ),
+        // Two with a stretch in common, and positions on it and off it.
+        (
+            &[((0, 0), (4, 0)), ((6, 0), (2, 0))],
+            &[(3, 0), (9, 9), (4, 0)],
+            &[
+                (0, 0, 1),
+                (2, 0, 1),
+                (3, 0, 1),
+                (4, 0, 1),
+                (6, 0, 1),
+                (9, 9, 1),
+            ],
+        ),
+        // Three through one point, which no end is, and one of them twice.
+        (
+            &[
+                ((0, 0), (1, 1)),
+                ((0, 1), (1, 0)),
+                ((0, 1), (1, 0)),
+                ((2, -1), (-1, 2)),
+            ],
+            &[],
+            &[
+                (-1, 2, 1),
+                (0, 0, 1),
+                (0, 1, 1),
+                (1, 1, 2),
+                (1, 0, 1),
+                (1, 1, 1),
+                (2, -1, 1),
+            ],
+        ),
+        // The finest crossing.
+        (
+            &[
+                ((-100_000, -100_000), (100_000, 99_999)),
+                ((-100_000, 100_000), (99_999, -100_000)),
+            ],
+            &[],
+            &[
+                (-100_000, -100_000, 1),
+                (-100_000, 100_000, 1),
+                (-100_000, -39_999_900_000, 79_999_600_001),
+                (99_999, -100_000, 1),
+                (100_000, 99_999, 1),
+            ],
+        ),
+    ];
+    for (lines, places, wanted) in cases {
+        let noded = noded(alloc, lines, places)?;
+        assert_eq!(rt; noded.nodes().len(), wanted.len());
+        for (found, numbers) in noded.nodes().iter().zip(wanted) {
+            assert_eq!(rt; *found, point(*numbers));
+        }
+    }
+    Ok(())
+}
+
+#[test]
+fn pieces_of_segments(rt: HostRuntime) -> Result<(), Fail> {
+    let alloc = rt.alloc();
+    // The segments and listed positions, and the pieces.
+    let cases: [(&[(Place, Place)], &[Place], &[(Numbers, Numbers)]); 5] = [
+        (&[], &[(3, 1)], &[]),
+        // Two that cross.
+        (
+            &[((0, 0), (3, 1)), ((0, 1), (2, 0))],
+            &[],
+            &[
+                ((0, 0, 1), (6, 2, 5)),
+                ((0, 1, 1), (6, 2, 5)),
+                ((6, 2, 5), (2, 0, 1)),
+                ((6, 2, 5), (3, 1, 1)),
+            ],
+        ),
+        // One that ends on another.
+        (
+            &[((4, 0), (0, 0)), ((2, 3), (2, 0))],
+            &[],
+            &[
+                ((0, 0, 1), (2, 0, 1)),
+                ((2, 0, 1), (2, 3, 1)),
+                ((2, 0, 1), (4, 0, 1)),
+            ],
+        ),
+        // Two with a stretch in common, and positions on it and off it.
+        (
+            &[((0, 0), (4, 0)), ((6, 0), (2, 0))],
+            &[(3, 0), (9, 9), (4, 0)],
+            &[
+                ((0, 0, 1), (2, 0, 1)),
+                ((2, 0, 1), (3, 0, 1)),
+                ((3, 0, 1), (4, 0, 1)),
+                ((4, 0, 1), (6, 0, 1)),
+            ],
+        ),
+        // Three through one point, and one of them twice.
+        (
+            &[
+                ((0, 0), (1, 1)),
+                ((0, 1), (1, 0)),
+                ((1, 0), (0, 1)),
+                ((2, -1), (-1, 2)),
+            ],
+            &[],
+            &[
+                ((-1, 2, 1), (0, 1, 1)),
+                ((0, 0, 1), (1, 1, 2)),
+                ((0, 1, 1), (1, 1, 2)),
+                ((1, 1, 2), (1, 0, 1)),
+                ((1, 1, 2), (1, 1, 1)),
+                ((1, 0, 1), (2, -1, 1)),
+            ],
+        ),
+    ];
+    for (lines, places, wanted) in cases {
+        let noded = noded(alloc, lines, places)?;
+        assert_eq!(rt; noded.pieces().len(), wanted.len());
+        for (found, numbers) in noded.pieces().iter().zip(wanted) {
+            assert_eq!(rt; *found, (point(numbers.0), point(numbers.1)));
         }
     }
     Ok(())

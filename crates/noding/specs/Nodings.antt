@@ -1,0 +1,102 @@
+-- The nodes and pieces of edges and listed positions.
+use Rattle.std.specs.Prelude.{◌≡◌, ◌⊎◌, ℕ, ◌<◌, Bool, true, ◌&&◌, List, get_or, Contains, Any, All, AllPairs, pos, ◌≤ℤ◌}
+use Rattle.std.specs.declared.cmp.Ordering.TheVariants.{Less}
+use Rattle.geometry_model.specs.Points.{Position, Point, IsPoint, point_at, same_point, compare}
+use Rattle.geometry_model.specs.Geometries.{Edge}
+use Rattle.geometry_model.specs.Sides.{on}
+use Rattle.geometry_model.specs.CutPoints.{IsCut}
+use Rattle.geometry_model.specs.Pieces.{Piece, IsPiece, compare_pieces}
+use Rattle.fraction.specs.Ranges.{meeting_limit}
+use Rattle.noding.specs.Meetings.{is_common_cut}
+
+-- two stretches have the same ends (profile)
+abbrev pub same_piece : Piece → Piece → Bool
+same_piece c d = same_point c.lesser d.lesser && same_point c.greater d.greater
+
+-- one of the points is this point (profile)
+abbrev pub HasPoint : List Point → Point → Type 0
+HasPoint ps p = Any (λ q. same_point q p ≡ true) ps
+
+-- one of the stretches is this stretch (profile)
+abbrev pub HasPiece : List Piece → Piece → Type 0
+HasPiece cs c = Any (λ d. same_piece d c ≡ true) cs
+
+-- the denominator of a point keeps the limit (profile)
+abbrev pub IsWithinLimit : Point → Type 0
+IsWithinLimit p = p.W ≤ℤ pos meeting_limit
+
+-- both ends do (profile)
+abbrev pub HasEndsWithinLimit : Piece → Type 0
+HasEndsWithinLimit c = IsWithinLimit c.lesser × IsWithinLimit c.greater
+
+-- points in ascending order, each once (profile)
+abbrev pub PointsAscend : List Point → Type 0
+PointsAscend ps = AllPairs (λ p q. compare p q ≡ Less) ps
+
+-- stretches in ascending order, each once (profile)
+abbrev pub PiecesAscend : List Piece → Type 0
+PiecesAscend cs = AllPairs (λ c d. compare_pieces c d ≡ Less) cs
+
+-- each cut is one of the points (profile)
+abbrev pub HasCuts : List Edge → List Position → List Point → Type 0
+HasCuts es ps nodes = (p : Point) → IsCut es ps p → HasPoint nodes p
+
+-- each piece is one of the stretches (profile)
+abbrev pub HasPieces : List Edge → List Position → List Piece → Type 0
+HasPieces es ps pieces = (c : Piece) → IsPiece es ps c → HasPiece pieces c
+
+-- nodes and the stretches between them (profile)
+pub record Noding : Type 0 where
+  pub nodes : List Point
+  pub pieces : List Piece
+
+-- the piece between two points (profile)
+abbrev pub piece_of : Point × Point → Piece
+piece_of c = record { lesser = c.0; greater = c.1 }
+
+-- the points are exactly the cuts on one of the edges, ascending, each once (profile)
+pub record AreBreaks (es : List Edge) (ps : List Position) (e : Edge) (points : List Point) : Type 0 where
+  pub on_edge : All (λ p. on e p ≡ true) points
+  pub cuts : All (IsCut es ps) points
+  pub found : (p : Point) → on e p ≡ true → IsCut es ps p → HasPoint points p
+  pub ascend : PointsAscend points
+  pub limit : All IsWithinLimit points
+
+-- the second list holds the points of the first, ascending, each once (profile)
+pub record ArePointsInOrder (given ordered : List Point) : Type 0 where
+  pub from : (p : Point) → Contains ordered p → Contains given p
+  pub kept : (p : Point) → Contains given p → HasPoint ordered p
+  pub ascend : PointsAscend ordered
+
+-- the same of stretches (profile)
+pub record ArePiecesInOrder (given ordered : List Piece) : Type 0 where
+  pub from : (c : Piece) → Contains ordered c → Contains given c
+  pub kept : (c : Piece) → Contains given c → HasPiece ordered c
+  pub ascend : PiecesAscend ordered
+
+-- both ends of a stretch are points (profile)
+abbrev pub HasPointEnds : Piece → Type 0
+HasPointEnds c = IsPoint c.lesser × IsPoint c.greater
+
+-- the point is on the edge and a cut of the edges, within the limit (profile)
+pub record IsBreak (es : List Edge) (ps : List Position) (e : Edge) (p : Point) : Type 0 where
+  pub on_edge : on e p ≡ true
+  pub is_cut : IsCut es ps p
+  pub limit : IsWithinLimit p
+
+-- the points before, what an edge has in common with the first of the edges, and nothing but cuts (profile)
+pub record HoldsMeetings (es : List Edge) (ps : List Position) (e : Edge) (count : ℕ) (before after : List Point) : Type 0 where
+  pub kept : (p : Point) → Contains before p → Contains after p
+  pub from : (p : Point) → Contains after p → Contains before p ⊎ IsBreak es ps e p
+  pub found : (k : ℕ) (d : Edge) → k < count → (p : Point) → IsPoint p → is_common_cut e (get_or es k d) p ≡ true → HasPoint after p
+
+-- the listed positions and the cuts on the first of the edges, and nothing but cuts (profile)
+pub record HoldsNodes (es : List Edge) (ps : List Position) (count : ℕ) (points : List Point) : Type 0 where
+  pub cuts : (p : Point) → Contains points p → IsCut es ps p × IsWithinLimit p
+  pub listed : (a : Position) → Contains ps a → Contains points (point_at a)
+  pub found : (k : ℕ) (d : Edge) → k < count → (p : Point) → on (get_or es k d) p ≡ true → IsCut es ps p → HasPoint points p
+
+-- the pieces of the first of the edges, and nothing but pieces (profile)
+pub record HoldsPieces (es : List Edge) (ps : List Position) (count : ℕ) (stretches : List Piece) : Type 0 where
+  pub pieces : (c : Piece) → Contains stretches c → IsPiece es ps c × HasEndsWithinLimit c
+  pub found : (k : ℕ) (d : Edge) → k < count → (c : Piece) → (h : IsPiece es ps c) → h.edge ≡ get_or es k d → HasPiece stretches c

@@ -1,0 +1,78 @@
+//! The nodes of segments and listed positions, and the pieces between them.
+
+ghost use Rattle.std.specs.Prelude.{◌≡◌, ◌++◌, IfOk, OnOk, All, map};
+ghost use Rattle.geometry_model.specs.Points.{point_at};
+ghost use Rattle.geometry_model.specs.CutPoints.{IsCut};
+ghost use Rattle.geometry_model.specs.Pieces.{IsPiece, stretches};
+ghost use Rattle.noding.specs.Nodings.{piece_of, PointsAscend, PiecesAscend, HasCuts, HasPieces, IsWithinLimit, HasEndsWithinLimit};
+
+use crate::breaks::breaks_on;
+use crate::noded::Noded;
+use crate::orders::{points_in_order, stretches_in_order};
+use crate::places::Break;
+use fraction::{GridPoint, RatPoint};
+use orient::Segment;
+use std::alloc::{AllocError, Global};
+
+/// The points at positions.
+fn points_at(alloc: Global, listed: &[GridPoint]) -> Result<Vec<RatPoint>, AllocError>
+    ensures { IfOk result (λ points. points.items ≡ map point_at listed.now) }
+{
+    let mut points = Vec::with_capacity(alloc, listed.len())?;
+    for position in listed {
+        points.push(RatPoint::of_grid(*position))?;
+    }
+    Ok(points)
+}
+
+/// Appends break points.
+fn push_points(nodes: &mut Vec<RatPoint>, breaks: &[Break]) -> Result<(), AllocError>
+    ensures { OnOk result (nodes.new.items ≡ nodes.old.items ++ breaks.now) }
+{
+    for point in breaks {
+        nodes.push(point.point())?;
+    }
+    Ok(())
+}
+
+/// Appends the stretches between neighbours.
+fn push_stretches(
+    pieces: &mut Vec<(RatPoint, RatPoint)>,
+    breaks: &[Break],
+) -> Result<(), AllocError>
+    ensures { OnOk result (map piece_of pieces.new.items ≡ map piece_of pieces.old.items ++ stretches breaks.now) }
+{
+    for place in 1..breaks.len() {
+        pieces.push((breaks[place - 1].point(), breaks[place].point()))?;
+    }
+    Ok(())
+}
+
+/// The nodes of some segments and listed positions, which are the ends of all segments, all listed positions, the points
+/// that two segments not on one line share and both ends of each stretch that two segments share; and the pieces, which
+/// are the stretches of segments between neighbouring nodes on them (OGC 06-103r4, 6.1.15.2: intersection; nodes, pieces
+/// and their order: profile). Both are exact and ascend, each once, and the denominators are at most 8 L L, L being the
+/// limit of coordinates. It fails only for want of memory.
+pub fn node(
+    alloc: Global,
+    segments: &[Segment],
+    listed: &[GridPoint],
+) -> Result<Noded, AllocError>
+    ensures nodes { IfOk result (λ noded. All (IsCut segments.now listed.now) noded.nodes) }
+    ensures nodes_found { IfOk result (λ noded. HasCuts segments.now listed.now noded.nodes) }
+    ensures nodes_ascend { IfOk result (λ noded. PointsAscend noded.nodes) }
+    ensures nodes_limit { IfOk result (λ noded. All IsWithinLimit noded.nodes) }
+    ensures pieces { IfOk result (λ noded. All (IsPiece segments.now listed.now) noded.pieces) }
+    ensures pieces_found { IfOk result (λ noded. HasPieces segments.now listed.now noded.pieces) }
+    ensures pieces_ascend { IfOk result (λ noded. PiecesAscend noded.pieces) }
+    ensures pieces_limit { IfOk result (λ noded. All HasEndsWithinLimit noded.pieces) }
+{
+    let mut nodes = points_at(alloc, listed)?;
+    let mut pieces = Vec::new(alloc);
+    for segment in segments {
+        let breaks = breaks_on(alloc, segment, segments, listed)?;
+        push_points(&mut nodes, breaks.as_slice())?;
+        push_stretches(&mut pieces, breaks.as_slice())?;
+    }
+    Ok(Noded::new(points_in_order(nodes), stretches_in_order(pieces)))
+}
