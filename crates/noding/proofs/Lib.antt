@@ -6,3 +6,8 @@ pub mod Ends
 pub mod OneLine
 pub mod NamedCuts
 pub mod Found
+pub mod NodeCuts
+pub mod Ordered
+pub mod BreakPoints
+pub mod Neighbours
+pub mod NodeSteps

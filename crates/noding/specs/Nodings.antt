@@ -84,6 +84,11 @@ pub record IsBreak (es : List Edge) (ps : List Position) (e : Edge) (p : Point) 
   pub is_cut : IsCut es ps p
   pub limit : IsWithinLimit p
 
+-- the points are cuts on the edge, and all of these are there (profile)
+pub record AllBreaks (es : List Edge) (ps : List Position) (e : Edge) (points : List Point) : Type 0 where
+  pub from : (p : Point) → Contains points p → IsBreak es ps e p
+  pub found : (p : Point) → on e p ≡ true → IsCut es ps p → HasPoint points p
+
 -- the points before, what an edge has in common with the first of the edges, and nothing but cuts (profile)
 pub record HoldsMeetings (es : List Edge) (ps : List Position) (e : Edge) (count : ℕ) (before after : List Point) : Type 0 where
   pub kept : (p : Point) → Contains before p → Contains after p

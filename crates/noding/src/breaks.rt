@@ -4,7 +4,7 @@ ghost use Rattle.std.specs.Prelude.{◌≡◌, [], ◌++◌, IfOk, OnOk, map, fi
 ghost use Rattle.geometry_model.specs.Points.{point_at};
 ghost use Rattle.geometry_model.specs.Sides as spec;
 ghost use Rattle.noding.specs.Meetings.{named};
-ghost use Rattle.noding.specs.Nodings.{AreBreaks, HoldsMeetings};
+ghost use Rattle.noding.specs.Nodings.{AllBreaks, AreBreaks, HoldsMeetings};
 
 use crate::answers::Meet;
 use crate::meetings::meet;
@@ -62,8 +62,26 @@ fn push_meetings(
     Ok(())
 }
 
-/// The nodes on one of the segments, ascending: its ends, the listed positions on it, and the points that it has in
-/// common with the segments, of a stretch both ends.
+/// The nodes on one of the segments, in no order: its ends, the listed positions on it, and the points that it has in common
+/// with the segments, of a stretch both ends.
+fn unordered_breaks(
+    alloc: Global,
+    segment: &Segment,
+    segments: &[Segment],
+    listed: &[GridPoint],
+) -> Result<SmallVec<Break, 8>, AllocError>
+    requires { Contains segments.now segment.now }
+    ensures { IfOk result (λ breaks. AllBreaks segments.now listed.now segment.now breaks.items) }
+{
+    let mut breaks = SmallVec::new(alloc);
+    breaks.push(Break::new(RatPoint::of_grid(segment.start())))?;
+    breaks.push(Break::new(RatPoint::of_grid(segment.end())))?;
+    push_listed(&mut breaks, segment, listed)?;
+    push_meetings(&mut breaks, segment, segments)?;
+    Ok(breaks)
+}
+
+/// The nodes on one of the segments, ascending, each once.
 pub(crate) fn breaks_on(
     alloc: Global,
     segment: &Segment,
@@ -73,11 +91,7 @@ pub(crate) fn breaks_on(
     requires { Contains segments.now segment.now }
     ensures { IfOk result (λ breaks. AreBreaks segments.now listed.now segment.now breaks.items) }
 {
-    let mut breaks = SmallVec::new(alloc);
-    breaks.push(Break::new(RatPoint::of_grid(segment.start())))?;
-    breaks.push(Break::new(RatPoint::of_grid(segment.end())))?;
-    push_listed(&mut breaks, segment, listed)?;
-    push_meetings(&mut breaks, segment, segments)?;
+    let mut breaks = unordered_breaks(alloc, segment, segments, listed)?;
     put_in_order(&mut breaks);
     Ok(breaks)
 }

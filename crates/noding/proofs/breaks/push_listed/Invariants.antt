@@ -1,0 +1,8 @@
+use Rattle.std.proofs.Common.{◌≡◌, ◌++◌, map, filter, take}
+use Rattle.geometry_model.specs.Points.{point_at}
+use Rattle.geometry_model.specs.Sides.{on}
+use Rattle.noding.proofs.breaks.push_listed.Given as goal
+
+-- the positions before this one that are on the segment
+abbrev pub invariant-loop-position : goal.invariant-loop-position
+invariant-loop-position l = l.breaks.items ≡ l.initial.breaks.items ++ filter (on l.segment) (map point_at (take l.position-index l.listed))
