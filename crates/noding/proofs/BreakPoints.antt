@@ -1,9 +1,10 @@
 -- The break points of an edge, as they are found one edge after the other.
-use Rattle.std.proofs.Common.{◌≡◌, ◌⊎◌, inl, inr, ℕ, ◌+◌, ◌<◌, true, ◌&&◌, refl, sym, ap, subst, ◌∙◌, List, [], ◌∷◌, ◌++◌, length, get_or, map, filter, All, Any, Contains, pos, arith}
+use Rattle.std.proofs.Common.{◌≡◌, ◌⊎◌, inl, inr, ℕ, ◌+◌, ◌<◌, true, ◌&&◌, refl, sym, ap, subst, ◌∙◌, List, [], ◌∷◌, ◌++◌, length, get_or, map, filter, All, Any, Contains, pos, ◌≤ℤ◌, arith}
 use Rattle.std.proofs.lemmas.Int.{ints}
 use Rattle.std.proofs.lemmas.List.{get_or_default}
 use Rattle.std.proofs.lemmas.List.Elements.{All-contains, Contains-append_left, Contains-append_cases}
-use Rattle.geometry_model.specs.Points.{Position, Point, IsPoint, point_at, same_point}
+use Rattle.geometry_model.specs.Points.{Position, Point, IsPoint, IsLeast, point_at, same_point}
+use Rattle.fraction.specs.Ranges.{meeting_limit}
 use Rattle.geometry_model.specs.Geometries.{Edge}
 use Rattle.geometry_model.specs.Sides.{on}
 use Rattle.geometry_model.specs.CutPoints.{IsCut, is_end}
@@ -17,8 +18,9 @@ use Rattle.cut_laws.proofs.Lists.{Some_of, among_from_contains, contains_from_am
 use Rattle.cut_laws.proofs.CutLists.{or_first, or_second}
 use Rattle.noding.specs.Meetings.{IsMeeting, named, is_common_cut, NamesCommonCuts}
 use Rattle.noding.specs.declared.answers.Meet.{Meet}
-use Rattle.noding.specs.Nodings.{HasPoint, IsWithinLimit, AreBreaks, ArePointsInOrder, IsBreak, AllBreaks, HoldsMeetings}
+use Rattle.noding.specs.Nodings.{HasPoint, IsNodeTriple, AreBreaks, ArePointsInOrder, IsBreak, AllBreaks, HoldsMeetings}
 use Rattle.noding.proofs.NamedCuts.{CutOf}
+use Rattle.noding.proofs.LeastPositions.{position_is_least}
 use Rattle.noding.proofs.NodeCuts.{cut_is_point, cut_of_more, cut_of_both, named_on_both, end_is_on_edge, cut_on_edge}
 
 -- ---- lists
@@ -46,8 +48,8 @@ earlier_or_last k n h = grind arith
 
 -- ---- one more edge
 pub meetings_more : (es : List Edge) (e f : Edge) (n : ℕ) (m : Meet) (before xs ys : List Point) → Contains es e → n < length es → f ≡ get_or es n f
-    → IsMeeting e f m → All (CutOf e f) (named m) → NamesCommonCuts e f m → All IsWithinLimit (named m) → ys ≡ xs ++ named m → HoldsMeetings es [] e n before xs → HoldsMeetings es [] e (n + 1) before ys
-meetings_more es e f n m before xs ys he hn hf exact cuts names limit grown h = record { kept = kept; from = from; found = found }
+    → IsMeeting e f m → All (CutOf e f) (named m) → NamesCommonCuts e f m → All IsLeast (named m) → All (λ p. p.W ≤ℤ pos meeting_limit) (named m) → ys ≡ xs ++ named m → HoldsMeetings es [] e n before xs → HoldsMeetings es [] e (n + 1) before ys
+meetings_more es e f n m before xs ys he hn hf exact cuts names least limit grown h = record { kept = kept; from = from; found = found }
   where
     kept : (p : Point) → Contains before p → Contains ys p
     kept p c = subst (λ zs. Contains zs p) (sym grown) (Contains-append_left xs (named m) p (h.kept p c))
@@ -58,7 +60,7 @@ meetings_more es e f n m before xs ys he hn hf exact cuts names limit grown h = 
         record {
           on_edge = (and_parts (on e p) (on f p) (named_on_both e f m exact p (cut_is_point (e ∷ f ∷ []) [] p cut) (among_from_contains (named m) p c))).0;
           is_cut = cut_of_both es e f p he (n, hn, sym hf) cut;
-          limit = All-contains IsWithinLimit (named m) p limit c;
+          triple = record { least = All-contains IsLeast (named m) p least c; limit = All-contains (λ q. q.W ≤ℤ pos meeting_limit) (named m) p limit c };
         }
 
     sort_out : (p : Point) → Contains xs p ⊎ Contains (named m) p → Contains before p ⊎ IsBreak es [] e p
@@ -80,8 +82,8 @@ meetings_more es e f n m before xs ys he hn hf exact cuts names limit grown h = 
 abbrev pub front : Edge → List Position → Point → Point → List Point
 front e ps s t = [] ++ s ∷ [] ++ t ∷ [] ++ filter (on e) (map point_at ps)
 
-pub position_within_limit : (a : Position) → IsWithinLimit (point_at a)
-position_within_limit a = omega (arith, ints)
+pub position_is_triple : (a : Position) → IsNodeTriple (point_at a)
+position_is_triple a = record { least = position_is_least a; limit = omega (arith, ints) }
 
 pub all_breaks : (es : List Edge) (ps : List Position) (e : Edge) (s t : Point) (before after : List Point) → (e.start ≡ e.end → ⊥) → Contains es e → s ≡ point_at e.start → t ≡ point_at e.end
     → before ≡ front e ps s t → HoldsMeetings es [] e (length es) before after → AllBreaks es ps e after
@@ -91,7 +93,7 @@ all_breaks es ps e s t before after wide he hs ht made h = record { from = from;
     at_end a k = record {
       on_edge = end_is_on_edge e (point_at a) (position_is_point a) k;
       is_cut = AtEnd (position_is_point a) e he k;
-      limit = position_within_limit a;
+      triple = position_is_triple a;
     }
 
     at_start : IsBreak es ps e s
@@ -104,7 +106,7 @@ all_breaks es ps e s t before after wide he hs ht made h = record { from = from;
     at_listed p k a = record {
       on_edge = k;
       is_cut = subst (IsCut es ps) (sym a.has) (Listed (position_is_point a.found) a.found (contains_from_among ps a.found a.among) (same_reflexive (point_at a.found)));
-      limit = subst IsWithinLimit (sym a.has) (position_within_limit a.found);
+      triple = subst IsNodeTriple (sym a.has) (position_is_triple a.found);
     }
 
     in_front : (p : Point) → Among p (front e ps s t) → IsBreak es ps e p
@@ -117,7 +119,7 @@ all_breaks es ps e s t before after wide he hs ht made h = record { from = from;
 
     either : (p : Point) → Contains before p ⊎ IsBreak es [] e p → IsBreak es ps e p
     either p (inl c) = in_front p (among_from_contains (front e ps s t) p (subst (λ zs. Contains zs p) made c))
-    either p (inr b) = record { on_edge = b.on_edge; is_cut = cut_of_more es es ps p (λ g c. c) b.is_cut; limit = b.limit }
+    either p (inr b) = record { on_edge = b.on_edge; is_cut = cut_of_more es es ps p (λ g c. c) b.is_cut; triple = b.triple }
 
     from : (p : Point) → Contains after p → IsBreak es ps e p
     from p c = either p (h.from p c)
@@ -160,5 +162,5 @@ breaks_in_order es ps e points ordered h o = record {
   cuts = all_of (IsCut es ps) ordered (λ p c. (h.from p (o.from p c)).is_cut);
   found = λ p k c. point_kept points ordered (breaks_are_points es ps e points h) o p (h.found p k c);
   ascend = o.ascend;
-  limit = all_of IsWithinLimit ordered (λ p c. (h.from p (o.from p c)).limit);
+  triples = all_of IsNodeTriple ordered (λ p c. (h.from p (o.from p c)).triple);
 }

@@ -6,6 +6,7 @@ pub mod Ends
 pub mod OneLine
 pub mod NamedCuts
 pub mod Found
+pub mod LeastPositions
 pub mod NodeCuts
 pub mod Ordered
 pub mod BreakPoints

@@ -16,20 +16,20 @@ use Rattle.geometry_laws.proofs.RingParity.{position_is_point}
 use Rattle.cut_laws.proofs.Lists.{Some_of, among_from_contains, contains_from_among, some_from_any, any_from_some, among_map, map_among}
 use Rattle.cut_laws.proofs.Sorted.{Sorted}
 use Rattle.cut_laws.proofs.Stretches.{Neighbours, stretch_is, stretch_found, less_right, less_left}
-use Rattle.noding.specs.Nodings.{same_piece, HasPoint, HasPiece, IsWithinLimit, HasEndsWithinLimit, HasPointEnds, HasCuts, HasPieces, AreBreaks, ArePointsInOrder, ArePiecesInOrder, HoldsNodes, HoldsPieces}
+use Rattle.noding.specs.Nodings.{same_piece, HasPoint, HasPiece, IsNodeTriple, HasNodeTriples, HasPointEnds, HasCuts, HasPieces, AreBreaks, ArePointsInOrder, ArePiecesInOrder, HoldsNodes, HoldsPieces}
 use Rattle.noding.proofs.NodeCuts.{cut_is_point, end_is_on_edge}
-use Rattle.noding.proofs.BreakPoints.{all_of, any_left, any_right, element_is, earlier_or_last, position_within_limit, point_kept}
+use Rattle.noding.proofs.BreakPoints.{all_of, any_left, any_right, element_is, earlier_or_last, position_is_triple, point_kept}
 
 -- ---- the nodes of one more edge
 pub nodes_more : (es : List Edge) (ps : List Position) (n : ℕ) (f : Edge) (breaks xs ys : List Point) → n < length es → f ≡ get_or es n f → AreBreaks es ps f breaks → ys ≡ xs ++ breaks
     → HoldsNodes es ps n xs → HoldsNodes es ps (n + 1) ys
 nodes_more es ps n f breaks xs ys hn hf b grown h = record { cuts = cuts; listed = listed; found = found }
   where
-    either : (p : Point) → Contains xs p ⊎ Contains breaks p → IsCut es ps p × IsWithinLimit p
+    either : (p : Point) → Contains xs p ⊎ Contains breaks p → IsCut es ps p × IsNodeTriple p
     either p (inl c) = h.cuts p c
-    either p (inr c) = (All-contains (IsCut es ps) breaks p b.cuts c, All-contains IsWithinLimit breaks p b.limit c)
+    either p (inr c) = (All-contains (IsCut es ps) breaks p b.cuts c, All-contains IsNodeTriple breaks p b.triples c)
 
-    cuts : (p : Point) → Contains ys p → IsCut es ps p × IsWithinLimit p
+    cuts : (p : Point) → Contains ys p → IsCut es ps p × IsNodeTriple p
     cuts p c = either p (Contains-append_cases xs breaks p (subst (λ zs. Contains zs p) grown c))
 
     listed : (a : Position) → Contains ps a → Contains ys (point_at a)
@@ -63,13 +63,13 @@ break_is_cut es ps e xs b p a = All-contains (IsCut es ps) xs p b.cuts (contains
 break_is_on : (es : List Edge) (ps : List Position) (e : Edge) (xs : List Point) → AreBreaks es ps e xs → (p : Point) → Among p xs → on e p ≡ true
 break_is_on es ps e xs b p a = All-contains (λ q. on e q ≡ true) xs p b.on_edge (contains_from_among xs p a)
 
-stretch_is_piece : (es : List Edge) (ps : List Position) (e : Edge) (xs : List Point) → Contains es e → AreBreaks es ps e xs → (c : Piece) → Among c (stretches xs) → IsPiece es ps c × HasEndsWithinLimit c
+stretch_is_piece : (es : List Edge) (ps : List Position) (e : Edge) (xs : List Point) → Contains es e → AreBreaks es ps e xs → (c : Piece) → Among c (stretches xs) → IsPiece es ps c × HasNodeTriples c
 stretch_is_piece es ps e xs he b c a = made (stretch_is xs (break_points es ps e xs b) (sorted_from_pairs compare xs b.ascend) c a)
   where
-    limit : (p : Point) → Among p xs → IsWithinLimit p
-    limit p k = All-contains IsWithinLimit xs p b.limit (contains_from_among xs p k)
+    limit : (p : Point) → Among p xs → IsNodeTriple p
+    limit p k = All-contains IsNodeTriple xs p b.triples (contains_from_among xs p k)
 
-    made : Neighbours xs c → IsPiece es ps c × HasEndsWithinLimit c
+    made : Neighbours xs c → IsPiece es ps c × HasNodeTriples c
     made n = (record {
       edge = e;
       among = he;
@@ -128,11 +128,11 @@ pub pieces_more : (es : List Edge) (ps : List Position) (n : ℕ) (f : Edge) (br
     → HoldsPieces es ps n cs → HoldsPieces es ps (n + 1) ds
 pieces_more es ps n f breaks cs ds hn hf b grown h = record { pieces = pieces; found = found }
   where
-    either : (c : Piece) → Contains cs c ⊎ Contains (stretches breaks) c → IsPiece es ps c × HasEndsWithinLimit c
+    either : (c : Piece) → Contains cs c ⊎ Contains (stretches breaks) c → IsPiece es ps c × HasNodeTriples c
     either c (inl k) = h.pieces c k
     either c (inr k) = stretch_is_piece es ps f breaks (n, hn, sym hf) b c (among_from_contains (stretches breaks) c k)
 
-    pieces : (c : Piece) → Contains ds c → IsPiece es ps c × HasEndsWithinLimit c
+    pieces : (c : Piece) → Contains ds c → IsPiece es ps c × HasNodeTriples c
     pieces c k = either c (Contains-append_cases cs (stretches breaks) c (subst (λ us. Contains us c) grown k))
 
     found : (k : ℕ) (d : Edge) → k < n + 1 → (c : Piece) → (i : IsPiece es ps c) → i.edge ≡ get_or es k d → HasPiece ds c
@@ -147,13 +147,13 @@ pieces_more es ps n f breaks cs ds hn hf b grown h = record { pieces = pieces; f
 pub first_nodes : (es : List Edge) (ps : List Position) (xs : List Point) → xs ≡ map point_at ps → HoldsNodes es ps 0 xs
 first_nodes es ps xs made = record { cuts = cuts; listed = listed; found = λ k d l. absurd (omega (arith, l)) }
   where
-    at : (a : Position) → Among a ps → IsCut es ps (point_at a) × IsWithinLimit (point_at a)
-    at a k = (Listed (position_is_point a) a (contains_from_among ps a k) (same_reflexive (point_at a)), position_within_limit a)
+    at : (a : Position) → Among a ps → IsCut es ps (point_at a) × IsNodeTriple (point_at a)
+    at a k = (Listed (position_is_point a) a (contains_from_among ps a k) (same_reflexive (point_at a)), position_is_triple a)
 
-    of : (p : Point) → Some_of (λ a. p ≡ point_at a) ps → IsCut es ps p × IsWithinLimit p
-    of p s = subst (λ q. IsCut es ps q × IsWithinLimit q) (sym s.has) (at s.found s.among)
+    of : (p : Point) → Some_of (λ a. p ≡ point_at a) ps → IsCut es ps p × IsNodeTriple p
+    of p s = subst (λ q. IsCut es ps q × IsNodeTriple q) (sym s.has) (at s.found s.among)
 
-    cuts : (p : Point) → Contains xs p → IsCut es ps p × IsWithinLimit p
+    cuts : (p : Point) → Contains xs p → IsCut es ps p × IsNodeTriple p
     cuts p c = of p (among_map point_at ps p (among_from_contains (map point_at ps) p (subst (λ zs. Contains zs p) made c)))
 
     listed : (a : Position) → Contains ps a → Contains xs (point_at a)
@@ -162,10 +162,10 @@ first_nodes es ps xs made = record { cuts = cuts; listed = listed; found = λ k 
 pub first_pieces : (es : List Edge) (ps : List Position) (cs : List Piece) → cs ≡ [] → HoldsPieces es ps 0 cs
 first_pieces es ps cs none = record { pieces = pieces; found = λ k d l. absurd (omega (arith, l)) }
   where
-    nowhere : (c : Piece) → Contains {X = Piece} [] c → IsPiece es ps c × HasEndsWithinLimit c
+    nowhere : (c : Piece) → Contains {X = Piece} [] c → IsPiece es ps c × HasNodeTriples c
     nowhere c k = absurd (omega (arith, k.1))
 
-    pieces : (c : Piece) → Contains cs c → IsPiece es ps c × HasEndsWithinLimit c
+    pieces : (c : Piece) → Contains cs c → IsPiece es ps c × HasNodeTriples c
     pieces c k = nowhere c (subst (λ us. Contains us c) none k)
 
 -- ---- after the last edge
@@ -189,8 +189,8 @@ has_cuts es ps n xs ys all h o = λ p cut. point_kept xs ys (nodes_are_points es
 pub nodes_are_cuts : (es : List Edge) (ps : List Position) (n : ℕ) (xs ys : List Point) → HoldsNodes es ps n xs → ArePointsInOrder xs ys → All (IsCut es ps) ys
 nodes_are_cuts es ps n xs ys h o = all_of (IsCut es ps) ys (λ p c. (h.cuts p (o.from p c)).0)
 
-pub nodes_within_limit : (es : List Edge) (ps : List Position) (n : ℕ) (xs ys : List Point) → HoldsNodes es ps n xs → ArePointsInOrder xs ys → All IsWithinLimit ys
-nodes_within_limit es ps n xs ys h o = all_of IsWithinLimit ys (λ p c. (h.cuts p (o.from p c)).1)
+pub nodes_are_triples : (es : List Edge) (ps : List Position) (n : ℕ) (xs ys : List Point) → HoldsNodes es ps n xs → ArePointsInOrder xs ys → All IsNodeTriple ys
+nodes_are_triples es ps n xs ys h o = all_of IsNodeTriple ys (λ p c. (h.cuts p (o.from p c)).1)
 
 pub pieces_have_points : (es : List Edge) (ps : List Position) (n : ℕ) (cs : List Piece) → HoldsPieces es ps n cs → All HasPointEnds cs
 pieces_have_points es ps n cs h = all_of HasPointEnds cs (λ c k. ends c (h.pieces c k).0)
@@ -207,8 +207,8 @@ same_piece_transitive c d e hd f g =
 pub pieces_are_pieces : (es : List Edge) (ps : List Position) (n : ℕ) (cs ds : List Piece) → HoldsPieces es ps n cs → ArePiecesInOrder cs ds → All (IsPiece es ps) ds
 pieces_are_pieces es ps n cs ds h o = all_of (IsPiece es ps) ds (λ c k. (h.pieces c (o.from c k)).0)
 
-pub pieces_within_limit : (es : List Edge) (ps : List Position) (n : ℕ) (cs ds : List Piece) → HoldsPieces es ps n cs → ArePiecesInOrder cs ds → All HasEndsWithinLimit ds
-pieces_within_limit es ps n cs ds h o = all_of HasEndsWithinLimit ds (λ c k. (h.pieces c (o.from c k)).1)
+pub pieces_have_triples : (es : List Edge) (ps : List Position) (n : ℕ) (cs ds : List Piece) → HoldsPieces es ps n cs → ArePiecesInOrder cs ds → All HasNodeTriples ds
+pieces_have_triples es ps n cs ds h o = all_of HasNodeTriples ds (λ c k. (h.pieces c (o.from c k)).1)
 
 pub has_pieces : (es : List Edge) (ps : List Position) (n : ℕ) (cs ds : List Piece) → length es ≤ n → HoldsPieces es ps n cs → ArePiecesInOrder cs ds → HasPieces es ps ds
 has_pieces es ps n cs ds all h o = λ c i. first c (some_from_any (λ d. same_piece d c ≡ true) cs (h.found i.among.0 i.edge (omega (arith, i.among.1, all)) c i (sym i.among.2)))

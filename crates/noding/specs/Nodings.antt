@@ -1,7 +1,7 @@
 -- The nodes and pieces of edges and listed positions.
 use Rattle.std.specs.Prelude.{◌≡◌, ◌⊎◌, ℕ, ◌<◌, Bool, true, ◌&&◌, List, get_or, Contains, Any, All, AllPairs, pos, ◌≤ℤ◌}
 use Rattle.std.specs.declared.cmp.Ordering.TheVariants.{Less}
-use Rattle.geometry_model.specs.Points.{Position, Point, IsPoint, point_at, same_point, compare}
+use Rattle.geometry_model.specs.Points.{Position, Point, IsPoint, IsLeast, point_at, same_point, compare}
 use Rattle.geometry_model.specs.Geometries.{Edge}
 use Rattle.geometry_model.specs.Sides.{on}
 use Rattle.geometry_model.specs.CutPoints.{IsCut}
@@ -21,13 +21,14 @@ HasPoint ps p = Any (λ q. same_point q p ≡ true) ps
 abbrev pub HasPiece : List Piece → Piece → Type 0
 HasPiece cs c = Any (λ d. same_piece d c ≡ true) cs
 
--- the denominator of a point keeps the limit (profile)
-abbrev pub IsWithinLimit : Point → Type 0
-IsWithinLimit p = p.W ≤ℤ pos meeting_limit
+-- the triple of a point is in least form, and its denominator keeps the limit (profile)
+pub record IsNodeTriple (p : Point) : Type 0 where
+  pub least : IsLeast p
+  pub limit : p.W ≤ℤ pos meeting_limit
 
--- both ends do (profile)
-abbrev pub HasEndsWithinLimit : Piece → Type 0
-HasEndsWithinLimit c = IsWithinLimit c.lesser × IsWithinLimit c.greater
+-- those of both ends (profile)
+abbrev pub HasNodeTriples : Piece → Type 0
+HasNodeTriples c = IsNodeTriple c.lesser × IsNodeTriple c.greater
 
 -- points in ascending order, each once (profile)
 abbrev pub PointsAscend : List Point → Type 0
@@ -60,7 +61,7 @@ pub record AreBreaks (es : List Edge) (ps : List Position) (e : Edge) (points : 
   pub cuts : All (IsCut es ps) points
   pub found : (p : Point) → on e p ≡ true → IsCut es ps p → HasPoint points p
   pub ascend : PointsAscend points
-  pub limit : All IsWithinLimit points
+  pub triples : All IsNodeTriple points
 
 -- the second list holds the points of the first, ascending, each once (profile)
 pub record ArePointsInOrder (given ordered : List Point) : Type 0 where
@@ -82,7 +83,7 @@ HasPointEnds c = IsPoint c.lesser × IsPoint c.greater
 pub record IsBreak (es : List Edge) (ps : List Position) (e : Edge) (p : Point) : Type 0 where
   pub on_edge : on e p ≡ true
   pub is_cut : IsCut es ps p
-  pub limit : IsWithinLimit p
+  pub triple : IsNodeTriple p
 
 -- the points are cuts on the edge, and all of these are there (profile)
 pub record AllBreaks (es : List Edge) (ps : List Position) (e : Edge) (points : List Point) : Type 0 where
@@ -97,11 +98,11 @@ pub record HoldsMeetings (es : List Edge) (ps : List Position) (e : Edge) (count
 
 -- the listed positions and the cuts on the first of the edges, and nothing but cuts (profile)
 pub record HoldsNodes (es : List Edge) (ps : List Position) (count : ℕ) (points : List Point) : Type 0 where
-  pub cuts : (p : Point) → Contains points p → IsCut es ps p × IsWithinLimit p
+  pub cuts : (p : Point) → Contains points p → IsCut es ps p × IsNodeTriple p
   pub listed : (a : Position) → Contains ps a → Contains points (point_at a)
   pub found : (k : ℕ) (d : Edge) → k < count → (p : Point) → on (get_or es k d) p ≡ true → IsCut es ps p → HasPoint points p
 
 -- the pieces of the first of the edges, and nothing but pieces (profile)
 pub record HoldsPieces (es : List Edge) (ps : List Position) (count : ℕ) (stretches : List Piece) : Type 0 where
-  pub pieces : (c : Piece) → Contains stretches c → IsPiece es ps c × HasEndsWithinLimit c
+  pub pieces : (c : Piece) → Contains stretches c → IsPiece es ps c × HasNodeTriples c
   pub found : (k : ℕ) (d : Edge) → k < count → (c : Piece) → (h : IsPiece es ps c) → h.edge ≡ get_or es k d → HasPiece stretches c

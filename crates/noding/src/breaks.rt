@@ -9,7 +9,7 @@ ghost use Rattle.noding.specs.Nodings.{AllBreaks, AreBreaks, HoldsMeetings};
 use crate::answers::Meet;
 use crate::meetings::meet;
 use crate::orders::put_in_order;
-use crate::places::Break;
+use crate::break_points::Break;
 use fraction::{GridPoint, RatPoint};
 use orient::{Segment, on};
 use smallvec::SmallVec;

@@ -1,7 +1,7 @@
 //! Segments whose lines cross at one point.
 
 ghost use Rattle.std.specs.Prelude.{◌≡◌, ◌&&◌, if◌then◌else◌, All, pos, ◌≤ℤ◌, ◌<ℤ◌, ◌-ℤ◌, int_le};
-ghost use Rattle.geometry_model.specs.Points.{IsPoint, point_at};
+ghost use Rattle.geometry_model.specs.Points.{IsPoint, IsLeast, point_at};
 ghost use Rattle.geometry_model.specs.Sides.{side, on};
 ghost use Rattle.fraction.specs.Ranges.{meeting_limit};
 ghost use Rattle.noding.specs.Meetings.{IsMeeting, named};
@@ -23,9 +23,11 @@ fn are_opposite(below: i64, above: i64) -> bool
 fn at_if_on(segment: &Segment, p: RatPoint) -> Meet
     requires positive { pos 0 <ℤ p.W }
     requires limit { p.W ≤ℤ pos meeting_limit }
+    requires least { IsLeast p }
     ensures value { result ≡ (if on segment.now p then At p else Apart) }
     ensures points { All IsPoint (named result) }
     ensures limit { All (λ p. p.W ≤ℤ pos meeting_limit) (named result) }
+    ensures least { All IsLeast (named result) }
 {
     if on(segment, &p) {
         Meet::At(p)
@@ -50,6 +52,7 @@ pub(crate) fn crossing(
     ensures exact { IsMeeting first.now (record { start = lower; end = upper }) result }
     ensures points { All IsPoint (named result) }
     ensures limit { All (λ p. p.W ≤ℤ pos meeting_limit) (named result) }
+    ensures least { All IsLeast (named result) }
 {
     if are_opposite(below, above) {
         at_if_on(first, point_between(lower, above, upper, -below))

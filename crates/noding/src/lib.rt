@@ -3,13 +3,13 @@
 #![tactic(auto)]
 
 pub mod answers;
+mod break_points;
 mod breaks;
 mod crossings;
 pub mod meetings;
 pub mod noded;
 pub mod nodings;
 mod orders;
-mod places;
 mod products;
 mod stretches;
 

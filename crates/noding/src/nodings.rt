@@ -4,12 +4,12 @@ ghost use Rattle.std.specs.Prelude.{◌≡◌, ◌++◌, IfOk, OnOk, All, map};
 ghost use Rattle.geometry_model.specs.Points.{point_at};
 ghost use Rattle.geometry_model.specs.CutPoints.{IsCut};
 ghost use Rattle.geometry_model.specs.Pieces.{IsPiece, stretches};
-ghost use Rattle.noding.specs.Nodings.{piece_of, PointsAscend, PiecesAscend, HasCuts, HasPieces, IsWithinLimit, HasEndsWithinLimit};
+ghost use Rattle.noding.specs.Nodings.{piece_of, PointsAscend, PiecesAscend, HasCuts, HasPieces, IsNodeTriple, HasNodeTriples};
 
 use crate::breaks::breaks_on;
 use crate::noded::Noded;
 use crate::orders::{points_in_order, stretches_in_order};
-use crate::places::Break;
+use crate::break_points::Break;
 use fraction::{GridPoint, RatPoint};
 use orient::Segment;
 use std::alloc::{AllocError, Global};
@@ -61,11 +61,11 @@ pub fn node(
     ensures nodes { IfOk result (λ noded. All (IsCut segments.now listed.now) noded.nodes) }
     ensures nodes_found { IfOk result (λ noded. HasCuts segments.now listed.now noded.nodes) }
     ensures nodes_ascend { IfOk result (λ noded. PointsAscend noded.nodes) }
-    ensures nodes_limit { IfOk result (λ noded. All IsWithinLimit noded.nodes) }
+    ensures nodes_triples { IfOk result (λ noded. All IsNodeTriple noded.nodes) }
     ensures pieces { IfOk result (λ noded. All (IsPiece segments.now listed.now) noded.pieces) }
     ensures pieces_found { IfOk result (λ noded. HasPieces segments.now listed.now noded.pieces) }
     ensures pieces_ascend { IfOk result (λ noded. PiecesAscend noded.pieces) }
-    ensures pieces_limit { IfOk result (λ noded. All HasEndsWithinLimit noded.pieces) }
+    ensures pieces_triples { IfOk result (λ noded. All HasNodeTriples noded.pieces) }
 {
     let mut nodes = points_at(alloc, listed)?;
     let mut pieces = Vec::new(alloc);

@@ -4,7 +4,7 @@ ghost use Rattle.std.specs.Prelude.{All, map};
 ghost use Rattle.geometry_model.specs.Points.{IsPoint};
 ghost use Rattle.noding.specs.Nodings.{piece_of, HasPointEnds, ArePointsInOrder, ArePiecesInOrder};
 
-use crate::places::Break;
+use crate::break_points::Break;
 use fraction::RatPoint;
 use smallvec::SmallVec;
 
@@ -22,10 +22,10 @@ pub(crate) fn points_in_order(points: Vec<RatPoint>) -> Vec<RatPoint>
     requires { All IsPoint points.items }
     ensures { ArePointsInOrder points.items result.items }
 {
-    let mut ordered = points;
-    ordered.sort_unstable();
-    ordered.dedup();
-    ordered
+    let mut nodes = points;
+    nodes.sort_unstable();
+    nodes.dedup();
+    nodes
 }
 
 /// The stretches in ascending order, each once: by their lesser ends, then by their greater ones.
@@ -33,8 +33,8 @@ pub(crate) fn stretches_in_order(stretches: Vec<(RatPoint, RatPoint)>) -> Vec<(R
     requires { All HasPointEnds (map piece_of stretches.items) }
     ensures { ArePiecesInOrder (map piece_of stretches.items) (map piece_of result.items) }
 {
-    let mut ordered = stretches;
-    ordered.sort_unstable();
-    ordered.dedup();
-    ordered
+    let mut pieces = stretches;
+    pieces.sort_unstable();
+    pieces.dedup();
+    pieces
 }

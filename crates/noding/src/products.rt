@@ -1,7 +1,7 @@
 //! The numbers that sides and meeting points are made of. Each is bounded, so that none passes 64 bits.
 
 ghost use Rattle.std.specs.Prelude.{◌≡◌, ◌≢◌, IsTrue, ◌*◌, ◌≤◌, pos, ◌≤ℤ◌, ◌<ℤ◌, ◌+ℤ◌, ◌-ℤ◌, ◌*ℤ◌, unsigned_abs};
-ghost use Rattle.geometry_model.specs.Points.{point_at, same_point};
+ghost use Rattle.geometry_model.specs.Points.{IsLeast, point_at, same_point};
 ghost use Rattle.geometry_model.specs.Sides.{side};
 ghost use Rattle.geometry_model.specs.WellKnownText.{coordinate_limit};
 ghost use Rattle.fraction.specs.Ranges.{IsOnGrid, meeting_limit};
@@ -69,6 +69,7 @@ pub(crate) fn point_between(a: GridPoint, m: i64, b: GridPoint, n: i64) -> RatPo
     ensures same { IsTrue (same_point result (record { X = m *ℤ a.x +ℤ n *ℤ b.x; Y = m *ℤ a.y +ℤ n *ℤ b.y; W = m +ℤ n })) }
     ensures positive { pos 0 <ℤ result.W }
     ensures limit { result.W ≤ℤ pos meeting_limit }
+    ensures least { IsLeast result }
 {
     RatPoint::reduced(
         weighted_sum(a.x(), m, b.x(), n),

@@ -1,6 +1,7 @@
 //! Segments on one line.
 
 ghost use Rattle.std.specs.Prelude.{◌≡◌, true, [], ◌∷◌, All, pos, ◌≤ℤ◌};
+ghost use Rattle.geometry_model.specs.Points.{IsLeast};
 ghost use Rattle.geometry_model.specs.Sides.{on_one_line};
 ghost use Rattle.geometry_model.specs.CutPoints.{IsCut};
 ghost use Rattle.fraction.specs.Ranges.{meeting_limit};
@@ -18,6 +19,7 @@ pub(crate) fn common_stretch(first: &Segment, second: &Segment) -> Meet
     ensures exact { IsMeeting first.now second.now result }
     ensures cuts { All (IsCut (first.now ∷ second.now ∷ []) []) (named result) }
     ensures limit { All (λ p. p.W ≤ℤ pos meeting_limit) (named result) }
+    ensures least { All IsLeast (named result) }
 {
     let (a, b) = (first.start(), first.end());
     let (c, d) = (second.start(), second.end());

@@ -1,8 +1,8 @@
 use Rattle.std.proofs.Common.{ap, sym, subst, ◌∙◌, All, map, ◌++◌}
 use Rattle.geometry_model.specs.CutPoints.{IsCut}
 use Rattle.geometry_model.specs.Pieces.{IsPiece, stretches}
-use Rattle.noding.specs.Nodings.{Noding, piece_of, IsWithinLimit, HasEndsWithinLimit, HasCuts, HasPieces}
-use Rattle.noding.proofs.NodeSteps.{first_nodes, first_pieces, nodes_more, pieces_more, nodes_are_points, pieces_have_points, nodes_are_cuts, has_cuts, nodes_within_limit, pieces_are_pieces, has_pieces, pieces_within_limit}
+use Rattle.noding.specs.Nodings.{Noding, piece_of, IsNodeTriple, HasNodeTriples, HasCuts, HasPieces}
+use Rattle.noding.proofs.NodeSteps.{first_nodes, first_pieces, nodes_more, pieces_more, nodes_are_points, pieces_have_points, nodes_are_cuts, has_cuts, nodes_are_triples, pieces_are_pieces, has_pieces, pieces_have_triples}
 use Rattle.noding.proofs.nodings.node.Goals as goal
 
 pub loop-segment-init : goal.loop-segment-init
@@ -33,9 +33,9 @@ pub returns-clause-nodes_found : goal.returns-clause-nodes_found
 returns-clause-nodes_found c = subst (HasCuts c.args.segments.now c.args.listed.now) (sym (ap (λ (n : Noding). n.nodes) c.new.ensures))
     (has_cuts c.args.segments.now c.args.listed.now c.loop-segment.segment-index c.loop-segment.nodes.items c.points_in_order.result.items c.loop-segment-test.false c.loop-segment.invariant.nodes c.points_in_order.ensures)
 
-pub returns-clause-nodes_limit : goal.returns-clause-nodes_limit
-returns-clause-nodes_limit c = subst (All IsWithinLimit) (sym (ap (λ (n : Noding). n.nodes) c.new.ensures))
-    (nodes_within_limit c.args.segments.now c.args.listed.now c.loop-segment.segment-index c.loop-segment.nodes.items c.points_in_order.result.items c.loop-segment.invariant.nodes c.points_in_order.ensures)
+pub returns-clause-nodes_triples : goal.returns-clause-nodes_triples
+returns-clause-nodes_triples c = subst (All IsNodeTriple) (sym (ap (λ (n : Noding). n.nodes) c.new.ensures))
+    (nodes_are_triples c.args.segments.now c.args.listed.now c.loop-segment.segment-index c.loop-segment.nodes.items c.points_in_order.result.items c.loop-segment.invariant.nodes c.points_in_order.ensures)
 
 pub returns-clause-pieces : goal.returns-clause-pieces
 returns-clause-pieces c = subst (All (IsPiece c.args.segments.now c.args.listed.now)) (sym (ap (λ (n : Noding). n.pieces) c.new.ensures))
@@ -45,6 +45,6 @@ pub returns-clause-pieces_found : goal.returns-clause-pieces_found
 returns-clause-pieces_found c = subst (HasPieces c.args.segments.now c.args.listed.now) (sym (ap (λ (n : Noding). n.pieces) c.new.ensures))
     (has_pieces c.args.segments.now c.args.listed.now c.loop-segment.segment-index (map piece_of c.loop-segment.pieces.items) (map piece_of c.stretches_in_order.result.items) c.loop-segment-test.false c.loop-segment.invariant.pieces c.stretches_in_order.ensures)
 
-pub returns-clause-pieces_limit : goal.returns-clause-pieces_limit
-returns-clause-pieces_limit c = subst (All HasEndsWithinLimit) (sym (ap (λ (n : Noding). n.pieces) c.new.ensures))
-    (pieces_within_limit c.args.segments.now c.args.listed.now c.loop-segment.segment-index (map piece_of c.loop-segment.pieces.items) (map piece_of c.stretches_in_order.result.items) c.loop-segment.invariant.pieces c.stretches_in_order.ensures)
+pub returns-clause-pieces_triples : goal.returns-clause-pieces_triples
+returns-clause-pieces_triples c = subst (All HasNodeTriples) (sym (ap (λ (n : Noding). n.pieces) c.new.ensures))
+    (pieces_have_triples c.args.segments.now c.args.listed.now c.loop-segment.segment-index (map piece_of c.loop-segment.pieces.items) (map piece_of c.stretches_in_order.result.items) c.loop-segment.invariant.pieces c.stretches_in_order.ensures)

@@ -7,6 +7,7 @@ use Rattle.fraction.specs.Orders.{position_order}
 use Rattle.noding.specs.Meetings.{IsCommonStretch}
 use Rattle.noding.proofs.OneLine.{Lined, lined, from_of, to_of, apart_on_line, touching_on_line, along_the_line}
 use Rattle.noding.proofs.NamedCuts.{CutOf, one_cut, two_cuts, from_is_cut, to_is_cut}
+use Rattle.noding.proofs.LeastPositions.{one_is_least, two_are_least}
 use Rattle.noding.proofs.stretches.common_stretch.Goals as goal
 
 -- the ends that the code reads, and how it compares the two that it chooses
@@ -65,3 +66,9 @@ returns-in-Equal-clause-cuts c =
     let l : Lined e f = lined e f c.end-b.ensures.differ c.end-d.ensures.differ c.requires.one_line in
     let low = from_is e f c.start-a.result c.end-b.result c.start-c.result c.end-d.result c.min.result c.min-2.result c.max-from.result c.start-a.ensures c.end-b.ensures.value c.start-c.ensures c.end-d.ensures.value c.min.ensures c.min-2.ensures c.max-from.ensures in
     one_cut e f c.of_grid-in-Equal.result (subst (CutOf e f) (sym (c.of_grid-in-Equal.ensures ∙ ap point_at low)) (from_is_cut e f l))
+
+pub returns-in-Less-clause-least : goal.returns-in-Less-clause-least
+returns-in-Less-clause-least c = two_are_least c.of_grid.result c.of_grid-in-Less.result c.max-from.result c.min-to.result c.of_grid.ensures c.of_grid-in-Less.ensures
+
+pub returns-in-Equal-clause-least : goal.returns-in-Equal-clause-least
+returns-in-Equal-clause-least c = one_is_least c.of_grid-in-Equal.result c.max-from.result c.of_grid-in-Equal.ensures
