@@ -1,5 +1,5 @@
 -- The break points of an edge, as they are found one edge after the other.
-use Rattle.std.proofs.Common.{◌≡◌, ◌⊎◌, inl, inr, ℕ, ◌+◌, ◌<◌, true, ◌&&◌, refl, sym, ap, subst, ◌∙◌, List, [], ◌∷◌, ◌++◌, length, get_or, map, filter, All, Any, Contains, pos, ◌≤ℤ◌, arith}
+use Rattle.std.proofs.Common.{◌≡◌, ◌⊎◌, inl, inr, ℕ, ◌+◌, ◌<◌, true, sym, ap, subst, ◌∙◌, List, [], ◌∷◌, ◌++◌, length, get_or, map, filter, All, Any, Contains, pos, ◌≤ℤ◌, arith}
 use Rattle.std.proofs.lemmas.Int.{ints}
 use Rattle.std.proofs.lemmas.List.{get_or_default}
 use Rattle.std.proofs.lemmas.List.Elements.{All-contains, Contains-append_left, Contains-append_cases}
@@ -18,7 +18,7 @@ use Rattle.cut_laws.proofs.Lists.{Some_of, among_from_contains, contains_from_am
 use Rattle.cut_laws.proofs.CutLists.{or_first, or_second}
 use Rattle.noding.specs.Meetings.{IsMeeting, named, is_common_cut, NamesCommonCuts}
 use Rattle.noding.specs.declared.answers.Meet.{Meet}
-use Rattle.noding.specs.Nodings.{HasPoint, IsNodeTriple, AreBreaks, ArePointsInOrder, IsBreak, AllBreaks, HoldsMeetings}
+use Rattle.noding.specs.Nodings.{ListsPoint, IsNodeTriple, AreBreaks, PutsPointsInOrder, IsBreak, AllBreaks, HoldsMeetings}
 use Rattle.noding.proofs.NamedCuts.{CutOf}
 use Rattle.noding.proofs.LeastPositions.{position_is_least}
 use Rattle.noding.proofs.NodeCuts.{cut_is_point, cut_of_more, cut_of_both, named_on_both, end_is_on_edge, cut_on_edge}
@@ -70,12 +70,12 @@ meetings_more es e f n m before xs ys he hn hf exact cuts names least limit grow
     from : (p : Point) → Contains ys p → Contains before p ⊎ IsBreak es [] e p
     from p c = sort_out p (Contains-append_cases xs (named m) p (subst (λ zs. Contains zs p) grown c))
 
-    found : (k : ℕ) (d : Edge) → k < n + 1 → (p : Point) → IsPoint p → is_common_cut e (get_or es k d) p ≡ true → HasPoint ys p
+    found : (k : ℕ) (d : Edge) → k < n + 1 → (p : Point) → IsPoint p → is_common_cut e (get_or es k d) p ≡ true → ListsPoint ys p
     found k d l p hp g = go (earlier_or_last k n l)
       where
-        go : (k < n) ⊎ (k ≡ n) → HasPoint ys p
-        go (inl b) = subst (λ zs. HasPoint zs p) (sym grown) (any_left (λ q. same_point q p ≡ true) xs (named m) (h.found k d b p hp g))
-        go (inr b) = subst (λ zs. HasPoint zs p) (sym grown) (any_right (λ q. same_point q p ≡ true) xs (named m)
+        go : (k < n) ⊎ (k ≡ n) → ListsPoint ys p
+        go (inl b) = subst (λ zs. ListsPoint zs p) (sym grown) (any_left (λ q. same_point q p ≡ true) xs (named m) (h.found k d b p hp g))
+        go (inr b) = subst (λ zs. ListsPoint zs p) (sym grown) (any_right (λ q. same_point q p ≡ true) xs (named m)
             (names p hp (subst (λ (x : Edge). is_common_cut e x p ≡ true) (element_is es k n f d hn hf b) g)))
 
 -- ---- all of them
@@ -124,10 +124,10 @@ all_breaks es ps e s t before after wide he hs ht made h = record { from = from;
     from : (p : Point) → Contains after p → IsBreak es ps e p
     from p c = either p (h.from p c)
 
-    of_common : (p : Point) → IsPoint p → (f : Edge) → is_common_cut e f p ≡ true → Contains es f → HasPoint after p
+    of_common : (p : Point) → IsPoint p → (f : Edge) → is_common_cut e f p ≡ true → Contains es f → ListsPoint after p
     of_common p hp f k c = h.found c.0 f c.1 p hp (subst (λ (x : Edge). is_common_cut e x p ≡ true) (sym c.2) k)
 
-    of_listed : (p : Point) → IsPoint p → on e p ≡ true → (a : Position) → same_point (point_at a) p ≡ true → Among a ps → HasPoint after p
+    of_listed : (p : Point) → IsPoint p → on e p ≡ true → (a : Position) → same_point (point_at a) p ≡ true → Among a ps → ListsPoint after p
     of_listed p hp k a g b = any_from_some (λ q. same_point q p ≡ true) after (record {
       found = point_at a;
       among = among_from_contains after (point_at a) (h.kept (point_at a) (subst (λ zs. Contains zs (point_at a)) (sym made) (contains_from_among (front e ps s t) (point_at a)
@@ -135,10 +135,10 @@ all_breaks es ps e s t before after wide he hs ht made h = record { from = from;
       has = g;
     })
 
-    found : (p : Point) → on e p ≡ true → IsCut es ps p → HasPoint after p
+    found : (p : Point) → on e p ≡ true → IsCut es ps p → ListsPoint after p
     found p k c = go (cut_on_edge es ps e wide p k c)
       where
-        go : Some_of (λ f. is_common_cut e f p ≡ true) es ⊎ Some_of (λ a. same_point (point_at a) p ≡ true) ps → HasPoint after p
+        go : Some_of (λ f. is_common_cut e f p ≡ true) es ⊎ Some_of (λ a. same_point (point_at a) p ≡ true) ps → ListsPoint after p
         go (inl f) = of_common p (cut_is_point es ps p c) f.found f.has (contains_from_among es f.found f.among)
         go (inr a) = of_listed p (cut_is_point es ps p c) k a.found a.has a.among
 
@@ -146,17 +146,17 @@ pub breaks_are_points : (es : List Edge) (ps : List Position) (e : Edge) (points
 breaks_are_points es ps e points h = all_of IsPoint points (λ p c. cut_is_point es ps p (h.from p c).is_cut)
 
 -- ---- a point that is kept in another triple
-pub point_kept : (given ordered : List Point) → All IsPoint given → ArePointsInOrder given ordered → (p : Point) → HasPoint given p → HasPoint ordered p
+pub point_kept : (given ordered : List Point) → All IsPoint given → PutsPointsInOrder given ordered → (p : Point) → ListsPoint given p → ListsPoint ordered p
 point_kept given ordered hs o p h = first (some_from_any (λ q. same_point q p ≡ true) given h)
   where
-    second : (q : Point) → IsPoint q → same_point q p ≡ true → Some_of (λ r. same_point r q ≡ true) ordered → HasPoint ordered p
+    second : (q : Point) → IsPoint q → same_point q p ≡ true → Some_of (λ r. same_point r q ≡ true) ordered → ListsPoint ordered p
     second q hq g s = any_from_some (λ r. same_point r p ≡ true) ordered (record { found = s.found; among = s.among; has = same_transitive s.found q p hq s.has g })
 
-    first : Some_of (λ q. same_point q p ≡ true) given → HasPoint ordered p
+    first : Some_of (λ q. same_point q p ≡ true) given → ListsPoint ordered p
     first s = let c : Contains given s.found = contains_from_among given s.found s.among in
         second s.found (All-contains IsPoint given s.found hs c) s.has (some_from_any (λ r. same_point r s.found ≡ true) ordered (o.kept s.found c))
 
-pub breaks_in_order : (es : List Edge) (ps : List Position) (e : Edge) (points ordered : List Point) → AllBreaks es ps e points → ArePointsInOrder points ordered → AreBreaks es ps e ordered
+pub breaks_in_order : (es : List Edge) (ps : List Position) (e : Edge) (points ordered : List Point) → AllBreaks es ps e points → PutsPointsInOrder points ordered → AreBreaks es ps e ordered
 breaks_in_order es ps e points ordered h o = record {
   on_edge = all_of (λ p. on e p ≡ true) ordered (λ p c. (h.from p (o.from p c)).on_edge);
   cuts = all_of (IsCut es ps) ordered (λ p c. (h.from p (o.from p c)).is_cut);

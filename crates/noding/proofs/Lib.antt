@@ -12,3 +12,4 @@ pub mod Ordered
 pub mod BreakPoints
 pub mod Neighbours
 pub mod NodeSteps
+pub mod Exact

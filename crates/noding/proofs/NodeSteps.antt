@@ -1,5 +1,5 @@
 -- The nodes and the pieces, as they are found one edge after the other.
-use Rattle.std.proofs.Common.{◌≡◌, ◌⊎◌, inl, inr, ℕ, suc, ◌+◌, ◌<◌, ◌≤◌, true, ◌&&◌, refl, sym, ap, subst, ◌∙◌, List, [], ◌∷◌, ◌++◌, length, get_or, map, All, Any, AllPairs, Contains, arith}
+use Rattle.std.proofs.Common.{◌≡◌, ◌⊎◌, inl, inr, ℕ, suc, ◌+◌, ◌<◌, ◌≤◌, true, sym, ap, subst, ◌∙◌, List, [], ◌∷◌, ◌++◌, length, get_or, map, All, AllPairs, Contains, arith}
 use Rattle.std.specs.declared.cmp.Ordering.{Ordering}
 use Rattle.std.specs.declared.cmp.Ordering.TheVariants.{Less}
 use Rattle.std.proofs.lemmas.List.Elements.{All-contains, Contains-append_left, Contains-append_cases}
@@ -16,7 +16,7 @@ use Rattle.geometry_laws.proofs.RingParity.{position_is_point}
 use Rattle.cut_laws.proofs.Lists.{Some_of, among_from_contains, contains_from_among, some_from_any, any_from_some, among_map, map_among}
 use Rattle.cut_laws.proofs.Sorted.{Sorted}
 use Rattle.cut_laws.proofs.Stretches.{Neighbours, stretch_is, stretch_found, less_right, less_left}
-use Rattle.noding.specs.Nodings.{same_piece, HasPoint, HasPiece, IsNodeTriple, HasNodeTriples, HasPointEnds, HasCuts, HasPieces, AreBreaks, ArePointsInOrder, ArePiecesInOrder, HoldsNodes, HoldsPieces}
+use Rattle.noding.specs.Nodings.{same_piece, ListsPoint, ListsPiece, IsNodeTriple, HasNodeTriples, HasPointEnds, ListsCuts, ListsPieces, AreBreaks, PutsPointsInOrder, PutsPiecesInOrder, HoldsNodes, HoldsPieces}
 use Rattle.noding.proofs.NodeCuts.{cut_is_point, end_is_on_edge}
 use Rattle.noding.proofs.BreakPoints.{all_of, any_left, any_right, element_is, earlier_or_last, position_is_triple, point_kept}
 
@@ -35,16 +35,16 @@ nodes_more es ps n f breaks xs ys hn hf b grown h = record { cuts = cuts; listed
     listed : (a : Position) → Contains ps a → Contains ys (point_at a)
     listed a c = subst (λ zs. Contains zs (point_at a)) (sym grown) (Contains-append_left xs breaks (point_at a) (h.listed a c))
 
-    found : (k : ℕ) (d : Edge) → k < n + 1 → (p : Point) → on (get_or es k d) p ≡ true → IsCut es ps p → HasPoint ys p
+    found : (k : ℕ) (d : Edge) → k < n + 1 → (p : Point) → on (get_or es k d) p ≡ true → IsCut es ps p → ListsPoint ys p
     found k d l p g c = go (earlier_or_last k n l)
       where
-        go : (k < n) ⊎ (k ≡ n) → HasPoint ys p
-        go (inl m) = subst (λ zs. HasPoint zs p) (sym grown) (any_left (λ q. same_point q p ≡ true) xs breaks (h.found k d m p g c))
-        go (inr m) = subst (λ zs. HasPoint zs p) (sym grown) (any_right (λ q. same_point q p ≡ true) xs breaks
+        go : (k < n) ⊎ (k ≡ n) → ListsPoint ys p
+        go (inl m) = subst (λ zs. ListsPoint zs p) (sym grown) (any_left (λ q. same_point q p ≡ true) xs breaks (h.found k d m p g c))
+        go (inr m) = subst (λ zs. ListsPoint zs p) (sym grown) (any_right (λ q. same_point q p ≡ true) xs breaks
             (b.found p (subst (λ (x : Edge). on x p ≡ true) (element_is es k n f d hn hf m) g) c))
 
 -- ---- the pieces of an edge
-sorted_from_pairs : {X : Type 0} (order : X → X → Ordering) (xs : List X) → AllPairs (λ x y. order x y ≡ Less) xs → Sorted order xs
+pub sorted_from_pairs : {X : Type 0} (order : X → X → Ordering) (xs : List X) → AllPairs (λ x y. order x y ≡ Less) xs → Sorted order xs
 sorted_from_pairs order [] h = tt
 sorted_from_pairs {X} order (x ∷ xs) h = (
   each_of (λ y. order x y ≡ Less) xs (λ y a. after y (contains_from_among xs y a)),
@@ -88,7 +88,7 @@ stretch_is_piece es ps e xs he b c a = made (stretch_is xs (break_points es ps e
             (less_right c.lesser p s.found hp hq x (sym (same_symmetric s.found p) ∙ s.has))
             (less_left s.found p c.greater hq hp s.has y)
 
-piece_is_stretch : (es : List Edge) (ps : List Position) (e : Edge) (xs : List Point) → AreBreaks es ps e xs → (c : Piece) → (h : IsPiece es ps c) → h.edge ≡ e → HasPiece (stretches xs) c
+piece_is_stretch : (es : List Edge) (ps : List Position) (e : Edge) (xs : List Point) → AreBreaks es ps e xs → (c : Piece) → (h : IsPiece es ps c) → h.edge ≡ e → ListsPiece (stretches xs) c
 piece_is_stretch es ps e xs b c h at = go
     (some_from_any (λ q. same_point q c.lesser ≡ true) xs (b.found c.lesser (here c.lesser h.lesser_on) h.lesser_is_cut))
     (some_from_any (λ q. same_point q c.greater ≡ true) xs (b.found c.greater (here c.greater h.greater_on) h.greater_is_cut))
@@ -108,7 +108,7 @@ piece_is_stretch es ps e xs b c h at = go
     points : (p : Point) → Among p xs → IsPoint p
     points p a = cut_is_point es ps p (break_is_cut es ps e xs b p a)
 
-    made : (p q : Point) → Among p xs → Among q xs → same_point p c.lesser ≡ true → same_point q c.greater ≡ true → HasPiece (stretches xs) c
+    made : (p q : Point) → Among p xs → Among q xs → same_point p c.lesser ≡ true → same_point q c.greater ≡ true → ListsPiece (stretches xs) c
     made p q ap aq sp sq = any_from_some (λ d. same_piece d c ≡ true) (stretches xs) (record {
       found = record { lesser = p; greater = q };
       among = stretch_found xs (break_points es ps e xs b) (sorted_from_pairs compare xs b.ascend) p q ap aq
@@ -121,7 +121,7 @@ piece_is_stretch es ps e xs b c h at = go
         none z a x y = h.neighbours z (points z a) (subst (λ (x : Edge). on x z ≡ true) (sym at) (break_is_on es ps e xs b z a)) (break_is_cut es ps e xs b z a)
             (less_left c.lesser p z hl (points p ap) (turned p c.lesser sp) x) (less_right z q c.greater (points q aq) hg y sq)
 
-    go : Some_of (λ q. same_point q c.lesser ≡ true) xs → Some_of (λ q. same_point q c.greater ≡ true) xs → HasPiece (stretches xs) c
+    go : Some_of (λ q. same_point q c.lesser ≡ true) xs → Some_of (λ q. same_point q c.greater ≡ true) xs → ListsPiece (stretches xs) c
     go s t = made s.found t.found s.among t.among s.has t.has
 
 pub pieces_more : (es : List Edge) (ps : List Position) (n : ℕ) (f : Edge) (breaks : List Point) (cs ds : List Piece) → n < length es → f ≡ get_or es n f → AreBreaks es ps f breaks → ds ≡ cs ++ stretches breaks
@@ -135,12 +135,12 @@ pieces_more es ps n f breaks cs ds hn hf b grown h = record { pieces = pieces; f
     pieces : (c : Piece) → Contains ds c → IsPiece es ps c × HasNodeTriples c
     pieces c k = either c (Contains-append_cases cs (stretches breaks) c (subst (λ us. Contains us c) grown k))
 
-    found : (k : ℕ) (d : Edge) → k < n + 1 → (c : Piece) → (i : IsPiece es ps c) → i.edge ≡ get_or es k d → HasPiece ds c
+    found : (k : ℕ) (d : Edge) → k < n + 1 → (c : Piece) → (i : IsPiece es ps c) → i.edge ≡ get_or es k d → ListsPiece ds c
     found k d l c i at = go (earlier_or_last k n l)
       where
-        go : (k < n) ⊎ (k ≡ n) → HasPiece ds c
-        go (inl m) = subst (λ us. HasPiece us c) (sym grown) (any_left (λ e. same_piece e c ≡ true) cs (stretches breaks) (h.found k d m c i at))
-        go (inr m) = subst (λ us. HasPiece us c) (sym grown) (any_right (λ e. same_piece e c ≡ true) cs (stretches breaks)
+        go : (k < n) ⊎ (k ≡ n) → ListsPiece ds c
+        go (inl m) = subst (λ us. ListsPiece us c) (sym grown) (any_left (λ e. same_piece e c ≡ true) cs (stretches breaks) (h.found k d m c i at))
+        go (inr m) = subst (λ us. ListsPiece us c) (sym grown) (any_right (λ e. same_piece e c ≡ true) cs (stretches breaks)
             (piece_is_stretch es ps f breaks b c i (at ∙ element_is es k n f d hn hf m)))
 
 -- ---- before the first edge
@@ -172,24 +172,24 @@ first_pieces es ps cs none = record { pieces = pieces; found = λ k d l. absurd 
 pub nodes_are_points : (es : List Edge) (ps : List Position) (n : ℕ) (xs : List Point) → HoldsNodes es ps n xs → All IsPoint xs
 nodes_are_points es ps n xs h = all_of IsPoint xs (λ p c. cut_is_point es ps p (h.cuts p c).0)
 
-cut_is_held : (es : List Edge) (ps : List Position) (n : ℕ) (xs : List Point) → length es ≤ n → HoldsNodes es ps n xs → (p : Point) → IsCut es ps p → HasPoint xs p
+cut_is_held : (es : List Edge) (ps : List Position) (n : ℕ) (xs : List Point) → length es ≤ n → HoldsNodes es ps n xs → (p : Point) → IsCut es ps p → ListsPoint xs p
 cut_is_held es ps n xs all h p cut = go cut
   where
-    on_one : (e : Edge) → Contains es e → on e p ≡ true → HasPoint xs p
+    on_one : (e : Edge) → Contains es e → on e p ≡ true → ListsPoint xs p
     on_one e c k = h.found c.0 e (omega (arith, c.1, all)) p (subst (λ (x : Edge). on x p ≡ true) (sym c.2) k) cut
 
-    go : IsCut es ps p → HasPoint xs p
+    go : IsCut es ps p → ListsPoint xs p
     go (AtEnd hp e c k) = on_one e c (end_is_on_edge e p hp k)
     go (Listed hp a c k) = any_from_some (λ q. same_point q p ≡ true) xs (record { found = point_at a; among = among_from_contains xs (point_at a) (h.listed a c); has = k })
     go (AtCrossing hp e f c d apart he hf) = on_one e c he
 
-pub has_cuts : (es : List Edge) (ps : List Position) (n : ℕ) (xs ys : List Point) → length es ≤ n → HoldsNodes es ps n xs → ArePointsInOrder xs ys → HasCuts es ps ys
+pub has_cuts : (es : List Edge) (ps : List Position) (n : ℕ) (xs ys : List Point) → length es ≤ n → HoldsNodes es ps n xs → PutsPointsInOrder xs ys → ListsCuts es ps ys
 has_cuts es ps n xs ys all h o = λ p cut. point_kept xs ys (nodes_are_points es ps n xs h) o p (cut_is_held es ps n xs all h p cut)
 
-pub nodes_are_cuts : (es : List Edge) (ps : List Position) (n : ℕ) (xs ys : List Point) → HoldsNodes es ps n xs → ArePointsInOrder xs ys → All (IsCut es ps) ys
+pub nodes_are_cuts : (es : List Edge) (ps : List Position) (n : ℕ) (xs ys : List Point) → HoldsNodes es ps n xs → PutsPointsInOrder xs ys → All (IsCut es ps) ys
 nodes_are_cuts es ps n xs ys h o = all_of (IsCut es ps) ys (λ p c. (h.cuts p (o.from p c)).0)
 
-pub nodes_are_triples : (es : List Edge) (ps : List Position) (n : ℕ) (xs ys : List Point) → HoldsNodes es ps n xs → ArePointsInOrder xs ys → All IsNodeTriple ys
+pub nodes_are_triples : (es : List Edge) (ps : List Position) (n : ℕ) (xs ys : List Point) → HoldsNodes es ps n xs → PutsPointsInOrder xs ys → All IsNodeTriple ys
 nodes_are_triples es ps n xs ys h o = all_of IsNodeTriple ys (λ p c. (h.cuts p (o.from p c)).1)
 
 pub pieces_have_points : (es : List Edge) (ps : List Position) (n : ℕ) (cs : List Piece) → HoldsPieces es ps n cs → All HasPointEnds cs
@@ -204,18 +204,18 @@ same_piece_transitive c d e hd f g =
     let b : (same_point d.lesser e.lesser ≡ true) × (same_point d.greater e.greater ≡ true) = and_parts (same_point d.lesser e.lesser) (same_point d.greater e.greater) g in
     and_from (same_point c.lesser e.lesser) (same_point c.greater e.greater) (same_transitive c.lesser d.lesser e.lesser hd.0 a.0 b.0) (same_transitive c.greater d.greater e.greater hd.1 a.1 b.1)
 
-pub pieces_are_pieces : (es : List Edge) (ps : List Position) (n : ℕ) (cs ds : List Piece) → HoldsPieces es ps n cs → ArePiecesInOrder cs ds → All (IsPiece es ps) ds
+pub pieces_are_pieces : (es : List Edge) (ps : List Position) (n : ℕ) (cs ds : List Piece) → HoldsPieces es ps n cs → PutsPiecesInOrder cs ds → All (IsPiece es ps) ds
 pieces_are_pieces es ps n cs ds h o = all_of (IsPiece es ps) ds (λ c k. (h.pieces c (o.from c k)).0)
 
-pub pieces_have_triples : (es : List Edge) (ps : List Position) (n : ℕ) (cs ds : List Piece) → HoldsPieces es ps n cs → ArePiecesInOrder cs ds → All HasNodeTriples ds
+pub pieces_have_triples : (es : List Edge) (ps : List Position) (n : ℕ) (cs ds : List Piece) → HoldsPieces es ps n cs → PutsPiecesInOrder cs ds → All HasNodeTriples ds
 pieces_have_triples es ps n cs ds h o = all_of HasNodeTriples ds (λ c k. (h.pieces c (o.from c k)).1)
 
-pub has_pieces : (es : List Edge) (ps : List Position) (n : ℕ) (cs ds : List Piece) → length es ≤ n → HoldsPieces es ps n cs → ArePiecesInOrder cs ds → HasPieces es ps ds
+pub has_pieces : (es : List Edge) (ps : List Position) (n : ℕ) (cs ds : List Piece) → length es ≤ n → HoldsPieces es ps n cs → PutsPiecesInOrder cs ds → ListsPieces es ps ds
 has_pieces es ps n cs ds all h o = λ c i. first c (some_from_any (λ d. same_piece d c ≡ true) cs (h.found i.among.0 i.edge (omega (arith, i.among.1, all)) c i (sym i.among.2)))
   where
-    second : (c d : Piece) → HasPointEnds d → same_piece d c ≡ true → Some_of (λ e. same_piece e d ≡ true) ds → HasPiece ds c
+    second : (c d : Piece) → HasPointEnds d → same_piece d c ≡ true → Some_of (λ e. same_piece e d ≡ true) ds → ListsPiece ds c
     second c d hd g s = any_from_some (λ e. same_piece e c ≡ true) ds (record { found = s.found; among = s.among; has = same_piece_transitive s.found d c hd s.has g })
 
-    first : (c : Piece) → Some_of (λ d. same_piece d c ≡ true) cs → HasPiece ds c
+    first : (c : Piece) → Some_of (λ d. same_piece d c ≡ true) cs → ListsPiece ds c
     first c s = let k : Contains cs s.found = contains_from_among cs s.found s.among in
         second c s.found (All-contains HasPointEnds cs s.found (pieces_have_points es ps n cs h) k) s.has (some_from_any (λ e. same_piece e s.found ≡ true) ds (o.kept s.found k))

@@ -1,5 +1,5 @@
 -- What a sort and the removal of doubles leave of a list: its elements, ascending, each once.
-use Rattle.std.proofs.Common.{◌≡◌, true, ◌&&◌, refl, sym, ap, ap₂, subst, ◌∙◌, inl, inr, List, [], ◌∷◌, Bool, All, Any, Contains, map}
+use Rattle.std.proofs.Common.{◌≡◌, true, ◌&&◌, refl, sym, ap₂, subst, ◌∙◌, List, [], ◌∷◌, Bool, All, Any, Contains, map}
 use Rattle.std.specs.Cmp.{IsTotalOrder, IsEquivalence, both_tied}
 use Rattle.std.specs.Ordering.{eq_by_cmp, ordering_then}
 use Rattle.std.specs.declared.cmp.Ordering.{Ordering}
@@ -17,9 +17,9 @@ use Rattle.fraction.proofs.OrderLemmas.{point_order_is, point_ties_are}
 use Rattle.geometry_laws.proofs.Each.{Each, Among, each_at, each_of}
 use Rattle.geometry_laws.proofs.Scaling.{and_parts, and_from}
 use Rattle.geometry_laws.proofs.PointOrder.{same_symmetric}
-use Rattle.cut_laws.proofs.Lists.{Some_of, among_from_contains, contains_from_among, some_from_any, any_from_some, all_from_each, among_map, map_among}
+use Rattle.cut_laws.proofs.Lists.{Some_of, among_from_contains, contains_from_among, some_from_any, any_from_some, among_map, map_among}
 use Rattle.cut_laws.proofs.Sorted.{Sorted, pairs_from_sorted}
-use Rattle.noding.specs.Nodings.{same_piece, piece_of, HasPiece, HasPointEnds, ArePointsInOrder, ArePiecesInOrder}
+use Rattle.noding.specs.Nodings.{same_piece, piece_of, HasPointEnds, PutsPointsInOrder, PutsPiecesInOrder}
 
 -- an order of values that the lawful order agrees with, and when two are the same
 pub record Agrees {X : Type 0} (R : X → X → Ordering) (E : X → X → Bool) (V : X → Type 0) (order : X → X → Ordering) (same : X → X → Bool) : Type 0 where
@@ -76,10 +76,10 @@ each_from_all P xs h = each_of P xs (λ x a. at x (contains_from_among xs x a))
     at : (x : _) → Contains xs x → P x
     at x c = subst P c.2 (h c.0 x c.1)
 
-pub points_ordered : (xs ys zs : List Point) → All IsPoint xs → IsPermutation xs ys → IsSorted point_order ys → zs ≡ dedup (eq_by_cmp point_order) ys → ArePointsInOrder xs zs
+pub points_ordered : (xs ys zs : List Point) → All IsPoint xs → IsPermutation xs ys → IsSorted point_order ys → zs ≡ dedup (eq_by_cmp point_order) ys → PutsPointsInOrder xs zs
 points_ordered xs ys zs vs moved up left = go (ordered point_order (eq_by_cmp point_order) IsPoint compare same_point points_agree xs ys zs (each_from_all IsPoint xs vs) moved up left)
   where
-    go : Ordered compare same_point xs zs → ArePointsInOrder xs zs
+    go : Ordered compare same_point xs zs → PutsPointsInOrder xs zs
     go o = record {
       from = λ p c. contains_from_among xs p (o.from p (among_from_contains zs p c));
       kept = λ p c. any_from_some (λ q. same_point q p ≡ true) zs (o.kept p (among_from_contains xs p c));
@@ -125,11 +125,11 @@ map_sorted : {X Y : Type 0} (f : X → Y) (order : Y → Y → Ordering) (xs : L
 map_sorted f order [] h = tt
 map_sorted f order (x ∷ xs) h = (map_each f (λ y. order (f x) y ≡ Less) xs h.0, map_sorted f order xs h.1)
 
-pub pairs_ordered : (xs ys zs : List (Point × Point)) → All HasPointEnds (map piece_of xs) → IsPermutation xs ys → IsSorted pair_order ys → zs ≡ dedup same_pair ys → ArePiecesInOrder (map piece_of xs) (map piece_of zs)
+pub pairs_ordered : (xs ys zs : List (Point × Point)) → All HasPointEnds (map piece_of xs) → IsPermutation xs ys → IsSorted pair_order ys → zs ≡ dedup same_pair ys → PutsPiecesInOrder (map piece_of xs) (map piece_of zs)
 pairs_ordered xs ys zs vs moved up left = go (ordered pair_order same_pair PairOfPoints (λ c d. compare_pieces (piece_of c) (piece_of d)) (λ c d. same_piece (piece_of c) (piece_of d)) pairs_agree xs ys zs
     (each_of_map piece_of HasPointEnds xs (each_from_all HasPointEnds (map piece_of xs) vs)) moved up left)
   where
-    go : Ordered (λ c d. compare_pieces (piece_of c) (piece_of d)) (λ c d. same_piece (piece_of c) (piece_of d)) xs zs → ArePiecesInOrder (map piece_of xs) (map piece_of zs)
+    go : Ordered (λ c d. compare_pieces (piece_of c) (piece_of d)) (λ c d. same_piece (piece_of c) (piece_of d)) xs zs → PutsPiecesInOrder (map piece_of xs) (map piece_of zs)
     go o = record {
       from = λ c h. contains_from_among (map piece_of xs) c (back c (among_map piece_of zs c (among_from_contains (map piece_of zs) c h)));
       kept = λ c h. any_from_some (λ d. same_piece d c ≡ true) (map piece_of zs) (on c (among_map piece_of xs c (among_from_contains (map piece_of xs) c h)));

@@ -14,12 +14,12 @@ abbrev pub same_piece : Piece → Piece → Bool
 same_piece c d = same_point c.lesser d.lesser && same_point c.greater d.greater
 
 -- one of the points is this point (profile)
-abbrev pub HasPoint : List Point → Point → Type 0
-HasPoint ps p = Any (λ q. same_point q p ≡ true) ps
+abbrev pub ListsPoint : List Point → Point → Type 0
+ListsPoint ps p = Any (λ q. same_point q p ≡ true) ps
 
 -- one of the stretches is this stretch (profile)
-abbrev pub HasPiece : List Piece → Piece → Type 0
-HasPiece cs c = Any (λ d. same_piece d c ≡ true) cs
+abbrev pub ListsPiece : List Piece → Piece → Type 0
+ListsPiece cs c = Any (λ d. same_piece d c ≡ true) cs
 
 -- the triple of a point is in least form, and its denominator keeps the limit (profile)
 pub record IsNodeTriple (p : Point) : Type 0 where
@@ -31,20 +31,20 @@ abbrev pub HasNodeTriples : Piece → Type 0
 HasNodeTriples c = IsNodeTriple c.lesser × IsNodeTriple c.greater
 
 -- points in ascending order, each once (profile)
-abbrev pub PointsAscend : List Point → Type 0
-PointsAscend ps = AllPairs (λ p q. compare p q ≡ Less) ps
+abbrev pub AscendingPoints : List Point → Type 0
+AscendingPoints ps = AllPairs (λ p q. compare p q ≡ Less) ps
 
 -- stretches in ascending order, each once (profile)
-abbrev pub PiecesAscend : List Piece → Type 0
-PiecesAscend cs = AllPairs (λ c d. compare_pieces c d ≡ Less) cs
+abbrev pub AscendingPieces : List Piece → Type 0
+AscendingPieces cs = AllPairs (λ c d. compare_pieces c d ≡ Less) cs
 
 -- each cut is one of the points (profile)
-abbrev pub HasCuts : List Edge → List Position → List Point → Type 0
-HasCuts es ps nodes = (p : Point) → IsCut es ps p → HasPoint nodes p
+abbrev pub ListsCuts : List Edge → List Position → List Point → Type 0
+ListsCuts es ps nodes = (p : Point) → IsCut es ps p → ListsPoint nodes p
 
 -- each piece is one of the stretches (profile)
-abbrev pub HasPieces : List Edge → List Position → List Piece → Type 0
-HasPieces es ps pieces = (c : Piece) → IsPiece es ps c → HasPiece pieces c
+abbrev pub ListsPieces : List Edge → List Position → List Piece → Type 0
+ListsPieces es ps pieces = (c : Piece) → IsPiece es ps c → ListsPiece pieces c
 
 -- nodes and the stretches between them (profile)
 pub record Noding : Type 0 where
@@ -59,21 +59,21 @@ piece_of c = record { lesser = c.0; greater = c.1 }
 pub record AreBreaks (es : List Edge) (ps : List Position) (e : Edge) (points : List Point) : Type 0 where
   pub on_edge : All (λ p. on e p ≡ true) points
   pub cuts : All (IsCut es ps) points
-  pub found : (p : Point) → on e p ≡ true → IsCut es ps p → HasPoint points p
-  pub ascend : PointsAscend points
+  pub found : (p : Point) → on e p ≡ true → IsCut es ps p → ListsPoint points p
+  pub ascend : AscendingPoints points
   pub triples : All IsNodeTriple points
 
 -- the second list holds the points of the first, ascending, each once (profile)
-pub record ArePointsInOrder (given ordered : List Point) : Type 0 where
+pub record PutsPointsInOrder (given ordered : List Point) : Type 0 where
   pub from : (p : Point) → Contains ordered p → Contains given p
-  pub kept : (p : Point) → Contains given p → HasPoint ordered p
-  pub ascend : PointsAscend ordered
+  pub kept : (p : Point) → Contains given p → ListsPoint ordered p
+  pub ascend : AscendingPoints ordered
 
 -- the same of stretches (profile)
-pub record ArePiecesInOrder (given ordered : List Piece) : Type 0 where
+pub record PutsPiecesInOrder (given ordered : List Piece) : Type 0 where
   pub from : (c : Piece) → Contains ordered c → Contains given c
-  pub kept : (c : Piece) → Contains given c → HasPiece ordered c
-  pub ascend : PiecesAscend ordered
+  pub kept : (c : Piece) → Contains given c → ListsPiece ordered c
+  pub ascend : AscendingPieces ordered
 
 -- both ends of a stretch are points (profile)
 abbrev pub HasPointEnds : Piece → Type 0
@@ -88,21 +88,21 @@ pub record IsBreak (es : List Edge) (ps : List Position) (e : Edge) (p : Point) 
 -- the points are cuts on the edge, and all of these are there (profile)
 pub record AllBreaks (es : List Edge) (ps : List Position) (e : Edge) (points : List Point) : Type 0 where
   pub from : (p : Point) → Contains points p → IsBreak es ps e p
-  pub found : (p : Point) → on e p ≡ true → IsCut es ps p → HasPoint points p
+  pub found : (p : Point) → on e p ≡ true → IsCut es ps p → ListsPoint points p
 
 -- the points before, what an edge has in common with the first of the edges, and nothing but cuts (profile)
 pub record HoldsMeetings (es : List Edge) (ps : List Position) (e : Edge) (count : ℕ) (before after : List Point) : Type 0 where
   pub kept : (p : Point) → Contains before p → Contains after p
   pub from : (p : Point) → Contains after p → Contains before p ⊎ IsBreak es ps e p
-  pub found : (k : ℕ) (d : Edge) → k < count → (p : Point) → IsPoint p → is_common_cut e (get_or es k d) p ≡ true → HasPoint after p
+  pub found : (k : ℕ) (d : Edge) → k < count → (p : Point) → IsPoint p → is_common_cut e (get_or es k d) p ≡ true → ListsPoint after p
 
 -- the listed positions and the cuts on the first of the edges, and nothing but cuts (profile)
 pub record HoldsNodes (es : List Edge) (ps : List Position) (count : ℕ) (points : List Point) : Type 0 where
   pub cuts : (p : Point) → Contains points p → IsCut es ps p × IsNodeTriple p
   pub listed : (a : Position) → Contains ps a → Contains points (point_at a)
-  pub found : (k : ℕ) (d : Edge) → k < count → (p : Point) → on (get_or es k d) p ≡ true → IsCut es ps p → HasPoint points p
+  pub found : (k : ℕ) (d : Edge) → k < count → (p : Point) → on (get_or es k d) p ≡ true → IsCut es ps p → ListsPoint points p
 
 -- the pieces of the first of the edges, and nothing but pieces (profile)
 pub record HoldsPieces (es : List Edge) (ps : List Position) (count : ℕ) (stretches : List Piece) : Type 0 where
   pub pieces : (c : Piece) → Contains stretches c → IsPiece es ps c × HasNodeTriples c
-  pub found : (k : ℕ) (d : Edge) → k < count → (c : Piece) → (h : IsPiece es ps c) → h.edge ≡ get_or es k d → HasPiece stretches c
+  pub found : (k : ℕ) (d : Edge) → k < count → (c : Piece) → (h : IsPiece es ps c) → h.edge ≡ get_or es k d → ListsPiece stretches c

@@ -2,9 +2,9 @@
 
 ghost use Rattle.std.specs.Prelude.{◌≡◌, ◌++◌, IfOk, OnOk, All, map};
 ghost use Rattle.geometry_model.specs.Points.{point_at};
-ghost use Rattle.geometry_model.specs.CutPoints.{IsCut};
-ghost use Rattle.geometry_model.specs.Pieces.{IsPiece, stretches};
-ghost use Rattle.noding.specs.Nodings.{piece_of, PointsAscend, PiecesAscend, HasCuts, HasPieces, IsNodeTriple, HasNodeTriples};
+ghost use Rattle.geometry_model.specs.CutPoints.{IsCut, cut_points};
+ghost use Rattle.geometry_model.specs.Pieces.{IsPiece, stretches, pieces};
+ghost use Rattle.noding.specs.Nodings.{piece_of, AscendingPoints, AscendingPieces, ListsCuts, ListsPieces, IsNodeTriple, HasNodeTriples};
 
 use crate::breaks::breaks_on;
 use crate::noded::Noded;
@@ -58,14 +58,16 @@ pub fn node(
     segments: &[Segment],
     listed: &[GridPoint],
 ) -> Result<Noded, AllocError>
+    ensures exact_nodes { IfOk result (λ noded. noded.nodes ≡ cut_points segments.now listed.now) }
+    ensures exact_pieces { IfOk result (λ noded. noded.pieces ≡ pieces (cut_points segments.now listed.now) segments.now) }
     ensures nodes { IfOk result (λ noded. All (IsCut segments.now listed.now) noded.nodes) }
-    ensures nodes_found { IfOk result (λ noded. HasCuts segments.now listed.now noded.nodes) }
-    ensures nodes_ascend { IfOk result (λ noded. PointsAscend noded.nodes) }
-    ensures nodes_triples { IfOk result (λ noded. All IsNodeTriple noded.nodes) }
+    ensures nodes_found { IfOk result (λ noded. ListsCuts segments.now listed.now noded.nodes) }
+    ensures nodes_ascend { IfOk result (λ noded. AscendingPoints noded.nodes) }
+    ensures triples { IfOk result (λ noded. All IsNodeTriple noded.nodes) }
     ensures pieces { IfOk result (λ noded. All (IsPiece segments.now listed.now) noded.pieces) }
-    ensures pieces_found { IfOk result (λ noded. HasPieces segments.now listed.now noded.pieces) }
-    ensures pieces_ascend { IfOk result (λ noded. PiecesAscend noded.pieces) }
-    ensures pieces_triples { IfOk result (λ noded. All HasNodeTriples noded.pieces) }
+    ensures pieces_found { IfOk result (λ noded. ListsPieces segments.now listed.now noded.pieces) }
+    ensures pieces_ascend { IfOk result (λ noded. AscendingPieces noded.pieces) }
+    ensures end_triples { IfOk result (λ noded. All HasNodeTriples noded.pieces) }
 {
     let mut nodes = points_at(alloc, listed)?;
     let mut pieces = Vec::new(alloc);

@@ -2,7 +2,7 @@
 
 ghost use Rattle.std.specs.Prelude.{All, map};
 ghost use Rattle.geometry_model.specs.Points.{IsPoint};
-ghost use Rattle.noding.specs.Nodings.{piece_of, HasPointEnds, ArePointsInOrder, ArePiecesInOrder};
+ghost use Rattle.noding.specs.Nodings.{piece_of, HasPointEnds, PutsPointsInOrder, PutsPiecesInOrder};
 
 use crate::break_points::Break;
 use fraction::RatPoint;
@@ -11,7 +11,7 @@ use smallvec::SmallVec;
 /// Puts break points in ascending order, each once.
 pub(crate) fn put_in_order(points: &mut SmallVec<Break, 8>)
     requires { All IsPoint points.old.items }
-    ensures { ArePointsInOrder points.old.items points.new.items }
+    ensures { PutsPointsInOrder points.old.items points.new.items }
 {
     points.sort_unstable();
     points.dedup();
@@ -20,7 +20,7 @@ pub(crate) fn put_in_order(points: &mut SmallVec<Break, 8>)
 /// The points in ascending order, each once.
 pub(crate) fn points_in_order(points: Vec<RatPoint>) -> Vec<RatPoint>
     requires { All IsPoint points.items }
-    ensures { ArePointsInOrder points.items result.items }
+    ensures { PutsPointsInOrder points.items result.items }
 {
     let mut nodes = points;
     nodes.sort_unstable();
@@ -31,7 +31,7 @@ pub(crate) fn points_in_order(points: Vec<RatPoint>) -> Vec<RatPoint>
 /// The stretches in ascending order, each once: by their lesser ends, then by their greater ones.
 pub(crate) fn stretches_in_order(stretches: Vec<(RatPoint, RatPoint)>) -> Vec<(RatPoint, RatPoint)>
     requires { All HasPointEnds (map piece_of stretches.items) }
-    ensures { ArePiecesInOrder (map piece_of stretches.items) (map piece_of result.items) }
+    ensures { PutsPiecesInOrder (map piece_of stretches.items) (map piece_of result.items) }
 {
     let mut pieces = stretches;
     pieces.sort_unstable();

@@ -1,4 +1,4 @@
-use Rattle.std.proofs.Common.{◌-◌, map, arith, ◌∙◌, ap₂, List, ◌++◌, ◌∷◌, []}
+use Rattle.std.proofs.Common.{◌-◌, map, arith, ◌∙◌, ap₂, ◌++◌, ◌∷◌, []}
 use Rattle.geometry_model.specs.Points.{Point}
 use Rattle.noding.specs.Nodings.{piece_of}
 use Rattle.noding.proofs.Neighbours.{pieces_of_more}

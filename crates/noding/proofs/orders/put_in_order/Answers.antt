@@ -1,4 +1,4 @@
-use Rattle.std.proofs.Common.{◌≡◌, ℕ, List, length, ◌++◌, drop, take, ap, sym, subst, ◌∙◌, arith, IsPermutation}
+use Rattle.std.proofs.Common.{◌≡◌, ℕ, List, length, ◌++◌, drop, take, ap, sym, subst, ◌∙◌, IsPermutation}
 use Rattle.std.specs.List.{dedup, refill}
 use Rattle.std.specs.Ordering.{eq_by_cmp}
 use Rattle.std.proofs.Math.Seq.{take-append_seam}
