@@ -48,7 +48,7 @@ earlier_or_last k n h = grind arith
 
 -- ---- one more edge
 pub meetings_more : (es : List Edge) (e f : Edge) (n : ℕ) (m : Meet) (before xs ys : List Point) → Contains es e → n < length es → f ≡ get_or es n f
-    → IsMeeting e f m → All (CutOf e f) (named m) → NamesCommonCuts e f m → All IsLeast (named m) → All (λ p. p.W ≤ℤ pos meeting_limit) (named m) → ys ≡ xs ++ named m → HoldsMeetings es [] e n before xs → HoldsMeetings es [] e (n + 1) before ys
+    → IsMeeting e f m → All (CutOf e f) (named m) → NamesCommonCuts e f m → All IsLeast (named m) → All (λ p. p.W ≤ℤ pos meeting_limit) (named m) → ys ≡ xs ++ named m → HoldsMeetings es e n before xs → HoldsMeetings es e (n + 1) before ys
 meetings_more es e f n m before xs ys he hn hf exact cuts names least limit grown h = record { kept = kept; from = from; found = found }
   where
     kept : (p : Point) → Contains before p → Contains ys p
@@ -86,7 +86,7 @@ pub position_is_triple : (a : Position) → IsNodeTriple (point_at a)
 position_is_triple a = record { least = position_is_least a; limit = omega (arith, ints) }
 
 pub all_breaks : (es : List Edge) (ps : List Position) (e : Edge) (s t : Point) (before after : List Point) → (e.start ≡ e.end → ⊥) → Contains es e → s ≡ point_at e.start → t ≡ point_at e.end
-    → before ≡ front e ps s t → HoldsMeetings es [] e (length es) before after → AllBreaks es ps e after
+    → before ≡ front e ps s t → HoldsMeetings es e (length es) before after → AllBreaks es ps e after
 all_breaks es ps e s t before after wide he hs ht made h = record { from = from; found = found }
   where
     at_end : (a : Position) → is_end e (point_at a) ≡ true → IsBreak es ps e (point_at a)

@@ -70,16 +70,19 @@ stretch_is_piece es ps e xs he b c a = made (stretch_is xs (break_points es ps e
     limit p k = All-contains IsNodeTriple xs p b.triples (contains_from_among xs p k)
 
     made : Neighbours xs c → IsPiece es ps c × HasNodeTriples c
-    made n = (record {
-      edge = e;
-      among = he;
-      lesser_on = break_is_on es ps e xs b c.lesser n.lesser;
-      greater_on = break_is_on es ps e xs b c.greater n.greater;
-      lesser_is_cut = break_is_cut es ps e xs b c.lesser n.lesser;
-      greater_is_cut = break_is_cut es ps e xs b c.greater n.greater;
-      in_order = n.in_order;
-      neighbours = λ p hp k cut x y. none p hp x y (some_from_any (λ q. same_point q p ≡ true) xs (b.found p k cut));
-    }, (limit c.lesser n.lesser, limit c.greater n.greater))
+    made n = (
+      record {
+        edge = e;
+        among = he;
+        lesser_on = break_is_on es ps e xs b c.lesser n.lesser;
+        greater_on = break_is_on es ps e xs b c.greater n.greater;
+        lesser_is_cut = break_is_cut es ps e xs b c.lesser n.lesser;
+        greater_is_cut = break_is_cut es ps e xs b c.greater n.greater;
+        in_order = n.in_order;
+        neighbours = λ p hp k cut x y. none p hp x y (some_from_any (λ q. same_point q p ≡ true) xs (b.found p k cut));
+      },
+      (limit c.lesser n.lesser, limit c.greater n.greater),
+    )
       where
         none : (p : Point) → IsPoint p → compare c.lesser p ≡ Less → compare p c.greater ≡ Less → Some_of (λ q. same_point q p ≡ true) xs → ⊥
         none p hp x y s =

@@ -1,5 +1,5 @@
 -- The nodes and pieces of edges and listed positions.
-use Rattle.std.specs.Prelude.{◌≡◌, ◌⊎◌, ℕ, ◌<◌, Bool, true, ◌&&◌, List, get_or, Contains, Any, All, AllPairs, pos, ◌≤ℤ◌}
+use Rattle.std.specs.Prelude.{◌≡◌, ◌⊎◌, ℕ, ◌<◌, Bool, true, ◌&&◌, List, [], get_or, Contains, Any, All, AllPairs, pos, ◌≤ℤ◌}
 use Rattle.std.specs.declared.cmp.Ordering.TheVariants.{Less}
 use Rattle.geometry_model.specs.Points.{Position, Point, IsPoint, IsLeast, point_at, same_point, compare}
 use Rattle.geometry_model.specs.Geometries.{Edge}
@@ -55,6 +55,8 @@ pub record Noding : Type 0 where
 abbrev pub piece_of : Point × Point → Piece
 piece_of c = record { lesser = c.0; greater = c.1 }
 
+-- ---- steps by which nodes and pieces are found
+
 -- the points are exactly the cuts on one of the edges, ascending, each once (profile)
 pub record AreBreaks (es : List Edge) (ps : List Position) (e : Edge) (points : List Point) : Type 0 where
   pub on_edge : All (λ p. on e p ≡ true) points
@@ -79,7 +81,7 @@ pub record PutsPiecesInOrder (given ordered : List Piece) : Type 0 where
 abbrev pub HasPointEnds : Piece → Type 0
 HasPointEnds c = IsPoint c.lesser × IsPoint c.greater
 
--- the point is on the edge and a cut of the edges, within the limit (profile)
+-- the point is on the edge and a cut of the edges, its triple that of a node (profile)
 pub record IsBreak (es : List Edge) (ps : List Position) (e : Edge) (p : Point) : Type 0 where
   pub on_edge : on e p ≡ true
   pub is_cut : IsCut es ps p
@@ -91,9 +93,9 @@ pub record AllBreaks (es : List Edge) (ps : List Position) (e : Edge) (points : 
   pub found : (p : Point) → on e p ≡ true → IsCut es ps p → ListsPoint points p
 
 -- the points before, what an edge has in common with the first of the edges, and nothing but cuts (profile)
-pub record HoldsMeetings (es : List Edge) (ps : List Position) (e : Edge) (count : ℕ) (before after : List Point) : Type 0 where
+pub record HoldsMeetings (es : List Edge) (e : Edge) (count : ℕ) (before after : List Point) : Type 0 where
   pub kept : (p : Point) → Contains before p → Contains after p
-  pub from : (p : Point) → Contains after p → Contains before p ⊎ IsBreak es ps e p
+  pub from : (p : Point) → Contains after p → Contains before p ⊎ IsBreak es [] e p
   pub found : (k : ℕ) (d : Edge) → k < count → (p : Point) → IsPoint p → is_common_cut e (get_or es k d) p ≡ true → ListsPoint after p
 
 -- the listed positions and the cuts on the first of the edges, and nothing but cuts (profile)

@@ -1,15 +1,15 @@
 //! The points at which a segment is cut.
 
-ghost use Rattle.std.specs.Prelude.{◌≡◌, [], ◌++◌, IfOk, OnOk, map, filter, length, Contains};
+ghost use Rattle.std.specs.Prelude.{◌≡◌, ◌++◌, IfOk, OnOk, map, filter, length, Contains};
 ghost use Rattle.geometry_model.specs.Points.{point_at};
 ghost use Rattle.geometry_model.specs.Sides as spec;
 ghost use Rattle.noding.specs.Meetings.{named};
 ghost use Rattle.noding.specs.Nodings.{AllBreaks, AreBreaks, HoldsMeetings};
 
 use crate::answers::Meet;
+use crate::break_points::Break;
 use crate::meetings::meet;
 use crate::orders::put_in_order;
-use crate::break_points::Break;
 use fraction::{GridPoint, RatPoint};
 use orient::{Segment, on};
 use smallvec::SmallVec;
@@ -54,7 +54,7 @@ fn push_meetings(
     segments: &[Segment],
 ) -> Result<(), AllocError>
     requires { Contains segments.now segment.now }
-    ensures { OnOk result (HoldsMeetings segments.now [] segment.now (length segments.now) breaks.old.items breaks.new.items) }
+    ensures { OnOk result (HoldsMeetings segments.now segment.now (length segments.now) breaks.old.items breaks.new.items) }
 {
     for other in segments {
         push_named(breaks, meet(segment, other))?;

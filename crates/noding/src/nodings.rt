@@ -6,10 +6,10 @@ ghost use Rattle.geometry_model.specs.CutPoints.{IsCut, cut_points};
 ghost use Rattle.geometry_model.specs.Pieces.{IsPiece, stretches, pieces};
 ghost use Rattle.noding.specs.Nodings.{piece_of, AscendingPoints, AscendingPieces, ListsCuts, ListsPieces, IsNodeTriple, HasNodeTriples};
 
+use crate::break_points::Break;
 use crate::breaks::breaks_on;
 use crate::noded::Noded;
 use crate::orders::{points_in_order, stretches_in_order};
-use crate::break_points::Break;
 use fraction::{GridPoint, RatPoint};
 use orient::Segment;
 use std::alloc::{AllocError, Global};
@@ -53,11 +53,7 @@ fn push_stretches(
 /// are the stretches of segments between neighbouring nodes on them (OGC 06-103r4, 6.1.15.2: intersection; nodes, pieces
 /// and their order: profile). Both are exact and ascend, each once, and the denominators are at most 8 L L, L being the
 /// limit of coordinates. It fails only for want of memory.
-pub fn node(
-    alloc: Global,
-    segments: &[Segment],
-    listed: &[GridPoint],
-) -> Result<Noded, AllocError>
+pub fn node(alloc: Global, segments: &[Segment], listed: &[GridPoint]) -> Result<Noded, AllocError>
     ensures exact_nodes { IfOk result (λ noded. noded.nodes ≡ cut_points segments.now listed.now) }
     ensures exact_pieces { IfOk result (λ noded. noded.pieces ≡ pieces (cut_points segments.now listed.now) segments.now) }
     ensures nodes { IfOk result (λ noded. All (IsCut segments.now listed.now) noded.nodes) }
