@@ -69,8 +69,12 @@ fn meetings(rt: HostRuntime) -> Result<(), Fail> {
 
 type Numbers = (i64, i64, i64);
 
-fn point((x, y, w): Numbers) -> RatPoint {
-    RatPoint::reduced(x, y, w)
+fn numbers(point: &RatPoint) -> Numbers {
+    (
+        point.numerator_x(),
+        point.numerator_y(),
+        point.denominator(),
+    )
 }
 
 fn noded(alloc: Global, lines: &[(Place, Place)], places: &[Place]) -> Result<Noded, Fail> {
@@ -155,8 +159,8 @@ fn nodes_of_segments(rt: HostRuntime) -> Result<(), Fail> {
     for (lines, places, wanted) in cases {
         let noded = noded(alloc, lines, places)?;
         assert_eq!(rt; noded.nodes().len(), wanted.len());
-        for (found, numbers) in noded.nodes().iter().zip(wanted) {
-            assert_eq!(rt; *found, point(*numbers));
+        for (found, expected) in noded.nodes().iter().zip(wanted) {
+            assert_eq!(rt; numbers(found), *expected);
         }
     }
     Ok(())
@@ -222,8 +226,8 @@ fn pieces_of_segments(rt: HostRuntime) -> Result<(), Fail> {
     for (lines, places, wanted) in cases {
         let noded = noded(alloc, lines, places)?;
         assert_eq!(rt; noded.pieces().len(), wanted.len());
-        for (found, numbers) in noded.pieces().iter().zip(wanted) {
-            assert_eq!(rt; *found, (point(numbers.0), point(numbers.1)));
+        for (found, expected) in noded.pieces().iter().zip(wanted) {
+            assert_eq!(rt; (numbers(&found.0), numbers(&found.1)), *expected);
         }
     }
     Ok(())
