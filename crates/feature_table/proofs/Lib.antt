@@ -1,4 +1,3 @@
-pub mod ListLemmas
 pub mod FieldLemmas
 pub mod SchemaLemmas
 pub mod HeaderLemmas

@@ -4,10 +4,10 @@ use Rattle.std.proofs.lemmas.List.Folds.{Any-from_list_any, list_any-from_Any}
 use Rattle.std.specs.Prelude.{option_to_list}
 use Rattle.std.specs.List.{list_any}
 use Rattle.geometry_model.specs.Points.{Position, Point}
-use Rattle.geometry_model.specs.Geometries.{Geometry, edges_of_lines}
+use Rattle.geometry_model.specs.Geometries.{Geometry, edges_of_lines, joined_rings}
 use Rattle.geometry_model.specs.Sides.{on}
 use Rattle.geometry_model.specs.Crossings.{odd_above}
-use Rattle.geometry_model.specs.Locations.{locate, part, stands_at, on_some, is_odd_end, in_lines}
+use Rattle.geometry_model.specs.Locations.{locate, part, stands_at, on_some, is_odd_end, in_lines, in_rings}
 use Rattle.geometry_model.specs.PointSets.{IsListed, LiesOn, IsOddEnd, IsInterior, IsBoundary, IsExterior}
 use Rattle.geometry_model.specs.declared.point_sets.Location.{Location}
 use Rattle.geometry_model.specs.declared.point_sets.Location.TheVariants.{Interior, Boundary, Exterior}
@@ -72,19 +72,27 @@ lines_interior ls p = interior_of_three (is_odd_end ls p) (on_some ls p) (IsOddE
 lines_boundary : (ls : List (List Position)) (p : Point) → (in_lines ls p ≡ Boundary) ↔ IsOddEnd ls p
 lines_boundary ls p = boundary_of_three (is_odd_end ls p) (on_some ls p) (IsOddEnd ls p) (itself (is_odd_end ls p))
 
+rings_interior : (rs : List (List Position)) (p : Point) → (in_rings rs p ≡ Interior) ↔ ((odd_above rs p ≡ true) × ¬ (LiesOn rs p))
+rings_interior rs p = interior_of_three (on_some rs p) (odd_above rs p) (LiesOn rs p) (odd_above rs p ≡ true) (lies_on rs p) (itself (odd_above rs p))
+
+rings_boundary : (rs : List (List Position)) (p : Point) → (in_rings rs p ≡ Boundary) ↔ LiesOn rs p
+rings_boundary rs p = boundary_of_three (on_some rs p) (odd_above rs p) (LiesOn rs p) (lies_on rs p)
+
 pub locates_interior : (g : Geometry) (p : Point) → (locate g p ≡ Interior) ↔ IsInterior g p
 locates_interior (Geometry.Point o) p = interior_of_two (list_any (stands_at p) (option_to_list o)) _ (listed (option_to_list o) p)
 locates_interior (Geometry.MultiPoint ps) p = interior_of_two (list_any (stands_at p) ps) _ (listed ps p)
 locates_interior (Geometry.LineString ps) p = lines_interior (ps ∷ []) p
 locates_interior (Geometry.MultiLineString ls) p = lines_interior ls p
-locates_interior (Geometry.Polygon rs) p = interior_of_three (on_some rs p) (odd_above rs p) _ _ (lies_on rs p) (itself (odd_above rs p))
+locates_interior (Geometry.Polygon rs) p = rings_interior rs p
+locates_interior (Geometry.MultiPolygon es) p = rings_interior (joined_rings es) p
 
 pub locates_boundary : (g : Geometry) (p : Point) → (locate g p ≡ Boundary) ↔ IsBoundary g p
 locates_boundary (Geometry.Point o) p = boundary_of_two (list_any (stands_at p) (option_to_list o))
 locates_boundary (Geometry.MultiPoint ps) p = boundary_of_two (list_any (stands_at p) ps)
 locates_boundary (Geometry.LineString ps) p = lines_boundary (ps ∷ []) p
 locates_boundary (Geometry.MultiLineString ls) p = lines_boundary ls p
-locates_boundary (Geometry.Polygon rs) p = boundary_of_three (on_some rs p) (odd_above rs p) _ (lies_on rs p)
+locates_boundary (Geometry.Polygon rs) p = rings_boundary rs p
+locates_boundary (Geometry.MultiPolygon es) p = rings_boundary (joined_rings es) p
 
 pub locates_exterior : (g : Geometry) (p : Point) → (locate g p ≡ Exterior) ↔ IsExterior g p
 locates_exterior g p = exterior_of (locate g p) (IsInterior g p) (IsBoundary g p) (locates_interior g p) (locates_boundary g p)

@@ -4,7 +4,7 @@ use Rattle.std.specs.List.{join_with_byte}
 use Rattle.std.specs.Option.{option_to_list}
 use Rattle.std.specs.Fmt.{signed_decimal}
 use Rattle.geometry_model.specs.Points.{Position}
-use Rattle.geometry_model.specs.Geometries.{Geometry, Point, MultiPoint, LineString, MultiLineString, Polygon}
+use Rattle.geometry_model.specs.Geometries.{Geometry, Point, MultiPoint, LineString, MultiLineString, Polygon, MultiPolygon}
 
 -- the numbers in shortest decimal form, one space between (06-103r4, 7.2.2: point)
 abbrev pub position_text : Position → List ℕ
@@ -17,6 +17,10 @@ listed_text parts = codes "(" ++ join_with_byte 44 parts ++ codes ")"
 -- the positions of a line or ring (06-103r4, 7.2.2: linestring text)
 abbrev pub line_text : List Position → List ℕ
 line_text ps = listed_text (map position_text ps)
+
+-- the rings of a polygon (06-103r4, 7.2.2: polygon text)
+abbrev pub polygon_text : List (List Position) → List ℕ
+polygon_text rings = listed_text (map line_text rings)
 
 -- a point of a MULTIPOINT, in parentheses (06-103r4, 7.2.2: point text)
 abbrev pub point_text : Position → List ℕ
@@ -34,3 +38,4 @@ canonical_text (MultiPoint ps) = tagged_text (codes "MULTIPOINT") (map point_tex
 canonical_text (LineString ps) = tagged_text (codes "LINESTRING") (map position_text ps)
 canonical_text (MultiLineString lines) = tagged_text (codes "MULTILINESTRING") (map line_text lines)
 canonical_text (Polygon rings) = tagged_text (codes "POLYGON") (map line_text rings)
+canonical_text (MultiPolygon polygons) = tagged_text (codes "MULTIPOLYGON") (map polygon_text polygons)

@@ -19,7 +19,6 @@ pub mod PointSets
 pub mod PointSetLaws
 pub mod DimensionLaws
 pub mod PredicateLaws
-pub mod TextLaws
 pub mod Validity
 pub mod FirstFaults
 pub mod ValidityExamples

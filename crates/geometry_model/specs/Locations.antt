@@ -2,7 +2,7 @@
 use Rattle.std.specs.Prelude.{◌≡◌, Bool, List, [], ◌∷◌, if◌then◌else◌, count_by, flat_map, option_to_list}
 use Rattle.std.specs.List.{list_any}
 use Rattle.geometry_model.specs.Points.{Position, Point, same_point, point_at}
-use Rattle.geometry_model.specs.Geometries.{Geometry, edges_of_lines}
+use Rattle.geometry_model.specs.Geometries.{Geometry, edges_of_lines, joined_rings}
 use Rattle.geometry_model.specs.Sides.{on}
 use Rattle.geometry_model.specs.Crossings.{odd, odd_above}
 use Rattle.geometry_model.specs.declared.point_sets.Location.{Location}
@@ -41,7 +41,7 @@ in_lines ls p =
     else if on_some ls p then Interior
     else Exterior
 
--- a polygon: the boundary is its rings; the interior is what is inside an odd number of them (06-103r4, 6.1.11.1)
+-- an area: the boundary is its rings; the interior is what is inside an odd number of them (06-103r4, 6.1.11.1 and 6.1.14)
 abbrev pub in_rings : List (List Position) → Point → Location
 in_rings rs p =
     if on_some rs p then Boundary
@@ -55,6 +55,7 @@ locate (Geometry.MultiPoint ps) p = in_points ps p
 locate (Geometry.LineString ps) p = in_lines (ps ∷ []) p
 locate (Geometry.MultiLineString ls) p = in_lines ls p
 locate (Geometry.Polygon rs) p = in_rings rs p
+locate (Geometry.MultiPolygon es) p = in_rings (joined_rings es) p
 
 -- a geometry's interior, boundary or exterior, as a set of points (06-103r4, 6.1.15.2)
 abbrev pub part : Geometry → Location → Point → Type 0

@@ -1,7 +1,7 @@
 -- Interior, boundary and exterior said as facts about a point, in the standard's words, beside the function that answers which.
 use Rattle.std.specs.Prelude.{List, [], ◌∷◌, IsTrue, Any, option_to_list}
 use Rattle.geometry_model.specs.Points.{Position, Point}
-use Rattle.geometry_model.specs.Geometries.{Geometry, edges_of_lines}
+use Rattle.geometry_model.specs.Geometries.{Geometry, edges_of_lines, joined_rings}
 use Rattle.geometry_model.specs.Sides.{on}
 use Rattle.geometry_model.specs.Crossings.{odd_above}
 use Rattle.geometry_model.specs.Locations.{stands_at, is_odd_end}
@@ -18,21 +18,23 @@ LiesOn ls p = Any (λ e. IsTrue (on e p)) (edges_of_lines ls)
 abbrev pub IsOddEnd : List (List Position) → Point → Type 0
 IsOddEnd ls p = IsTrue (is_odd_end ls p)
 
--- the interior: the listed points; the points of the lines that aren't boundary; what is inside the rings and not on them (06-103r4, 6.1.4 to 6.1.11)
+-- the interior: the listed points; the points of the lines that aren't boundary; what is inside the rings and not on them (06-103r4, 6.1.4 to 6.1.14)
 abbrev pub IsInterior : Geometry → Point → Type 0
 IsInterior (Geometry.Point o) p = IsListed (option_to_list o) p
 IsInterior (Geometry.MultiPoint ps) p = IsListed ps p
 IsInterior (Geometry.LineString ps) p = LiesOn (ps ∷ []) p × ¬ (IsOddEnd (ps ∷ []) p)
 IsInterior (Geometry.MultiLineString ls) p = LiesOn ls p × ¬ (IsOddEnd ls p)
 IsInterior (Geometry.Polygon rs) p = IsTrue (odd_above rs p) × ¬ (LiesOn rs p)
+IsInterior (Geometry.MultiPolygon es) p = IsTrue (odd_above (joined_rings es) p) × ¬ (LiesOn (joined_rings es) p)
 
--- the boundary: of points nothing; of lines the odd ends; of a polygon its rings (06-103r4, 6.1.4 to 6.1.11)
+-- the boundary: of points nothing; of lines the odd ends; of an area its rings (06-103r4, 6.1.4 to 6.1.14)
 abbrev pub IsBoundary : Geometry → Point → Type 0
 IsBoundary (Geometry.Point o) p = ⊥
 IsBoundary (Geometry.MultiPoint ps) p = ⊥
 IsBoundary (Geometry.LineString ps) p = IsOddEnd (ps ∷ []) p
 IsBoundary (Geometry.MultiLineString ls) p = IsOddEnd ls p
 IsBoundary (Geometry.Polygon rs) p = LiesOn rs p
+IsBoundary (Geometry.MultiPolygon es) p = LiesOn (joined_rings es) p
 
 -- the exterior: all points of the plane that are neither (06-103r4, 6.1.15.2)
 abbrev pub IsExterior : Geometry → Point → Type 0

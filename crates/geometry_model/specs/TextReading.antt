@@ -1,11 +1,11 @@
 -- Reading well-known text from left to right: the geometry that it spells, or the first fault that is met.
 use Rattle.std.specs.Prelude.{ℕ, zero, suc, ◌+◌, ◌-◌, ◌==◌, ℤ, Bool, true, false, List, [], ◌∷◌, length, take, drop, Option, Some, None, Result, Ok, Err, nat_lt, codes, if◌then◌else◌}
-use Rattle.std.specs.List.{prefix_len}
+use Rattle.std.specs.List.{prefix_len, flat_map}
 use Rattle.std.specs.Char.{is_ascii_alphabetic, is_ascii_digit}
 use Rattle.std.specs.Str.{str_eq_ignore_ascii_case}
 use Rattle.std.specs.Str.Parse.{digits_value}
 use Rattle.geometry_model.specs.Points.{Position}
-use Rattle.geometry_model.specs.Geometries.{Geometry, Point, MultiPoint, LineString, MultiLineString, Polygon}
+use Rattle.geometry_model.specs.Geometries.{Geometry, Point, MultiPoint, LineString, MultiLineString, Polygon, MultiPolygon}
 pub use Rattle.geometry_model.specs.WellKnownText.{begins_with}
 use Rattle.geometry_model.specs.WellKnownText.{coordinate_limit, position_limit, part_limit, is_white, is_whole, signed, geometry_of}
 use Rattle.geometry_model.specs.declared.text_faults.TextFault.{TextFault}
@@ -167,6 +167,19 @@ parts (suc count) room = do
   goes_on ← eat 44
   if goes_on then (parts count (room - length x) >>= λ more. pure (x ∷ more)) else pure (x ∷ [])
 
+-- the rings of a polygon, where so many parts and so many positions may still come (06-103r4, 7.2.2: polygon text)
+unfoldable pub polygon : ℕ → ℕ → Reader (List (List Position))
+polygon count room = enclosed (parts count room)
+
+-- polygons, where so many parts and so many positions may still come: each hands on what is left of both; a polygon has a
+-- ring at least, so as many turns as parts are enough (profile)
+unfoldable pub polygons : ℕ → ℕ → ℕ → Reader (List (List (List Position)))
+polygons zero count room = padded (polygon count room) >>= λ x. pure (x ∷ [])
+polygons (suc turns) count room = do
+  x ← padded (polygon count room)
+  goes_on ← eat 44
+  if goes_on then (polygons turns (count - length x) (room - length (flat_map (λ ring. ring) x)) >>= λ more. pure (x ∷ more)) else pure (x ∷ [])
+
 -- the word EMPTY, or what stands in parentheses (06-103r4, 7.2.2: empty set)
 unfoldable pub body : {A : Type 0} → Reader (List A) → Reader (List A)
 body inner = do
@@ -182,6 +195,10 @@ positions item = body (separated item position_limit)
 -- the elements or rings behind a name (profile)
 abbrev pub lists : Reader (List (List Position))
 lists = body (parts part_limit position_limit)
+
+-- the polygons behind a name (profile)
+abbrev pub nested_lists : Reader (List (List (List Position)))
+nested_lists = body (polygons part_limit part_limit position_limit)
 
 -- the one position of a POINT (profile)
 abbrev pub lone : Reader (List Position)
@@ -200,6 +217,7 @@ typed at name =
     else if str_eq_ignore_ascii_case name (codes "LINESTRING") then (positions position >>= λ ps. pure (LineString ps))
     else if str_eq_ignore_ascii_case name (codes "MULTILINESTRING") then (lists >>= λ ls. pure (MultiLineString ls))
     else if str_eq_ignore_ascii_case name (codes "POLYGON") then (lists >>= λ ls. pure (Polygon ls))
+    else if str_eq_ignore_ascii_case name (codes "MULTIPOLYGON") then (nested_lists >>= λ es. pure (MultiPolygon es))
     else refuse at
 
 -- a type's name and what stands behind it (06-103r4, 7.2.2: tagged text)

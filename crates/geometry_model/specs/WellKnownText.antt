@@ -7,7 +7,7 @@ use Rattle.std.specs.Option.{option_to_list}
 use Rattle.std.specs.Str.{str_to_ascii_lowercase}
 use Rattle.std.specs.Str.Parse.{digits_value}
 use Rattle.geometry_model.specs.Points.{Position}
-use Rattle.geometry_model.specs.Geometries.{Geometry, Point, MultiPoint, LineString, MultiLineString, Polygon}
+use Rattle.geometry_model.specs.Geometries.{Geometry, Point, MultiPoint, LineString, MultiLineString, Polygon, MultiPolygon, joined_rings}
 
 -- the greatest size of a coordinate (profile)
 abbrev pub coordinate_limit : ℕ
@@ -17,7 +17,7 @@ coordinate_limit = 100000
 abbrev pub position_limit : ℕ
 position_limit = 10000
 
--- the most rings of a polygon, and elements of a MULTILINESTRING (profile)
+-- the most rings of a polygon or of all polygons of a MULTIPOLYGON, and elements of a MULTILINESTRING (profile)
 abbrev pub part_limit : ℕ
 part_limit = 1000
 
@@ -113,6 +113,10 @@ PointText p text = PositionText p text ⊎ Enclosed (Padded (PositionText p)) te
 abbrev pub LineText : List Position → Rule
 LineText ps = Enclosed (Separated PositionText ps)
 
+-- the rings of a polygon (06-103r4, 7.2.2: polygon text)
+abbrev pub PolygonText : List (List Position) → Rule
+PolygonText rings = Enclosed (Separated LineText rings)
+
 -- what stands behind the type's name: EMPTY, or the parts in parentheses (06-103r4, 7.2.2: empty set)
 abbrev pub Body : {A : Type 0} → (A → Rule) → List A → Rule
 Body P [] = Space ⨾ Word (codes "EMPTY")
@@ -126,6 +130,7 @@ TaggedText (MultiPoint ps) = Word (codes "MULTIPOINT") ⨾ Body PointText ps
 TaggedText (LineString ps) = Word (codes "LINESTRING") ⨾ Body PositionText ps
 TaggedText (MultiLineString lines) = Word (codes "MULTILINESTRING") ⨾ Body LineText lines
 TaggedText (Polygon rings) = Word (codes "POLYGON") ⨾ Body LineText rings
+TaggedText (MultiPolygon polygons) = Word (codes "MULTIPOLYGON") ⨾ Body PolygonText polygons
 
 -- a whole text, with its positions as they are written (06-103r4, 7.2.2: well-known text representation)
 abbrev pub Writes : Geometry → Rule
@@ -138,14 +143,16 @@ written_positions (MultiPoint ps) = ps
 written_positions (LineString ps) = ps
 written_positions (MultiLineString lines) = flat_map (λ line. line) lines
 written_positions (Polygon rings) = flat_map (λ ring. ring) rings
+written_positions (MultiPolygon polygons) = flat_map (λ ring. ring) (joined_rings polygons)
 
--- the elements of a MULTILINESTRING, the rings of a polygon (profile)
+-- the elements of a MULTILINESTRING, the rings of a polygon or of all polygons (profile)
 abbrev pub written_parts : Geometry → List (List Position)
 written_parts (Point p) = []
 written_parts (MultiPoint ps) = []
 written_parts (LineString ps) = []
 written_parts (MultiLineString lines) = lines
 written_parts (Polygon rings) = rings
+written_parts (MultiPolygon polygons) = joined_rings polygons
 
 -- no more positions and parts than a geometry may have (profile)
 abbrev pub IsWithinCounts : Geometry → Type 0
@@ -166,6 +173,7 @@ geometry_of (MultiPoint ps) = MultiPoint ps
 geometry_of (LineString ps) = LineString (without_repeats ps)
 geometry_of (MultiLineString lines) = MultiLineString (map without_repeats lines)
 geometry_of (Polygon rings) = Polygon (map without_repeats rings)
+geometry_of (MultiPolygon polygons) = MultiPolygon (map (map without_repeats) polygons)
 
 -- the text spells the geometry (06-103r4, 7.2; numbers, limits and repeats: profile)
 pub record Spells (text : List ℕ) (g : Geometry) : Type 0 where

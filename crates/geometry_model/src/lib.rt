@@ -16,7 +16,6 @@ pub mod relations;
 pub mod shapes;
 pub mod text_examples;
 pub mod text_faults;
-pub mod text_laws;
 pub mod validity_examples;
 pub mod validity_faults;
 

@@ -8,6 +8,7 @@ pub enum GeometryType {
     LineString,
     MultiLineString,
     Polygon,
+    MultiPolygon,
 }
 
 /// What a geometry is by its type, also where it is empty: the `P`, `L` and `A` of the predicates
@@ -18,6 +19,6 @@ pub enum Kind {
     Point,
     /// LineString and MultiLineString.
     Line,
-    /// Polygon.
+    /// Polygon and MultiPolygon.
     Area,
 }

@@ -1,5 +1,5 @@
 //! Texts of geometries, computed: which geometry each spells, or its first fault, and canonical texts.
-#![tactic(auto, unfolding(crate::specs::TextReading::read_text, crate::specs::TextReading::whole, crate::specs::TextReading::tagged, crate::specs::TextReading::typed, crate::specs::TextReading::body, crate::specs::TextReading::parts, crate::specs::TextReading::line, crate::specs::TextReading::separated, crate::specs::TextReading::point, crate::specs::TextReading::position, crate::specs::TextReading::space, crate::specs::TextReading::coordinate, crate::specs::TextReading::numeral, crate::specs::TextReading::fraction, crate::specs::TextReading::sign,))]
+#![tactic(auto, unfolding(crate::specs::TextReading::read_text, crate::specs::TextReading::whole, crate::specs::TextReading::tagged, crate::specs::TextReading::typed, crate::specs::TextReading::body, crate::specs::TextReading::parts, crate::specs::TextReading::polygon, crate::specs::TextReading::polygons, crate::specs::TextReading::line, crate::specs::TextReading::separated, crate::specs::TextReading::point, crate::specs::TextReading::position, crate::specs::TextReading::space, crate::specs::TextReading::coordinate, crate::specs::TextReading::numeral, crate::specs::TextReading::fraction, crate::specs::TextReading::sign,))]
 
 ghost use Rattle.std.specs.Prelude.{◌≡◌, [], ◌∷◌, ◌++◌, codes, pos, negsuc, Some, None, Ok, Err};
 ghost use Rattle.geometry_model.specs.Geometries.{
@@ -46,7 +46,7 @@ pub fn repeated_positions()
 pub fn first_faults()
     ensures nothing { read_text [] ≡ Err (Syntax 0) }
     ensures half_a_word { read_text (codes "POLYGO") ≡ Err (Syntax 0) }
-    ensures unknown_type { read_text (codes "MULTIPOLYGON EMPTY") ≡ Err (Syntax 0) }
+    ensures unknown_type { read_text (codes "CURVE EMPTY") ≡ Err (Syntax 0) }
     ensures unfinished { read_text (codes "POINT(1 2") ≡ Err (Syntax 9) }
     ensures exponent { read_text (codes "POINT(1e0 2)") ≡ Err (Syntax 7) }
     ensures lone_sign { read_text (codes "POINT(-") ≡ Err (Syntax 6) }

@@ -1,7 +1,7 @@
 //! Why a geometry isn't valid.
 
-/// The first fault of a geometry that isn't valid (06-103r4, 6.1.7 and 6.1.11; the order is a profile). Elements
-/// and rings are numbered from 0, and ring 0 is the outer one.
+/// The first fault of a geometry that isn't valid (06-103r4, 6.1.7, 6.1.11 and 6.1.14; the order is this project's). Elements
+/// are numbered from 0, and so are rings, through all elements; the first ring of an element is its outer one.
 #[derive(Clone, Copy, Debug, PartialEq, Eq)]
 pub enum ValidityFault {
     /// V1: the line with this number has a single position, or the ring fewer than 4 with the closing one.
@@ -10,10 +10,14 @@ pub enum ValidityFault {
     RingNotClosed(usize),
     /// V3: the ring meets or covers itself.
     RingNotSimple(usize),
-    /// V4: the two rings share a point; the lesser number comes first.
+    /// V4: the two rings of one element share a point; the lesser number comes first.
     RingsMeet(usize, usize),
-    /// V5: the hole isn't inside the outer ring.
+    /// V5: the hole isn't inside the outer ring of its element.
     HoleOutside(usize),
-    /// V6: of the two holes one is inside the other; the lesser number comes first.
+    /// V6: of the two holes of one element one is inside the other; the lesser number comes first.
     HolesNested(usize, usize),
+    /// V7: rings of the two elements share a point; the lesser number comes first.
+    ElementsMeet(usize, usize),
+    /// V8: the first element's outer ring is inside the second element.
+    ElementInside(usize, usize),
 }

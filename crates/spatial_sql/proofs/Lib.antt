@@ -3,10 +3,3 @@ pub mod Counts
 pub mod Outcomes
 pub mod TokenSlices
 pub mod Ascii
-pub mod LawfulSchemas
-pub mod SchemaSound
-pub mod SchemaLaws
-pub mod AsciiWords
-pub mod SchemaComplete
-pub mod SchemaRefused
-pub mod SchemaFirst

@@ -4,11 +4,5 @@ pub mod WorkFacts
 pub mod ScanFacts
 pub mod FilterFacts
 pub mod WrittenFolds
-pub mod TokenReaders
-pub mod QuerySound
-pub mod TokensEnd
-pub mod QueryLaws
-pub mod QueryComplete
-pub mod QueryRefused
-pub mod QueryFirst
 pub mod TruthFacts
+pub mod ListFacts

@@ -15,7 +15,6 @@ pub mod Served
 pub mod QueryReading
 pub mod QueryGrammar
 pub mod QueryRefusals
-pub mod QueryLaws
 pub mod QueryExamples
 pub mod SchemaReading
 pub mod Arguments

@@ -15,7 +15,6 @@ pub mod plan_laws;
 pub mod plans;
 pub mod queries;
 pub mod query_examples;
-pub mod query_laws;
 pub mod schema_examples;
 pub mod texts;
 pub mod tokens;

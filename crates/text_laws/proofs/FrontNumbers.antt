@@ -7,8 +7,8 @@ use Rattle.geometry_model.specs.Points.{Position}
 use Rattle.geometry_model.specs.WellKnownText.{begins_with, is_white, is_whole, coordinate_limit}
 use Rattle.geometry_model.specs.TextReading.{Input, Reader, FoundNumber, and_then, pure, refuse, too_long, run, eat, place, ◌>>◌, ◌>>=◌, sign, fraction, numeral, coordinate, space, position}
 use Rattle.geometry_model.specs.declared.text_faults.TextFault.{TextFault}
-use Rattle.geometry_model.proofs.TextSteps.{no_run, read_run}
-use Rattle.geometry_model.proofs.TextSound.{IfRead}
+use Rattle.text_laws.proofs.TextSteps.{no_run, read_run}
+use Rattle.text_laws.proofs.TextSound.{IfRead}
 use Rattle.text_laws.proofs.Fronts.{Fork, plus, Shares, Alike, Follows, Stays, refused_alike, stuck_alike, then_alike, then_follows, then_on, then_stays, if_follows, if_stays, pure_follows, pure_stays, refuse_follows, place_follows, moved, run_same, run_follows, run_stays, same_first, eaten, eat_stays}
 
 -- ---- digits

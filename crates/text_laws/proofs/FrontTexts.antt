@@ -9,7 +9,7 @@ use Rattle.geometry_model.specs.Geometries.{Geometry, Point, MultiPoint, LineStr
 use Rattle.geometry_model.specs.WellKnownText.{is_white, position_limit, part_limit}
 use Rattle.geometry_model.specs.TextReading.{Input, Reader, and_then, pure, refuse, too_long, run, eat, place, sees, ◌>>◌, ◌>>=◌, expect, padded, enclosed, position, point, separated, line, parts, body, lone, first, positions, lists, typed, tagged, end, whole}
 use Rattle.geometry_model.specs.declared.text_faults.TextFault.{TextFault}
-use Rattle.geometry_model.proofs.TextSound.{IfRead}
+use Rattle.text_laws.proofs.TextSound.{IfRead}
 use Rattle.text_laws.proofs.Fronts.{Fork, plus, Shares, Alike, Follows, Stays, then_follows, then_on, if_follows, weaker_follows, pure_follows, refuse_follows, place_follows, run_follows, sees_follows, eat_follows, not_eaten, expect_follows, padded_follows, enclosed_follows}
 use Rattle.text_laws.proofs.FrontNumbers.{position_follows}
 

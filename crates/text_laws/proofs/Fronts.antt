@@ -7,8 +7,8 @@ use Rattle.std.proofs.lemmas.List.Sums.{prefix_len-le-length}
 use Rattle.geometry_model.specs.WellKnownText.{begins_with, is_white}
 use Rattle.geometry_model.specs.TextReading.{Input, Reader, FoundNumber, and_then, pure, after, refuse, run, eat, place, sees, ◌>>=◌, expect, padded, enclosed, numeral, coordinate}
 use Rattle.geometry_model.specs.declared.text_faults.TextFault.{TextFault}
-use Rattle.geometry_model.proofs.TextSteps.{no_run}
-use Rattle.geometry_model.proofs.TextSound.{IfRead, then_read}
+use Rattle.text_laws.proofs.TextSteps.{no_run}
+use Rattle.text_laws.proofs.TextSound.{IfRead, then_read}
 
 -- what stands behind the front: a plus and more; a number that is refused with this fault, at this byte
 pub record Fork : Type 0 where

@@ -9,8 +9,8 @@ use Rattle.geometry_model.specs.TextReading.{Input, Reader, and_then, after, too
 use Rattle.geometry_model.specs.declared.text_faults.TextFault.{TextFault}
 use Rattle.geometry_model.specs.declared.text_faults.TextFault.TheVariants.{Syntax, OffGrid, OutOfRange, TooLong}
 use Rattle.text_laws.specs.RefusalLaws.{TooManyIsTooLong}
-use Rattle.geometry_model.proofs.TextSteps.{Took, apart, byte_is, no_run}
-use Rattle.geometry_model.proofs.TextComplete.{IsRead, IsFound, Ends, Closed, Begins, Complete, space_ends, white_ends, expect_read, blank_read, padded_read, numeral_at, position_begins, position_not_white, position_read, point_read, point_not_white, Closes, closed_by_comma, closes, differs, name_read, named, tagged_not_white, padded_line_read}
+use Rattle.text_laws.proofs.TextSteps.{Took, apart, byte_is, no_run}
+use Rattle.text_laws.proofs.TextComplete.{IsRead, IsFound, Ends, Closed, Begins, Complete, space_ends, white_ends, expect_read, blank_read, padded_read, numeral_at, position_begins, position_not_white, position_read, point_read, point_not_white, Closes, closed_by_comma, closes, differs, name_read, named, tagged_not_white, padded_line_read}
 
 -- the text is read as too long
 abbrev pub IsFull : {A : Type 0} → Result (A × Input) TextFault → Type 0

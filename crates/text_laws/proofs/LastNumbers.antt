@@ -5,7 +5,7 @@ use Rattle.std.specs.Char.{is_ascii_digit}
 use Rattle.std.proofs.lemmas.Bool.{true≢false, and_parts, or_parts}
 use Rattle.geometry_model.specs.Points.{Position}
 use Rattle.geometry_model.specs.WellKnownText.{◌⨾◌, Blank, Padded, Sign, Fraction, Numeral, PositionText, is_white}
-use Rattle.geometry_model.proofs.TextSteps.{Took, apart}
+use Rattle.text_laws.proofs.TextSteps.{Took, apart}
 use Rattle.text_laws.proofs.OpenParts.{or_last, any_within, head_of, tail_of}
 
 -- what stands in the place of a number pair

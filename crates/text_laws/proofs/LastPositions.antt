@@ -9,8 +9,8 @@ use Rattle.geometry_model.specs.WellKnownText.{begins_with, Rule, ◌⨾◌, Byt
 use Rattle.geometry_model.specs.TextReading.{Input, Reader, FoundNumber, and_then, pure, after, too_long, ◌>>◌, ◌>>=◌, expect, padded, numeral, coordinate, space, position, point, separated, line, parts, positions, typed, whole, outcome, read_text}
 use Rattle.geometry_model.specs.TextRefusals.{begins_more, HasTooManyPositions, IsFirstNumber}
 use Rattle.geometry_model.specs.declared.text_faults.TextFault.TheVariants.{TooLong}
-use Rattle.geometry_model.proofs.TextSteps.{Took, apart, byte_is, read_run}
-use Rattle.geometry_model.proofs.TextComplete.{Begins, Complete, Ends, closed_by_comma, expect_read, named, digit_not_white, differs, numeral_begins, position_not_white, position_read, point_not_white, point_read, padded_read, padded_line_read}
+use Rattle.text_laws.proofs.TextSteps.{Took, apart, byte_is, read_run}
+use Rattle.text_laws.proofs.TextComplete.{Begins, Complete, Ends, closed_by_comma, expect_read, named, digit_not_white, differs, numeral_begins, position_not_white, position_read, point_not_white, point_read, padded_read, padded_line_read}
 use Rattle.text_laws.proofs.FullTexts.{IsFull, full_then, then_full, full_is}
 use Rattle.text_laws.proofs.OpenParts.{no_part, Layout, layout, Named, whole_by_list, lines_named, rings_named}
 use Rattle.text_laws.proofs.RefusedNumbers.{Read, first_number}

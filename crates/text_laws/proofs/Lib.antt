@@ -1,3 +1,9 @@
+pub mod TextSteps
+pub mod TextSound
+pub mod TextComplete
+pub mod TextPlaces
+pub mod TextPrinted
+pub mod TextRefused
 pub mod Fronts
 pub mod FrontNumbers
 pub mod FrontTexts

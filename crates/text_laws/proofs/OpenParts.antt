@@ -11,8 +11,8 @@ use Rattle.geometry_model.specs.WellKnownText.{begins_with, Rule, ◌⨾◌, Byt
 use Rattle.geometry_model.specs.TextReading.{Input, Reader, after, too_long, ◌>>◌, expect, padded, line, parts, body, lists, typed, tagged, whole, outcome, read_text}
 use Rattle.geometry_model.specs.TextRefusals.{begins_more, HasTooManyParts}
 use Rattle.geometry_model.specs.declared.text_faults.TextFault.TheVariants.{TooLong}
-use Rattle.geometry_model.proofs.TextSteps.{Took, apart, byte_is, no_run, read_run}
-use Rattle.geometry_model.proofs.TextComplete.{expect_read, closed_by_comma, white_byte, letters, word_begins, same_length, named, padded_line_read}
+use Rattle.text_laws.proofs.TextSteps.{Took, apart, byte_is, no_run, read_run}
+use Rattle.text_laws.proofs.TextComplete.{expect_read, closed_by_comma, white_byte, letters, word_begins, same_length, named, padded_line_read}
 use Rattle.text_laws.proofs.FullTexts.{IsFull, full_then, then_full, full_is, fits_or_not, padded_line_full}
 
 -- ---- the last opening parenthesis of a text

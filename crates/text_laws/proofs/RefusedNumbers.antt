@@ -12,9 +12,9 @@ use Rattle.geometry_model.specs.TextReading.{Input, FoundNumber, numeral, coordi
 use Rattle.geometry_model.specs.TextRefusals.{IsFirstNumber, HasNumber, IsOffGrid, IsOutOfRange}
 use Rattle.geometry_model.specs.declared.text_faults.TextFault.{TextFault}
 use Rattle.geometry_model.specs.declared.text_faults.TextFault.TheVariants.{OffGrid, OutOfRange}
-use Rattle.geometry_model.proofs.TextSound.{IfRead}
-use Rattle.geometry_model.proofs.TextComplete.{IsRead, IsFound, numeral_read, numeral_begins, digit_not_white, differs, spelled_is_read}
-use Rattle.geometry_model.proofs.TextRefused.{numeral_first}
+use Rattle.text_laws.proofs.TextSound.{IfRead}
+use Rattle.text_laws.proofs.TextComplete.{IsRead, IsFound, numeral_read, numeral_begins, digit_not_white, differs, spelled_is_read}
+use Rattle.text_laws.proofs.TextRefused.{numeral_first}
 use Rattle.text_laws.proofs.Fronts.{Fork}
 use Rattle.text_laws.proofs.FrontTexts.{whole_ends}
 

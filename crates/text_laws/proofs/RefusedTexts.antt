@@ -5,9 +5,9 @@ use Rattle.geometry_model.specs.TextReading.{read_text}
 use Rattle.geometry_model.specs.TextRefusals.{IsRefusedAs}
 use Rattle.geometry_model.specs.declared.text_faults.TextFault.{TextFault}
 use Rattle.geometry_model.specs.declared.text_faults.TextFault.TheVariants.{Syntax, OffGrid, OutOfRange, TooLong}
-use Rattle.geometry_model.proofs.TextSound.{read_is_spelled}
-use Rattle.geometry_model.proofs.TextComplete.{spelled_is_read}
-use Rattle.geometry_model.proofs.TextRefused.{refusals_stand}
+use Rattle.text_laws.proofs.TextSound.{read_is_spelled}
+use Rattle.text_laws.proofs.TextComplete.{spelled_is_read}
+use Rattle.text_laws.proofs.TextRefused.{refusals_stand}
 use Rattle.text_laws.proofs.RefusedNumbers.{off_grid_is_answered, out_of_range_is_answered}
 use Rattle.text_laws.proofs.OpenParts.{too_many_parts_are_too_long}
 use Rattle.text_laws.proofs.LastPositions.{too_many_positions_are_too_long}

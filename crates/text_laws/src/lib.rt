@@ -2,4 +2,5 @@
 //! contract is a law.
 #![tactic(auto)]
 
+pub mod reading;
 pub mod refusals;

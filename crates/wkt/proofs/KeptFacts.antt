@@ -7,7 +7,7 @@ use Rattle.std.proofs.lemmas.List.Elements.{All-nil, All-cons, All-append}
 use Rattle.geometry_model.specs.Points.{Position}
 use Rattle.geometry_model.specs.Geometries.{Geometry, Point, MultiPoint, LineString, MultiLineString, Polygon, Edge, edges, edges_of_line, edges_of_lines}
 use Rattle.geometry_model.specs.WellKnownText.{Separated, LineText, Body, TaggedText, written_parts, same_position, without_repeats, geometry_of}
-use Rattle.geometry_model.proofs.TextPrinted.{counts_again}
+use Rattle.text_laws.proofs.TextPrinted.{counts_again}
 use Rattle.wkt.specs.KeptGeometries.{IsKept, SpelledIsKept}
 
 -- neighbours

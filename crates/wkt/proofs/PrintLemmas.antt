@@ -6,7 +6,7 @@ use Rattle.geometry_model.specs.Points.{Position}
 use Rattle.geometry_model.specs.Geometries.{Geometry}
 use Rattle.geometry_model.specs.WellKnownText.{Spells}
 use Rattle.geometry_model.specs.CanonicalText.{canonical_text, position_text, point_text, tagged_text}
-use Rattle.geometry_model.proofs.TextPrinted.{canonical_text_spells}
+use Rattle.text_laws.proofs.TextPrinted.{canonical_text_spells}
 use Rattle.wkt.specs.Printing.{HoldsText}
 
 -- the parts of a position, joined

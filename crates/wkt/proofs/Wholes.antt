@@ -5,11 +5,11 @@ use Rattle.std.specs.List.{prefix_len}
 use Rattle.geometry_model.specs.CanonicalText.{canonical_text}
 use Rattle.geometry_model.specs.Geometries.{Geometry, Point, MultiPoint, LineString, MultiLineString, Polygon, kind}
 use Rattle.geometry_model.specs.declared.shapes.Kind.TheVariants as kinds
-use Rattle.geometry_model.proofs.TextPrinted.{canonical_text_spells}
+use Rattle.text_laws.proofs.TextPrinted.{canonical_text_spells}
 use Rattle.geometry_model.specs.TextReading.{Input, Reader, ◌>>◌, and_then, pure, refuse, after, run, end, typed, tagged, whole, outcome, read_text}
 use Rattle.geometry_model.specs.WellKnownText.{is_white, geometry_of, Spells}
-use Rattle.geometry_model.proofs.TextSound.{read_is_spelled}
-use Rattle.geometry_model.proofs.TextComplete.{spelled_is_read}
+use Rattle.text_laws.proofs.TextSound.{read_is_spelled}
+use Rattle.text_laws.proofs.TextComplete.{spelled_is_read}
 use Rattle.geometry_model.specs.TextRefusals.{IsRefused}
 use Rattle.text_laws.proofs.RefusedTexts.{answer_stands}
 use Rattle.geometry_model.specs.declared.text_faults.TextFault.{TextFault}

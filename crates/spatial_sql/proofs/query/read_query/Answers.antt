@@ -1,7 +1,7 @@
 use Rattle.spatial_sql.specs.Language.{language}
-use Rattle.table_model.proofs.QueryFirst.{first_is_given}
-use Rattle.table_model.proofs.QueryLaws.{given_is_query, query_is_given}
-use Rattle.table_model.proofs.QueryRefused.{given_stands}
+use Rattle.grammar_laws.proofs.QueryFirst.{first_is_given}
+use Rattle.grammar_laws.proofs.QueryLaws.{given_is_query, query_is_given}
+use Rattle.grammar_laws.proofs.QueryRefused.{given_stands}
 use Rattle.spatial_sql.proofs.query.read_query.Goals as goal
 
 pub returns-clause-ok : goal.returns-clause-ok

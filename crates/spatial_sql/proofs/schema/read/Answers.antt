@@ -1,5 +1,5 @@
 use Rattle.table_model.specs.SchemaReading as spec
-use Rattle.spatial_sql.proofs.LawfulSchemas.{lawful-from_schema}
+use Rattle.grammar_laws.proofs.LawfulSchemas.{lawful-from_schema}
 use Rattle.spatial_sql.proofs.schema.read.Goals as goal
 
 pub of-requires : goal.of-requires

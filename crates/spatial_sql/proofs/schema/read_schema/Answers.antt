@@ -1,7 +1,7 @@
 use Rattle.std.proofs.Common.{Result, Ok, Err, IfOk, List, ℕ}
-use Rattle.spatial_sql.proofs.SchemaFirst.{first_is_given}
-use Rattle.spatial_sql.proofs.SchemaLaws.{given_is_schema, schema_is_given}
-use Rattle.spatial_sql.proofs.SchemaRefused.{given_stands}
+use Rattle.grammar_laws.proofs.SchemaFirst.{first_is_given}
+use Rattle.grammar_laws.proofs.SchemaLaws.{given_is_schema, schema_is_given}
+use Rattle.grammar_laws.proofs.SchemaRefused.{given_stands}
 use Rattle.table_model.specs.declared.definitions.TableDef.{TableDef}
 use Rattle.table_model.specs.declared.faults.SchemaFault.{SchemaFault}
 use Rattle.table_model.specs.declared.faults.SchemaFault.TheVariants as fault

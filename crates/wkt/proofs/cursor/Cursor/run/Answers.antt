@@ -1,4 +1,4 @@
-use Rattle.geometry_model.proofs.TextSteps.{all_pass}
+use Rattle.text_laws.proofs.TextSteps.{all_pass}
 use Rattle.wkt.specs.ReadingSteps.{of_class}
 use Rattle.wkt.proofs.cursor.Cursor.run.Goals as goal
 

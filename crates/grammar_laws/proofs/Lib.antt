@@ -1,0 +1,14 @@
+pub mod TokenReaders
+pub mod QuerySound
+pub mod TokensEnd
+pub mod QueryComplete
+pub mod QueryRefused
+pub mod QueryFirst
+pub mod QueryLaws
+pub mod AsciiWords
+pub mod LawfulSchemas
+pub mod SchemaSound
+pub mod SchemaComplete
+pub mod SchemaRefused
+pub mod SchemaFirst
+pub mod SchemaLaws

@@ -1,0 +1,566 @@
+-- A fault at a token that the readers of a query answer stands there.
+use Rattle.std.proofs.Common.{◌≡◌, ◌⊎◌, ◌≤◌, ◌+◌, ℕ, zero, suc, Bool, true, false, not, ◌&&◌, ◌||◌, if◌then◌else◌, ◌==◌, ℤ, List, [], ◌∷◌, ◌++◌, length, Option, Some, None, Result, Ok, Err, inl, inr, refl, sym, ap, subst, ◌∙◌, append_assoc, codes, arith}
+use Rattle.std.specs.Prelude.{IfErr, nat_lt}
+use Rattle.std.specs.Str.Parse.{digits_value}
+use Rattle.std.proofs.lemmas.Bool.{false≢true, ltb-false}
+use Rattle.geometry_model.specs.declared.relations.Predicate.{Predicate}
+use Rattle.geometry_model.specs.declared.relations.Predicate.TheVariants as p
+use Rattle.table_model.specs.declared.conditions.Comparison.{Comparison}
+use Rattle.table_model.specs.declared.faults.QueryFault.{QueryFault}
+use Rattle.table_model.specs.declared.faults.QueryFault.TheVariants as fault
+use Rattle.table_model.specs.declared.queries.WrittenCond.{WrittenCond}
+use Rattle.table_model.specs.declared.queries.WrittenCond.TheVariants as c
+use Rattle.table_model.specs.declared.queries.WrittenOperand.{WrittenOperand}
+use Rattle.table_model.specs.declared.queries.WrittenReference.{WrittenReference}
+use Rattle.table_model.specs.declared.tokens.Token.{Token}
+use Rattle.table_model.specs.declared.tokens.TokenKind.{TokenKind}
+use Rattle.table_model.specs.declared.tokens.TokenKind.TheVariants as k
+use Rattle.table_model.specs.Outcomes.{Gives}
+use Rattle.table_model.specs.Parsers.{Outcome, kind, place, spelling, next, sees, after, and_then, expect, parts_from}
+use Rattle.table_model.specs.QueryGrammar.{Phrase, IsToken, ◌▸◌, IsOptional, IsParts, AreEnded, IsOperand, IsComparison, IsPredicateOf, IsPredicate, IsChain, IsConjunction, IsConditionOf, IsNegationOf, IsNegation, IsCondition, IsSelection, IsReference, IsExplain}
+use Rattle.table_model.specs.QueryReading.{Reader, Functions, name, column, calls, called_or, enclosed, string, geometry, integer, integer_value, integer_or, operand_functions, operand, comparison_of, compared, compared_by, null_test, comparison, truth_value, truth_test, tested, relates, relates_by, predicate_functions, predicate, chain, conjunction, condition_of, group, negation, most_levels, most_bytes, condition, item_functions, item, items, selection, alias, reference, Second, crossed, joined_on, second, where_condition, says, explained, query, bad_place, value_of, query_by, query_of}
+use Rattle.table_model.specs.QueryRefusals.{IsAnyOperand, IsAnyNegation, IsAnyCondition, BeforeSecond, BeforeOn, BeforeWhere, AreParts, BeforeNegation, BeforeOperand, IsTooBig, StandsIn, is_at_token, StandsInQuery}
+use Rattle.table_model.specs.Served.{Served, Argument, ServedOperand, ServedCond, ServedQuery}
+use Rattle.table_model.specs.Tokens.{same_kind, tokens}
+use Rattle.grammar_laws.proofs.QuerySound.{Sound, operand_sound, comparison_taken, chain_sound, negation_sound, explained_sound, selection_sound, reference_sound, expect_sound, second_sound, optional, IsBoth}
+use Rattle.grammar_laws.proofs.TokenReaders.{IfRead, Took, map_read, same, one, seq, but, ended_more}
+
+-- ---- the faults of a reader
+
+-- a fact of the fault that is answered, where it is one at a token
+abbrev pub Faults : {A : Type 0} → Outcome QueryFault A → (QueryFault → Type 0) → Type 0
+Faults (Ok p) E = Unit {0}
+Faults (Err f) E = is_at_token f ≡ true → E f
+
+-- a reader that answers no fault at a token
+abbrev pub Faultless : {A : Type 0} → Reader A → Type 1
+Faultless p = (E : QueryFault → Type 0) (ts : List Token) → Faults (p ts) E
+
+then_faults : {A B : Type 0} (r : Outcome QueryFault A) (f : A → Reader B) (Q : A → List Token → Type 0) (E : QueryFault → Type 0)
+    → IfRead r Q → Faults r E → ((x : A) (rest : List Token) → Q x rest → Faults (f x rest) E) → Faults (and_then r f) E
+then_faults (Ok p) f Q E read first more = more p.0 p.1 read
+then_faults (Err e) f Q E read first more = first
+
+then_none : {A B : Type 0} (r : Outcome QueryFault A) (f : A → Reader B) (E : QueryFault → Type 0) → Faults r E → ((x : A) (rest : List Token) → Faults (f x rest) E) → Faults (and_then r f) E
+then_none (Ok p) f E first more = more p.0 p.1
+then_none (Err e) f E first more = first
+
+if_faults : {A : Type 0} (b : Bool) (x y : Outcome QueryFault A) (E : QueryFault → Type 0) → (b ≡ true → Faults x E) → (b ≡ false → Faults y E) → Faults (if b then x else y) E
+if_faults true x y E f g = f refl
+if_faults false x y E f g = g refl
+
+eaten_faults_by : {A : Type 0} (b : Bool) (ts : List Token) (p q : Reader A) (E : QueryFault → Type 0)
+    → (b ≡ true → Faults (p (next ts)) E) → (b ≡ false → Faults (q ts) E) → Faults ((if b then p else q) (if b then next ts else ts)) E
+eaten_faults_by true ts p q E f g = f refl
+eaten_faults_by false ts p q E f g = g refl
+
+eaten_faults : {A : Type 0} (wanted : TokenKind) (ts : List Token) (p q : Reader A) (E : QueryFault → Type 0)
+    → (sees wanted ts ≡ true → Faults (p (next ts)) E) → (sees wanted ts ≡ false → Faults (q ts) E) → Faults ((if sees wanted ts then p else q) (after wanted ts)) E
+unfolding after
+eaten_faults wanted ts p q E f g = eaten_faults_by (sees wanted ts) ts p q E f g
+
+expect_faults : (wanted : TokenKind) → Faultless (expect fault.Syntax wanted)
+unfolding expect
+expect_faults wanted E ts = if_faults (sees wanted ts) _ _ E (λ _. tt) (λ _. λ e. absurd (false≢true e))
+
+mapped_faults : {A B : Type 0} (f : B → A) (p : Reader B) → Faultless p → Faultless {A = A} (λ ts. and_then (p ts) (λ y rest. Ok (f y, rest)))
+mapped_faults f p none E ts = then_none (p ts) _ E (none E ts) (λ y rest. tt)
+
+-- ---- readers that answer no such fault
+
+name_faults : Faultless name
+unfolding name
+name_faults E ts = if_faults (sees k.Word ts && not (sees k.LeftParenthesis (next ts))) _ _ E (λ _. tt) (λ _. λ e. absurd (false≢true e))
+
+column_faults : Faultless column
+unfolding column
+column_faults E ts = then_none (name ts) _ E (name_faults E ts)
+    (λ first mid. eaten_faults k.Point mid _ _ E (λ _. then_none (name (next mid)) _ E (name_faults E (next mid)) (λ x rest. tt)) (λ _. tt))
+
+string_faults : Faultless string
+unfolding string
+string_faults E ts = if_faults (sees k.Text ts) _ _ E (λ _. tt) (λ _. λ e. absurd (false≢true e))
+
+enclosed_faults : {A : Type 0} (inside : Reader A) → Faultless inside → Faultless (enclosed inside)
+enclosed_faults inside none E ts = then_none (expect fault.Syntax k.LeftParenthesis ts) _ E (expect_faults k.LeftParenthesis E ts)
+    (λ _ ts1. then_none (inside ts1) _ E (none E ts1) (λ x ts2. then_none (expect fault.Syntax k.RightParenthesis ts2) _ E (expect_faults k.RightParenthesis E ts2) (λ _ rest. tt)))
+
+-- none of some functions answers such a fault
+abbrev pub AllFaultless : {A : Type 0} → Functions A → Type 1
+AllFaultless [] = Unit {1}
+AllFaultless (f ∷ more) = Faultless f.1 × AllFaultless more
+
+called_faults : {A : Type 0} (functions : Functions A) (other : Reader A) (ts : List Token) (E : QueryFault → Type 0) → AllFaultless functions → Faults (other ts) E
+    → Faults (called_or functions other ts) E
+called_faults [] other ts E each none = none
+called_faults (f ∷ more) other ts E each none = if_faults (calls f.0 ts) _ _ E (λ _. each.0 E (next ts)) (λ _. called_faults more other ts E each.1 none)
+
+geometry_faults : Faultless geometry
+unfolding geometry
+geometry_faults E ts = if_faults (calls (codes "ST_GeomFromText") ts) _ _ E
+    (λ _. enclosed_faults _ (mapped_faults _ string string_faults) E (next ts)) (λ _. mapped_faults _ column column_faults E ts)
+
+operand_functions_faults : (functions : Bool) (at : ℕ) → AllFaultless (operand_functions functions at)
+operand_functions_faults false at = tt
+operand_functions_faults true at = (enclosed_faults _ (mapped_faults _ geometry geometry_faults), (enclosed_faults _ (mapped_faults _ geometry geometry_faults), tt))
+
+null_faults : {A : Type 0} (left : WrittenOperand A) → Faultless (null_test left)
+unfolding null_test
+null_faults left E ts = then_none (expect fault.Syntax k.Null (after k.Not ts)) _ E (expect_faults k.Null E (after k.Not ts)) (λ _ rest. tt)
+
+value_faults : {A : Type 0} (x : WrittenCond A) → Faultless (truth_value x)
+unfolding truth_value
+value_faults x E ts = if_faults (sees k.Integer ts && digits_value 10 (spelling ts) == 1) _ _ E (λ _. tt)
+    (λ _. if_faults (sees k.Integer ts && digits_value 10 (spelling ts) == 0) _ _ E (λ _. tt) (λ _. λ e. absurd (false≢true e)))
+
+test_faults : {A : Type 0} (x : WrittenCond A) → Faultless (truth_test x)
+unfolding truth_test
+test_faults x E ts = eaten_faults k.Equal ts _ _ E (λ _. value_faults x E (next ts)) (λ _. tt)
+
+tested_faults : {A : Type 0} (arguments : Reader (WrittenCond A)) → Faultless arguments → Faultless (tested arguments)
+tested_faults arguments none E ts = then_none (enclosed arguments ts) _ E (enclosed_faults arguments none E ts) (λ x rest. test_faults x E rest)
+
+relates_faults : (at : ℕ) (predicate : Predicate) → Faultless (relates at predicate)
+unfolding relates
+relates_faults at predicate E ts = then_none (geometry ts) _ E (geometry_faults E ts)
+    (λ a ts1. then_none (expect fault.Syntax k.Comma ts1) _ E (expect_faults k.Comma E ts1) (λ _ ts2. then_none (geometry ts2) _ E (geometry_faults E ts2) (λ b rest. tt)))
+
+relates_by_faults : (at : ℕ) → Faultless (relates_by at)
+unfolding relates_by
+relates_by_faults at E ts = then_none (geometry ts) _ E (geometry_faults E ts)
+    (λ a ts1. then_none (expect fault.Syntax k.Comma ts1) _ E (expect_faults k.Comma E ts1) (λ _ ts2. then_none (geometry ts2) _ E (geometry_faults E ts2)
+    (λ b ts3. then_none (expect fault.Syntax k.Comma ts3) _ E (expect_faults k.Comma E ts3) (λ _ ts4. then_none (string ts4) _ E (string_faults E ts4) (λ pattern rest. tt)))))
+
+predicate_functions_faults : (functions : Bool) (at : ℕ) → AllFaultless (predicate_functions functions at)
+predicate_functions_faults false at = tt
+predicate_functions_faults true at =
+    let named : (predicate : Predicate) → Faultless (tested (relates at predicate)) = λ predicate. tested_faults (relates at predicate) (relates_faults at predicate) in (
+      named p.Equals,
+      (
+        named p.Disjoint,
+        (
+          named p.Intersects,
+          (
+            named p.Touches,
+            (
+              named p.Crosses,
+              (
+                named p.Within,
+                (
+                  named p.Contains,
+                  (
+                    named p.Overlaps,
+                    (tested_faults (relates_by at) (relates_by_faults at), (tested_faults _ (mapped_faults (c.IsEmpty at) geometry geometry_faults), tt)),
+                  ),
+                ),
+              ),
+            ),
+          ),
+        ),
+      ),
+    )
+
+item_functions_faults : (functions : Bool) (at : ℕ) → AllFaultless (item_functions functions at)
+item_functions_faults false at = tt
+item_functions_faults true at =
+    (enclosed_faults _ (mapped_faults _ column column_faults), (enclosed_faults _ (mapped_faults _ column column_faults), (enclosed_faults _ (mapped_faults _ column column_faults), tt)))
+
+item_faults : (functions : Bool) → Faultless (item functions)
+unfolding item
+item_faults functions E ts = called_faults (item_functions functions (place ts)) _ ts E (item_functions_faults functions (place ts)) (mapped_faults _ column column_faults E ts)
+
+parts_faultless : {A : Type 0} (between : TokenKind) (part : Reader A) → Faultless part → (n : ℕ) (found : List A) → Faultless (parts_from fault.Syntax between part n found)
+unfolding parts_from
+parts_faultless between part none zero found E ts = λ e. absurd (false≢true e)
+parts_faultless between part none (suc n) found E ts = then_none (part ts) _ E (none E ts)
+    (λ x mid. eaten_faults between mid _ _ E (λ _. parts_faultless between part none n (found ++ x ∷ []) E (next mid)) (λ _. tt))
+
+selection_faults : (functions : Bool) → Faultless (selection functions)
+unfolding selection
+selection_faults functions E ts = if_faults (sees k.Star ts) _ _ E (λ _. tt)
+    (λ _. then_none (items functions ts) _ E (parts_faultless k.Comma (item functions) (item_faults functions) (length ts) [] E ts) (λ xs rest. tt))
+
+alias_faults : Faultless alias
+unfolding alias
+alias_faults E ts = if_faults (sees k.As ts) _ _ E (λ _. then_none (name (next ts)) _ E (name_faults E (next ts)) (λ x rest. tt))
+    (λ _. if_faults (sees k.Word ts) _ _ E (λ _. then_none (name ts) _ E (name_faults E ts) (λ x rest. tt)) (λ _. tt))
+
+reference_faults : Faultless reference
+unfolding reference
+reference_faults E ts = then_none (name ts) _ E (name_faults E ts) (λ table mid. then_none (alias mid) _ E (alias_faults E mid) (λ given rest. tt))
+
+crossed_faults : (functions : Bool) → Faultless (crossed functions)
+unfolding crossed
+crossed_faults functions E ts = then_none (reference ts) _ E (reference_faults E ts) (λ x rest. tt)
+
+explained_faults : (served : Served) → Faultless (explained served)
+explained_faults served E ts = if_faults (served.explain && says (codes "EXPLAIN") ts) _ _ E
+    (λ _. if_faults (served.analyze && says (codes "ANALYZE") (next ts)) _ _ E (λ _. tt) (λ _. tt)) (λ _. tt)
+
+-- ---- what was taken
+
+-- three phrases in a row, grouped the other way
+regroup : (P Q R : Phrase) (all ts : List Token) → Took all ((P ▸ Q) ▸ R) ts → Took all (P ▸ Q ▸ R) ts
+regroup P Q R all ts took = but ((P ▸ Q) ▸ R) (P ▸ Q ▸ R) all ts took (λ used p. turned used p)
+  where
+    turned : (used : List Token) → ((P ▸ Q) ▸ R) used → (P ▸ Q ▸ R) used
+    turned used (x, r, e, (a, b, e2, p, q), h) = (a, b ++ r, e ∙ ap (λ l. l ++ r) e2 ∙ append_assoc a b r, p, (b, r, refl, q, h))
+
+-- nothing more was taken
+none_more : (P Q : Phrase) (all ts : List Token) → ((used : List Token) → used ≡ [] → Q used) → Took all P ts → Took all (P ▸ Q) ts
+none_more P Q all ts nothing took = seq P Q all ts ts took ([], refl, nothing [] refl)
+
+-- one more part was taken, with the token behind it, after parts that stand behind a phrase
+part_more : {A : Type 0} (C end : Phrase) (P : A → Phrase) (xs : List A) (x : A) (all ts mid rest : List Token) → Took all (C ▸ AreEnded end P xs) ts → Took ts (P x) mid → Took mid end rest
+    → Took all (C ▸ AreEnded end P (xs ++ x ∷ [])) rest
+part_more C end P xs x all ts mid rest before read last =
+    but ((C ▸ AreEnded end P xs) ▸ (P x ▸ end)) (C ▸ AreEnded end P (xs ++ x ∷ [])) all rest
+    (seq (C ▸ AreEnded end P xs) (P x ▸ end) all ts rest before (seq (P x) end ts mid rest read last)) (λ used p. joined used p)
+  where
+    joined : (used : List Token) → ((C ▸ AreEnded end P xs) ▸ (P x ▸ end)) used → (C ▸ AreEnded end P (xs ++ x ∷ [])) used
+    joined used (y, r, e, (a, b, e2, h, ended), last) =
+        (a, b ++ r, e ∙ ap (λ l. l ++ r) e2 ∙ append_assoc a b r, h, ended_more end P xs x b r ended last)
+
+-- ---- the rules set aside take what the rules take
+
+parts_but : {A : Type 0} (between : TokenKind) (P Q : A → Phrase) → ((x : A) (ts : List Token) → P x ts → Q x ts) → (more : List A) (x : A) (ts : List Token)
+    → IsParts between P x more ts → IsParts between Q x more ts
+parts_but between P Q f [] x ts p = f x ts p
+parts_but between P Q f (y ∷ more) x ts (a, b, e, p, (u, d, e2, q, h)) = (a, b, e, f x a p, (u, d, e2, q, parts_but between P Q f more y d h))
+
+chain_but : {A : Type 0} (between : TokenKind) (join : List (WrittenCond A) → WrittenCond A) (P Q : WrittenCond A → Phrase) → ((x : WrittenCond A) (ts : List Token) → P x ts → Q x ts)
+    → (x : WrittenCond A) (ts : List Token) → IsChain between join P x ts → IsChain between join Q x ts
+chain_but between join P Q f x ts (inl p) = inl (f x ts p)
+chain_but between join P Q f x ts (inr (first, second, more, e, p)) = inr (first, second, more, e, parts_but between P Q f (second ∷ more) first ts p)
+
+condition_but : {A : Type 0} (P Q : WrittenCond A → Phrase) → ((x : WrittenCond A) (ts : List Token) → P x ts → Q x ts) → (x : WrittenCond A) (ts : List Token) → IsConditionOf P x ts → IsConditionOf Q x ts
+condition_but P Q f = chain_but k.Or c.Or (IsConjunction P) (IsConjunction Q) (chain_but k.And c.And P Q f)
+
+negation_but : {A : Type 0} (P Q : WrittenCond A → Phrase) → ((x : WrittenCond A) (ts : List Token) → P x ts → Q x ts) → (levels : ℕ) (x : WrittenCond A) (ts : List Token)
+    → IsNegationOf P levels x ts → IsNegationOf Q levels x ts
+unfolding IsNegationOf
+negation_but P Q f zero x ts p = f x ts p
+negation_but P Q f (suc levels) x ts (inl (y, e, (a, b, e2, isnt, p))) = inl (y, e, (a, b, e2, isnt, negation_but P Q f levels y b p))
+negation_but P Q f (suc levels) x ts (inr (inl (a, b, e, left, (d, r, e2, p, right)))) =
+    inr (inl (a, b, e, left, (d, r, e2, condition_but (IsNegationOf P levels) (IsNegationOf Q levels) (negation_but P Q f levels) x d p, right)))
+negation_but P Q f (suc levels) x ts (inr (inr p)) = inr (inr (f x ts p))
+
+predicate_but : (functions : Bool) (P Q : ServedOperand functions → Phrase) → ((x : ServedOperand functions) (ts : List Token) → P x ts → Q x ts) → (x : ServedCond functions) (ts : List Token)
+    → IsPredicateOf functions P x ts → IsPredicateOf functions Q x ts
+predicate_but functions P Q f x ts (inl (comparison, left, right, e, (a, b, e2, p, (m, d, e3, q, h)))) = inl (comparison, left, right, e, (a, b, e2, f left a p, (m, d, e3, q, f right d h)))
+predicate_but functions P Q f x ts (inr (inl (operand, e, (a, b, e2, p, q)))) = inr (inl (operand, e, (a, b, e2, f operand a p, q)))
+predicate_but functions P Q f x ts (inr (inr (inl (operand, e, (a, b, e2, p, q))))) = inr (inr (inl (operand, e, (a, b, e2, f operand a p, q))))
+predicate_but functions P Q f x ts (inr (inr (inr p))) = inr (inr (inr p))
+
+any_negation : (functions : Bool) (levels : ℕ) (x : ServedCond functions) (ts : List Token) → IsNegation functions levels x ts → IsAnyNegation functions x ts
+any_negation functions levels x ts p =
+    (levels, negation_but (IsPredicate functions) (IsPredicateOf functions (IsAnyOperand functions)) (predicate_but functions (IsOperand functions) (IsAnyOperand functions) (λ y us q. inl q)) levels x ts p)
+
+any_condition : (functions : Bool) (x : ServedCond functions) (ts : List Token) → IsCondition functions x ts → IsAnyCondition functions x ts
+any_condition functions = condition_but (IsNegation functions most_levels) (IsAnyNegation functions) (any_negation functions most_levels)
+
+negation_read : (functions : Bool) (levels : ℕ) → Sound (negation functions levels) (IsAnyNegation functions)
+negation_read functions levels ts =
+    map_read (negation functions levels ts) (λ x rest. Took ts (IsNegation functions levels x) rest) (λ x rest. Took ts (IsAnyNegation functions x) rest)
+    (λ x rest q. but (IsNegation functions levels x) (IsAnyNegation functions x) ts rest q (any_negation functions levels x)) (negation_sound functions levels ts)
+
+-- ---- operands
+
+digits_faults : (A : Type 0) (E : QueryFault → Type 0) (at : ℕ) (rest : List Token) (v : Option ℤ) → (v ≡ None → E (fault.NumberTooBig at)) → Faults {A = WrittenOperand A} (integer_or v at rest) E
+digits_faults A E at rest None h = λ _. h refl
+digits_faults A E at rest (Some n) h = tt
+
+integer_faults : (A : Type 0) (negative : Bool) (E : QueryFault → Type 0) (ts : List Token) → (sees k.Integer ts ≡ true → integer_value negative (spelling ts) ≡ None → E (fault.NumberTooBig (place ts)))
+    → Faults {A = WrittenOperand A} (integer negative ts) E
+unfolding integer
+integer_faults A negative E ts h =
+    if_faults (sees k.Integer ts) _ _ E (λ is. digits_faults A E (place ts) (next ts) (integer_value negative (spelling ts)) (h is)) (λ _. λ e. absurd (false≢true e))
+
+big_here : (served : Served) (all : List Token) (P : Phrase) (negative : Bool) (ts : List Token) → Took all P ts → sees k.Integer ts ≡ true → integer_value negative (spelling ts) ≡ None
+    → ((before : List Token) (t : Token) → P before → t.kind ≡ k.Integer → integer_value negative t.text ≡ None → IsTooBig served before t)
+    → StandsIn served all (fault.NumberTooBig (place ts))
+unfolding sees kind place spelling
+big_here served all P negative [] took is none f = absurd (let e = same k.Bad k.Integer is in cc)
+big_here served all P negative (t ∷ rest) took is none f = (took.0, rest, t, took.1, (refl, f took.0 t took.2 (same t.kind k.Integer is) none))
+
+operand_faults : (served : Served) (all ts : List Token) → Took all (BeforeOperand served) ts → Faults (operand served.functions ts) (StandsIn served all)
+unfolding operand
+operand_faults served all ts took =
+    let A : Type 0 = Argument served.functions in
+    let E : QueryFault → Type 0 = StandsIn served all in
+    let B : Phrase = BeforeOperand served in
+    if_faults (sees k.Null ts) _ _ E (λ _. tt)
+    (λ _. if_faults (sees k.Text ts) _ _ E (λ _. tt)
+    (λ _. if_faults (sees k.Plus ts) _ _ E
+    (λ h. integer_faults A false E (next ts) (λ is none. big_here served all (B ▸ IsToken k.Plus) false (next ts) (seq B (IsToken k.Plus) all ts (next ts) took (one k.Plus ts (λ e. cc) h)) is none
+    (λ before t p digits big. (digits, inr (inl (big, p))))))
+    (λ _. if_faults (sees k.Minus ts) _ _ E
+    (λ h. integer_faults A true E (next ts) (λ is none. big_here served all (B ▸ IsToken k.Minus) true (next ts) (seq B (IsToken k.Minus) all ts (next ts) took (one k.Minus ts (λ e. cc) h)) is none
+    (λ before t p digits big. (digits, inr (inr (big, p))))))
+    (λ _. if_faults (sees k.Integer ts) _ _ E
+    (λ _. integer_faults A false E ts (λ is none. big_here served all B false ts took is none (λ before t p digits big. (digits, inl (big, p)))))
+    (λ _. called_faults (operand_functions served.functions (place ts)) _ ts E (operand_functions_faults served.functions (place ts)) (mapped_faults _ column column_faults E ts))))))
+
+-- ---- predicates
+
+compared_faults : (served : Served) (all : List Token) (opened : ℕ) (at : ℕ) (left : ServedOperand served.functions) (start ts : List Token) (v : Option Comparison)
+    → Took all (BeforeNegation served opened) start → Took start (IsOperand served.functions left) ts → comparison_of (kind ts) ≡ v
+    → Faults (compared_by served.functions at left v ts) (StandsIn served all)
+compared_faults served all opened at left start ts None stood read e = λ e. absurd (false≢true e)
+compared_faults served all opened at left start ts (Some comparison) stood read e =
+    let O : Phrase = IsAnyOperand served.functions left in
+    let both : Took all (BeforeNegation served opened ▸ O ▸ IsComparison comparison) (next ts) =
+    seq (BeforeNegation served opened) (O ▸ IsComparison comparison) all start (next ts) stood
+    (seq O (IsComparison comparison) start ts (next ts) (but (IsOperand served.functions left) O start ts read (λ used p. inl p)) (comparison_taken ts comparison e)) in
+    then_none (operand served.functions (next ts)) _ (StandsIn served all)
+    (operand_faults served all (next ts) (but (BeforeNegation served opened ▸ O ▸ IsComparison comparison) (BeforeOperand served) all (next ts) both (λ used p. (opened, inr (left, comparison, p)))))
+    (λ right rest. tt)
+
+comparison_faults : (served : Served) (all : List Token) (opened : ℕ) (ts : List Token) → Took all (BeforeNegation served opened) ts → Faults (comparison served.functions ts) (StandsIn served all)
+unfolding comparison compared
+comparison_faults served all opened ts took =
+    let E : QueryFault → Type 0 = StandsIn served all in
+    then_faults (operand served.functions ts) _ (λ x rest. Took ts (IsOperand served.functions x) rest) E (operand_sound served.functions ts)
+    (operand_faults served all ts (but (BeforeNegation served opened) (BeforeOperand served) all ts took (λ used p. (opened, inl p))))
+    (λ left mid read. eaten_faults k.Is mid _ _ E (λ _. null_faults left E (next mid))
+    (λ _. compared_faults served all opened (place ts) left ts mid (comparison_of (kind mid)) took read refl))
+
+predicate_faults : (served : Served) (all : List Token) (opened : ℕ) (ts : List Token) → Took all (BeforeNegation served opened) ts → Faults (predicate served.functions ts) (StandsIn served all)
+unfolding predicate
+predicate_faults served all opened ts took =
+    called_faults (predicate_functions served.functions (place ts)) (comparison served.functions) ts (StandsIn served all)
+    (predicate_functions_faults served.functions (place ts)) (comparison_faults served all opened ts took)
+
+-- ---- conditions
+
+parts_faults : {A : Type 0} (between : TokenKind) (part : Reader A) (P : A → Phrase) (C : Phrase) (all : List Token) (E : QueryFault → Type 0) → (k.Bad ≡ between → ⊥) → Sound part P
+    → ((xs : List A) (ts : List Token) → Took all (C ▸ AreEnded (IsToken between) P xs) ts → Faults (part ts) E)
+    → (n : ℕ) (found xs : List A) (ts : List Token) → Took all (C ▸ AreEnded (IsToken between) P xs) ts → Faults (parts_from fault.Syntax between part n found ts) E
+unfolding parts_from
+parts_faults between part P C all E good sound each zero found xs ts took = λ e. absurd (false≢true e)
+parts_faults between part P C all E good sound each (suc n) found xs ts took =
+    then_faults (part ts) _ (λ x rest. Took ts (P x) rest) E (sound ts) (each xs ts took)
+    (λ x mid read. eaten_faults between mid _ _ E
+    (λ h. parts_faults between part P C all E good sound each n (found ++ x ∷ []) (xs ++ x ∷ []) (next mid)
+    (part_more C (IsToken between) P xs x all ts mid (next mid) took read (one between mid good h)))
+    (λ _. tt))
+
+chain_faults : {A : Type 0} (between : TokenKind) (join : List (WrittenCond A) → WrittenCond A) (part : Reader (WrittenCond A)) (P : WrittenCond A → Phrase) (C : Phrase) (all : List Token) (E : QueryFault → Type 0)
+    → (k.Bad ≡ between → ⊥) → Sound part P → ((xs : List (WrittenCond A)) (ts : List Token) → Took all (C ▸ AreEnded (IsToken between) P xs) ts → Faults (part ts) E)
+    → (ts : List Token) → Took all C ts → Faults (chain between join part ts) E
+chain_faults {A} between join part P C all E good sound each ts took =
+    let none : List (WrittenCond A) = [] in
+    let stood : Took all (C ▸ AreEnded (IsToken between) P none) ts = none_more C (AreEnded (IsToken between) P none) all ts (λ used e. e) took in
+    then_faults (part ts) _ (λ x rest. Took ts (P x) rest) E (sound ts) (each none ts stood)
+    (λ first mid read. eaten_faults between mid _ _ E
+    (λ h. then_none (parts_from fault.Syntax between part (length (next mid)) (first ∷ []) (next mid)) _ E
+    (parts_faults between part P C all E good sound each (length (next mid)) (first ∷ []) (first ∷ []) (next mid)
+    (part_more C (IsToken between) P none first all ts mid (next mid) stood read (one between mid good h)))
+    (λ xs rest. tt))
+    (λ _. tt))
+
+conjunction_sound : {A : Type 0} (part : Reader (WrittenCond A)) (P : WrittenCond A → Phrase) → Sound part P → Sound (conjunction part) (IsConjunction P)
+conjunction_sound part P sound = chain_sound k.And c.And part P (λ e. cc) sound
+
+condition_of_faults : {A : Type 0} (part : Reader (WrittenCond A)) (P : WrittenCond A → Phrase) (C : Phrase) (all : List Token) (E : QueryFault → Type 0) → Sound part P
+    → ((ors ands : List (WrittenCond A)) (ts : List Token) → Took all (C ▸ AreEnded (IsToken k.Or) (IsConjunction P) ors ▸ AreEnded (IsToken k.And) P ands) ts → Faults (part ts) E)
+    → (ts : List Token) → Took all C ts → Faults (condition_of part ts) E
+condition_of_faults part P C all E sound each =
+    chain_faults k.Or c.Or (conjunction part) (IsConjunction P) C all E (λ e. cc) (conjunction_sound part P sound)
+    (λ ors ts took. chain_faults k.And c.And part P (C ▸ AreEnded (IsToken k.Or) (IsConjunction P) ors) all E (λ e. cc) sound
+    (λ ands ts2 took2. each ors ands ts2 (regroup C (AreEnded (IsToken k.Or) (IsConjunction P) ors) (AreEnded (IsToken k.And) P ands) all ts2 took2)) ts took)
+
+-- what stood before the parts of a condition, and those
+with_parts : (functions : Bool) (C : Phrase) (ors ands : List (ServedCond functions)) (all ts : List Token)
+    → Took all (C ▸ AreEnded (IsToken k.Or) (IsConjunction (IsAnyNegation functions)) ors ▸ AreEnded (IsToken k.And) (IsAnyNegation functions) ands) ts → Took all (C ▸ AreParts functions) ts
+with_parts functions C ors ands all ts took = but _ (C ▸ AreParts functions) all ts took (λ used p. (p.0, p.1, p.2, p.3, (ors, ands, p.4)))
+
+group_faults : (functions : Bool) (part : Reader (ServedCond functions)) (C : Phrase) (all : List Token) (E : QueryFault → Type 0) → Sound part (IsAnyNegation functions)
+    → ((ts : List Token) → Took all (C ▸ AreParts functions) ts → Faults (part ts) E) → (ts : List Token) → Took all C ts → Faults (group part ts) E
+group_faults functions part C all E sound each ts took =
+    then_none (condition_of part ts) _ E
+    (condition_of_faults part (IsAnyNegation functions) C all E sound (λ ors ands us stood. each us (with_parts functions C ors ands all us stood)) ts took)
+    (λ x mid. then_none (expect fault.Syntax k.RightParenthesis mid) _ E (expect_faults k.RightParenthesis E mid) (λ _ rest. tt))
+
+either_true : (X : Type 0) (a b : Bool) → (a || b) ≡ true → (a ≡ true → X) → (b ≡ true → X) → X
+either_true X true b h f g = f refl
+either_true X false b h f g = g h
+
+deep_here : (served : Served) (all ts : List Token) → Took all (BeforeNegation served most_levels) ts → (sees k.Not ts || sees k.LeftParenthesis ts) ≡ true
+    → StandsIn served all (fault.TooDeep (place ts))
+unfolding sees kind place same_kind
+deep_here served all [] took h = absurd (false≢true h)
+deep_here served all (t ∷ rest) took h = (
+  took.0,
+  rest,
+  t,
+  took.1,
+  (
+    refl,
+    (
+      either_true ((t.kind ≡ k.Not) ⊎ (t.kind ≡ k.LeftParenthesis)) (same_kind t.kind k.Not) (same_kind t.kind k.LeftParenthesis) h
+          (λ is. inl (same t.kind k.Not is)) (λ is. inr (same t.kind k.LeftParenthesis is)),
+      took.2,
+    ),
+  ),
+)
+
+negation_faults : (served : Served) (all : List Token) (levels opened : ℕ) → opened + levels ≡ most_levels → (ts : List Token) → Took all (BeforeNegation served opened) ts
+    → Faults (negation served.functions levels ts) (StandsIn served all)
+unfolding negation BeforeNegation
+negation_faults served all zero opened count ts took =
+    if_faults (sees k.Not ts || sees k.LeftParenthesis ts) _ _ (StandsIn served all)
+    (λ h. λ _. let full : opened ≡ most_levels = omega (arith, count) in deep_here served all ts (subst (λ n. Took all (BeforeNegation served n) ts) full took) h)
+    (λ _. predicate_faults served all opened ts took)
+negation_faults served all (suc levels) opened count ts took =
+    let F : Bool = served.functions in
+    let E : QueryFault → Type 0 = StandsIn served all in
+    let B : Phrase = BeforeNegation served opened in
+    let more : suc opened + levels ≡ most_levels = omega (arith, count) in
+    if_faults (sees k.Not ts) _ _ E
+    (λ h. then_none (negation F levels (next ts)) _ E
+    (negation_faults served all levels (suc opened) more (next ts)
+    (but (B ▸ IsToken k.Not) (BeforeNegation served (suc opened)) all (next ts) (seq B (IsToken k.Not) all ts (next ts) took (one k.Not ts (λ e. cc) h)) (λ used p. inl p)))
+    (λ y rest. tt))
+    (λ _. if_faults (sees k.LeftParenthesis ts) _ _ E
+    (λ h. group_faults F (negation F levels) (B ▸ IsToken k.LeftParenthesis) all E (negation_read F levels)
+    (λ us stood. negation_faults served all levels (suc opened) more us
+    (but (B ▸ IsToken k.LeftParenthesis ▸ AreParts F) (BeforeNegation served (suc opened)) all us (regroup B (IsToken k.LeftParenthesis) (AreParts F) all us stood) (λ used p. inr p)))
+    (next ts) (seq B (IsToken k.LeftParenthesis) all ts (next ts) took (one k.LeftParenthesis ts (λ e. cc) h)))
+    (λ _. predicate_faults served all opened ts took))
+
+condition_faults : (served : Served) (C : Phrase) (all : List Token) → ((ts : List Token) → Took all (C ▸ AreParts served.functions) ts → Took all (BeforeNegation served 0) ts)
+    → (ts : List Token) → Took all C ts → Faults (condition served.functions ts) (StandsIn served all)
+condition_faults served C all begins ts took =
+    condition_of_faults (negation served.functions most_levels) (IsAnyNegation served.functions) C all (StandsIn served all) (negation_read served.functions most_levels)
+    (λ ors ands us stood. negation_faults served all most_levels 0 refl us (begins us (with_parts served.functions C ors ands all us stood))) ts took
+
+-- ---- queries
+
+and_first : (a b : Bool) → (a && b) ≡ true → a ≡ true
+and_first true b h = refl
+and_first false b h = h
+
+joined_on_faults : (served : Served) (all start ts : List Token) → served.second_reference ≡ true → Took all (BeforeSecond served) start → Took start (IsOptional k.Inner) ts
+    → Faults (joined_on served.functions ts) (StandsIn served all)
+unfolding joined_on BeforeNegation
+joined_on_faults served all start ts is_served took inner =
+    let E : QueryFault → Type 0 = StandsIn served all in
+    then_faults (expect fault.Syntax k.Join ts) _ (λ _ rest. Took ts (IsToken k.Join) rest) E (expect_sound k.Join ts (λ e. cc)) (expect_faults k.Join E ts)
+    (λ _ ts1 p1. then_faults (reference ts1) _ (λ x rest. Took ts1 (IsReference x) rest) E (reference_sound ts1) (reference_faults E ts1)
+    (λ given ts2 p2. then_faults (expect fault.Syntax k.On ts2) _ (λ _ rest. Took ts2 (IsToken k.On) rest) E (expect_sound k.On ts2 (λ e. cc)) (expect_faults k.On E ts2)
+    (λ _ ts3 p3.
+    let stood : Took all (BeforeOn served) ts3 = but (BeforeSecond served ▸ IsOptional k.Inner ▸ IsToken k.Join ▸ IsReference given ▸ IsToken k.On) (BeforeOn served) all ts3
+    (seq (BeforeSecond served) (IsOptional k.Inner ▸ IsToken k.Join ▸ IsReference given ▸ IsToken k.On) all start ts3 took
+    (seq (IsOptional k.Inner) (IsToken k.Join ▸ IsReference given ▸ IsToken k.On) start ts ts3 inner
+    (seq (IsToken k.Join) (IsReference given ▸ IsToken k.On) ts ts1 ts3 p1 (seq (IsReference given) (IsToken k.On) ts1 ts2 ts3 p2 p3))))
+    (λ used p. (is_served, given, p)) in
+    then_none (condition served.functions ts3) _ E
+    (condition_faults served (BeforeOn served) all (λ us h. but (BeforeOn served ▸ AreParts served.functions) (BeforeNegation served 0) all us h (λ used p. inl p)) ts3 stood)
+    (λ x rest. tt))))
+
+second_faults : (served : Served) (all ts : List Token) → Took all (BeforeSecond served) ts → Faults (second served ts) (StandsIn served all)
+second_faults served all ts took =
+    let F : Bool = served.functions in
+    let E : QueryFault → Type 0 = StandsIn served all in
+    if_faults (served.second_reference && sees k.Comma ts) _ _ E (λ _. crossed_faults F E (next ts))
+    (λ _. if_faults (served.second_reference && sees k.Cross ts) _ _ E
+    (λ _. then_none (expect fault.Syntax k.Join (next ts)) _ E (expect_faults k.Join E (next ts)) (λ _ mid. crossed_faults F E mid))
+    (λ _. if_faults (served.second_reference && (sees k.Inner ts || sees k.Join ts)) _ _ E
+    (λ h. joined_on_faults served all ts (after k.Inner ts) (and_first _ _ h) took (optional k.Inner ts (λ e. cc))) (λ _. tt)))
+
+-- JOIN and ON with what stands between them, apart from the condition
+on_alone : (functions : Bool) (given : WrittenReference) (x : ServedCond functions) (used : List Token)
+    → (IsOptional k.Inner ▸ IsToken k.Join ▸ IsReference given ▸ IsToken k.On ▸ IsCondition functions x) used
+    → ((IsOptional k.Inner ▸ IsToken k.Join ▸ IsReference given ▸ IsToken k.On) ▸ IsCondition functions x) used
+on_alone functions given x used (i, v1, e1, inner, (j, v2, e2, join, (r, v3, e3, reference, (o, v4, e4, on, cond)))) = (
+  i ++ (j ++ (r ++ o)),
+  v4,
+  e1 ∙ ap (λ l. i ++ l) (e2 ∙ ap (λ l. j ++ l) (e3 ∙ ap (λ l. r ++ l) e4 ∙ sym (append_assoc r o v4)) ∙ sym (append_assoc j (r ++ o) v4)) ∙ sym (append_assoc i (j ++ (r ++ o)) v4),
+  (i, j ++ (r ++ o), refl, inner, (j, r ++ o, refl, join, (r, o, refl, reference, on))),
+  cond,
+)
+
+-- what stands before WHERE's condition
+before_where : (served : Served) (both : Second served.functions) (used : List Token) → (BeforeSecond served ▸ IsBoth served both ▸ IsToken k.Where) used → BeforeWhere served used
+before_where served both used (a, b, e, p, (u, w, e2, inl (x, y, none), q)) = inl (a, w, e ∙ ap (λ l. a ++ l) (e2 ∙ ap (λ l. l ++ w) none), p, q)
+before_where served both used (a, b, e, p, (u, w, e2, inr (inl (is_served, given, x, y, crossed)), q)) = inr (inl (is_served, given, (a, b, e, p, (u, w, e2, crossed, q))))
+before_where served both used (a, b, e, p, (u, w, e2, inr (inr (is_served, given, on, x, y, joined)), q)) = go (on_alone served.functions given on u joined)
+  where
+    go : ((IsOptional k.Inner ▸ IsToken k.Join ▸ IsReference given ▸ IsToken k.On) ▸ IsCondition served.functions on) u → BeforeWhere served used
+    go (f, d, e3, front, cond) = inr (inr (
+      on,
+      (
+        a ++ f,
+        d ++ w,
+        e ∙ ap (λ l. a ++ l) (e2 ∙ ap (λ l. l ++ w) e3 ∙ append_assoc f d w) ∙ sym (append_assoc a f (d ++ w)),
+        (is_served, given, (a, f, refl, p, front)),
+        (d, w, refl, any_condition served.functions on d cond, q),
+      ),
+    ))
+
+where_faults : (served : Served) (both : Second served.functions) (all start ts : List Token) → Took all (BeforeSecond served) start → Took start (IsBoth served both) ts
+    → Faults (where_condition served.functions ts) (StandsIn served all)
+unfolding where_condition BeforeNegation
+where_faults served both all start ts took read =
+    let E : QueryFault → Type 0 = StandsIn served all in
+    eaten_faults k.Where ts _ _ E
+    (λ h. then_none (condition served.functions (next ts)) _ E
+    (condition_faults served (BeforeWhere served) all (λ us h. but (BeforeWhere served ▸ AreParts served.functions) (BeforeNegation served 0) all us h (λ used p. inr p)) (next ts)
+    (but (BeforeSecond served ▸ IsBoth served both ▸ IsToken k.Where) (BeforeWhere served) all (next ts)
+    (seq (BeforeSecond served) (IsBoth served both ▸ IsToken k.Where) all start (next ts) took (seq (IsBoth served both) (IsToken k.Where) start ts (next ts) read (one k.Where ts (λ e. cc) h)))
+    (before_where served both)))
+    (λ x rest. tt))
+    (λ _. tt)
+
+pub query_faults : (served : Served) (ts : List Token) → Faults (query served ts) (StandsIn served ts)
+unfolding query
+query_faults served ts =
+    let F : Bool = served.functions in
+    let E : QueryFault → Type 0 = StandsIn served ts in
+    then_faults (explained served ts) _ (λ x rest. Took ts (IsExplain served x) rest) E (explained_sound served ts) (explained_faults served E ts)
+    (λ told ts0 p0. then_faults (expect fault.Syntax k.Select ts0) _ (λ _ rest. Took ts0 (IsToken k.Select) rest) E (expect_sound k.Select ts0 (λ e. cc)) (expect_faults k.Select E ts0)
+    (λ _ ts1 p1. then_faults (selection F ts1) _ (λ x rest. Took ts1 (IsSelection F x) rest) E (selection_sound F ts1) (selection_faults F E ts1)
+    (λ listed ts2 p2. then_faults (expect fault.Syntax k.From ts2) _ (λ _ rest. Took ts2 (IsToken k.From) rest) E (expect_sound k.From ts2 (λ e. cc)) (expect_faults k.From E ts2)
+    (λ _ ts3 p3. then_faults (reference ts3) _ (λ x rest. Took ts3 (IsReference x) rest) E (reference_sound ts3) (reference_faults E ts3)
+    (λ first ts4 p4.
+    let stood : Took ts (BeforeSecond served) ts4 = but (IsExplain served told ▸ IsToken k.Select ▸ IsSelection F listed ▸ IsToken k.From ▸ IsReference first) (BeforeSecond served) ts ts4
+    (seq (IsExplain served told) _ ts ts0 ts4 p0 (seq (IsToken k.Select) _ ts0 ts1 ts4 p1 (seq (IsSelection F listed) _ ts1 ts2 ts4 p2 (seq (IsToken k.From) (IsReference first) ts2 ts3 ts4 p3 p4))))
+    (λ used p. (told, listed, first, p)) in
+    then_faults (second served ts4) _ (λ x rest. Took ts4 (IsBoth served x) rest) E (second_sound served ts4) (second_faults served ts ts4 stood)
+    (λ both ts5 p5. then_none (where_condition F ts5) _ E (where_faults served both ts ts4 ts5 stood p5)
+    (λ filter ts6. then_none (expect fault.Syntax k.End (after k.Semicolon ts6)) _ E (expect_faults k.End E (after k.Semicolon ts6)) (λ _ rest. tt))))))))
+
+-- ---- texts
+
+by_value : {A : Type 0} (text : List ℕ) (E : QueryFault → Type 0) (r : Outcome QueryFault A) → Faults r E → IfErr (value_of r) (λ f. is_at_token f ≡ true → E f)
+by_value text E (Ok p) h = tt
+by_value text E (Err f) h = h
+
+in_text : (served : Served) (text : List ℕ) (r : Result (ServedQuery served) QueryFault) → length text ≤ most_bytes → bad_place (tokens true text) ≡ None
+    → IfErr r (λ f. is_at_token f ≡ true → StandsIn served (tokens true text) f) → IfErr r (StandsInQuery served text)
+in_text served text (Ok q) short good h = tt
+in_text served text (Err f) short good h = λ is. (short, good, h is)
+
+by_place : (served : Served) (text : List ℕ) (v : Option ℕ) → length text ≤ most_bytes → bad_place (tokens true text) ≡ v → IfErr (query_by served v (tokens true text)) (StandsInQuery served text)
+by_place served text None short good =
+    in_text served text (value_of (query served (tokens true text))) short good
+    (by_value text (StandsIn served (tokens true text)) (query served (tokens true text)) (query_faults served (tokens true text)))
+by_place served text (Some at) short bad = λ e. absurd (false≢true e)
+
+-- a fault at a token that is read stands there
+pub query_of_stands : (served : Served) (text : List ℕ) → IfErr (query_of served text) (StandsInQuery served text)
+unfolding query_of
+query_of_stands served text = go (nat_lt most_bytes (length text)) refl
+  where
+    go : (long : Bool) → nat_lt most_bytes (length text) ≡ long → IfErr (if long then Err fault.TooLong else query_by served (bad_place (tokens true text)) (tokens true text)) (StandsInQuery served text)
+    go true e = λ is. absurd (false≢true is)
+    go false e = by_place served text (bad_place (tokens true text)) (ltb-false most_bytes (length text) e) refl
+
+-- a fault at a token that is given stands there
+pub given_stands : (served : Served) (text : List ℕ) (r : Result (ServedQuery served) QueryFault) → Gives fault.OutOfMemory (λ q. q) r (query_of served text) → IfErr r (StandsInQuery served text)
+given_stands served text (Ok q) given = tt
+given_stands served text (Err f) given = λ is. subst (λ r. IfErr r (StandsInQuery served text)) (given (λ e. memory f is e)) (query_of_stands served text) is
+  where
+    memory : (f : QueryFault) → is_at_token f ≡ true → f ≡ fault.OutOfMemory → ⊥
+    memory f is e = false≢true (sym (ap is_at_token e) ∙ is)

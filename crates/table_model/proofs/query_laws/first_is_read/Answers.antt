@@ -1,5 +1,0 @@
-use Rattle.table_model.proofs.QueryFirst.{first_is_read}
-use Rattle.table_model.proofs.query_laws.first_is_read.Goals as goal
-
-pub returns : goal.returns
-returns c = first_is_read

@@ -1,5 +1,0 @@
-use Rattle.table_model.proofs.QueryLaws.{query_is_read}
-use Rattle.table_model.proofs.query_laws.query_is_read.Goals as goal
-
-pub returns : goal.returns
-returns c = query_is_read

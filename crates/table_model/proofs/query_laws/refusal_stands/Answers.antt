@@ -1,5 +1,0 @@
-use Rattle.table_model.proofs.QueryRefused.{query_of_stands}
-use Rattle.table_model.proofs.query_laws.refusal_stands.Goals as goal
-
-pub returns : goal.returns
-returns c = query_of_stands
