@@ -343,5 +343,7 @@ fn validity_words<'a>(fault: ValidityFault) -> FaultWords<'a>
         ValidityFault::RingsMeet(first, second) => FaultWords::paired(" V4 ", first, second),
         ValidityFault::HoleOutside(ring) => FaultWords::numbered(" V5 ", ring),
         ValidityFault::HolesNested(first, second) => FaultWords::paired(" V6 ", first, second),
+        ValidityFault::ElementsMeet(first, second) => FaultWords::paired(" V7 ", first, second),
+        ValidityFault::ElementInside(first, second) => FaultWords::paired(" V8 ", first, second),
     }
 }

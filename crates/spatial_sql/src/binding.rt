@@ -129,6 +129,8 @@ fn bound_query(
         references,
         items,
         conjuncts,
+        counts: false,
+        limit: None,
     })
 }
 

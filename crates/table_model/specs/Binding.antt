@@ -367,7 +367,7 @@ binding how schema query = do
   listed ← bound_items how schema references query.selection
   joining ← bound_condition how schema references query.on
   filtering ← bound_condition how schema references query.condition
-  Ok (record { explain = query.explain; references = references; items = listed; conjuncts = joining ++ filtering })
+  Ok (record { explain = query.explain; references = references; items = listed; conjuncts = joining ++ filtering; counts = false; limit = None })
 
 -- how geometry arguments are bound where none is served (profile)
 abbrev pub no_geometry : {T : Type 0} → GeometryBinding T NoGeometry NoGeometry NoGeometry NoGeometry

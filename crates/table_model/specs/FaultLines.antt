@@ -37,6 +37,8 @@ geometry_text (g.Invalid (v.RingNotSimple ring)) = codes "V3 " ++ decimal ring
 geometry_text (g.Invalid (v.RingsMeet i j)) = codes "V4 " ++ (decimal i ++ (codes " " ++ decimal j))
 geometry_text (g.Invalid (v.HoleOutside ring)) = codes "V5 " ++ decimal ring
 geometry_text (g.Invalid (v.HolesNested i j)) = codes "V6 " ++ (decimal i ++ (codes " " ++ decimal j))
+geometry_text (g.Invalid (v.ElementsMeet i j)) = codes "V7 " ++ (decimal i ++ (codes " " ++ decimal j))
+geometry_text (g.Invalid (v.ElementInside i j)) = codes "V8 " ++ (decimal i ++ (codes " " ++ decimal j))
 
 -- a fault of loading: the table's name, the code, and the record of a fault that has one (profile)
 abbrev pub load_text : List ℕ → LoadFault → List ℕ

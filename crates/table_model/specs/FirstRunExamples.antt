@@ -1,5 +1,5 @@
 -- Words for the worked run over a table of numbers and texts: its records, its queries, its rows.
-use Rattle.std.specs.Prelude.{ℕ, pos, true, List, [], ◌∷◌, codes, Some, None}
+use Rattle.std.specs.Prelude.{ℕ, pos, true, false, List, [], ◌∷◌, codes, Some, None}
 use Rattle.geometry_model.specs.Labels.{labelled_matrix}
 use Rattle.table_model.specs.AnswerTexts.{Writing, answer_records}
 use Rattle.table_model.specs.Binding.{Checked, binding, no_geometry}
@@ -115,6 +115,8 @@ query_of_columns columns conjuncts = record {
   references = record { table = 0; name = codes "t" } ∷ [];
   items = columns;
   conjuncts = conjuncts;
+  counts = false;
+  limit = None;
 }
 
 -- SELECT id, name FROM t WHERE pop > 5 AND NOT name = 'b' (profile)

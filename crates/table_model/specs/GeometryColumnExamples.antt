@@ -135,6 +135,8 @@ functions_query = record {
   references = record { table = 0; name = codes "t" } ∷ [];
   items = items.AsText geometry_place ∷ items.Dimension geometry_place ∷ items.IsEmpty geometry_place ∷ [];
   conjuncts = [];
+  counts = false;
+  limit = None;
 }
 
 -- the records of its answer over these rows (profile)

@@ -46,6 +46,7 @@ shape_named word =
     else if same_name word (codes "LINESTRING") then Some (Some shapes.LineString)
     else if same_name word (codes "MULTILINESTRING") then Some (Some shapes.MultiLineString)
     else if same_name word (codes "POLYGON") then Some (Some shapes.Polygon)
+    else if same_name word (codes "MULTIPOLYGON") then Some (Some shapes.MultiPolygon)
     else None
 
 -- whether a column takes geometries of this type (06-104r4, 7.2)

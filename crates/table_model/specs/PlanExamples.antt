@@ -1,5 +1,5 @@
 -- Words for worked rows of plans.
-use Rattle.std.specs.Prelude.{ℕ, suc, zero, ◌+◌, pos, List, [], ◌∷◌, map, Option, Some, None, option_map}
+use Rattle.std.specs.Prelude.{ℕ, suc, zero, ◌+◌, pos, false, List, [], ◌∷◌, map, Option, Some, None, option_map}
 use Rattle.geometry_model.specs.Geometries.{Geometry, Point, LineString, Polygon}
 use Rattle.geometry_model.specs.Labels.{labelled_matrix}
 use Rattle.geometry_model.specs.TextExamples.{at}
@@ -65,7 +65,7 @@ of table name = record { table = table; name = name }
 
 -- a query over references, with conjuncts (profile)
 abbrev pub query : List Reference → List Condition → Query
-query references conjuncts = record { explain = explains.No; references = references; items = []; conjuncts = conjuncts }
+query references conjuncts = record { explain = explains.No; references = references; items = []; conjuncts = conjuncts; counts = false; limit = None }
 
 -- the key and the geometry of a reference (profile)
 abbrev pub key : ℕ → ColumnPlace

@@ -72,12 +72,16 @@ pub struct Reference {
     pub name: Items<u8>,
 }
 
-/// A bound query: its one or two references, its items, and its conjuncts, those of ON before those of WHERE.
-/// (SQL, the query.)
+/// A bound query: its one or two references, its items, none where COUNT(*) stands, its conjuncts, those of ON before
+/// those of WHERE, and its limit, where there is one. (SQL, the query.)
 #[derive(Debug, Drop)]
 pub struct Bound<A, C> {
     pub explain: Explain,
     pub references: Items<Reference>,
     pub items: Items<Item<C>>,
     pub conjuncts: Items<Cond<A>>,
+    /// Whether COUNT(*) stands: the number of rows is wanted.
+    pub counts: bool,
+    /// LIMIT: so many rows at most are wanted.
+    pub limit: Option<u64>,
 }

@@ -15,6 +15,8 @@ fault_in (fault.RingNotSimple ring) = Some (validity.RingNotSimple ring)
 fault_in (fault.RingsMeet i j) = Some (validity.RingsMeet i j)
 fault_in (fault.HoleOutside ring) = Some (validity.HoleOutside ring)
 fault_in (fault.HolesNested i j) = Some (validity.HolesNested i j)
+fault_in (fault.ElementsMeet i j) = Some (validity.ElementsMeet i j)
+fault_in (fault.ElementInside i j) = Some (validity.ElementInside i j)
 fault_in fault.OutOfMemory = None
 
 -- the refusal is of this geometry's first fault, or of want of memory (profile)

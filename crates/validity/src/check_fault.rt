@@ -29,6 +29,12 @@ pub enum CheckFault {
     /// V6: of the two holes one is inside the other; the lesser number comes first.
     #[error("holes {0} and {1} are nested")]
     HolesNested(usize, usize),
+    /// V7: rings of the two elements share a point; the lesser number comes first.
+    #[error("elements {0} and {1} meet")]
+    ElementsMeet(usize, usize),
+    /// V8: the first element's outer ring is inside the second element.
+    #[error("element {0} is inside element {1}")]
+    ElementInside(usize, usize),
     /// Memory ran out. It is no fault of the geometry.
     #[error("out of memory")]
     OutOfMemory,
@@ -46,6 +52,8 @@ impl CheckFault {
             CheckFault::RingsMeet(i, j) => Some(ValidityFault::RingsMeet(i, j)),
             CheckFault::HoleOutside(ring) => Some(ValidityFault::HoleOutside(ring)),
             CheckFault::HolesNested(i, j) => Some(ValidityFault::HolesNested(i, j)),
+            CheckFault::ElementsMeet(i, j) => Some(ValidityFault::ElementsMeet(i, j)),
+            CheckFault::ElementInside(i, j) => Some(ValidityFault::ElementInside(i, j)),
             CheckFault::OutOfMemory => None,
         }
     }
