@@ -8,11 +8,12 @@ use crate::run_fault::Fault;
 use crate::relate::relate_texts;
 use crate::run::run;
 use command_line::Order;
-use feature_table::Schema;
+use feature_table::{Database, Schema};
+use itoa::Buffer;
 use spatial_sql::read_schema;
 use std::alloc::{AllocError, Global};
 use std::io::{ErrorKind, Read};
-use wkt::{Sink, put_parts};
+use wkt::{Sink, SinkFault, put_parts};
 
 /// How many bytes of a schema's file are read: one more than a schema may have.
 const SCHEMA_BYTES: u64 = 65_537;
@@ -40,11 +41,18 @@ pub fn serve<R: Read + Drop, F: FnMut(&str) -> Option<R>, S: Sink, E: Sink>(
             };
             serve_run(alloc, &paths, query.as_str(), opener, out, err)
         }
+        Order::Check { schema, directory } => {
+            let paths = Paths {
+                schema: schema.as_str(),
+                directory: directory.as_str(),
+            };
+            serve_check(alloc, &paths, opener, out, err)
+        }
         Order::Relate { first, second } => serve_relate(alloc, first, second, out, err),
     }
 }
 
-// Where the files of a run stand.
+// Where the files of a command stand.
 #[derive(Drop)]
 struct Paths<'a> {
     schema: &'a str,
@@ -79,6 +87,52 @@ fn serve_run<R: Read + Drop, F: FnMut(&str) -> Option<R>, S: Sink, E: Sink>(
         Ok(()) => 0,
         Err(fault) => failed(&run_failure(&schema, fault), err),
     }
+}
+
+// Loads every table, and puts a line for each, in the schema's order: its name and how many rows it has. The files are
+// opened as for a run, and nothing is put where one of them doesn't load.
+fn serve_check<R: Read + Drop, F: FnMut(&str) -> Option<R>, S: Sink, E: Sink>(
+    alloc: Global,
+    paths: &Paths<'_>,
+    mut opener: F,
+    out: &mut S,
+    err: &mut E,
+) -> u8
+    requires { F.IsAlwaysCallable opener }
+{
+    let text = match schema_text(alloc, opener(paths.schema)) {
+        Ok(text) => text,
+        Err(failure) => return failed(&failure, err),
+    };
+    let schema = match read_schema(alloc, text.as_slice()) {
+        Ok(schema) => schema,
+        Err(fault) => return failed(&Failure::Schema(fault), err),
+    };
+    let readers = match open_tables(alloc, &schema, paths.directory, opener) {
+        Ok(readers) => readers,
+        Err(failure) => return failed(&failure, err),
+    };
+    let database = match Database::load(alloc, &schema, readers) {
+        Ok(database) => database,
+        Err(fault) => return failed(&run_failure(&schema, Fault::from(fault)), err),
+    };
+    match put_counts(&database, out) {
+        Ok(()) => 0,
+        Err(_) => failed(&Failure::WriteFailed, err),
+    }
+}
+
+// Puts a line for each table: its name, a blank and the number of its rows.
+fn put_counts<S: Sink>(database: &Database<'_>, out: &mut S) -> Result<(), SinkFault> {
+    for (place, table) in database.definitions().iter().enumerate() {
+        let mut digits = Buffer::new();
+        let rows = digits.format(database.table(place).rows());
+        put_parts(
+            out,
+            &[table.name.as_str().as_bytes(), b" ", rows.as_bytes(), b"\n"],
+        )?;
+    }
+    Ok(())
 }
 
 // Puts the nine characters of the matrix of two geometries, and a line feed.
