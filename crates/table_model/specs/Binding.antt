@@ -357,6 +357,13 @@ all_items schema references = flat_map (λ r. items_of r.0 (columns_of schema r.
 abbrev pub bound_items : {T A B C D : Type 0} → GeometryBinding T A B C D → List (TableDef T) → List Reference → Selection C → Checked (List (Item D))
 bound_items how schema references selections.All = Ok (all_items schema references)
 bound_items how schema references (selections.Items written) = in_order (map (bound_item how schema references) written)
+bound_items how schema references selections.Count = Ok []
+
+-- whether COUNT(*) is listed
+abbrev pub counts : {C : Type 0} → Selection C → Bool
+counts selections.All = false
+counts (selections.Items written) = false
+counts selections.Count = true
 
 -- ---- the whole query
 
@@ -367,7 +374,7 @@ binding how schema query = do
   listed ← bound_items how schema references query.selection
   joining ← bound_condition how schema references query.on
   filtering ← bound_condition how schema references query.condition
-  Ok (record { explain = query.explain; references = references; items = listed; conjuncts = joining ++ filtering; counts = false; limit = None })
+  Ok (record { explain = query.explain; references = references; items = listed; conjuncts = joining ++ filtering; counts = counts query.selection; limit = query.limit })
 
 -- how geometry arguments are bound where none is served (profile)
 abbrev pub no_geometry : {T : Type 0} → GeometryBinding T NoGeometry NoGeometry NoGeometry NoGeometry

@@ -83,6 +83,7 @@ bound_names condition = binding no_geometry towns (record {
   second = None;
   on = None;
   condition = Some condition;
+  limit = None;
 })
 
 -- pop > 5 AND NOT name = 'b' (profile)
