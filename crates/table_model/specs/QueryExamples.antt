@@ -31,3 +31,8 @@ joined told selection first second on condition =
 -- the tree of a SELECT of all columns of the table t with a condition (profile)
 abbrev pub all_where : ServedCond true → Result (ServedQuery all_served) QueryFault
 all_where condition = joined explains.No selections.All (table (codes "t") 14) None None (Some condition)
+
+-- the tree of a SELECT over one table, with its condition and its limit
+abbrev pub under : Selection WrittenColumn → WrittenReference → Option (ServedCond true) → Option ℕ → Result (ServedQuery all_served) QueryFault
+under selection table condition limit =
+    Ok (record { explain = explains.No; selection = selection; first = table; second = None; on = None; condition = condition; limit = limit })
