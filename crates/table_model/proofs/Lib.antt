@@ -6,3 +6,5 @@ pub mod FilterFacts
 pub mod WrittenFolds
 pub mod TruthFacts
 pub mod ListFacts
+pub mod CondInduction
+pub mod ConjunctFacts
