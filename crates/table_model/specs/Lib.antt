@@ -2,6 +2,7 @@ pub mod Outcomes
 pub mod Parsers
 pub mod Texts
 pub mod Meanings
+pub mod Places
 pub mod AnswerTexts
 pub mod FaultLines
 pub mod Truths
