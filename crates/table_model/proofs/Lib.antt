@@ -6,3 +6,4 @@ pub mod FilterFacts
 pub mod WrittenFolds
 pub mod TruthFacts
 pub mod ListFacts
+mod PlaceFacts

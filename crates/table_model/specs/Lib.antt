@@ -25,6 +25,7 @@ pub mod Work
 pub mod ExplainTexts
 pub mod PlanExamples
 pub mod PlanLaws
+pub mod PlaceLaws
 pub mod SchemaGrammar
 pub mod BindingExamples
 pub mod GeometryColumns
