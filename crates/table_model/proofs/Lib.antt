@@ -8,3 +8,4 @@ pub mod TruthFacts
 pub mod ListFacts
 pub mod CondInduction
 pub mod ConjunctFacts
+mod PlaceFacts

@@ -3,6 +3,7 @@ pub mod Parsers
 pub mod Texts
 pub mod Statements
 pub mod Meanings
+pub mod Places
 pub mod AnswerTexts
 pub mod FaultLines
 pub mod Truths
@@ -25,6 +26,7 @@ pub mod Work
 pub mod ExplainTexts
 pub mod PlanExamples
 pub mod PlanLaws
+pub mod PlaceLaws
 pub mod SchemaGrammar
 pub mod BindingExamples
 pub mod GeometryColumns
