@@ -1,4 +1,5 @@
 pub mod ListLemmas
+pub mod FailureLemmas
 pub mod FieldLemmas
 pub mod SchemaLemmas
 pub mod HeaderLemmas
@@ -7,6 +8,7 @@ pub mod RowLemmas
 pub mod ReadingLemmas
 pub mod LoadingLemmas
 pub mod LoadLemmas
+pub mod GeometryFieldLemmas
 pub mod KeyLemmas
 pub mod OrderLemmas
 pub mod DatabaseLemmas

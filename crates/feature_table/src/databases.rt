@@ -2,11 +2,11 @@
 
 ghost use Rattle.std.specs.Prelude.{◌≡◌, ◌<◌, ℕ, IfErr, IfOk, List, Some, length, map, slice_get};
 ghost use Rattle.std.specs.List.{slice_index_or};
+ghost use Rattle.feature_table.specs.GeometryFields.{ShapeValue, reading};
 ghost use Rattle.feature_table.specs.Outcomes.{LoadsTable};
-ghost use Rattle.feature_table.specs.Tables.{EarlierLoad, table_in, tables_in};
+ghost use Rattle.feature_table.specs.Tables.{EarlierLoad, records_in, table_in, tables_in};
 ghost use Rattle.table_model.specs.Databases.{at_table};
 ghost use Rattle.table_model.specs.declared.definitions.TableDef.{TableDef as Definition};
-ghost use Rattle.table_model.specs.declared.values.NoGeometry.{NoGeometry};
 
 use crate::schemas::{Schema, TableDef};
 use crate::tables::Table;
@@ -25,9 +25,9 @@ pub struct Database<'s> {
 impl<'s> Model for Database<'s> {
     ghost use Rattle.std.specs.Prelude.{◌≡◌, length};
     ghost use Rattle.table_model.specs.Databases.{Database};
-    ghost use Rattle.table_model.specs.declared.values.NoGeometry.{NoGeometry};
+    ghost use Rattle.feature_table.specs.GeometryFields.{GeometryValue, ShapeValue};
 
-    ghost Value = { Database NoGeometry NoGeometry };
+    ghost Value = { Database ShapeValue GeometryValue };
 
     ghost view = { λ d. record { definitions = d.schema.now; tables = d.tables.items } };
 
@@ -43,8 +43,8 @@ fn load_table<R: Read + Drop>(
 ) -> Result<Table, TableFault>
     requires { place < length schema.now }
     ensures place { IfErr result (λ f. f.table ≡ place) }
-    ensures loads { (text : List ℕ) (d : Definition NoGeometry) → R.remaining reader ≡ Some text
-        → LoadsTable (λ t. t) result (at_table place (table_in (slice_index_or schema.now place d) text)) }
+    ensures loads { (text : List ℕ) (d : Definition ShapeValue) → R.remaining reader ≡ Some text
+        → LoadsTable (λ t. t) result (at_table place (table_in reading (slice_index_or schema.now place d) text)) }
 {
     match Table::load(alloc, schema.table(place), reader) {
         Ok(table) => Ok(table),
@@ -67,9 +67,9 @@ impl<'s> Database<'s> {
         requires { length readers.items ≡ length schema.now }
         ensures schema { IfOk result (λ d. d.definitions ≡ schema.entry.now) }
         ensures loads { (texts : List (List ℕ)) → map R.remaining readers.items ≡ map Some texts
-            → LoadsTable (λ d. d.tables) result (tables_in schema.entry.now texts) }
+            → LoadsTable (λ d. d.tables) result (tables_in reading schema.entry.now texts) }
         ensures earlier { (texts : List (List ℕ)) → map R.remaining readers.items ≡ map Some texts
-            → IfErr result (λ f. EarlierLoad schema.entry.now texts f.table) }
+            → IfErr result (λ f. EarlierLoad reading schema.entry.now (map records_in texts) f.table) }
     {
         let mut tables = Vec::new(alloc);
         for (place, reader) in readers.into_iter().enumerate() {
