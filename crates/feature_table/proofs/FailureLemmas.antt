@@ -1,7 +1,6 @@
 -- A fault is a failure of reading or want of memory, or one that the definitions give.
-use Rattle.std.proofs.Common.{◌≡◌, ◌⊎◌, List, [], inl, inr, refl}
+use Rattle.std.proofs.Common.{◌⊎◌, List, [], inl, inr, refl}
 use Rattle.feature_table.specs.Outcomes.{IsFailure}
-use Rattle.table_model.specs.Loading.{Record}
 use Rattle.table_model.specs.declared.faults.LoadFault.{LoadFault}
 use Rattle.table_model.specs.declared.faults.LoadFault.TheVariants as fault
 

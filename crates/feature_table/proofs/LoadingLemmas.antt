@@ -1,5 +1,5 @@
 -- The rows of the first records: those of a text, some of which are left, or those that were read where no text is known.
-use Rattle.std.proofs.Common.{◌≡◌, ◌==◌, ◌∙◌, ◌+◌, ◌++◌, ◌<◌, ◌≤◌, ℕ, zero, suc, Bool, true, false, cond, nat_lt, not, List, [], ◌∷◌, Option, Result, Ok, Err, ap, arith, drop, get_or, length, refl, sym}
+use Rattle.std.proofs.Common.{◌≡◌, ◌==◌, ◌∙◌, ◌+◌, ◌++◌, ◌<◌, ◌≤◌, ℕ, zero, suc, Bool, true, false, cond, nat_lt, not, List, [], ◌∷◌, Option, Result, Ok, Err, ap, arith, drop, get_or, length, refl}
 use Rattle.std.proofs.lemmas.Bool.Decides.{nat_tests}
 use Rattle.std.proofs.lemmas.List.{append_assoc, get_or-map, length-append, length-map}
 use Rattle.std.proofs.lemmas.List.FromFn.{get_or-enumerate_from, length-enumerate_from}
@@ -16,7 +16,7 @@ use Rattle.table_model.specs.declared.faults.LoadFault.TheVariants as fault
 -- ---- records in turn
 
 -- what stands at a place
-at_place : {X : Type 0} (xs : List X) (i : ℕ) (x : X) (ys : List X) → drop i xs ≡ x ∷ ys → (i < length xs) × (get_or xs i x ≡ x) × (drop (i + 1) xs ≡ ys)
+pub at_place : {X : Type 0} (xs : List X) (i : ℕ) (x : X) (ys : List X) → drop i xs ≡ x ∷ ys → (i < length xs) × (get_or xs i x ≡ x) × (drop (i + 1) xs ≡ ys)
 at_place [] zero x ys h = cc h
 at_place [] (suc i) x ys h = cc h
 at_place (z ∷ zs) zero x ys h = let first : z ≡ x = cc h in let rest : zs ≡ ys = cc h in (omega arith, first, rest)

@@ -1,11 +1,10 @@
-use Rattle.std.proofs.Common.{Err, List, [], ◌∙◌, ◌∷◌, ◌≡◌, ap, inr}
+use Rattle.std.proofs.Common.{[], ◌∙◌, ◌∷◌, ap, inr}
 use Rattle.std.proofs.lemmas.Result.{err_from_is_err_and}
 use Rattle.csv.specs.Records.{fields_of}
-use Rattle.feature_table.proofs.FailureLemmas.{of_fault}
 use Rattle.feature_table.proofs.LoadLemmas.{header_fails, no_header, rows_fail, rows_pass}
 use Rattle.feature_table.proofs.GeometryFieldLemmas.{table_rows}
 use Rattle.feature_table.specs.GeometryFields.{reading}
-use Rattle.table_model.specs.Loading.{Record, load, rows_of}
+use Rattle.table_model.specs.Loading.{load}
 use Rattle.feature_table.proofs.tables.Table.load_from.Goals as goal
 
 pub returns-then-not-found-clause-loads : goal.returns-then-not-found-clause-loads
