@@ -15,7 +15,8 @@ use Rattle.table_model.specs.declared.conditions.Bound.{Bound}
 use Rattle.table_model.specs.declared.queries.Query.{Query}
 use Rattle.table_model.specs.declared.values.NoGeometry.{NoGeometry}
 use Rattle.feature_table.specs.Outcomes.{IsFailure}
-use Rattle.feature_table.specs.Tables.{EarlierLoad, tables_in}
+use Rattle.feature_table.specs.GeometryFields.{reading}
+use Rattle.feature_table.specs.Tables.{EarlierLoad, records_in, tables_in}
 use Rattle.table_model.specs.QueryReading.{query_of}
 use Rattle.spatial_sql.specs.Language.{language}
 use Rattle.table_model.specs.declared.faults.LoadFault.{LoadFault}
@@ -130,12 +131,12 @@ table-refused r table (load.WrongType n) answer next old is given read = at-faul
 
 -- the outcome of a run once the query is read, and once the tables are loaded
 pub read-outcome : (definitions : List (TableDef NoGeometry)) (texts : List (List ℕ)) (text : List ℕ) (written : Query NoGeometry NoGeometry)
-    → query_of language text ≡ Ok written → outcome definitions texts text ≡ after of_table (tables_in definitions texts) (query_outcome definitions written)
+    → query_of language text ≡ Ok written → outcome definitions texts text ≡ after of_table (tables_in reading definitions texts) (query_outcome definitions written)
 read-outcome definitions texts text written is =
-    ap (λ r. after of_query r (λ q. after of_table (tables_in definitions texts) (query_outcome definitions q))) is
+    ap (λ r. after of_query r (λ q. after of_table (tables_in reading definitions texts) (query_outcome definitions q))) is
 
 pub loaded-outcome : (definitions these : List (TableDef NoGeometry)) (texts : List (List ℕ)) (text : List ℕ) (written : Query NoGeometry NoGeometry) (tables : List (Table NoGeometry))
-    → query_of language text ≡ Ok written → tables_in definitions texts ≡ Ok tables → these ≡ definitions
+    → query_of language text ≡ Ok written → tables_in reading definitions texts ≡ Ok tables → these ≡ definitions
     → query_outcome these written tables ≡ outcome definitions texts text
 loaded-outcome definitions these texts text written tables is loaded same =
     ap (λ ds. query_outcome ds written tables) same
@@ -158,7 +159,7 @@ of-query-first A (query.NumberTooBig at) definitions texts = tt
 of-query-first A query.OutOfMemory definitions texts = tt
 
 -- what is refused where a fault is one of a table
-of-load-first : (A : Type 0) (table : ℕ) (f : LoadFault) (definitions : List (TableDef NoGeometry)) (texts : List (List ℕ)) → EarlierLoad definitions texts table
+of-load-first : (A : Type 0) (table : ℕ) (f : LoadFault) (definitions : List (TableDef NoGeometry)) (texts : List (List ℕ)) → EarlierLoad reading definitions (map records_in texts) table
     → RefusesFirst {A = A} (Err (of_load table f)) definitions texts
 of-load-first A table load.MissingColumn definitions texts is = is
 of-load-first A table load.DoubleHeader definitions texts is = is
@@ -183,7 +184,7 @@ pub query-first : {A : Type 0} (r : Result A Fault) (e : QueryFault) (definition
 query-first {A = A} r e definitions texts is = at-first r (of_query e) definitions texts is (of-query-first A e definitions texts)
 
 pub table-first : {A : Type 0} (r : Result A Fault) (f : TableFault) (definitions : List (TableDef NoGeometry)) (texts : List (List ℕ)) → IsErrAnd r (λ x. x ≡ of_table f)
-    → EarlierLoad definitions texts f.table → RefusesFirst r definitions texts
+    → EarlierLoad reading definitions (map records_in texts) f.table → RefusesFirst r definitions texts
 table-first {A = A} r f definitions texts is earlier = at-first r (of_table f) definitions texts is (of-load-first A f.table f.fault definitions texts earlier)
 
 no-load : (e : QueryFault) (table : ℕ) (f : LoadFault) → of_query e ≡ faults.Load table f → ⊥

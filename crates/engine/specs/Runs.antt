@@ -17,7 +17,8 @@ use Rattle.table_model.specs.declared.queries.Query.{Query}
 use Rattle.table_model.specs.QueryReading.{query_of}
 use Rattle.spatial_sql.specs.Language.{language}
 use Rattle.table_model.specs.declared.faults.LoadFault.TheVariants as load
-use Rattle.feature_table.specs.Tables.{EarlierLoad, tables_in}
+use Rattle.feature_table.specs.GeometryFields.{reading}
+use Rattle.feature_table.specs.Tables.{EarlierLoad, records_in, tables_in}
 use Rattle.engine.specs.Faults.{of_query, of_table}
 use Rattle.engine.specs.declared.run_fault.Fault.{Fault}
 use Rattle.engine.specs.declared.run_fault.Fault.TheVariants as faults
@@ -74,7 +75,7 @@ count_after old (Err faults.Memory) = old
 -- tables are loaded, then the query is bound (profile)
 abbrev pub outcome : List (TableDef NoGeometry) → List (List ℕ) → List ℕ → Result (List ℕ) Fault
 outcome definitions texts query =
-    after of_query (query_of language query) (λ written. after of_table (tables_in definitions texts) (query_outcome definitions written))
+    after of_query (query_of language query) (λ written. after of_table (tables_in reading definitions texts) (query_outcome definitions written))
 
 -- whether the reading of a table failed, which no text tells beforehand (profile)
 abbrev pub IsUnread : {A : Type 0} → Result A Fault → Type 0
@@ -110,6 +111,6 @@ RefusesQuery (Err faults.Memory) bound = ⊤
 abbrev pub RefusesFirst : {A : Type 0} → Result A Fault → List (TableDef NoGeometry) → List (List ℕ) → Type 0
 RefusesFirst (Ok a) definitions texts = ⊤
 RefusesFirst (Err (faults.Query f)) definitions texts = ⊤
-RefusesFirst (Err (faults.Load table f)) definitions texts = EarlierLoad definitions texts table
+RefusesFirst (Err (faults.Load table f)) definitions texts = EarlierLoad reading definitions (map records_in texts) table
 RefusesFirst (Err faults.Sink) definitions texts = ⊤
 RefusesFirst (Err faults.Memory) definitions texts = ⊤
