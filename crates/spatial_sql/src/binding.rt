@@ -93,6 +93,17 @@ fn bound_items(
     match selection {
         Selection::All => Ok(all_items(alloc, schema, references)?),
         Selection::Items(written) => { listed_items(alloc, schema, references, written.as_slice()) }
+        Selection::Count => Ok(Items::new(alloc)),
+    }
+}
+
+/// Whether COUNT(*) is listed.
+fn counts(selection: &Selection<'_, NoGeometry>) -> bool
+    ensures { result ≡ spec.counts selection.now }
+{
+    match selection {
+        Selection::All | Selection::Items(_) => false,
+        Selection::Count => true,
     }
 }
 
@@ -129,8 +140,8 @@ fn bound_query(
         references,
         items,
         conjuncts,
-        counts: false,
-        limit: None,
+        counts: counts(&query.selection),
+        limit: query.limit,
     })
 }
 
