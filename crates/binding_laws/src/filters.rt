@@ -4,6 +4,7 @@
 ghost use Rattle.binding_laws.specs.FilterLaws.{
   ConjunctsByParts,
   BoundOfStatement,
+  ConjunctsBoundByParts,
   ConjunctsAreTrue,
   ConjunctsAreFiltered,
   MeaningByConjuncts,
@@ -17,6 +18,11 @@ pub fn conjuncts_by_parts<A>()
 /// A query is bound to the conjuncts of its ON and its WHERE as they stand, and both bindings have one fault.
 pub fn bound_of_statement<T, A, B, C, D>()
     ensures { BoundOfStatement T A B C D }
+{}
+
+/// The conjuncts that an AND is bound to are those of its parts, in order; any other condition is bound to one.
+pub fn conjuncts_bound_by_parts<T, A, B, C, D>()
+    ensures { ConjunctsBoundByParts T A B C D }
 {}
 
 /// A choice of rows passes all conjuncts of a condition exactly where it is true.

@@ -93,7 +93,7 @@ fn bound_items(
 {
     match selection {
         Selection::All => Ok(all_items(alloc, schema, references)?),
-        Selection::Items(written) => listed_items(alloc, schema, references, written.as_slice()),
+        Selection::Items(written) => { listed_items(alloc, schema, references, written.as_slice()) }
         Selection::Count => Ok(Items::new(alloc)),
     }
 }
@@ -102,7 +102,10 @@ fn bound_items(
 fn counts(selection: &Selection<'_, NoGeometry>) -> bool
     ensures { result ≡ spec.counts selection.now }
 {
-    matches!(selection, Selection::Count)
+    match selection {
+        Selection::All | Selection::Items(_) => false,
+        Selection::Count => true,
+    }
 }
 
 /// The conjuncts of ON or of WHERE.
