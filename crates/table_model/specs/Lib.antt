@@ -33,4 +33,5 @@ pub mod GeometryColumnExamples
 pub mod FirstRunExamples
 pub mod SchemaRefusals
 pub mod FeatureTables
+pub mod ValidGeometries
 pub mod SchemaExamples
