@@ -1,6 +1,7 @@
 pub mod Outcomes
 pub mod Parsers
 pub mod Texts
+pub mod Statements
 pub mod Meanings
 pub mod Places
 pub mod AnswerTexts
@@ -31,6 +32,7 @@ pub mod BindingExamples
 pub mod GeometryColumns
 pub mod GeometryColumnExamples
 pub mod FirstRunExamples
+pub mod JoinExamples
 pub mod SchemaRefusals
 pub mod FeatureTables
 pub mod ValidGeometries

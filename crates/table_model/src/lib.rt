@@ -10,6 +10,7 @@ pub mod definitions;
 pub mod faults;
 pub mod first_run_examples;
 pub mod geometry_column_examples;
+pub mod join_examples;
 pub mod plan_examples;
 pub mod place_laws;
 pub mod plan_laws;
