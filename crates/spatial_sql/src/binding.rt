@@ -2,6 +2,7 @@
 
 ghost use Rattle.std.specs.Prelude.{◌≡◌, ◌++◌, map, IfOk, OnOk};
 ghost use Rattle.table_model.specs.Binding as spec;
+ghost use Rattle.table_model.specs.Loading.{each};
 ghost use Rattle.table_model.specs.Outcomes.{Gives};
 
 use crate::columns::{bound_column, columns_of};
@@ -72,7 +73,7 @@ fn listed_items(
     references: &[Reference],
     written: &[WrittenItem<'_, NoGeometry>],
 ) -> Result<Items<Item<NoGeometry>>, QueryFault>
-    ensures { Gives QueryFault.OutOfMemory (λ items. items) result (spec.in_order (map (spec.bound_item spec.no_geometry schema.now references.now) written.now)) }
+    ensures { Gives QueryFault.OutOfMemory (λ items. items) result (each (map (spec.bound_item spec.no_geometry schema.now references.now) written.now)) }
 {
     let mut items = Items::new(alloc);
     for item in written {
@@ -93,6 +94,17 @@ fn bound_items(
     match selection {
         Selection::All => Ok(all_items(alloc, schema, references)?),
         Selection::Items(written) => { listed_items(alloc, schema, references, written.as_slice()) }
+        Selection::Count => Ok(Items::new(alloc)),
+    }
+}
+
+/// Whether COUNT(*) is listed.
+fn counts(selection: &Selection<'_, NoGeometry>) -> bool
+    ensures { result ≡ spec.counts selection.now }
+{
+    match selection {
+        Selection::All | Selection::Items(_) => false,
+        Selection::Count => true,
     }
 }
 
@@ -129,8 +141,8 @@ fn bound_query(
         references,
         items,
         conjuncts,
-        counts: false,
-        limit: None,
+        counts: counts(&query.selection),
+        limit: query.limit,
     })
 }
 
