@@ -35,4 +35,5 @@ pub mod FirstRunExamples
 pub mod JoinExamples
 pub mod SchemaRefusals
 pub mod FeatureTables
+pub mod ValidGeometries
 pub mod SchemaExamples
