@@ -1,5 +1,5 @@
 -- The polygons of an area at their places, and their rings among all rings.
-use Rattle.std.proofs.Common.{◌≡◌, ◌⊎◌, inl, inr, ℕ, zero, suc, ◌+◌, ◌<◌, List, [], ◌∷◌, ◌++◌, length, Contains, Some, slice_get, slice_index_or, refl, sym, ap, ◌∙◌, subst, zero-add, zero-lt-suc, suc-le-suc, le_of_suc-le-suc, arith}
+use Rattle.std.proofs.Common.{◌≡◌, ◌⊎◌, inl, inr, ℕ, zero, suc, ◌+◌, ◌<◌, List, [], ◌∷◌, ◌++◌, length, Contains, Some, slice_get, slice_index_or, refl, ap, ◌∙◌, zero-add, zero-lt-suc, suc-le-suc, le_of_suc-le-suc, arith}
 use Rattle.std.proofs.lemmas.Option.{slice_get-get_or}
 use Rattle.geometry_model.specs.Points.{Position}
 use Rattle.geometry_model.specs.Geometries.{joined_rings}

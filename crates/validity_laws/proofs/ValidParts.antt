@@ -1,11 +1,11 @@
 -- Valid geometries, in the words of the standard.
-use Rattle.std.proofs.Common.{◌≡◌, ◌≢◌, ◌↔◌, ◌⊎◌, inl, inr, ℕ, zero, suc, ◌+◌, ◌<◌, ◌≤◌, ◌==◌, Bool, true, false, List, [], ◌∷◌, ◌++◌, length, Contains, Some, None, nat_lt, slice_get, flat_map, refl, sym, ap, ◌∙◌, subst, ltb-true, lt-ltb, arith}
+use Rattle.std.proofs.Common.{◌≡◌, ◌≢◌, ◌↔◌, ◌⊎◌, inl, inr, ℕ, zero, suc, ◌+◌, ◌<◌, ◌≤◌, ◌==◌, Bool, true, false, List, [], ◌∷◌, ◌++◌, length, Contains, Some, None, nat_lt, slice_get, flat_map, refl, sym, ap, ◌∙◌, subst, ltb-true, arith}
 use Rattle.std.proofs.lemmas.Bool.{true≢false, false_from_ne_true}
 use Rattle.std.proofs.lemmas.Bool.Decides.{Decides-eqb}
 use Rattle.geometry_model.specs.Points.{Position}
 use Rattle.geometry_model.specs.Geometries.{Geometry, lines, rings, elements, joined_rings}
 use Rattle.geometry_model.specs.Envelopes.{envelope_of_positions}
-use Rattle.geometry_model.specs.Validity.{is_short, SharePoint, RingsShare, inside, Element, numbered_elements, ElementsShare, inside_element, HasFault, IsValid}
+use Rattle.geometry_model.specs.Validity.{is_short, RingsShare, inside, Element, numbered_elements, ElementsShare, inside_element, HasFault, IsValid}
 use Rattle.geometry_model.specs.declared.validity_faults.ValidityFault.{ValidityFault}
 use Rattle.geometry_model.specs.declared.validity_faults.ValidityFault.TheVariants.{TooFewPoints, RingNotClosed, RingNotSimple, RingsMeet, HoleOutside, HolesNested, ElementsMeet, ElementInside}
 use Rattle.validity_laws.specs.ValidPartLaws.{MakePolygon, LieApart, PolygonIsValid, MultiPolygonIsValid, LineStringIsValid, MultiLineStringIsValid, EnvelopeIsAbsentWhereEmpty}
