@@ -2,7 +2,7 @@
 use Rattle.std.proofs.Common.{ℕ, ◌<◌, ℤ, pos, ◌≡◌, Bool, false, if◌then◌else◌, refl, sym, ap, ◌∙◌, List, arith}
 use borrow.Author.Differences.{ints}
 use Rattle.geometry_model.specs.Points.{Point, IsPoint}
-use Rattle.geometry_model.specs.Geometries.{Edge, Geometry, edges, edges_of_lines, rings}
+use Rattle.geometry_model.specs.Geometries.{Edge, Geometry, edges, edges_of_lines, rings, joined_rings}
 use Rattle.geometry_model.specs.Sides.{on}
 use Rattle.geometry_model.specs.Crossings.{strictly_above, at_or_above}
 use Rattle.geometry_model.specs.Dimensions.{HasTriangle, common}
@@ -21,6 +21,7 @@ below_from (Geometry.MultiPoint qs) s t h = refl
 below_from (Geometry.LineString l) s t h = refl
 below_from (Geometry.MultiLineString ls) s t h = refl
 below_from (Geometry.Polygon rs) s t h = ap (λ (b : Bool). if b then Interior else Exterior) (parity_of_rings rs t ∙ same_parity (λ e. strictly_above e t) (λ e. at_or_above e s) (edges_of_lines rs) h ∙ sym (odd_count (λ e. at_or_above e s) (edges_of_lines rs)))
+below_from (Geometry.MultiPolygon es) s t h = ap (λ (b : Bool). if b then Interior else Exterior) (parity_of_rings (joined_rings es) t ∙ same_parity (λ e. strictly_above e t) (λ e. at_or_above e s) (edges_of_lines (joined_rings es)) h ∙ sym (odd_count (λ e. at_or_above e s) (edges_of_lines (joined_rings es))))
 
 above_from : (g : Geometry) (s t : Point) → Each (λ e. strictly_above e t ≡ strictly_above e s) (edges g) → above g t ≡ above g s
 above_from (Geometry.Point o) s t h = refl
@@ -28,6 +29,7 @@ above_from (Geometry.MultiPoint qs) s t h = refl
 above_from (Geometry.LineString l) s t h = refl
 above_from (Geometry.MultiLineString ls) s t h = refl
 above_from (Geometry.Polygon rs) s t h = ap (λ (b : Bool). if b then Interior else Exterior) (parity_of_rings rs t ∙ same_parity (λ e. strictly_above e t) (λ e. strictly_above e s) (edges_of_lines rs) h ∙ sym (parity_of_rings rs s))
+above_from (Geometry.MultiPolygon es) s t h = ap (λ (b : Bool). if b then Interior else Exterior) (parity_of_rings (joined_rings es) t ∙ same_parity (λ e. strictly_above e t) (λ e. strictly_above e s) (edges_of_lines (joined_rings es)) h ∙ sym (parity_of_rings (joined_rings es) s))
 
 not_zero_down : down ≡ pos 0 → ⊥
 not_zero_down e = omega (arith, ints)

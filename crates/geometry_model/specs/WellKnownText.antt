@@ -11,7 +11,7 @@ use Rattle.geometry_model.specs.Geometries.{Geometry, Point, MultiPoint, LineStr
 
 -- the greatest size of a coordinate (profile)
 abbrev pub coordinate_limit : ℕ
-coordinate_limit = 100000
+coordinate_limit = 10000000
 
 -- the most positions of a geometry, as they are written (profile)
 abbrev pub position_limit : ℕ

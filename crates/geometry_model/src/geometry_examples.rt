@@ -77,10 +77,10 @@ pub fn cut_points_and_pieces()
         ≡ Some (from_to (point (pos 0) (pos 0) (pos 1)) (point (pos 2) (pos 0) (pos 1))
         ∷ from_to (point (pos 2) (negsuc 0) (pos 1)) (point (pos 2) (pos 0) (pos 1))
         ∷ from_to (point (pos 2) (pos 0) (pos 1)) (point (pos 2) (pos 1) (pos 1)) ∷ []) }
-    ensures at_the_limit { cuts (codes "LINESTRING(-100000 -100000,100000 99999)") (codes "LINESTRING(-100000 100000,99999 -100000)")
-        ≡ Some (point (negsuc 99999) (negsuc 99999) (pos 1) ∷ point (negsuc 99999) (pos 100000) (pos 1)
-        ∷ point (negsuc 99999) (negsuc 39999899999) (pos 79999600001)
-        ∷ point (pos 99999) (negsuc 99999) (pos 1) ∷ point (pos 100000) (pos 99999) (pos 1) ∷ []) }
+    ensures at_the_limit { cuts (codes "LINESTRING(-10000000 -10000000,10000000 9999999)") (codes "LINESTRING(-10000000 10000000,9999999 -10000000)")
+        ≡ Some (point (negsuc 9999999) (negsuc 9999999) (pos 1) ∷ point (negsuc 9999999) (pos 10000000) (pos 1)
+        ∷ point (negsuc 9999999) (negsuc 399999989999999) (pos 799999960000001)
+        ∷ point (pos 9999999) (negsuc 9999999) (pos 1) ∷ point (pos 10000000) (pos 9999999) (pos 1) ∷ []) }
 {}
 
 /// Texts of patterns: nine characters, letters in either case (06-103r4, 6.1.15.2).

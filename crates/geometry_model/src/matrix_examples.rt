@@ -13,7 +13,7 @@ pub fn matrices_of_points()
     ensures in_a_hole { relate (codes "POINT(5 5)") frame ≡ Some (codes "FF0FFF212") }
     ensures in_a_corner_of_a_diamond { relate (codes "POINT(2 1)") (codes "POLYGON((0 2,2 0,4 2,2 4,0 2))") ≡ Some (codes "0FFFFF212") }
     ensures level_with_two_corners { relate (codes "POINT(2 2)") (codes "POLYGON((0 2,2 0,4 2,2 4,0 2))") ≡ Some (codes "0FFFFF212") }
-    ensures at_the_limit { relate (codes "POINT(-100000 100000)") (codes "LINESTRING(-100000 -100000,-100000 100000)") ≡ Some (codes "F0FFFF102") }
+    ensures at_the_limit { relate (codes "POINT(-10000000 10000000)") (codes "LINESTRING(-10000000 -10000000,-10000000 10000000)") ≡ Some (codes "F0FFFF102") }
 {}
 
 /// The ends of lines: an odd number of ends at a point makes it boundary (06-103r4, 6.1.8.1 and 6.1.15.2).
@@ -28,7 +28,8 @@ pub fn matrices_of_line_ends()
 /// Lines with lines: crossings at rational points, one line in two elements (06-103r4, 6.1.15.2).
 pub fn matrices_of_lines()
     ensures crossing_at_fifths { relate (codes "LINESTRING(0 0,3 1)") (codes "LINESTRING(0 1,2 0)") ≡ Some (codes "0F1FF0102") }
-    ensures crossing_at_the_limit { relate (codes "LINESTRING(-100000 -100000,100000 99999)") (codes "LINESTRING(-100000 -99999,100000 99998)") ≡ Some (codes "0F1FF0102") }
+    ensures crossing_of_long_lines { relate (codes "LINESTRING(-100000 -100000,100000 99999)") (codes "LINESTRING(-100000 -99999,100000 99998)") ≡ Some (codes "0F1FF0102") }
+    ensures crossing_at_the_limit { relate (codes "LINESTRING(-10000000 -10000000,10000000 9999999)") (codes "LINESTRING(-10000000 -9999999,10000000 9999998)") ≡ Some (codes "0F1FF0102") }
     ensures equal_in_two_elements { relate (codes "LINESTRING(0 0,2 0)") (codes "MULTILINESTRING((0 0,1 0),(1 0,2 0))") ≡ Some (codes "1FFF0FFF2") }
     ensures shared_stretch { relate (codes "LINESTRING(0 0,4 0)") (codes "LINESTRING(6 0,2 0)") ≡ Some (codes "1010F0102") }
 {}

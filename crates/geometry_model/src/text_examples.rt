@@ -27,7 +27,7 @@ pub fn texts_of_points()
     ensures points { read_text (codes "POINT(1. .0)") ≡ Ok (Point (Some (at (pos 1) (pos 0)))) }
     ensures signs { read_text (codes "POINT(+1.00 01)") ≡ Ok (Point (Some (at (pos 1) (pos 1)))) }
     ensures minus { read_text (codes "POINT(-0 -2)") ≡ Ok (Point (Some (at (pos 0) (negsuc 1)))) }
-    ensures limit { read_text (codes "POINT(-100000 100000)") ≡ Ok (Point (Some (at (negsuc 99999) (pos 100000)))) }
+    ensures limit { read_text (codes "POINT(-10000000 10000000)") ≡ Ok (Point (Some (at (negsuc 9999999) (pos 10000000)))) }
     ensures white { read_text (codes "multipoint ( 1 2 , 3 4.0 )") ≡ Ok (MultiPoint (at (pos 1) (pos 2) ∷ at (pos 3) (pos 4) ∷ [])) }
     ensures parentheses { read_text (codes "MultiPoint((1 2), 3 4)") ≡ Ok (MultiPoint (at (pos 1) (pos 2) ∷ at (pos 3) (pos 4) ∷ [])) }
     ensures empty { read_text (codes " Point\tEmpty\n") ≡ Ok (Point None) }
@@ -67,9 +67,9 @@ pub fn first_faults()
     ensures more_behind { read_text (codes "POINT EMPTY x") ≡ Err (Syntax 12) }
     ensures beyond_ascii { read_text (80 ∷ 195 ∷ 150 ∷ []) ≡ Err (Syntax 0) }
     ensures off_grid { read_text (codes "POINT(1.5 2)") ≡ Err (OffGrid 6) }
-    ensures off_grid_first { read_text (codes "POINT(100001.5 0)") ≡ Err (OffGrid 6) }
-    ensures out_of_range { read_text (codes "POINT(100001 0)") ≡ Err (OutOfRange 6) }
-    ensures left_to_right { read_text (codes "LINESTRING(0 -100001,1.5 2") ≡ Err (OutOfRange 13) }
+    ensures off_grid_first { read_text (codes "POINT(10000001.5 0)") ≡ Err (OffGrid 6) }
+    ensures out_of_range { read_text (codes "POINT(10000001 0)") ≡ Err (OutOfRange 6) }
+    ensures left_to_right { read_text (codes "LINESTRING(0 -10000001,1.5 2") ≡ Err (OutOfRange 13) }
 {}
 
 /// The first fault of a text of several polygons, and its byte.

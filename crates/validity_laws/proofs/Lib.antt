@@ -1,5 +1,6 @@
 pub mod SharedPoints
 pub mod OtherPoints
+pub mod ElementFacts
 pub mod FaultFacts
 pub mod FirstFaultFacts
 pub mod FirstPlace
