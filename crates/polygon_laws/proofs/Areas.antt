@@ -13,9 +13,9 @@ use Rattle.geometry_model.specs.declared.validity_faults.ValidityFault.TheVarian
 use Rattle.geometry_laws.specs.RingLaws.{IsClosed}
 use Rattle.geometry_laws.proofs.Each.{Each, Among, each_at, each_of, each_map, each_append, Passing, some_passed, one_passes, none_passes, none_passed, parity, parity_append, among_left, among_right, among_either}
 use Rattle.geometry_laws.proofs.RingParity.{position_is_point}
-use Rattle.geometry_laws.proofs.Cuts.{contains_of_among}
+use Rattle.geometry_laws.proofs.Cuts.{contains_of_among, among_from_contains}
 use Rattle.geometry_laws.proofs.Xor.{xor_assoc}
-use Rattle.polygon_laws.proofs.Places.{Pairs, pairs_by, pairs_map, pairs_append, one_before, each_by, place_from_contains, among_at, among_from_contains}
+use Rattle.polygon_laws.proofs.Places.{Pairs, pairs_by, pairs_map, pairs_append, one_before, each_by, place_from_contains, among_at}
 use Rattle.polygon_laws.proofs.Nested.{odd_in, Disjoint, disjoint_turned, on_ring, not_each, empty_even, carried_in, over_neither}
 use Rattle.polygon_laws.proofs.OneElement.{element_is_valid}
 use Rattle.polygon_laws.proofs.Through.{one_parity}

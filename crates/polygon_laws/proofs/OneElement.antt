@@ -5,8 +5,7 @@ use Rattle.geometry_model.specs.Geometries.{Geometry, Polygon, MultiPolygon, ele
 use Rattle.geometry_model.specs.Validity.{Element, elements_from, IsValid, ElementsShare}
 use Rattle.geometry_model.specs.declared.validity_faults.ValidityFault.TheVariants.{TooFewPoints, RingNotClosed, RingNotSimple, RingsMeet, HoleOutside, HolesNested, ElementsMeet, ElementInside}
 use Rattle.geometry_laws.proofs.Each.{Among}
-use Rattle.geometry_laws.proofs.Cuts.{contains_of_among}
-use Rattle.polygon_laws.proofs.Places.{among_from_contains}
+use Rattle.geometry_laws.proofs.Cuts.{contains_of_among, among_from_contains}
 
 -- ---- places in joined lists
 place_left : {X : Type 0} (xs ys : List X) (k : ℕ) (x : X) → slice_get xs k ≡ Some x → slice_get (xs ++ ys) k ≡ Some x
