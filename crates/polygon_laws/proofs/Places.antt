@@ -1,5 +1,5 @@
 -- Elements of lists by place, and pairs of them.
-use Rattle.std.proofs.Common.{ℕ, zero, suc, ◌<◌, ◌≡◌, ◌⊎◌, inl, inr, refl, sym, ap, subst, ◌∙◌, List, [], ◌∷◌, ◌++◌, None, Some, slice_get, Contains, length, slice_index_or, arith}
+use Rattle.std.proofs.Common.{ℕ, zero, suc, ◌<◌, ◌≡◌, ◌⊎◌, inl, inr, refl, sym, ap, subst, ◌∙◌, List, [], ◌∷◌, ◌++◌, None, Some, slice_get, Contains, arith}
 use Rattle.std.proofs.lemmas.Option.{slice_get-get_or}
 use Rattle.geometry_laws.proofs.Each.{Each, Among, each_at, each_map, each_append}
 
