@@ -5,6 +5,7 @@
 pub mod cells;
 pub mod databases;
 mod fields;
+pub mod geometry_fields;
 mod headers;
 mod keys;
 mod loading;
@@ -17,6 +18,7 @@ mod tests;
 
 pub use cells::Field;
 pub use databases::Database;
+pub use geometry_fields::{ColumnShape, Geometry};
 pub use records::Records;
 pub use schemas::{ColumnDef, ColumnType, Schema, TableDef, lawful};
 pub use table_model::faults::{LoadFault, TableFault};

@@ -24,12 +24,12 @@ use Rattle.table_model.specs.declared.tokens.Token.{Token}
 use Rattle.table_model.specs.declared.tokens.TokenKind.{TokenKind}
 use Rattle.table_model.specs.declared.tokens.TokenKind.TheVariants as k
 use Rattle.table_model.specs.Parsers.{kind, place, spelling, next, written, sees, after, and_then, expect, parts_from}
-use Rattle.table_model.specs.QueryGrammar.{Phrase, IsOne, IsToken, ◌▸◌, IsOptional, IsParts, IsName, IsColumn, IsDigits, IsInteger, IsString, IsWord, IsCall, IsGeometry, IsOperandFunction, IsOperand, IsComparison, function_of, IsPair, IsBool, IsNumber, IsTest, IsPredicate, IsChain, IsConjunction, IsConditionOf, IsNegationOf, IsNegation, IsCondition, IsItemFunction, IsItem, IsSelection, IsReference, IsCrossed, IsJoined, IsSecond, IsWhere, IsExplain, IsSelect}
-use Rattle.table_model.specs.QueryReading.{Reader, Functions, name, column, calls, called_or, enclosed, string, geometry, integer, operand_functions, operand, comparison_of, compared, null_test, comparison, truth_value, truth_test, tested, relates, relates_by, predicate_functions, predicate, chain, conjunction, condition_of, group, negation, condition, item_functions, item, items, selection, alias, reference, Second, crossed, joined_on, second, where_condition, says, explained, query}
+use Rattle.table_model.specs.QueryGrammar.{Phrase, IsOne, IsToken, ◌▸◌, IsOptional, IsParts, IsName, IsColumn, IsDigits, IsInteger, IsString, IsWord, IsCall, IsGeometry, IsOperandFunction, IsOperand, IsComparison, function_of, IsPair, IsBool, IsNumber, IsTest, IsPredicate, IsChain, IsConjunction, IsConditionOf, IsNegationOf, IsNegation, IsCondition, IsItemFunction, IsItem, IsSelection, IsReference, IsCrossed, IsJoined, IsSecond, IsWhere, IsRowCount, IsLimit, IsExplain, IsSelect}
+use Rattle.table_model.specs.QueryReading.{Reader, Functions, name, column, calls, called_or, enclosed, string, geometry, integer, operand_functions, operand, comparison_of, compared, null_test, comparison, truth_value, truth_test, tested, relates, relates_by, predicate_functions, predicate, chain, conjunction, condition_of, group, negation, condition, item_functions, item, items, counted, count_function, selection, alias, reference, Second, crossed, joined_on, second, where_condition, limit_value, limit_number, limited, says, explained, query}
 use Rattle.table_model.specs.Served.{Served, Argument, ItemArgument, ServedOperand, ServedCond, ServedItem, ServedQuery}
 use Rattle.table_model.specs.Texts.{same_name}
 use Rattle.table_model.specs.Tokens.{same_kind}
-use Rattle.grammar_laws.proofs.QuerySound.{Begins, one_begins, seq_begins, BeginsOperand, operand_begins, word_begins, place_is, IsMade, IsTwo, IsThree, named, patterned, empties, IsBoth, IsJoin}
+use Rattle.grammar_laws.proofs.QuerySound.{Begins, one_begins, seq_begins, BeginsOperand, operand_begins, word_begins, place_is, IsMade, IsTwo, IsThree, named, patterned, empties, IsCounted, IsBoth, IsJoin}
 
 -- the tokens of a phrase are read, before a token of a kind that may follow
 abbrev pub Complete : {A : Type 0} → Reader A → (A → Phrase) → (TokenKind → Type 0) → Type 0
@@ -881,13 +881,57 @@ items_word : (functions : Bool) (more : List (ServedItem functions)) (x : Served
 items_word functions [] x ts p = item_word functions x ts p
 items_word functions (y ∷ more) x ts p = seq_begins (λ kind. kind ≡ k.Word) (IsItem functions x) _ (λ used q. item_word functions x used q) ts p
 
-selection_of_word : (functions : Bool) (ts : List Token) → kind ts ≡ k.Word → selection functions ts ≡ and_then (items functions ts) (λ xs rest. Ok (l.Items xs, rest))
-unfolding selection sees same_kind
-selection_of_word functions ts e = rw e refl
+-- a selection that begins with a word
+abbrev pub worded : (served : Served) → Bool → Reader (Selection (ItemArgument served.functions))
+worded served count = called_or (count_function count) (λ ts. and_then (items served.functions ts) (λ xs rest. Ok (l.Items xs, rest)))
 
-selection_of_star : (functions : Bool) (u : Token) (ts : List Token) → u.kind ≡ k.Star → selection functions (u ∷ ts) ≡ Ok (l.All, ts)
+selection_of_word : (served : Served) (ts : List Token) → kind ts ≡ k.Word → selection served ts ≡ worded served served.count ts
+unfolding selection sees same_kind
+selection_of_word served ts e = rw e refl
+
+worded_uncounted : (served : Served) (count : Bool) (ts : List Token) → calls (codes "COUNT") ts ≡ false → worded served count ts ≡ and_then (items served.functions ts) (λ xs rest. Ok (l.Items xs, rest))
+worded_uncounted served false ts e = refl
+worded_uncounted served true ts e = rw e refl
+
+selection_of_star : (served : Served) (u : Token) (ts : List Token) → u.kind ≡ k.Star → selection served (u ∷ ts) ≡ Ok (l.All, ts)
 unfolding selection sees kind next
-selection_of_star functions u ts e = rw (is_kind u.kind k.Star e) refl
+selection_of_star served u ts e = rw (is_kind u.kind k.Star e) refl
+
+-- no item is a call of COUNT
+item_uncounted : (functions : Bool) (x : ServedItem functions) (used : List Token) (t : Token) (rest : List Token) → IsItem functions x used → EndsColumn t.kind
+    → calls (codes "COUNT") (used ++ t ∷ rest) ≡ false
+unfolding same_name
+item_uncounted functions x used t rest (inl (y, e, p)) f = column_uncalled y used t rest p f (codes "COUNT")
+item_uncounted false x used t rest (inr p) f = absurd p
+item_uncounted true x used t rest (inr (inl (y, e, p))) f = call_miss (codes "ST_AsText") (codes "COUNT") (IsColumn y) used (t ∷ rest) p refl
+item_uncounted true x used t rest (inr (inr (inl (y, e, p)))) f = call_miss (codes "ST_Dimension") (codes "COUNT") (IsColumn y) used (t ∷ rest) p refl
+item_uncounted true x used t rest (inr (inr (inr (y, e, p)))) f = call_miss (codes "ST_IsEmpty") (codes "COUNT") (IsColumn y) used (t ∷ rest) p refl
+
+items_uncounted : (functions : Bool) (more : List (ServedItem functions)) (x : ServedItem functions) (used : List Token) (t : Token) (rest : List Token)
+    → IsParts k.Comma (IsItem functions) x more used → EndsColumn t.kind → calls (codes "COUNT") (used ++ t ∷ rest) ≡ false
+unfolding same_kind
+items_uncounted functions [] x used t rest p f = item_uncounted functions x used t rest p f
+items_uncounted functions (y ∷ more) x used t rest (a, b, e, p, q) f =
+    let m = one_first _ (IsParts k.Comma (IsItem functions) y more) b q in
+    ap (calls (codes "COUNT")) (split used a b m.1 (t ∷ rest) m.0 e m.2)
+    ∙ item_uncounted functions x a m.0 (m.1 ++ t ∷ rest) p (ends_by EndsColumn m.0.kind k.Comma m.3 (refl, refl))
+
+star_read : {C : Type 0} (used tail : List Token) → IsCall (codes "COUNT") (IsToken k.Star) used → enclosed (counted {C = C}) (next (used ++ tail)) ≡ Ok (l.Count, tail)
+star_read {C} used tail p =
+    call_read (codes "COUNT") (counted {C = C}) (IsCounted {C = C}) whole l.Count used tail (call_but (codes "COUNT") (IsToken k.Star) (IsCounted {C = C} l.Count) used (λ a q. (tt, refl, q)) p)
+  where
+    whole : Complete (counted {C = C}) (IsCounted {C = C}) EndsArgument
+    whole x a r tail (u, e, q) right =
+        let star = one_only _ a q in
+        ap (λ l. counted {C = C} (l ++ r ∷ tail)) star.1 ∙ ap (λ o. and_then o (λ _ rest. Ok (l.Count, rest))) (expect_read k.Star star.0 (r ∷ tail) star.2) ∙ ap (λ y. Ok (y, r ∷ tail)) (sym e)
+
+counted_complete : (served : Served) (count : Bool) → count ≡ true → (used : List Token) (t : Token) (rest : List Token) → IsCall (codes "COUNT") (IsToken k.Star) used
+    → worded served count (used ++ t ∷ rest) ≡ Ok (l.Count, t ∷ rest)
+counted_complete served false is_served used t rest p = absurd (cc)
+counted_complete served true is_served used t rest p =
+    let C : Type 0 = ItemArgument served.functions in
+    first_called (count_function {C = C} true) (λ ts. and_then (items served.functions ts) (λ xs rest. Ok (l.Items xs, rest))) (used ++ t ∷ rest) (enclosed counted)
+    (inl (call_hit (codes "COUNT") (IsToken k.Star) used (t ∷ rest) p, refl)) ∙ star_read {C = C} used (t ∷ rest) p
 
 abbrev pub EndsItems : TokenKind → Type 0
 EndsItems kind = EndsColumn kind × (same_kind kind k.Comma ≡ false)
@@ -899,13 +943,18 @@ items_complete functions first more used t rest p f =
     parts_complete k.Comma (item functions) (IsItem functions) EndsColumn (refl, refl) (item_complete functions) more first (length (used ++ t ∷ rest)) [] used t rest p f.0 f.1
     (turns_suffice k.Comma (IsItem functions) more first used t rest p)
 
-pub selection_complete : (functions : Bool) → Complete (selection functions) (IsSelection functions) EndsItems
-selection_complete functions x used t rest (inl (e, p)) f =
+pub selection_complete : (served : Served) → Complete (selection served) (IsSelection served) EndsItems
+selection_complete served x used t rest (inl (e, p)) f =
     let star = one_only _ used p in
-    ap (λ l. selection functions (l ++ t ∷ rest)) star.1 ∙ selection_of_star functions star.0 (t ∷ rest) star.2 ∙ ap (λ y. Ok (y, t ∷ rest)) (sym e)
-selection_complete functions x used t rest (inr (first, more, e, p)) f =
-    selection_of_word functions (used ++ t ∷ rest) (kind_after k.Word used (t ∷ rest) (items_word functions more first used p))
-    ∙ ap (λ r. and_then r (λ xs rest. Ok (l.Items xs, rest))) (items_complete functions first more used t rest p f) ∙ ap (λ y. Ok (y, t ∷ rest)) (sym e)
+    ap (λ l. selection served (l ++ t ∷ rest)) star.1 ∙ selection_of_star served star.0 (t ∷ rest) star.2 ∙ ap (λ y. Ok (y, t ∷ rest)) (sym e)
+selection_complete served x used t rest (inr (inl (first, more, e, p))) f =
+    let F : Bool = served.functions in
+    selection_of_word served (used ++ t ∷ rest) (kind_after k.Word used (t ∷ rest) (items_word F more first used p))
+    ∙ worded_uncounted served served.count (used ++ t ∷ rest) (items_uncounted F more first used t rest p f.0)
+    ∙ ap (λ r. and_then r (λ xs rest. Ok (l.Items xs, rest))) (items_complete F first more used t rest p f) ∙ ap (λ y. Ok (y, t ∷ rest)) (sym e)
+selection_complete served x used t rest (inr (inr (is_served, e, p))) f =
+    selection_of_word served (used ++ t ∷ rest) (kind_after k.Word used (t ∷ rest) (call_word (codes "COUNT") (IsToken k.Star) used p))
+    ∙ counted_complete served served.count is_served used t rest p ∙ ap (λ y. Ok (y, t ∷ rest)) (sym e)
 
 abbrev pub EndsReference : TokenKind → Type 0
 EndsReference kind = (same_kind kind k.LeftParenthesis ≡ false) × (same_kind kind k.As ≡ false) × (same_kind kind k.Word ≡ false)
@@ -1098,12 +1147,12 @@ explained_complete served told used t rest (inr (inr (is_served, is_analyzed, e,
       e,
     ) refl
 
--- ---- queries as a whole
+-- ---- WHERE
 
 abbrev pub EndsWhere : TokenKind → Type 0
 EndsWhere kind = EndsCondition kind × (same_kind kind k.Where ≡ false)
 
-where_of_none : (functions : Bool) (t : Token) (rest : List Token) → same_kind t.kind k.Where ≡ false → where_condition functions (t ∷ rest) ≡ Ok (None, t ∷ rest)
+pub where_of_none : (functions : Bool) (t : Token) (rest : List Token) → same_kind t.kind k.Where ≡ false → where_condition functions (t ∷ rest) ≡ Ok (None, t ∷ rest)
 unfolding where_condition after sees kind next
 where_of_none functions t rest f = rw f refl
 
@@ -1121,7 +1170,34 @@ where_complete functions x used t rest (inr (y, ex, p)) f = go (one_first _ (IsC
         ap (λ l. where_condition functions (l ++ t ∷ rest)) e ∙ where_of_word functions m (d ++ t ∷ rest) word
         ∙ ap (λ r. and_then r (λ x rest. Ok (Some x, rest))) (condition_complete functions y d t rest h f.0) ∙ ap (λ z. Ok (z, t ∷ rest)) (sym ex)
 
--- what stands after WHERE's condition, and after a table reference
+-- ---- LIMIT
+
+limit_of_none : (served : Served) (t : Token) (rest : List Token) → same_kind t.kind k.Limit ≡ false → limited served (t ∷ rest) ≡ Ok (None, t ∷ rest)
+unfolding sees kind
+limit_of_none served t rest f = rw (f, and_false served.limit false refl) refl
+
+pub limit_of_word : (served : Served) (m : Token) (ts : List Token) → served.limit ≡ true → m.kind ≡ k.Limit → limited served (m ∷ ts) ≡ limit_number ts
+unfolding sees kind next
+limit_of_word served m ts is_served e = rw (is_served, is_kind m.kind k.Limit e) refl
+
+count_complete : (n : ℕ) (u : Token) (rest : List Token) → u.kind ≡ k.Integer → limit_value u.text ≡ Some n → limit_number (u ∷ rest) ≡ Ok (Some n, rest)
+unfolding limit_number sees kind next place spelling
+count_complete n u rest e g = rw (is_kind u.kind k.Integer e, g) refl
+
+abbrev pub EndsLimit : TokenKind → Type 0
+EndsLimit kind = same_kind kind k.Limit ≡ false
+
+limit_complete : (served : Served) → Complete (limited served) (IsLimit served) EndsLimit
+limit_complete served x used t rest (inl (e, none)) f = ap (λ l. limited served (l ++ t ∷ rest)) none ∙ limit_of_none served t rest f ∙ ap (λ y. Ok (y, t ∷ rest)) (sym e)
+limit_complete served x used t rest (inr (is_served, n, e, p)) f =
+    let m = one_first _ (IsRowCount n) used p in
+    let u = one_only _ m.1 m.4 in
+    ap (λ l. limited served (l ++ t ∷ rest)) (m.2 ∙ ap (λ l. m.0 ∷ l) u.1) ∙ limit_of_word served m.0 (u.0 ∷ t ∷ rest) is_served m.3
+    ∙ count_complete n u.0 (t ∷ rest) u.2.0 u.2.1 ∙ ap (λ y. Ok (y, t ∷ rest)) (sym e)
+
+-- ---- the end of a query
+
+-- what stands at the end
 abbrev pub IsTail : Phrase
 IsTail = IsOptional k.Semicolon ▸ IsToken k.End
 
@@ -1142,18 +1218,27 @@ tail_read ts (semi, last, e, inr s, p) =
     let first = one_only _ semi s in
     ap (λ l. expect fault.Syntax k.End (after k.Semicolon l)) (e ∙ ap (λ l. l ++ last) first.1 ∙ ap (λ l. first.0 ∷ l) end.1) ∙ semicolon_read first.0 end.0 first.2 end.2
 
+-- what stands after the condition of WHERE, or in its place
 abbrev pub EndsBoth : TokenKind → Type 0
 EndsBoth kind = EndsWhere kind × EndsSecond kind
 
-end_ends : (kind : TokenKind) → kind ≡ k.End → EndsBoth kind
-unfolding same_kind
-end_ends kind e = ends_by EndsBoth kind k.End e ((((((refl, refl), refl), refl), refl), refl), (((((refl, refl), refl), refl), refl), (refl, refl, refl), refl, refl, refl, refl))
+-- what stands after LIMIT's number, or in its place
+abbrev pub EndsAll : TokenKind → Type 0
+EndsAll kind = EndsBoth kind × EndsLimit kind
 
-semicolon_ends : (kind : TokenKind) → kind ≡ k.Semicolon → EndsBoth kind
+end_ends : (kind : TokenKind) → kind ≡ k.End → EndsAll kind
 unfolding same_kind
-semicolon_ends kind e = ends_by EndsBoth kind k.Semicolon e ((((((refl, refl), refl), refl), refl), refl), (((((refl, refl), refl), refl), refl), (refl, refl, refl), refl, refl, refl, refl))
+end_ends kind e = ends_by EndsAll kind k.End e (((((((refl, refl), refl), refl), refl), refl), (((((refl, refl), refl), refl), refl), (refl, refl, refl), refl, refl, refl, refl)), refl)
 
-tail_begins : (ts : List Token) → IsTail ts → Begins EndsBoth ts
+semicolon_ends : (kind : TokenKind) → kind ≡ k.Semicolon → EndsAll kind
+unfolding same_kind
+semicolon_ends kind e = ends_by EndsAll kind k.Semicolon e (((((((refl, refl), refl), refl), refl), refl), (((((refl, refl), refl), refl), refl), (refl, refl, refl), refl, refl, refl, refl)), refl)
+
+pub limit_ends : (kind : TokenKind) → kind ≡ k.Limit → EndsBoth kind
+unfolding same_kind
+limit_ends kind e = ends_by EndsBoth kind k.Limit e ((((((refl, refl), refl), refl), refl), refl), (((((refl, refl), refl), refl), refl), (refl, refl, refl), refl, refl, refl, refl))
+
+tail_begins : (ts : List Token) → IsTail ts → Begins EndsAll ts
 tail_begins ts (semi, last, e, inl none, p) =
     let end = one_only _ last p in
     (end.0, [], e ∙ ap (λ l. l ++ last) none ∙ end.1, end_ends end.0.kind end.2)
@@ -1168,11 +1253,17 @@ pub where_ends : (kind : TokenKind) → kind ≡ k.Where → EndsSecond kind
 unfolding same_kind
 where_ends kind e = ends_by EndsSecond kind k.Where e (((((refl, refl), refl), refl), refl), (refl, refl, refl), refl, refl, refl, refl)
 
-where_begins : (functions : Bool) (filter : Option (ServedCond functions)) (a b ts : List Token) → ts ≡ a ++ b → IsWhere functions filter a → IsTail b → Begins EndsSecond ts
-where_begins functions filter a b ts e (inl (ex, none)) q =
-    let tail : Begins EndsSecond b = begins_but EndsBoth EndsSecond b (λ kind f. f.1) (tail_begins b q) in
+limit_begins : (served : Served) (most : Option ℕ) (a b ts : List Token) → ts ≡ a ++ b → IsLimit served most a → IsTail b → Begins EndsBoth ts
+limit_begins served most a b ts e (inl (ex, none)) q =
+    let tail : Begins EndsBoth b = begins_but EndsAll EndsBoth b (λ kind f. f.0) (tail_begins b q) in
     (tail.0, tail.1, e ∙ ap (λ l. l ++ b) none ∙ tail.2, tail.3)
-where_begins functions filter a b ts e (inr (y, ex, p)) q = go (one_first _ (IsCondition functions y) a p)
+limit_begins served most a b ts e (inr (is_served, n, ex, p)) q =
+    let m = one_first _ (IsRowCount n) a p in
+    (m.0, m.1 ++ b, e ∙ ap (λ l. l ++ b) m.2, limit_ends m.0.kind m.3)
+
+where_begins : (functions : Bool) (filter : Option (ServedCond functions)) (a b ts : List Token) → ts ≡ a ++ b → IsWhere functions filter a → Begins EndsBoth b → Begins EndsSecond ts
+where_begins functions filter a b ts e (inl (ex, none)) tail = (tail.0, tail.1, e ∙ ap (λ l. l ++ b) none ∙ tail.2, tail.3.1)
+where_begins functions filter a b ts e (inr (y, ex, p)) tail = go (one_first _ (IsCondition functions y) a p)
   where
     go : ((m : Token) × (d : List Token) × (a ≡ m ∷ d) × (m.kind ≡ k.Where) × IsCondition functions y d) → Begins EndsSecond ts
     go (m, d, g, word, h) = (m, d ++ b, e ∙ ap (λ l. l ++ b) g, where_ends m.kind word)
@@ -1196,35 +1287,52 @@ second_begins served both a b ts e (inr (inr (is_served, given, x, ex, ey, (a1, 
     let m = one_only _ a1 p in
     (m.0, b1 ++ b, e ∙ ap (λ l. l ++ b) (e1 ∙ ap (λ l. l ++ b1) m.1), ends_reference m.0.kind k.Inner m.2 (refl, refl, refl))
 
+-- ---- queries as a whole
+
 query_by_steps : (served : Served) (told : Explain) (listed : Selection (ItemArgument served.functions)) (first : WrittenReference) (both : Second served.functions)
-    (filter : Option (ServedCond served.functions)) (ts ts0 ts1 ts2 ts3 ts4 ts5 tail : List Token)
-    → explained served ts ≡ Ok (told, ts0) → expect fault.Syntax k.Select ts0 ≡ Ok (tt, ts1) → selection served.functions ts1 ≡ Ok (listed, ts2) → expect fault.Syntax k.From ts2 ≡ Ok (tt, ts3)
-    → reference ts3 ≡ Ok (first, ts4) → second served ts4 ≡ Ok (both, ts5) → where_condition served.functions ts5 ≡ Ok (filter, tail) → expect fault.Syntax k.End (after k.Semicolon tail) ≡ Ok (tt, [])
-    → query served ts ≡ Ok (record { explain = told; selection = listed; first = first; second = both.0; on = both.1; condition = filter }, [])
+    (filter : Option (ServedCond served.functions)) (most : Option ℕ) (ts ts0 ts1 ts2 ts3 ts4 ts5 ts6 tail : List Token)
+    → explained served ts ≡ Ok (told, ts0) → expect fault.Syntax k.Select ts0 ≡ Ok (tt, ts1) → selection served ts1 ≡ Ok (listed, ts2) → expect fault.Syntax k.From ts2 ≡ Ok (tt, ts3)
+    → reference ts3 ≡ Ok (first, ts4) → second served ts4 ≡ Ok (both, ts5) → where_condition served.functions ts5 ≡ Ok (filter, ts6) → limited served ts6 ≡ Ok (most, tail)
+    → expect fault.Syntax k.End (after k.Semicolon tail) ≡ Ok (tt, [])
+    → query served ts ≡ Ok (record { explain = told; selection = listed; first = first; second = both.0; on = both.1; condition = filter; limit = most }, [])
 unfolding query
-query_by_steps served told listed first both filter ts ts0 ts1 ts2 ts3 ts4 ts5 tail e0 e1 e2 e3 e4 e5 e6 e7 = rw (e0, e1, e2, e3, e4, e5, e6, e7) refl
+query_by_steps served told listed first both filter most ts ts0 ts1 ts2 ts3 ts4 ts5 ts6 tail e0 e1 e2 e3 e4 e5 e6 e7 e8 = rw (e0, e1, e2, e3, e4, e5, e6, e7, e8) refl
 
--- from the condition on
-abbrev pub Rest5 : (functions : Bool) → Option (ServedCond functions) → List Token → Type 0
-Rest5 functions filter ts =
-    (tail : List Token) × (where_condition functions ts ≡ Ok (filter, tail)) × (expect fault.Syntax k.End (after k.Semicolon tail) ≡ Ok (tt, [])) × Begins EndsSecond ts
+-- from LIMIT on
+abbrev pub Rest6 : Served → Option ℕ → List Token → Type 0
+Rest6 served most ts = (tail : List Token) × (limited served ts ≡ Ok (most, tail)) × (expect fault.Syntax k.End (after k.Semicolon tail) ≡ Ok (tt, [])) × Begins EndsBoth ts
 
-rest5 : (functions : Bool) (filter : Option (ServedCond functions)) (ts : List Token) → (IsWhere functions filter ▸ IsTail) ts → Rest5 functions filter ts
-rest5 functions filter ts (a, b, e, p, q) = (
+rest6 : (served : Served) (most : Option ℕ) (ts : List Token) → (IsLimit served most ▸ IsTail) ts → Rest6 served most ts
+rest6 served most ts (a, b, e, p, q) = (
   b,
-  ap (where_condition functions) e ∙ complete_at (where_condition functions) (IsWhere functions) EndsWhere (where_complete functions) filter a b p (begins_but EndsBoth EndsWhere b (λ kind f. f.0) (tail_begins b q)),
+  ap (limited served) e ∙ complete_at (limited served) (IsLimit served) EndsLimit (limit_complete served) most a b p (begins_but EndsAll EndsLimit b (λ kind f. f.1) (tail_begins b q)),
   tail_read b q,
-  where_begins functions filter a b ts e p q,
+  limit_begins served most a b ts e p q,
 )
 
--- from the second reference on
-abbrev pub Rest4 : (served : Served) → Second served.functions → Option (ServedCond served.functions) → List Token → Type 0
-Rest4 served both filter ts = (mid : List Token) × (second served ts ≡ Ok (both, mid)) × Rest5 served.functions filter mid × Begins EndsReference ts
+-- from the condition on
+abbrev pub Rest5 : (served : Served) → Option (ServedCond served.functions) → Option ℕ → List Token → Type 0
+Rest5 served filter most ts = (mid : List Token) × (where_condition served.functions ts ≡ Ok (filter, mid)) × Rest6 served most mid × Begins EndsSecond ts
 
-rest4 : (served : Served) (both : Second served.functions) (filter : Option (ServedCond served.functions)) (ts : List Token) → (IsBoth served both ▸ IsWhere served.functions filter ▸ IsTail) ts
-    → Rest4 served both filter ts
-rest4 served both filter ts (a, b, e, p, q) =
-    let more = rest5 served.functions filter b q in (
+rest5 : (served : Served) (filter : Option (ServedCond served.functions)) (most : Option ℕ) (ts : List Token) → (IsWhere served.functions filter ▸ IsLimit served most ▸ IsTail) ts
+    → Rest5 served filter most ts
+rest5 served filter most ts (a, b, e, p, q) =
+    let F : Bool = served.functions in
+    let more = rest6 served most b q in (
+      b,
+      ap (where_condition F) e ∙ complete_at (where_condition F) (IsWhere F) EndsWhere (where_complete F) filter a b p (begins_but EndsBoth EndsWhere b (λ kind f. f.0) more.3),
+      more,
+      where_begins F filter a b ts e p more.3,
+    )
+
+-- from the second reference on
+abbrev pub Rest4 : (served : Served) → Second served.functions → Option (ServedCond served.functions) → Option ℕ → List Token → Type 0
+Rest4 served both filter most ts = (mid : List Token) × (second served ts ≡ Ok (both, mid)) × Rest5 served filter most mid × Begins EndsReference ts
+
+rest4 : (served : Served) (both : Second served.functions) (filter : Option (ServedCond served.functions)) (most : Option ℕ) (ts : List Token)
+    → (IsBoth served both ▸ IsWhere served.functions filter ▸ IsLimit served most ▸ IsTail) ts → Rest4 served both filter most ts
+rest4 served both filter most ts (a, b, e, p, q) =
+    let more = rest5 served filter most b q in (
       b,
       ap (second served) e ∙ complete_at (second served) (IsBoth served) EndsSecond (second_complete served) both a b p more.3,
       more,
@@ -1237,27 +1345,27 @@ from_ends kind e = ends_by EndsItems kind k.From e ((refl, refl), refl)
 
 -- what is written from the second reference on
 abbrev pub IsRest : (served : Served) → ServedQuery served → Phrase
-IsRest served q = IsSecond served q.second q.on ▸ IsWhere served.functions q.condition ▸ IsTail
+IsRest served q = IsSecond served q.second q.on ▸ IsWhere served.functions q.condition ▸ IsLimit served q.limit ▸ IsTail
 
 pub select_complete : (served : Served) (q : ServedQuery served) (ts : List Token) → IsSelect served q ts → query served ts ≡ Ok (q, [])
 select_complete served q ts (a0, b0, e0, told, p) = at_select (one_first _ _ b0 p)
   where
-    at_reference : (m : Token) (ts1 a1 : List Token) (n : Token) (ts3 : List Token) → b0 ≡ m ∷ ts1 → m.kind ≡ k.Select → ts1 ≡ a1 ++ n ∷ ts3 → n.kind ≡ k.From → IsSelection served.functions q.selection a1
+    at_reference : (m : Token) (ts1 a1 : List Token) (n : Token) (ts3 : List Token) → b0 ≡ m ∷ ts1 → m.kind ≡ k.Select → ts1 ≡ a1 ++ n ∷ ts3 → n.kind ≡ k.From → IsSelection served q.selection a1
         → (IsReference q.first ▸ IsRest served q) ts3 → query served ts ≡ Ok (q, [])
     at_reference m ts1 a1 n ts3 e1 s cut f l1 (a, b, e, r, w) =
-        let more = rest4 served (q.second, q.on) q.condition b w in
-        query_by_steps served q.explain q.selection q.first (q.second, q.on) q.condition ts (m ∷ ts1) ts1 (n ∷ ts3) ts3 b more.0 more.2.0
+        let more = rest4 served (q.second, q.on) q.condition q.limit b w in
+        query_by_steps served q.explain q.selection q.first (q.second, q.on) q.condition q.limit ts (m ∷ ts1) ts1 (n ∷ ts3) ts3 b more.0 more.2.0 more.2.2.0
         (ap (explained served) (e0 ∙ ap (λ l. a0 ++ l) e1) ∙ explained_complete served q.explain a0 m ts1 told s)
         (expect_read k.Select m ts1 s)
-        (ap (selection served.functions) cut ∙ selection_complete served.functions q.selection a1 n ts3 l1 (from_ends n.kind f))
+        (ap (selection served) cut ∙ selection_complete served q.selection a1 n ts3 l1 (from_ends n.kind f))
         (expect_read k.From n ts3 f)
         (ap reference e ∙ complete_at reference IsReference EndsReference reference_complete q.first a b r more.3)
-        more.1 more.2.1 more.2.2
+        more.1 more.2.1 more.2.2.1 more.2.2.2
 
-    at_from : (m : Token) (ts1 a1 b1 : List Token) → b0 ≡ m ∷ ts1 → m.kind ≡ k.Select → ts1 ≡ a1 ++ b1 → IsSelection served.functions q.selection a1
+    at_from : (m : Token) (ts1 a1 b1 : List Token) → b0 ≡ m ∷ ts1 → m.kind ≡ k.Select → ts1 ≡ a1 ++ b1 → IsSelection served q.selection a1
         → ((n : Token) × (ts3 : List Token) × (b1 ≡ n ∷ ts3) × (n.kind ≡ k.From) × (IsReference q.first ▸ IsRest served q) ts3) → query served ts ≡ Ok (q, [])
     at_from m ts1 a1 b1 e1 s cut l1 (n, ts3, e2, f, r) = at_reference m ts1 a1 n ts3 e1 s (cut ∙ ap (λ l. a1 ++ l) e2) f l1 r
 
-    at_select : ((m : Token) × (ts1 : List Token) × (b0 ≡ m ∷ ts1) × (m.kind ≡ k.Select) × (IsSelection served.functions q.selection ▸ IsToken k.From ▸ IsReference q.first ▸ IsRest served q) ts1)
+    at_select : ((m : Token) × (ts1 : List Token) × (b0 ≡ m ∷ ts1) × (m.kind ≡ k.Select) × (IsSelection served q.selection ▸ IsToken k.From ▸ IsReference q.first ▸ IsRest served q) ts1)
         → query served ts ≡ Ok (q, [])
     at_select (m, ts1, e1, s, (a1, b1, cut, l1, more)) = at_from m ts1 a1 b1 e1 s cut l1 (one_first _ (IsReference q.first ▸ IsRest served q) b1 more)

@@ -16,12 +16,12 @@ use Rattle.table_model.specs.declared.tokens.TokenKind.TheVariants as k
 use Rattle.table_model.specs.Outcomes.{Gives}
 use Rattle.table_model.specs.Parsers.{kind, place, spelling, next, sees, after, and_then, expect, parts_from}
 use Rattle.table_model.specs.QueryGrammar.{Phrase, IsToken, ◌▸◌, IsOptional, IsParts, AreEnded, IsDigits, IsOperand, IsBool, IsPredicateOf, IsPredicate, IsChain, IsConjunction, IsConditionOf, IsNegationOf, IsNegation, IsCondition, IsSelection, IsReference, IsCrossed}
-use Rattle.table_model.specs.QueryReading.{Reader, integer, integer_value, operand, explained, selection, reference, comparison_of, compared, comparison, predicate_functions, predicate, chain, conjunction, condition_of, group, negation, most_levels, most_bytes, condition, Second, crossed, joined_on, second, where_condition, query, bad_place, query_of}
-use Rattle.table_model.specs.QueryRefusals.{IsAnyInteger, IsAnyOperand, IsAnyNegation, BeforeSecond, BeforeOn, BeforeWhere, AreParts, BeforeNegation, BeforeOperand, StandsAt, StandsIn, is_at_token, AnswersFirst}
+use Rattle.table_model.specs.QueryReading.{Reader, integer, integer_value, operand, explained, selection, reference, comparison_of, compared, comparison, predicate_functions, predicate, chain, conjunction, condition_of, group, negation, most_levels, most_bytes, condition, Second, joined_on, second, where_condition, limit_value, limit_number, limited, query, bad_place, query_of}
+use Rattle.table_model.specs.QueryRefusals.{IsAnyInteger, IsAnyOperand, IsAnyNegation, IsAnyCondition, BeforeSecond, BeforeOn, ThroughFrom, BeforeWhere, IsAnyWhere, BeforeLimit, AreParts, BeforeNegation, BeforeOperand, StandsAt, StandsIn, is_at_token, AnswersFirst}
 use Rattle.table_model.specs.Served.{Served, Argument, ItemArgument, ServedOperand, ServedCond, ServedQuery}
 use Rattle.table_model.specs.Tokens.{same_kind, tokens}
 use Rattle.grammar_laws.proofs.QuerySound.{Begins, one_begins, seq_begins, BeginsOperand, operand_begins}
-use Rattle.grammar_laws.proofs.QueryComplete.{Complete, is_kind, one_first, one_last, one_only, split, kind_after, ends_by, unnamed, none_called, operand_of_digits, operand_of_plus, operand_of_minus, EndsPredicate, EndsConjunction, EndsReference, compares_ends, operand_complete, no_predicate, not_word, part_then, turns_suffice, not_seen, negation_predicate, negation_not, negation_group, negation_complete, bool_begins, chain_complete, expect_read, explained_complete, selection_complete, from_ends, reference_complete, second_complete, second_of_none, second_of_inner, second_of_join, where_of_word, where_ends, on_ends, ends_reference}
+use Rattle.grammar_laws.proofs.QueryComplete.{Complete, is_kind, one_first, one_last, one_only, split, kind_after, ends_by, unnamed, none_called, operand_of_digits, operand_of_plus, operand_of_minus, EndsPredicate, EndsConjunction, EndsReference, compares_ends, operand_complete, no_predicate, not_word, part_then, turns_suffice, not_seen, negation_predicate, negation_not, negation_group, negation_complete, bool_begins, chain_complete, expect_read, explained_complete, selection_complete, from_ends, reference_complete, second_complete, second_of_none, second_of_inner, second_of_join, EndsSecond, where_of_none, where_of_word, limit_of_word, limit_ends, condition_complete, where_ends, on_ends, ends_reference}
 use Rattle.grammar_laws.proofs.QueryRefused.{Faults, query_faults}
 
 -- ---- what a reader answers whatever follows
@@ -525,11 +525,12 @@ condition_hits functions n used v u (ors, ands, (a, b, e, p, q)) hit =
 
 -- what is read from the second reference on
 abbrev pub finish : (served : Served) → Explain → Selection (ItemArgument served.functions) → WrittenReference → Second served.functions → Reader (ServedQuery served)
-finish served told listed first both = λ ts. and_then (where_condition served.functions ts) (λ condition rest. and_then (expect fault.Syntax k.End (after k.Semicolon rest))
-    (λ _ last. Ok (record { explain = told; selection = listed; first = first; second = both.0; on = both.1; condition = condition }, last)))
+finish served told listed first both = λ ts. and_then (where_condition served.functions ts) (λ condition rest. and_then (limited served rest) (λ most tail.
+    and_then (expect fault.Syntax k.End (after k.Semicolon tail))
+    (λ _ last. Ok (record { explain = told; selection = listed; first = first; second = both.0; on = both.1; condition = condition; limit = most }, last))))
 
 query_steps : (served : Served) (told : Explain) (listed : Selection (ItemArgument served.functions)) (first : WrittenReference) (ts ts0 ts1 ts2 ts3 ts4 : List Token)
-    → explained served ts ≡ Ok (told, ts0) → expect fault.Syntax k.Select ts0 ≡ Ok (tt, ts1) → selection served.functions ts1 ≡ Ok (listed, ts2) → expect fault.Syntax k.From ts2 ≡ Ok (tt, ts3)
+    → explained served ts ≡ Ok (told, ts0) → expect fault.Syntax k.Select ts0 ≡ Ok (tt, ts1) → selection served ts1 ≡ Ok (listed, ts2) → expect fault.Syntax k.From ts2 ≡ Ok (tt, ts3)
     → reference ts3 ≡ Ok (first, ts4) → query served ts ≡ and_then (second served ts4) (finish served told listed first)
 unfolding query
 query_steps served told listed first ts ts0 ts1 ts2 ts3 ts4 e0 e1 e2 e3 e4 = rw (e0, e1, e2, e3, e4) refl
@@ -540,12 +541,12 @@ Prefix served a = (told : Explain) × (listed : Selection (ItemArgument served.f
     × ((t : Token) (rest : List Token) → EndsReference t.kind → query served (a ++ t ∷ rest) ≡ and_then (second served (t ∷ rest)) (finish served told listed first))
 
 prefix_read : (served : Served) (a : List Token) → BeforeSecond served a → Prefix served a
-prefix_read served a (told, listed, first, (x, b, e, p, q)) = (told, listed, first, with_select (one_first _ (IsSelection served.functions listed ▸ IsToken k.From ▸ IsReference first) b q))
+prefix_read served a (told, listed, first, (x, b, e, p, q)) = (told, listed, first, with_select (one_first _ (IsSelection served listed ▸ IsToken k.From ▸ IsReference first) b q))
   where
     R : Type 0
     R = (t : Token) (rest : List Token) → EndsReference t.kind → query served (a ++ t ∷ rest) ≡ and_then (second served (t ∷ rest)) (finish served told listed first)
 
-    with_from : (m : Token) (d y z : List Token) → b ≡ m ∷ d → m.kind ≡ k.Select → d ≡ y ++ z → IsSelection served.functions listed y
+    with_from : (m : Token) (d y z : List Token) → b ≡ m ∷ d → m.kind ≡ k.Select → d ≡ y ++ z → IsSelection served listed y
         → ((n : Token) × (w : List Token) × (z ≡ n ∷ w) × (n.kind ≡ k.From) × IsReference first w) → R
     with_from m d y z g select h l (n, w, i, from, r) = λ t rest f.
         let ts1 : d ++ t ∷ rest ≡ y ++ n ∷ (w ++ t ∷ rest) = split d y z w (t ∷ rest) n h i in
@@ -553,11 +554,11 @@ prefix_read served a (told, listed, first, (x, b, e, p, q)) = (told, listed, fir
         query_steps served told listed first (a ++ t ∷ rest) (m ∷ (d ++ t ∷ rest)) (d ++ t ∷ rest) (n ∷ (w ++ t ∷ rest)) (w ++ t ∷ rest) (t ∷ rest)
         (ap (explained served) ts ∙ explained_complete served told x m (d ++ t ∷ rest) p select)
         (expect_read k.Select m (d ++ t ∷ rest) select)
-        (ap (selection served.functions) ts1 ∙ selection_complete served.functions listed y n (w ++ t ∷ rest) l (from_ends n.kind from))
+        (ap (selection served) ts1 ∙ selection_complete served listed y n (w ++ t ∷ rest) l (from_ends n.kind from))
         (expect_read k.From n (w ++ t ∷ rest) from)
         (reference_complete first w t rest r f)
 
-    with_select : ((m : Token) × (d : List Token) × (b ≡ m ∷ d) × (m.kind ≡ k.Select) × (IsSelection served.functions listed ▸ IsToken k.From ▸ IsReference first) d) → R
+    with_select : ((m : Token) × (d : List Token) × (b ≡ m ∷ d) × (m.kind ≡ k.Select) × (IsSelection served listed ▸ IsToken k.From ▸ IsReference first) d) → R
     with_select (m, d, g, select, (y, z, h, l, r)) = with_from m d y z g select h l (one_first _ (IsReference first) z r)
 
 -- the next token may follow the first table reference
@@ -572,11 +573,14 @@ finish_refused : (served : Served) (told : Explain) (listed : Selection (ItemArg
     → where_condition served.functions ts ≡ Err f → finish served told listed first both ts ≡ Err f
 finish_refused served told listed first both ts f e = rw e refl
 
-where_refused : (served : Served) (a ts : List Token) (both : Second served.functions) (m : Token) (tail : List Token) (f : QueryFault) → Prefix served a → Begins EndsReference ts
-    → second served ts ≡ Ok (both, m ∷ tail) → m.kind ≡ k.Where → condition served.functions tail ≡ Err f → query served (a ++ ts) ≡ Err f
-where_refused served a ts both m tail f p begins e word h =
-    prefix_at served a ts p begins ∙ ap (λ r. and_then r (finish served p.0 p.1 p.2)) e
-    ∙ finish_refused served p.0 p.1 p.2 both (m ∷ tail) f (where_of_word served.functions m tail word ∙ ap (λ r. and_then r (λ x rest. Ok (Some x, rest))) h)
+limit_refused : (served : Served) (told : Explain) (listed : Selection (ItemArgument served.functions)) (first : WrittenReference) (both : Second served.functions) (ts rest : List Token)
+    (filter : Option (ServedCond served.functions)) (f : QueryFault) → where_condition served.functions ts ≡ Ok (filter, rest) → limited served rest ≡ Err f → finish served told listed first both ts ≡ Err f
+limit_refused served told listed first both ts rest filter f e g = rw (e, g) refl
+
+filter_refused : (served : Served) (told : Explain) (listed : Selection (ItemArgument served.functions)) (first : WrittenReference) (both : Second served.functions) (m : Token) (tail : List Token) (f : QueryFault)
+    → m.kind ≡ k.Where → condition served.functions tail ≡ Err f → finish served told listed first both (m ∷ tail) ≡ Err f
+filter_refused served told listed first both m tail f word h =
+    finish_refused served told listed first both (m ∷ tail) f (where_of_word served.functions m tail word ∙ ap (λ r. and_then r (λ x rest. Ok (Some x, rest))) h)
 
 -- JOIN, a reference and ON, with INNER or not
 abbrev pub IsOn : WrittenReference → Phrase
@@ -653,58 +657,140 @@ with_condition functions given x used more (i, v1, e1, inner, (j, v2, e2, join, 
   (j, v2 ++ more, ap (λ l. l ++ more) e2 ∙ append_assoc j v2 more, join, (r, o ++ more, ap (λ l. l ++ more) e3 ∙ append_assoc r o more, reference, (o, more, refl, on, cond))),
 )
 
-where_hits : (served : Served) (before v : List Token) (u : Token) → BeforeWhere served before → Hits (condition served.functions) v u → Hits (query served) (before ++ v) u
-where_hits served before v u (inl (a, w, e, p, q)) (f, at, h) =
-    let word = one_only _ w q in (
-      f,
-      at,
-      λ rest.
-          let tail : List Token = v ++ u ∷ rest in
-          let ends = where_ends word.0.kind word.2 in
-          ap (query served) (in_a_row before a w v (u ∷ rest) e ∙ ap (λ l. a ++ (l ++ tail)) word.1)
-          ∙ where_refused served a (word.0 ∷ tail) (None, None) word.0 tail f (prefix_read served a p) (word.0, tail, refl, ends.1) (second_of_none served word.0 tail ends) word.2 (h rest),
+-- the references are read, and what follows them is read next, or a fault in the condition of ON is answered
+abbrev pub Through : Served → List Token → Type 0
+Through served before =
+    ((told : Explain) × (listed : Selection (ItemArgument served.functions)) × (first : WrittenReference) × (both : Second served.functions)
+    × ((m : Token) (tail : List Token) → EndsSecond m.kind → query served (before ++ m ∷ tail) ≡ finish served told listed first both (m ∷ tail)))
+    ⊎ Stops (query served) before
+
+through_second : (served : Served) (a ts : List Token) (both : Second served.functions) (rest : List Token) (p : Prefix served a) → Begins EndsReference ts → second served ts ≡ Ok (both, rest)
+    → query served (a ++ ts) ≡ finish served p.0 p.1 p.2 both rest
+through_second served a ts both rest p begins e = prefix_at served a ts p begins ∙ ap (λ r. and_then r (finish served p.0 p.1 p.2)) e
+
+through_meets : (served : Served) (before : List Token) → ThroughFrom served before → Through served before
+through_meets served before (inl p) =
+    let prefix = prefix_read served before p in
+    inl (prefix.0, prefix.1, prefix.2, (None, None), λ m tail ends. through_second served before (m ∷ tail) (None, None) (m ∷ tail) prefix (m, tail, refl, ends.1) (second_of_none served m tail ends))
+through_meets served before (inr (inl (is_served, given, (a, x, e, p, other)))) =
+    let prefix = prefix_read served a p in
+    inl (
+      prefix.0,
+      prefix.1,
+      prefix.2,
+      (Some given, None),
+      λ m tail ends.
+          ap (query served) (ap (λ l. l ++ m ∷ tail) e ∙ append_assoc a x (m ∷ tail))
+          ∙ through_second served a (x ++ m ∷ tail) (Some given, None) (m ∷ tail) prefix (begins_more EndsReference x (m ∷ tail) (crossed_begins given x other))
+          (second_complete served (Some given, None) x m tail (inr (inl (is_served, given, refl, refl, other))) ends),
     )
-where_hits served before v u (inr (inl (is_served, given, (a, b, e, p, (x, w, e2, crossed, q))))) (f, at, h) =
-    let word = one_only _ w q in (
-      f,
-      at,
-      λ rest.
-          let tail : List Token = v ++ u ∷ rest in
-          let ends = where_ends word.0.kind word.2 in
-          ap (query served) (in_a_row before a b v (u ∷ rest) e ∙ ap (λ l. a ++ (l ++ tail)) (e2 ∙ ap (λ l. x ++ l) word.1) ∙ ap (λ l. a ++ l) (append_assoc x (word.0 ∷ []) tail))
-          ∙ where_refused served a (x ++ word.0 ∷ tail) (Some given, None) word.0 tail f (prefix_read served a p) (begins_more EndsReference x (word.0 ∷ tail) (crossed_begins given x crossed))
-          (second_complete served (Some given, None) x word.0 tail (inr (inl (is_served, given, refl, refl, crossed))) ends) word.2 (h rest),
-    )
-where_hits served before v u (inr (inr (on, (a, b, e, (is_served, given, (x, y, e2, p, j)), (d, w, e3, cond, q))))) hit =
-    go (one_only _ w q) (condition_of_meets (negation F most_levels) (IsAnyNegation F) (IsNegation F most_levels) (negation_complete F most_levels) (any_negation_meets F most_levels) on d cond) hit
+through_meets served before (inr (inr (on, (a, d, e, (is_served, given, (x, y, e2, p, j)), cond)))) =
+    go (condition_of_meets (negation F most_levels) (IsAnyNegation F) (IsNegation F most_levels) (negation_complete F most_levels) (any_negation_meets F most_levels) on d cond)
   where
     F : Bool
     F = served.functions
 
-    cut : (m : Token) (tail : List Token) → w ≡ m ∷ [] → (before ++ v) ++ tail ≡ x ++ ((y ++ d) ++ m ∷ (v ++ tail))
-    cut m tail is =
-        in_a_row before a b v tail e ∙ ap (λ l. l ++ (b ++ (v ++ tail))) e2 ∙ append_assoc x y (b ++ (v ++ tail)) ∙ ap (λ l. x ++ (y ++ (l ++ (v ++ tail)))) (e3 ∙ ap (λ l. d ++ l) is)
-        ∙ ap (λ l. x ++ (y ++ l)) (append_assoc d (m ∷ []) (v ++ tail)) ∙ ap (λ l. x ++ l) (sym (append_assoc y d (m ∷ (v ++ tail))))
+    cut : (tail : List Token) → before ++ tail ≡ x ++ (y ++ (d ++ tail))
+    cut tail = ap (λ l. l ++ tail) e ∙ append_assoc a d tail ∙ ap (λ l. l ++ (d ++ tail)) e2 ∙ append_assoc x y (d ++ tail)
 
-    go : ((m : Token) × (w ≡ m ∷ []) × (m.kind ≡ k.Where)) → Meets (condition F) (IsCondition F) d → Hits (condition F) v u → Hits (query served) (before ++ v) u
-    go (m, is, word) (inl (z, s)) (f, at, h) = (
+    go : Meets (condition F) (IsCondition F) d → Through served before
+    go (inl (z, s)) =
+        let prefix = prefix_read served x p in
+        inl (
+          prefix.0,
+          prefix.1,
+          prefix.2,
+          (Some given, Some z),
+          λ m tail ends.
+              ap (query served) (cut (m ∷ tail) ∙ ap (λ l. x ++ l) (sym (append_assoc y d (m ∷ tail))))
+              ∙ through_second served x ((y ++ d) ++ m ∷ tail) (Some given, Some z) (m ∷ tail) prefix
+              (begins_more EndsReference (y ++ d) (m ∷ tail) (begins_more EndsReference y d (on_begins given y j)))
+              (second_complete served (Some given, Some z) (y ++ d) m tail (inr (inr (is_served, given, z, refl, refl, with_condition F given z y d j s))) ends),
+        )
+    go (inr (f, at, h)) = inr (
+      f,
+      at,
+      λ t rest.
+          ap (query served) (cut (t ∷ rest))
+          ∙ second_refused served x (y ++ (d ++ t ∷ rest)) f (prefix_read served x p) (begins_more EndsReference y (d ++ t ∷ rest) (on_begins given y j))
+          (join_refused served given y (d ++ t ∷ rest) f is_served j (h t rest)),
+    )
+
+where_hits : (served : Served) (before v : List Token) (u : Token) → BeforeWhere served before → Hits (condition served.functions) v u → Hits (query served) (before ++ v) u
+where_hits served before v u (a, w, e, p, q) (f, at, h) = go (one_only _ w q) (through_meets served a p)
+  where
+    go : ((m : Token) × (w ≡ m ∷ []) × (m.kind ≡ k.Where)) → Through served a → Hits (query served) (before ++ v) u
+    go (m, is, word) (inl (told, listed, first, both, read)) = (
       f,
       at,
       λ rest.
-          let tail : List Token = v ++ u ∷ rest in
-          ap (query served) (cut m (u ∷ rest) is)
-          ∙ where_refused served x ((y ++ d) ++ m ∷ tail) (Some given, Some z) m tail f (prefix_read served x p)
-          (begins_more EndsReference (y ++ d) (m ∷ tail) (begins_more EndsReference y d (on_begins given y j)))
-          (second_complete served (Some given, Some z) (y ++ d) m tail (inr (inr (is_served, given, z, refl, refl, with_condition F given z y d j s))) (where_ends m.kind word)) word (h rest),
+          ap (query served) (in_a_row before a w v (u ∷ rest) e ∙ ap (λ l. a ++ (l ++ (v ++ u ∷ rest))) is) ∙ read m (v ++ u ∷ rest) (where_ends m.kind word)
+          ∙ filter_refused served told listed first both m (v ++ u ∷ rest) f word (h rest),
     )
-    go (m, is, word) (inr (f, at, h)) hit = (
+    go (m, is, word) (inr (g, at2, stops)) =
+        (g, at2, λ rest. ap (query served) (in_a_row before a w v (u ∷ rest) e ∙ ap (λ l. a ++ (l ++ (v ++ u ∷ rest))) is) ∙ stops m (v ++ u ∷ rest))
+
+-- LIMIT's integer, where it is too big
+count_big : (u : Token) (rest : List Token) → u.kind ≡ k.Integer → limit_value u.text ≡ None → limit_number (u ∷ rest) ≡ Err (fault.NumberTooBig u.at)
+unfolding limit_number sees kind next place spelling
+count_big u rest e none = rw (is_kind u.kind k.Integer e, none) refl
+
+limit_big : (served : Served) (m u : Token) (rest : List Token) → served.limit ≡ true → m.kind ≡ k.Limit → u.kind ≡ k.Integer → limit_value u.text ≡ None
+    → limited served (m ∷ u ∷ rest) ≡ Err (fault.NumberTooBig u.at)
+limit_big served m u rest is_served word digits none = limit_of_word served m (u ∷ rest) is_served word ∙ count_big u rest digits none
+
+limit_hits : (served : Served) (before : List Token) (u : Token) → BeforeLimit served before → u.kind ≡ k.Integer → limit_value u.text ≡ None → Hits (query served) before u
+limit_hits served before u (is_served, (a, b, e, p, (w, c, e2, filter, q))) digits none = go (one_only _ c q) filter (through_meets served a p)
+  where
+    F : Bool
+    F = served.functions
+
+    cut : (m : Token) → c ≡ m ∷ [] → (rest : List Token) → before ++ u ∷ rest ≡ a ++ (w ++ m ∷ u ∷ rest)
+    cut m is rest = ap (λ l. l ++ u ∷ rest) (e ∙ ap (λ l. a ++ l) (e2 ∙ ap (λ l. w ++ l) is)) ∙ append_assoc a (w ++ m ∷ []) (u ∷ rest) ∙ ap (λ l. a ++ l) (append_assoc w (m ∷ []) (u ∷ rest))
+
+    big : (m : Token) → m.kind ≡ k.Limit → (rest : List Token) → limited served (m ∷ u ∷ rest) ≡ Err (fault.NumberTooBig u.at)
+    big m word rest = limit_big served m u rest is_served word digits none
+
+    -- behind WHERE and its condition
+    filtered : (m n : Token) (d : List Token) → c ≡ m ∷ [] → m.kind ≡ k.Limit → w ≡ n ∷ d → n.kind ≡ k.Where
+        → ((told : Explain) × (listed : Selection (ItemArgument served.functions)) × (first : WrittenReference) × (both : Second served.functions)
+        × ((t : Token) (tail : List Token) → EndsSecond t.kind → query served (a ++ t ∷ tail) ≡ finish served told listed first both (t ∷ tail)))
+        → Meets (condition F) (IsCondition F) d → Hits (query served) before u
+    filtered m n d is word cut_where where_word (told, listed, first, both, read) (inl (z, s)) = (
+      fault.NumberTooBig u.at,
+      refl,
+      λ rest.
+          ap (query served) (cut m is rest ∙ ap (λ l. a ++ (l ++ m ∷ u ∷ rest)) cut_where) ∙ read n (d ++ m ∷ u ∷ rest) (where_ends n.kind where_word)
+          ∙ limit_refused served told listed first both (n ∷ (d ++ m ∷ u ∷ rest)) (m ∷ u ∷ rest) (Some z) (fault.NumberTooBig u.at)
+          (where_of_word F n (d ++ m ∷ u ∷ rest) where_word ∙ ap (λ r. and_then r (λ x rest. Ok (Some x, rest))) (condition_complete F z d m (u ∷ rest) s (limit_ends m.kind word).0.0))
+          (big m word rest),
+    )
+    filtered m n d is word cut_where where_word (told, listed, first, both, read) (inr (f, at, h)) = (
       f,
       at,
       λ rest.
-          let tail : List Token = d ++ m ∷ (v ++ u ∷ rest) in
-          ap (query served) (cut m (u ∷ rest) is ∙ ap (λ l. x ++ l) (append_assoc y d (m ∷ (v ++ u ∷ rest))))
-          ∙ second_refused served x (y ++ tail) f (prefix_read served x p) (begins_more EndsReference y tail (on_begins given y j)) (join_refused served given y tail f is_served j (h m (v ++ u ∷ rest))),
+          ap (query served) (cut m is rest ∙ ap (λ l. a ++ (l ++ m ∷ u ∷ rest)) cut_where) ∙ read n (d ++ m ∷ u ∷ rest) (where_ends n.kind where_word)
+          ∙ filter_refused served told listed first both n (d ++ m ∷ u ∷ rest) f where_word (h m (u ∷ rest)),
     )
+
+    with_where : (m : Token) → c ≡ m ∷ [] → m.kind ≡ k.Limit → (x : ServedCond F) → ((n : Token) × (d : List Token) × (w ≡ n ∷ d) × (n.kind ≡ k.Where) × IsAnyCondition F x d)
+        → Through served a → Hits (query served) before u
+    with_where m is word x (n, d, cut_where, where_word, cond) (inl found) =
+        filtered m n d is word cut_where where_word found
+        (condition_of_meets (negation F most_levels) (IsAnyNegation F) (IsNegation F most_levels) (negation_complete F most_levels) (any_negation_meets F most_levels) x d cond)
+    with_where m is word x (n, d, cut_where, where_word, cond) (inr (f, at, stops)) =
+        (f, at, λ rest. ap (query served) (cut m is rest ∙ ap (λ l. a ++ (l ++ m ∷ u ∷ rest)) cut_where) ∙ stops n (d ++ m ∷ u ∷ rest))
+
+    go : ((m : Token) × (c ≡ m ∷ []) × (m.kind ≡ k.Limit)) → IsAnyWhere F w → Through served a → Hits (query served) before u
+    go (m, is, word) (inl absent) (inl (told, listed, first, both, read)) = (
+      fault.NumberTooBig u.at,
+      refl,
+      λ rest.
+          ap (query served) (cut m is rest ∙ ap (λ l. a ++ (l ++ m ∷ u ∷ rest)) absent) ∙ read m (u ∷ rest) (limit_ends m.kind word).1
+          ∙ limit_refused served told listed first both (m ∷ u ∷ rest) (m ∷ u ∷ rest) None (fault.NumberTooBig u.at) (where_of_none F m (u ∷ rest) (limit_ends m.kind word).0.1) (big m word rest),
+    )
+    go (m, is, word) (inl absent) (inr (f, at, stops)) = (f, at, λ rest. ap (query served) (cut m is rest ∙ ap (λ l. a ++ (l ++ m ∷ u ∷ rest)) absent) ∙ stops m (u ∷ rest))
+    go (m, is, word) (inr (x, p)) through = with_where m is word x (one_first _ (IsAnyCondition F x) w p) through
 
 -- ---- fronts of a condition
 
@@ -835,7 +921,8 @@ stands_hits served before u (fault.NumberTooBig at) (is, (digits, inl (big, p)))
 stands_hits served before u (fault.NumberTooBig at) (is, (digits, inr (inl (big, (a, b, e, p, q))))) =
     let m = one_only _ b q in
     hits_at (query served) (a ++ m.0 ∷ []) before u (sym (e ∙ ap (λ l. a ++ l) m.1)) (operand_hits served a (m.0 ∷ []) u p (plus_unseen m.0 u m.2) (plus_hit served.functions m.0 u m.2 digits big))
-stands_hits served before u (fault.NumberTooBig at) (is, (digits, inr (inr (big, (a, b, e, p, q))))) =
+stands_hits served before u (fault.NumberTooBig at) (is, (digits, inr (inr (inr (big, p))))) = limit_hits served before u p digits big
+stands_hits served before u (fault.NumberTooBig at) (is, (digits, inr (inr (inl (big, (a, b, e, p, q)))))) =
     let m = one_only _ b q in
     hits_at (query served) (a ++ m.0 ∷ []) before u (sym (e ∙ ap (λ l. a ++ l) m.1)) (operand_hits served a (m.0 ∷ []) u p (minus_unseen m.0 u m.2) (minus_hit served.functions m.0 u m.2 digits big))
 stands_hits served before u (fault.Lex at) h = absurd h

@@ -1,5 +1,5 @@
 -- A fault at a token that the readers of a query answer stands there.
-use Rattle.std.proofs.Common.{◌≡◌, ◌⊎◌, ◌≤◌, ◌+◌, ℕ, zero, suc, Bool, true, false, not, ◌&&◌, ◌||◌, if◌then◌else◌, ◌==◌, ℤ, List, [], ◌∷◌, ◌++◌, length, Option, Some, None, Result, Ok, Err, inl, inr, refl, sym, ap, subst, ◌∙◌, append_assoc, codes, arith}
+use Rattle.std.proofs.Common.{◌≡◌, ◌⊎◌, ◌≤◌, ◌+◌, ℕ, zero, suc, Bool, true, false, not, ◌&&◌, ◌||◌, if◌then◌else◌, ◌==◌, ℤ, List, [], ◌∷◌, ◌++◌, length, Option, Some, None, Result, Ok, Err, inl, inr, refl, sym, ap, subst, ◌∙◌, append_assoc, append-nil, codes, arith}
 use Rattle.std.specs.Prelude.{IfErr, nat_lt}
 use Rattle.std.specs.Str.Parse.{digits_value}
 use Rattle.std.proofs.lemmas.Bool.{false≢true, ltb-false}
@@ -17,12 +17,12 @@ use Rattle.table_model.specs.declared.tokens.TokenKind.{TokenKind}
 use Rattle.table_model.specs.declared.tokens.TokenKind.TheVariants as k
 use Rattle.table_model.specs.Outcomes.{Gives}
 use Rattle.table_model.specs.Parsers.{Outcome, kind, place, spelling, next, sees, after, and_then, expect, parts_from}
-use Rattle.table_model.specs.QueryGrammar.{Phrase, IsToken, ◌▸◌, IsOptional, IsParts, AreEnded, IsOperand, IsComparison, IsPredicateOf, IsPredicate, IsChain, IsConjunction, IsConditionOf, IsNegationOf, IsNegation, IsCondition, IsSelection, IsReference, IsExplain}
-use Rattle.table_model.specs.QueryReading.{Reader, Functions, name, column, calls, called_or, enclosed, string, geometry, integer, integer_value, integer_or, operand_functions, operand, comparison_of, compared, compared_by, null_test, comparison, truth_value, truth_test, tested, relates, relates_by, predicate_functions, predicate, chain, conjunction, condition_of, group, negation, most_levels, most_bytes, condition, item_functions, item, items, selection, alias, reference, Second, crossed, joined_on, second, where_condition, says, explained, query, bad_place, value_of, query_by, query_of}
-use Rattle.table_model.specs.QueryRefusals.{IsAnyOperand, IsAnyNegation, IsAnyCondition, BeforeSecond, BeforeOn, BeforeWhere, AreParts, BeforeNegation, BeforeOperand, IsTooBig, StandsIn, is_at_token, StandsInQuery}
-use Rattle.table_model.specs.Served.{Served, Argument, ServedOperand, ServedCond, ServedQuery}
+use Rattle.table_model.specs.QueryGrammar.{Phrase, IsToken, ◌▸◌, IsOptional, IsParts, AreEnded, IsOperand, IsComparison, IsPredicateOf, IsPredicate, IsChain, IsConjunction, IsConditionOf, IsNegationOf, IsNegation, IsCondition, IsSelection, IsReference, IsWhere, IsExplain}
+use Rattle.table_model.specs.QueryReading.{Reader, Functions, name, column, calls, called_or, enclosed, string, geometry, integer, integer_value, integer_or, operand_functions, operand, comparison_of, compared, compared_by, null_test, comparison, truth_value, truth_test, tested, relates, relates_by, predicate_functions, predicate, chain, conjunction, condition_of, group, negation, most_levels, most_bytes, condition, item_functions, item, items, counted, count_function, selection, alias, reference, Second, crossed, joined_on, second, where_condition, limit_value, limit_or, limit_number, limited, says, explained, query, bad_place, value_of, query_by, query_of}
+use Rattle.table_model.specs.QueryRefusals.{IsAnyOperand, IsAnyNegation, IsAnyCondition, BeforeSecond, BeforeOn, ThroughFrom, BeforeWhere, IsAnyWhere, BeforeLimit, AreParts, BeforeNegation, BeforeOperand, IsTooBig, StandsIn, is_at_token, StandsInQuery}
+use Rattle.table_model.specs.Served.{Served, Argument, ItemArgument, ServedOperand, ServedCond, ServedQuery}
 use Rattle.table_model.specs.Tokens.{same_kind, tokens}
-use Rattle.grammar_laws.proofs.QuerySound.{Sound, operand_sound, comparison_taken, chain_sound, negation_sound, explained_sound, selection_sound, reference_sound, expect_sound, second_sound, optional, IsBoth}
+use Rattle.grammar_laws.proofs.QuerySound.{Sound, operand_sound, comparison_taken, chain_sound, negation_sound, explained_sound, selection_sound, reference_sound, expect_sound, second_sound, where_sound, optional, IsBoth}
 use Rattle.grammar_laws.proofs.TokenReaders.{IfRead, Took, map_read, same, one, seq, but, ended_more}
 
 -- ---- the faults of a reader
@@ -175,10 +175,18 @@ parts_faultless between part none zero found E ts = λ e. absurd (false≢true e
 parts_faultless between part none (suc n) found E ts = then_none (part ts) _ E (none E ts)
     (λ x mid. eaten_faults between mid _ _ E (λ _. parts_faultless between part none n (found ++ x ∷ []) E (next mid)) (λ _. tt))
 
-selection_faults : (functions : Bool) → Faultless (selection functions)
+count_function_faults : (C : Type 0) (count : Bool) → AllFaultless (count_function {C = C} count)
+count_function_faults C false = tt
+count_function_faults C true =
+    (enclosed_faults (counted {C = C}) (λ E ts. then_none (expect fault.Syntax k.Star ts) _ E (expect_faults k.Star E ts) (λ _ rest. tt)), tt)
+
+selection_faults : (served : Served) → Faultless (selection served)
 unfolding selection
-selection_faults functions E ts = if_faults (sees k.Star ts) _ _ E (λ _. tt)
-    (λ _. then_none (items functions ts) _ E (parts_faultless k.Comma (item functions) (item_faults functions) (length ts) [] E ts) (λ xs rest. tt))
+selection_faults served E ts =
+    let F : Bool = served.functions in
+    if_faults (sees k.Star ts) _ _ E (λ _. tt)
+    (λ _. called_faults (count_function served.count) _ ts E (count_function_faults (ItemArgument served.functions) served.count)
+    (then_none (items F ts) _ E (parts_faultless k.Comma (item F) (item_faults F) (length ts) [] E ts) (λ xs rest. tt)))
 
 alias_faults : Faultless alias
 unfolding alias
@@ -276,12 +284,12 @@ unfolding integer
 integer_faults A negative E ts h =
     if_faults (sees k.Integer ts) _ _ E (λ is. digits_faults A E (place ts) (next ts) (integer_value negative (spelling ts)) (h is)) (λ _. λ e. absurd (false≢true e))
 
-big_here : (served : Served) (all : List Token) (P : Phrase) (negative : Bool) (ts : List Token) → Took all P ts → sees k.Integer ts ≡ true → integer_value negative (spelling ts) ≡ None
-    → ((before : List Token) (t : Token) → P before → t.kind ≡ k.Integer → integer_value negative t.text ≡ None → IsTooBig served before t)
+big_here : (served : Served) (all : List Token) (P : Phrase) {V : Type 0} (value : List ℕ → Option V) (ts : List Token) → Took all P ts → sees k.Integer ts ≡ true → value (spelling ts) ≡ None
+    → ((before : List Token) (t : Token) → P before → t.kind ≡ k.Integer → value t.text ≡ None → IsTooBig served before t)
     → StandsIn served all (fault.NumberTooBig (place ts))
 unfolding sees kind place spelling
-big_here served all P negative [] took is none f = absurd (let e = same k.Bad k.Integer is in cc)
-big_here served all P negative (t ∷ rest) took is none f = (took.0, rest, t, took.1, (refl, f took.0 t took.2 (same t.kind k.Integer is) none))
+big_here served all P value [] took is none f = absurd (let e = same k.Bad k.Integer is in cc)
+big_here served all P value (t ∷ rest) took is none f = (took.0, rest, t, took.1, (refl, f took.0 t took.2 (same t.kind k.Integer is) none))
 
 operand_faults : (served : Served) (all ts : List Token) → Took all (BeforeOperand served) ts → Faults (operand served.functions ts) (StandsIn served all)
 unfolding operand
@@ -292,13 +300,13 @@ operand_faults served all ts took =
     if_faults (sees k.Null ts) _ _ E (λ _. tt)
     (λ _. if_faults (sees k.Text ts) _ _ E (λ _. tt)
     (λ _. if_faults (sees k.Plus ts) _ _ E
-    (λ h. integer_faults A false E (next ts) (λ is none. big_here served all (B ▸ IsToken k.Plus) false (next ts) (seq B (IsToken k.Plus) all ts (next ts) took (one k.Plus ts (λ e. cc) h)) is none
+    (λ h. integer_faults A false E (next ts) (λ is none. big_here served all (B ▸ IsToken k.Plus) (integer_value false) (next ts) (seq B (IsToken k.Plus) all ts (next ts) took (one k.Plus ts (λ e. cc) h)) is none
     (λ before t p digits big. (digits, inr (inl (big, p))))))
     (λ _. if_faults (sees k.Minus ts) _ _ E
-    (λ h. integer_faults A true E (next ts) (λ is none. big_here served all (B ▸ IsToken k.Minus) true (next ts) (seq B (IsToken k.Minus) all ts (next ts) took (one k.Minus ts (λ e. cc) h)) is none
-    (λ before t p digits big. (digits, inr (inr (big, p))))))
+    (λ h. integer_faults A true E (next ts) (λ is none. big_here served all (B ▸ IsToken k.Minus) (integer_value true) (next ts) (seq B (IsToken k.Minus) all ts (next ts) took (one k.Minus ts (λ e. cc) h)) is none
+    (λ before t p digits big. (digits, inr (inr (inl (big, p)))))))
     (λ _. if_faults (sees k.Integer ts) _ _ E
-    (λ _. integer_faults A false E ts (λ is none. big_here served all B false ts took is none (λ before t p digits big. (digits, inl (big, p)))))
+    (λ _. integer_faults A false E ts (λ is none. big_here served all B (integer_value false) ts took is none (λ before t p digits big. (digits, inl (big, p)))))
     (λ _. called_faults (operand_functions served.functions (place ts)) _ ts E (operand_functions_faults served.functions (place ts)) (mapped_faults _ column column_faults E ts))))))
 
 -- ---- predicates
@@ -441,6 +449,10 @@ and_first : (a b : Bool) → (a && b) ≡ true → a ≡ true
 and_first true b h = refl
 and_first false b h = h
 
+and_second : (a b : Bool) → (a && b) ≡ true → b ≡ true
+and_second true b h = h
+and_second false b h = absurd (false≢true h)
+
 joined_on_faults : (served : Served) (all start ts : List Token) → served.second_reference ≡ true → Took all (BeforeSecond served) start → Took start (IsOptional k.Inner) ts
     → Faults (joined_on served.functions ts) (StandsIn served all)
 unfolding joined_on BeforeNegation
@@ -481,36 +493,53 @@ on_alone functions given x used (i, v1, e1, inner, (j, v2, e2, join, (r, v3, e3,
   cond,
 )
 
--- what stands before WHERE's condition
-before_where : (served : Served) (both : Second served.functions) (used : List Token) → (BeforeSecond served ▸ IsBoth served both ▸ IsToken k.Where) used → BeforeWhere served used
-before_where served both used (a, b, e, p, (u, w, e2, inl (x, y, none), q)) = inl (a, w, e ∙ ap (λ l. a ++ l) (e2 ∙ ap (λ l. l ++ w) none), p, q)
-before_where served both used (a, b, e, p, (u, w, e2, inr (inl (is_served, given, x, y, crossed)), q)) = inr (inl (is_served, given, (a, b, e, p, (u, w, e2, crossed, q))))
-before_where served both used (a, b, e, p, (u, w, e2, inr (inr (is_served, given, on, x, y, joined)), q)) = go (on_alone served.functions given on u joined)
+-- what stands up to the last table reference and its condition
+through_from : (served : Served) (both : Second served.functions) (used : List Token) → (BeforeSecond served ▸ IsBoth served both) used → ThroughFrom served used
+through_from served both used (a, b, e, p, inl (x, y, none)) = inl (subst (BeforeSecond served) (sym (e ∙ ap (λ l. a ++ l) none ∙ append-nil a)) p)
+through_from served both used (a, b, e, p, inr (inl (is_served, given, x, y, second))) = inr (inl (is_served, given, (a, b, e, p, second)))
+through_from served both used (a, b, e, p, inr (inr (is_served, given, on, x, y, joined))) = go (on_alone served.functions given on b joined)
   where
-    go : ((IsOptional k.Inner ▸ IsToken k.Join ▸ IsReference given ▸ IsToken k.On) ▸ IsCondition served.functions on) u → BeforeWhere served used
+    go : ((IsOptional k.Inner ▸ IsToken k.Join ▸ IsReference given ▸ IsToken k.On) ▸ IsCondition served.functions on) b → ThroughFrom served used
     go (f, d, e3, front, cond) = inr (inr (
       on,
-      (
-        a ++ f,
-        d ++ w,
-        e ∙ ap (λ l. a ++ l) (e2 ∙ ap (λ l. l ++ w) e3 ∙ append_assoc f d w) ∙ sym (append_assoc a f (d ++ w)),
-        (is_served, given, (a, f, refl, p, front)),
-        (d, w, refl, any_condition served.functions on d cond, q),
-      ),
+      (a ++ f, d, e ∙ ap (λ l. a ++ l) e3 ∙ sym (append_assoc a f d), (is_served, given, (a, f, refl, p, front)), any_condition served.functions on d cond),
     ))
 
-where_faults : (served : Served) (both : Second served.functions) (all start ts : List Token) → Took all (BeforeSecond served) start → Took start (IsBoth served both) ts
-    → Faults (where_condition served.functions ts) (StandsIn served all)
+where_faults : (served : Served) (all ts : List Token) → Took all (ThroughFrom served) ts → Faults (where_condition served.functions ts) (StandsIn served all)
 unfolding where_condition BeforeNegation
-where_faults served both all start ts took read =
+where_faults served all ts took =
     let E : QueryFault → Type 0 = StandsIn served all in
     eaten_faults k.Where ts _ _ E
     (λ h. then_none (condition served.functions (next ts)) _ E
     (condition_faults served (BeforeWhere served) all (λ us h. but (BeforeWhere served ▸ AreParts served.functions) (BeforeNegation served 0) all us h (λ used p. inr p)) (next ts)
-    (but (BeforeSecond served ▸ IsBoth served both ▸ IsToken k.Where) (BeforeWhere served) all (next ts)
-    (seq (BeforeSecond served) (IsBoth served both ▸ IsToken k.Where) all start (next ts) took (seq (IsBoth served both) (IsToken k.Where) start ts (next ts) read (one k.Where ts (λ e. cc) h)))
-    (before_where served both)))
+    (seq (ThroughFrom served) (IsToken k.Where) all ts (next ts) took (one k.Where ts (λ e. cc) h)))
     (λ x rest. tt))
+    (λ _. tt)
+
+any_where : (functions : Bool) (filter : Option (ServedCond functions)) (used : List Token) → IsWhere functions filter used → IsAnyWhere functions used
+any_where functions filter used (inl (e, none)) = inl none
+any_where functions filter used (inr (x, e, (a, b, cut, word, p))) = inr (x, (a, b, cut, word, any_condition functions x b p))
+
+count_faults : (E : QueryFault → Type 0) (at : ℕ) (rest : List Token) (v : Option ℕ) → (v ≡ None → E (fault.NumberTooBig at)) → Faults (limit_or v at rest) E
+count_faults E at rest None h = λ _. h refl
+count_faults E at rest (Some n) h = tt
+
+limit_faults : (served : Served) (filter : Option (ServedCond served.functions)) (all mid ts : List Token) → Took all (ThroughFrom served) mid → Took mid (IsWhere served.functions filter) ts
+    → Faults (limited served ts) (StandsIn served all)
+unfolding limit_number
+limit_faults served filter all mid ts took read =
+    let F : Bool = served.functions in
+    let E : QueryFault → Type 0 = StandsIn served all in
+    if_faults (served.limit && sees k.Limit ts) _ _ E
+    (λ h. if_faults (sees k.Integer (next ts)) _ _ E
+    (λ is. count_faults E (place (next ts)) (next (next ts)) (limit_value (spelling (next ts)))
+    (λ none. big_here served all (BeforeLimit served) limit_value (next ts)
+    (but (ThroughFrom served ▸ IsAnyWhere F ▸ IsToken k.Limit) (BeforeLimit served) all (next ts)
+    (seq (ThroughFrom served) (IsAnyWhere F ▸ IsToken k.Limit) all mid (next ts) took
+    (seq (IsAnyWhere F) (IsToken k.Limit) mid ts (next ts) (but (IsWhere F filter) (IsAnyWhere F) mid ts read (any_where F filter)) (one k.Limit ts (λ e. cc) (and_second _ _ h))))
+    (λ used p. (and_first _ _ h, p)))
+    is none (λ before t p digits big. (digits, inr (inr (inr (big, p)))))))
+    (λ _. λ e. absurd (false≢true e)))
     (λ _. tt)
 
 pub query_faults : (served : Served) (ts : List Token) → Faults (query served ts) (StandsIn served ts)
@@ -520,16 +549,19 @@ query_faults served ts =
     let E : QueryFault → Type 0 = StandsIn served ts in
     then_faults (explained served ts) _ (λ x rest. Took ts (IsExplain served x) rest) E (explained_sound served ts) (explained_faults served E ts)
     (λ told ts0 p0. then_faults (expect fault.Syntax k.Select ts0) _ (λ _ rest. Took ts0 (IsToken k.Select) rest) E (expect_sound k.Select ts0 (λ e. cc)) (expect_faults k.Select E ts0)
-    (λ _ ts1 p1. then_faults (selection F ts1) _ (λ x rest. Took ts1 (IsSelection F x) rest) E (selection_sound F ts1) (selection_faults F E ts1)
+    (λ _ ts1 p1. then_faults (selection served ts1) _ (λ x rest. Took ts1 (IsSelection served x) rest) E (selection_sound served ts1) (selection_faults served E ts1)
     (λ listed ts2 p2. then_faults (expect fault.Syntax k.From ts2) _ (λ _ rest. Took ts2 (IsToken k.From) rest) E (expect_sound k.From ts2 (λ e. cc)) (expect_faults k.From E ts2)
     (λ _ ts3 p3. then_faults (reference ts3) _ (λ x rest. Took ts3 (IsReference x) rest) E (reference_sound ts3) (reference_faults E ts3)
     (λ first ts4 p4.
-    let stood : Took ts (BeforeSecond served) ts4 = but (IsExplain served told ▸ IsToken k.Select ▸ IsSelection F listed ▸ IsToken k.From ▸ IsReference first) (BeforeSecond served) ts ts4
-    (seq (IsExplain served told) _ ts ts0 ts4 p0 (seq (IsToken k.Select) _ ts0 ts1 ts4 p1 (seq (IsSelection F listed) _ ts1 ts2 ts4 p2 (seq (IsToken k.From) (IsReference first) ts2 ts3 ts4 p3 p4))))
+    let stood : Took ts (BeforeSecond served) ts4 = but (IsExplain served told ▸ IsToken k.Select ▸ IsSelection served listed ▸ IsToken k.From ▸ IsReference first) (BeforeSecond served) ts ts4
+    (seq (IsExplain served told) _ ts ts0 ts4 p0 (seq (IsToken k.Select) _ ts0 ts1 ts4 p1 (seq (IsSelection served listed) _ ts1 ts2 ts4 p2 (seq (IsToken k.From) (IsReference first) ts2 ts3 ts4 p3 p4))))
     (λ used p. (told, listed, first, p)) in
     then_faults (second served ts4) _ (λ x rest. Took ts4 (IsBoth served x) rest) E (second_sound served ts4) (second_faults served ts ts4 stood)
-    (λ both ts5 p5. then_none (where_condition F ts5) _ E (where_faults served both ts ts4 ts5 stood p5)
-    (λ filter ts6. then_none (expect fault.Syntax k.End (after k.Semicolon ts6)) _ E (expect_faults k.End E (after k.Semicolon ts6)) (λ _ rest. tt))))))))
+    (λ both ts5 p5.
+    let through : Took ts (ThroughFrom served) ts5 = but (BeforeSecond served ▸ IsBoth served both) (ThroughFrom served) ts ts5 (seq (BeforeSecond served) (IsBoth served both) ts ts4 ts5 stood p5) (through_from served both) in
+    then_faults (where_condition F ts5) _ (λ x rest. Took ts5 (IsWhere F x) rest) E (where_sound F ts5) (where_faults served ts ts5 through)
+    (λ filter ts6 p6. then_none (limited served ts6) _ E (limit_faults served filter ts ts5 ts6 through p6)
+    (λ most ts7. then_none (expect fault.Syntax k.End (after k.Semicolon ts7)) _ E (expect_faults k.End E (after k.Semicolon ts7)) (λ _ rest. tt)))))))))
 
 -- ---- texts
 

@@ -24,8 +24,8 @@ use Rattle.table_model.specs.declared.tokens.Token.{Token}
 use Rattle.table_model.specs.declared.tokens.TokenKind.{TokenKind}
 use Rattle.table_model.specs.declared.tokens.TokenKind.TheVariants as k
 use Rattle.table_model.specs.Parsers.{kind, place, spelling, next, written, sees, after, and_then, expect, parts_from, parts}
-use Rattle.table_model.specs.QueryGrammar.{Phrase, IsOne, IsToken, ◌▸◌, IsOptional, IsParts, IsName, IsColumn, IsDigits, IsInteger, IsString, IsWord, IsCall, IsGeometry, IsOperandFunction, IsOperand, IsComparison, function_of, IsPair, IsBool, IsNumber, IsTest, IsPredicate, IsChain, IsConjunction, IsConditionOf, IsNegationOf, IsNegation, IsCondition, IsItem, IsSelection, IsReference, IsSecond, IsWhere, IsExplain, IsSelect}
-use Rattle.table_model.specs.QueryReading.{Reader, Functions, name, column, calls, called_or, enclosed, string, geometry, integer, integer_value, integer_or, operand_functions, operand, comparison_of, compared, compared_by, null_test, comparison, truth_value, truth_test, tested, relates, relates_by, predicate_functions, predicate, chain, conjunction, condition_of, group, negation, condition, item_functions, item, items, selection, alias, reference, Second, crossed, joined_on, second, where_condition, says, analyzed, explained, query}
+use Rattle.table_model.specs.QueryGrammar.{Phrase, IsOne, IsToken, ◌▸◌, IsOptional, IsParts, IsName, IsColumn, IsDigits, IsInteger, IsString, IsWord, IsCall, IsGeometry, IsOperandFunction, IsOperand, IsComparison, function_of, IsPair, IsBool, IsNumber, IsTest, IsPredicate, IsChain, IsConjunction, IsConditionOf, IsNegationOf, IsNegation, IsCondition, IsItem, IsSelection, IsReference, IsSecond, IsWhere, IsRowCount, IsLimit, IsExplain, IsSelect}
+use Rattle.table_model.specs.QueryReading.{Reader, Functions, name, column, calls, called_or, enclosed, string, geometry, integer, integer_value, integer_or, operand_functions, operand, comparison_of, compared, compared_by, null_test, comparison, truth_value, truth_test, tested, relates, relates_by, predicate_functions, predicate, chain, conjunction, condition_of, group, negation, condition, item_functions, item, items, counted, count_function, selection, alias, reference, Second, crossed, joined_on, second, where_condition, limit_value, limit_or, limit_number, limited, says, analyzed, explained, query}
 use Rattle.table_model.specs.Served.{Served, Argument, ItemArgument, ServedOperand, ServedCond, ServedItem, ServedQuery}
 use Rattle.table_model.specs.Texts.{same_name}
 use Rattle.table_model.specs.Tokens.{same_kind}
@@ -571,15 +571,39 @@ item_sound functions ts = called_sound (item_functions functions (place ts)) _ t
     (map_read _ (λ x rest. Took ts (IsMade i.Column IsColumn x) rest) (λ x rest. Took ts (IsItem functions x) rest)
     (λ x rest q. but _ _ ts rest q (λ used p. inl p)) (made_sound i.Column column IsColumn ts column_sound))
 
-pub selection_sound : (functions : Bool) → Sound (selection functions) (IsSelection functions)
+-- a star between the parentheses of COUNT
+abbrev pub IsCounted : {C : Type 0} → Selection C → Phrase
+IsCounted {C = C} = IsMade {A = Selection C} {B = Unit {0}} (λ _. l.Count) (λ _. IsToken k.Star)
+
+count_called : (served : Served) (count : Bool) → served.count ≡ count → (ts : List Token)
+    → AllRead {A = Selection (ItemArgument served.functions)} (count_function count) ts (λ x rest. Took ts (IsSelection served x) rest)
+count_called served false e ts = tt
+count_called served true e ts =
+    let C : Type 0 = ItemArgument served.functions in (
+      λ h. map_read (enclosed counted (next ts)) (λ x rest. Took ts (IsCall (codes "COUNT") (IsCounted {C = C} x)) rest) (λ x rest. Took ts (IsSelection served x) rest)
+          (λ x rest q. but _ _ ts rest q (λ used p. with_call x used (call_made {B = Unit {0}} (codes "COUNT") (λ _. l.Count) (λ _. IsToken k.Star) x used p)))
+          (call_sound (codes "COUNT") counted (IsCounted {C = C}) ts (λ ts2. made_sound {B = Unit {0}} (λ _. l.Count) (expect fault.Syntax k.Star) (λ _. IsToken k.Star) ts2 (λ ts3. expect_sound k.Star ts3 (λ b. cc))) h),
+      tt,
+    )
+  where
+    with_call : (x : Selection (ItemArgument served.functions)) (used : List Token) → ((y : Unit {0}) × (x ≡ l.Count) × IsCall (codes "COUNT") (IsToken k.Star) used) → IsSelection served x used
+    with_call x used (y, is, p) = inr (inr (e, is, p))
+
+listed_sound : (served : Served) (ts : List Token)
+    → IfRead (and_then (items served.functions ts) (λ xs rest. Ok (l.Items xs, rest))) (λ (x : Selection (ItemArgument served.functions)) rest. Took ts (IsSelection served x) rest)
+listed_sound served ts =
+    let F : Bool = served.functions in
+    then_read (items F ts) _
+    (λ xs rest. (x : ServedItem F) × (more : List (ServedItem F)) × (xs ≡ x ∷ more) × Took ts (IsParts k.Comma (IsItem F) x more) rest) (λ x rest. Took ts (IsSelection served x) rest)
+    (λ xs rest q. but _ _ ts rest q.3 (λ used p. inr (inl (q.0, q.1, ap l.Items q.2, p))))
+    (parts_sound k.Comma (item F) (IsItem F) (λ e. cc) (item_sound F) (length ts) [] ts)
+
+pub selection_sound : (served : Served) → Sound (selection served) (IsSelection served)
 unfolding selection
-selection_sound functions ts =
-    let Q : Selection (ItemArgument functions) → List Token → Type 0 = λ x rest. Took ts (IsSelection functions x) rest in
+selection_sound served ts =
+    let Q : Selection (ItemArgument served.functions) → List Token → Type 0 = λ x rest. Took ts (IsSelection served x) rest in
     if_read (sees k.Star ts) _ _ Q (λ h. but _ _ ts (next ts) (one k.Star ts (λ e. cc) h) (λ used p. inl (refl, p)))
-    (λ _. then_read (items functions ts) _
-    (λ xs rest. (x : ServedItem functions) × (more : List (ServedItem functions)) × (xs ≡ x ∷ more) × Took ts (IsParts k.Comma (IsItem functions) x more) rest) Q
-    (λ xs rest q. but _ _ ts rest q.3 (λ used p. inr (q.0, q.1, ap l.Items q.2, p)))
-    (parts_sound k.Comma (item functions) (IsItem functions) (λ e. cc) (item_sound functions) (length ts) [] ts))
+    (λ _. called_sound (count_function served.count) _ ts Q (count_called served served.count refl ts) (listed_sound served ts))
 
 -- an alias, or none
 abbrev pub IsAlias : Option Name → Phrase
@@ -700,7 +724,7 @@ explained_sound served ts =
     if_read (served.explain && says (codes "EXPLAIN") ts) _ _ (λ told rest. Took ts (IsExplain served told) rest)
     (λ h. analyzed_sound served ts (and_left _ _ h) (and_right _ _ h)) (λ _. ([], refl, inl (refl, refl)))
 
-where_sound : (functions : Bool) → Sound (where_condition functions) (IsWhere functions)
+pub where_sound : (functions : Bool) → Sound (where_condition functions) (IsWhere functions)
 unfolding where_condition
 where_sound functions ts =
     let Q : Option (ServedCond functions) → List Token → Type 0 = λ x rest. Took ts (IsWhere functions x) rest in
@@ -708,6 +732,29 @@ where_sound functions ts =
     (λ h. then_read (condition functions (next ts)) _ (λ x rest. Took (next ts) (IsCondition functions x) rest) Q
     (λ x rest q. but _ _ ts rest (seq (IsToken k.Where) (IsCondition functions x) ts (next ts) rest (one k.Where ts (λ e. cc) h) q) (λ used p. inr (x, refl, p)))
     (condition_sound functions (next ts)))
+    (λ _. ([], refl, inl (refl, refl)))
+
+-- LIMIT's number was read
+abbrev pub TookCount : List Token → Option ℕ → List Token → Type 0
+TookCount ts x rest = (n : ℕ) × (x ≡ Some n) × Took ts (IsRowCount n) rest
+
+count_taken : (ts : List Token) (v : Option ℕ) → sees k.Integer ts ≡ true → limit_value (spelling ts) ≡ v → IfRead (limit_or v (place ts) (next ts)) (TookCount ts)
+unfolding sees kind next spelling
+count_taken ts None h e = tt
+count_taken [] (Some n) h e = absurd (let bad = same k.Bad k.Integer h in cc)
+count_taken (t ∷ ts) (Some n) h e = (n, refl, (t ∷ [], refl, (same t.kind k.Integer h, e)))
+
+count_sound : (ts : List Token) → IfRead (limit_number ts) (TookCount ts)
+unfolding limit_number
+count_sound ts = if_read (sees k.Integer ts) _ _ (TookCount ts) (λ h. count_taken ts (limit_value (spelling ts)) h refl) (λ _. tt)
+
+limit_sound : (served : Served) → Sound (limited served) (IsLimit served)
+limit_sound served ts =
+    let Q : Option ℕ → List Token → Type 0 = λ x rest. Took ts (IsLimit served x) rest in
+    if_read (served.limit && sees k.Limit ts) _ _ Q
+    (λ h. map_read (limit_number (next ts)) (TookCount (next ts)) Q
+    (λ x rest q. but _ _ ts rest (seq (IsToken k.Limit) (IsRowCount q.0) ts (next ts) rest (one k.Limit ts (λ e. cc) (and_right _ _ h)) q.2) (λ used p. inr (and_left _ _ h, q.0, q.1, p)))
+    (count_sound (next ts)))
     (λ _. ([], refl, inl (refl, refl)))
 
 -- the end of the text is the last token, wherever it stands
@@ -741,20 +788,22 @@ query_sound served ts once =
     let R : ServedQuery served → List Token → Type 0 = λ q rest. IsSelect served q ts in
     then_read (explained served ts) _ (λ x rest. Took ts (IsExplain served x) rest) R
     (λ told ts0 p0. then_read (expect fault.Syntax k.Select ts0) _ (λ u rest. Took ts0 (IsToken k.Select) rest) R
-    (λ u1 ts1 p1. then_read (selection F ts1) _ (λ x rest. Took ts1 (IsSelection F x) rest) R
+    (λ u1 ts1 p1. then_read (selection served ts1) _ (λ x rest. Took ts1 (IsSelection served x) rest) R
     (λ listed ts2 p2. then_read (expect fault.Syntax k.From ts2) _ (λ u rest. Took ts2 (IsToken k.From) rest) R
     (λ u3 ts3 p3. then_read (reference ts3) _ (λ x rest. Took ts3 (IsReference x) rest) R
     (λ first ts4 p4. then_read (second served ts4) _ (λ x rest. Took ts4 (IsBoth served x) rest) R
     (λ both ts5 p5. then_read (where_condition F ts5) _ (λ x rest. Took ts5 (IsWhere F x) rest) R
-    (λ filter ts6 p6.
-    let ts7 : List Token = after k.Semicolon ts6 in
-    let p7 = optional k.Semicolon ts6 (λ e. cc) in
-    then_read (expect fault.Syntax k.End ts7) _ (λ u rest. Took ts7 (IsToken k.End) rest × (rest ≡ [])) R
-    (λ u8 ts8 p8.
+    (λ filter ts6 p6. then_read (limited served ts6) _ (λ x rest. Took ts6 (IsLimit served x) rest) R
+    (λ most ts7 p7.
+    let ts8 : List Token = after k.Semicolon ts7 in
+    let p8 = optional k.Semicolon ts7 (λ e. cc) in
+    then_read (expect fault.Syntax k.End ts8) _ (λ u rest. Took ts8 (IsToken k.End) rest × (rest ≡ [])) R
+    (λ u9 ts9 p9.
     all_taken
-    (IsExplain served told ▸ IsToken k.Select ▸ IsSelection F listed ▸ IsToken k.From ▸ IsReference first ▸ IsBoth served both ▸ IsWhere F filter ▸ IsOptional k.Semicolon ▸ IsToken k.End) ts ts8
-    (seq (IsExplain served told) _ ts ts0 ts8 p0 (seq (IsToken k.Select) _ ts0 ts1 ts8 p1 (seq (IsSelection F listed) _ ts1 ts2 ts8 p2 (seq (IsToken k.From) _ ts2 ts3 ts8 p3
-    (seq (IsReference first) _ ts3 ts4 ts8 p4 (seq (IsBoth served both) _ ts4 ts5 ts8 p5 (seq (IsWhere F filter) _ ts5 ts6 ts8 p6
-    (seq (IsOptional k.Semicolon) (IsToken k.End) ts6 ts7 ts8 p7 p8.0)))))))) p8.1)
-    (end_sound ts7 (ends_left _ ts6 ts7 (ends_left _ ts5 ts6 (ends_left _ ts4 ts5 (ends_left _ ts3 ts4 (ends_left _ ts2 ts3 (ends_left _ ts1 ts2 (ends_left _ ts0 ts1 (ends_left _ ts ts0 once p0) p1) p2) p3) p4) p5) p6) p7)))
-    (where_sound F ts5)) (second_sound served ts4)) (reference_sound ts3)) (expect_sound k.From ts2 (λ e. cc))) (selection_sound F ts1)) (expect_sound k.Select ts0 (λ e. cc))) (explained_sound served ts)
+    (IsExplain served told ▸ IsToken k.Select ▸ IsSelection served listed ▸ IsToken k.From ▸ IsReference first ▸ IsBoth served both ▸ IsWhere F filter ▸ IsLimit served most
+    ▸ IsOptional k.Semicolon ▸ IsToken k.End) ts ts9
+    (seq (IsExplain served told) _ ts ts0 ts9 p0 (seq (IsToken k.Select) _ ts0 ts1 ts9 p1 (seq (IsSelection served listed) _ ts1 ts2 ts9 p2 (seq (IsToken k.From) _ ts2 ts3 ts9 p3
+    (seq (IsReference first) _ ts3 ts4 ts9 p4 (seq (IsBoth served both) _ ts4 ts5 ts9 p5 (seq (IsWhere F filter) _ ts5 ts6 ts9 p6 (seq (IsLimit served most) _ ts6 ts7 ts9 p7
+    (seq (IsOptional k.Semicolon) (IsToken k.End) ts7 ts8 ts9 p8 p9.0))))))))) p9.1)
+    (end_sound ts8 (ends_left _ ts7 ts8 (ends_left _ ts6 ts7 (ends_left _ ts5 ts6 (ends_left _ ts4 ts5 (ends_left _ ts3 ts4 (ends_left _ ts2 ts3 (ends_left _ ts1 ts2 (ends_left _ ts0 ts1 (ends_left _ ts ts0 once p0) p1) p2) p3) p4) p5) p6) p7) p8)))
+    (limit_sound served ts6)) (where_sound F ts5)) (second_sound served ts4)) (reference_sound ts3)) (expect_sound k.From ts2 (λ e. cc))) (selection_sound served ts1)) (expect_sound k.Select ts0 (λ e. cc))) (explained_sound served ts)

@@ -5,7 +5,7 @@ use Rattle.std.proofs.lemmas.List.{map-append}
 use Rattle.geometry_model.specs.Geometries.{Geometry}
 use Rattle.geometry_model.specs.Dimensions.{Matrix}
 use Rattle.table_model.specs.Meanings.{is_true}
-use Rattle.table_model.specs.TruthLaws.{Argument, ConjunctsAreJoined, NestedAndsAreOne, OneConjunctIsItsAnd}
+use Rattle.table_model.specs.TruthLaws.{Argument, ConjunctsAreJoined, NestedAndsAreOne}
 use Rattle.table_model.specs.Truths.{Rows, and_of, all_of, truth_by_parts, truth}
 use Rattle.table_model.specs.declared.conditions.Cond.{Cond}
 use Rattle.table_model.specs.declared.conditions.Cond.TheVariants as conds
@@ -72,8 +72,3 @@ nested_ands_are_one matrix denotes rows before inside after =
   where
     f : Cond Argument → Truth
     f = truth matrix denotes rows
-
-pub one_conjunct_is_its_and : OneConjunctIsItsAnd
-one_conjunct_is_its_and matrix denotes rows [] = refl
-one_conjunct_is_its_and matrix denotes rows (c ∷ []) = sym (of_parts matrix denotes rows (c ∷ []))
-one_conjunct_is_its_and matrix denotes rows (c ∷ d ∷ more) = refl

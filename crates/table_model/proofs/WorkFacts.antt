@@ -9,6 +9,7 @@ use Rattle.table_model.specs.Arguments.{denoted}
 use Rattle.table_model.specs.ExplainTexts.{analyze_text}
 use Rattle.table_model.specs.Meanings.{Table, is_true}
 use Rattle.table_model.specs.PlanExamples.{Query, Condition, analyzed}
+use Rattle.table_model.specs.Places.{Choice}
 use Rattle.table_model.specs.Plans.{chosen}
 use Rattle.table_model.specs.Truths.{Rows, truth}
 use Rattle.table_model.specs.Work.{evaluated, computed, candidate_work, work}
@@ -40,14 +41,21 @@ two_filters {A = A} number test c d = go (test c)
 pub same_sums : {X : Type 0} (f g : X → ℕ) (xs : List X) → ((x : X) → f x ≡ g x) → sum_by f xs ≡ sum_by g xs
 same_sums f g xs h = ap (λ k. sum_by k xs) (fun_ext h)
 
--- the work of candidates with one filter, which computes the number that g gives
-pub work_of_one : (list : List (Rows Geometry)) (c : Condition) (g : Rows Geometry → ℕ) → ((rows : Rows Geometry) → computed rows c ≡ g rows) → sum_by (candidate_work labelled_matrix (c ∷ [])) list ≡ sum_by g list
-work_of_one list c g h = same_sums (candidate_work labelled_matrix (c ∷ [])) g list (λ rows. one_filter (computed rows) (λ e. is_true (truth labelled_matrix denoted rows e)) c ∙ h rows)
+-- the work of candidates with one filter, which computes the number that g gives at the rows that stand there
+pub work_of_one : (list : List Choice) (at : Choice → Rows Geometry) (c : Condition) (g : Rows Geometry → ℕ) → ((rows : Rows Geometry) → computed denoted rows c ≡ g rows)
+    → sum_by (λ choice. candidate_work labelled_matrix denoted (c ∷ []) (at choice)) list ≡ sum_by (λ choice. g (at choice)) list
+work_of_one list at c g h =
+    same_sums (λ choice. candidate_work labelled_matrix denoted (c ∷ []) (at choice)) (λ choice. g (at choice)) list
+        (λ choice. one_filter (computed denoted (at choice)) (λ e. is_true (truth labelled_matrix denoted (at choice) e)) c ∙ h (at choice))
 
 -- the work of candidates with two filters
-pub work_of_two : (list : List (Rows Geometry)) (c d : Condition) (g : Rows Geometry → ℕ) → ((rows : Rows Geometry) → computed rows c + (if is_true (truth labelled_matrix denoted rows c) then computed rows d else 0) ≡ g rows) → sum_by (candidate_work labelled_matrix (c ∷ d ∷ [])) list ≡ sum_by g list
-work_of_two list c d g h = same_sums (candidate_work labelled_matrix (c ∷ d ∷ [])) g list (λ rows. two_filters (computed rows) (λ e. is_true (truth labelled_matrix denoted rows e)) c d ∙ h rows)
+pub work_of_two : (list : List Choice) (at : Choice → Rows Geometry) (c d : Condition) (g : Rows Geometry → ℕ)
+    → ((rows : Rows Geometry) → computed denoted rows c + (if is_true (truth labelled_matrix denoted rows c) then computed denoted rows d else 0) ≡ g rows)
+    → sum_by (λ choice. candidate_work labelled_matrix denoted (c ∷ d ∷ []) (at choice)) list ≡ sum_by (λ choice. g (at choice)) list
+work_of_two list at c d g h =
+    same_sums (λ choice. candidate_work labelled_matrix denoted (c ∷ d ∷ []) (at choice)) (λ choice. g (at choice)) list
+        (λ choice. two_filters (computed denoted (at choice)) (λ e. is_true (truth labelled_matrix denoted (at choice) e)) c d ∙ h (at choice))
 
 -- the text of EXPLAIN ANALYZE, by the chosen plan and its work
-pub analyzed_is : (tables : List (Table Geometry)) (q : Query) (plan : Plan) (n : ℕ) (text : List ℕ) → chosen tables q ≡ Some plan → work labelled_matrix tables q plan ≡ n → analyze_text q plan n ≡ text → analyzed tables q ≡ Some text
-analyzed_is tables q plan n text p w t = ap (option_map (λ plan. analyze_text q plan (work labelled_matrix tables q plan))) p ∙ ap (λ k. Some (analyze_text q plan k)) w ∙ ap Some t
+pub analyzed_is : (tables : List (Table Geometry)) (q : Query) (plan : Plan) (n : ℕ) (text : List ℕ) → chosen tables q ≡ Some plan → work labelled_matrix denoted tables q plan ≡ n → analyze_text q plan n ≡ text → analyzed tables q ≡ Some text
+analyzed_is tables q plan n text p w t = ap (option_map (λ plan. analyze_text q plan (work labelled_matrix denoted tables q plan))) p ∙ ap (λ k. Some (analyze_text q plan k)) w ∙ ap Some t

@@ -112,6 +112,7 @@ bound selection first second condition = binding geometry_binding tables (record
   second = second;
   on = None;
   condition = condition;
+  limit = None;
 })
 
 -- what SELECT id FROM t WHERE is bound to: the condition starts at byte 23 (profile)

@@ -1,7 +1,9 @@
 pub mod Outcomes
 pub mod Parsers
 pub mod Texts
+pub mod Statements
 pub mod Meanings
+pub mod Places
 pub mod AnswerTexts
 pub mod FaultLines
 pub mod Truths
@@ -24,11 +26,13 @@ pub mod Work
 pub mod ExplainTexts
 pub mod PlanExamples
 pub mod PlanLaws
+pub mod PlaceLaws
 pub mod SchemaGrammar
 pub mod BindingExamples
 pub mod GeometryColumns
 pub mod GeometryColumnExamples
 pub mod FirstRunExamples
+pub mod JoinExamples
 pub mod SchemaRefusals
 pub mod FeatureTables
 pub mod SchemaExamples

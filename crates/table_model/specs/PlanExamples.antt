@@ -4,6 +4,7 @@ use Rattle.geometry_model.specs.Geometries.{Geometry, Point, LineString, Polygon
 use Rattle.geometry_model.specs.Labels.{labelled_matrix}
 use Rattle.geometry_model.specs.TextExamples.{at}
 use Rattle.geometry_model.specs.declared.relations.Predicate.{Predicate}
+use Rattle.table_model.specs.Arguments.{denoted}
 use Rattle.table_model.specs.ExplainTexts.{explain_text, analyze_text}
 use Rattle.table_model.specs.Meanings.{Row, Table}
 use Rattle.table_model.specs.Plans.{lawful_plans, chosen}
@@ -113,4 +114,4 @@ explained tables q = option_map (explain_text q) (chosen tables q)
 
 -- the text of EXPLAIN ANALYZE for the chosen plan, by the label matrix (profile)
 abbrev pub analyzed : List (Table Geometry) → Query → Option (List ℕ)
-analyzed tables q = option_map (λ plan. analyze_text q plan (work labelled_matrix tables q plan)) (chosen tables q)
+analyzed tables q = option_map (λ plan. analyze_text q plan (work labelled_matrix denoted tables q plan)) (chosen tables q)

@@ -26,8 +26,13 @@ read_where condition = read (codes "SELECT * FROM t WHERE " ++ condition)
 -- the tree of a SELECT over two tables, with its condition of ON, or of one over one table (profile)
 abbrev pub joined : Explain → Selection WrittenColumn → WrittenReference → Option WrittenReference → Option (ServedCond true) → Option (ServedCond true) → Result (ServedQuery all_served) QueryFault
 joined told selection first second on condition =
-    Ok (record { explain = told; selection = selection; first = first; second = second; on = on; condition = condition })
+    Ok (record { explain = told; selection = selection; first = first; second = second; on = on; condition = condition; limit = None })
 
 -- the tree of a SELECT of all columns of the table t with a condition (profile)
 abbrev pub all_where : ServedCond true → Result (ServedQuery all_served) QueryFault
 all_where condition = joined explains.No selections.All (table (codes "t") 14) None None (Some condition)
+
+-- the tree of a SELECT over one table, with its condition and its limit
+abbrev pub under : Selection WrittenColumn → WrittenReference → Option (ServedCond true) → Option ℕ → Result (ServedQuery all_served) QueryFault
+under selection table condition limit =
+    Ok (record { explain = explains.No; selection = selection; first = table; second = None; on = None; condition = condition; limit = limit })

@@ -27,7 +27,7 @@ use Rattle.table_model.specs.declared.tokens.TokenKind.{TokenKind}
 use Rattle.table_model.specs.declared.tokens.TokenKind.TheVariants as k
 use Rattle.table_model.specs.Outcomes.{Gives}
 use Rattle.table_model.specs.Parsers.{place}
-use Rattle.table_model.specs.QueryReading.{integer_value, comparison_of, most_levels, most_bytes, bad_place}
+use Rattle.table_model.specs.QueryReading.{integer_value, limit_value, comparison_of, most_levels, most_bytes, bad_place}
 use Rattle.table_model.specs.Served.{Served, ItemArgument, ServedOperand, ServedCond, ServedItem, ServedQuery}
 use Rattle.table_model.specs.Texts.{same_name}
 use Rattle.table_model.specs.Tokens.{tokens}
@@ -227,11 +227,13 @@ IsItem functions item ts =
     ((column : WrittenColumn) × (item ≡ i.Column column) × IsColumn column ts)
     ⊎ IsItemFunction functions item ts
 
--- items = '*' | item (',' item)* (profile)
-abbrev pub IsSelection : (functions : Bool) → Selection (ItemArgument functions) → Phrase
-IsSelection functions selection ts =
+-- items = '*' | item (',' item)* | 'COUNT' '(' '*' ')', which stands alone, where it is served (SQL, the select list)
+abbrev pub IsSelection : (served : Served) → Selection (ItemArgument served.functions) → Phrase
+IsSelection served selection ts =
     ((selection ≡ l.All) × IsToken k.Star ts)
-    ⊎ ((first : ServedItem functions) × (more : List (ServedItem functions)) × (selection ≡ l.Items (first ∷ more)) × IsParts k.Comma (IsItem functions) first more ts)
+    ⊎ ((first : ServedItem served.functions) × (more : List (ServedItem served.functions)) × (selection ≡ l.Items (first ∷ more))
+    × IsParts k.Comma (IsItem served.functions) first more ts)
+    ⊎ ((served.count ≡ true) × (selection ≡ l.Count) × IsCall (codes "COUNT") (IsToken k.Star) ts)
 
 -- ---- table references
 
@@ -266,6 +268,16 @@ IsWhere functions condition ts =
     ((condition ≡ None) × (ts ≡ []))
     ⊎ ((x : ServedCond functions) × (condition ≡ Some x) × (IsToken k.Where ▸ IsCondition functions x) ts)
 
+-- an integer without a sign, within 64 bits with a sign
+abbrev pub IsRowCount : ℕ → Phrase
+IsRowCount n = IsOne (λ t. (t.kind ≡ k.Integer) × (limit_value t.text ≡ Some n))
+
+-- ('LIMIT' integer)?, where it is served
+abbrev pub IsLimit : Served → Option ℕ → Phrase
+IsLimit served limit ts =
+    ((limit ≡ None) × (ts ≡ []))
+    ⊎ ((served.limit ≡ true) × (n : ℕ) × (limit ≡ Some n) × (IsToken k.Limit ▸ IsRowCount n) ts)
+
 -- ('EXPLAIN' 'ANALYZE'?)?, where they are served; neither word is reserved (profile)
 abbrev pub IsExplain : Served → Explain → Phrase
 IsExplain served told ts =
@@ -273,11 +285,13 @@ IsExplain served told ts =
     ⊎ ((served.explain ≡ true) × (told ≡ explain.Plan) × IsWord (codes "EXPLAIN") ts)
     ⊎ ((served.explain ≡ true) × (served.analyze ≡ true) × (told ≡ explain.Analyze) × (IsWord (codes "EXPLAIN") ▸ IsWord (codes "ANALYZE")) ts)
 
--- query = ('EXPLAIN' 'ANALYZE'?)? 'SELECT' items 'FROM' ref second? ('WHERE' cond)? ';'?, and then the text ends (profile)
+-- query = ('EXPLAIN' 'ANALYZE'?)? 'SELECT' items 'FROM' ref second? ('WHERE' cond)? ('LIMIT' integer)? ';'?, and then
+-- the text ends (SQL, the query)
 abbrev pub IsSelect : (served : Served) → ServedQuery served → Phrase
 IsSelect served query =
-    IsExplain served query.explain ▸ IsToken k.Select ▸ IsSelection served.functions query.selection ▸ IsToken k.From
-    ▸ IsReference query.first ▸ IsSecond served query.second query.on ▸ IsWhere served.functions query.condition ▸ IsOptional k.Semicolon ▸ IsToken k.End
+    IsExplain served query.explain ▸ IsToken k.Select ▸ IsSelection served query.selection ▸ IsToken k.From
+    ▸ IsReference query.first ▸ IsSecond served query.second query.on ▸ IsWhere served.functions query.condition
+    ▸ IsLimit served query.limit ▸ IsOptional k.Semicolon ▸ IsToken k.End
 
 -- A text is a query: it isn't too long, it is made of tokens, and these are written for the tree (profile).
 unfoldable pub IsQuery : (served : Served) → List ℕ → ServedQuery served → Type 0

@@ -267,9 +267,20 @@ item functions ts = called_or (item_functions functions (place ts)) (i.Column <$
 abbrev pub items : (functions : Bool) → Reader (List (ServedItem functions))
 items functions = parts fault.Syntax k.Comma (item functions) []
 
--- items = '*' | item (',' item)* (profile)
-unfoldable pub selection : (functions : Bool) → Reader (Selection (ItemArgument functions))
-selection functions ts = if sees k.Star ts then Ok (l.All, next ts) else (l.Items <$> items functions) ts
+-- '*' within 'COUNT' '(' '*' ')' (SQL, COUNT(*))
+abbrev pub counted : {C : Type 0} → Reader (Selection C)
+counted = expect fault.Syntax k.Star >> pure l.Count
+
+-- the function that stands alone in the select list, COUNT, where it is served (SQL, COUNT(*))
+abbrev pub count_function : {C : Type 0} → (count : Bool) → Functions (Selection C)
+count_function false = []
+count_function true = (codes "COUNT", enclosed counted) ∷ []
+
+-- items = '*' | item (',' item)* | 'COUNT' '(' '*' ')' (SQL, the select list)
+unfoldable pub selection : (served : Served) → Reader (Selection (ItemArgument served.functions))
+selection served ts =
+    if sees k.Star ts then Ok (l.All, next ts)
+    else called_or (count_function served.count) (l.Items <$> items served.functions) ts
 
 -- ---- table references
 
@@ -319,6 +330,23 @@ where_condition functions = do
   filters ← eat k.Where
   if filters then Some <$> condition functions else pure None
 
+-- the number of rows that digits give, within 64 bits with a sign
+abbrev pub limit_value : List ℕ → Option ℕ
+limit_value digits = if nat_lt (digits_value 10 digits) (2 ^ 63) then Some (digits_value 10 digits) else None
+
+-- that number, or Q12 at its first digit
+abbrev pub limit_or : Option ℕ → ℕ → List Token → Outcome QueryFault (Option ℕ)
+limit_or None at rest = Err (fault.NumberTooBig at)
+limit_or (Some n) at rest = Ok (Some n, rest)
+
+-- the integer of LIMIT, which has no sign
+unfoldable pub limit_number : Reader (Option ℕ)
+limit_number ts = if sees k.Integer ts then limit_or (limit_value (spelling ts)) (place ts) (next ts) else Err (fault.Syntax (place ts))
+
+-- ('LIMIT' integer)?, where it is served
+abbrev pub limited : Served → Reader (Option ℕ)
+limited served ts = if served.limit && sees k.Limit ts then limit_number (next ts) else Ok (None, ts)
+
 -- Whether this word stands next, in any ASCII case. It isn't reserved; with `(` after it, it is a function (profile).
 unfoldable pub says : List ℕ → List Token → Bool
 says word ts = sees k.Word ts && not (sees k.LeftParenthesis (next ts)) && same_name (spelling ts) word
@@ -331,19 +359,21 @@ analyzed served ts = if served.analyze && says (codes "ANALYZE") ts then Ok (exp
 abbrev pub explained : Served → Reader Explain
 explained served ts = if served.explain && says (codes "EXPLAIN") ts then analyzed served (next ts) else Ok (explain.No, ts)
 
--- query = ('EXPLAIN' 'ANALYZE'?)? 'SELECT' items 'FROM' ref second? ('WHERE' cond)? ';'?, and then the text ends (profile)
+-- query = ('EXPLAIN' 'ANALYZE'?)? 'SELECT' items 'FROM' ref second? ('WHERE' cond)? ('LIMIT' integer)? ';'?, and then
+-- the text ends (SQL, the query)
 unfoldable pub query : (served : Served) → Reader (ServedQuery served)
 query served = do
   told ← explained served
   expect fault.Syntax k.Select
-  selection ← selection served.functions
+  selection ← selection served
   expect fault.Syntax k.From
   first ← reference
   second ← second served
   condition ← where_condition served.functions
+  limit ← limited served
   eat k.Semicolon
   expect fault.Syntax k.End
-  pure (record { explain = told; selection = selection; first = first; second = second.0; on = second.1; condition = condition })
+  pure (record { explain = told; selection = selection; first = first; second = second.0; on = second.1; condition = condition; limit = limit })
 
 -- the place of the bad token, where there is one (profile)
 abbrev pub bad_place : List Token → Option ℕ

@@ -1,10 +1,10 @@
 -- The refusals of a query at a token, apart from how a query is read: the tokens up to it, itself among them, are a
 -- front of the grammar in which the rules on the size of an operand's integer and on how deep conditions nest are set
--- aside (profile). Generic in the parts of the language that are served.
+-- aside. Generic in the parts of the language that are served.
 use Rattle.std.specs.Prelude.{◌≡◌, ◌≤◌, ◌⊎◌, ℕ, zero, suc, Bool, true, false, List, [], ◌∷◌, ◌++◌, length, None, Result, Err}
 use Rattle.table_model.specs.Outcomes.{Gives}
 use Rattle.table_model.specs.QueryGrammar.{Phrase, IsToken, ◌▸◌, IsOptional, AreEnded, IsOperand, IsComparison, IsPredicateOf, IsConjunction, IsConditionOf, IsNegationOf, IsSelection, IsReference, IsCrossed, IsExplain}
-use Rattle.table_model.specs.QueryReading.{bad_place, integer_value, most_bytes, most_levels}
+use Rattle.table_model.specs.QueryReading.{bad_place, integer_value, limit_value, most_bytes, most_levels}
 use Rattle.table_model.specs.Served.{Served, ItemArgument, ServedOperand, ServedCond, ServedQuery}
 use Rattle.table_model.specs.Tokens.{tokens}
 use Rattle.table_model.specs.declared.conditions.Comparison.{Comparison}
@@ -40,7 +40,7 @@ IsAnyCondition functions = IsConditionOf (IsAnyNegation functions)
 abbrev pub BeforeSecond : Served → Phrase
 BeforeSecond served ts =
     (told : Explain) × (selection : Selection (ItemArgument served.functions)) × (first : WrittenReference)
-    × (IsExplain served told ▸ IsToken k.Select ▸ IsSelection served.functions selection ▸ IsToken k.From ▸ IsReference first) ts
+    × (IsExplain served told ▸ IsToken k.Select ▸ IsSelection served selection ▸ IsToken k.From ▸ IsReference first) ts
 
 -- what stands before the condition of ON (profile)
 abbrev pub BeforeOn : Served → Phrase
@@ -48,12 +48,25 @@ BeforeOn served ts =
     (served.second_reference ≡ true) × (second : WrittenReference)
     × (BeforeSecond served ▸ IsOptional k.Inner ▸ IsToken k.Join ▸ IsReference second ▸ IsToken k.On) ts
 
--- what stands before the condition of WHERE (profile)
+-- what stands up to the last table reference and its condition
+abbrev pub ThroughFrom : Served → Phrase
+ThroughFrom served ts =
+    BeforeSecond served ts
+    ⊎ ((served.second_reference ≡ true) × (second : WrittenReference) × (BeforeSecond served ▸ IsCrossed second) ts)
+    ⊎ ((on : ServedCond served.functions) × (BeforeOn served ▸ IsAnyCondition served.functions on) ts)
+
+-- what stands before the condition of WHERE
 abbrev pub BeforeWhere : Served → Phrase
-BeforeWhere served ts =
-    (BeforeSecond served ▸ IsToken k.Where) ts
-    ⊎ ((served.second_reference ≡ true) × (second : WrittenReference) × (BeforeSecond served ▸ IsCrossed second ▸ IsToken k.Where) ts)
-    ⊎ ((on : ServedCond served.functions) × (BeforeOn served ▸ IsAnyCondition served.functions on ▸ IsToken k.Where) ts)
+BeforeWhere served = ThroughFrom served ▸ IsToken k.Where
+
+-- ('WHERE' cond)?, of such parts
+abbrev pub IsAnyWhere : Bool → Phrase
+IsAnyWhere functions ts =
+    (ts ≡ []) ⊎ ((condition : ServedCond functions) × (IsToken k.Where ▸ IsAnyCondition functions condition) ts)
+
+-- what stands before the integer of LIMIT, where LIMIT is served
+abbrev pub BeforeLimit : Served → Phrase
+BeforeLimit served ts = (served.limit ≡ true) × (ThroughFrom served ▸ IsAnyWhere served.functions ▸ IsToken k.Limit) ts
 
 -- the parts of a condition that stand before one more: (conj 'OR')* (neg 'AND')* (profile)
 abbrev pub AreParts : Bool → Phrase
@@ -82,13 +95,14 @@ BeforeOperand served ts =
 abbrev pub IsTooDeep : Served → List Token → Token → Type 0
 IsTooDeep served before t = ((t.kind ≡ k.Not) ⊎ (t.kind ≡ k.LeftParenthesis)) × BeforeNegation served most_levels before
 
--- too big: the digits of an operand's integer that with its sign isn't within 64 bits (profile)
+-- too big: the digits of an operand's integer that with its sign isn't within 64 bits, or of LIMIT's, which has no sign
 abbrev pub IsTooBig : Served → List Token → Token → Type 0
 IsTooBig served before t =
     (t.kind ≡ k.Integer)
     × (((integer_value false t.text ≡ None) × BeforeOperand served before)
     ⊎ ((integer_value false t.text ≡ None) × (BeforeOperand served ▸ IsToken k.Plus) before)
-    ⊎ ((integer_value true t.text ≡ None) × (BeforeOperand served ▸ IsToken k.Minus) before))
+    ⊎ ((integer_value true t.text ≡ None) × (BeforeOperand served ▸ IsToken k.Minus) before)
+    ⊎ ((limit_value t.text ≡ None) × BeforeLimit served before))
 
 -- a fault stands at a token, after these tokens; none of the others is one at a token (profile)
 abbrev pub StandsAt : Served → List Token → Token → QueryFault → Type 0

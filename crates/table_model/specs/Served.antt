@@ -9,20 +9,22 @@ use Rattle.table_model.specs.declared.queries.WrittenItem.{WrittenItem}
 use Rattle.table_model.specs.declared.queries.WrittenOperand.{WrittenOperand}
 use Rattle.table_model.specs.declared.values.NoGeometry.{NoGeometry}
 
--- functions, a second table reference, EXPLAIN, and ANALYZE after it, each served or not (profile)
+-- functions, a second table reference, EXPLAIN, ANALYZE after it, LIMIT and COUNT(*), each served or not
 pub record Served : Type 0 where
   pub functions : Bool
   pub second_reference : Bool
   pub explain : Bool
   pub analyze : Bool
+  pub limit : Bool
+  pub count : Bool
 
 -- the whole language (profile)
 abbrev pub all_served : Served
-all_served = record { functions = true; second_reference = true; explain = true; analyze = true }
+all_served = record { functions = true; second_reference = true; explain = true; analyze = true; limit = true; count = true }
 
 -- a SELECT over one table without functions (profile)
 abbrev pub nothing_served : Served
-nothing_served = record { functions = false; second_reference = false; explain = false; analyze = false }
+nothing_served = record { functions = false; second_reference = false; explain = false; analyze = false; limit = false; count = false }
 
 -- a geometry argument in the tree of a condition; there is none where functions aren't served (profile)
 abbrev pub Argument : Bool → Type 0

@@ -77,6 +77,8 @@ pub enum Selection<'a, C> {
     /// `*`
     All,
     Items(Items<WrittenItem<'a, C>>),
+    /// `COUNT(*)`, the number of rows; it stands alone.
+    Count,
 }
 
 /// A table reference as it is written. (SQL, FROM.)
@@ -109,4 +111,6 @@ pub struct Query<'a, A, C> {
     pub on: Option<WrittenCond<'a, A>>,
     /// The condition of WHERE.
     pub condition: Option<WrittenCond<'a, A>>,
+    /// The number of LIMIT.
+    pub limit: Option<u64>,
 }

@@ -1,5 +1,5 @@
 //! Worked texts of queries, computed: the tree that each reads as, or its first fault.
-#![tactic(auto, unfolding(crate::specs::Texts::same_name, crate::specs::Tokens::same_kind, crate::specs::Tokens::word_kind, crate::specs::Tokens::symbol, crate::specs::Tokens::front, crate::specs::Tokens::tokens, crate::specs::Parsers::kind, crate::specs::Parsers::place, crate::specs::Parsers::spelling, crate::specs::Parsers::next, crate::specs::Parsers::sees, crate::specs::Parsers::after, crate::specs::Parsers::expect, crate::specs::Parsers::parts_from, crate::specs::QueryReading::name, crate::specs::QueryReading::column, crate::specs::QueryReading::calls, crate::specs::QueryReading::string, crate::specs::QueryReading::geometry, crate::specs::QueryReading::integer, crate::specs::QueryReading::operand, crate::specs::QueryReading::compared, crate::specs::QueryReading::null_test, crate::specs::QueryReading::comparison, crate::specs::QueryReading::truth_value, crate::specs::QueryReading::truth_test, crate::specs::QueryReading::relates, crate::specs::QueryReading::relates_by, crate::specs::QueryReading::predicate, crate::specs::QueryReading::negation, crate::specs::QueryReading::item, crate::specs::QueryReading::selection, crate::specs::QueryReading::alias, crate::specs::QueryReading::reference, crate::specs::QueryReading::crossed, crate::specs::QueryReading::joined_on, crate::specs::QueryReading::where_condition, crate::specs::QueryReading::says, crate::specs::QueryReading::query, crate::specs::QueryReading::query_of))]
+#![tactic(auto, unfolding(crate::specs::Texts::same_name, crate::specs::Tokens::same_kind, crate::specs::Tokens::word_kind, crate::specs::Tokens::symbol, crate::specs::Tokens::front, crate::specs::Tokens::tokens, crate::specs::Parsers::kind, crate::specs::Parsers::place, crate::specs::Parsers::spelling, crate::specs::Parsers::next, crate::specs::Parsers::sees, crate::specs::Parsers::after, crate::specs::Parsers::expect, crate::specs::Parsers::parts_from, crate::specs::QueryReading::name, crate::specs::QueryReading::column, crate::specs::QueryReading::calls, crate::specs::QueryReading::string, crate::specs::QueryReading::geometry, crate::specs::QueryReading::integer, crate::specs::QueryReading::operand, crate::specs::QueryReading::compared, crate::specs::QueryReading::null_test, crate::specs::QueryReading::comparison, crate::specs::QueryReading::truth_value, crate::specs::QueryReading::truth_test, crate::specs::QueryReading::relates, crate::specs::QueryReading::relates_by, crate::specs::QueryReading::predicate, crate::specs::QueryReading::negation, crate::specs::QueryReading::item, crate::specs::QueryReading::selection, crate::specs::QueryReading::alias, crate::specs::QueryReading::reference, crate::specs::QueryReading::crossed, crate::specs::QueryReading::joined_on, crate::specs::QueryReading::where_condition, crate::specs::QueryReading::limit_number, crate::specs::QueryReading::says, crate::specs::QueryReading::query, crate::specs::QueryReading::query_of))]
 
 ghost use Rattle.std.specs.Prelude.{◌≡◌, ◌++◌, [], ◌∷◌, codes, pos, Some, None, Err};
 ghost use Rattle.std.specs.List.{repeat};
@@ -14,8 +14,8 @@ ghost use Rattle.table_model.specs.GeometryColumnExamples.{
   from_text,
   operand_column,
 };
-ghost use Rattle.table_model.specs.QueryExamples.{read, read_plain, read_where, joined, all_where};
-ghost use Rattle.table_model.specs.declared.conditions.Comparison.TheVariants.{Equal, NotEqual, Less};
+ghost use Rattle.table_model.specs.QueryExamples.{read, read_plain, read_where, joined, all_where, under};
+ghost use Rattle.table_model.specs.declared.conditions.Comparison.TheVariants.{Equal, NotEqual, Less, Greater};
 ghost use Rattle.table_model.specs.declared.faults.QueryFault.TheVariants.{Lex, Syntax, TooDeep, NumberTooBig};
 ghost use Rattle.table_model.specs.declared.queries.Explain.TheVariants as explains;
 ghost use Rattle.table_model.specs.declared.queries.Selection.TheVariants as selections;
@@ -114,9 +114,61 @@ pub fn functions_open_no_level()
     ensures deeper { read_where (repeat 65 (codes "(") ++ codes "ST_IsEmpty(geom)" ++ repeat 65 (codes ")")) ≡ Err (TooDeep 86) }
 {}
 
+/// COUNT(*) in any ASCII case, and COUNT as a name.
+pub fn rows_are_counted()
+    ensures alone { read (codes "SELECT COUNT(*) FROM big") ≡ under selections.Count (table (codes "big") 21) None None }
+    ensures spaced { read (codes "select count ( * ) from big;") ≡ under selections.Count (table (codes "big") 24) None None }
+    ensures limited { read (codes "SELECT COUNT(*) FROM t WHERE id = 1 LIMIT 0;")
+        ≡ under selections.Count (table (codes "t") 21) (Some (conds.Compare 29 Equal (operand_column (codes "id") 29) (operands.Integer (pos 1)))) (Some 0) }
+    ensures explained { read (codes "EXPLAIN SELECT COUNT(*) FROM t") ≡ joined explains.Plan selections.Count (table (codes "t") 29) None None None }
+    ensures name { read (codes "SELECT count FROM t") ≡ under (selections.Items (items.Column (bare (codes "count") 7) ∷ [])) (table (codes "t") 18) None None }
+    ensures table { read (codes "SELECT * FROM count") ≡ under selections.All (table (codes "count") 14) None None }
+{}
+
+/// LIMIT, with WHERE and without, up to the greatest number of 64 bits with a sign.
+pub fn rows_are_limited()
+    ensures alone { read (codes "SELECT id FROM big LIMIT 2")
+        ≡ under (selections.Items (items.Column (bare (codes "id") 7) ∷ [])) (table (codes "big") 15) None (Some 2) }
+    ensures ended { read (codes "SELECT id FROM big LIMIT 2;")
+        ≡ under (selections.Items (items.Column (bare (codes "id") 7) ∷ [])) (table (codes "big") 15) None (Some 2) }
+    ensures none { read (codes "select * from t limit 0") ≡ under selections.All (table (codes "t") 14) None (Some 0) }
+    ensures filtered { read (codes "SELECT * FROM t WHERE id > 1 LIMIT 0010;")
+        ≡ under selections.All (table (codes "t") 14) (Some (conds.Compare 22 Greater (operand_column (codes "id") 22) (operands.Integer (pos 1)))) (Some 10) }
+    ensures aliased { read (codes "SELECT * FROM t a LIMIT 1") ≡ under selections.All (aliased (name (codes "t") 14) (name (codes "a") 16)) None (Some 1) }
+    ensures greatest { read (codes "SELECT * FROM t LIMIT 9223372036854775807") ≡ under selections.All (table (codes "t") 14) None (Some 9223372036854775807) }
+{}
+
+/// LIMIT's integer has no sign and is within 64 bits with a sign; LIMIT stands once, at the end, and is no name.
+pub fn limits_are_refused()
+    ensures minus { read (codes "SELECT id FROM big LIMIT -1") ≡ Err (Syntax 25) }
+    ensures plus { read (codes "SELECT id FROM big LIMIT +1") ≡ Err (Syntax 25) }
+    ensures absent { read (codes "SELECT id FROM big LIMIT") ≡ Err (Syntax 24) }
+    ensures word { read (codes "SELECT id FROM big LIMIT all") ≡ Err (Syntax 25) }
+    ensures past_64_bits { read (codes "SELECT id FROM big LIMIT 9223372036854775808") ≡ Err (NumberTooBig 25) }
+    ensures filtered_past_64_bits { read (codes "SELECT * FROM t WHERE id = 1 LIMIT 9223372036854775808") ≡ Err (NumberTooBig 35) }
+    ensures fraction { read (codes "SELECT id FROM big LIMIT 2.5") ≡ Err (Syntax 26) }
+    ensures twice { read (codes "SELECT id FROM big LIMIT 2 LIMIT 2") ≡ Err (Syntax 27) }
+    ensures before_where { read (codes "SELECT id FROM big LIMIT 2 WHERE id = 1") ≡ Err (Syntax 27) }
+    ensures name { read (codes "SELECT * FROM limit") ≡ Err (Syntax 14) }
+{}
+
+/// COUNT(*) stands alone, and only in the select list.
+pub fn counts_are_refused()
+    ensures before_item { read (codes "SELECT COUNT(*), id FROM t") ≡ Err (Syntax 15) }
+    ensures behind_item { read (codes "SELECT id, COUNT(*) FROM t") ≡ Err (Syntax 11) }
+    ensures behind_star { read (codes "SELECT *, COUNT(*) FROM t") ≡ Err (Syntax 8) }
+    ensures of_column { read (codes "SELECT COUNT(id) FROM t") ≡ Err (Syntax 13) }
+    ensures of_nothing { read (codes "SELECT COUNT() FROM t") ≡ Err (Syntax 13) }
+    ensures named { read (codes "SELECT COUNT(*) AS n FROM t") ≡ Err (Syntax 16) }
+    ensures operand { read_where (codes "COUNT(*) = 1") ≡ Err (Syntax 22) }
+{}
+
 /// What isn't served is no part of the language.
 pub fn parts_are_left_out()
     ensures second_reference { read_plain (codes "SELECT * FROM t, u") ≡ Err (Syntax 15) }
     ensures function { read_plain (codes "SELECT ST_IsEmpty(geom) FROM t") ≡ Err (Syntax 7) }
     ensures explain { read_plain (codes "EXPLAIN SELECT * FROM t") ≡ Err (Syntax 0) }
+    ensures limit { read_plain (codes "SELECT id FROM big LIMIT 2") ≡ Err (Syntax 19) }
+    ensures count { read_plain (codes "SELECT COUNT(*) FROM t") ≡ Err (Syntax 7) }
+    ensures name { read_plain (codes "SELECT count FROM t WHERE") ≡ Err (Syntax 25) }
 {}

@@ -96,6 +96,7 @@ fn texts_that_are_refused(rt: HostRuntime) {
         ("LINESTRING EMPTY", WktFault::Syntax(0)),
         (" multilinestring((0 0,1 1))", WktFault::Syntax(1)),
         ("Polygon EMPTY", WktFault::Syntax(0)),
+        ("MULTIPOLYGON(((0 0,1 0,0 1,0 0)))", WktFault::Syntax(0)),
         ("pointempty", WktFault::Syntax(0)),
         ("POINT EMPT", WktFault::Syntax(6)),
         ("POINT(1 2", WktFault::Syntax(9)),
