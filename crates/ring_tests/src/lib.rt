@@ -3,6 +3,7 @@
 #![tactic(auto)]
 
 mod edges;
+pub mod laws;
 mod rings;
 
 pub use edges::{share_other, share_point};
