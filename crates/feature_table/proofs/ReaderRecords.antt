@@ -1,5 +1,5 @@
 -- Records of readers whose bytes are known or not.
-use Rattle.std.proofs.Common.{◌≡◌, ◌+◌, ◌++◌, ◌<◌, ℕ, List, [], ◌∷◌, Option, None, Some, Result, ap, get_or, length, refl, suc, sym, take}
+use Rattle.std.proofs.Common.{◌≡◌, ◌+◌, ◌++◌, ◌<◌, ℕ, List, [], ◌∷◌, Option, None, Some, Result, ap, get_or, length, refl, suc, take}
 use Rattle.std.proofs.lemmas.List.{take_more}
 use Rattle.feature_table.specs.Outcomes.{Loads}
 use Rattle.feature_table.specs.Tables.{AreRecordsOf, EachRecordsOf, IsOfRecords, IsOfSomeRecords, records_in, table_in}

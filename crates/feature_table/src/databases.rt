@@ -17,7 +17,8 @@ use std::io::Read;
 use std::marker::Model;
 use table_model::faults::{LoadFault, TableFault};
 
-/// The tables of a schema, which it borrows. (06-104r4, feature tables.)
+/// The tables of a schema, which it borrows: lawful definitions, and for each the rows of its table. (06-104r4, feature
+/// tables.)
 #[derive(Drop)]
 pub struct Database<'s> {
     schema: &'s Schema,
@@ -62,7 +63,8 @@ fn load_table<R: Read + Drop>(
 impl<'s> Database<'s> {
     /// Loads the tables of a schema in its order, each from the CSV text of one reader. The answer is the first
     /// fault where there is one, with its table: `Table::load` says which. So also a fault of reading is that of the
-    /// first table whose reading failed: each table before it has loaded. (Profile.)
+    /// first table whose reading failed: each table before it has loaded. Whatever the readers are, there are records of
+    /// which this is the answer, and at Ok the tables are those of a database. (06-104r4, feature tables.)
     pub fn load<R: Read + Drop>(
         alloc: Global,
         schema: &'s Schema,
@@ -93,7 +95,8 @@ impl<'s> Database<'s> {
         Ok(Database { schema, tables })
     }
 
-    /// Lends the definitions of the tables, in the order of the schema. (Profile.)
+    /// Lends the definitions of the tables, in the order of the schema. With its tables they are a database. (06-104r4,
+    /// feature tables.)
     pub fn definitions(&self) -> &'s [TableDef]
         ensures value { result.now ≡ self.now.definitions }
         ensures database { IsDatabase takes self.now }

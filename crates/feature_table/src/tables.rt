@@ -79,8 +79,9 @@ impl Model for Table {
 impl Table {
     /// Loads the table of a definition, which is lawful by itself, from the CSV text that a reader gives. The answer
     /// is the first fault where there is one: of the header, then of the records in order, then a repeated key. A
-    /// fault of reading is answered where it comes. It is `Table::load_from` over the records of the reader, so at
-    /// most 100,002 of them are read, the header among them. (Profile.)
+    /// fault of reading is answered where it comes. Whatever the reader is, there are records of which this is the
+    /// answer, and at Ok the rows are those of a table of this definition. It is `Table::load_from` over the records of
+    /// the reader, so at most 100,002 of them are read, the header among them. (06-104r4, feature tables.)
     pub fn load<R: Read + Drop>(
         alloc: Global,
         table: &TableDef,
