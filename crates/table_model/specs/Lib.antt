@@ -31,6 +31,7 @@ pub mod SchemaGrammar
 pub mod BindingExamples
 pub mod GeometryColumns
 pub mod GeometryColumnExamples
+pub mod BoundQueries
 pub mod FirstRunExamples
 pub mod JoinExamples
 pub mod SchemaRefusals
