@@ -1,7 +1,7 @@
 -- The grammar of queries: a relation for each rule, between a tree and the tokens that are written for it. SELECT over
 -- one table or two, after the query expressions of 06-104r4, with its functions (profile). Each part that may be served
 -- or not is a parameter.
-use Rattle.std.specs.Prelude.{◌≡◌, ◌≤◌, ◌⊎◌, ℕ, zero, suc, Bool, true, false, ℤ, List, [], ◌∷◌, ◌++◌, length, Option, Some, None, Result, Ok, codes}
+use Rattle.std.specs.Prelude.{◌≡◌, ◌≤◌, ◌⊎◌, ℕ, zero, suc, Bool, true, false, ℤ, List, [], ◌∷◌, length, Option, Some, None, Result, Ok, codes}
 use Rattle.std.specs.Str.Parse.{digits_value}
 use Rattle.geometry_model.specs.declared.relations.Predicate.{Predicate}
 use Rattle.geometry_model.specs.declared.relations.Predicate.TheVariants as p
@@ -22,7 +22,6 @@ use Rattle.table_model.specs.declared.queries.WrittenItem.TheVariants as i
 use Rattle.table_model.specs.declared.queries.WrittenOperand.TheVariants as o
 use Rattle.table_model.specs.declared.queries.WrittenPredicate.TheVariants as w
 use Rattle.table_model.specs.declared.queries.WrittenReference.{WrittenReference}
-use Rattle.table_model.specs.declared.tokens.Token.{Token}
 use Rattle.table_model.specs.declared.tokens.TokenKind.{TokenKind}
 use Rattle.table_model.specs.declared.tokens.TokenKind.TheVariants as k
 use Rattle.table_model.specs.Outcomes.{Gives}
@@ -30,7 +29,6 @@ use Rattle.table_model.specs.Parsers.{place}
 use Rattle.table_model.specs.Phrases.{Phrase, IsOne, IsToken, ◌▸◌, IsOptional, IsParts, IsWord}
 use Rattle.table_model.specs.QueryReading.{integer_value, limit_value, comparison_of, most_levels, bad_place}
 use Rattle.table_model.specs.Served.{Served, ItemArgument, ServedOperand, ServedCond, ServedItem, ServedQuery}
-use Rattle.table_model.specs.Texts.{same_name}
 use Rattle.table_model.specs.Tokens.{tokens, most_bytes}
 
 -- ---- names, columns and operands
