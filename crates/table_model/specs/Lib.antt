@@ -15,6 +15,7 @@ pub mod Loading
 pub mod Databases
 pub mod Served
 pub mod QueryReading
+pub mod Phrases
 pub mod QueryGrammar
 pub mod QueryRefusals
 pub mod QueryExamples

@@ -4,9 +4,9 @@ use Rattle.std.specs.Prelude.{ℕ, zero, suc, Bool, true, false, not, ◌&&◌, 
 use Rattle.std.specs.List.{list_all, list_any}
 use Rattle.std.specs.Option.{option_map}
 use Rattle.table_model.specs.Definitions.{is_integer}
-use Rattle.table_model.specs.Parsers.{Outcome, Parser, place, spelling, next, sees, ◌>>=◌, ◌>>◌, ◌<$>◌, pure, refuse, eat, expect}
+use Rattle.table_model.specs.Parsers.{Outcome, Parser, place, spelling, next, sees, ◌>>=◌, ◌>>◌, ◌<$>◌, pure, refuse, eat, expect, value_of}
 use Rattle.table_model.specs.Texts.{same_name}
-use Rattle.table_model.specs.Tokens.{tokens}
+use Rattle.table_model.specs.Tokens.{tokens, most_bytes}
 use Rattle.table_model.specs.declared.definitions.ColumnType.{ColumnType}
 use Rattle.table_model.specs.declared.definitions.ColumnType.TheVariants as types
 use Rattle.table_model.specs.declared.definitions.ColumnDef.{ColumnDef}
@@ -187,15 +187,6 @@ schema geometry = do
   tables ← all_tables geometry
   expect fault.Syntax k.End
   pure tables
-
--- what was read, without the tokens that are left (profile)
-abbrev pub value_of : {A : Type 0} → Outcome SchemaFault A → Result A SchemaFault
-value_of (Ok p) = Ok p.0
-value_of (Err e) = Err e
-
--- how many bytes a schema may have (profile)
-abbrev pub most_bytes : ℕ
-most_bytes = 65536
 
 -- The schema that a text is, or its fault: its length first, then its grammar (profile)
 unfoldable pub schema_of : {T : Type 0} → (List ℕ → Option T) → List ℕ → Result (List (TableDef T)) SchemaFault
