@@ -1,0 +1,3 @@
+pub mod Forcing
+pub mod FilterLaws
+pub mod CandidateLaws
