@@ -1,10 +1,10 @@
 -- What the conjuncts of a written condition are bound to, at each of its variants.
-use Rattle.std.proofs.Common.{◌≡◌, ℕ, Bool, true, false, and_then, List, [], ◌∷◌, ◌++◌, map, Ok, Err, refl, sym, ap, subst, ◌∙◌}
+use Rattle.std.proofs.Common.{◌≡◌, ℕ, Bool, true, false, List, [], ◌∷◌, ◌++◌, map, Ok, Err, refl, sym, ap, subst, ◌∙◌}
 use Rattle.std.specs.List.{flat_map}
 use Rattle.std.proofs.lemmas.List.Concat.{flat_map-cons}
 use Rattle.geometry_model.specs.declared.relations.Predicate.{Predicate}
 use Rattle.table_model.specs.Binding.{GeometryBinding, Checked, ◌>>=◌, bound_by_parts, bound_cond, bound_conjuncts, bound_comparison, bound_null_test, bound_emptiness, bound_relation, bound_operand, bound_predicate, geometry_only, checked_types, comparable}
-use Rattle.table_model.specs.Loading.{each}
+use Rattle.table_model.specs.Loading.{and_then, each}
 use Rattle.table_model.specs.Statements.{conjuncts_of}
 use Rattle.table_model.specs.declared.conditions.Comparison.{Comparison}
 use Rattle.table_model.specs.declared.conditions.Operand.{Operand}
@@ -14,6 +14,7 @@ use Rattle.table_model.specs.declared.conditions.Reference.{Reference}
 use Rattle.table_model.specs.declared.definitions.TableDef.{TableDef}
 use Rattle.table_model.specs.declared.queries.WrittenCond.{WrittenCond}
 use Rattle.table_model.specs.declared.queries.WrittenCond.TheVariants as written
+use Rattle.table_model.specs.declared.queries.WrittenCond.TheOpen.{WrittenCond-F}
 use Rattle.table_model.specs.declared.queries.WrittenOperand.{WrittenOperand}
 use Rattle.table_model.specs.declared.queries.WrittenPredicate.{WrittenPredicate}
 use Rattle.table_model.proofs.WrittenFolds.{fold-Or, fold-And, fold-Not, fold-Compare, fold-IsNull, fold-IsEmpty, fold-Relates}
@@ -87,7 +88,7 @@ by_written_parts {A = A} {B = B} how schema references = record {
     (λ x. made (geometry_only at right) (λ y. conds.Relates p x y) (λ y. conjuncts-Relates p x y)))));
 }
   where
-    step : _
+    step : WrittenCond-F A (Checked (Cond B)) → Checked (Cond B)
     step = bound_by_parts how schema references
     bound : WrittenCond A → Checked (Cond B)
     bound = bound_cond how schema references

@@ -4,7 +4,7 @@ ghost use Rattle.std.specs.Prelude.{◌≡◌, ◌<◌, ℕ, IfErr, IfOk, List, 
 ghost use Rattle.std.specs.List.{slice_index_or};
 ghost use Rattle.feature_table.specs.GeometryFields.{ShapeValue, reading, takes};
 ghost use Rattle.feature_table.specs.Outcomes.{LoadsTable};
-ghost use Rattle.feature_table.specs.Tables.{AreOfRecords, EarlierLoad, records_in, table_in, tables_in};
+ghost use Rattle.feature_table.specs.Tables.{AreOfRecords, AreRecordsOf, EarlierLoad, records_in, table_in, tables_in};
 ghost use Rattle.table_model.specs.Databases.{at_table};
 ghost use Rattle.table_model.specs.FeatureTables.{IsDatabase};
 ghost use Rattle.table_model.specs.Loading.{Record, load};
@@ -47,7 +47,8 @@ fn load_table<R: Read + Drop>(
     ensures place { IfErr result (λ f. f.table ≡ place) }
     ensures loads { (text : List ℕ) (d : Definition ShapeValue) → R.remaining reader ≡ Some text
         → LoadsTable (λ t. t) result (at_table place (table_in reading (slice_index_or schema.now place d) text)) }
-    ensures records { (d : Definition ShapeValue) → (records : List Record) × LoadsTable (λ t. t) result (at_table place (load reading (slice_index_or schema.now place d) records)) }
+    ensures records { (d : Definition ShapeValue) → (records : List Record) × AreRecordsOf (R.remaining reader) records
+        × LoadsTable (λ t. t) result (at_table place (load reading (slice_index_or schema.now place d) records)) }
 {
     match Table::load(alloc, schema.table(place), reader) {
         Ok(table) => Ok(table),
@@ -73,7 +74,7 @@ impl<'s> Database<'s> {
             → LoadsTable (λ d. d.tables) result (tables_in reading schema.entry.now texts) }
         ensures earlier { (texts : List (List ℕ)) → map R.remaining readers.items ≡ map Some texts
             → IfErr result (λ f. EarlierLoad reading schema.entry.now (map records_in texts) f.table) }
-        ensures records { AreOfRecords reading schema.entry.now (λ d. d.tables) result }
+        ensures records { AreOfRecords reading schema.entry.now (map R.remaining readers.items) (λ d. d.tables) result }
         ensures database { IfOk result (IsDatabase takes) }
         ensures table { IfErr result (λ f. f.table < length schema.entry.now) }
     {

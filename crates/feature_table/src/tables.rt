@@ -5,7 +5,7 @@ ghost use Rattle.feature_table.specs.Cells.{shown};
 ghost use Rattle.feature_table.specs.Outcomes.{Loads, is_of_reading};
 ghost use Rattle.feature_table.specs.Records.{Gives, IsReady, asked, read_failed, record_limit};
 ghost use Rattle.feature_table.specs.GeometryFields.{reading, takes};
-ghost use Rattle.feature_table.specs.Tables.{IsOfRecords, IsTable, table_in};
+ghost use Rattle.feature_table.specs.Tables.{IsOfRecords, IsOfSomeRecords, IsTable, table_in};
 ghost use Rattle.table_model.specs.Definitions.{lawful};
 ghost use Rattle.table_model.specs.FeatureTables.{AreRows};
 ghost use Rattle.table_model.specs.Loading as spec;
@@ -88,7 +88,7 @@ impl Table {
     ) -> Result<Table, LoadFault>
         requires { IsTrue (lawful (table.now ∷ [])) }
         ensures loads { (text : List ℕ) → R.remaining reader ≡ Some text → Loads (λ t. t) result (table_in reading table.now text) }
-        ensures records { IsOfRecords reading table.now (λ t. t) result }
+        ensures records { IsOfRecords reading table.now (R.remaining reader) (λ t. t) result }
         ensures rows { IfOk result (AreRows takes table.now) }
     {
         let mut records = Records::new(alloc, reader);
@@ -109,7 +109,7 @@ impl Table {
         ensures taken { asked records.new ≤ record_limit }
         ensures read_failed { IfErr result (λ f. is_of_reading f ≡ true → read_failed records.new ≡ true) }
         ensures loads { (all : List spec.Record) → Gives R.remaining records.old all → Loads (λ t. t) result (spec.load reading table.now all) }
-        ensures records { IsOfRecords reading table.now (λ t. t) result }
+        ensures records { IsOfSomeRecords reading table.now (λ t. t) result }
         ensures rows { IfOk result (AreRows takes table.now) }
     {
         let mut header = ByteRecord::new(alloc);

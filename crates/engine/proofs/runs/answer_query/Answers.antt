@@ -13,7 +13,7 @@ use Rattle.engine.specs.Stage.{no_writing}
 use Rattle.engine.specs.declared.run_fault.Fault.TheVariants as faults
 use Rattle.engine.proofs.BindingLemmas.{bound-references}
 use Rattle.engine.proofs.RunLemmas.{answer-text, at-fault, bound-outcome, memory-none, put-refused, query-refused}
-use Rattle.engine.proofs.run.answer_query.Goals as goal
+use Rattle.engine.proofs.runs.answer_query.Goals as goal
 
 pub execute-requires : goal.execute-requires
 execute-requires g c = bound-references no_geometry c.args.database.now.definitions c.args.query.now c.in_ok-bound.bound c.in_ok-bound.ensures

@@ -5,7 +5,7 @@ use Rattle.table_model.specs.Meanings.{referenced}
 use Rattle.sinks.proofs.SinkLemmas.{OnErr-holds}
 use Rattle.engine.specs.Runs.{pair_text}
 use Rattle.sinks.proofs.PartLemmas.{parts-begun, text-front, text-put}
-use Rattle.engine.proofs.run.put_pairs.Goals as goal
+use Rattle.engine.proofs.runs.put_pairs.Goals as goal
 
 pub returns-in_err-record-clause-front : goal.returns-in_err-record-clause-front
 returns-in_err-record-clause-front g c =

@@ -1,6 +1,6 @@
 use Rattle.std.proofs.Common.{◌≡◌, length}
 use denote.Param.Always.{always_mut}
-use Rattle.engine.proofs.serve.open_tables.Given as goal
+use Rattle.engine.proofs.commands.open_tables.Given as goal
 
 -- a reader for each table before this one
 abbrev pub invariant-loop-table : goal.invariant-loop-table

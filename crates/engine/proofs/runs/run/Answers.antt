@@ -3,7 +3,7 @@ use Rattle.std.proofs.Common.{subst, sym}
 use Rattle.engine.specs.Faults.{of_query}
 use Rattle.engine.specs.Runs.{Runs, bound_query}
 use Rattle.engine.proofs.RunLemmas.{at-fault, binding-refused, bound-first, loaded-outcome, query-first, query-refused, read-outcome, table-alone, table-first, table-refused, text-refused}
-use Rattle.engine.proofs.run.run.Goals as goal
+use Rattle.engine.proofs.runs.run.Goals as goal
 
 pub returns-in_err-query-clause-answer : goal.returns-in_err-query-clause-answer
 returns-in_err-query-clause-answer g c = λ texts known unread.

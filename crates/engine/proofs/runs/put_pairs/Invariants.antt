@@ -3,7 +3,7 @@ use Rattle.std.specs.List.{concat}
 use Rattle.std.specs.Io.KnownBytes.{Appends}
 use Rattle.table_model.specs.Meanings.{referenced}
 use Rattle.engine.specs.Runs.{pair_text}
-use Rattle.engine.proofs.run.put_pairs.Given as goal
+use Rattle.engine.proofs.runs.put_pairs.Given as goal
 
 -- the records of the pairs before this one were put, and no put has failed
 abbrev pub invariant-loop-pair : goal.invariant-loop-pair

@@ -6,7 +6,7 @@ use Rattle.engine.specs.Stage.{no_writing}
 use Rattle.sinks.specs.Sinks.{AppendsFront}
 use Rattle.sinks.proofs.SinkLemmas.{AppendsFront-more, OnErr-holds}
 use Rattle.engine.proofs.TextLemmas.{first-front}
-use Rattle.engine.proofs.run.put_answer.Goals as goal
+use Rattle.engine.proofs.runs.put_answer.Goals as goal
 
 pub returns-in_err-put_record-clause-front : goal.returns-in_err-put_record-clause-front
 returns-in_err-put_record-clause-front g c =

@@ -6,7 +6,7 @@ ghost use Rattle.engine.specs.Failures.{failure_status};
 use crate::failure::{Failure, fault_line, status};
 use crate::run_fault::Fault;
 use crate::relate::relate_texts;
-use crate::run::run;
+use crate::runs::run;
 use command_line::Order;
 use feature_table::{Database, Schema};
 use itoa::Buffer;

@@ -13,7 +13,7 @@ ghost use Rattle.engine.specs.Stage.{HasReferences, IsPlace, no_writing, pair_ro
 
 use crate::execute::{RowPair, execute};
 use crate::run_fault::{Fault, PutFault};
-use crate::records::{header_record, record_text, row_record};
+use crate::answer_records::{header_record, record_text, row_record};
 use csv::ByteRecord;
 use feature_table::{Database, Schema};
 use spatial_sql::{Bound, Query, bind, read_query};
