@@ -2,20 +2,19 @@
 use Rattle.std.proofs.Common.{ℕ, ◌<◌, ◌≡◌, ◌≢◌, ◌⊎◌, inl, inr, ◌↔◌, Bool, true, false, ◌||◌, if◌then◌else◌, refl, sym, ap, ap₂, subst, ◌∙◌, List, [], ◌∷◌, ◌++◌, Some, slice_get, Contains, arith}
 use Rattle.std.specs.List.{list_any}
 use Rattle.geometry_model.specs.Points.{Position, Point, IsPoint, point_at}
-use Rattle.geometry_model.specs.Geometries.{Edge, Geometry, Polygon, MultiPolygon, edges_of_line, edges_of_lines, elements, rings, joined_rings}
+use Rattle.geometry_model.specs.Geometries.{Edge, Geometry, Polygon, MultiPolygon, edges_of_line, edges_of_lines, rings, joined_rings}
 use Rattle.geometry_model.specs.Sides.{on}
-use Rattle.geometry_model.specs.Crossings.{exactly_one as xor, strictly_above, odd_above}
+use Rattle.geometry_model.specs.Crossings.{exactly_one as xor, odd_above}
 use Rattle.geometry_model.specs.Locations.{on_some, locate}
 use Rattle.geometry_model.specs.Validity.{IsValid, ElementsShare, inside, inside_element}
-use Rattle.geometry_model.specs.declared.point_sets.Location.{Location}
 use Rattle.geometry_model.specs.declared.point_sets.Location.TheVariants.{Interior, Boundary, Exterior}
 use Rattle.geometry_model.specs.declared.validity_faults.ValidityFault.TheVariants.{ElementsMeet, ElementInside}
 use Rattle.geometry_laws.specs.RingLaws.{IsClosed}
-use Rattle.geometry_laws.proofs.Each.{Each, Among, each_at, each_of, each_map, each_append, Passing, some_passed, one_passes, none_passes, none_passed, parity, parity_append, among_left, among_right, among_either}
+use Rattle.geometry_laws.proofs.Each.{Each, Among, each_at, each_of, each_map, each_append, Passing, some_passed, one_passes, none_passes, none_passed, parity, among_either}
 use Rattle.geometry_laws.proofs.RingParity.{position_is_point}
-use Rattle.geometry_laws.proofs.Cuts.{contains_of_among}
+use Rattle.geometry_laws.proofs.Cuts.{contains_of_among, among_from_contains}
 use Rattle.geometry_laws.proofs.Xor.{xor_assoc}
-use Rattle.polygon_laws.proofs.Places.{Pairs, pairs_by, pairs_map, pairs_append, one_before, each_by, place_from_contains, among_at, among_from_contains}
+use Rattle.polygon_laws.proofs.Places.{Pairs, pairs_by, pairs_map, pairs_append, one_before, each_by, place_from_contains, among_at}
 use Rattle.polygon_laws.proofs.Nested.{odd_in, Disjoint, disjoint_turned, on_ring, not_each, empty_even, carried_in, over_neither}
 use Rattle.polygon_laws.proofs.OneElement.{element_is_valid}
 use Rattle.polygon_laws.proofs.Through.{one_parity}

@@ -1,6 +1,6 @@
 -- In a valid polygon the holes lie inside the outer ring and apart from one another, so the interior is what is inside the outer ring and in no hole.
-use Rattle.std.proofs.Common.{ℕ, zero, suc, ◌+◌, ◌<◌, ◌≡◌, ◌⊎◌, inl, inr, ◌↔◌, Bool, true, false, if◌then◌else◌, refl, sym, ap, ap₂, ◌∙◌, List, [], ◌∷◌, Some, slice_get, All, Contains, length, slice_index_or, arith}
-use Rattle.geometry_model.specs.Points.{Position, Point, IsPoint, point_at}
+use Rattle.std.proofs.Common.{ℕ, suc, ◌+◌, ◌≡◌, ◌⊎◌, inl, inr, ◌↔◌, Bool, true, false, if◌then◌else◌, refl, sym, ap, ap₂, ◌∙◌, List, [], ◌∷◌, All, Contains, arith}
+use Rattle.geometry_model.specs.Points.{Position, Point, IsPoint}
 use Rattle.geometry_model.specs.Geometries.{Edge, Polygon, edges_of_line, edges_of_lines}
 use Rattle.geometry_model.specs.Sides.{on}
 use Rattle.geometry_model.specs.Crossings.{exactly_one as xor, strictly_above, odd_above}
@@ -15,8 +15,8 @@ use Rattle.geometry_laws.proofs.RingParity.{each_from_all, parity_of_rings}
 use Rattle.geometry_laws.proofs.Locating.{Off, locate_off}
 use Rattle.geometry_laws.proofs.CoverTheorems.{all_from_each}
 use Rattle.geometry_laws.proofs.Xor.{xor_false}
-use Rattle.polygon_laws.proofs.Places.{Pairs, Place, place_of, each_by, pairs_by, next_less, some_next}
-use Rattle.polygon_laws.proofs.Nested.{odd_in, Disjoint, on_ring, parity_in, empty_even, carried_in, over_neither}
+use Rattle.polygon_laws.proofs.Places.{Pairs, place_of, each_by, pairs_by, next_less, some_next}
+use Rattle.polygon_laws.proofs.Nested.{odd_in, Disjoint, on_ring, parity_in, carried_in, over_neither}
 use Rattle.polygon_laws.proofs.Closing.{closed}
 
 -- ---- what validity says

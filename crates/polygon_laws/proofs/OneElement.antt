@@ -1,12 +1,11 @@
 -- Each element of a valid area is a valid polygon, and two elements share no point.
 use Rattle.std.proofs.Common.{ℕ, zero, suc, ◌+◌, ◌<◌, ◌≡◌, inl, inr, refl, sym, ap, subst, ◌∙◌, List, [], ◌∷◌, ◌++◌, Some, slice_get, Contains, length, arith}
 use Rattle.geometry_model.specs.Points.{Position}
-use Rattle.geometry_model.specs.Geometries.{Geometry, Polygon, MultiPolygon, elements, joined_rings}
-use Rattle.geometry_model.specs.Validity.{Element, elements_from, IsValid, ElementsShare}
+use Rattle.geometry_model.specs.Geometries.{Geometry, Polygon, elements, joined_rings}
+use Rattle.geometry_model.specs.Validity.{Element, elements_from, IsValid}
 use Rattle.geometry_model.specs.declared.validity_faults.ValidityFault.TheVariants.{TooFewPoints, RingNotClosed, RingNotSimple, RingsMeet, HoleOutside, HolesNested, ElementsMeet, ElementInside}
 use Rattle.geometry_laws.proofs.Each.{Among}
-use Rattle.geometry_laws.proofs.Cuts.{contains_of_among}
-use Rattle.polygon_laws.proofs.Places.{among_from_contains}
+use Rattle.geometry_laws.proofs.Cuts.{contains_of_among, among_from_contains}
 
 -- ---- places in joined lists
 place_left : {X : Type 0} (xs ys : List X) (k : ℕ) (x : X) → slice_get xs k ≡ Some x → slice_get (xs ++ ys) k ≡ Some x

@@ -1,12 +1,11 @@
 -- At a point strictly within a ring edge of a valid polygon that isn't upright, just that edge goes through the point: so the rings part the interior from the exterior there.
-use Rattle.std.proofs.Common.{ℕ, zero, suc, ◌+◌, ◌<◌, ◌≡◌, ◌⊎◌, inl, inr, Bool, true, false, if◌then◌else◌, ℤ, pos, ◌-ℤ◌, ◌<ℤ◌, ◌≤ℤ◌, int_le, refl, sym, ap, ap₂, ◌∙◌, List, [], ◌∷◌, length, Some, None, slice_get, Contains, arith}
+use Rattle.std.proofs.Common.{ℕ, zero, suc, ◌+◌, ◌<◌, ◌≡◌, ◌⊎◌, inl, inr, Bool, true, false, if◌then◌else◌, ℤ, pos, ◌-ℤ◌, ◌<ℤ◌, ◌≤ℤ◌, int_le, refl, sym, ap, ap₂, subst, ◌∙◌, List, [], ◌∷◌, length, Some, None, slice_get, arith}
 use borrow.Author.Differences.{ints}
-use Rattle.std.proofs.lemmas.Option.{slice_get-get_or}
 use Rattle.std.specs.Ordering.{int_eq}
 use Rattle.std.specs.declared.cmp.Ordering.{Ordering}
 use Rattle.std.specs.declared.cmp.Ordering.TheVariants.{Less, Equal, Greater}
 use Rattle.geometry_model.specs.Points.{Position, Point, IsPoint, point_at, same_point, compare}
-use Rattle.geometry_model.specs.Geometries.{Edge, Geometry, edges_of_line, edges_of_lines, rings}
+use Rattle.geometry_model.specs.Geometries.{Edge, Geometry, edges_of_line, edges_of_lines, rings, joined_rings}
 use Rattle.geometry_model.specs.Sides.{side, on}
 use Rattle.geometry_model.specs.Crossings.{exactly_one as xor, reaches, spans, side_rightward, odd_above, odd_at_or_above}
 use Rattle.geometry_model.specs.Locations.{stands_at, last_after}
@@ -16,7 +15,7 @@ use Rattle.integers.proofs.Signs.{at_most_yes, at_most_no}
 use Rattle.integers.proofs.Tests.{equal_yes}
 use Rattle.geometry_laws.specs.RingLaws.{IsClosed}
 use Rattle.geometry_laws.proofs.Plane.{right}
-use Rattle.geometry_laws.proofs.Each.{parity, parity_append}
+use Rattle.geometry_laws.proofs.Each.{Each, each_append, parity, parity_append}
 use Rattle.geometry_laws.proofs.Xor.{xor_self, xor_assoc}
 use Rattle.geometry_laws.proofs.Identities.{right_turned}
 use Rattle.geometry_laws.proofs.Scaling.{and_from}
@@ -27,8 +26,14 @@ use Rattle.geometry_laws.proofs.RingParity.{reaches_is, position_is_point}
 use Rattle.geometry_laws.proofs.Locating.{start_is_on, end_is_on, by_contraries}
 use Rattle.geometry_laws.proofs.Cuts.{turn_less, not_after_both, not_before_both, same_end}
 use Rattle.geometry_laws.proofs.WithinPiece.{touches, on_from_touch, strictly_right, parity_at_or_above}
+use Rattle.geometry_laws.proofs.Nudge.{IsSlant}
+use Rattle.geometry_laws.proofs.CoverTheorems.{all_from_each, sides_are_near}
+use Rattle.geometry_laws.specs.CoverLaws.{IsSlantAt, NearSides}
+use Rattle.geometry_model.specs.Labels.{below, above}
+use Rattle.geometry_model.specs.declared.point_sets.Location.TheVariants.{Interior, Exterior}
+use Rattle.polygon_laws.specs.PolygonLaws.{ArePartedAs}
 use Rattle.polygon_laws.proofs.Closing.{closed}
-use Rattle.polygon_laws.proofs.Places.{among_at, pairs_at}
+use Rattle.polygon_laws.proofs.Places.{among_at, each_by, pairs_at}
 use Rattle.polygon_laws.proofs.Through.{one_parity, none_parity}
 use Rattle.polygon_laws.proofs.Nested.{Disjoint}
 use Rattle.polygon_laws.proofs.Areas.{rings_apart}
@@ -199,3 +204,49 @@ rings_part g v i ring ri j e ej p hp h s t f = ap (xor (odd_above (rings g) p)) 
   where
     untouched : (d : Edge) → on d p ≡ false → touches d p ≡ false
     untouched d n = by_contraries (touches d p) (on d p) (on_from_touch d p hp) n
+
+-- ---- what is just below and just above
+parted_as : (s t : Bool) → xor s t ≡ true → ArePartedAs (if t then Interior else Exterior) (if s then Interior else Exterior)
+parted_as true true e = absurd (cc)
+parted_as true false e = inr (refl, refl)
+parted_as false true e = inl (refl, refl)
+parted_as false false e = absurd (cc)
+
+each_ring : (P : Edge → Type 0) (rs : List (List Position)) → ((k : ℕ) (r : List Position) → slice_get rs k ≡ Some r → (m : ℕ) (d : Edge) → slice_get (edges_of_line r) m ≡ Some d → P d) → Each P (edges_of_lines rs)
+each_ring P [] f = tt
+each_ring P (r ∷ rs) f = each_append P (edges_of_line r) (edges_of_lines rs) (each_by P (edges_of_line r) (λ m d q. f 0 r refl m d q)) (each_ring P rs (λ k q h m d z. f (suc k) q h m d z))
+
+-- every edge through the point is that one, so none of them is upright
+slant_at : (g : Geometry) → IsValid g → (i : ℕ) (ring : List Position) → slice_get (rings g) i ≡ Some ring → (j : ℕ) (e : Edge) → slice_get (edges_of_line ring) j ≡ Some e
+    → (p : Point) → IsPoint p → on e p ≡ true → stands_at p e.start ≡ false → stands_at p e.end ≡ false → (e.start.x ≡ e.end.x → ⊥) → Each (IsSlant p) (edges_of_lines (rings g))
+slant_at g v i ring ri j e ej p hp h s t f = each_ring (IsSlant p) (rings g) (λ k r rk m d dm. at_ring k r rk m d dm (equal_or_not k i))
+  where
+    same_item : {X : Type 0} (x y : X) → Some x ≡ Some y → x ≡ y
+    same_item x y z = cc
+
+    none : (d : Edge) → on d p ≡ false → IsSlant p d
+    none d n = λ y q. absurd (let z : true ≡ false = sym y ∙ n in cc)
+
+    at_edge : (k : ℕ) (r : List Position) → k ≡ i → slice_get (rings g) k ≡ Some r → (m : ℕ) (d : Edge) → slice_get (edges_of_line r) m ≡ Some d → (m ≡ j) ⊎ (m ≡ j → ⊥) → IsSlant p d
+    at_edge k r w rk m d dm (inl n) = λ y q. f (subst (λ (c : Edge). c.start.x ≡ c.end.x) (same_item d e (sym dm ∙ ap₂ (λ (o : List Position) (l : ℕ). slice_get (edges_of_line o) l) (same_item r ring (sym rk ∙ ap (slice_get (rings g)) w ∙ ri)) n ∙ ej)) q)
+    at_edge k r w rk m d dm (inr n) = none d (no_edge_of_ring g v i ring ri j e ej p hp h s t m d n (ap (λ (o : List Position). slice_get (edges_of_line o) m) (sym (same_item r ring (sym rk ∙ ap (slice_get (rings g)) w ∙ ri))) ∙ dm))
+
+    at_ring : (k : ℕ) (r : List Position) → slice_get (rings g) k ≡ Some r → (m : ℕ) (d : Edge) → slice_get (edges_of_line r) m ≡ Some d → (k ≡ i) ⊎ (k ≡ i → ⊥) → IsSlant p d
+    at_ring k r rk m d dm (inl w) = at_edge k r w rk m d dm (equal_or_not m j)
+    at_ring k r rk m d dm (inr n) = none d (no_edge_of_others g v i ring ri j e ej p hp h k r n rk m d dm)
+
+-- an area has no edges but those of its rings, and no listed positions
+slant_area : (g : Geometry) (p : Point) (i : ℕ) (ring : List Position) → slice_get (rings g) i ≡ Some ring → Each (IsSlant p) (edges_of_lines (rings g)) → IsSlantAt g p
+slant_area (Geometry.Point o) p i ring e h = absurd (let z : None ≡ Some ring = e in cc)
+slant_area (Geometry.MultiPoint qs) p i ring e h = absurd (let z : None ≡ Some ring = e in cc)
+slant_area (Geometry.LineString l) p i ring e h = absurd (let z : None ≡ Some ring = e in cc)
+slant_area (Geometry.MultiLineString ls) p i ring e h = absurd (let z : None ≡ Some ring = e in cc)
+slant_area (Geometry.Polygon rs) p i ring e h = record { edges = all_from_each (IsSlant p) (edges_of_lines rs) h; positions = all_from_each (λ a. stands_at p a ≡ false) [] tt }
+slant_area (Geometry.MultiPolygon es) p i ring e h = record { edges = all_from_each (IsSlant p) (edges_of_lines (joined_rings es)) h; positions = all_from_each (λ a. stands_at p a ≡ false) [] tt }
+
+pub sides_of_a_ring : (g : Geometry) → IsValid g → (i : ℕ) (ring : List Position) → slice_get (rings g) i ≡ Some ring → (j : ℕ) (e : Edge) → slice_get (edges_of_line ring) j ≡ Some e
+    → (p : Point) → IsPoint p → on e p ≡ true → stands_at p e.start ≡ false → stands_at p e.end ≡ false → (e.start.x ≡ e.end.x → ⊥) → ArePartedAs (below g p) (above g p) × ((k : ℕ) → NearSides g p k)
+sides_of_a_ring g v i ring ri j e ej p hp h s t f = (
+  parted_as (odd_above (rings g) p) (odd_at_or_above (rings g) p) (rings_part g v i ring ri j e ej p hp h s t f),
+  sides_are_near g p hp (slant_area g p i ring ri (slant_at g v i ring ri j e ej p hp h s t f)),
+)

@@ -1,15 +1,7 @@
 -- Elements of lists by place, and pairs of them.
-use Rattle.std.proofs.Common.{ℕ, zero, suc, ◌<◌, ◌≡◌, ◌⊎◌, inl, inr, refl, sym, ap, subst, ◌∙◌, List, [], ◌∷◌, ◌++◌, None, Some, slice_get, Contains, length, slice_index_or, arith}
+use Rattle.std.proofs.Common.{ℕ, zero, suc, ◌<◌, ◌≡◌, ◌⊎◌, inl, inr, refl, sym, ap, subst, ◌∙◌, List, [], ◌∷◌, ◌++◌, None, Some, slice_get, Contains, arith}
 use Rattle.std.proofs.lemmas.Option.{slice_get-get_or}
 use Rattle.geometry_laws.proofs.Each.{Each, Among, each_at, each_map, each_append}
-
-at_place : {X : Type 0} (xs : List X) (x : X) (k : ℕ) → k < length xs → slice_index_or xs k x ≡ x → Among x xs
-at_place [] x k h e = absurd (omega (arith, h))
-at_place (y ∷ ys) x zero h e = inl (sym e)
-at_place (y ∷ ys) x (suc k) h e = inr (at_place ys x k (omega (arith, h)) e)
-
-pub among_from_contains : {X : Type 0} (xs : List X) (x : X) → Contains xs x → Among x xs
-among_from_contains xs x h = at_place xs x h.0 h.1 h.2
 
 pub place_from_contains : {X : Type 0} (xs : List X) (x : X) (c : Contains xs x) → slice_get xs c.0 ≡ Some x
 place_from_contains xs x c = slice_get-get_or xs c.0 x c.1 ∙ ap Some c.2

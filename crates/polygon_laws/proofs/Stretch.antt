@@ -1,5 +1,5 @@
 -- A straight stretch that misses a geometry lies whole in its interior or whole in its exterior.
-use Rattle.std.proofs.Common.{ℕ, zero, suc, ◌+◌, ◌*◌, ◌<◌, ◌≡◌, ◌≢◌, Bool, true, false, if◌then◌else◌, ℤ, pos, ◌+ℤ◌, ◌*ℤ◌, sym, subst, ◌∙◌, List, [], ◌∷◌, All, arith}
+use Rattle.std.proofs.Common.{ℕ, zero, suc, ◌+◌, ◌*◌, ◌<◌, ◌≡◌, ◌≢◌, Bool, true, false, if◌then◌else◌, ℤ, pos, ◌+ℤ◌, ◌*ℤ◌, sym, subst, ◌∙◌, [], ◌∷◌, arith}
 use Rattle.geometry_model.specs.Points.{Point, IsPoint}
 use Rattle.geometry_model.specs.Geometries.{Edge, Geometry, edges, listed, rings}
 use Rattle.geometry_model.specs.Sides.{on}

@@ -19,4 +19,3 @@ one_parity f (y ∷ ys) (suc j) x e h g = ap₂ xor (g 0 y (λ w. absurd (omega 
 pub none_parity : {X : Type 0} (f : X → Bool) (xs : List X) → ((k : ℕ) (y : X) → slice_get xs k ≡ Some y → f y ≡ false) → parity f xs ≡ false
 none_parity f [] n = refl
 none_parity f (y ∷ ys) n = ap₂ xor (n 0 y refl) (none_parity f ys (λ k z q. n (suc k) z q))
-

@@ -4,7 +4,7 @@
 pub mod elements;
 pub mod nesting;
 
-ghost use Rattle.polygon_laws.specs.PolygonLaws.{StretchStays, OutsideIsExterior, CommonPointMeets, ValidRingsAreClosed, HoleRingIsInside, HolesAreCut, RingsPart, NothingCommon};
+ghost use Rattle.polygon_laws.specs.PolygonLaws.{StretchStays, OutsideIsExterior, CommonPointMeets, ValidRingsAreClosed, HoleRingIsInside, HolesAreCut, RingsPart, SidesOfARing, NothingCommon};
 
 /// A straight stretch that misses a geometry lies whole in its interior or whole in its exterior (06-103r4, 6.1.11.1).
 pub fn stretch_stays()
@@ -39,6 +39,11 @@ pub fn holes_are_cut()
 /// In a valid area, at a point strictly within a ring edge that isn't upright, exactly one of the two numbers of edges, strictly above and at or above, is odd: the rings part the interior from the exterior there (06-103r4, 6.1.11.1).
 pub fn rings_part()
     ensures { RingsPart }
+{}
+
+/// In a valid area, at a point strictly within a ring edge that isn't upright, one of `below` and `above` is interior and the other exterior, and straight below and straight above it there are, arbitrarily near, points that stand so (06-103r4, 6.1.11.1).
+pub fn sides_of_a_ring()
+    ensures { SidesOfARing }
 {}
 
 /// Where the envelopes of two geometries don't meet, their matrix is empty in the cells of interior and boundary with interior and boundary (06-103r4, 6.1.2.2 and 6.1.15.2).

@@ -1,6 +1,6 @@
 use Rattle.std.proofs.Common.{◌∷◌}
 use Rattle.geometry_model.specs.Geometries.{edges_of_line, elements}
-use Rattle.polygon_laws.proofs.Places.{among_from_contains}
+use Rattle.geometry_laws.proofs.Cuts.{among_from_contains}
 use Rattle.polygon_laws.proofs.OneElement.{element_is_valid}
 use Rattle.polygon_laws.proofs.Holes.{hole_ring_is_inside}
 use Rattle.polygon_laws.proofs.hole_ring_is_inside.Goals as goal

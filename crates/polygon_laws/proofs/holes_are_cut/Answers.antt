@@ -1,6 +1,6 @@
 use Rattle.std.proofs.Common.{◌∷◌}
 use Rattle.geometry_model.specs.Geometries.{elements}
-use Rattle.polygon_laws.proofs.Places.{among_from_contains}
+use Rattle.geometry_laws.proofs.Cuts.{among_from_contains}
 use Rattle.polygon_laws.proofs.OneElement.{element_is_valid}
 use Rattle.polygon_laws.proofs.Holes.{holes_are_cut}
 use Rattle.polygon_laws.proofs.holes_are_cut.Goals as goal

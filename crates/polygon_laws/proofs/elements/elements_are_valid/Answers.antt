@@ -1,5 +1,5 @@
 use Rattle.geometry_model.specs.Geometries.{elements}
-use Rattle.polygon_laws.proofs.Places.{among_from_contains}
+use Rattle.geometry_laws.proofs.Cuts.{among_from_contains}
 use Rattle.polygon_laws.proofs.OneElement.{element_is_valid}
 use Rattle.polygon_laws.proofs.elements.elements_are_valid.Goals as goal
 
