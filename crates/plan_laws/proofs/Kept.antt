@@ -4,7 +4,7 @@ use Rattle.std.proofs.Common.{ap, ◌∙◌, sym}
 use mathlib.Core.Path.{fun_ext}
 use Rattle.geometry_model.specs.Geometries.{Geometry}
 use Rattle.geometry_model.specs.Dimensions.{Matrix}
-use Rattle.plan_laws.specs.Forcing.{GivesMatrix, PredicateForcesMeeting}
+use Rattle.geometry_model.specs.GivenMatrix.{GivesMatrix}
 use Rattle.plan_laws.proofs.Lawful.{IsDriven, access}
 use Rattle.plan_laws.proofs.Lists.{filter_flat, filter_twice, kept_nested, crossed}
 use Rattle.plan_laws.proofs.Probes.{Condition, ValidRows, rows_valid, method_gives, outer_gives}
@@ -22,7 +22,6 @@ kept matrix conjuncts tables choice = all_true (truth matrix denoted) conjuncts 
 
 -- what the lemmas ask for
 pub record Asked (matrix : Geometry → Geometry → Matrix) (conjuncts : List Condition) (tables : List (Table Geometry)) : Type 0 where
-  pub forces : PredicateForcesMeeting
   pub gives : GivesMatrix matrix
   pub literals : HasValidLiterals conjuncts
   pub geometries : HasValidGeometries tables
@@ -32,7 +31,7 @@ given : (matrix : Geometry → Geometry → Matrix) (conjuncts : List Condition)
     → (outer : Option ℕ) (reference : ℕ) (m : AccessMethod) → IsDriven conjuncts outer reference m
     → (choice : Choice) → kept matrix conjuncts tables choice ≡ true → gives denoted conjuncts m (rows_at tables choice) ≡ true
 given matrix conjuncts tables a outer reference m d choice t =
-    method_gives a.forces matrix a.gives conjuncts a.literals outer reference m d (rows_at tables choice) (rows_valid tables a.geometries choice) t
+    method_gives matrix a.gives conjuncts a.literals outer reference m d (rows_at tables choice) (rows_valid tables a.geometries choice) t
 
 -- ---- choices
 

@@ -5,3 +5,4 @@ pub mod Probes
 pub mod Kept
 pub mod Filters
 pub mod Candidates
+pub mod Meaning

@@ -1,3 +1,3 @@
-pub mod Forcing
 pub mod FilterLaws
 pub mod CandidateLaws
+pub mod MeaningLaws

@@ -4,3 +4,4 @@
 
 pub mod candidate_laws;
 pub mod filter_laws;
+pub mod meaning_laws;

@@ -1,6 +1,6 @@
 -- Words for worked rows of plans.
 use Rattle.std.specs.Prelude.{ℕ, suc, zero, ◌+◌, pos, true, false, List, [], ◌∷◌, map, codes, Option, Some, None, option_map}
-use Rattle.geometry_model.specs.Geometries.{Geometry, Point, LineString, Polygon}
+use Rattle.geometry_model.specs.Geometries.{Geometry, Point, MultiPoint, LineString, Polygon}
 use Rattle.geometry_model.specs.Labels.{labelled_matrix}
 use Rattle.geometry_model.specs.TextExamples.{at}
 use Rattle.geometry_model.specs.declared.relations.Predicate.{Predicate}
@@ -193,3 +193,7 @@ first_point = row 1 (values.Geometry (Point (Some (at (pos 1) (pos 1)))))
 -- a predicate of the second reference's geometry with itself
 abbrev pub of_second : Predicate → Condition
 of_second predicate = conds.Relates predicate (geometry 1) (geometry 1)
+
+-- over the table of empty geometries: equal to the empty one
+abbrev pub equal_to_empty : Query
+equal_to_empty = query (of 0 (codes "e") ∷ []) (with_literal predicates.Equals (MultiPoint []) ∷ [])

@@ -4,6 +4,7 @@
 //! types that the definitions and the programs share.
 #![tactic(auto)]
 
+pub mod answer_examples;
 pub mod binding_examples;
 pub mod conditions;
 pub mod definitions;
