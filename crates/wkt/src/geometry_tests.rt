@@ -57,7 +57,10 @@ fn texts_are_canonical(rt: HostRuntime) -> Result<(), Fail> {
     for (geometry, text) in [
         (Geometry::point(None), "POINT EMPTY"),
         (Geometry::point(Some(at(1, 2)?)), "POINT(1 2)"),
-        (Geometry::point(Some(at(-10_000_000, 0)?)), "POINT(-10000000 0)"),
+        (
+            Geometry::point(Some(at(-10_000_000, 0)?)),
+            "POINT(-10000000 0)",
+        ),
         (
             Geometry::multi_point(Vec::new(rt.alloc())),
             "MULTIPOINT EMPTY",
