@@ -12,12 +12,13 @@ use Rattle.integers.proofs.Ring.{solve, var, lit, ◌⊖◌, ◌⊗◌}
 use Rattle.integers.proofs.Signs.{cancel_zero}
 use Rattle.geometry_laws.specs.RingLaws.{IsClosed}
 use Rattle.geometry_laws.specs.PieceLaws.{HasClosedRings}
-use Rattle.geometry_laws.specs.CoverLaws.{Line, value, IsLine, FirstAbove, IsSlantAt, NearSides}
+use Rattle.geometry_laws.specs.CoverLaws.{Line, value, IsLine, FirstAbove, IsSlantAt, NearSides, AllNearStand}
 use Rattle.geometry_laws.proofs.Each.{Each, each_of, each_append}
 use Rattle.geometry_laws.proofs.RingParity.{each_from_all}
 use Rattle.geometry_laws.proofs.Triangles.{dots, dot_stands, marks}
 use Rattle.geometry_laws.proofs.Nudge.{IsSlant, breadth}
 use Rattle.geometry_laws.proofs.SideTriangles.{lower_triangle, upper_triangle, near_sides}
+use Rattle.geometry_laws.proofs.NearPoints.{all_near_stand}
 use Rattle.geometry_laws.proofs.First.{First, first, over_point, over_is_point, over_on, over_higher, not_lower, label_of_first}
 use Rattle.geometry_laws.proofs.Plane.{right}
 use Rattle.geometry_laws.proofs.Cuts.{contains_of_among, among_from_contains}
@@ -97,3 +98,6 @@ sides_have_triangles a b ca cb s hs h k = (
 
 pub sides_are_near : (g : Geometry) (s : Point) → IsPoint s → IsSlantAt g s → (k : ℕ) → NearSides g s k
 sides_are_near g s hs h k = near_sides g s hs (slant_marks g g s hs h h) k
+
+pub near_points_stand_so : (g : Geometry) (s : Point) → IsPoint s → IsSlantAt g s → AllNearStand g s
+near_points_stand_so g s hs h = all_near_stand g s hs (slant_marks g g s hs h h)

@@ -27,7 +27,7 @@ below_from (Geometry.MultiLineString ls) s t h = refl
 below_from (Geometry.Polygon rs) s t h = ap (λ (b : Bool). if b then Interior else Exterior) (parity_of_rings rs t ∙ same_parity (λ e. strictly_above e t) (λ e. at_or_above e s) (edges_of_lines rs) h ∙ sym (odd_count (λ e. at_or_above e s) (edges_of_lines rs)))
 below_from (Geometry.MultiPolygon es) s t h = ap (λ (b : Bool). if b then Interior else Exterior) (parity_of_rings (joined_rings es) t ∙ same_parity (λ e. strictly_above e t) (λ e. at_or_above e s) (edges_of_lines (joined_rings es)) h ∙ sym (odd_count (λ e. at_or_above e s) (edges_of_lines (joined_rings es))))
 
-above_from : (g : Geometry) (s t : Point) → Each (λ e. strictly_above e t ≡ strictly_above e s) (edges g) → above g t ≡ above g s
+pub above_from : (g : Geometry) (s t : Point) → Each (λ e. strictly_above e t ≡ strictly_above e s) (edges g) → above g t ≡ above g s
 above_from (Geometry.Point o) s t h = refl
 above_from (Geometry.MultiPoint qs) s t h = refl
 above_from (Geometry.LineString l) s t h = refl

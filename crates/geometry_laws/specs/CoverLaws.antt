@@ -88,3 +88,13 @@ pub record NearSides (g : Geometry) (s : Point) (k : ℕ) : Type 0 where
 -- straight below and straight above a point through which no upright edge goes there are, arbitrarily near, points that stand as below and above say
 abbrev pub SidesAreNear : Type 0
 SidesAreNear = (g : Geometry) (s : Point) → IsPoint s → IsSlantAt g s → (k : ℕ) → NearSides g s k
+
+-- nearer than some 1/k, all points straight below s stand in g as below says, and all straight above it as above says
+pub record AllNearStand (g : Geometry) (s : Point) : Type 0 where
+  pub k : ℕ
+  pub under_stand : (t : Point) → IsPoint t → IsJustBelow k t s → locate g t ≡ below g s
+  pub over_stand : (t : Point) → IsPoint t → IsJustBelow k s t → locate g t ≡ above g s
+
+-- straight below and straight above a point through which no upright edge goes, all points near enough stand as below and above say
+abbrev pub NearPointsStandSo : Type 0
+NearPointsStandSo = (g : Geometry) (s : Point) → IsPoint s → IsSlantAt g s → AllNearStand g s

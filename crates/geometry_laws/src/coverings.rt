@@ -1,6 +1,6 @@
 //! Laws of what finitely many points and lines leave free, and of the first edge above a point.
 
-ghost use Rattle.geometry_laws.specs.CoverLaws.{PointsDontCover, LinesDontCover, FirstIsAbove, SidesHaveTriangles, SidesAreNear};
+ghost use Rattle.geometry_laws.specs.CoverLaws.{PointsDontCover, LinesDontCover, FirstIsAbove, SidesHaveTriangles, SidesAreNear, NearPointsStandSo};
 
 /// Finitely many points don't cover a segment. (Profile.)
 pub fn points_dont_cover()
@@ -25,4 +25,9 @@ pub fn sides_have_triangles()
 /// Straight below and straight above a point through which no upright edge goes there are, arbitrarily near, points that stand as `below` and `above` say.
 pub fn sides_are_near()
     ensures { SidesAreNear }
+{}
+
+/// Straight below and straight above such a point, all points near enough stand as `below` and `above` say.
+pub fn near_points_stand_so()
+    ensures { NearPointsStandSo }
 {}

@@ -27,8 +27,8 @@ use Rattle.geometry_laws.proofs.Locating.{start_is_on, end_is_on, by_contraries}
 use Rattle.geometry_laws.proofs.Cuts.{turn_less, not_after_both, not_before_both, same_end}
 use Rattle.geometry_laws.proofs.WithinPiece.{touches, on_from_touch, strictly_right, parity_at_or_above}
 use Rattle.geometry_laws.proofs.Nudge.{IsSlant}
-use Rattle.geometry_laws.proofs.CoverTheorems.{all_from_each, sides_are_near}
-use Rattle.geometry_laws.specs.CoverLaws.{IsSlantAt, NearSides}
+use Rattle.geometry_laws.proofs.CoverTheorems.{all_from_each, sides_are_near, near_points_stand_so}
+use Rattle.geometry_laws.specs.CoverLaws.{IsSlantAt, NearSides, AllNearStand}
 use Rattle.geometry_model.specs.Labels.{below, above}
 use Rattle.geometry_model.specs.declared.point_sets.Location.TheVariants.{Interior, Exterior}
 use Rattle.polygon_laws.specs.PolygonLaws.{ArePartedAs}
@@ -245,8 +245,9 @@ slant_area (Geometry.Polygon rs) p i ring e h = record { edges = all_from_each (
 slant_area (Geometry.MultiPolygon es) p i ring e h = record { edges = all_from_each (IsSlant p) (edges_of_lines (joined_rings es)) h; positions = all_from_each (λ a. stands_at p a ≡ false) [] tt }
 
 pub sides_of_a_ring : (g : Geometry) → IsValid g → (i : ℕ) (ring : List Position) → slice_get (rings g) i ≡ Some ring → (j : ℕ) (e : Edge) → slice_get (edges_of_line ring) j ≡ Some e
-    → (p : Point) → IsPoint p → on e p ≡ true → stands_at p e.start ≡ false → stands_at p e.end ≡ false → (e.start.x ≡ e.end.x → ⊥) → ArePartedAs (below g p) (above g p) × ((k : ℕ) → NearSides g p k)
+    → (p : Point) → IsPoint p → on e p ≡ true → stands_at p e.start ≡ false → stands_at p e.end ≡ false → (e.start.x ≡ e.end.x → ⊥) → ArePartedAs (below g p) (above g p) × ((k : ℕ) → NearSides g p k) × AllNearStand g p
 sides_of_a_ring g v i ring ri j e ej p hp h s t f = (
   parted_as (odd_above (rings g) p) (odd_at_or_above (rings g) p) (rings_part g v i ring ri j e ej p hp h s t f),
   sides_are_near g p hp (slant_area g p i ring ri (slant_at g v i ring ri j e ej p hp h s t f)),
+  near_points_stand_so g p hp (slant_area g p i ring ri (slant_at g v i ring ri j e ej p hp h s t f)),
 )

@@ -14,7 +14,7 @@ use Rattle.geometry_model.specs.declared.point_sets.Location.{Location}
 use Rattle.geometry_model.specs.declared.point_sets.Location.TheVariants.{Interior, Boundary, Exterior}
 use Rattle.geometry_laws.specs.RingLaws.{Misses}
 use Rattle.geometry_laws.specs.PieceLaws.{HasClosedRings}
-use Rattle.geometry_laws.specs.CoverLaws.{NearSides}
+use Rattle.geometry_laws.specs.CoverLaws.{NearSides, AllNearStand}
 
 -- no point of the straight stretch from p to q stands at the position
 abbrev pub PassesBy : Point → Point → Position → Type 0
@@ -62,11 +62,11 @@ RingsPart = (g : Geometry) → IsValid g → (ring : List Position) → Contains
 abbrev pub ArePartedAs : Location → Location → Type 0
 ArePartedAs l k = ((l ≡ Interior) × (k ≡ Exterior)) ⊎ ((l ≡ Exterior) × (k ≡ Interior))
 
--- in a valid area, at such a point, one of below and above is interior and the other exterior, and straight below and straight above it there are, arbitrarily near, points that stand so (06-103r4, 6.1.11.1 and 6.1.14)
+-- in a valid area, at such a point, one of below and above is interior and the other exterior; straight below and straight above it there are, arbitrarily near, points that stand so, and all that are near enough do (06-103r4, 6.1.11.1 and 6.1.14)
 abbrev pub SidesOfARing : Type 0
 SidesOfARing = (g : Geometry) → IsValid g → (ring : List Position) → Contains (rings g) ring → (e : Edge) → Contains (edges_of_line ring) e
     → (p : Point) → IsPoint p → on e p ≡ true → stands_at p e.start ≡ false → stands_at p e.end ≡ false → e.start.x ≢ e.end.x
-    → ArePartedAs (below g p) (above g p) × ((k : ℕ) → NearSides g p k)
+    → ArePartedAs (below g p) (above g p) × ((k : ℕ) → NearSides g p k) × AllNearStand g p
 
 -- where the envelopes of two geometries don't meet, no part but the exterior of the one has a point in a part but the exterior of the other (06-103r4, 6.1.2.2 and 6.1.15.2)
 abbrev pub NothingCommon : Type 0
