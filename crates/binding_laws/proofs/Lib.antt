@@ -4,3 +4,4 @@ pub mod WrittenInduction
 pub mod BoundFacts
 pub mod RuleFacts
 pub mod NameFacts
+pub mod CondRules
