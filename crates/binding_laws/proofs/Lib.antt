@@ -5,3 +5,4 @@ pub mod BoundFacts
 pub mod RuleFacts
 pub mod NameFacts
 pub mod CondRules
+pub mod GeometryRuleFacts

@@ -1,15 +1,15 @@
 -- The laws of what a query is bound to: the functions of binding answer what the rules say, and the rules say what they answer.
 use Rattle.std.specs.Prelude.{◌≡◌, ℕ, List, Ok, Err, IfOk, IfErr}
-use Rattle.geometry_model.specs.declared.relations.Pattern.{Pattern}
-use Rattle.table_model.specs.Binding.{Checked, GeometryBinding, bound_column, bound_cond, statement}
-use Rattle.table_model.specs.BindingRules.{GeometryRules, IsColumn, IsRefusedColumn, IsCond, IsRefusedCond, IsStatement, IsRefusedQuery}
+use Rattle.table_model.specs.Binding.{Checked, GeometryBinding, bound_column, bound_cond}
+use Rattle.table_model.specs.BindingRules.{GeometryRules, IsColumn, IsRefusedColumn, IsCond, IsRefusedCond, geometry_rules}
+use Rattle.table_model.specs.GeometryColumns.{ColumnShape, geometry_binding}
 use Rattle.table_model.specs.declared.conditions.Reference.{Reference}
 use Rattle.table_model.specs.declared.definitions.TableDef.{TableDef}
 use Rattle.table_model.specs.declared.faults.QueryFault.{QueryFault}
 use Rattle.table_model.specs.declared.queries.Name.{Name}
-use Rattle.table_model.specs.declared.queries.Query.{Query}
 use Rattle.table_model.specs.declared.queries.WrittenColumn.{WrittenColumn}
 use Rattle.table_model.specs.declared.queries.WrittenCond.{WrittenCond}
+use Rattle.table_model.specs.declared.queries.WrittenGeometry.{WrittenGeometry}
 
 -- an answer agrees with rules: what is answered they say, and what they say is answered, so that they say one thing at most
 pub record Agrees {X : Type 0} (Is : X → Type 0) (Refused : QueryFault → Type 0) (answer : Checked X) : Type 0 where
@@ -30,3 +30,8 @@ pub record GeometryAgrees {T A B C D : Type 0} (rules : GeometryRules T A B C D)
 abbrev pub ColumnsAgree : (T : Type 0) → Type 0
 ColumnsAgree T = (schema : List (TableDef T)) (references : List Reference) (written : WrittenColumn)
     → Agrees (IsColumn schema references written) (IsRefusedColumn schema references written) (bound_column schema references written)
+
+-- what a condition with geometries is bound to, and where it is refused, is what the rules say (06-104r4, 7.2)
+abbrev pub ConditionsAgree : Type 0
+ConditionsAgree = (schema : List (TableDef ColumnShape)) (references : List Reference) (written : WrittenCond WrittenGeometry)
+    → Agrees (IsCond geometry_rules schema references written) (IsRefusedCond geometry_rules schema references written) (bound_cond geometry_binding schema references written)

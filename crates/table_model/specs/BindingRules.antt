@@ -1,10 +1,20 @@
 -- What each name, item and condition of a query is bound to, and where a query is refused, apart from the functions that
 -- compute it. Of several faults the first from left to right is the one: within a predicate or a call first each argument,
 -- then the whole.
-use Rattle.std.specs.Prelude.{◌≡◌, ◌⊎◌, ℕ, zero, suc, Bool, true, false, List, [], ◌∷◌, Option, Some, None}
+use Rattle.std.specs.Prelude.{◌≡◌, ◌⊎◌, ℕ, zero, suc, Bool, true, false, List, [], ◌∷◌, Option, Some, None, Ok, Err}
 use Rattle.geometry_model.specs.declared.relations.Pattern.{Pattern}
 use Rattle.geometry_model.specs.declared.relations.Predicate.{Predicate}
 use Rattle.geometry_model.specs.declared.relations.Predicate.TheVariants as predicates
+use Rattle.geometry_model.specs.CheckedTexts.{geometry_in_text}
+use Rattle.geometry_model.specs.Geometries.{Geometry}
+use Rattle.geometry_model.specs.Patterns.{pattern_of_text}
+use Rattle.geometry_model.specs.declared.geometry_faults.GeometryFault.{GeometryFault}
+use Rattle.table_model.specs.GeometryColumns.{ColumnShape}
+use Rattle.table_model.specs.declared.conditions.ColumnPlace.{ColumnPlace}
+use Rattle.table_model.specs.declared.conditions.GeometryArgument.{GeometryArgument}
+use Rattle.table_model.specs.declared.conditions.GeometryArgument.TheVariants as arguments
+use Rattle.table_model.specs.declared.queries.WrittenGeometry.{WrittenGeometry}
+use Rattle.table_model.specs.declared.queries.WrittenGeometry.TheVariants as written_geometry
 use Rattle.table_model.specs.Binding.{all_items, columns_of, comparable, counts, name_start, type_of, unquoted}
 use Rattle.table_model.specs.Statements.{Statement}
 use Rattle.table_model.specs.Texts.{same_name}
@@ -263,6 +273,32 @@ mutual
     InFirst : (part : WrittenCond A) (parts : List (WrittenCond A)) (fault : QueryFault) → IsRefusedCond rules schema references part fault → AreRefused rules schema references (part ∷ parts) fault
     InLater : (part : WrittenCond A) (parts : List (WrittenCond A)) (bound : Cond B) (fault : QueryFault) → IsCond rules schema references part bound → AreRefused rules schema references parts fault
         → AreRefused rules schema references (part ∷ parts) fault
+
+-- ---- what a geometry is
+
+-- an argument of a condition: a column of any type, whose type is tested afterwards, or ST_GeomFromText of a string that spells a valid geometry (06-104r4, 7.2)
+abbrev pub IsGeometryArgument : List (TableDef ColumnShape) → List Reference → WrittenGeometry → Typed (GeometryArgument Geometry) → Type 0
+IsGeometryArgument schema references (written_geometry.Column written) =
+    Then (IsColumn schema references written) (λ found typed. typed ≡ record { part = arguments.Column found.place; part_type = found.column_type })
+IsGeometryArgument schema references (written_geometry.FromText string) =
+    λ typed. (g : Geometry) × (geometry_in_text (unquoted string.text) ≡ Ok g) × (typed ≡ record { part = arguments.Literal g; part_type = types.Geometry })
+
+-- Q8 at a string that spells no valid geometry, its bytes being those of the string's value (06-104r4, 7.2)
+abbrev pub IsRefusedGeometryArgument : List (TableDef ColumnShape) → List Reference → WrittenGeometry → QueryFault → Type 0
+IsRefusedGeometryArgument schema references (written_geometry.Column written) = FirstFault (IsColumn schema references written) (IsRefusedColumn schema references written) (λ found fault. ⊥)
+IsRefusedGeometryArgument schema references (written_geometry.FromText string) =
+    λ fault. (reason : GeometryFault) × (geometry_in_text (unquoted string.text) ≡ Err reason) × (fault ≡ faults.BadGeometry string.at reason)
+
+-- geometries of a query: arguments, columns of the select list, and patterns, Q9 at the string of a bad one (06-104r4, 7.2; 06-103r4, 6.1.15.2)
+abbrev pub geometry_rules : GeometryRules ColumnShape WrittenGeometry (GeometryArgument Geometry) WrittenColumn ColumnPlace
+geometry_rules = record {
+  IsArgument = IsGeometryArgument;
+  IsRefusedArgument = IsRefusedGeometryArgument;
+  IsItemArgument = λ schema references written. Then (IsColumn schema references written) (λ found typed. typed ≡ record { part = found.place; part_type = found.column_type });
+  IsRefusedItemArgument = λ schema references written. FirstFault (IsColumn schema references written) (IsRefusedColumn schema references written) (λ found fault. ⊥);
+  IsPattern = λ string pattern. pattern_of_text (unquoted string.text) ≡ Some pattern;
+  IsRefusedPattern = λ string fault. (pattern_of_text (unquoted string.text) ≡ None) × (fault ≡ faults.BadPattern string.at);
+}
 
 -- ---- the whole query
 
