@@ -1,2 +1,3 @@
 pub mod FilterLaws
 pub mod BoundLaws
+pub mod RuleLaws

@@ -5,3 +5,4 @@
 
 pub mod bound_queries;
 pub mod filters;
+pub mod rules;

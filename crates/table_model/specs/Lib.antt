@@ -33,6 +33,7 @@ pub mod BindingExamples
 pub mod GeometryColumns
 pub mod GeometryColumnExamples
 pub mod BoundQueries
+pub mod BindingRules
 pub mod FirstRunExamples
 pub mod JoinExamples
 pub mod SchemaRefusals
