@@ -1,5 +1,5 @@
 -- What of the candidates of lawful accesses is kept where all conjuncts are true: what of all choices of places is.
-use Rattle.std.specs.Prelude.{◌≡◌, refl, ℕ, Bool, true, false, List, [], ◌∷◌, map, filter, flat_map, slice_get, slice_index_or, IsPermutation, Option, Some, None}
+use Rattle.std.specs.Prelude.{◌≡◌, refl, ℕ, Bool, true, List, [], ◌∷◌, map, filter, flat_map, IsPermutation, Option, Some, None}
 use Rattle.std.proofs.Common.{ap, ◌∙◌, sym}
 use mathlib.Core.Path.{fun_ext}
 use Rattle.geometry_model.specs.Geometries.{Geometry}
@@ -7,10 +7,10 @@ use Rattle.geometry_model.specs.Dimensions.{Matrix}
 use Rattle.geometry_model.specs.GivenMatrix.{GivesMatrix}
 use Rattle.plan_laws.proofs.Lawful.{IsDriven, access}
 use Rattle.plan_laws.proofs.Lists.{filter_flat, filter_twice, kept_nested, crossed}
-use Rattle.plan_laws.proofs.Probes.{Condition, ValidRows, rows_valid, method_gives, outer_gives}
+use Rattle.plan_laws.proofs.Probes.{Condition, rows_valid, method_gives, outer_gives}
 use Rattle.table_model.specs.Arguments.{denoted}
 use Rattle.table_model.specs.Candidates.{candidates_among, gives, placed}
-use Rattle.table_model.specs.Meanings.{Row, Table, product, all_true}
+use Rattle.table_model.specs.Meanings.{Table, product, all_true}
 use Rattle.table_model.specs.Places.{Choice, places_in, row_at, rows_at, choices}
 use Rattle.table_model.specs.Truths.{truth}
 use Rattle.table_model.specs.ValidGeometries.{HasValidGeometries, HasValidLiterals}
@@ -89,15 +89,15 @@ pub kept_in_order : (matrix : Geometry → Geometry → Matrix) (conjuncts : Lis
     ≡ filter (kept matrix conjuncts (first ∷ second ∷ [])) (choices (first ∷ second ∷ []))
 kept_in_order matrix conjuncts first second a m n d e =
     kept_nested (kept matrix conjuncts (first ∷ second ∷ [])) (λ choice. gives denoted conjuncts n (rows_at (first ∷ second ∷ []) choice)) (λ i. gives denoted conjuncts m (placed 0 (row_at first i) []))
-        (λ i j. i ∷ j ∷ []) (places_in first) (places_in second)
-        (given matrix conjuncts (first ∷ second ∷ []) a (Some 0) 1 n e) (outer_first matrix conjuncts first second a m d)
+    (λ i j. i ∷ j ∷ []) (places_in first) (places_in second)
+    (given matrix conjuncts (first ∷ second ∷ []) a (Some 0) 1 n e) (outer_first matrix conjuncts first second a m d)
     ∙ sym (kept_of_two matrix conjuncts first second)
 
 -- where the second one is
 pub kept_crossed : (matrix : Geometry → Geometry → Matrix) (conjuncts : List Condition) (first second : Table Geometry) → Asked matrix conjuncts (first ∷ second ∷ [])
     → (m n : AccessMethod) → IsDriven conjuncts None 1 m → IsDriven conjuncts (Some 1) 0 n
     → IsPermutation (filter (kept matrix conjuncts (first ∷ second ∷ [])) (candidates_among denoted conjuncts (first ∷ second ∷ []) (access 1 m ∷ access 0 n ∷ [])))
-        (filter (kept matrix conjuncts (first ∷ second ∷ [])) (choices (first ∷ second ∷ [])))
+    (filter (kept matrix conjuncts (first ∷ second ∷ [])) (choices (first ∷ second ∷ [])))
 kept_crossed matrix conjuncts first second a m n d e = rw (by_second, kept_of_two matrix conjuncts first second) (crossed t (λ i j. i ∷ j ∷ []) (places_in first) (places_in second))
   where
     t : Choice → Bool
@@ -107,5 +107,5 @@ kept_crossed matrix conjuncts first second a m n d e = rw (by_second, kept_of_tw
         ≡ flat_map (λ j. filter (kept matrix conjuncts (first ∷ second ∷ [])) (map (λ i. i ∷ j ∷ []) (places_in first))) (places_in second)
     by_second =
         kept_nested (kept matrix conjuncts (first ∷ second ∷ [])) (λ choice. gives denoted conjuncts n (rows_at (first ∷ second ∷ []) choice)) (λ j. gives denoted conjuncts m (placed 1 (row_at second j) []))
-            (λ j i. i ∷ j ∷ []) (places_in second) (places_in first)
-            (given matrix conjuncts (first ∷ second ∷ []) a (Some 1) 0 n e) (outer_second matrix conjuncts first second a m d)
+        (λ j i. i ∷ j ∷ []) (places_in second) (places_in first)
+        (given matrix conjuncts (first ∷ second ∷ []) a (Some 1) 0 n e) (outer_second matrix conjuncts first second a m d)

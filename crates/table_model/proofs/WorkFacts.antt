@@ -51,7 +51,7 @@ pub work_of_one : (list : List Choice) (at : Choice → Rows Geometry) (c : Cond
     → sum_by (λ choice. candidate_work labelled_matrix denoted (c ∷ []) (at choice)) list ≡ sum_by (λ choice. g (at choice)) list
 work_of_one list at c g h =
     same_sums (λ choice. candidate_work labelled_matrix denoted (c ∷ []) (at choice)) (λ choice. g (at choice)) list
-        (λ choice. one_filter (computed denoted (at choice)) (λ e. is_true (truth labelled_matrix denoted (at choice) e)) c ∙ h (at choice))
+    (λ choice. one_filter (computed denoted (at choice)) (λ e. is_true (truth labelled_matrix denoted (at choice) e)) c ∙ h (at choice))
 
 -- the work of candidates with two filters
 pub work_of_two : (list : List Choice) (at : Choice → Rows Geometry) (c d : Condition) (g : Rows Geometry → ℕ)
@@ -59,7 +59,7 @@ pub work_of_two : (list : List Choice) (at : Choice → Rows Geometry) (c d : Co
     → sum_by (λ choice. candidate_work labelled_matrix denoted (c ∷ d ∷ []) (at choice)) list ≡ sum_by (λ choice. g (at choice)) list
 work_of_two list at c d g h =
     same_sums (λ choice. candidate_work labelled_matrix denoted (c ∷ d ∷ []) (at choice)) (λ choice. g (at choice)) list
-        (λ choice. two_filters (computed denoted (at choice)) (λ e. is_true (truth labelled_matrix denoted (at choice) e)) c d ∙ h (at choice))
+    (λ choice. two_filters (computed denoted (at choice)) (λ e. is_true (truth labelled_matrix denoted (at choice) e)) c d ∙ h (at choice))
 
 -- the text of EXPLAIN ANALYZE, by the chosen plan and its work
 pub analyzed_is : (tables : List (Table Geometry)) (q : Query) (plan : Plan) (n : ℕ) (text : List ℕ) → chosen tables q ≡ Some plan → work labelled_matrix denoted tables q plan ≡ n → analyze_text q plan n ≡ text → analyzed tables q ≡ Some text

@@ -1,32 +1,32 @@
 -- Of each row the plan, then its work, then the text with the digits of its numbers.
-use Rattle.std.specs.Prelude.{◌≡◌, refl, ℕ, ◌+◌, pos, Bool, true, ◌&&◌, if◌then◌else◌, List, [], ◌∷◌, sum, sum_by, codes, Some, option_map}
+use Rattle.std.specs.Prelude.{◌≡◌, refl, ℕ, pos, Bool, true, ◌&&◌, [], ◌∷◌, sum, sum_by, codes, Some, option_map}
 use Rattle.std.specs.Fmt.{digits}
 use Rattle.std.proofs.Common.{ap, ◌∙◌}
 use Rattle.geometry_model.specs.Geometries.{Geometry}
 use Rattle.geometry_model.specs.Labels.{labelled_matrix}
-use Rattle.geometry_model.specs.declared.relations.Predicate.TheVariants.{Intersects, Touches}
+use Rattle.geometry_model.specs.declared.relations.Predicate.TheVariants.{Intersects}
 use Rattle.table_model.specs.Arguments.{denoted}
 use Rattle.table_model.specs.Candidates.{candidates}
-use Rattle.table_model.specs.Meanings.{Table, is_true}
-use Rattle.table_model.specs.PlanExamples.{Query, point_rows, squares, exchanged, big, far_or_near, near, joined, near_and_joined, touching, square, of, query, key, key_is, geometry, with_literal, of_both, limit_to, counting, listing, definition, scan, probe, plan}
+use Rattle.table_model.specs.Meanings.{is_true}
+use Rattle.table_model.specs.PlanExamples.{big, far_or_near, square, key, key_is, geometry, with_literal, limit_to, listing, definition, scan, plan}
 use Rattle.table_model.specs.Places.{Choice, query_rows}
 use Rattle.table_model.specs.Plans.{chosen}
 use Rattle.table_model.specs.Truths.{Rows, any_of, compared, order_of, field_at, related}
-use Rattle.table_model.specs.Work.{work, work_to_row, up_to_passing}
-use Rattle.table_model.specs.declared.conditions.Comparison.TheVariants.{Greater, NotEqual}
+use Rattle.table_model.specs.Work.{work_to_row, up_to_passing}
+use Rattle.table_model.specs.declared.conditions.Comparison.TheVariants.{Greater}
 use Rattle.table_model.specs.declared.conditions.Cond.TheVariants.{Or}
 use Rattle.table_model.specs.declared.conditions.GeometryArgument.TheVariants as arguments
 use Rattle.table_model.specs.declared.values.Value.TheVariants as values
 use Rattle.table_model.specs.declared.plans.Plan.{Plan}
 use Rattle.table_model.proofs.CondFolds.{cond_folds}
-use Rattle.table_model.proofs.WorkFacts.{both, work_of_one, work_of_two, analyzed_is, work_up_to, answered_by}
+use Rattle.table_model.proofs.WorkFacts.{both, work_of_one, analyzed_is, work_up_to, answered_by}
 use Rattle.table_model.proofs.limit_examples.first_rows.Goals as goal
 
 -- the key is above 99, or the point and the square have a point in common
 abbrev passes : Choice → Bool
 passes choice =
     is_true (any_of (compared Greater (order_of (field_at (query_rows big far_or_near choice) (key 0)) (values.Integer (pos 99)))
-        ∷ related labelled_matrix Intersects (denoted (query_rows big far_or_near choice) (geometry 0)) (denoted (query_rows big far_or_near choice) (arguments.Literal (square 0 0))) ∷ []))
+    ∷ related labelled_matrix Intersects (denoted (query_rows big far_or_near choice) (geometry 0)) (denoted (query_rows big far_or_near choice) (arguments.Literal (square 0 0))) ∷ []))
     && true
 
 abbrev number : Rows Geometry → ℕ
@@ -48,8 +48,8 @@ sum_of n = sum_by (λ choice. number (query_rows big far_or_near choice)) (up_to
 work_of_first : (n : ℕ) → work_to_row labelled_matrix denoted big far_or_near scanned n ≡ sum_of n
 work_of_first n =
     work_up_to big far_or_near scanned passes n (sum_of n) (λ choice. simp cond_folds refl)
-        (work_of_one (up_to_passing passes n (candidates denoted big far_or_near scanned.accesses)) (query_rows big far_or_near)
-            (Or (key_is Greater 0 99 ∷ with_literal Intersects (square 0 0) ∷ [])) number (λ rows. simp cond_folds refl))
+    (work_of_one (up_to_passing passes n (candidates denoted big far_or_near scanned.accesses)) (query_rows big far_or_near)
+    (Or (key_is Greater 0 99 ∷ with_literal Intersects (square 0 0) ∷ [])) number (λ rows. simp cond_folds refl))
 
 pub returns-clause-text : goal.returns-clause-text
 unfolding digits

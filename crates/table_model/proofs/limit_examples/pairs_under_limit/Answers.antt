@@ -1,21 +1,18 @@
 -- Of each row the plan, then its work, then the text with the digits of its numbers.
-use Rattle.std.specs.Prelude.{◌≡◌, refl, ℕ, ◌+◌, pos, Bool, true, ◌&&◌, if◌then◌else◌, List, [], ◌∷◌, sum, sum_by, codes, Some, option_map}
+use Rattle.std.specs.Prelude.{◌≡◌, refl, ℕ, ◌+◌, pos, Bool, true, ◌&&◌, if◌then◌else◌, List, [], ◌∷◌, codes, Some}
 use Rattle.std.specs.Fmt.{digits}
-use Rattle.std.proofs.Common.{ap, ◌∙◌}
 use Rattle.geometry_model.specs.Geometries.{Geometry}
 use Rattle.geometry_model.specs.Labels.{labelled_matrix}
 use Rattle.geometry_model.specs.declared.relations.Predicate.TheVariants.{Intersects, Touches}
 use Rattle.table_model.specs.Arguments.{denoted}
 use Rattle.table_model.specs.Candidates.{candidates}
 use Rattle.table_model.specs.Meanings.{Table, is_true}
-use Rattle.table_model.specs.PlanExamples.{Query, point_rows, squares, exchanged, big, far_or_near, near, joined, near_and_joined, touching, square, of, query, key, key_is, geometry, with_literal, of_both, limit_to, counting, listing, definition, scan, probe, plan}
+use Rattle.table_model.specs.PlanExamples.{point_rows, squares, exchanged, joined, touching, key, key_is, geometry, of_both, limit_to, listing, definition, scan, probe, plan}
 use Rattle.table_model.specs.Places.{Choice, query_rows}
 use Rattle.table_model.specs.Plans.{chosen}
-use Rattle.table_model.specs.Truths.{Rows, any_of, compared, order_of, field_at, related}
-use Rattle.table_model.specs.Work.{work, work_to_row, up_to_passing}
-use Rattle.table_model.specs.declared.conditions.Comparison.TheVariants.{Greater, NotEqual}
-use Rattle.table_model.specs.declared.conditions.Cond.TheVariants.{Or}
-use Rattle.table_model.specs.declared.conditions.GeometryArgument.TheVariants as arguments
+use Rattle.table_model.specs.Truths.{Rows, compared, order_of, field_at, related}
+use Rattle.table_model.specs.Work.{work, up_to_passing}
+use Rattle.table_model.specs.declared.conditions.Comparison.TheVariants.{NotEqual}
 use Rattle.table_model.specs.declared.values.Value.TheVariants as values
 use Rattle.table_model.specs.declared.plans.Plan.{Plan}
 use Rattle.table_model.proofs.CondFolds.{cond_folds}
@@ -68,7 +65,7 @@ touch choice = is_true (related labelled_matrix Touches (denoted (query_rows alo
 touching_work : work labelled_matrix denoted alone (limit_to 1 touching) scanned ≡ 2
 touching_work =
     work_up_to alone touching scanned touch 1 2 (λ choice. simp cond_folds refl)
-        (work_of_one (up_to_passing touch 1 (candidates denoted alone touching scanned.accesses)) (query_rows alone touching) (of_both Touches) (λ rows. both rows (geometry 0) (geometry 1)) (λ rows. simp cond_folds refl))
+    (work_of_one (up_to_passing touch 1 (candidates denoted alone touching scanned.accesses)) (query_rows alone touching) (of_both Touches) (λ rows. both rows (geometry 0) (geometry 1)) (λ rows. simp cond_folds refl))
 
 pub returns-clause-first_outer : goal.returns-clause-first_outer
 unfolding digits
