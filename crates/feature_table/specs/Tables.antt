@@ -1,12 +1,12 @@
 -- The tables that texts of CSV load as, and those that some records load as where no text is known. Generic in what names a
 -- type of geometry columns, in what a geometry is, and in how a field is read as one.
-use Rattle.std.specs.Prelude.{◌≡◌, ◌∷◌, ℕ, IfErr, IsOk, List, [], None, Option, Result, Some, map, take, true, ⊤}
+use Rattle.std.specs.Prelude.{◌≡◌, ◌⊎◌, ◌-◌, ◌∷◌, drop, slice_get, unwrap_or, ℕ, IfErr, IsOk, List, [], None, Option, Result, Some, map, take, true, ⊤}
 use Rattle.csv.specs.Reading.{default_config, records, strip_bom}
 use Rattle.feature_table.specs.Outcomes.{Loads, LoadsTable}
 use Rattle.table_model.specs.Databases.{load_tables, loaded_tables}
 use Rattle.table_model.specs.Definitions.{lawful}
 use Rattle.table_model.specs.FeatureTables.{AreRows, Takes}
-use Rattle.table_model.specs.Loading.{GeometryReader, Record, each, load}
+use Rattle.table_model.specs.Loading.{GeometryReader, Record, checked_rows, each, header_fault, load}
 use Rattle.table_model.specs.Meanings.{Table}
 use Rattle.table_model.specs.declared.definitions.TableDef.{TableDef}
 use Rattle.table_model.specs.declared.faults.LoadFault.{LoadFault}
@@ -57,6 +57,13 @@ pub record AreOfRecords {T G X : Type 0} (geometry : GeometryReader T G) (defini
   pub are_of : EachRecordsOf known records
   pub loads : LoadsTable view answer (load_tables geometry definitions records)
   pub earlier : IfErr answer (λ f. EarlierLoad geometry definitions records f.table)
+
+-- before the record of this place, that of the header being 0, none has a fault: the header has each column's name once, and
+-- the records after it are rows
+abbrev pub NoFaultBefore : {T G : Type 0} → GeometryReader T G → TableDef T → List Record → ℕ → Type 0
+NoFaultBefore geometry table records place =
+    let header = unwrap_or (slice_get records 0) [] in
+    (place ≡ 0) ⊎ ((header_fault table.columns header ≡ None) × IsOk (each (take (place - 1) (checked_rows geometry table header (drop 1 records)))))
 
 -- the rows of a table of some lawful definition (06-104r4, feature tables)
 pub record IsTable {T G : Type 0} (takes : Takes T G) (rows : Table G) : Type 0 where

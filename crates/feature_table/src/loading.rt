@@ -1,6 +1,6 @@
 //! The rows of a table, read record by record.
 
-ghost use Rattle.std.specs.Prelude.{◌≡◌, ◌+◌, ◌<◌, ◌≤◌, IfErr, List, OnOk, length, true, vec_len};
+ghost use Rattle.std.specs.Prelude.{◌≡◌, ◌+◌, ◌-◌, ◌<◌, ◌≤◌, IfErr, IsOk, List, OnOk, length, take, true, vec_len};
 ghost use Rattle.feature_table.specs.Layouts.{IsLayout};
 ghost use Rattle.feature_table.specs.Outcomes.{Loads, is_of_reading};
 ghost use Rattle.feature_table.specs.Records.{Gives, IsReady, asked, read_failed, record_limit};
@@ -63,6 +63,8 @@ pub(crate) fn read_rows<R: Read + Drop>(
     ensures loads { (header : spec.Record) (rest : List spec.Record) → IsLayout table.now.columns header layout.now → Gives R.remaining records.old rest
         → Loads (λ rows. rows.items) result (spec.rows_of reading table.now header rest) }
     ensures records { (header : spec.Record) → IsLayout table.now.columns header layout.now → RowsOfRecords reading table.now header (λ rows. rows.items) result }
+    ensures before { (header : spec.Record) (rest : List spec.Record) → IsLayout table.now.columns header layout.now → Gives R.remaining records.old rest
+        → IfErr result (λ f. is_of_reading f ≡ true → IsOk (spec.each (take (asked records.new - 2) (spec.checked_rows reading table.now header rest)))) }
 {
     let mut rows = Vec::new(alloc);
     let mut record = ByteRecord::new(alloc);

@@ -1,11 +1,11 @@
 //! Tables of typed rows.
 
-ghost use Rattle.std.specs.Prelude.{◌≡◌, ◌∷◌, ◌<◌, ◌≤◌, ℕ, IfErr, IfOk, IsTrue, List, [], Some, length, slice_get, true};
+ghost use Rattle.std.specs.Prelude.{◌≡◌, ◌-◌, ◌∷◌, ◌<◌, ◌≤◌, ℕ, IfErr, IfOk, IsTrue, List, [], Some, length, slice_get, true};
 ghost use Rattle.feature_table.specs.Cells.{shown};
 ghost use Rattle.feature_table.specs.Outcomes.{Loads, is_of_reading};
 ghost use Rattle.feature_table.specs.Records.{Gives, IsReady, asked, read_failed, record_limit};
 ghost use Rattle.feature_table.specs.GeometryFields.{reading, takes};
-ghost use Rattle.feature_table.specs.Tables.{IsOfRecords, IsOfSomeRecords, IsTable, table_in};
+ghost use Rattle.feature_table.specs.Tables.{IsOfRecords, IsOfSomeRecords, IsTable, NoFaultBefore, table_in};
 ghost use Rattle.table_model.specs.Definitions.{lawful};
 ghost use Rattle.table_model.specs.FeatureTables.{AreRows};
 ghost use Rattle.table_model.specs.Loading as spec;
@@ -98,7 +98,7 @@ impl Table {
 
     /// Loads the table of a definition, which is lawful by itself, from records of which none was asked for yet. The
     /// answer is that of `Table::load`. It asks for at most 100,002 records, the header among them, and answers that
-    /// reading failed only where `csv` answered an error of reading. (Profile.)
+    /// reading failed only where `csv` answered an error of reading, and where no record before that one has a fault.
     pub fn load_from<R: Read + Drop>(
         alloc: Global,
         table: &TableDef,
@@ -111,6 +111,8 @@ impl Table {
         ensures read_failed { IfErr result (λ f. is_of_reading f ≡ true → read_failed records.new ≡ true) }
         ensures loads { (all : List spec.Record) → Gives R.remaining records.old all → Loads (λ t. t) result (spec.load reading table.now all) }
         ensures records { IsOfSomeRecords reading table.now (λ t. t) result }
+        ensures before { (all : List spec.Record) → Gives R.remaining records.old all
+            → IfErr result (λ f. is_of_reading f ≡ true → NoFaultBefore reading table.now all (asked records.new - 1)) }
         ensures rows { IfOk result (AreRows takes table.now) }
     {
         let mut header = ByteRecord::new(alloc);

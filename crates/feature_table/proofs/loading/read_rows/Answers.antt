@@ -1,9 +1,11 @@
-use Rattle.std.proofs.Common.{Err, ◌+◌, ◌∙◌, ◌≡◌, ℕ, ap, arith, drop}
+use Rattle.std.proofs.Common.{Err, ◌+◌, ◌-◌, ◌∙◌, ◌≡◌, ℕ, ap, arith, drop}
 use Rattle.std.proofs.lemmas.Result.{err_from_is_err_and}
+use Rattle.feature_table.proofs.EachLemmas.{passed_front}
+use Rattle.feature_table.specs.Records.{asked}
 use Rattle.feature_table.proofs.FailureLemmas.{of_fault}
 use Rattle.feature_table.proofs.LoadingLemmas.{midway_end, midway_fault, midway_more, no_late_row, read_end, read_fault, read_more}
 use Rattle.feature_table.specs.GeometryFields.{reading}
-use Rattle.table_model.specs.Loading.{checked_row, rows_of}
+use Rattle.table_model.specs.Loading.{checked_row, checked_rows, rows_of}
 use Rattle.feature_table.proofs.loading.read_rows.Goals as goal
 
 pub returns-in_err-row-clause-loads : goal.returns-in_err-row-clause-loads
@@ -86,3 +88,19 @@ returns-in-Some-2-clause-records g c header layout =
 pub returns-in-None-2-clause-records : goal.returns-in-None-2-clause-records
 returns-in-None-2-clause-records g c header layout =
     read_end reading c.args.table.now header c.loop-place.place c.loop-place.rows.items (c.loop-place.invariant.read header layout)
+
+pub returns-in_err-row-clause-before : goal.returns-in_err-row-clause-before
+returns-in_err-row-clause-before g c header records layout gives =
+    let m = c.loop-place.invariant.midway header records layout gives in
+    let rows = checked_rows reading c.args.table.now header records in
+    let place : asked c.next_row.new.records - 2 ≡ c.loop-place.place = omega (arith, c.next_row.ensures.asked, c.loop-place.invariant.asked) in
+    let p = err_from_is_err_and c.from_residual.result c.from_residual.ensures.1 in
+    rw (p.1, p.2, place) (λ failed. passed_front rows c.loop-place.place c.loop-place.rows.items m.passed)
+
+pub returns-in_err-next_row-clause-before : goal.returns-in_err-next_row-clause-before
+returns-in_err-next_row-clause-before g c header records layout gives =
+    let m = c.loop-place.invariant.midway header records layout gives in
+    let rows = checked_rows reading c.args.table.now header records in
+    let place : asked c.next_row-2.new.records - 2 ≡ c.loop-place.place = omega (arith, c.next_row-2.ensures.asked, c.loop-place.invariant.asked) in
+    let p = err_from_is_err_and c.from_residual-in_err-next_row.result c.from_residual-in_err-next_row.ensures.1 in
+    rw (p.1, p.2, place) (λ failed. passed_front rows c.loop-place.place c.loop-place.rows.items m.passed)

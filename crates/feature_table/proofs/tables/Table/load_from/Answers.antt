@@ -1,8 +1,9 @@
-use Rattle.std.proofs.Common.{[], ◌∙◌, ◌∷◌, ap, inr}
+use Rattle.std.proofs.Common.{◌-◌, arith, inl, [], ◌∙◌, ◌≡◌, ◌∷◌, ap, inr}
 use Rattle.std.proofs.lemmas.Result.{err_from_is_err_and}
 use Rattle.csv.specs.Records.{fields_of}
 use Rattle.feature_table.proofs.LoadLemmas.{header_fails, no_header, rows_fail, rows_pass}
 use Rattle.feature_table.proofs.GeometryFieldLemmas.{table_rows}
+use Rattle.feature_table.specs.Records.{asked}
 use Rattle.feature_table.specs.GeometryFields.{reading}
 use Rattle.table_model.specs.Loading.{load}
 use Rattle.feature_table.proofs.tables.Table.load_from.Goals as goal
@@ -116,3 +117,19 @@ invariant_of-result g c =
       is_lawful = c.requires.lawful;
       are_rows = table_rows table (header ∷ some.0) _ (rows_pass reading table header some.0 c.in_ok-rows.rows.items layout.0 some.1 ∙ c.in_ok-order_by_key.ensures.ok);
     }
+
+pub returns-in_err-found-clause-before : goal.returns-in_err-found-clause-before
+returns-in_err-found-clause-before g c all gives =
+    let none : asked c.next_record.new.records - 1 ≡ 0 = omega (arith, c.next_record.ensures.asked, c.requires.none) in
+    let p = err_from_is_err_and c.from_residual.result c.from_residual.ensures.1 in
+    rw (p.1, p.2) (λ failed. inl none)
+
+pub returns-in_err-rows-clause-before : goal.returns-in_err-rows-clause-before
+returns-in_err-rows-clause-before g c all gives =
+    let table = c.args.table.now in
+    let header = fields_of c.next_record.new.record in
+    let took = rw c.if-not-found.false at (c.in_ok-found.ensures.takes all gives) in
+    let layout = rw c.as_slice.ensures at c.in_ok-layout.ensures.ok in
+    let p = err_from_is_err_and c.from_residual-in_err-rows.result c.from_residual-in_err-rows.ensures.1 in
+    let places : asked c.read_rows.new.records - 1 - 1 ≡ asked c.read_rows.new.records - 2 = omega arith in
+    rw (p.1, p.2, took.2) (λ failed. inr (layout.0, rw places (c.in_err-rows.ensures.before header took.0 layout.1 took.1 failed)))
