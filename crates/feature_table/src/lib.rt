@@ -13,8 +13,6 @@ pub mod records;
 mod rows;
 pub mod schemas;
 pub mod tables;
-#[cfg(test)]
-mod tests;
 
 pub use cells::Field;
 pub use databases::Database;

@@ -2,8 +2,6 @@
 //! a query is bound to a database.
 #![tactic(auto)]
 
-#[cfg(test)]
-mod bind_tests;
 mod binding;
 mod columns;
 mod condition;
@@ -12,12 +10,8 @@ pub mod cursor;
 mod definition;
 pub mod lex;
 mod query;
-#[cfg(test)]
-mod query_tests;
 mod references;
 mod schema;
-#[cfg(test)]
-mod schema_tests;
 mod truth;
 
 pub use binding::bind;

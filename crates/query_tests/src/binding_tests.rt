@@ -1,4 +1,4 @@
-use crate::{Bound, Cond, Query, QueryFault, Truth, bind, read_query, read_schema, value};
+use spatial_sql::{Bound, Cond, Query, QueryFault, Truth, bind, read_query, read_schema, value};
 use feature_table::{Database, Schema};
 use sqlite_items::Items;
 use std::alloc::Global;

@@ -2,7 +2,7 @@
 
 ghost use Rattle.std.specs.Prelude.{◌<◌, length};
 
-use crate::{
+use feature_table::{
     ColumnDef, ColumnType, Database, Field, LoadFault, Records, Schema, Table, TableDef,
     TableFault, lawful,
 };

@@ -1,4 +1,4 @@
-use crate::{SchemaFault, read_schema};
+use spatial_sql::{SchemaFault, read_schema};
 use feature_table::ColumnType;
 use std::test::Fail;
 

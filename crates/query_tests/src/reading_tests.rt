@@ -1,6 +1,6 @@
 //! What the grammar's printed rules mean for whole texts, with places counted by hand.
 
-use crate::read_query;
+use spatial_sql::read_query;
 use std::alloc::{AllocError, Global};
 use std::test::Fail;
 use table_model::conditions::Comparison;
