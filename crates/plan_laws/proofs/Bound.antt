@@ -1,7 +1,7 @@
 -- The literals of a bound query are valid.
 use Rattle.std.specs.Prelude.{◌≡◌, refl, ◌&&◌, Bool, true, false, List, [], ◌∷◌, ◌++◌, map, flat_map, is_none, is_some, All, Option, Some, None}
 use Rattle.std.specs.List.{list_all}
-use Rattle.std.proofs.Common.{ap, ◌∙◌, sym, subst}
+use Rattle.std.proofs.Common.{◌∙◌, sym, subst}
 use Rattle.std.proofs.lemmas.Bool.{and_parts}
 use Rattle.std.proofs.lemmas.List.Elements.{All-nil, All-cons, All-append, All-weaker}
 use Rattle.std.proofs.lemmas.List.Sums.{AllPass-from_list_all}
@@ -89,8 +89,8 @@ fitting definitions references = record {
         → All IsValid (literals_of_operand a ++ literals_of_operand b)
     compared a b e =
         All-append IsValid (literals_of_operand a) (literals_of_operand b)
-            (operand_valid definitions references a (first_typed (operand_type geometry_fits definitions references a) (operand_type geometry_fits definitions references b) e))
-            (operand_valid definitions references b (second_typed (operand_type geometry_fits definitions references a) (operand_type geometry_fits definitions references b) e))
+        (operand_valid definitions references a (first_typed (operand_type geometry_fits definitions references a) (operand_type geometry_fits definitions references b) e))
+        (operand_valid definitions references b (second_typed (operand_type geometry_fits definitions references a) (operand_type geometry_fits definitions references b) e))
 
     related : (a b : Argument) → (argument_fits definitions references a && argument_fits definitions references b) ≡ true → All IsValid (literals_of_argument a ++ literals_of_argument b)
     related a b e =
@@ -100,4 +100,4 @@ fitting definitions references = record {
 pub bound_has_valid : BoundHasValid
 bound_has_valid definitions query bound =
     All-weaker (λ c. cond_fits geometry_fits definitions query.references c ≡ true) (λ c. All IsValid (literals c)) (λ c e. by_parts (FitsValid definitions query.references) (fitting definitions query.references) c e)
-        query.conjuncts (AllPass-from_list_all (cond_fits geometry_fits definitions query.references) query.conjuncts bound.conjuncts)
+    query.conjuncts (AllPass-from_list_all (cond_fits geometry_fits definitions query.references) query.conjuncts bound.conjuncts)
