@@ -6,3 +6,4 @@ pub mod Kept
 pub mod Filters
 pub mod Candidates
 pub mod Meaning
+pub mod Bound

@@ -1,6 +1,6 @@
 //! Whichever lawful plan is taken, its rows are the meaning of the query.
 
-ghost use Rattle.plan_laws.specs.MeaningLaws.{MeantIsMeaning, PlansGiveMeaning, DatabaseHasValid};
+ghost use Rattle.plan_laws.specs.MeaningLaws.{MeantIsMeaning, PlansGiveMeaning, DatabaseHasValid, BoundHasValid};
 
 /// What stands at the places of a meaning is the meaning of the query as it stands, whatever a geometry is. (SQL, the
 /// query.)
@@ -17,4 +17,9 @@ pub fn plans_give_meaning()
 /// The geometries of a database are valid. (06-104r4, 7.2.)
 pub fn database_has_valid()
     ensures { DatabaseHasValid }
+{}
+
+/// The literals of a bound query are valid. (06-104r4, 7.2.)
+pub fn bound_has_valid()
+    ensures { BoundHasValid }
 {}
