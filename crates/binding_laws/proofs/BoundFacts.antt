@@ -1,12 +1,9 @@
 -- What is bound fits the definitions.
-use Rattle.std.proofs.Common.{◌≡◌, ◌<◌, ◌+◌, ◌&&◌, inl, inr, ℕ, zero, suc, Bool, true, false, if◌then◌else◌, All, List, [], ◌∷◌, ◌++◌, length, map, Option, Some, None, Result, Ok, Err, IfOk, IfSome, refl, sym, ap, ap₂, subst, ◌∙◌, arith}
+use Rattle.std.proofs.Common.{◌≡◌, ◌<◌, ◌+◌, ◌&&◌, inl, inr, ℕ, zero, suc, Bool, true, false, if◌then◌else◌, List, [], ◌∷◌, ◌++◌, length, map, Option, Some, None, Result, Ok, Err, IfOk, IfSome, refl, sym, ap, ap₂, subst, ◌∙◌, arith}
 use Rattle.std.specs.Prelude.{◌||◌, not, slice_get, is_some, is_none}
-use Rattle.std.specs.List.{list_all, flat_map, filter_map, enumerate_from, cons_option}
-use Rattle.std.proofs.lemmas.List.Concat.{flat_map-cons}
+use Rattle.std.specs.List.{list_all, flat_map, enumerate_from, cons_option}
 use Rattle.std.proofs.lemmas.List.Elements.{All-nil, All-cons}
 use Rattle.std.proofs.lemmas.List.Quantifiers.{position-Some}
-use Rattle.geometry_model.specs.declared.relations.Pattern.{Pattern}
-use Rattle.geometry_model.specs.declared.relations.Predicate.{Predicate}
 use Rattle.geometry_model.specs.declared.text_faults.TextFault.{TextFault}
 use Rattle.geometry_model.specs.declared.geometry_faults.GeometryFault.{GeometryFault}
 use Rattle.geometry_model.specs.declared.validity_faults.ValidityFault.{ValidityFault}
@@ -14,24 +11,19 @@ use Rattle.geometry_model.specs.CheckedTexts.{geometry_in_text, tested, valid_or
 use Rattle.geometry_model.specs.FirstFaults.{validity_fault}
 use Rattle.geometry_model.specs.Geometries.{Geometry}
 use Rattle.geometry_model.specs.TextReading.{read_text}
-use Rattle.table_model.specs.Binding.{GeometryBinding, Checked, ◌>>=◌, binding, no_geometry, bound_references, bound_reference, reference_at, table_place, two_references, with_second, name_start, columns_of, type_of, refers_to, column_named, found_in, column_meant, columns_meant, the_one, bound_column, geometry_of_type, geometry_only, unquoted, bound_operand, comparable, checked_types, bound_predicate, bound_by_parts, bound_cond, bound_conjuncts, bound_condition, bound_item, bound_items, items_of, all_items, counts}
+use Rattle.table_model.specs.Binding.{GeometryBinding, Checked, ◌>>=◌, binding, no_geometry, bound_references, bound_reference, reference_at, table_place, two_references, with_second, name_start, columns_of, type_of, refers_to, column_named, found_in, column_meant, columns_meant, the_one, bound_column, geometry_of_type, geometry_only, unquoted, bound_operand, comparable, checked_types, bound_predicate, bound_by_parts, bound_cond, bound_condition, bound_item, bound_items, items_of, counts}
 use Rattle.table_model.specs.BoundQueries.{GeometryFits, IsBound, AreReferences, place_type, column_type, reference_columns, is_geometry, operand_type, type_if, can_compare, fits_by_parts, cond_fits, item_fits, argument_fits, geometry_fits, no_geometry_fits}
-use Rattle.table_model.specs.GeometryColumns.{ColumnShape, geometry_binding, bound_argument, bound_place, literal}
+use Rattle.table_model.specs.GeometryColumns.{ColumnShape, geometry_binding, bound_argument, literal}
 use Rattle.table_model.specs.Loading.{and_then, each}
 use Rattle.table_model.specs.Outcomes.{Gives}
 use Rattle.table_model.specs.Statements.{conjuncts_of}
 use Rattle.table_model.specs.Texts.{same_name}
 use Rattle.table_model.specs.declared.conditions.Bound.{Bound}
-use Rattle.table_model.specs.declared.conditions.Comparison.{Comparison}
 use Rattle.table_model.specs.declared.conditions.Cond.{Cond}
 use Rattle.table_model.specs.declared.conditions.Cond.TheVariants as conds
 use Rattle.table_model.specs.declared.conditions.Cond.TheOpen.{Cond-F}
-use Rattle.table_model.specs.declared.conditions.GeometryArgument.{GeometryArgument}
-use Rattle.table_model.specs.declared.conditions.GeometryArgument.TheVariants as arguments
-use Rattle.table_model.specs.declared.conditions.Item.{Item}
 use Rattle.table_model.specs.declared.conditions.Item.TheVariants as items
 use Rattle.table_model.specs.declared.conditions.Operand.{Operand}
-use Rattle.table_model.specs.declared.conditions.Operand.TheVariants as operands
 use Rattle.table_model.specs.declared.conditions.Reference.{Reference}
 use Rattle.table_model.specs.declared.definitions.ColumnDef.{ColumnDef}
 use Rattle.table_model.specs.declared.definitions.TableDef.{TableDef}
@@ -41,7 +33,6 @@ use Rattle.table_model.specs.declared.queries.Selection.{Selection}
 use Rattle.table_model.specs.declared.queries.Selection.TheVariants as selections
 use Rattle.table_model.specs.declared.queries.WrittenColumn.{WrittenColumn}
 use Rattle.table_model.specs.declared.queries.WrittenCond.{WrittenCond}
-use Rattle.table_model.specs.declared.queries.WrittenCond.TheVariants as written
 use Rattle.table_model.specs.declared.queries.WrittenCond.TheOpen.{WrittenCond-F}
 use Rattle.table_model.specs.declared.queries.WrittenGeometry.{WrittenGeometry}
 use Rattle.table_model.specs.declared.queries.WrittenGeometry.TheVariants as written_geometry
@@ -112,6 +103,7 @@ named name all k (column ∷ columns) stands =
   where
     at_start : (n : ℕ) → n ≡ zero + n
     at_start n = omega arith
+
     one_on : (i n : ℕ) → i + (n + 1) ≡ suc i + n
     one_on i n = omega arith
 
@@ -139,8 +131,10 @@ meant schema references w k (r ∷ rs) stands =
   where
     at_start : (n : ℕ) → n ≡ zero + n
     at_start n = omega arith
+
     at_end : (n : ℕ) → n + zero ≡ n
     at_end n = omega arith
+
     one_on : (i n : ℕ) → i + (n + 1) ≡ suc i + n
     one_on i n = omega arith
 
@@ -219,46 +213,52 @@ cond_ok : {T A B C D : Type 0} (how : GeometryBinding T A B C D) (fits : Geometr
     → IfOk (bound_cond how schema references w) (λ c. cond_fits fits schema references c ≡ true)
 cond_ok {T} {A} {B} {C} {D} how fits fitting schema references = by_written Fits (record {
   or = λ parts are. subst IsFit (sym (written_folds.fold-Or A (Checked (Cond B)) step parts))
-    (then_ok (each (map bound parts)) _ (λ cs. list_all fit cs ≡ true) _ (each_ok bound fit parts are)
-    (λ cs all. cond_folds.fold-Or B Bool fit_step cs ∙ list_all_mapped fit cs ∙ all));
+      (then_ok (each (map bound parts)) _ (λ cs. list_all fit cs ≡ true) _ (each_ok bound fit parts are)
+      (λ cs all. cond_folds.fold-Or B Bool fit_step cs ∙ list_all_mapped fit cs ∙ all));
   and = λ parts are. subst IsFit (sym (written_folds.fold-And A (Checked (Cond B)) step parts))
-    (then_ok (each (map bound parts)) _ (λ cs. list_all fit cs ≡ true) _ (each_ok bound fit parts are)
-    (λ cs all. cond_folds.fold-And B Bool fit_step cs ∙ list_all_mapped fit cs ∙ all));
+      (then_ok (each (map bound parts)) _ (λ cs. list_all fit cs ≡ true) _ (each_ok bound fit parts are)
+      (λ cs all. cond_folds.fold-And B Bool fit_step cs ∙ list_all_mapped fit cs ∙ all));
   not = λ part is. subst IsFit (sym (written_folds.fold-Not A (Checked (Cond B)) step part))
-    (then_ok (bound part) _ (λ c. fit c ≡ true) _ is (λ c fitting_part. cond_folds.fold-Not B Bool fit_step c ∙ fitting_part));
+      (then_ok (bound part) _ (λ c. fit c ≡ true) _ is (λ c fitting_part. cond_folds.fold-Not B Bool fit_step c ∙ fitting_part));
   compare = λ at sign a b. subst IsFit (sym (written_folds.fold-Compare A (Checked (Cond B)) step at sign a b))
-    (then_ok (bound_operand how schema references a) _ HasOperandType _ (operand_ok how fits fitting schema references a)
-    (λ left left_is. then_ok (bound_operand how schema references b) _ HasOperandType _ (operand_ok how fits fitting schema references b)
-    (λ right right_is. checked_ok (comparable left.part_type right.part_type) at (conds.Compare sign left.part right.part) (λ c. fit c ≡ true)
-    (λ same. cond_folds.fold-Compare B Bool fit_step sign left.part right.part ∙ ap₂ can_compare left_is right_is ∙ same))));
+      (then_ok (bound_operand how schema references a) _ HasOperandType _ (operand_ok how fits fitting schema references a)
+      (λ left left_is. then_ok (bound_operand how schema references b) _ HasOperandType _ (operand_ok how fits fitting schema references b)
+      (λ right right_is. checked_ok (comparable left.part_type right.part_type) at (conds.Compare sign left.part right.part) (λ c. fit c ≡ true)
+      (λ same. cond_folds.fold-Compare B Bool fit_step sign left.part right.part ∙ ap₂ can_compare left_is right_is ∙ same))));
   is_null = λ a. subst IsFit (sym (written_folds.fold-IsNull A (Checked (Cond B)) step a))
-    (then_ok (bound_operand how schema references a) _ HasOperandType _ (operand_ok how fits fitting schema references a)
-    (λ operand is. cond_folds.fold-IsNull B Bool fit_step operand.part ∙ ap is_some is));
+      (then_ok (bound_operand how schema references a) _ HasOperandType _ (operand_ok how fits fitting schema references a)
+      (λ operand is. cond_folds.fold-IsNull B Bool fit_step operand.part ∙ ap is_some is));
   is_empty = λ at a. subst IsFit (sym (written_folds.fold-IsEmpty A (Checked (Cond B)) step at a))
-    (then_ok (how.argument schema references a) _ (λ t. t.part_type ≡ types.Geometry → fits.argument schema references t.part ≡ true) _ (fitting.argument schema references a)
-    (λ typed is. then_ok (geometry_only at typed) _ (λ x. fits.argument schema references x ≡ true) _ (geometry_ok (fits.argument schema references) at typed is)
-    (λ x fit_x. cond_folds.fold-IsEmpty B Bool fit_step x ∙ fit_x)));
+      (then_ok (how.argument schema references a) _ (λ t. t.part_type ≡ types.Geometry → fits.argument schema references t.part ≡ true) _ (fitting.argument schema references a)
+      (λ typed is. then_ok (geometry_only at typed) _ (λ x. fits.argument schema references x ≡ true) _ (geometry_ok (fits.argument schema references) at typed is)
+      (λ x fit_x. cond_folds.fold-IsEmpty B Bool fit_step x ∙ fit_x)));
   relates = λ at predicate a b. subst IsFit (sym (written_folds.fold-Relates A (Checked (Cond B)) step at predicate a b))
-    (then_ok (how.argument schema references a) _ (λ t. t.part_type ≡ types.Geometry → fits.argument schema references t.part ≡ true) _ (fitting.argument schema references a)
-    (λ left left_is. then_ok (how.argument schema references b) _ (λ t. t.part_type ≡ types.Geometry → fits.argument schema references t.part ≡ true) _ (fitting.argument schema references b)
-    (λ right right_is. any_ok (bound_predicate how.pattern predicate) _ _
-    (λ p. then_ok (geometry_only at left) _ (λ x. fits.argument schema references x ≡ true) _ (geometry_ok (fits.argument schema references) at left left_is)
-    (λ x fit_x. then_ok (geometry_only at right) _ (λ y. fits.argument schema references y ≡ true) _ (geometry_ok (fits.argument schema references) at right right_is)
-    (λ y fit_y. cond_folds.fold-Relates B Bool fit_step p x y ∙ both (fits.argument schema references x) (fits.argument schema references y) fit_x fit_y))))));
+      (then_ok (how.argument schema references a) _ (λ t. t.part_type ≡ types.Geometry → fits.argument schema references t.part ≡ true) _ (fitting.argument schema references a)
+      (λ left left_is. then_ok (how.argument schema references b) _ (λ t. t.part_type ≡ types.Geometry → fits.argument schema references t.part ≡ true) _ (fitting.argument schema references b)
+      (λ right right_is. any_ok (bound_predicate how.pattern predicate) _ _
+      (λ p. then_ok (geometry_only at left) _ (λ x. fits.argument schema references x ≡ true) _ (geometry_ok (fits.argument schema references) at left left_is)
+      (λ x fit_x. then_ok (geometry_only at right) _ (λ y. fits.argument schema references y ≡ true) _ (geometry_ok (fits.argument schema references) at right right_is)
+      (λ y fit_y. cond_folds.fold-Relates B Bool fit_step p x y ∙ both (fits.argument schema references x) (fits.argument schema references y) fit_x fit_y))))));
 })
   where
     step : WrittenCond-F A (Checked (Cond B)) → Checked (Cond B)
     step = bound_by_parts how schema references
+
     fit_step : Cond-F B Bool → Bool
     fit_step = fits_by_parts fits schema references
+
     bound : WrittenCond A → Checked (Cond B)
     bound = bound_cond how schema references
+
     fit : Cond B → Bool
     fit = cond_fits fits schema references
+
     IsFit : Checked (Cond B) → Type 0
     IsFit r = IfOk r (λ c. cond_fits fits schema references c ≡ true)
+
     Fits : WrittenCond A → Type 0
     Fits w = IfOk (bound_cond how schema references w) (λ c. cond_fits fits schema references c ≡ true)
+
     HasOperandType : Typed (Operand B) → Type 0
     HasOperandType t = operand_type fits schema references t.part ≡ Some t.part_type
 
@@ -329,6 +329,7 @@ in_columns fits schema references k r is j (column ∷ columns) stands =
   where
     at_start : (n : ℕ) → n ≡ zero + n
     at_start n = omega arith
+
     one_on : (i n : ℕ) → i + (n + 1) ≡ suc i + n
     one_on i n = omega arith
 
@@ -342,8 +343,10 @@ in_references fits schema references k (r ∷ rs) stands =
   where
     at_start : (n : ℕ) → n ≡ zero + n
     at_start n = omega arith
+
     at_end : (n : ℕ) → n + zero ≡ n
     at_end n = omega arith
+
     one_on : (i n : ℕ) → i + (n + 1) ≡ suc i + n
     one_on i n = omega arith
 
@@ -450,7 +453,7 @@ geometry_fitting : Fitting geometry_binding geometry_fits
 geometry_fitting = record {
   argument = argument_ok;
   item_argument = λ schema references w. then_ok (bound_column schema references w) _ (HasType schema references) _ (column_ok schema references w)
-    (λ found is geometry. ap is_geometry is ∙ ap (λ t. is_geometry (Some t)) geometry);
+      (λ found is geometry. ap is_geometry is ∙ ap (λ t. is_geometry (Some t)) geometry);
 }
 
 pub geometry_queries_are_bound : GeometryQueriesAreBound

@@ -1,7 +1,7 @@
 -- What conditions, items and queries are bound to agrees with the rules.
-use Rattle.std.proofs.Common.{◌≡◌, ◌⊎◌, inl, inr, ℕ, Bool, true, false, if◌then◌else◌, List, [], ◌∷◌, map, Option, Some, None, Ok, Err, IfOk, IfErr, refl, sym, ap, ap₂, subst, ◌∙◌}
+use Rattle.std.proofs.Common.{◌≡◌, ℕ, List, [], ◌∷◌, map, Ok, Err, IfOk, IfErr, refl, sym, ap, ap₂, subst, ◌∙◌}
 use Rattle.geometry_model.specs.declared.relations.Predicate.TheVariants as predicates
-use Rattle.table_model.specs.Binding.{GeometryBinding, Checked, ◌>>=◌, bound_column, bound_operand, geometry_only, comparable, checked_types, bound_predicate, bound_comparison, bound_null_test, bound_emptiness, bound_relation, bound_by_parts, bound_cond, bound_whole, unquoted}
+use Rattle.table_model.specs.Binding.{GeometryBinding, Checked, ◌>>=◌, bound_column, bound_operand, geometry_only, comparable, bound_predicate, bound_comparison, bound_null_test, bound_emptiness, bound_relation, bound_by_parts, bound_cond, unquoted}
 use Rattle.table_model.specs.BindingRules.{GeometryRules, Then, FirstFault, IsColumn, IsRefusedColumn, IsGeometry, IsNoGeometry, IsOperand, IsRefusedOperand, IsCompared, IsRefusedComparison, IsPredicate, IsRefusedPredicate, IsRelated, IsRefusedRelation, IsCond, AreConds, IsRefusedCond, AreRefused}
 use Rattle.table_model.specs.BindingRules as rule
 use Rattle.table_model.specs.Loading.{and_then, each}
@@ -12,10 +12,8 @@ use Rattle.table_model.specs.declared.conditions.Operand.TheVariants as operands
 use Rattle.table_model.specs.declared.conditions.Reference.{Reference}
 use Rattle.table_model.specs.declared.definitions.TableDef.{TableDef}
 use Rattle.table_model.specs.declared.faults.QueryFault.{QueryFault}
-use Rattle.table_model.specs.declared.faults.QueryFault.TheVariants as faults
 use Rattle.table_model.specs.declared.queries.WrittenCond.{WrittenCond}
 use Rattle.table_model.specs.declared.queries.WrittenCond.TheVariants as written
-use Rattle.table_model.specs.declared.queries.WrittenCond.TheOpen.{WrittenCond-F}
 use Rattle.table_model.specs.declared.queries.WrittenOperand.{WrittenOperand}
 use Rattle.table_model.specs.declared.queries.WrittenOperand.TheVariants as written_operand
 use Rattle.table_model.specs.declared.queries.WrittenPredicate.{WrittenPredicate}
@@ -70,7 +68,7 @@ null_agrees rules how agrees schema references a =
 
 emptiness_agrees : {T A B C D : Type 0} (rules : GeometryRules T A B C D) (how : GeometryBinding T A B C D) → GeometryAgrees rules how → (schema : List (TableDef T)) (references : List Reference) (at : ℕ) (a : A)
     → Agrees (Then (rules.IsArgument schema references a) (λ argument. Then (IsGeometry argument) (λ x cond. cond ≡ conds.IsEmpty x)))
-        (FirstFault (rules.IsArgument schema references a) (rules.IsRefusedArgument schema references a) (λ argument. FirstFault (IsGeometry argument) (IsNoGeometry at argument) (λ x f. ⊥))) (bound_emptiness how schema references at a)
+    (FirstFault (rules.IsArgument schema references a) (rules.IsRefusedArgument schema references a) (λ argument. FirstFault (IsGeometry argument) (IsNoGeometry at argument) (λ x f. ⊥))) (bound_emptiness how schema references at a)
 emptiness_agrees rules how agrees schema references at a =
     sequence (rules.IsArgument schema references a) (rules.IsRefusedArgument schema references a) _ _ (how.argument schema references a) _ (agrees.argument schema references a)
     (λ argument is. answered (IsGeometry argument) (IsNoGeometry at argument) (geometry_only at argument) conds.IsEmpty (geometry_agrees at argument))
@@ -119,23 +117,23 @@ conds_forward : {T A B C D : Type 0} (rules : GeometryRules T A B C D) (how : Ge
 unfolding Forward
 conds_forward {T} {A} {B} {C} {D} rules how agrees schema references = by_written (λ w. Forward rules how schema references w (bound_cond how schema references w)) (record {
   or = λ parts are. subst (Forward rules how schema references (written.Or parts)) (sym (folds.fold-Or A (Checked (Cond B)) (bound_by_parts how schema references) parts))
-    (made (each (map (bound_cond how schema references) parts)) conds.Or (AreConds rules schema references parts) _ (AreRefused rules schema references parts) _ (λ cs is. rule.Or parts cs is) (λ e is. rule.InOr parts e is)
-    (all_forward rules how schema references parts are).0 (all_forward rules how schema references parts are).1);
+      (made (each (map (bound_cond how schema references) parts)) conds.Or (AreConds rules schema references parts) _ (AreRefused rules schema references parts) _ (λ cs is. rule.Or parts cs is) (λ e is. rule.InOr parts e is)
+      (all_forward rules how schema references parts are).0 (all_forward rules how schema references parts are).1);
   and = λ parts are. subst (Forward rules how schema references (written.And parts)) (sym (folds.fold-And A (Checked (Cond B)) (bound_by_parts how schema references) parts))
-    (made (each (map (bound_cond how schema references) parts)) conds.And (AreConds rules schema references parts) _ (AreRefused rules schema references parts) _ (λ cs is. rule.And parts cs is) (λ e is. rule.InAnd parts e is)
-    (all_forward rules how schema references parts are).0 (all_forward rules how schema references parts are).1);
+      (made (each (map (bound_cond how schema references) parts)) conds.And (AreConds rules schema references parts) _ (AreRefused rules schema references parts) _ (λ cs is. rule.And parts cs is) (λ e is. rule.InAnd parts e is)
+      (all_forward rules how schema references parts are).0 (all_forward rules how schema references parts are).1);
   not = λ part is. subst (Forward rules how schema references (written.Not part)) (sym (folds.fold-Not A (Checked (Cond B)) (bound_by_parts how schema references) part))
-    (made (bound_cond how schema references part) conds.Not (IsCond rules schema references part) _ (IsRefusedCond rules schema references part) _ (λ c is. rule.Not part c is) (λ e is. rule.InNot part e is) is.0 is.1);
+      (made (bound_cond how schema references part) conds.Not (IsCond rules schema references part) _ (IsRefusedCond rules schema references part) _ (λ c is. rule.Not part c is) (λ e is. rule.InNot part e is) is.0 is.1);
   compare = λ at sign a b. subst (Forward rules how schema references (written.Compare at sign a b)) (sym (folds.fold-Compare A (Checked (Cond B)) (bound_by_parts how schema references) at sign a b))
-    (weaker (bound_comparison how schema references at sign a b) _ _ _ _ (λ c is. rule.Compared at sign a b c is) (λ e is. rule.InComparison at sign a b e is)
-    (comparison_agrees rules how agrees schema references at sign a b).stands (comparison_agrees rules how agrees schema references at sign a b).refused);
+      (weaker (bound_comparison how schema references at sign a b) _ _ _ _ (λ c is. rule.Compared at sign a b c is) (λ e is. rule.InComparison at sign a b e is)
+      (comparison_agrees rules how agrees schema references at sign a b).stands (comparison_agrees rules how agrees schema references at sign a b).refused);
   is_null = λ a. subst (Forward rules how schema references (written.IsNull a)) (sym (folds.fold-IsNull A (Checked (Cond B)) (bound_by_parts how schema references) a))
-    (weaker (bound_null_test how schema references a) _ _ _ _ (λ c is. rule.Null a c is) (λ e is. rule.InNull a e is) (null_agrees rules how agrees schema references a).stands (null_agrees rules how agrees schema references a).refused);
+      (weaker (bound_null_test how schema references a) _ _ _ _ (λ c is. rule.Null a c is) (λ e is. rule.InNull a e is) (null_agrees rules how agrees schema references a).stands (null_agrees rules how agrees schema references a).refused);
   is_empty = λ at a. subst (Forward rules how schema references (written.IsEmpty at a)) (sym (folds.fold-IsEmpty A (Checked (Cond B)) (bound_by_parts how schema references) at a))
-    (weaker (bound_emptiness how schema references at a) _ _ _ _ (λ c is. rule.Empty at a c is) (λ e is. rule.InEmpty at a e is) (emptiness_agrees rules how agrees schema references at a).stands (emptiness_agrees rules how agrees schema references at a).refused);
+      (weaker (bound_emptiness how schema references at a) _ _ _ _ (λ c is. rule.Empty at a c is) (λ e is. rule.InEmpty at a e is) (emptiness_agrees rules how agrees schema references at a).stands (emptiness_agrees rules how agrees schema references at a).refused);
   relates = λ at p a b. subst (Forward rules how schema references (written.Relates at p a b)) (sym (folds.fold-Relates A (Checked (Cond B)) (bound_by_parts how schema references) at p a b))
-    (weaker (bound_relation how schema references at p a b) _ _ _ _ (λ c is. rule.Related at p a b c is) (λ e is. rule.InRelation at p a b e is)
-    (relation_agrees rules how agrees schema references at p a b).stands (relation_agrees rules how agrees schema references at p a b).refused);
+      (weaker (bound_relation how schema references at p a b) _ _ _ _ (λ c is. rule.Related at p a b c is) (λ e is. rule.InRelation at p a b e is)
+      (relation_agrees rules how agrees schema references at p a b).stands (relation_agrees rules how agrees schema references at p a b).refused);
 })
 
 -- ---- what the rules say, is answered

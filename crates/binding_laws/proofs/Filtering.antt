@@ -1,19 +1,17 @@
 -- What the conjuncts of a query filter.
-use Rattle.std.proofs.Common.{◌≡◌, ◌&&◌, if◌then◌else◌, Bool, true, false, List, [], ◌∷◌, ◌++◌, map, Option, Some, None, Ok, Err, refl, sym, ap, ap₂, ◌∙◌}
+use Rattle.std.proofs.Common.{◌≡◌, ◌&&◌, if◌then◌else◌, Bool, true, false, List, [], ◌∷◌, ◌++◌, Option, Some, None, Ok, Err, refl, sym, ap, ap₂, ◌∙◌}
 use Rattle.std.specs.List.{filter, flat_map, list_all}
 use Rattle.std.specs.Option.{option_to_list}
 use Rattle.std.proofs.lemmas.List.Concat.{flat_map-cons}
 use Rattle.geometry_model.specs.Geometries.{Geometry}
 use Rattle.geometry_model.specs.Dimensions.{Matrix}
-use Rattle.table_model.specs.Binding.{GeometryBinding, Checked, ◌>>=◌, binding, bound_references, bound_items, bound_cond, bound_whole, bound_condition, counts}
-use Rattle.table_model.specs.Meanings.{Row, Table, all_true, is_true, product, referenced, search_condition, up_to}
-use Rattle.table_model.specs.Statements.{Statement, by_conjuncts, conjuncts_of, conjuncts_in}
-use Rattle.table_model.specs.Truths.{Rows, truth, truth_by_parts, all_of}
-use Rattle.table_model.specs.declared.conditions.Bound.{Bound}
+use Rattle.table_model.specs.Binding.{GeometryBinding, Checked, ◌>>=◌, bound_references, bound_items, bound_cond, bound_whole, bound_condition}
+use Rattle.table_model.specs.Meanings.{is_true, product, referenced, up_to}
+use Rattle.table_model.specs.Statements.{conjuncts_of, conjuncts_in}
+use Rattle.table_model.specs.Truths.{Rows, truth}
 use Rattle.table_model.specs.declared.conditions.Cond.{Cond}
 use Rattle.table_model.specs.declared.conditions.Cond.TheVariants as conds
 use Rattle.table_model.specs.declared.definitions.TableDef.{TableDef}
-use Rattle.table_model.specs.declared.queries.Query.{Query}
 use Rattle.table_model.specs.declared.queries.WrittenCond.{WrittenCond}
 use Rattle.table_model.specs.declared.values.Truth.{Truth}
 use Rattle.table_model.proofs.CondInduction.{Each, by_parts}
@@ -129,6 +127,7 @@ conjuncts_are_filtered G A C matrix denotes rows query =
   where
     value : Cond A → Truth
     value = truth matrix denotes rows
+
     test : Cond A → Bool
     test x = is_true (truth matrix denotes rows x)
 

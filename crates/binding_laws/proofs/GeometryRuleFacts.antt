@@ -5,9 +5,9 @@ use Rattle.geometry_model.specs.Geometries.{Geometry}
 use Rattle.geometry_model.specs.Patterns.{pattern_of_text}
 use Rattle.geometry_model.specs.declared.geometry_faults.GeometryFault.{GeometryFault}
 use Rattle.geometry_model.specs.declared.relations.Pattern.{Pattern}
-use Rattle.table_model.specs.Binding.{Checked, bound_column, unquoted}
+use Rattle.table_model.specs.Binding.{bound_column, unquoted}
 use Rattle.table_model.specs.BindingRules.{IsColumn, IsRefusedColumn, IsGeometryArgument, IsRefusedGeometryArgument, geometry_rules}
-use Rattle.table_model.specs.GeometryColumns.{ColumnShape, bound_argument, bound_place, literal, pattern_or, geometry_binding}
+use Rattle.table_model.specs.GeometryColumns.{ColumnShape, bound_argument, literal, pattern_or, geometry_binding}
 use Rattle.table_model.specs.declared.conditions.GeometryArgument.TheVariants as arguments
 use Rattle.table_model.specs.declared.conditions.Reference.{Reference}
 use Rattle.table_model.specs.declared.definitions.TableDef.{TableDef}
@@ -22,7 +22,7 @@ use Rattle.binding_laws.proofs.RuleFacts.{answered}
 
 literal_agrees : (at : ℕ) (r : Result Geometry GeometryFault)
     → Agrees (λ typed. (g : Geometry) × (r ≡ Ok g) × (typed ≡ record { part = arguments.Literal g; part_type = types.Geometry }))
-        (λ fault. (reason : GeometryFault) × (r ≡ Err reason) × (fault ≡ faults.BadGeometry at reason)) (literal at r)
+    (λ fault. (reason : GeometryFault) × (r ≡ Err reason) × (fault ≡ faults.BadGeometry at reason)) (literal at r)
 literal_agrees at (Ok g) = record {
   stands = (g, refl, refl);
   refused = tt;

@@ -1,22 +1,19 @@
 -- The tables and columns that names are bound to agree with the rules.
-use Rattle.std.proofs.Common.{◌≡◌, ◌⊎◌, ◌+◌, ◌<◌, inl, inr, ℕ, zero, suc, Bool, true, false, if◌then◌else◌, cond, List, [], ◌∷◌, length, Option, Some, None, Ok, Err, IfOk, IfErr, IfSome, refl, sym, ap, ap₂, subst, ◌∙◌, arith}
-use Rattle.std.specs.Prelude.{slice_get}
-use Rattle.std.specs.List.{filter_map, enumerate_from, cons_option}
+use Rattle.std.proofs.Common.{◌≡◌, ◌+◌, inl, inr, ℕ, zero, suc, Bool, true, false, if◌then◌else◌, List, [], ◌∷◌, Option, Some, None, Ok, Err, IfOk, IfErr, refl, sym, ap, subst, ◌∙◌, arith}
+use Rattle.std.specs.List.{cons_option}
 use Rattle.table_model.specs.Binding.{Checked, columns_of, column_named, found_in, refers_to, column_meant, columns_meant, the_one, bound_column, name_start, type_of}
-use Rattle.table_model.specs.BindingRules.{IsNowhere, IsSomewhere, IsTwice, IsFirst, IsOnly, IsName, IsColumnNamed, MayBeOf, HasColumn, IsColumn, IsRefusedColumn}
+use Rattle.table_model.specs.BindingRules.{IsNowhere, IsSomewhere, IsTwice, IsFirst, IsOnly, IsColumnNamed, MayBeOf, HasColumn, IsColumn, IsRefusedColumn}
 use Rattle.table_model.specs.Texts.{same_name}
 use Rattle.table_model.specs.declared.conditions.Reference.{Reference}
 use Rattle.table_model.specs.declared.definitions.ColumnDef.{ColumnDef}
 use Rattle.table_model.specs.declared.definitions.TableDef.{TableDef}
 use Rattle.table_model.specs.declared.faults.QueryFault.{QueryFault}
-use Rattle.table_model.specs.declared.faults.QueryFault.TheVariants as faults
 use Rattle.table_model.specs.declared.queries.Name.{Name}
 use Rattle.table_model.specs.declared.queries.WrittenColumn.{WrittenColumn}
 use Rattle.table_model.specs.declared.typing.Found.{Found}
 use Rattle.table_model.specs.declared.typing.OperandType.{OperandType}
 use Rattle.binding_laws.specs.RuleLaws.{Agrees, ColumnsAgree}
 use Rattle.binding_laws.proofs.RuleFacts.{differ}
-
 
 IfTrue : Bool → Type 0 → Type 0 → Type 0
 IfTrue true A B = A
@@ -50,6 +47,7 @@ looked name k (column ∷ columns) = at_name (same_name column.name name) refl (
   where
     start : (n : ℕ) → n ≡ zero + n
     start n = omega arith
+
     at_name : (b : Bool) → same_name column.name name ≡ b → Looked name (k + 1) columns (column_named name (k + 1) columns)
         → Looked name k (column ∷ columns) (if b then Some (k, type_of column.column_type) else column_named name (k + 1) columns)
     at_name true is more = (zero, column, start k, (refl, is), refl)
@@ -136,6 +134,7 @@ in_one {T} schema w k reference = at_reference (refers_to w.reference reference.
       where
         end : (n : ℕ) → n ≡ n + zero
         end n = omega arith
+
     at_reference : (b : Bool) → IfTrue b (MayBeOf w.reference reference) (MayBeOf w.reference reference → ⊥)
         → InOne schema w k reference (if b then found_in k (column_named w.name.text zero (columns_of schema reference)) else None)
     at_reference true may = at_column may (column_named w.name.text zero (columns_of schema reference)) (looked w.name.text zero (columns_of schema reference))
@@ -184,6 +183,7 @@ same_found {T} schema references w f g is too =
   where
     at : (f.place.reference ≡ g.place.reference) × (is.0 ≡ too.0)
     at = only_is_one (HasColumn schema w) references f.place.reference g.place.reference is.0 too.0 is.2 too.2
+
     column_at : is.0 ≡ too.0 → (f.place.column ≡ g.place.column) × (is.1 ≡ too.1)
     column_at e = first_is_one (IsColumnNamed w.name.text) (columns_of schema too.0) f.place.column g.place.column is.1 too.1
         (subst (λ r. IsFirst (IsColumnNamed w.name.text) (columns_of schema r) f.place.column is.1) e is.3) too.3

@@ -1,8 +1,7 @@
 -- What is bound, and where a query is refused, agrees with the rules: steps, names and types.
-use Rattle.std.proofs.Common.{◌≡◌, ◌+◌, inl, inr, ℕ, zero, suc, Bool, true, false, if◌then◌else◌, List, [], ◌∷◌, ◌++◌, map, Option, Some, None, Result, Ok, Err, IfOk, IfErr, refl, sym, ap, ap₂, subst, ◌∙◌, arith}
+use Rattle.std.proofs.Common.{◌≡◌, inl, inr, ℕ, Bool, true, false, if◌then◌else◌, Ok, Err, IfOk, IfErr, refl, sym, ap, subst, ◌∙◌}
 use Rattle.table_model.specs.Binding.{Checked, ◌>>=◌, geometry_of_type, geometry_only, checked_types}
 use Rattle.table_model.specs.BindingRules.{Then, FirstFault, IsGeometry, IsNoGeometry}
-use Rattle.table_model.specs.Loading.{and_then, each}
 use Rattle.table_model.specs.declared.faults.QueryFault.{QueryFault}
 use Rattle.table_model.specs.declared.faults.QueryFault.TheVariants as faults
 use Rattle.table_model.specs.declared.typing.OperandType.{OperandType}

@@ -2,21 +2,15 @@
 use Rattle.std.proofs.Common.{◌≡◌, ℕ, Bool, true, false, List, [], ◌∷◌, ◌++◌, map, Ok, Err, refl, sym, ap, subst, ◌∙◌}
 use Rattle.std.specs.List.{flat_map}
 use Rattle.std.proofs.lemmas.List.Concat.{flat_map-cons}
-use Rattle.geometry_model.specs.declared.relations.Predicate.{Predicate}
-use Rattle.table_model.specs.Binding.{GeometryBinding, Checked, ◌>>=◌, bound_by_parts, bound_cond, bound_conjuncts, bound_comparison, bound_null_test, bound_emptiness, bound_relation, bound_operand, bound_predicate, geometry_only, checked_types, comparable}
+use Rattle.table_model.specs.Binding.{GeometryBinding, Checked, ◌>>=◌, bound_by_parts, bound_cond, bound_operand, bound_predicate, geometry_only, checked_types, comparable}
 use Rattle.table_model.specs.Loading.{and_then, each}
 use Rattle.table_model.specs.Statements.{conjuncts_of}
-use Rattle.table_model.specs.declared.conditions.Comparison.{Comparison}
-use Rattle.table_model.specs.declared.conditions.Operand.{Operand}
 use Rattle.table_model.specs.declared.conditions.Cond.{Cond}
 use Rattle.table_model.specs.declared.conditions.Cond.TheVariants as conds
 use Rattle.table_model.specs.declared.conditions.Reference.{Reference}
 use Rattle.table_model.specs.declared.definitions.TableDef.{TableDef}
 use Rattle.table_model.specs.declared.queries.WrittenCond.{WrittenCond}
-use Rattle.table_model.specs.declared.queries.WrittenCond.TheVariants as written
 use Rattle.table_model.specs.declared.queries.WrittenCond.TheOpen.{WrittenCond-F}
-use Rattle.table_model.specs.declared.queries.WrittenOperand.{WrittenOperand}
-use Rattle.table_model.specs.declared.queries.WrittenPredicate.{WrittenPredicate}
 use Rattle.table_model.proofs.WrittenFolds.{fold-Or, fold-And, fold-Not, fold-Compare, fold-IsNull, fold-IsEmpty, fold-Relates}
 use Rattle.table_model.proofs.ConjunctFacts.{conjuncts-Or, conjuncts-And, conjuncts-Not, conjuncts-Compare, conjuncts-IsNull, conjuncts-IsEmpty, conjuncts-Relates}
 use Rattle.binding_laws.specs.FilterLaws.{joined_in_order, only, BoundByParts}
@@ -76,19 +70,20 @@ by_written_parts {A = A} {B = B} how schema references = record {
   or = λ parts. subst IsAlone (sym (fold-Or A (Checked (Cond B)) step parts)) (made (each (map bound parts)) conds.Or conjuncts-Or);
   not = λ part. subst IsAlone (sym (fold-Not A (Checked (Cond B)) step part)) (made (bound part) conds.Not conjuncts-Not);
   compare = λ at sign a b. subst IsAlone (sym (fold-Compare A (Checked (Cond B)) step at sign a b))
-    (by_operand (bound_operand how schema references a) (bound_operand how schema references b) _
-    (λ x y. checked (comparable x.part_type y.part_type) at (conds.Compare sign x.part y.part) (conjuncts-Compare sign x.part y.part)));
+      (by_operand (bound_operand how schema references a) (bound_operand how schema references b) _
+      (λ x y. checked (comparable x.part_type y.part_type) at (conds.Compare sign x.part y.part) (conjuncts-Compare sign x.part y.part)));
   is_null = λ a. subst IsAlone (sym (fold-IsNull A (Checked (Cond B)) step a)) (made (bound_operand how schema references a) (λ x. conds.IsNull x.part) (λ x. conjuncts-IsNull x.part));
   is_empty = λ at a. subst IsAlone (sym (fold-IsEmpty A (Checked (Cond B)) step at a))
-    (after_all (how.argument schema references a) _ (λ typed. made (geometry_only at typed) conds.IsEmpty conjuncts-IsEmpty));
+      (after_all (how.argument schema references a) _ (λ typed. made (geometry_only at typed) conds.IsEmpty conjuncts-IsEmpty));
   relates = λ at predicate a b. subst IsAlone (sym (fold-Relates A (Checked (Cond B)) step at predicate a b))
-    (by_operand (how.argument schema references a) (how.argument schema references b) _
-    (λ left right. after_all (bound_predicate how.pattern predicate) _
-    (λ p. after_all (geometry_only at left) _
-    (λ x. made (geometry_only at right) (λ y. conds.Relates p x y) (λ y. conjuncts-Relates p x y)))));
+      (by_operand (how.argument schema references a) (how.argument schema references b) _
+      (λ left right. after_all (bound_predicate how.pattern predicate) _
+      (λ p. after_all (geometry_only at left) _
+      (λ x. made (geometry_only at right) (λ y. conds.Relates p x y) (λ y. conjuncts-Relates p x y)))));
 }
   where
     step : WrittenCond-F A (Checked (Cond B)) → Checked (Cond B)
     step = bound_by_parts how schema references
+
     bound : WrittenCond A → Checked (Cond B)
     bound = bound_cond how schema references

@@ -1,5 +1,5 @@
 -- Induction over a written condition: what holds of a condition once it holds of its parts.
-use Rattle.std.proofs.Common.{◌≡◌, ℕ, List, [], ◌∷◌, map, subst}
+use Rattle.std.proofs.Common.{ℕ, List, [], ◌∷◌, map, subst}
 use Rattle.table_model.specs.declared.conditions.Comparison.{Comparison}
 use Rattle.table_model.specs.declared.queries.WrittenOperand.{WrittenOperand}
 use Rattle.table_model.specs.declared.queries.WrittenPredicate.{WrittenPredicate}

@@ -1,5 +1,5 @@
 -- The laws of what a query is bound to: the functions of binding answer what the rules say, and the rules say what they answer.
-use Rattle.std.specs.Prelude.{◌≡◌, ℕ, List, Ok, Err, IfOk, IfErr}
+use Rattle.std.specs.Prelude.{◌≡◌, List, Ok, Err, IfOk, IfErr}
 use Rattle.table_model.specs.Binding.{Checked, GeometryBinding, bound_column, bound_cond}
 use Rattle.table_model.specs.BindingRules.{GeometryRules, IsColumn, IsRefusedColumn, IsCond, IsRefusedCond, geometry_rules}
 use Rattle.table_model.specs.GeometryColumns.{ColumnShape, geometry_binding}

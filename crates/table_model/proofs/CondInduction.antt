@@ -1,5 +1,5 @@
 -- Induction over a condition: what holds of a condition once it holds of its parts.
-use Rattle.std.proofs.Common.{◌≡◌, List, [], ◌∷◌, map, subst}
+use Rattle.std.proofs.Common.{List, [], ◌∷◌, map, subst}
 use Rattle.geometry_model.specs.declared.relations.Predicate.{Predicate}
 use Rattle.table_model.specs.declared.conditions.Comparison.{Comparison}
 use Rattle.table_model.specs.declared.conditions.Operand.{Operand}

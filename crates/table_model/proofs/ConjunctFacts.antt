@@ -1,5 +1,5 @@
 -- The conjuncts of a condition, at each of its variants.
-use Rattle.std.proofs.Common.{◌≡◌, List, [], ◌∷◌, map, refl, ap, ap₂, ◌∙◌, sym}
+use Rattle.std.proofs.Common.{◌≡◌, List, [], ◌∷◌, map, refl, ap, ap₂, ◌∙◌}
 use Rattle.std.specs.List.{flat_map}
 use Rattle.std.proofs.lemmas.List.Folds.{flat_map-map}
 use Rattle.geometry_model.specs.declared.relations.Predicate.{Predicate}
@@ -10,7 +10,7 @@ use Rattle.table_model.specs.declared.conditions.Cond.{Cond}
 use Rattle.table_model.specs.declared.conditions.Cond.TheVariants as conds
 use Rattle.table_model.specs.declared.conditions.Cond.TheFolds.{fold-Cond}
 use Rattle.table_model.proofs.CondFolds.{fold-Or, fold-And, fold-Not, fold-Compare, fold-IsNull, fold-IsEmpty, fold-Relates}
-use Rattle.table_model.proofs.CondInduction.{Each, Cases, by_parts}
+use Rattle.table_model.proofs.CondInduction.{Each, by_parts}
 
 -- a condition with its conjuncts
 abbrev split : {A : Type 0} → Cond A → Split A

@@ -1,7 +1,7 @@
--- What each name, item and condition of a query is bound to, and where a query is refused, apart from the functions that
+-- What each column and condition of a query is bound to, and where they are refused, apart from the functions that
 -- compute it. Of several faults the first from left to right is the one: within a predicate or a call first each argument,
 -- then the whole.
-use Rattle.std.specs.Prelude.{◌≡◌, ◌⊎◌, ℕ, zero, suc, Bool, true, false, List, [], ◌∷◌, Option, Some, None, Ok, Err}
+use Rattle.std.specs.Prelude.{◌≡◌, ◌⊎◌, ℕ, zero, suc, true, false, List, [], ◌∷◌, Option, Some, None, Ok, Err}
 use Rattle.geometry_model.specs.declared.relations.Pattern.{Pattern}
 use Rattle.geometry_model.specs.declared.relations.Predicate.{Predicate}
 use Rattle.geometry_model.specs.declared.relations.Predicate.TheVariants as predicates
@@ -15,14 +15,11 @@ use Rattle.table_model.specs.declared.conditions.GeometryArgument.{GeometryArgum
 use Rattle.table_model.specs.declared.conditions.GeometryArgument.TheVariants as arguments
 use Rattle.table_model.specs.declared.queries.WrittenGeometry.{WrittenGeometry}
 use Rattle.table_model.specs.declared.queries.WrittenGeometry.TheVariants as written_geometry
-use Rattle.table_model.specs.Binding.{all_items, columns_of, comparable, counts, name_start, type_of, unquoted}
-use Rattle.table_model.specs.Statements.{Statement}
+use Rattle.table_model.specs.Binding.{columns_of, comparable, name_start, type_of, unquoted}
 use Rattle.table_model.specs.Texts.{same_name}
 use Rattle.table_model.specs.declared.conditions.Comparison.{Comparison}
 use Rattle.table_model.specs.declared.conditions.Cond.{Cond}
 use Rattle.table_model.specs.declared.conditions.Cond.TheVariants as conds
-use Rattle.table_model.specs.declared.conditions.Item.{Item}
-use Rattle.table_model.specs.declared.conditions.Item.TheVariants as items
 use Rattle.table_model.specs.declared.conditions.Operand.{Operand}
 use Rattle.table_model.specs.declared.conditions.Operand.TheVariants as operands
 use Rattle.table_model.specs.declared.conditions.Reference.{Reference}
@@ -31,19 +28,13 @@ use Rattle.table_model.specs.declared.definitions.TableDef.{TableDef}
 use Rattle.table_model.specs.declared.faults.QueryFault.{QueryFault}
 use Rattle.table_model.specs.declared.faults.QueryFault.TheVariants as faults
 use Rattle.table_model.specs.declared.queries.Name.{Name}
-use Rattle.table_model.specs.declared.queries.Query.{Query}
-use Rattle.table_model.specs.declared.queries.Selection.{Selection}
-use Rattle.table_model.specs.declared.queries.Selection.TheVariants as selections
 use Rattle.table_model.specs.declared.queries.WrittenColumn.{WrittenColumn}
 use Rattle.table_model.specs.declared.queries.WrittenCond.{WrittenCond}
 use Rattle.table_model.specs.declared.queries.WrittenCond.TheVariants as written_cond
-use Rattle.table_model.specs.declared.queries.WrittenItem.{WrittenItem}
-use Rattle.table_model.specs.declared.queries.WrittenItem.TheVariants as written_item
 use Rattle.table_model.specs.declared.queries.WrittenOperand.{WrittenOperand}
 use Rattle.table_model.specs.declared.queries.WrittenOperand.TheVariants as written_operand
 use Rattle.table_model.specs.declared.queries.WrittenPredicate.{WrittenPredicate}
 use Rattle.table_model.specs.declared.queries.WrittenPredicate.TheVariants as written_predicate
-use Rattle.table_model.specs.declared.queries.WrittenReference.{WrittenReference}
 use Rattle.table_model.specs.declared.typing.Found.{Found}
 use Rattle.table_model.specs.declared.typing.OperandType.TheVariants as types
 use Rattle.table_model.specs.declared.typing.Typed.{Typed}
@@ -93,43 +84,9 @@ FirstFault {X} First Refused then_refused fault = Refused fault ⊎ ((x : X) × 
 abbrev pub IsName : List ℕ → List ℕ → Type 0
 IsName a b = same_name a b ≡ true
 
--- a table has this name (SQL, names of tables)
-abbrev pub IsTableNamed : {T : Type 0} → List ℕ → TableDef T → Type 0
-IsTableNamed name table = IsName table.name name
-
 -- a column has this name (SQL, names of columns)
 abbrev pub IsColumnNamed : {T : Type 0} → List ℕ → ColumnDef T → Type 0
 IsColumnNamed name column = IsName column.name name
-
--- ---- the tables of FROM
-
--- the name of a reference: its alias, else its table's name as the schema spells it (SQL, correlation names)
-abbrev pub IsReferenceName : {T : Type 0} → Option Name → TableDef T → List ℕ → Type 0
-IsReferenceName (Some alias) table name = name ≡ alias.text
-IsReferenceName None table name = name ≡ table.name
-
--- a reference is to the first table of its name, and has its own name (SQL, FROM)
-abbrev pub IsReference : {T : Type 0} → List (TableDef T) → WrittenReference → Reference → Type 0
-IsReference {T} schema written reference =
-    (table : TableDef T) × IsFirst (IsTableNamed written.table.text) schema reference.table table × IsReferenceName written.alias table reference.name
-
--- Q3: no table has the name (SQL, FROM)
-abbrev pub IsUnknownTable : {T : Type 0} → List (TableDef T) → WrittenReference → QueryFault → Type 0
-IsUnknownTable schema written fault = IsNowhere (IsTableNamed written.table.text) schema × (fault ≡ faults.UnknownTable written.table.at)
-
--- the references of FROM, the names of two being two (SQL, FROM)
-abbrev pub AreReferences : {T : Type 0} → List (TableDef T) → WrittenReference → Option WrittenReference → List Reference → Type 0
-AreReferences schema first None = Then (IsReference schema first) (λ one references. references ≡ one ∷ [])
-AreReferences schema first (Some second) =
-    Then (IsReference schema first) (λ one. Then (IsReference schema second) (λ other references. (same_name one.name other.name ≡ false) × (references ≡ one ∷ other ∷ [])))
-
--- Q3 at the first table, then Q3 at the second, then Q4 at the name of the second (SQL, FROM)
-abbrev pub AreRefusedReferences : {T : Type 0} → List (TableDef T) → WrittenReference → Option WrittenReference → QueryFault → Type 0
-AreRefusedReferences schema first None = FirstFault (IsReference schema first) (IsUnknownTable schema first) (λ one fault. ⊥)
-AreRefusedReferences schema first (Some second) =
-    FirstFault (IsReference schema first) (IsUnknownTable schema first)
-    (λ one. FirstFault (IsReference schema second) (IsUnknownTable schema second)
-    (λ other fault. IsName one.name other.name × (fault ≡ faults.SameName (name_start second.table second.alias))))
 
 -- ---- columns
 
@@ -299,82 +256,3 @@ geometry_rules = record {
   IsPattern = λ string pattern. pattern_of_text (unquoted string.text) ≡ Some pattern;
   IsRefusedPattern = λ string fault. (pattern_of_text (unquoted string.text) ≡ None) × (fault ≡ faults.BadPattern string.at);
 }
-
--- ---- the whole query
-
--- a column or a function of one, as an item of the select list (SQL, the select list)
-abbrev pub IsItem : {T A B C D : Type 0} → GeometryRules T A B C D → List (TableDef T) → List Reference → WrittenItem C → Item D → Type 0
-IsItem rules schema references (written_item.Column written) = Then (IsColumn schema references written) (λ found item. item ≡ items.Column found.place)
-IsItem rules schema references (written_item.AsText at a) = Then (rules.IsItemArgument schema references a) (λ argument. Then (IsGeometry argument) (λ x item. item ≡ items.AsText x))
-IsItem rules schema references (written_item.Dimension at a) = Then (rules.IsItemArgument schema references a) (λ argument. Then (IsGeometry argument) (λ x item. item ≡ items.Dimension x))
-IsItem rules schema references (written_item.IsEmpty at a) = Then (rules.IsItemArgument schema references a) (λ argument. Then (IsGeometry argument) (λ x item. item ≡ items.IsEmpty x))
-
--- where a function of the select list is refused
-abbrev pub IsRefusedCall : {T A B C D : Type 0} → GeometryRules T A B C D → List (TableDef T) → List Reference → ℕ → C → QueryFault → Type 0
-IsRefusedCall rules schema references at a =
-    FirstFault (rules.IsItemArgument schema references a) (rules.IsRefusedItemArgument schema references a)
-    (λ argument. FirstFault (IsGeometry argument) (IsNoGeometry at argument) (λ x fault. ⊥))
-
--- where an item is refused
-abbrev pub IsRefusedItem : {T A B C D : Type 0} → GeometryRules T A B C D → List (TableDef T) → List Reference → WrittenItem C → QueryFault → Type 0
-IsRefusedItem rules schema references (written_item.Column written) = FirstFault (IsColumn schema references written) (IsRefusedColumn schema references written) (λ found fault. ⊥)
-IsRefusedItem rules schema references (written_item.AsText at a) = IsRefusedCall rules schema references at a
-IsRefusedItem rules schema references (written_item.Dimension at a) = IsRefusedCall rules schema references at a
-IsRefusedItem rules schema references (written_item.IsEmpty at a) = IsRefusedCall rules schema references at a
-
--- the items, from left to right
-abbrev pub AreItems : {T A B C D : Type 0} → GeometryRules T A B C D → List (TableDef T) → List Reference → List (WrittenItem C) → List (Item D) → Type 0
-AreItems rules schema references [] = λ listed. listed ≡ []
-AreItems rules schema references (written ∷ more) = Then (IsItem rules schema references written) (λ item. Then (AreItems rules schema references more) (λ behind listed. listed ≡ item ∷ behind))
-
--- where the first of them is refused that is
-abbrev pub AreRefusedItems : {T A B C D : Type 0} → GeometryRules T A B C D → List (TableDef T) → List Reference → List (WrittenItem C) → QueryFault → Type 0
-AreRefusedItems rules schema references [] = λ fault. ⊥
-AreRefusedItems rules schema references (written ∷ more) =
-    FirstFault (IsItem rules schema references written) (IsRefusedItem rules schema references written)
-    (λ item. FirstFault (AreItems rules schema references more) (AreRefusedItems rules schema references more) (λ behind fault. ⊥))
-
--- what SELECT lists: all columns, those of the first reference first, the items, or none under COUNT(*) (SQL, the select list)
-abbrev pub IsListed : {T A B C D : Type 0} → GeometryRules T A B C D → List (TableDef T) → List Reference → Selection C → List (Item D) → Type 0
-IsListed rules schema references selections.All = λ listed. listed ≡ all_items schema references
-IsListed rules schema references (selections.Items written) = AreItems rules schema references written
-IsListed rules schema references selections.Count = λ listed. listed ≡ []
-
--- where it is refused
-abbrev pub IsRefusedListing : {T A B C D : Type 0} → GeometryRules T A B C D → List (TableDef T) → List Reference → Selection C → QueryFault → Type 0
-IsRefusedListing rules schema references selections.All = λ fault. ⊥
-IsRefusedListing rules schema references (selections.Items written) = AreRefusedItems rules schema references written
-IsRefusedListing rules schema references selections.Count = λ fault. ⊥
-
--- the condition of ON or of WHERE, where it is written (SQL, ON and WHERE)
-abbrev pub IsWhole : {T A B C D : Type 0} → GeometryRules T A B C D → List (TableDef T) → List Reference → Option (WrittenCond A) → Option (Cond B) → Type 0
-IsWhole rules schema references None = λ bound. bound ≡ None
-IsWhole rules schema references (Some written) = Then (IsCond rules schema references written) (λ cond bound. bound ≡ Some cond)
-
--- where it is refused
-abbrev pub IsRefusedWhole : {T A B C D : Type 0} → GeometryRules T A B C D → List (TableDef T) → List Reference → Option (WrittenCond A) → QueryFault → Type 0
-IsRefusedWhole rules schema references None = λ fault. ⊥
-IsRefusedWhole rules schema references (Some written) = FirstFault (IsCond rules schema references written) (IsRefusedCond rules schema references written) (λ cond fault. ⊥)
-
--- what a query is bound to: the tables of FROM, the select list, ON and WHERE (SQL, the query)
-abbrev pub IsStatement : {T A B C D : Type 0} → GeometryRules T A B C D → List (TableDef T) → Query A C → Statement B D → Type 0
-IsStatement rules schema query =
-    Then (AreReferences schema query.first query.second) (λ references. Then (IsListed rules schema references query.selection)
-    (λ listed. Then (IsWhole rules schema references query.on) (λ on. Then (IsWhole rules schema references query.condition)
-    (λ condition stated. stated ≡ record {
-      explain = query.explain;
-      references = references;
-      items = listed;
-      on = on;
-      condition = condition;
-      counts = counts query.selection;
-      limit = query.limit;
-    }))))
-
--- the fault that a query is refused for: the first, in this order
-abbrev pub IsRefusedQuery : {T A B C D : Type 0} → GeometryRules T A B C D → List (TableDef T) → Query A C → QueryFault → Type 0
-IsRefusedQuery rules schema query =
-    FirstFault (AreReferences schema query.first query.second) (AreRefusedReferences schema query.first query.second)
-    (λ references. FirstFault (IsListed rules schema references query.selection) (IsRefusedListing rules schema references query.selection)
-    (λ listed. FirstFault (IsWhole rules schema references query.on) (IsRefusedWhole rules schema references query.on)
-    (λ on. FirstFault (IsWhole rules schema references query.condition) (IsRefusedWhole rules schema references query.condition) (λ condition fault. ⊥))))

@@ -1,5 +1,5 @@
 -- When a bound query is bound to these definitions: its tables and columns are there, and each type fits.
-use Rattle.std.specs.Prelude.{◌≡◌, ◌<◌, ◌⊎◌, ℕ, Bool, true, false, ◌&&◌, All, IsTrue, List, [], ◌∷◌, map, length, slice_get, Option, Some, None, is_some, is_none}
+use Rattle.std.specs.Prelude.{◌≡◌, ◌<◌, ◌⊎◌, Bool, true, false, ◌&&◌, All, List, [], map, length, slice_get, Option, Some, None, is_some, is_none}
 use Rattle.std.specs.List.{list_all}
 use Rattle.geometry_model.specs.Geometries.{Geometry}
 use Rattle.geometry_model.specs.FirstFaults.{validity_fault}
@@ -124,6 +124,7 @@ geometry_fits = record {
   argument = argument_fits;
   item_argument = λ definitions references place. is_geometry (place_type definitions references place);
 }
+
 -- where none is served there is no argument that could fail to be one
 abbrev pub no_geometry_fits : {T : Type 0} → GeometryFits T NoGeometry NoGeometry
 no_geometry_fits = record { argument = λ definitions references a. true; item_argument = λ definitions references c. true }

@@ -1,5 +1,5 @@
 -- What ON and WHERE say of a choice of rows, and then the digits of the numbers.
-use Rattle.std.proofs.Common.{◌≡◌, List, [], ◌∷◌, Some, pos, ap, ◌∙◌, refl}
+use Rattle.std.proofs.Common.{◌≡◌, List, [], ◌∷◌, pos, ap, ◌∙◌, refl}
 use Rattle.std.specs.Fmt.{digits}
 use Rattle.std.specs.List.{filter}
 use Rattle.geometry_model.specs.Geometries.{Geometry}
@@ -10,14 +10,13 @@ use Rattle.table_model.specs.Arguments.{denoted}
 use Rattle.table_model.specs.GeometryColumns.{geometry_writing}
 use Rattle.table_model.specs.JoinExamples.{points_and_squares, join, left_first, right_first}
 use Rattle.table_model.specs.Loading.{Record}
-use Rattle.table_model.specs.Meanings.{Row, Table, is_true, product, search_condition}
+use Rattle.table_model.specs.Meanings.{Table, is_true, product, search_condition}
 use Rattle.table_model.specs.PlanExamples.{point_rows}
 use Rattle.table_model.specs.Statements.{by_conjuncts}
 use Rattle.table_model.specs.Truths.{Rows, truth, and_of, compared, order_of, field_at, related}
 use Rattle.table_model.specs.declared.conditions.Comparison.TheVariants.{NotEqual}
 use Rattle.table_model.specs.declared.conditions.GeometryArgument.TheVariants.{Column}
 use Rattle.table_model.specs.declared.values.Truth.{Truth}
-use Rattle.table_model.specs.declared.values.Truth.TheVariants.{True}
 use Rattle.table_model.specs.declared.values.Value.TheVariants as values
 use Rattle.table_model.proofs.CondFolds.{cond_folds}
 use Rattle.table_model.proofs.join_examples.answers_of_a_join.Goals as goal
