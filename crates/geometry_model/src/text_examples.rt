@@ -76,7 +76,7 @@ pub fn first_faults()
 pub fn first_faults_of_polygons()
     ensures bad_number { read_text (codes "MULTIPOLYGON(((0 0,x 1)))") ≡ Err (Syntax 19) }
     ensures off_grid { read_text (codes "MULTIPOLYGON(((0 0)),((0 0,1.5 2)))") ≡ Err (OffGrid 27) }
-    ensures out_of_range { read_text (codes "MULTIPOLYGON(((0 0)),((0 0),(0 -100001)))") ≡ Err (OutOfRange 31) }
+    ensures out_of_range { read_text (codes "MULTIPOLYGON(((0 0)),((0 0),(0 -10000001)))") ≡ Err (OutOfRange 31) }
     ensures rings_alone { read_text (codes "MULTIPOLYGON((0 0,1 0))") ≡ Err (Syntax 14) }
     ensures unfinished { read_text (codes "MULTIPOLYGON(((0 0,1 0))") ≡ Err (Syntax 24) }
     ensures empty_element { read_text (codes "MULTIPOLYGON(EMPTY)") ≡ Err (Syntax 13) }
