@@ -1,15 +1,18 @@
 //! Valid geometries, and the test that makes them.
 
-ghost use Rattle.std.specs.Prelude.{◌≡◌, IfOk, OnOk, IfErr, None};
+ghost use Rattle.std.specs.Prelude.{◌≡◌, IfOk, OnOk, IfErr, None, All};
+ghost use Rattle.geometry_model.specs.Geometries.{edges_of_line};
 ghost use Rattle.geometry_model.specs.Geometries as spec;
 ghost use Rattle.geometry_model.specs.Validity.{IsValid};
 ghost use Rattle.geometry_model.specs.FirstFaults.{validity_fault};
 ghost use Rattle.validity.specs.CheckFaults.{IsFaultOf};
+ghost use Rattle.validity.specs.ValidGeometries.{HasLength};
 
 use crate::check_fault::CheckFault;
+use fraction::GridPoint;
 use geometry_model::Kind;
 use orient::Segment;
-use std::alloc::Global;
+use std::alloc::{AllocError, Global};
 use std::marker::Model;
 use wkt::Geometry;
 
@@ -62,24 +65,37 @@ impl Valid {
     }
 }
 
-/// The edges of a geometry, in order. Points have none.
-fn edges_of(alloc: Global, geometry: &Geometry) -> Vec<Segment>
-    ensures { result.items ≡ spec.edges geometry.now }
+/// The edges of a line, in order.
+fn edges_of(alloc: Global, line: &[GridPoint]) -> Result<Vec<Segment>, AllocError>
+    requires { All HasLength (edges_of_line line.now) }
+    ensures { IfOk result (λ v. v.items ≡ edges_of_line line.now) }
 {
-    match geometry.kind() {
-        Kind::Point => Vec::new(alloc),
-        Kind::Line | Kind::Area => unreachable!("no geometry of these kinds is made yet"),
+    let mut segments = Vec::new(alloc);
+    let Some((first, more)) = line.split_first() else {
+        return Ok(segments);
+    };
+    let mut start = *first;
+    for end in more {
+        match Segment::new(start, *end) {
+            Some(segment) => segments.push(segment)?,
+            None => unreachable!("neighbours differ"),
+        }
+        start = *end;
     }
+    Ok(segments)
 }
 
 /// Takes a geometry as valid where it has no fault, and otherwise answers its first fault: the faults are tested in
-/// their order, V1 to V6, and within one the least numbers first (06-103r4, 6.1.7 and 6.1.11; the order is a
-/// profile). Points need no test. It may fail for want of memory too.
+/// their order, V1 to V8, and within one the least numbers first (06-103r4, 6.1.7, 6.1.11 and 6.1.14). Points need no
+/// test, and a LINESTRING has no fault but V1. It may fail for want of memory too.
 pub fn check(alloc: Global, geometry: Geometry) -> Result<Valid, CheckFault>
     ensures same { IfOk result (λ valid. valid ≡ geometry) }
     ensures faultless { OnOk result (validity_fault geometry ≡ None) }
     ensures fault { IfErr result (IsFaultOf geometry) }
 {
-    let segments = edges_of(alloc, &geometry);
+    if geometry.line().len() == 1 {
+        return Err(CheckFault::TooFewPoints(0));
+    }
+    let segments = edges_of(alloc, geometry.line())?;
     Ok(Valid { geometry, segments })
 }
