@@ -38,10 +38,10 @@ one_fault (Polygon rs) served = absurd served
 one_fault (MultiPolygon es) served = absurd served
 
 pub short_line : (g : Geometry) → IsOfServedType g → (length (line_of g) == 1) ≡ true → validity_fault g ≡ Some (TooFewPoints 0)
-short_line g served short = rw short at one_fault g served
+short_line g served short = rw short at (one_fault g served)
 
 pub no_fault : (g : Geometry) → IsOfServedType g → (length (line_of g) == 1) ≡ false → validity_fault g ≡ None
-no_fault g served long = rw long at one_fault g served
+no_fault g served long = rw long at (one_fault g served)
 
 pub no_fault_valid : (g : Geometry) → validity_fault g ≡ None → IsValid g
 no_fault_valid g none = (none_is_found_where_valid g).0 none

@@ -1,6 +1,6 @@
 //! Valid geometries, and the test that makes them.
 
-ghost use Rattle.std.specs.Prelude.{◌≡◌, IfOk, OnOk, IfErr, None, All};
+ghost use Rattle.std.specs.Prelude.{◌≡◌, IfOk, OnOk, IfErr, None, All, ◌∷◌};
 ghost use Rattle.geometry_model.specs.Geometries.{edges_of_line};
 ghost use Rattle.geometry_model.specs.Geometries as spec;
 ghost use Rattle.geometry_model.specs.Validity.{IsValid};
@@ -70,11 +70,23 @@ fn edges_of(alloc: Global, line: &[GridPoint]) -> Result<Vec<Segment>, AllocErro
     requires { All HasLength (edges_of_line line.now) }
     ensures { IfOk result (λ v. v.items ≡ edges_of_line line.now) }
 {
+    match line.split_first() {
+        None => Ok(Vec::new(alloc)),
+        Some((first, more)) => edges_from(alloc, *first, more),
+    }
+}
+
+/// The edges of a line that begins with this position, in order.
+fn edges_from(
+    alloc: Global,
+    first: GridPoint,
+    more: &[GridPoint],
+) -> Result<Vec<Segment>, AllocError>
+    requires { All HasLength (edges_of_line (first ∷ more.now)) }
+    ensures { IfOk result (λ v. v.items ≡ edges_of_line (first ∷ more.now)) }
+{
     let mut segments = Vec::new(alloc);
-    let Some((first, more)) = line.split_first() else {
-        return Ok(segments);
-    };
-    let mut start = *first;
+    let mut start = first;
     for end in more {
         match Segment::new(start, *end) {
             Some(segment) => segments.push(segment)?,
@@ -88,6 +100,7 @@ fn edges_of(alloc: Global, line: &[GridPoint]) -> Result<Vec<Segment>, AllocErro
 /// Takes a geometry as valid where it has no fault, and otherwise answers its first fault: the faults are tested in
 /// their order, V1 to V8, and within one the least numbers first (06-103r4, 6.1.7, 6.1.11 and 6.1.14). Points need no
 /// test, and a LINESTRING has no fault but V1. It may fail for want of memory too.
+#[tactic(auto, using(crate::proofs::Lines::short_line, crate::proofs::Lines::no_fault, crate::proofs::Lines::no_fault_valid, crate::proofs::Lines::edges_are, crate::proofs::Lines::edges_have_length))]
 pub fn check(alloc: Global, geometry: Geometry) -> Result<Valid, CheckFault>
     ensures same { IfOk result (λ valid. valid ≡ geometry) }
     ensures faultless { OnOk result (validity_fault geometry ≡ None) }

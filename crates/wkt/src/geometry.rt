@@ -130,6 +130,7 @@ impl Geometry {
     /// Lends the positions of a LINESTRING, from its start to its end; other types have none (06-103r4, 6.1.7).
     pub fn line(&self) -> &[GridPoint]
         ensures line { result.now ≡ line_of self.now }
+        ensures served { IsOfServedType self.now }
         ensures kept { IsKept self.now }
     {
         match &self.shape {
