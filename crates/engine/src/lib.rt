@@ -2,17 +2,17 @@
 //! DE-9IM matrix; and what a command of the program does with them, over readers and sinks of any kind.
 #![tactic(auto)]
 
+pub mod answer_records;
+pub mod commands;
 pub mod execute;
 pub mod failure;
 pub mod first_run;
-pub mod records;
 pub mod relate;
-pub mod run;
 pub mod run_fault;
-pub mod serve;
+pub mod runs;
 
+pub use commands::{failed, serve};
 pub use failure::{Failure, GeometryWord, fault_line, status};
 pub use relate::relate_texts;
-pub use run::run;
 pub use run_fault::Fault;
-pub use serve::{failed, serve};
+pub use runs::run;

@@ -1,13 +1,14 @@
 -- The tables of a database, one after the other.
-use Rattle.std.proofs.Common.{◌≡◌, ◌∙◌, ◌+◌, ◌-◌, ◌++◌, ◌<◌, ℕ, List, [], ◌∷◌, Option, Some, Result, Ok, Err, ap, arith, get_or, length, map, refl, replicate, sym}
-use Rattle.std.proofs.lemmas.List.{append_assoc, get_or-map, length-append, length-map, length-replicate}
+use Rattle.std.proofs.Common.{◌≡◌, ◌∙◌, ◌+◌, ◌++◌, ◌<◌, ℕ, List, [], ◌∷◌, Option, None, Some, Result, Ok, Err, ap, arith, drop, get_or, length, map, refl, subst, sym, take}
+use Rattle.std.proofs.lemmas.List.{append-nil, append_assoc, drop_more, get_or-map, length-append, length-map, take-append-drop, take_all}
 use Rattle.std.proofs.lemmas.List.FromFn.{get_or-enumerate_from, length-enumerate_from}
 use Rattle.std.proofs.lemmas.Slice.Zip.{get_or-zip}
 use Rattle.std.specs.List.{enumerate_from, zip}
 use Rattle.feature_table.proofs.EachLemmas.{Passed, passed_all, passed_fault, passed_front, passed_more}
 use Rattle.feature_table.proofs.LoadingLemmas.{at_place, drop_front}
 use Rattle.feature_table.specs.Outcomes.{IsFailure}
-use Rattle.feature_table.specs.Tables.{AreOfRecords, records_in, table_in}
+use Rattle.feature_table.proofs.ReaderRecords.{each-append, each-more, fill, length-each}
+use Rattle.feature_table.specs.Tables.{AreOfRecords, AreRecordsOf, EachRecordsOf, records_in, table_in}
 use Rattle.table_model.specs.Databases.{at_table, load_tables, loaded_tables}
 use Rattle.table_model.specs.Loading.{GeometryReader, Record, load}
 use Rattle.table_model.specs.Meanings.{Table}
@@ -98,14 +99,15 @@ reader_at {R = R} readers n place reader within is =
 
 -- ---- tables of some records, where no text is known
 
--- so many tables are those of some records, whatever records stand for the tables behind them
-pub record HaveLoaded {T G : Type 0} (geometry : GeometryReader T G) (definitions : List (TableDef T)) (n : ℕ) (tables : List (Table G)) : Type 0 where
+-- so many tables are those of records of their readers, whatever records stand for the tables behind them
+pub record HaveLoaded {T G : Type 0} (geometry : GeometryReader T G) (definitions : List (TableDef T)) (known : List (Option (List ℕ))) (n : ℕ) (tables : List (Table G)) : Type 0 where
   pub records : List (List Record)
+  pub are_of : EachRecordsOf (take n known) records
   pub count : length records ≡ n
   pub passed : (more : List (List Record)) → length definitions ≡ length (records ++ more) → Passed (loaded_tables geometry definitions (records ++ more)) n tables
 
-pub loaded_none : {T G : Type 0} (geometry : GeometryReader T G) (definitions : List (TableDef T)) → HaveLoaded geometry definitions 0 []
-loaded_none geometry definitions = record { records = []; count = refl; passed = λ more same. refl }
+pub loaded_none : {T G : Type 0} (geometry : GeometryReader T G) (definitions : List (TableDef T)) (known : List (Option (List ℕ))) → HaveLoaded geometry definitions known 0 []
+loaded_none geometry definitions known = record { records = []; are_of = tt; count = refl; passed = λ more same. refl }
 
 -- the next table, of these records
 next_at : {T G : Type 0} (geometry : GeometryReader T G) (definitions : List (TableDef T)) (earlier : List (List Record)) (n : ℕ) (next : List Record) (more : List (List Record))
@@ -119,11 +121,13 @@ next_at geometry definitions earlier n next more t d count same =
           ∙ ap (λ (records : List Record). at_table n (load geometry (get_or definitions n t) records)) at.1,
     )
 
-pub loaded_more : {T G : Type 0} (geometry : GeometryReader T G) (definitions : List (TableDef T)) (n : ℕ) (tables : List (Table G)) (t : TableDef T) (next : List Record)
-    (table : Table G) → HaveLoaded geometry definitions n tables → at_table n (load geometry (get_or definitions n t) next) ≡ Ok table
-    → HaveLoaded geometry definitions (n + 1) (tables ++ table ∷ [])
-loaded_more geometry definitions n tables t next table a is = record {
+-- one table more
+pub loaded_more : {T G : Type 0} (geometry : GeometryReader T G) (definitions : List (TableDef T)) (known : List (Option (List ℕ))) (n : ℕ) (tables : List (Table G)) (t : TableDef T)
+    (next : List Record) (table : Table G) → HaveLoaded geometry definitions known n tables → n < length known → AreRecordsOf (get_or known n None) next
+    → at_table n (load geometry (get_or definitions n t) next) ≡ Ok table → HaveLoaded geometry definitions known (n + 1) (tables ++ table ∷ [])
+loaded_more geometry definitions known n tables t next table a within of is = record {
   records = a.records ++ next ∷ [];
+  are_of = each-more known n a.records next within a.are_of of;
   count = omega (arith, length-append a.records (next ∷ []), a.count);
   passed = λ more same.
       let all = append_assoc a.records (next ∷ []) more in
@@ -134,36 +138,48 @@ loaded_more geometry definitions n tables t next table a is = record {
 }
 
 -- all tables
-pub all_loaded : {T G X : Type 0} (geometry : GeometryReader T G) (definitions : List (TableDef T)) (n : ℕ) (tables : List (Table G)) (view : X → List (Table G)) (x : X)
-    → HaveLoaded geometry definitions n tables → n ≡ length definitions → view x ≡ tables → AreOfRecords geometry definitions view (Ok x)
+pub all_loaded : {T G X : Type 0} (geometry : GeometryReader T G) (definitions : List (TableDef T)) (known : List (Option (List ℕ))) (n : ℕ) (tables : List (Table G))
+    (view : X → List (Table G)) (x : X) → HaveLoaded geometry definitions known n tables → n ≡ length definitions → length known ≡ length definitions → view x ≡ tables
+    → AreOfRecords geometry definitions known view (Ok x)
 unfolding load_tables
-all_loaded geometry definitions n tables view x a all is =
+all_loaded geometry definitions known n tables view x a all many is =
     let records = a.records ++ [] in
     let size : length definitions ≡ length records = omega (arith, length-append a.records [], a.count, all) in
     let whole = length-loaded geometry definitions records size in
     record {
       records = records;
-      count = sym size;
+      are_of = rw (append-nil a.records, ← take_all n known (omega (arith, all, many))) a.are_of;
       loads = passed_all (loaded_tables geometry definitions records) n tables (omega (arith, whole, all)) (a.passed [] size) ∙ ap Ok (sym is);
       earlier = tt;
     }
 
 -- a table of a fault
-pub fault_loaded : {T G X : Type 0} (geometry : GeometryReader T G) (definitions : List (TableDef T)) (n : ℕ) (tables : List (Table G)) (view : X → List (Table G)) (t : TableDef T)
-    (next : List Record) (f : TableFault) → HaveLoaded geometry definitions n tables → n < length definitions → f.table ≡ n
-    → (¬ (IsFailure f.fault) → at_table n (load geometry (get_or definitions n t) next) ≡ Err f) → AreOfRecords geometry definitions view (Err f)
+pub fault_loaded : {T G X : Type 0} (geometry : GeometryReader T G) (definitions : List (TableDef T)) (known : List (Option (List ℕ))) (n : ℕ) (tables : List (Table G))
+    (view : X → List (Table G)) (t : TableDef T) (next : List Record) (f : TableFault) → HaveLoaded geometry definitions known n tables → n < length definitions
+    → length known ≡ length definitions → f.table ≡ n → AreRecordsOf (get_or known n None) next
+    → (¬ (IsFailure f.fault) → at_table n (load geometry (get_or definitions n t) next) ≡ Err f) → AreOfRecords geometry definitions known view (Err f)
 unfolding load_tables
-fault_loaded geometry definitions n tables view t next f a within place is =
-    let more = replicate (length definitions - (n + 1)) [] in
+fault_loaded geometry definitions known n tables view t next f a within many place of is =
+    let last = fill (drop (n + 1) known) in
+    let more = last.0 in
     let records = a.records ++ next ∷ more in
-    let left : length more ≡ length definitions - (n + 1) = length-replicate (length definitions - (n + 1)) [] in
-    let size : length definitions ≡ length records = omega (arith, length-append a.records (next ∷ more), a.count, left) in
+    let split : known ≡ take n known ++ get_or known n None ∷ drop (n + 1) known =
+    sym (take-append-drop n known) ∙ ap (λ (rest : List (Option (List ℕ))). take n known ++ rest) (drop_more known n None (omega (arith, within, many))) in
+    let each : EachRecordsOf known records =
+    subst (λ (ks : List (Option (List ℕ))). EachRecordsOf ks records) (sym split)
+    (each-append (take n known) (get_or known n None ∷ drop (n + 1) known) a.records (next ∷ more) a.are_of (of, last.1)) in
+    let size : length definitions ≡ length records = sym (length-each known records each ∙ many) in
     let whole = length-loaded geometry definitions records size in
     let at = next_at geometry definitions a.records n next more t no_table a.count size in
     let passed = a.passed (next ∷ more) size in
     record {
       records = records;
-      count = sym size;
+      are_of = each;
       loads = λ other. passed_fault (loaded_tables geometry definitions records) n tables f no_table (omega (arith, whole, at.0)) passed (at.1 ∙ is other);
       earlier = rw place (passed_front (loaded_tables geometry definitions records) n tables passed);
     }
+
+-- what is known of the reader at a place
+pub known_at : {R : Type 0} (remaining : R → Option (List ℕ)) (readers : List R) (n : ℕ) (reader : R) → n < length readers → reader ≡ get_or readers n reader
+    → remaining reader ≡ get_or (map remaining readers) n None
+known_at remaining readers n reader within is = ap remaining is ∙ sym (get_or-map remaining readers n reader None within)

@@ -10,4 +10,5 @@ pub mod LoadLemmas
 pub mod GeometryFieldLemmas
 pub mod KeyLemmas
 pub mod OrderLemmas
+pub mod ReaderRecords
 pub mod DatabaseLemmas

@@ -1,6 +1,6 @@
 -- The tables that texts of CSV load as, and those that some records load as where no text is known. Generic in what names a
 -- type of geometry columns, in what a geometry is, and in how a field is read as one.
-use Rattle.std.specs.Prelude.{◌≡◌, ◌∷◌, ℕ, IfErr, IsOk, List, [], Result, length, map, take, true}
+use Rattle.std.specs.Prelude.{◌≡◌, ◌∷◌, ℕ, IfErr, IsOk, List, [], None, Option, Result, Some, map, take, true, ⊤}
 use Rattle.csv.specs.Reading.{default_config, records, strip_bom}
 use Rattle.feature_table.specs.Outcomes.{Loads, LoadsTable}
 use Rattle.table_model.specs.Databases.{load_tables, loaded_tables}
@@ -30,14 +30,31 @@ abbrev pub EarlierLoad : {T G : Type 0} → GeometryReader T G → List (TableDe
 EarlierLoad geometry definitions records place = IsOk (each (take place (loaded_tables geometry definitions records)))
 
 -- an answer is that of some records: there are records that load as these rows, or that have this fault
-abbrev pub IsOfRecords : {T G X : Type 0} → GeometryReader T G → TableDef T → (X → Table G) → Result X LoadFault → Type 0
-IsOfRecords geometry table view answer = (records : List Record) × Loads view answer (load geometry table records)
+abbrev pub IsOfSomeRecords : {T G X : Type 0} → GeometryReader T G → TableDef T → (X → Table G) → Result X LoadFault → Type 0
+IsOfSomeRecords geometry table view answer = (records : List Record) × Loads view answer (load geometry table records)
 
--- an answer is that of some records of the tables: they load as these tables, or have this fault; each table before one that
--- is refused, or whose reading failed, has loaded
-pub record AreOfRecords {T G X : Type 0} (geometry : GeometryReader T G) (definitions : List (TableDef T)) (view : X → List (Table G)) (answer : Result X TableFault) : Type 0 where
+-- records of what a reader gives: where its bytes are known they are those that csv reads from them
+abbrev pub AreRecordsOf : Option (List ℕ) → List Record → Type 0
+AreRecordsOf None records = ⊤
+AreRecordsOf (Some text) records = records ≡ records_in text
+
+-- the same of several readers: one list of records a reader
+abbrev pub EachRecordsOf : List (Option (List ℕ)) → List (List Record) → Type 0
+EachRecordsOf [] [] = ⊤
+EachRecordsOf [] (records ∷ more) = ⊥
+EachRecordsOf (known ∷ others) [] = ⊥
+EachRecordsOf (known ∷ others) (records ∷ more) = AreRecordsOf known records × EachRecordsOf others more
+
+-- an answer is that of records of a reader: they load as these rows, or have this fault
+abbrev pub IsOfRecords : {T G X : Type 0} → GeometryReader T G → TableDef T → Option (List ℕ) → (X → Table G) → Result X LoadFault → Type 0
+IsOfRecords geometry table known view answer = (records : List Record) × AreRecordsOf known records × Loads view answer (load geometry table records)
+
+-- an answer is that of records of the readers: they load as these tables, or have this fault; each table before one that is
+-- refused, or whose reading failed, has loaded
+pub record AreOfRecords {T G X : Type 0} (geometry : GeometryReader T G) (definitions : List (TableDef T)) (known : List (Option (List ℕ)))
+    (view : X → List (Table G)) (answer : Result X TableFault) : Type 0 where
   pub records : List (List Record)
-  pub count : length records ≡ length definitions
+  pub are_of : EachRecordsOf known records
   pub loads : LoadsTable view answer (load_tables geometry definitions records)
   pub earlier : IfErr answer (λ f. EarlierLoad geometry definitions records f.table)
 

@@ -4,7 +4,7 @@ ghost use Rattle.std.specs.Prelude.{◌≡◌, ◌<◌, ℕ, IfErr, IfOk, List, 
 ghost use Rattle.std.specs.List.{slice_index_or};
 ghost use Rattle.feature_table.specs.GeometryFields.{ShapeValue, reading, takes};
 ghost use Rattle.feature_table.specs.Outcomes.{LoadsTable};
-ghost use Rattle.feature_table.specs.Tables.{AreOfRecords, EarlierLoad, records_in, table_in, tables_in};
+ghost use Rattle.feature_table.specs.Tables.{AreOfRecords, AreRecordsOf, EarlierLoad, records_in, table_in, tables_in};
 ghost use Rattle.table_model.specs.Databases.{at_table};
 ghost use Rattle.table_model.specs.FeatureTables.{IsDatabase};
 ghost use Rattle.table_model.specs.Loading.{Record, load};
@@ -17,7 +17,8 @@ use std::io::Read;
 use std::marker::Model;
 use table_model::faults::{LoadFault, TableFault};
 
-/// The tables of a schema, which it borrows. (06-104r4, feature tables.)
+/// The tables of a schema, which it borrows: lawful definitions, and for each the rows of its table. (06-104r4, feature
+/// tables.)
 #[derive(Drop)]
 pub struct Database<'s> {
     schema: &'s Schema,
@@ -47,7 +48,8 @@ fn load_table<R: Read + Drop>(
     ensures place { IfErr result (λ f. f.table ≡ place) }
     ensures loads { (text : List ℕ) (d : Definition ShapeValue) → R.remaining reader ≡ Some text
         → LoadsTable (λ t. t) result (at_table place (table_in reading (slice_index_or schema.now place d) text)) }
-    ensures records { (d : Definition ShapeValue) → (records : List Record) × LoadsTable (λ t. t) result (at_table place (load reading (slice_index_or schema.now place d) records)) }
+    ensures records { (d : Definition ShapeValue) → (records : List Record) × AreRecordsOf (R.remaining reader) records
+        × LoadsTable (λ t. t) result (at_table place (load reading (slice_index_or schema.now place d) records)) }
 {
     match Table::load(alloc, schema.table(place), reader) {
         Ok(table) => Ok(table),
@@ -61,7 +63,8 @@ fn load_table<R: Read + Drop>(
 impl<'s> Database<'s> {
     /// Loads the tables of a schema in its order, each from the CSV text of one reader. The answer is the first
     /// fault where there is one, with its table: `Table::load` says which. So also a fault of reading is that of the
-    /// first table whose reading failed: each table before it has loaded. (Profile.)
+    /// first table whose reading failed: each table before it has loaded. Whatever the readers are, there are records of
+    /// which this is the answer, and at Ok the tables are those of a database. (06-104r4, feature tables.)
     pub fn load<R: Read + Drop>(
         alloc: Global,
         schema: &'s Schema,
@@ -73,7 +76,7 @@ impl<'s> Database<'s> {
             → LoadsTable (λ d. d.tables) result (tables_in reading schema.entry.now texts) }
         ensures earlier { (texts : List (List ℕ)) → map R.remaining readers.items ≡ map Some texts
             → IfErr result (λ f. EarlierLoad reading schema.entry.now (map records_in texts) f.table) }
-        ensures records { AreOfRecords reading schema.entry.now (λ d. d.tables) result }
+        ensures records { AreOfRecords reading schema.entry.now (map R.remaining readers.items) (λ d. d.tables) result }
         ensures database { IfOk result (IsDatabase takes) }
         ensures table { IfErr result (λ f. f.table < length schema.entry.now) }
     {
@@ -92,7 +95,8 @@ impl<'s> Database<'s> {
         Ok(Database { schema, tables })
     }
 
-    /// Lends the definitions of the tables, in the order of the schema. (Profile.)
+    /// Lends the definitions of the tables, in the order of the schema. With its tables they are a database. (06-104r4,
+    /// feature tables.)
     pub fn definitions(&self) -> &'s [TableDef]
         ensures value { result.now ≡ self.now.definitions }
         ensures database { IsDatabase takes self.now }

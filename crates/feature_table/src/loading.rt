@@ -11,12 +11,13 @@ ghost use Rattle.table_model.specs.Loading as spec;
 use crate::geometry_fields::Geometry;
 use crate::headers::Layout;
 use crate::records::{Records, next_record};
-use crate::rows::{ROW_LIMIT, checked_row};
+use crate::rows::checked_row;
 use crate::schemas::TableDef;
 use csv::ByteRecord;
 use sqlite_items::Items;
 use std::alloc::Global;
 use std::io::Read;
+use table_model::definitions::ROW_LIMIT;
 use table_model::faults::LoadFault;
 use table_model::values::Value;
 

@@ -19,11 +19,9 @@ use crate::schemas::{ColumnDef, TableDef};
 use csv::ByteRecord;
 use sqlite_items::Items;
 use std::alloc::Global;
+use table_model::definitions::ROW_LIMIT;
 use table_model::faults::LoadFault;
 use table_model::values::Value;
-
-/// The most rows that a table may have.
-pub(crate) const ROW_LIMIT: usize = 100_000;
 
 /// Whether the column at a place takes no null.
 fn is_required(table: &TableDef, place: usize, column: &ColumnDef) -> bool

@@ -8,6 +8,7 @@ ghost use Rattle.table_model.specs.Definitions.{is_integer, lawful, lawful_table
 use crate::geometry_fields::ColumnShape;
 use sqlite_items::{self as items, Items};
 use std::marker::Model;
+use table_model::definitions::{COLUMN_LIMIT, TABLE_LIMIT};
 use table_model::texts::same_name;
 
 /// The type of a column: whole numbers, texts or geometries. (SQL; 06-104r4, 7.2.)
@@ -18,12 +19,6 @@ pub type ColumnDef = table_model::definitions::ColumnDef<ColumnShape>;
 
 /// A table: its columns in order, one of which is the feature key. (06-104r4, feature tables.)
 pub type TableDef = table_model::definitions::TableDef<ColumnShape>;
-
-/// The most tables that a schema may have. (Profile.)
-pub const TABLE_LIMIT: usize = 16;
-
-/// The most columns that a table may have. (Profile.)
-pub const COLUMN_LIMIT: usize = 32;
 
 /// A lawful list of table definitions, which contracts see as that list. (06-104r4, feature tables; profile.)
 #[derive(Drop)]

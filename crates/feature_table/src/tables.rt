@@ -5,7 +5,7 @@ ghost use Rattle.feature_table.specs.Cells.{shown};
 ghost use Rattle.feature_table.specs.Outcomes.{Loads, is_of_reading};
 ghost use Rattle.feature_table.specs.Records.{Gives, IsReady, asked, read_failed, record_limit};
 ghost use Rattle.feature_table.specs.GeometryFields.{reading, takes};
-ghost use Rattle.feature_table.specs.Tables.{IsOfRecords, IsTable, table_in};
+ghost use Rattle.feature_table.specs.Tables.{IsOfRecords, IsOfSomeRecords, IsTable, table_in};
 ghost use Rattle.table_model.specs.Definitions.{lawful};
 ghost use Rattle.table_model.specs.FeatureTables.{AreRows};
 ghost use Rattle.table_model.specs.Loading as spec;
@@ -79,8 +79,9 @@ impl Model for Table {
 impl Table {
     /// Loads the table of a definition, which is lawful by itself, from the CSV text that a reader gives. The answer
     /// is the first fault where there is one: of the header, then of the records in order, then a repeated key. A
-    /// fault of reading is answered where it comes. It is `Table::load_from` over the records of the reader, so at
-    /// most 100,002 of them are read, the header among them. (Profile.)
+    /// fault of reading is answered where it comes. Whatever the reader is, there are records of which this is the
+    /// answer, and at Ok the rows are those of a table of this definition. It is `Table::load_from` over the records of
+    /// the reader, so at most 100,002 of them are read, the header among them. (06-104r4, feature tables.)
     pub fn load<R: Read + Drop>(
         alloc: Global,
         table: &TableDef,
@@ -88,7 +89,7 @@ impl Table {
     ) -> Result<Table, LoadFault>
         requires { IsTrue (lawful (table.now ∷ [])) }
         ensures loads { (text : List ℕ) → R.remaining reader ≡ Some text → Loads (λ t. t) result (table_in reading table.now text) }
-        ensures records { IsOfRecords reading table.now (λ t. t) result }
+        ensures records { IsOfRecords reading table.now (R.remaining reader) (λ t. t) result }
         ensures rows { IfOk result (AreRows takes table.now) }
     {
         let mut records = Records::new(alloc, reader);
@@ -109,7 +110,7 @@ impl Table {
         ensures taken { asked records.new ≤ record_limit }
         ensures read_failed { IfErr result (λ f. is_of_reading f ≡ true → read_failed records.new ≡ true) }
         ensures loads { (all : List spec.Record) → Gives R.remaining records.old all → Loads (λ t. t) result (spec.load reading table.now all) }
-        ensures records { IsOfRecords reading table.now (λ t. t) result }
+        ensures records { IsOfSomeRecords reading table.now (λ t. t) result }
         ensures rows { IfOk result (AreRows takes table.now) }
     {
         let mut header = ByteRecord::new(alloc);

@@ -17,8 +17,8 @@ use std::marker::Model;
 /// The greatest coordinate of a position, and the negative of the least. (Profile.)
 pub const COORDINATE_LIMIT: i32 = 10_000_000;
 
-/// A position of the grid: two whole coordinates, each within `COORDINATE_LIMIT` either way (OGC 06-103r4, 6.1.4; whole numbers
-/// and the limit: profile).
+/// A position of the grid: two whole coordinates, each within `COORDINATE_LIMIT` either way (OGC 06-103r4, 6.1.4; whole
+/// numbers and the limit: profile).
 #[derive(Clone, Copy, Debug)]
 pub struct GridPoint {
     x: i32,

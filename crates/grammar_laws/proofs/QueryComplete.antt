@@ -24,12 +24,13 @@ use Rattle.table_model.specs.declared.tokens.Token.{Token}
 use Rattle.table_model.specs.declared.tokens.TokenKind.{TokenKind}
 use Rattle.table_model.specs.declared.tokens.TokenKind.TheVariants as k
 use Rattle.table_model.specs.Parsers.{kind, place, spelling, next, written, sees, after, and_then, expect, parts_from}
-use Rattle.table_model.specs.QueryGrammar.{Phrase, IsOne, IsToken, ◌▸◌, IsOptional, IsParts, IsName, IsColumn, IsDigits, IsInteger, IsString, IsWord, IsCall, IsGeometry, IsOperandFunction, IsOperand, IsComparison, function_of, IsPair, IsBool, IsNumber, IsTest, IsPredicate, IsChain, IsConjunction, IsConditionOf, IsNegationOf, IsNegation, IsCondition, IsItemFunction, IsItem, IsSelection, IsReference, IsCrossed, IsJoined, IsSecond, IsWhere, IsRowCount, IsLimit, IsExplain, IsSelect}
+use Rattle.table_model.specs.QueryGrammar.{IsName, IsColumn, IsDigits, IsInteger, IsString, IsCall, IsGeometry, IsOperandFunction, IsOperand, IsComparison, function_of, IsPair, IsBool, IsNumber, IsTest, IsPredicate, IsChain, IsConjunction, IsConditionOf, IsNegationOf, IsNegation, IsCondition, IsItemFunction, IsItem, IsSelection, IsReference, IsCrossed, IsJoined, IsSecond, IsWhere, IsRowCount, IsLimit, IsExplain, IsSelect}
 use Rattle.table_model.specs.QueryReading.{Reader, Functions, name, column, calls, called_or, enclosed, string, geometry, integer, operand_functions, operand, comparison_of, compared, null_test, comparison, truth_value, truth_test, tested, relates, relates_by, predicate_functions, predicate, chain, conjunction, condition_of, group, negation, condition, item_functions, item, items, counted, count_function, selection, alias, reference, Second, crossed, joined_on, second, where_condition, limit_value, limit_number, limited, says, explained, query}
 use Rattle.table_model.specs.Served.{Served, Argument, ItemArgument, ServedOperand, ServedCond, ServedItem, ServedQuery}
 use Rattle.table_model.specs.Texts.{same_name}
 use Rattle.table_model.specs.Tokens.{same_kind}
 use Rattle.grammar_laws.proofs.QuerySound.{Begins, one_begins, seq_begins, BeginsOperand, operand_begins, word_begins, place_is, IsMade, IsTwo, IsThree, named, patterned, empties, IsCounted, IsBoth, IsJoin}
+use Rattle.table_model.specs.Phrases.{Phrase, IsOne, IsToken, ◌▸◌, IsOptional, IsParts, IsWord}
 
 -- the tokens of a phrase are read, before a token of a kind that may follow
 abbrev pub Complete : {A : Type 0} → Reader A → (A → Phrase) → (TokenKind → Type 0) → Type 0

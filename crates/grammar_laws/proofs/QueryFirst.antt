@@ -15,14 +15,15 @@ use Rattle.table_model.specs.declared.tokens.TokenKind.{TokenKind}
 use Rattle.table_model.specs.declared.tokens.TokenKind.TheVariants as k
 use Rattle.table_model.specs.Outcomes.{Gives}
 use Rattle.table_model.specs.Parsers.{kind, place, spelling, next, sees, after, and_then, expect, parts_from}
-use Rattle.table_model.specs.QueryGrammar.{Phrase, IsToken, ◌▸◌, IsOptional, IsParts, AreEnded, IsDigits, IsOperand, IsBool, IsPredicateOf, IsPredicate, IsChain, IsConjunction, IsConditionOf, IsNegationOf, IsNegation, IsCondition, IsSelection, IsReference, IsCrossed}
-use Rattle.table_model.specs.QueryReading.{Reader, integer, integer_value, operand, explained, selection, reference, comparison_of, compared, comparison, predicate_functions, predicate, chain, conjunction, condition_of, group, negation, most_levels, most_bytes, condition, Second, joined_on, second, where_condition, limit_value, limit_number, limited, query, bad_place, query_of}
+use Rattle.table_model.specs.QueryGrammar.{IsDigits, IsOperand, IsBool, IsPredicateOf, IsPredicate, IsChain, IsConjunction, IsConditionOf, IsNegationOf, IsNegation, IsCondition, IsSelection, IsReference, IsCrossed}
+use Rattle.table_model.specs.QueryReading.{Reader, integer, integer_value, operand, explained, selection, reference, comparison_of, compared, comparison, predicate_functions, predicate, chain, conjunction, condition_of, group, negation, most_levels, condition, Second, joined_on, second, where_condition, limit_value, limit_number, limited, query, bad_place, query_of}
 use Rattle.table_model.specs.QueryRefusals.{IsAnyInteger, IsAnyOperand, IsAnyNegation, IsAnyCondition, BeforeSecond, BeforeOn, ThroughFrom, BeforeWhere, IsAnyWhere, BeforeLimit, AreParts, BeforeNegation, BeforeOperand, StandsAt, StandsIn, is_at_token, AnswersFirst}
 use Rattle.table_model.specs.Served.{Served, Argument, ItemArgument, ServedOperand, ServedCond, ServedQuery}
-use Rattle.table_model.specs.Tokens.{same_kind, tokens}
+use Rattle.table_model.specs.Tokens.{same_kind, tokens, most_bytes}
 use Rattle.grammar_laws.proofs.QuerySound.{Begins, one_begins, seq_begins, BeginsOperand, operand_begins}
 use Rattle.grammar_laws.proofs.QueryComplete.{Complete, is_kind, one_first, one_last, one_only, split, kind_after, ends_by, unnamed, none_called, operand_of_digits, operand_of_plus, operand_of_minus, EndsPredicate, EndsConjunction, EndsReference, compares_ends, operand_complete, no_predicate, not_word, part_then, turns_suffice, not_seen, negation_predicate, negation_not, negation_group, negation_complete, bool_begins, chain_complete, expect_read, explained_complete, selection_complete, from_ends, reference_complete, second_complete, second_of_none, second_of_inner, second_of_join, EndsSecond, where_of_none, where_of_word, limit_of_word, limit_ends, condition_complete, where_ends, on_ends, ends_reference}
 use Rattle.grammar_laws.proofs.QueryRefused.{Faults, query_faults}
+use Rattle.table_model.specs.Phrases.{Phrase, IsToken, ◌▸◌, IsOptional, IsParts, AreEnded}
 
 -- ---- what a reader answers whatever follows
 

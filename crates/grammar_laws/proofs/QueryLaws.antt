@@ -4,11 +4,11 @@ use Rattle.std.proofs.lemmas.Bool.{ltb-false, le-ltb}
 use Rattle.table_model.specs.declared.faults.QueryFault.{QueryFault}
 use Rattle.table_model.specs.declared.faults.QueryFault.TheVariants as fault
 use Rattle.table_model.specs.Outcomes.{Gives}
-use Rattle.table_model.specs.Parsers.{Outcome}
+use Rattle.table_model.specs.Parsers.{Outcome, value_of}
 use Rattle.table_model.specs.QueryGrammar.{IsSelect, IsQuery, AnswersQuery}
-use Rattle.table_model.specs.QueryReading.{most_bytes, bad_place, value_of, query, query_by, query_of}
+use Rattle.table_model.specs.QueryReading.{bad_place, query, query_by, query_of}
 use Rattle.table_model.specs.Served.{Served, ServedQuery}
-use Rattle.table_model.specs.Tokens.{tokens}
+use Rattle.table_model.specs.Tokens.{tokens, most_bytes}
 use Rattle.grammar_laws.proofs.QueryComplete.{select_complete}
 use Rattle.grammar_laws.proofs.QuerySound.{query_sound}
 use Rattle.grammar_laws.proofs.TokenReaders.{IfRead, map_read}

@@ -16,14 +16,15 @@ use Rattle.table_model.specs.declared.tokens.Token.{Token}
 use Rattle.table_model.specs.declared.tokens.TokenKind.{TokenKind}
 use Rattle.table_model.specs.declared.tokens.TokenKind.TheVariants as k
 use Rattle.table_model.specs.Outcomes.{Gives}
-use Rattle.table_model.specs.Parsers.{Outcome, kind, place, spelling, next, sees, after, and_then, expect, parts_from}
-use Rattle.table_model.specs.QueryGrammar.{Phrase, IsToken, ◌▸◌, IsOptional, IsParts, AreEnded, IsOperand, IsComparison, IsPredicateOf, IsPredicate, IsChain, IsConjunction, IsConditionOf, IsNegationOf, IsNegation, IsCondition, IsSelection, IsReference, IsWhere, IsExplain}
-use Rattle.table_model.specs.QueryReading.{Reader, Functions, name, column, calls, called_or, enclosed, string, geometry, integer, integer_value, integer_or, operand_functions, operand, comparison_of, compared, compared_by, null_test, comparison, truth_value, truth_test, tested, relates, relates_by, predicate_functions, predicate, chain, conjunction, condition_of, group, negation, most_levels, most_bytes, condition, item_functions, item, items, counted, count_function, selection, alias, reference, Second, crossed, joined_on, second, where_condition, limit_value, limit_or, limit_number, limited, says, explained, query, bad_place, value_of, query_by, query_of}
+use Rattle.table_model.specs.Parsers.{Outcome, kind, place, spelling, next, sees, after, and_then, expect, parts_from, value_of}
+use Rattle.table_model.specs.QueryGrammar.{IsOperand, IsComparison, IsPredicateOf, IsPredicate, IsChain, IsConjunction, IsConditionOf, IsNegationOf, IsNegation, IsCondition, IsSelection, IsReference, IsWhere, IsExplain}
+use Rattle.table_model.specs.QueryReading.{Reader, Functions, name, column, calls, called_or, enclosed, string, geometry, integer, integer_value, integer_or, operand_functions, operand, comparison_of, compared, compared_by, null_test, comparison, truth_value, truth_test, tested, relates, relates_by, predicate_functions, predicate, chain, conjunction, condition_of, group, negation, most_levels, condition, item_functions, item, items, counted, count_function, selection, alias, reference, Second, crossed, joined_on, second, where_condition, limit_value, limit_or, limit_number, limited, says, explained, query, bad_place, query_by, query_of}
 use Rattle.table_model.specs.QueryRefusals.{IsAnyOperand, IsAnyNegation, IsAnyCondition, BeforeSecond, BeforeOn, ThroughFrom, BeforeWhere, IsAnyWhere, BeforeLimit, AreParts, BeforeNegation, BeforeOperand, IsTooBig, StandsIn, is_at_token, StandsInQuery}
 use Rattle.table_model.specs.Served.{Served, Argument, ItemArgument, ServedOperand, ServedCond, ServedQuery}
-use Rattle.table_model.specs.Tokens.{same_kind, tokens}
+use Rattle.table_model.specs.Tokens.{same_kind, tokens, most_bytes}
 use Rattle.grammar_laws.proofs.QuerySound.{Sound, operand_sound, comparison_taken, chain_sound, negation_sound, explained_sound, selection_sound, reference_sound, expect_sound, second_sound, where_sound, optional, IsBoth}
 use Rattle.grammar_laws.proofs.TokenReaders.{IfRead, Took, map_read, same, one, seq, but, ended_more}
+use Rattle.table_model.specs.Phrases.{Phrase, IsToken, ◌▸◌, IsOptional, IsParts, AreEnded}
 
 -- ---- the faults of a reader
 

@@ -7,8 +7,7 @@ use Rattle.grammar_laws.proofs.AsciiWords.{AsciiWords, words_before, words_behin
 use Rattle.grammar_laws.proofs.QuerySound.{Begins, one_begins, seq_begins}
 use Rattle.table_model.specs.Definitions.{names_differ, is_integer, may_be_key, column_names, lawful_table, lawful}
 use Rattle.table_model.specs.Parsers.{kind, place, spelling, next, sees, after, expect}
-use Rattle.table_model.specs.QueryGrammar.{Phrase, IsOne, IsToken, ◌▸◌, IsOptional, IsParts}
-use Rattle.table_model.specs.SchemaGrammar.{IsWord, IsType, AreMarks, Marked, IsMarked, key_places, IsTable, AreTables}
+use Rattle.table_model.specs.SchemaGrammar.{IsType, AreMarks, Marked, IsMarked, key_places, IsTable, AreTables}
 use Rattle.table_model.specs.SchemaReading.{expect_word, is_ascii, new_name, type_named, column_type, null_mark, key_mark, marks, has_column, column, is_there, key_after, columns_from, columns, has_table, table_name, table, goes_on, tables_from, all_tables, schema}
 use Rattle.table_model.specs.Texts.{same_name}
 use Rattle.table_model.specs.Tokens.{same_kind}
@@ -19,6 +18,7 @@ use Rattle.table_model.specs.declared.faults.SchemaFault.TheVariants as fault
 use Rattle.table_model.specs.declared.tokens.Token.{Token}
 use Rattle.table_model.specs.declared.tokens.TokenKind.{TokenKind}
 use Rattle.table_model.specs.declared.tokens.TokenKind.TheVariants as k
+use Rattle.table_model.specs.Phrases.{Phrase, IsOne, IsToken, ◌▸◌, IsOptional, IsParts, IsWord}
 
 -- ---- kinds and first tokens
 

@@ -10,12 +10,11 @@ use Rattle.grammar_laws.proofs.SchemaRefused.{Answers, Anything, schema_answers}
 use Rattle.table_model.specs.Definitions.{is_integer}
 use Rattle.table_model.specs.Outcomes.{Gives}
 use Rattle.table_model.specs.Parsers.{Outcome, kind, place, spelling, next, sees, after}
-use Rattle.table_model.specs.QueryGrammar.{Phrase, IsToken, ◌▸◌, IsParts, AreEnded}
-use Rattle.table_model.specs.SchemaGrammar.{IsWord, IsType, IsNotNull, IsMark, AreMarks, Marked}
-use Rattle.table_model.specs.SchemaReading.{is_ascii, new_name, type_named, null_mark, key_mark, marks, has_column, column, is_there, key_after, columns_from, columns, has_table, table_name, table, tables_from, schema, schema_of, most_bytes}
+use Rattle.table_model.specs.SchemaGrammar.{IsType, IsNotNull, IsMark, AreMarks, Marked}
+use Rattle.table_model.specs.SchemaReading.{is_ascii, new_name, type_named, null_mark, key_mark, marks, has_column, column, is_there, key_after, columns_from, columns, has_table, table_name, table, tables_from, schema, schema_of}
 use Rattle.table_model.specs.SchemaRefusals.{Written, IsColumn, IsCreateTable, IsWritten, BeforeTable, BeforeColumns, BeforeColumn, BeforeKey, BeforeClose, has_key, is_among, names_of, is_at_token, StandsAt, StandsIn, AnswersFirst}
 use Rattle.table_model.specs.Texts.{same_name}
-use Rattle.table_model.specs.Tokens.{same_kind, tokens}
+use Rattle.table_model.specs.Tokens.{same_kind, tokens, most_bytes}
 use Rattle.table_model.specs.declared.definitions.ColumnType.{ColumnType}
 use Rattle.table_model.specs.declared.definitions.ColumnDef.{ColumnDef}
 use Rattle.table_model.specs.declared.definitions.TableDef.{TableDef}
@@ -24,6 +23,7 @@ use Rattle.table_model.specs.declared.faults.SchemaFault.TheVariants as fault
 use Rattle.table_model.specs.declared.tokens.Token.{Token}
 use Rattle.table_model.specs.declared.tokens.TokenKind.{TokenKind}
 use Rattle.table_model.specs.declared.tokens.TokenKind.TheVariants as k
+use Rattle.table_model.specs.Phrases.{Phrase, IsToken, ◌▸◌, IsParts, AreEnded, IsWord}
 
 -- ---- a fault at a token, whatever follows
 
@@ -744,3 +744,12 @@ first_is_given geometry text r given before after t g short cut stands =
       subst (λ r. Answers r Anything (StandsIn geometry (before ++ t ∷ []))) (h.2 []) (schema_answers geometry (before ++ t ∷ [])) h.1,
       subst (λ answer. Gives fault.OutOfMemory (λ t. t) r answer) (fault_given geometry text (before ++ t ∷ after) h.0 short cut (h.2 after)) given,
     )
+
+-- any answer is given as itself
+given_itself : {A : Type 0} (r : Result A SchemaFault) → Gives fault.OutOfMemory (λ x. x) r r
+given_itself (Ok x) = refl
+given_itself (Err f) = λ _. refl
+
+-- where a fault stands at a token of a text, one that stands there or before is read
+pub first_is_read : {T : Type 0} (geometry : List ℕ → Option T) (text : List ℕ) → AnswersFirst geometry text (schema_of geometry text)
+first_is_read geometry text = first_is_given geometry text (schema_of geometry text) (given_itself (schema_of geometry text))

@@ -11,10 +11,10 @@ use Rattle.table_model.specs.declared.definitions.TableDef.{TableDef}
 use Rattle.table_model.specs.declared.faults.SchemaFault.{SchemaFault}
 use Rattle.table_model.specs.declared.faults.SchemaFault.TheVariants as fault
 use Rattle.table_model.specs.Outcomes.{Gives}
-use Rattle.table_model.specs.Parsers.{Outcome}
+use Rattle.table_model.specs.Parsers.{Outcome, value_of}
 use Rattle.table_model.specs.SchemaGrammar.{AreTables, IsSchema, AnswersSchema}
-use Rattle.table_model.specs.SchemaReading.{most_bytes, value_of, schema, schema_of}
-use Rattle.table_model.specs.Tokens.{tokens}
+use Rattle.table_model.specs.SchemaReading.{schema, schema_of}
+use Rattle.table_model.specs.Tokens.{tokens, most_bytes}
 
 by_value : {T : Type 0} (geometry : List ℕ → Option T) (text : List ℕ) (r : Outcome SchemaFault (List (TableDef T))) → schema geometry (tokens false text) ≡ r → length text ≤ most_bytes
     → IfRead r (λ tables rest. AreTables geometry tables (tokens false text)) → IfOk (value_of r) (IsSchema geometry text)
@@ -36,7 +36,8 @@ schema_of_sound geometry text = by_length geometry text (nat_lt most_bytes (leng
 pub given_is_schema : {T : Type 0} (geometry : List ℕ → Option T) (text : List ℕ) (tables : List (TableDef T)) → schema_of geometry text ≡ Ok tables → IsSchema geometry text tables
 given_is_schema geometry text tables e = subst (λ r. IfOk r (IsSchema geometry text)) e (schema_of_sound geometry text)
 
-schema_of_complete : {T : Type 0} (geometry : List ℕ → Option T) (text : List ℕ) (tables : List (TableDef T)) → IsSchema geometry text tables → schema_of geometry text ≡ Ok tables
+-- a schema is read, as those tables
+pub schema_of_complete : {T : Type 0} (geometry : List ℕ → Option T) (text : List ℕ) (tables : List (TableDef T)) → IsSchema geometry text tables → schema_of geometry text ≡ Ok tables
 unfolding schema_of IsSchema
 schema_of_complete geometry text tables (short, are, grammar) =
     rw (le-ltb most_bytes (length text) short, schema_complete geometry tables (tokens false text) grammar (tokens_ascii false text) are) refl
@@ -45,3 +46,10 @@ schema_of_complete geometry text tables (short, are, grammar) =
 pub schema_is_given : {T : Type 0} (geometry : List ℕ → Option T) (text : List ℕ) (r : Result (List (TableDef T)) SchemaFault) → Gives fault.OutOfMemory (λ t. t) r (schema_of geometry text)
     → AnswersSchema geometry text r
 schema_is_given geometry text r given tables is = subst (λ answer. Gives fault.OutOfMemory (λ t. t) r answer) (schema_of_complete geometry text tables is) given
+
+same_answer : {A : Type 0} (r : Result A SchemaFault) (a b : A) → r ≡ Ok a → r ≡ Ok b → a ≡ b
+same_answer r a b p q = cc
+
+-- a text is one schema at most
+pub one_schema : {T : Type 0} (geometry : List ℕ → Option T) (text : List ℕ) (a b : List (TableDef T)) → IsSchema geometry text a → IsSchema geometry text b → a ≡ b
+one_schema geometry text a b p q = same_answer (schema_of geometry text) a b (schema_of_complete geometry text a p) (schema_of_complete geometry text b q)

@@ -8,13 +8,12 @@ use Rattle.grammar_laws.proofs.SchemaSound.{skip, word_taken, named_taken, not_f
 use Rattle.grammar_laws.proofs.TokenReaders.{Took, one, seq, but, same, ended_more}
 use Rattle.table_model.specs.Definitions.{is_integer}
 use Rattle.table_model.specs.Outcomes.{Gives}
-use Rattle.table_model.specs.Parsers.{Outcome, kind, place, spelling, next, sees, after, and_then, ◌>>=◌, pure, expect}
-use Rattle.table_model.specs.QueryGrammar.{Phrase, IsToken, ◌▸◌, IsParts, AreEnded}
-use Rattle.table_model.specs.SchemaGrammar.{IsWord, IsNamed, IsType, IsNotNull, IsPrimaryKey, IsMark, AreMarks, Marked}
-use Rattle.table_model.specs.SchemaReading.{Reader, sees_word, expect_word, sees_name, new_name, type_named, type_or, column_type, null_mark, key_mark, marks, has_column, column, is_there, key_after, columns_from, columns, closed, close, has_table, most_bytes, table_name, table, goes_on, tables_from, all_tables, schema, schema_of, value_of}
+use Rattle.table_model.specs.Parsers.{Outcome, kind, place, spelling, next, sees, after, and_then, ◌>>=◌, pure, expect, value_of}
+use Rattle.table_model.specs.SchemaGrammar.{IsNamed, IsType, IsNotNull, IsPrimaryKey, IsMark, AreMarks, Marked}
+use Rattle.table_model.specs.SchemaReading.{Reader, sees_word, expect_word, sees_name, new_name, type_named, type_or, column_type, null_mark, key_mark, marks, has_column, column, is_there, key_after, columns_from, columns, closed, close, has_table, table_name, table, goes_on, tables_from, all_tables, schema, schema_of}
 use Rattle.table_model.specs.SchemaRefusals.{Written, IsColumn, IsCreateTable, IsWritten, BeforeTable, BeforeColumns, BeforeColumn, BeforeKey, BeforeClose, has_key, is_among, names_of, is_at_token, StandsAt, StandsIn, StandsInSchema}
 use Rattle.table_model.specs.Texts.{same_name}
-use Rattle.table_model.specs.Tokens.{tokens}
+use Rattle.table_model.specs.Tokens.{tokens, most_bytes}
 use Rattle.table_model.specs.declared.definitions.ColumnType.{ColumnType}
 use Rattle.table_model.specs.declared.definitions.ColumnDef.{ColumnDef}
 use Rattle.table_model.specs.declared.definitions.TableDef.{TableDef}
@@ -23,6 +22,7 @@ use Rattle.table_model.specs.declared.faults.SchemaFault.TheVariants as fault
 use Rattle.table_model.specs.declared.tokens.Token.{Token}
 use Rattle.table_model.specs.declared.tokens.TokenKind.{TokenKind}
 use Rattle.table_model.specs.declared.tokens.TokenKind.TheVariants as k
+use Rattle.table_model.specs.Phrases.{Phrase, IsToken, ◌▸◌, IsParts, AreEnded, IsWord}
 
 -- ---- what a reader answers
 
@@ -486,7 +486,8 @@ by_value : {T : Type 0} (geometry : List ℕ → Option T) (ts : List Token) (r 
 by_value geometry ts (Ok p) h = tt
 by_value geometry ts (Err f) h = h
 
-schema_of_stands : {T : Type 0} (geometry : List ℕ → Option T) (text : List ℕ) → IfErr (schema_of geometry text) (StandsInSchema geometry text)
+-- a fault at a token that is read stands there
+pub schema_of_stands : {T : Type 0} (geometry : List ℕ → Option T) (text : List ℕ) → IfErr (schema_of geometry text) (StandsInSchema geometry text)
 unfolding schema_of
 schema_of_stands geometry text = go (nat_lt most_bytes (length text))
   where

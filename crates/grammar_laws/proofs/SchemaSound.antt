@@ -7,8 +7,7 @@ use Rattle.std.specs.Prelude.{nat_le, codes}
 use Rattle.std.proofs.lemmas.Bool.{and_parts, false≢true}
 use Rattle.table_model.specs.Definitions.{is_integer}
 use Rattle.table_model.specs.Parsers.{kind, place, spelling, next, sees, after, and_then, ◌>>=◌, pure, expect}
-use Rattle.table_model.specs.QueryGrammar.{Phrase, IsToken, ◌▸◌, IsOptional, IsParts}
-use Rattle.table_model.specs.SchemaGrammar.{IsWord, IsNamed, IsType, IsNotNull, IsPrimaryKey, IsMark, AreMarks, Marked, IsMarked, key_places, IsTable, AreTables}
+use Rattle.table_model.specs.SchemaGrammar.{IsNamed, IsType, IsNotNull, IsPrimaryKey, IsMark, AreMarks, Marked, IsMarked, key_places, IsTable, AreTables}
 use Rattle.table_model.specs.SchemaReading.{sees_word, expect_word, sees_name, new_name, type_named, type_or, column_type, null_mark, key_mark, marks, has_column, most_columns, column, is_there, key_after, columns_from, columns, closed, close, table_name, table, goes_on, tables_from, all_tables, schema}
 use Rattle.table_model.specs.declared.definitions.ColumnType.{ColumnType}
 use Rattle.table_model.specs.declared.definitions.ColumnDef.{ColumnDef}
@@ -17,6 +16,7 @@ use Rattle.table_model.specs.declared.faults.SchemaFault.TheVariants as fault
 use Rattle.table_model.specs.declared.tokens.Token.{Token}
 use Rattle.table_model.specs.declared.tokens.TokenKind.{TokenKind}
 use Rattle.table_model.specs.declared.tokens.TokenKind.TheVariants as k
+use Rattle.table_model.specs.Phrases.{Phrase, IsToken, ◌▸◌, IsOptional, IsParts, IsWord}
 
 -- ---- what was taken
 

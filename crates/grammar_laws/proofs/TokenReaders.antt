@@ -6,8 +6,8 @@ use Rattle.table_model.specs.declared.tokens.Token.{Token}
 use Rattle.table_model.specs.declared.tokens.TokenKind.{TokenKind}
 use Rattle.table_model.specs.declared.tokens.TokenKind.TheVariants as k
 use Rattle.table_model.specs.Parsers.{Outcome, Parser, kind, next, sees, after, and_then, expect}
-use Rattle.table_model.specs.QueryGrammar.{Phrase, IsToken, ◌▸◌, AreEnded}
 use Rattle.table_model.specs.Tokens.{same_kind}
+use Rattle.table_model.specs.Phrases.{Phrase, IsToken, ◌▸◌, AreEnded}
 
 -- ---- what a reader answers
 

@@ -3,3 +3,4 @@
 #![tactic(auto)]
 
 pub mod queries;
+pub mod schemas;

@@ -92,6 +92,7 @@ fn of_two<'a>(
         second: Some(second),
         on: None,
         condition: None,
+        limit: None,
     }
 }
 

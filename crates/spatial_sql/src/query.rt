@@ -57,7 +57,7 @@ fn items<'a>(
 /// Reads what SELECT lists.
 #[tactic(auto, unfolding(table_model::specs::QueryReading::selection))]
 fn selection<'a>(alloc: Global, tokens: &mut Cursor<'_, 'a>) -> Result<Selection<'a>, QueryFault>
-    ensures { Reads QueryFault.OutOfMemory (spec.selection language.functions tokens.old) result tokens.new }
+    ensures { Reads QueryFault.OutOfMemory (spec.selection language tokens.old) result tokens.new }
 {
     if tokens.sees(TokenKind::Star) {
         tokens.advance();
@@ -126,6 +126,7 @@ fn query<'a>(alloc: Global, tokens: &mut Cursor<'_, 'a>) -> Result<Query<'a>, Qu
         second: None,
         on: None,
         condition,
+        limit: None,
     })
 }
 

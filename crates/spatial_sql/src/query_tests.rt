@@ -105,7 +105,7 @@ fn becomes_a_tree(rt: HostRuntime) -> Result<(), Fail> {
     )?;
     match &query.selection {
         Selection::Items(items) => assert_eq!(rt; items.len(), 2),
-        Selection::All => panic!(rt; "all columns"),
+        Selection::All | Selection::Count => panic!(rt; "no columns"),
     }
     let Some(WrittenCond::And(parts)) = &query.condition else {
         panic!(rt; "no conjunction")

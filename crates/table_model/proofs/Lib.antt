@@ -8,4 +8,4 @@ pub mod TruthFacts
 pub mod ListFacts
 pub mod CondInduction
 pub mod ConjunctFacts
-mod PlaceFacts
+pub mod PlaceFacts

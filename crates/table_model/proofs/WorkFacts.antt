@@ -1,20 +1,25 @@
 -- The work of plans with one filter or two, and the text of EXPLAIN ANALYZE from its parts.
-use Rattle.std.specs.Prelude.{◌≡◌, ℕ, ◌+◌, Bool, true, false, ◌&&◌, if◌then◌else◌, is_some, List, [], ◌∷◌, sum_by, Some, option_map}
+use Rattle.std.specs.Prelude.{◌≡◌, ℕ, ◌+◌, Bool, true, false, ◌&&◌, if◌then◌else◌, is_some, List, [], ◌∷◌, map, filter, sum_by, Some, option_map}
 use Rattle.std.proofs.Common.{arith, ap, ◌∙◌}
 use Rattle.std.proofs.lemmas.List.Sums.{sum_by-cons}
 use mathlib.Core.Path.{fun_ext}
 use Rattle.geometry_model.specs.Geometries.{Geometry}
 use Rattle.geometry_model.specs.Labels.{labelled_matrix}
+use Rattle.table_model.specs.AnswerTexts.{answer}
 use Rattle.table_model.specs.Arguments.{denoted}
+use Rattle.table_model.specs.Candidates.{candidates}
 use Rattle.table_model.specs.ExplainTexts.{analyze_text}
-use Rattle.table_model.specs.Meanings.{Table, is_true}
-use Rattle.table_model.specs.PlanExamples.{Query, Condition, analyzed}
-use Rattle.table_model.specs.Places.{Choice}
+use Rattle.table_model.specs.Meanings.{Table, is_true, referenced}
+use Rattle.table_model.specs.PlanExamples.{Query, Condition, analyzed, answered}
+use Rattle.table_model.specs.GeometryColumns.{ColumnShape, geometry_writing}
+use Rattle.table_model.specs.Loading.{Record}
+use Rattle.table_model.specs.Places.{Choice, choices, query_rows, is_selected, limited}
 use Rattle.table_model.specs.Plans.{chosen}
 use Rattle.table_model.specs.Truths.{Rows, truth}
-use Rattle.table_model.specs.Work.{evaluated, computed, candidate_work, work}
+use Rattle.table_model.specs.Work.{evaluated, computed, candidate_work, work, work_of, up_to_passing, work_to_row}
 use Rattle.table_model.specs.declared.conditions.GeometryArgument.{GeometryArgument}
 use Rattle.table_model.specs.declared.conditions.Cond.{Cond}
+use Rattle.table_model.specs.declared.definitions.TableDef.{TableDef}
 use Rattle.table_model.specs.declared.plans.Plan.{Plan}
 
 -- 1 where both arguments are there
@@ -59,3 +64,19 @@ work_of_two list at c d g h =
 -- the text of EXPLAIN ANALYZE, by the chosen plan and its work
 pub analyzed_is : (tables : List (Table Geometry)) (q : Query) (plan : Plan) (n : ℕ) (text : List ℕ) → chosen tables q ≡ Some plan → work labelled_matrix denoted tables q plan ≡ n → analyze_text q plan n ≡ text → analyzed tables q ≡ Some text
 analyzed_is tables q plan n text p w t = ap (option_map (λ plan. analyze_text q plan (work labelled_matrix denoted tables q plan))) p ∙ ap (λ k. Some (analyze_text q plan k)) w ∙ ap Some t
+
+-- the work up to the n-th row, where a candidate gives one exactly where this test passes it
+pub work_up_to : (tables : List (Table Geometry)) (q : Query) (plan : Plan) (passes : Choice → Bool) (n m : ℕ)
+    → ((choice : Choice) → is_selected (truth labelled_matrix denoted) tables q choice ≡ passes choice)
+    → work_of labelled_matrix denoted tables q plan (up_to_passing passes n (candidates denoted tables q plan.accesses)) ≡ m
+    → work_to_row labelled_matrix denoted tables q plan n ≡ m
+work_up_to tables q plan passes n m h e =
+    ap (λ t. work_of labelled_matrix denoted tables q plan (up_to_passing t n (candidates denoted tables q plan.accesses))) (fun_ext h) ∙ e
+
+-- the records of an answer, where ON and WHERE select a choice exactly where this test passes it
+pub answered_by : (definitions : List (TableDef ColumnShape)) (tables : List (Table Geometry)) (q : Query) (passes : Choice → Bool) (records : List Record)
+    → ((choice : Choice) → is_selected (truth labelled_matrix denoted) tables q choice ≡ passes choice)
+    → answer geometry_writing definitions q (map (query_rows tables q) (limited q (filter passes (choices (referenced tables q.references))))) ≡ records
+    → answered definitions tables q ≡ records
+answered_by definitions tables q passes records h e =
+    ap (λ t. answer geometry_writing definitions q (map (query_rows tables q) (limited q (filter t (choices (referenced tables q.references)))))) (fun_ext h) ∙ e

@@ -15,6 +15,7 @@ pub mod Loading
 pub mod Databases
 pub mod Served
 pub mod QueryReading
+pub mod Phrases
 pub mod QueryGrammar
 pub mod QueryRefusals
 pub mod QueryExamples
@@ -31,8 +32,10 @@ pub mod SchemaGrammar
 pub mod BindingExamples
 pub mod GeometryColumns
 pub mod GeometryColumnExamples
+pub mod BoundQueries
 pub mod FirstRunExamples
 pub mod JoinExamples
 pub mod SchemaRefusals
 pub mod FeatureTables
+pub mod ValidGeometries
 pub mod SchemaExamples

@@ -99,6 +99,11 @@ parts_from syntax between part (suc n) found = do
 abbrev pub parts : {F A : Type 0} → (ℕ → F) → TokenKind → Parser F A → List A → Parser F (List A)
 parts syntax between part found = λ ts. parts_from syntax between part (length ts) found ts
 
+-- what was read, without the tokens that are left
+abbrev pub value_of : {F A : Type 0} → Outcome F A → Result A F
+value_of (Ok p) = Ok p.0
+value_of (Err e) = Err e
+
 -- ---- what a function that reads ensures: the reader's outcome; want of memory may stand in its place
 
 -- the call's answer and the tokens left after it are the reader's outcome; want of memory may stand in the place of any (profile)

@@ -1,7 +1,7 @@
 -- The grammar of queries: a relation for each rule, between a tree and the tokens that are written for it. SELECT over
 -- one table or two, after the query expressions of 06-104r4, with its functions (profile). Each part that may be served
 -- or not is a parameter.
-use Rattle.std.specs.Prelude.{◌≡◌, ◌≤◌, ◌⊎◌, ℕ, zero, suc, Bool, true, false, ℤ, List, [], ◌∷◌, ◌++◌, length, Option, Some, None, Result, Ok, codes}
+use Rattle.std.specs.Prelude.{◌≡◌, ◌≤◌, ◌⊎◌, ℕ, zero, suc, Bool, true, false, ℤ, List, [], ◌∷◌, length, Option, Some, None, Result, Ok, codes}
 use Rattle.std.specs.Str.Parse.{digits_value}
 use Rattle.geometry_model.specs.declared.relations.Predicate.{Predicate}
 use Rattle.geometry_model.specs.declared.relations.Predicate.TheVariants as p
@@ -22,50 +22,14 @@ use Rattle.table_model.specs.declared.queries.WrittenItem.TheVariants as i
 use Rattle.table_model.specs.declared.queries.WrittenOperand.TheVariants as o
 use Rattle.table_model.specs.declared.queries.WrittenPredicate.TheVariants as w
 use Rattle.table_model.specs.declared.queries.WrittenReference.{WrittenReference}
-use Rattle.table_model.specs.declared.tokens.Token.{Token}
 use Rattle.table_model.specs.declared.tokens.TokenKind.{TokenKind}
 use Rattle.table_model.specs.declared.tokens.TokenKind.TheVariants as k
 use Rattle.table_model.specs.Outcomes.{Gives}
 use Rattle.table_model.specs.Parsers.{place}
-use Rattle.table_model.specs.QueryReading.{integer_value, limit_value, comparison_of, most_levels, most_bytes, bad_place}
+use Rattle.table_model.specs.Phrases.{Phrase, IsOne, IsToken, ◌▸◌, IsOptional, IsParts, IsWord}
+use Rattle.table_model.specs.QueryReading.{integer_value, limit_value, comparison_of, most_levels, bad_place}
 use Rattle.table_model.specs.Served.{Served, ItemArgument, ServedOperand, ServedCond, ServedItem, ServedQuery}
-use Rattle.table_model.specs.Texts.{same_name}
-use Rattle.table_model.specs.Tokens.{tokens}
-
--- ---- what rules are made of
-
--- what may be said of tokens (profile)
-abbrev pub Phrase : Type 1
-Phrase = List Token → Type 0
-
--- one token, of which a fact holds (profile)
-abbrev pub IsOne : (Token → Type 0) → Phrase
-IsOne P [] = ⊥
-IsOne P (t ∷ []) = P t
-IsOne P (t ∷ u ∷ ts) = ⊥
-
--- one token of a kind (profile)
-abbrev pub IsToken : TokenKind → Phrase
-IsToken kind = IsOne (λ t. t.kind ≡ kind)
-
--- tokens for one thing, and then tokens for another (profile)
-infixr 11 ◌▸◌
-abbrev pub ◌▸◌ : Phrase → Phrase → Phrase
-P ▸ Q = λ ts. (before after : List Token) × (ts ≡ before ++ after) × P before × Q after
-
--- one token of a kind, or nothing (profile)
-abbrev pub IsOptional : TokenKind → Phrase
-IsOptional kind ts = (ts ≡ []) ⊎ IsToken kind ts
-
--- one thing and those that follow it, with a token of a kind before each of these (profile)
-abbrev pub IsParts : {A : Type 0} → TokenKind → (A → Phrase) → A → List A → Phrase
-IsParts between P x [] = P x
-IsParts between P x (y ∷ ys) = P x ▸ IsToken between ▸ IsParts between P y ys
-
--- things with another behind each (profile)
-abbrev pub AreEnded : {A : Type 0} → Phrase → (A → Phrase) → List A → Phrase
-AreEnded end P [] = λ ts. ts ≡ []
-AreEnded end P (x ∷ xs) = P x ▸ end ▸ AreEnded end P xs
+use Rattle.table_model.specs.Tokens.{tokens, most_bytes}
 
 -- ---- names, columns and operands
 
@@ -92,10 +56,6 @@ abbrev pub IsString : Name → Phrase
 IsString text = IsOne (λ t. (t.kind ≡ k.Text) × (text ≡ record { text = t.text; at = t.at }))
 
 -- ---- functions
-
--- a word that isn't reserved, in any ASCII case (profile)
-abbrev pub IsWord : List ℕ → Phrase
-IsWord word = IsOne (λ t. (t.kind ≡ k.Word) × (same_name t.text word ≡ true))
 
 -- a function with what stands between its parentheses (profile)
 abbrev pub IsCall : List ℕ → Phrase → Phrase

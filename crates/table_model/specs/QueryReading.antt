@@ -26,10 +26,10 @@ use Rattle.table_model.specs.declared.queries.WrittenReference.{WrittenReference
 use Rattle.table_model.specs.declared.tokens.Token.{Token}
 use Rattle.table_model.specs.declared.tokens.TokenKind.{TokenKind}
 use Rattle.table_model.specs.declared.tokens.TokenKind.TheVariants as k
-use Rattle.table_model.specs.Parsers.{Outcome, Parser, kind, place, spelling, next, written, sees, after, ◌>>=◌, ◌>>◌, ◌<$>◌, pure, refuse, eat, expect, parts}
+use Rattle.table_model.specs.Parsers.{Outcome, Parser, kind, place, spelling, next, written, sees, after, ◌>>=◌, ◌>>◌, ◌<$>◌, pure, refuse, eat, expect, parts, value_of}
 use Rattle.table_model.specs.Served.{Served, ItemArgument, ServedOperand, ServedCond, ServedItem, ServedQuery}
 use Rattle.table_model.specs.Texts.{same_name}
-use Rattle.table_model.specs.Tokens.{same_kind, tokens}
+use Rattle.table_model.specs.Tokens.{same_kind, tokens, most_bytes}
 
 -- a reader of a part of a query (profile)
 abbrev pub Reader : Type 0 → Type 0
@@ -380,19 +380,10 @@ abbrev pub bad_place : List Token → Option ℕ
 bad_place [] = None
 bad_place (t ∷ ts) = if same_kind t.kind k.Bad then Some t.at else bad_place ts
 
--- what was read, without the tokens that are left (profile)
-abbrev pub value_of : {A : Type 0} → Outcome QueryFault A → Result A QueryFault
-value_of (Ok p) = Ok p.0
-value_of (Err e) = Err e
-
 -- Q1 at a bad token, and else the query that the tokens are (profile)
 abbrev pub query_by : (served : Served) → Option ℕ → List Token → Result (ServedQuery served) QueryFault
 query_by served (Some at) ts = Err (fault.Lex at)
 query_by served None ts = value_of (query served ts)
-
--- how many bytes a query may have (profile)
-abbrev pub most_bytes : ℕ
-most_bytes = 65536
 
 -- The query that a text is, or its fault: its length first, then its tokens, then its grammar (profile).
 unfoldable pub query_of : (served : Served) → List ℕ → Result (ServedQuery served) QueryFault

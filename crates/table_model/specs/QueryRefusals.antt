@@ -3,10 +3,10 @@
 -- aside. Generic in the parts of the language that are served.
 use Rattle.std.specs.Prelude.{◌≡◌, ◌≤◌, ◌⊎◌, ℕ, zero, suc, Bool, true, false, List, [], ◌∷◌, ◌++◌, length, None, Result, Err}
 use Rattle.table_model.specs.Outcomes.{Gives}
-use Rattle.table_model.specs.QueryGrammar.{Phrase, IsToken, ◌▸◌, IsOptional, AreEnded, IsOperand, IsComparison, IsPredicateOf, IsConjunction, IsConditionOf, IsNegationOf, IsSelection, IsReference, IsCrossed, IsExplain}
-use Rattle.table_model.specs.QueryReading.{bad_place, integer_value, limit_value, most_bytes, most_levels}
+use Rattle.table_model.specs.QueryGrammar.{IsOperand, IsComparison, IsPredicateOf, IsConjunction, IsConditionOf, IsNegationOf, IsSelection, IsReference, IsCrossed, IsExplain}
+use Rattle.table_model.specs.QueryReading.{bad_place, integer_value, limit_value, most_levels}
 use Rattle.table_model.specs.Served.{Served, ItemArgument, ServedOperand, ServedCond, ServedQuery}
-use Rattle.table_model.specs.Tokens.{tokens}
+use Rattle.table_model.specs.Tokens.{tokens, most_bytes}
 use Rattle.table_model.specs.declared.conditions.Comparison.{Comparison}
 use Rattle.table_model.specs.declared.faults.QueryFault.{QueryFault}
 use Rattle.table_model.specs.declared.faults.QueryFault.TheVariants as fault
@@ -15,6 +15,7 @@ use Rattle.table_model.specs.declared.queries.Selection.{Selection}
 use Rattle.table_model.specs.declared.queries.WrittenReference.{WrittenReference}
 use Rattle.table_model.specs.declared.tokens.Token.{Token}
 use Rattle.table_model.specs.declared.tokens.TokenKind.TheVariants as k
+use Rattle.table_model.specs.Phrases.{Phrase, IsToken, ◌▸◌, IsOptional, AreEnded}
 
 -- ---- the grammar with those rules set aside
 

@@ -3,20 +3,15 @@
 use Rattle.std.specs.Prelude.{◌≡◌, ◌≤◌, ◌⊎◌, ◌+◌, ℕ, Bool, true, false, if◌then◌else◌, List, [], ◌∷◌, map, codes, length, Option, Some, Result, Ok}
 use Rattle.table_model.specs.Definitions.{lawful}
 use Rattle.table_model.specs.Outcomes.{Gives}
-use Rattle.table_model.specs.QueryGrammar.{Phrase, IsOne, IsToken, ◌▸◌, IsOptional, IsParts}
-use Rattle.table_model.specs.SchemaReading.{type_named, most_bytes}
-use Rattle.table_model.specs.Texts.{same_name}
-use Rattle.table_model.specs.Tokens.{tokens}
+use Rattle.table_model.specs.SchemaReading.{type_named}
+use Rattle.table_model.specs.Tokens.{tokens, most_bytes}
 use Rattle.table_model.specs.declared.definitions.ColumnType.{ColumnType}
 use Rattle.table_model.specs.declared.definitions.ColumnDef.{ColumnDef}
 use Rattle.table_model.specs.declared.definitions.TableDef.{TableDef}
 use Rattle.table_model.specs.declared.faults.SchemaFault.{SchemaFault}
 use Rattle.table_model.specs.declared.faults.SchemaFault.TheVariants as fault
 use Rattle.table_model.specs.declared.tokens.TokenKind.TheVariants as k
-
--- a word, in any ASCII case (profile)
-abbrev pub IsWord : List ℕ → Phrase
-IsWord word = IsOne (λ t. (t.kind ≡ k.Word) × (same_name t.text word ≡ true))
+use Rattle.table_model.specs.Phrases.{Phrase, IsOne, IsToken, ◌▸◌, IsOptional, IsParts, IsWord}
 
 -- a name: a word that isn't reserved (profile)
 abbrev pub IsNamed : List ℕ → Phrase

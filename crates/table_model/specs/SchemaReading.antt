@@ -4,12 +4,13 @@ use Rattle.std.specs.Prelude.{ℕ, zero, suc, Bool, true, false, not, ◌&&◌, 
 use Rattle.std.specs.List.{list_all, list_any}
 use Rattle.std.specs.Option.{option_map}
 use Rattle.table_model.specs.Definitions.{is_integer}
-use Rattle.table_model.specs.Parsers.{Outcome, Parser, place, spelling, next, sees, ◌>>=◌, ◌>>◌, ◌<$>◌, pure, refuse, eat, expect}
+use Rattle.table_model.specs.Parsers.{Outcome, Parser, place, spelling, next, sees, ◌>>=◌, ◌>>◌, ◌<$>◌, pure, refuse, eat, expect, value_of}
 use Rattle.table_model.specs.Texts.{same_name}
-use Rattle.table_model.specs.Tokens.{tokens}
+use Rattle.table_model.specs.Tokens.{tokens, most_bytes}
 use Rattle.table_model.specs.declared.definitions.ColumnType.{ColumnType}
 use Rattle.table_model.specs.declared.definitions.ColumnType.TheVariants as types
 use Rattle.table_model.specs.declared.definitions.ColumnDef.{ColumnDef}
+use Rattle.table_model.specs.declared.definitions.TheConstants.{COLUMN_LIMIT, TABLE_LIMIT}
 use Rattle.table_model.specs.declared.definitions.TableDef.{TableDef}
 use Rattle.table_model.specs.declared.faults.SchemaFault.{SchemaFault}
 use Rattle.table_model.specs.declared.faults.SchemaFault.TheVariants as fault
@@ -93,7 +94,7 @@ has_column columns name = list_any (λ c. same_name c.name name) columns
 
 -- the most columns of a table (profile)
 abbrev pub most_columns : ℕ
-most_columns = 32
+most_columns = COLUMN_LIMIT
 
 -- column = name type mark*, after those that were read: the column, and whether it is the key (profile)
 unfoldable pub column : {T : Type 0} → (List ℕ → Option T) → List (ColumnDef T) → Bool → Reader (ColumnDef T × Bool)
@@ -146,7 +147,7 @@ has_table tables name = list_any (λ t. same_name t.name name) tables
 
 -- the most tables of a schema (profile)
 abbrev pub most_tables : ℕ
-most_tables = 16
+most_tables = TABLE_LIMIT
 
 -- the name of a table, after those that were read (profile)
 unfoldable pub table_name : {T : Type 0} → List (TableDef T) → Reader (List ℕ)
@@ -186,15 +187,6 @@ schema geometry = do
   tables ← all_tables geometry
   expect fault.Syntax k.End
   pure tables
-
--- what was read, without the tokens that are left (profile)
-abbrev pub value_of : {A : Type 0} → Outcome SchemaFault A → Result A SchemaFault
-value_of (Ok p) = Ok p.0
-value_of (Err e) = Err e
-
--- how many bytes a schema may have (profile)
-abbrev pub most_bytes : ℕ
-most_bytes = 65536
 
 -- The schema that a text is, or its fault: its length first, then its grammar (profile)
 unfoldable pub schema_of : {T : Type 0} → (List ℕ → Option T) → List ℕ → Result (List (TableDef T)) SchemaFault

@@ -120,6 +120,10 @@ tokens_from strings zero at (b ∷ z) =
 unfoldable pub tokens : Bool → List ℕ → List Token
 tokens strings text = tokens_from strings 0 0 text
 
+-- how many bytes a schema or a query may have
+abbrev pub most_bytes : ℕ
+most_bytes = 65536
+
 -- the place where the text of a token begins (profile)
 abbrev pub text_place : Token → ℕ
 text_place t = if same_kind t.kind k.Text then t.at + 1 else t.at

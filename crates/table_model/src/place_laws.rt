@@ -3,7 +3,7 @@
 
 ghost use Rattle.table_model.specs.PlaceLaws.{
   ChoicesGiveProduct,
-  SelectedGivesMeaning,
+  SelectedGivesPassing,
   MeantGivesLimited,
   UpToPassingIsFront,
 };
@@ -13,9 +13,10 @@ pub fn choices_give_product<G>()
     ensures { ChoicesGiveProduct G }
 {}
 
-/// What stands at the choices of places that ON and WHERE select are the rows at which they are true. (SQL, WHERE.)
-pub fn selected_gives_meaning<G, A, C>()
-    ensures { SelectedGivesMeaning G A C }
+/// What stands at the choices of places that ON and WHERE select are the rows at which every conjunct is true.
+/// (SQL, WHERE.)
+pub fn selected_gives_passing<G, A, C>()
+    ensures { SelectedGivesPassing G A C }
 {}
 
 /// What stands at the places of a meaning are the rows that LIMIT leaves. (SQL, LIMIT.)

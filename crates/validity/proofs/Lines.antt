@@ -8,6 +8,11 @@ use Rattle.geometry_model.specs.Validity.{IsValid}
 use Rattle.geometry_model.specs.FirstFaults.{validity_fault}
 use Rattle.geometry_model.specs.declared.validity_faults.ValidityFault.{ValidityFault}
 use Rattle.geometry_model.specs.declared.validity_faults.ValidityFault.TheVariants.{TooFewPoints}
+use Rattle.std.specs.Option.{MatchOption}
+use Rattle.validity.specs.CheckFaults.{fault_in, IsFirstFaultOf}
+use Rattle.validity.specs.declared.check_fault.CheckFault.{CheckFault}
+use Rattle.validity_laws.specs.FaultLaws.{IsFirst}
+use Rattle.validity_laws.proofs.FirstPlace.{first_fault_is_first}
 use Rattle.validity_laws.proofs.FirstFaultFacts.{none_is_found_where_valid}
 use Rattle.wkt.specs.KeptGeometries.{IsKept}
 use Rattle.wkt.specs.Served.{IsOfServedType, line_of}
@@ -67,3 +72,7 @@ edge_has_length more i d start end within is long =
     let rest = edges_of_line (end ∷ drop (i + 1) more) in
     let all = subst (λ l. All HasLength (edges_of_line (start ∷ l))) (at_index more i d end within is) long in
     (All-head HasLength edge rest all, All-tail HasLength edge rest all)
+
+-- the fault that is found is the first that stands
+pub first_stands : (g : Geometry) (refusal : CheckFault) (fault : ValidityFault) → fault_in refusal ≡ Some fault → validity_fault g ≡ Some fault → IsFirstFaultOf g refusal
+first_stands g refusal fault tells found = subst (λ o. MatchOption o (Unit {0}) (λ f. IsFirst g f)) (sym tells) (first_fault_is_first g fault found)

@@ -5,12 +5,12 @@ ghost use Rattle.geometry_model.specs.Geometries.{edges_of_line};
 ghost use Rattle.geometry_model.specs.Geometries as spec;
 ghost use Rattle.geometry_model.specs.Validity.{IsValid};
 ghost use Rattle.geometry_model.specs.FirstFaults.{validity_fault};
-ghost use Rattle.validity.specs.CheckFaults.{IsFaultOf};
+ghost use Rattle.validity.specs.CheckFaults.{IsFaultOf, IsStandingFaultOf, IsFirstFaultOf};
 ghost use Rattle.validity.specs.ValidGeometries.{HasLength};
 
 use crate::check_fault::CheckFault;
 use fraction::GridPoint;
-use geometry_model::Kind;
+use geometry_model::{Kind, ValidityFault};
 use orient::Segment;
 use std::alloc::{AllocError, Global};
 use std::marker::Model;
@@ -97,18 +97,36 @@ fn edges_from(
     Ok(segments)
 }
 
-/// Takes a geometry as valid where it has no fault, and otherwise answers its first fault: the faults are tested in
-/// their order, V1 to V8, and within one the least numbers first (06-103r4, 6.1.7, 6.1.11 and 6.1.14). Points need no
-/// test, and a LINESTRING has no fault but V1. It may fail for want of memory too.
-#[tactic(auto, using(crate::proofs::Lines::short_line, crate::proofs::Lines::no_fault, crate::proofs::Lines::no_fault_valid, crate::proofs::Lines::edges_are, crate::proofs::Lines::edges_have_length))]
-pub fn check(alloc: Global, geometry: Geometry) -> Result<Valid, CheckFault>
-    ensures same { IfOk result (λ valid. valid ≡ geometry) }
-    ensures faultless { OnOk result (validity_fault geometry ≡ None) }
-    ensures fault { IfErr result (IsFaultOf geometry) }
+/// The first fault of a geometry in the order of tests. Points have none, and a LINESTRING has one where it has one
+/// position.
+#[tactic(auto, using(crate::proofs::Lines::short_line, crate::proofs::Lines::no_fault))]
+fn first_fault(geometry: &Geometry) -> Option<ValidityFault>
+    ensures { result ≡ validity_fault geometry.now }
 {
     if geometry.line().len() == 1 {
-        return Err(CheckFault::TooFewPoints(0));
+        Some(ValidityFault::TooFewPoints(0))
+    } else {
+        None
     }
-    let segments = edges_of(alloc, geometry.line())?;
-    Ok(Valid { geometry, segments })
+}
+
+/// Takes a geometry as valid where it has no fault, and otherwise answers its first fault: the faults are tested in
+/// their order, V1 to V8, and within one the least numbers first (06-103r4, 6.1.7, 6.1.11.1 and 6.1.14; the order is
+/// this project's). Points need no test. It may fail for want of memory too.
+#[tactic(auto, using(crate::proofs::Lines::no_fault_valid, crate::proofs::Lines::edges_are, crate::proofs::Lines::edges_have_length))]
+pub fn check(alloc: Global, geometry: Geometry) -> Result<Valid, CheckFault>
+    ensures same { IfOk result (λ valid. valid ≡ geometry) }
+    ensures valid { OnOk result (IsValid geometry) }
+    ensures faultless { OnOk result (validity_fault geometry ≡ None) }
+    ensures fault { IfErr result (IsFaultOf geometry) }
+    ensures stands { IfErr result (IsStandingFaultOf geometry) }
+    ensures first { IfErr result (IsFirstFaultOf geometry) }
+{
+    match first_fault(&geometry) {
+        Some(fault) => Err(CheckFault::of(fault)),
+        None => {
+            let segments = edges_of(alloc, geometry.line())?;
+            Ok(Valid { geometry, segments })
+        }
+    }
 }

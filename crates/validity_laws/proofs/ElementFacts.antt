@@ -1,5 +1,5 @@
 -- The polygons of an area: some of a list that passes a test, and the rings that have a number.
-use Rattle.std.proofs.Common.{◌≡◌, ◌⊎◌, inl, inr, ℕ, zero, suc, ◌+◌, ◌-◌, ◌<◌, ◌≤◌, Bool, true, false, ◌||◌, List, [], ◌∷◌, length, Contains, Option, Some, None, nat_le, slice_get, slice_index_or, if◌then◌else◌, refl, sym, ap, ◌∙◌, subst, zero-lt-suc, suc-le-suc, le_of_suc-le-suc, leb-true, le-leb, arith}
+use Rattle.std.proofs.Common.{◌≡◌, ◌⊎◌, inl, inr, ℕ, zero, suc, ◌+◌, ◌-◌, ◌<◌, ◌≤◌, Bool, true, false, ◌||◌, List, [], ◌∷◌, length, Contains, Some, None, nat_le, slice_get, slice_index_or, if◌then◌else◌, refl, sym, ap, ◌∙◌, zero-lt-suc, suc-le-suc, le_of_suc-le-suc, leb-true, le-leb, arith}
 use Rattle.std.specs.List.{list_any}
 use Rattle.std.proofs.lemmas.Bool.{true≢false}
 use Rattle.geometry_model.specs.Points.{Position}

@@ -9,7 +9,7 @@ use Rattle.geometry_model.specs.Sides.{on}
 use Rattle.geometry_model.specs.Geometries.{Geometry, Edge, lines, edges_of_line, rings, elements}
 use Rattle.geometry_model.specs.Locations.{last_after}
 use Rattle.geometry_model.specs.WellKnownText.{same_position}
-use Rattle.geometry_model.specs.Validity.{is_short, ShareOther, Clash, IsNotSimple, RingsShare, inside, IsNotClosed, inside_element, Element, numbered_elements, IsRing, ElementsShare, HasFault}
+use Rattle.geometry_model.specs.Validity.{is_short, ShareOther, Clash, IsNotSimple, RingsShare, inside, IsNotClosed, inside_element, Element, numbered_elements, ElementsShare, HasFault}
 use Rattle.geometry_model.specs.FirstFaults.{share_point, share_other, clash, any_pair, is_not_simple, rings_share, is_not_closed, elements_share, test_of, test_of_both, ring_of, has_fault}
 use Rattle.geometry_model.specs.declared.validity_faults.ValidityFault.{ValidityFault}
 use Rattle.geometry_model.specs.declared.validity_faults.ValidityFault.TheVariants.{TooFewPoints, RingNotClosed, RingNotSimple, RingsMeet, HoleOutside, HolesNested, ElementsMeet, ElementInside}
@@ -296,9 +296,19 @@ nested_is g i j = (
       let parts = and_parts (nat_lt k.0.first i && nat_lt i j) (test_of_both one_in_the_other (ring_of k.0 i) (ring_of k.0 j)) k.2 in
       let orders = and_parts (nat_lt k.0.first i) (nat_lt i j) parts.0 in
       let t = (two_are one_in_the_other (ring_of k.0 i) (ring_of k.0 j)).0 parts.1 in
-      let r = ring_from k.0 i t.0 t.2 in let s = ring_from k.0 j t.1 t.3 in
-      (k.0, i - k.0.first, j - k.0.first, t.0, t.1, k.1, behind k.0.first i (ltb-true k.0.first i orders.0),
-      later_ring k.0.first (i - k.0.first) (j - k.0.first) i j r.0 s.0 (ltb-true i j orders.1), r, s, or_from (inside t.0 t.1) (inside t.1 t.0) t.4)),
+      let r = ring_from k.0 i t.0 t.2 in let s = ring_from k.0 j t.1 t.3 in (
+        k.0,
+        i - k.0.first,
+        j - k.0.first,
+        t.0,
+        t.1,
+        k.1,
+        behind k.0.first i (ltb-true k.0.first i orders.0),
+        later_ring k.0.first (i - k.0.first) (j - k.0.first) i j r.0 s.0 (ltb-true i j orders.1),
+        r,
+        s,
+        or_from (inside t.0 t.1) (inside t.1 t.0) t.4,
+      )),
   (λ t. some_yes (nested_test i j) (numbered_elements g) t.0 t.5
       (and_from (nat_lt t.0.first i && nat_lt i j) (test_of_both one_in_the_other (ring_of t.0 i) (ring_of t.0 j))
       (and_from (nat_lt t.0.first i) (nat_lt i j) (lt-ltb t.0.first i (past t.0.first t.1 i t.8.0 t.6)) (lt-ltb i j (greater_number t.0.first t.1 t.2 i j t.8.0 t.9.0 t.7)))

@@ -2,7 +2,7 @@
 use Rattle.std.proofs.Common.{◌≡◌, ◌⊎◌, inl, inr, ℕ, zero, suc, ◌<◌, Bool, true, false, List, [], ◌∷◌, ◌++◌, length, map, find, cond, Some, None, slice_index_or, refl, sym, ap, ◌∙◌, subst, arith}
 use Rattle.std.proofs.lemmas.List.{append_assoc}
 use Rattle.geometry_model.specs.Geometries.{Geometry, lines, rings}
-use Rattle.geometry_model.specs.FirstFaults.{has_fault, numbers, in_order, validity_fault}
+use Rattle.geometry_model.specs.FirstFaults.{has_fault, numbers, validity_fault}
 use Rattle.geometry_model.specs.declared.validity_faults.ValidityFault.{ValidityFault}
 use Rattle.geometry_model.specs.declared.validity_faults.ValidityFault.TheVariants.{TooFewPoints, RingNotClosed, RingNotSimple, RingsMeet, HoleOutside, HolesNested, ElementsMeet, ElementInside}
 use Rattle.geometry_laws.proofs.Each.{Each, Among, each_at, each_append, each_left}

@@ -5,3 +5,5 @@ pub mod FaultFacts
 pub mod FirstFaultFacts
 pub mod FirstPlace
 pub mod TestOrder
+pub mod ElementPlaces
+pub mod ValidParts

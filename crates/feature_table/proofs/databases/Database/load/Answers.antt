@@ -2,12 +2,13 @@ use Rattle.std.proofs.Common.{List, [], inr, refl, ◌∙◌, ◌≡◌, ap, ari
 use Rattle.std.proofs.lemmas.Iterator.Adapters.{YieldsList-from_vec}
 use Rattle.std.proofs.lemmas.Iterator.Consumers.{YieldsList-end, YieldsList-from_enumerate, YieldsList-turn}
 use Rattle.std.proofs.lemmas.List.FromFn.{length-enumerate_from}
-use Rattle.std.proofs.lemmas.List.{length_push}
+use Rattle.std.proofs.lemmas.List.{length-map, length_push}
 use Rattle.std.proofs.lemmas.Result.{err_from_is_err_and}
 use Rattle.std.specs.Iterator.Adapters.{enumerate_source}
 use Rattle.std.specs.Result.{is_ok}
 use Rattle.std.specs.Vec.Iter.{into_iter_items, into_iter_len}
-use Rattle.feature_table.proofs.DatabaseLemmas.{all_loaded, fault_loaded, length-tables, length-texts, loaded_more, no_definition, no_table, reader_at, table_at, text_at}
+use Rattle.feature_table.proofs.DatabaseLemmas.{all_loaded, fault_loaded, known_at, length-tables, length-texts, loaded_more, no_definition, no_table, reader_at, table_at, text_at}
+use Rattle.feature_table.proofs.ReaderRecords.{length-each}
 use Rattle.feature_table.proofs.EachLemmas.{passed_all, passed_fault, passed_front, passed_more}
 use Rattle.feature_table.proofs.GeometryFieldLemmas.{tables_database}
 use Rattle.feature_table.specs.GeometryFields.{GeometryValue, reading}
@@ -29,8 +30,12 @@ invariant_of-result g c =
     let t = YieldsList-end all c.loop-place.yielded _ (rw start at c.loop-place.yielded_by) c.next.result c.next.new.self c.in-None.is c.next.ensures.steps in
     let numbered = length-enumerate_from 0 readers in
     let n = length c.loop-place.yielded in
-    let some = all_loaded reading c.args.schema.now n c.loop-place.tables.items (λ (tables : List (Table GeometryValue)). tables) c.loop-place.tables.items c.loop-place.invariant.loaded (omega (arith, numbered, t.1, c.requires)) refl in
-    tables_database c.args.schema.now some.records c.loop-place.tables.items c.tables-definitions.ensures.lawful some.count some.loads
+    let known = map g.R.Read.remaining readers in
+    let many : length known ≡ length readers = simp length-map in
+    let some = all_loaded reading c.args.schema.now known n c.loop-place.tables.items (λ (tables : List (Table GeometryValue)). tables) c.loop-place.tables.items c.loop-place.invariant.loaded
+    (omega (arith, numbered, t.1, c.requires)) (omega (arith, many, c.requires)) refl in
+    let count : length some.records ≡ length c.args.schema.now = omega (arith, length-each known some.records some.are_of, many, c.requires) in
+    tables_database c.args.schema.now some.records c.loop-place.tables.items c.tables-definitions.ensures.lawful count some.loads
 
 pub loop-place-preserved : goal.loop-place-preserved
 loop-place-preserved g c =
@@ -59,8 +64,12 @@ loop-place-preserved g c =
           rw (longer, pushed) (passed_more tables n c.loop-place.tables.items c.in_ok-table.table no_table (omega (arith, whole, turned.0, c.requires))
           (c.loop-place.invariant.passed texts known) (table_at reading c.args.schema.now texts n no_definition no_table same (omega (arith, turned.0, c.requires)) ∙ here));
       loaded =
+          let known = map g.R.Read.remaining readers in
+          let many : length known ≡ length readers = simp length-map in
           let some = rw turned.1 at (c.in_ok-table.ensures.records no_definition) in
-          rw (longer, pushed) (loaded_more reading c.args.schema.now n c.loop-place.tables.items no_definition some.0 c.in_ok-table.table c.loop-place.invariant.loaded some.1);
+          let of = rw (known_at g.R.Read.remaining readers n c.in-Some.reader turned.0 turned.2) at some.1 in
+          rw (longer, pushed)
+          (loaded_more reading c.args.schema.now known n c.loop-place.tables.items no_definition some.0 c.in_ok-table.table c.loop-place.invariant.loaded (omega (arith, turned.0, many)) of some.2);
     }
 
 pub returns-in_err-table-clause-loads : goal.returns-in_err-table-clause-loads
@@ -148,11 +157,14 @@ returns-in_err-table-clause-records g c =
     let t = YieldsList-turn all c.loop-place.yielded _ (rw start at c.loop-place.yielded_by) c.next.result c.next.new.self (c.in-Some.place, c.in-Some.reader) c.in-Some.is c.next.ensures.steps in
     let n = length c.loop-place.yielded in
     let turned = reader_at readers n c.in-Some.place c.in-Some.reader t.0 t.1 in
+    let known = map g.R.Read.remaining readers in
+    let many : length known ≡ length readers = simp length-map in
     let some = rw turned.1 at (c.in_err-table.ensures.records no_definition) in
+    let of = rw (known_at g.R.Read.remaining readers n c.in-Some.reader turned.0 turned.2) at some.1 in
     let p = err_from_is_err_and c.from_residual.result c.from_residual.ensures.1 in
     rw (p.1, p.2)
-    (fault_loaded reading c.args.schema.now n c.loop-place.tables.items _ no_definition some.0 c.in_err-table.field-0.0 c.loop-place.invariant.loaded (omega (arith, turned.0, c.requires))
-    (c.in_err-table.ensures.place ∙ turned.1) some.1)
+    (fault_loaded reading c.args.schema.now known n c.loop-place.tables.items _ no_definition some.0 c.in_err-table.field-0.0 c.loop-place.invariant.loaded (omega (arith, turned.0, c.requires))
+    (omega (arith, many, c.requires)) (c.in_err-table.ensures.place ∙ turned.1) of some.2)
 
 pub returns-then-is_err-clause-records : goal.returns-then-is_err-clause-records
 returns-then-is_err-clause-records g c =
@@ -166,9 +178,13 @@ returns-then-is_err-clause-records g c =
     let t = YieldsList-turn all c.loop-place.yielded _ (rw start at c.loop-place.yielded_by) c.next.result c.next.new.self (c.in-Some.place, c.in-Some.reader) c.in-Some.is c.next.ensures.steps in
     let n = length c.loop-place.yielded in
     let turned = reader_at readers n c.in-Some.place c.in-Some.reader t.0 t.1 in
+    let known = map g.R.Read.remaining readers in
+    let many : length known ≡ length readers = simp length-map in
+    let some = rw turned.1 at (c.in_ok-table.ensures.records no_definition) in
+    let of = rw (known_at g.R.Read.remaining readers n c.in-Some.reader turned.0 turned.2) at some.1 in
     rw turned.1
-    (fault_loaded reading c.args.schema.now n c.loop-place.tables.items _ no_definition [] (record { table = n; fault = fault.OutOfMemory }) c.loop-place.invariant.loaded (omega (arith, turned.0, c.requires))
-    refl (λ other. absurd (other (inr refl))))
+    (fault_loaded reading c.args.schema.now known n c.loop-place.tables.items _ no_definition some.0 (record { table = n; fault = fault.OutOfMemory }) c.loop-place.invariant.loaded
+    (omega (arith, turned.0, c.requires)) (omega (arith, many, c.requires)) refl of (λ other. absurd (other (inr refl))))
 
 pub returns-clause-records : goal.returns-clause-records
 returns-clause-records g c =
@@ -181,7 +197,10 @@ returns-clause-records g c =
     let all = YieldsList-from_enumerate {s = items} source c.enumerate-place-items.ensures.count in
     let t = YieldsList-end all c.loop-place.yielded _ (rw start at c.loop-place.yielded_by) c.next.result c.next.new.self c.in-None.is c.next.ensures.steps in
     let numbered = length-enumerate_from 0 readers in
-    all_loaded reading c.args.schema.now (length c.loop-place.yielded) c.loop-place.tables.items _ _ c.loop-place.invariant.loaded (omega (arith, numbered, t.1, c.requires)) refl
+    let known = map g.R.Read.remaining readers in
+    let many : length known ≡ length readers = simp length-map in
+    all_loaded reading c.args.schema.now known (length c.loop-place.yielded) c.loop-place.tables.items _ _ c.loop-place.invariant.loaded (omega (arith, numbered, t.1, c.requires))
+    (omega (arith, many, c.requires)) refl
 
 pub returns-clause-database : goal.returns-clause-database
 returns-clause-database g c =
@@ -195,5 +214,9 @@ returns-clause-database g c =
     let t = YieldsList-end all c.loop-place.yielded _ (rw start at c.loop-place.yielded_by) c.next.result c.next.new.self c.in-None.is c.next.ensures.steps in
     let numbered = length-enumerate_from 0 readers in
     let n = length c.loop-place.yielded in
-    let some = all_loaded reading c.args.schema.now n c.loop-place.tables.items (λ (tables : List (Table GeometryValue)). tables) c.loop-place.tables.items c.loop-place.invariant.loaded (omega (arith, numbered, t.1, c.requires)) refl in
-    tables_database c.args.schema.now some.records c.loop-place.tables.items c.tables-definitions.ensures.lawful some.count some.loads
+    let known = map g.R.Read.remaining readers in
+    let many : length known ≡ length readers = simp length-map in
+    let some = all_loaded reading c.args.schema.now known n c.loop-place.tables.items (λ (tables : List (Table GeometryValue)). tables) c.loop-place.tables.items c.loop-place.invariant.loaded
+    (omega (arith, numbered, t.1, c.requires)) (omega (arith, many, c.requires)) refl in
+    let count : length some.records ≡ length c.args.schema.now = omega (arith, length-each known some.records some.are_of, many, c.requires) in
+    tables_database c.args.schema.now some.records c.loop-place.tables.items c.tables-definitions.ensures.lawful count some.loads

@@ -11,5 +11,5 @@ invariant-loop-place g l = record {
   count : vec_len l.tables ≡ length l.yielded;
   passed : (texts : List (List ℕ)) → map g.R.Read.remaining l.fn.readers.items ≡ map Some texts
       → Passed (loaded_tables reading l.schema (map records_in texts)) (length l.yielded) l.tables.items;
-  loaded : HaveLoaded reading l.schema (length l.yielded) l.tables.items;
+  loaded : HaveLoaded reading l.schema (map g.R.Read.remaining l.fn.readers.items) (length l.yielded) l.tables.items;
 }

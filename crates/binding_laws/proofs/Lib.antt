@@ -1,0 +1,4 @@
+pub mod Filtering
+pub mod WrittenConjuncts
+pub mod WrittenInduction
+pub mod BoundFacts
