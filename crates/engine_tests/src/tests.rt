@@ -341,7 +341,18 @@ fn geometries_are_refused(rt: HostRuntime) -> Result<(), Fail> {
         ("POINT(1 2", "POINT(0 0)", "sfq: first W1 at 9\n"),
         ("POINT(1e0 2)", "POINT(0 0)", "sfq: first W1 at 7\n"),
         ("POINT(1 2", "POINT(1.5 2)", "sfq: first W1 at 9\n"),
-        ("LINESTRING(0 0,1 1)", "POINT(0 0)", "sfq: first W1 at 0\n"),
+        (
+            "LINESTRING(0 0,1 1)",
+            "POINT(0 0)",
+            "sfq: first not served yet\n",
+        ),
+        (
+            "POINT(0 0)",
+            "LINESTRING EMPTY",
+            "sfq: second not served yet\n",
+        ),
+        ("LINESTRING(0 0,1 1)", "POINT(0 0", "sfq: second W1 at 9\n"),
+        ("LINESTRING(3 3,3 3)", "POINT(0 0)", "sfq: first V1 0\n"),
         (
             "POINT(0 0)",
             " Polygon((0 0,4 0,4 4,0 0))",

@@ -2,21 +2,23 @@
 
 ghost use Rattle.std.specs.Prelude.{◌≡◌};
 ghost use Rattle.std.specs.List.{list_any};
+ghost use Rattle.geometry_model.specs.Geometries.{kind};
 ghost use Rattle.geometry_model.specs.Locations as spec;
 
 use fraction::{GridPoint, RatPoint};
 use geometry_model::{Kind, Location};
 use validity::Valid;
 
-/// Where a point stands in a geometry (06-103r4, 6.1.15.2). Of points the listed ones are the interior, and the boundary
+/// Where a point stands in a geometry of points (06-103r4, 6.1.15.2). Of points the listed ones are the interior, and the boundary
 /// is empty (06-103r4, 6.1.4 and 6.1.5).
 pub fn locate(valid: &Valid, p: &RatPoint) -> Location
+    requires { kind valid.now ≡ Kind.Point }
     ensures { result ≡ spec.locate valid.now p.now }
 {
     let geometry = valid.geometry();
     match geometry.kind() {
         Kind::Point => locate_in_points(geometry.listed(), p),
-        Kind::Line | Kind::Area => unreachable!("no geometry of these kinds is made yet"),
+        Kind::Line | Kind::Area => unreachable!("asked of points alone"),
     }
 }
 

@@ -2,9 +2,18 @@
 
 use crate::{Location, locate};
 use fraction::{GridPoint, RatPoint};
+use geometry_model::Kind;
 use std::test::Fail;
-use validity::check;
+use validity::{Valid, check};
 use wkt::read;
+
+// Where a point stands in a geometry of points.
+fn located(valid: &Valid, p: &RatPoint) -> Result<Location, Fail> {
+    match valid.kind() {
+        Kind::Point => Ok(locate(valid, p)),
+        _ => Err(Fail::from("not of points")),
+    }
+}
 
 #[test]
 fn points_in_listed_points(rt: HostRuntime) -> Result<(), Fail> {
@@ -21,16 +30,16 @@ fn points_in_listed_points(rt: HostRuntime) -> Result<(), Fail> {
     for (text, (x, y), location) in cases {
         let valid = check(rt.alloc(), read(rt.alloc(), text)?)?;
         let p = RatPoint::of_grid(GridPoint::new(x, y).ok_or("past the limit")?);
-        assert_eq!(rt; locate(&valid, &p), location, "{p:?}");
+        assert_eq!(rt; located(&valid, &p)?, location, "{p:?}");
     }
     // The numerators alone are those of the listed position.
     let valid = check(rt.alloc(), read(rt.alloc(), b"POINT(3 1)")?)?;
     assert_eq!(rt;
-        locate(&valid, &RatPoint::reduced(3, 1, 2)),
+        located(&valid, &RatPoint::reduced(3, 1, 2))?,
         Location::Exterior
     );
     assert_eq!(rt;
-        locate(&valid, &RatPoint::reduced(6, 2, 2)),
+        located(&valid, &RatPoint::reduced(6, 2, 2))?,
         Location::Interior
     );
     Ok(())

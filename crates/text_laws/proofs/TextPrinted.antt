@@ -29,7 +29,7 @@ all_kept Q [] all = tt
 all_kept Q (x ∷ xs) all = all_from Q x xs all.0 all.1
 
 -- what is kept behind the first
-abbrev rest_from : Position → List Position → List Position
+abbrev pub rest_from : Position → List Position → List Position
 rest_from k [] = []
 rest_from k (x ∷ xs) = cond (same_position x k) (rest_from k xs) (x ∷ rest_from x xs)
 
@@ -38,7 +38,7 @@ first_and_rest : (k x : Position) (xs : List Position) (same : Bool) → dedup_f
 first_and_rest k x xs true e f = e
 first_and_rest k x xs false e f = ap (λ r. k ∷ r) f
 
-from_rest : (k : Position) (xs : List Position) → dedup_from same_position k xs ≡ k ∷ rest_from k xs
+pub from_rest : (k : Position) (xs : List Position) → dedup_from same_position k xs ≡ k ∷ rest_from k xs
 from_rest k [] = refl
 from_rest k (x ∷ xs) = first_and_rest k x xs (same_position x k) (from_rest k xs) (from_rest x xs)
 

@@ -31,6 +31,32 @@ fn points_are_valid(rt: HostRuntime) -> Result<(), Fail> {
 }
 
 #[test]
+fn lines_have_two_positions_or_none(rt: HostRuntime) -> Result<(), Fail> {
+    // The text, and the places of its positions.
+    let cases: [(&[u8], &[(i32, i32)]); 4] = [
+        (b"LINESTRING EMPTY", &[]),
+        (b"LINESTRING(0 0,1 1)", &[(0, 0), (1, 1)]),
+        (b"LINESTRING(0 0,0 0,1 1,1 1,0 0)", &[(0, 0), (1, 1), (0, 0)]),
+        (b"linestring(-1 2, 3 4, 5 -6)", &[(-1, 2), (3, 4), (5, -6)]),
+    ];
+    for (text, places) in cases {
+        let valid = check(rt.alloc(), read(rt.alloc(), text)?)?;
+        assert_eq!(rt; valid.kind(), Kind::Line);
+        assert_eq!(rt; valid.is_empty(), places.is_empty());
+        assert_eq!(rt; valid.segments().len(), places.len().saturating_sub(1));
+        for (at, segment) in valid.segments().iter().enumerate() {
+            assert!(rt; Some(segment.start()) == GridPoint::new(places[at].0, places[at].1));
+            assert!(rt; Some(segment.end()) == GridPoint::new(places[at + 1].0, places[at + 1].1));
+        }
+    }
+    for text in ["LINESTRING(3 3)", "LINESTRING(3 3,3 3)"] {
+        let fault = check(rt.alloc(), read(rt.alloc(), text.as_bytes())?).err();
+        assert_eq!(rt; fault, Some(CheckFault::TooFewPoints(0)));
+    }
+    Ok(())
+}
+
+#[test]
 fn refusals_tell_the_fault(rt: HostRuntime) {
     let cases = [
         (

@@ -1,12 +1,12 @@
 -- Each geometry that a text spells is kept.
-use Rattle.std.proofs.Common.{◌≡◌, ◌≢◌, ℕ, ◌<◌, ℤ, Bool, true, false, cond, List, [], ◌∷◌, length, map, refl, sym, subst, arith, zero-lt-suc}
+use Rattle.std.proofs.Common.{◌≡◌, ◌≢◌, ℕ, ◌<◌, ℤ, Bool, true, false, cond, List, [], ◌∷◌, length, map, refl, sym, subst, arith, ◌≤◌, zero-le, zero-lt-suc}
 use Rattle.std.specs.List.{All, dedup_from}
 use Rattle.std.specs.Ordering.{int_eq}
 use Rattle.std.proofs.lemmas.Int.{ints}
 use Rattle.std.proofs.lemmas.List.Elements.{All-nil, All-cons, All-append}
 use Rattle.geometry_model.specs.Points.{Position}
 use Rattle.geometry_model.specs.Geometries.{Geometry, Point, MultiPoint, LineString, MultiLineString, Polygon, MultiPolygon, joined_rings, Edge, edges, edges_of_line, edges_of_lines}
-use Rattle.geometry_model.specs.WellKnownText.{Separated, LineText, PolygonText, Body, TaggedText, written_parts, same_position, without_repeats, geometry_of}
+use Rattle.geometry_model.specs.WellKnownText.{Separated, LineText, PolygonText, Body, TaggedText, position_limit, written_parts, same_position, without_repeats, geometry_of}
 use Rattle.text_laws.proofs.TextPrinted.{counts_again, rings_kept}
 use Rattle.wkt.specs.KeptGeometries.{IsKept, SpelledIsKept}
 
@@ -112,6 +112,14 @@ parts_have_positions (LineString ps) text t = All-nil HasPositions
 parts_have_positions (MultiLineString ls) text t = body_has_positions ls t.1 t.4
 parts_have_positions (Polygon rs) text t = body_has_positions rs t.1 t.4
 parts_have_positions (MultiPolygon es) text t = polygon_body_has_positions es t.1 t.4
+
+-- a line without repeats is kept
+pub line_is_kept : (ps : List Position) → length ps ≤ position_limit → without_repeats ps ≡ ps → IsKept (LineString ps)
+line_is_kept ps few steady = record {
+  counts = (few, zero-le);
+  ends_differ = subst (λ l. All Apart (edges_of_lines (l ∷ []))) steady (lines_apart (ps ∷ []));
+  parts_have_positions = All-nil HasPositions;
+}
 
 pub spelled_is_kept : SpelledIsKept
 spelled_is_kept text g spelled =

@@ -1,5 +1,6 @@
 pub mod Bodies
 pub mod Digits
-mod KeptFacts
+pub mod KeptFacts
+pub mod Repeats
 mod PrintLemmas
 pub mod Wholes

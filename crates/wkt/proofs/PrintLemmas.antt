@@ -1,5 +1,5 @@
 -- The parts of a canonical text.
-use Rattle.std.proofs.Common.{◌≡◌, ℕ, List, [], ◌∷◌, ◌++◌, length, map, codes, Option, Some, Result, Ok, Err, OnOk, arith, refl, sym, ◌∙◌, ap, subst, append_assoc, append-nil}
+use Rattle.std.proofs.Common.{◌≡◌, ℕ, List, [], ◌∷◌, ◌++◌, length, map, codes, Option, Some, Result, Ok, Err, OnOk, arith, refl, sym, ◌∙◌, ap, ap₂, subst, append_assoc, append-nil}
 use Rattle.std.specs.List.{concat, join_with_byte}
 use Rattle.std.specs.Io.KnownBytes.{Appends}
 use Rattle.geometry_model.specs.Points.{Position}
@@ -45,6 +45,33 @@ multi_point_split points p more split =
 pub multi_point_empty : (ps : List Position) → length ps ≡ 0 → codes "MULTIPOINT EMPTY" ≡ tagged_text (codes "MULTIPOINT") (map point_text ps)
 multi_point_empty [] none = refl
 multi_point_empty (p ∷ ps) none = absurd (omega arith)
+
+-- the first position of a LINESTRING with what stands before it, and the others, each with a comma before it
+abbrev pub line_first : Position → List ℕ
+line_first p = codes "LINESTRING(" ++ position_text p ++ codes ""
+
+abbrev pub line_more : List Position → List ℕ
+line_more more = concat (map (λ p. codes "," ++ position_text p ++ codes "") more)
+
+bare_more : (more : List Position) → line_more more ≡ concat (map (λ p. 44 ∷ position_text p) more)
+bare_more [] = refl
+bare_more (p ∷ more) = ap₂ (λ a b. 44 ∷ (a ++ b)) (append-nil (position_text p)) (bare_more more)
+
+line_parts : (p : Position) (more : List Position) → line_first p ++ (line_more more ++ codes ")") ≡ tagged_text (codes "LINESTRING") (map position_text (p ∷ more))
+line_parts p more =
+    ap (λ l. codes "LINESTRING(" ++ l)
+    (ap₂ (λ a b. a ++ (b ++ codes ")")) (append-nil (position_text p)) (bare_more more)
+    ∙ (sym (append_assoc (position_text p) (concat (map (λ q. 44 ∷ position_text q) more)) (codes ")"))
+    ∙ ap (λ l. l ++ codes ")") (join-first 44 position_text (position_text p) more)))
+
+-- the parts of a LINESTRING, joined
+pub line_split : (ps : List Position) (p : Position) (more : List Position) → ps ≡ p ∷ more → line_first p ++ (line_more more ++ codes ")") ≡ tagged_text (codes "LINESTRING") (map position_text ps)
+line_split ps p more split = line_parts p more ∙ ap (λ qs. tagged_text (codes "LINESTRING") (map position_text qs)) (sym split)
+
+-- the text of a LINESTRING without positions
+pub line_empty : (ps : List Position) → length ps ≡ 0 → codes "LINESTRING EMPTY" ≡ tagged_text (codes "LINESTRING") (map position_text ps)
+line_empty [] none = refl
+line_empty (p ∷ ps) none = absurd (omega arith)
 
 -- what was put into a sink without bytes is what it holds
 held-text : (old new : Option (List ℕ)) (held text : List ℕ) → old ≡ Some [] → new ≡ Some held → Appends old new text → held ≡ text

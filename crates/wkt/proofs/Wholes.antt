@@ -3,8 +3,7 @@ use Rattle.std.proofs.Common.{◌≡◌, refl, sym, ap, ◌∙◌, ℕ, Bool, tr
 use Rattle.std.specs.Char.{is_ascii_alphabetic}
 use Rattle.std.specs.List.{prefix_len}
 use Rattle.geometry_model.specs.CanonicalText.{canonical_text}
-use Rattle.geometry_model.specs.Geometries.{Geometry, Point, MultiPoint, LineString, MultiLineString, Polygon, MultiPolygon, kind}
-use Rattle.geometry_model.specs.declared.shapes.Kind.TheVariants as kinds
+use Rattle.geometry_model.specs.Geometries.{Geometry, Point, MultiPoint, LineString, MultiLineString, Polygon, MultiPolygon}
 use Rattle.text_laws.proofs.TextPrinted.{canonical_text_spells}
 use Rattle.geometry_model.specs.TextReading.{Input, Reader, ◌>>◌, and_then, pure, refuse, after, run, end, typed, tagged, whole, outcome, read_text}
 use Rattle.geometry_model.specs.WellKnownText.{is_white, geometry_of, Spells}
@@ -15,7 +14,7 @@ use Rattle.text_laws.proofs.RefusedTexts.{answer_stands}
 use Rattle.geometry_model.specs.declared.text_faults.TextFault.{TextFault}
 use Rattle.geometry_model.specs.declared.text_faults.TextFault.TheVariants.{Syntax}
 use Rattle.wkt.specs.ReadingSteps.{ReadsInMemory, meant}
-use Rattle.wkt.specs.Served.{behind_white, word, comes_later, IsServed, read_served, IsReadAs}
+use Rattle.wkt.specs.Served.{behind_white, word, comes_later, IsOfServedType, IsServed, read_served, IsReadAs}
 use Rattle.wkt.specs.ServedSteps.{typed_served, tagged_served, whole_served}
 use Rattle.wkt.specs.TextFaults.{text_fault}
 use Rattle.wkt.specs.declared.wkt_fault.WktFault.{WktFault}
@@ -132,18 +131,19 @@ pub refused_stands : (text : List ℕ) (r : Result Geometry WktFault) → IfErr 
 refused_stands text (Ok g) h served = tt
 refused_stands text (Err e) h served = fault_stands text served (text_fault e) h
 
-canonical_is_served : (g : Geometry) → kind g ≡ kinds.Point → IsServed (canonical_text g)
+canonical_is_served : (g : Geometry) → IsOfServedType g → IsServed (canonical_text g)
 canonical_is_served (Point None) is = refl
 canonical_is_served (Point (Some p)) is = refl
 canonical_is_served (MultiPoint []) is = refl
 canonical_is_served (MultiPoint (p ∷ ps)) is = refl
-canonical_is_served (LineString ps) is = let no : kinds.Line ≡ kinds.Point = is in cc
-canonical_is_served (MultiLineString ls) is = let no : kinds.Line ≡ kinds.Point = is in cc
-canonical_is_served (Polygon rs) is = let no : kinds.Area ≡ kinds.Point = is in cc
-canonical_is_served (MultiPolygon es) is = let no : kinds.Area ≡ kinds.Point = is in cc
+canonical_is_served (LineString []) is = refl
+canonical_is_served (LineString (p ∷ ps)) is = refl
+canonical_is_served (MultiLineString ls) is = absurd is
+canonical_is_served (Polygon rs) is = absurd is
+canonical_is_served (MultiPolygon es) is = absurd is
 
 -- the canonical text of what is read is read as the same
-pub canonical_is_read : (text : List ℕ) (r : Result Geometry WktFault) → IfOk r (λ g. Spells text g) → IfOk r (λ g. kind g ≡ kinds.Point)
+pub canonical_is_read : (text : List ℕ) (r : Result Geometry WktFault) → IfOk r (λ g. Spells text g) → IfOk r IsOfServedType
     → IfOk r (λ g. read_served (canonical_text g) ≡ Ok g)
 canonical_is_read text (Ok g) spelled points = read_as (canonical_text g) g (canonical_is_served g points) (canonical_text_spells text g spelled)
 canonical_is_read text (Err e) spelled points = tt

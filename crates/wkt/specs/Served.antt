@@ -1,9 +1,10 @@
--- Well-known text of the types that are served: of points. The words of the other types are none yet.
-use Rattle.std.specs.Prelude.{◌≡◌, ℕ, ◌||◌, Bool, false, if◌then◌else◌, List, take, drop, Result, Ok, Err, codes}
+-- Well-known text of the types that are served: of points and LINESTRINGs. The words of the other types are none yet.
+use Rattle.std.specs.Prelude.{◌≡◌, ℕ, ◌||◌, Bool, false, if◌then◌else◌, List, [], take, drop, Result, Ok, Err, codes}
 use Rattle.std.specs.Char.{is_ascii_alphabetic}
 use Rattle.std.specs.List.{prefix_len}
 use Rattle.std.specs.Str.{str_eq_ignore_ascii_case}
-use Rattle.geometry_model.specs.Geometries.{Geometry}
+use Rattle.geometry_model.specs.Points.{Position}
+use Rattle.geometry_model.specs.Geometries.{Geometry, Point, MultiPoint, LineString, MultiLineString, Polygon, MultiPolygon}
 use Rattle.geometry_model.specs.WellKnownText.{is_white}
 use Rattle.geometry_model.specs.TextReading.{read_text}
 use Rattle.geometry_model.specs.declared.text_faults.TextFault.{TextFault}
@@ -22,10 +23,27 @@ word text = take (prefix_len is_ascii_alphabetic text) text
 -- the word of a type that is not served yet, in any ASCII case (06-103r4, 7.2.2: the tagged texts)
 abbrev pub comes_later : List ℕ → Bool
 comes_later name =
-    str_eq_ignore_ascii_case name (codes "LINESTRING")
-    || str_eq_ignore_ascii_case name (codes "MULTILINESTRING")
+    str_eq_ignore_ascii_case name (codes "MULTILINESTRING")
     || str_eq_ignore_ascii_case name (codes "POLYGON")
     || str_eq_ignore_ascii_case name (codes "MULTIPOLYGON")
+
+-- the geometry is of a type that is served
+abbrev pub IsOfServedType : Geometry → Type 0
+IsOfServedType (Point p) = Unit {0}
+IsOfServedType (MultiPoint ps) = Unit {0}
+IsOfServedType (LineString ps) = Unit {0}
+IsOfServedType (MultiLineString ls) = ⊥
+IsOfServedType (Polygon rs) = ⊥
+IsOfServedType (MultiPolygon es) = ⊥
+
+-- the positions of a LINESTRING, from its start to its end; other types have none (06-103r4, 6.1.7)
+abbrev pub line_of : Geometry → List Position
+line_of (Point p) = []
+line_of (MultiPoint ps) = []
+line_of (LineString ps) = ps
+line_of (MultiLineString ls) = []
+line_of (Polygon rs) = []
+line_of (MultiPolygon es) = []
 
 -- the text doesn't name such a type (profile)
 abbrev pub IsServed : List ℕ → Type 0

@@ -1,5 +1,5 @@
 -- What a geometry's content stands for.
-use Rattle.geometry_model.specs.Geometries.{Geometry, Point, MultiPoint}
+use Rattle.geometry_model.specs.Geometries.{Geometry, Point, MultiPoint, LineString}
 use Rattle.wkt.specs.declared.geometry.Shape.{Shape}
 use Rattle.wkt.specs.declared.geometry.Shape.TheVariants as shape
 
@@ -7,3 +7,4 @@ use Rattle.wkt.specs.declared.geometry.Shape.TheVariants as shape
 abbrev pub geometry_in : Shape → Geometry
 geometry_in (shape.Point position) = Point position
 geometry_in (shape.MultiPoint positions) = MultiPoint positions.items
+geometry_in (shape.LineString positions) = LineString positions.items

@@ -2,7 +2,8 @@
 
 ghost use Rattle.std.specs.Prelude.{◌≡◌, ◌≤◌, vec_len};
 ghost use Rattle.geometry_model.specs.Geometries as spec;
-ghost use Rattle.geometry_model.specs.WellKnownText.{position_limit};
+ghost use Rattle.geometry_model.specs.WellKnownText.{position_limit, without_repeats};
+ghost use Rattle.wkt.specs.Served.{IsOfServedType, line_of};
 ghost use Rattle.wkt.specs.KeptGeometries.{IsKept};
 ghost use Rattle.wkt.specs.Shapes.{geometry_in};
 
@@ -13,7 +14,7 @@ use std::slice;
 
 /// A geometry, which contracts see as its type and the positions of that type. It has at most 10,000 positions and
 /// 1,000 rings or elements, none of these without positions, and neighbouring positions of a line or ring differ
-/// (06-103r4, 6.1.4 to 6.1.11; the counts and repeats: profile). Of the types, points are served.
+/// (06-103r4, 6.1.4 to 6.1.11). Of the types, points and LINESTRINGs are served.
 #[derive(Debug, Drop)]
 pub struct Geometry {
     shape: Shape,
@@ -24,6 +25,7 @@ pub struct Geometry {
 pub(crate) enum Shape {
     Point(Option<GridPoint>),
     MultiPoint(Vec<GridPoint>),
+    LineString(Vec<GridPoint>),
 }
 
 impl Model for Geometry {
@@ -59,6 +61,18 @@ impl Geometry {
         }
     }
 
+    /// The LINESTRING through these positions, in their order, of which no two neighbours are one. It takes no memory.
+    #[tactic(auto, using(crate::proofs::KeptFacts::line_is_kept))]
+    pub(crate) fn line_string(positions: Vec<GridPoint>) -> Geometry
+        requires counted { vec_len positions ≤ position_limit }
+        requires no_repeats { without_repeats positions.items ≡ positions.items }
+        ensures { result ≡ spec.LineString positions.items }
+    {
+        Geometry {
+            shape: Shape::LineString(positions),
+        }
+    }
+
     /// Lends the content.
     pub(crate) fn shape(&self) -> &Shape
         ensures { self.now ≡ geometry_in result.now }
@@ -69,18 +83,19 @@ impl Geometry {
     /// Its type (06-103r4, 6.1.2.2: GeometryType).
     pub fn geometry_type(&self) -> GeometryType
         ensures value { result ≡ spec.type_of self.now }
-        ensures served { spec.kind self.now ≡ Kind.Point }
+        ensures served { IsOfServedType self.now }
     {
         match &self.shape {
             Shape::Point(_) => GeometryType::Point,
             Shape::MultiPoint(_) => GeometryType::MultiPoint,
+            Shape::LineString(_) => GeometryType::LineString,
         }
     }
 
     /// Its kind: points, lines or areas, also where it is empty (06-103r4, 6.1.15.3).
     pub fn kind(&self) -> Kind
         ensures value { result ≡ spec.kind self.now }
-        ensures served { spec.kind self.now ≡ Kind.Point }
+        ensures served { IsOfServedType self.now }
     {
         match self.geometry_type() {
             GeometryType::Point | GeometryType::MultiPoint => Kind::Point,
@@ -95,7 +110,7 @@ impl Geometry {
     {
         match &self.shape {
             Shape::Point(position) => position.is_none(),
-            Shape::MultiPoint(positions) => positions.is_empty(),
+            Shape::MultiPoint(positions) | Shape::LineString(positions) => positions.is_empty(),
         }
     }
 
@@ -108,6 +123,19 @@ impl Geometry {
             Shape::Point(None) => &[],
             Shape::Point(Some(position)) => slice::from_ref(position),
             Shape::MultiPoint(positions) => positions.as_slice(),
+            Shape::LineString(_) => &[],
+        }
+    }
+
+    /// Lends the positions of a LINESTRING, from its start to its end; other types have none (06-103r4, 6.1.7).
+    pub fn line(&self) -> &[GridPoint]
+        ensures line { result.now ≡ line_of self.now }
+        ensures served { IsOfServedType self.now }
+        ensures kept { IsKept self.now }
+    {
+        match &self.shape {
+            Shape::LineString(positions) => positions.as_slice(),
+            Shape::Point(_) | Shape::MultiPoint(_) => &[],
         }
     }
 }

@@ -91,6 +91,7 @@ fn what_is_printed_is_read_as_the_same(rt: HostRuntime) -> Result<(), Fail> {
         ("point empty", "POINT EMPTY"),
         (" POINT ( +1.00 -01 ) ", "POINT(1 -1)"),
         ("MULTIPOINT\tEMPTY", "MULTIPOINT EMPTY"),
+        ("LINESTRING(0 0,0 0,1 1 ,1 1)", "LINESTRING(0 0,1 1)"),
         (
             "multipoint(0 0, ( 3 4.) ,-0 .0)",
             "MULTIPOINT((0 0),(3 4),(0 0))",

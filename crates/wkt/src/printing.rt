@@ -26,6 +26,7 @@ pub fn print<S: Sink>(geometry: &Geometry, sink: &mut S) -> Result<(), SinkFault
     match geometry.shape() {
         Shape::Point(position) => put_point(sink, *position),
         Shape::MultiPoint(points) => put_multi_point(sink, points.as_slice()),
+        Shape::LineString(positions) => put_line_string(sink, positions.as_slice()),
     }
 }
 
@@ -51,20 +52,41 @@ fn put_multi_point<S: Sink>(sink: &mut S, points: &[GridPoint]) -> Result<(), Si
         None => put_all(sink, b"MULTIPOINT EMPTY"),
         Some((first, more)) => {
             put_position(sink, b"MULTIPOINT((", first, b")")?;
-            put_more_points(sink, more)?;
+            put_more(sink, b",(", more, b")")?;
             put_all(sink, b")")
         }
     }
 }
 
-// Puts the texts of these points of a MULTIPOINT, with a comma before each.
-fn put_more_points<S: Sink>(sink: &mut S, points: &[GridPoint]) -> Result<(), SinkFault>
-    ensures ok { OnOk result (Appends (S.taken sink.old) (S.taken sink.new) (concat (map (λ p. codes "," ++ point_text p) points.now))) }
-    ensures front { OnErr result (AppendsFront (S.taken sink.old) (S.taken sink.new) (concat (map (λ p. codes "," ++ point_text p) points.now))) }
+// Puts the text of the LINESTRING through these positions.
+fn put_line_string<S: Sink>(sink: &mut S, positions: &[GridPoint]) -> Result<(), SinkFault>
+    ensures ok { OnOk result (Appends (S.taken sink.old) (S.taken sink.new) (tagged_text (codes "LINESTRING") (map position_text positions.now))) }
+    ensures front { OnErr result (AppendsFront (S.taken sink.old) (S.taken sink.new) (tagged_text (codes "LINESTRING") (map position_text positions.now))) }
     ensures failures { CountsFailure (S.failures sink.old) (S.failures sink.new) result }
 {
-    for point in points {
-        put_position(sink, b",(", point, b")")?;
+    match positions.split_first() {
+        None => put_all(sink, b"LINESTRING EMPTY"),
+        Some((first, more)) => {
+            put_position(sink, b"LINESTRING(", first, b"")?;
+            put_more(sink, b",", more, b"")?;
+            put_all(sink, b")")
+        }
+    }
+}
+
+// Puts the texts of these positions, with these texts before and behind each.
+fn put_more<'p, S: Sink>(
+    sink: &mut S,
+    before: &'p [u8],
+    positions: &[GridPoint],
+    behind: &'p [u8],
+) -> Result<(), SinkFault>
+    ensures ok { OnOk result (Appends (S.taken sink.old) (S.taken sink.new) (concat (map (λ p. before.now ++ position_text p ++ behind.now) positions.now))) }
+    ensures front { OnErr result (AppendsFront (S.taken sink.old) (S.taken sink.new) (concat (map (λ p. before.now ++ position_text p ++ behind.now) positions.now))) }
+    ensures failures { CountsFailure (S.failures sink.old) (S.failures sink.new) result }
+{
+    for point in positions {
+        put_position(sink, before, point, behind)?;
     }
     Ok(())
 }

@@ -1,15 +1,16 @@
 //! Reads well-known text. Each function ensures the outcome of the reader of its name in `specs/TextReading.antt` of
 //! `geometry_model`.
 
-ghost use Rattle.std.specs.Prelude.{◌≡◌, ◌≤◌, IfOk, IfErr, IfSome, Ok, Err, vec_len};
+ghost use Rattle.std.specs.Prelude.{◌≡◌, ◌≤◌, ◌+◌, ◌++◌, [], ◌∷◌, cond, IfOk, OnOk, IfErr, IfSome, Ok, Err, vec_len};
 ghost use Rattle.std.specs.Option.{option_to_list};
 ghost use Rattle.geometry_model.specs.CanonicalText.{canonical_text};
 ghost use Rattle.geometry_model.specs.Geometries as shapes;
 ghost use Rattle.geometry_model.specs.TextReading as spec;
 ghost use Rattle.geometry_model.specs.TextRefusals.{IsRefused};
-ghost use Rattle.geometry_model.specs.WellKnownText.{position_limit, Spells};
-ghost use Rattle.wkt.specs.ReadingSteps.{ReadsAs, ReadsInMemory, empty_word, meant};
-ghost use Rattle.wkt.specs.Served.{read_served, IsServed, IsReadAs};
+ghost use Rattle.geometry_model.specs.WellKnownText.{position_limit, without_repeats, Spells};
+ghost use Rattle.wkt.specs.ReadingSteps.{ReadsAs, ReadsInMemory, empty_word, meant, repeats};
+ghost use Rattle.wkt.specs.ReadingSteps as steps;
+ghost use Rattle.wkt.specs.Served.{read_served, IsOfServedType, IsServed, IsReadAs};
 ghost use Rattle.wkt.specs.ServedSteps.{typed_served, tagged_served, whole_served};
 ghost use Rattle.wkt.specs.TextFaults.{text_fault};
 
@@ -17,7 +18,7 @@ use crate::cursor::{ByteClass, Cursor};
 use crate::positions::{padded_point, padded_position};
 use crate::{Geometry, WktFault};
 use fraction::GridPoint;
-use geometry_model::{Kind, TextFault};
+use geometry_model::TextFault;
 use std::alloc::Global;
 
 /// The most positions of a geometry.
@@ -100,6 +101,72 @@ fn point_list(alloc: Global, cursor: &mut Cursor<'_>) -> Result<Vec<GridPoint>, 
     Ok(points)
 }
 
+/// Whether a position is the one before it, where one is before it.
+fn is_repeat(last: Option<GridPoint>, position: GridPoint) -> bool
+    ensures { result ≡ repeats last position }
+{
+    match last {
+        None => false,
+        Some(last) => position == last,
+    }
+}
+
+/// Appends a position, unless it repeats the last.
+fn push_new(
+    positions: &mut Vec<GridPoint>,
+    last: Option<GridPoint>,
+    position: GridPoint,
+) -> Result<(), WktFault>
+    ensures pushed { OnOk result (positions.new.items ≡ positions.old.items ++ cond (repeats last position) [] (position ∷ [])) }
+    ensures grown { OnOk result (vec_len positions.new ≤ vec_len positions.old + 1) }
+    ensures memory { IfErr result (λ e. e ≡ WktFault.OutOfMemory) }
+{
+    if !is_repeat(last, position) {
+        positions.push(position)?;
+    }
+    Ok(())
+}
+
+/// Reads positions of a line, one or more with commas between, where so many may still come. One that repeats the one
+/// before it is left out.
+fn line_positions(
+    alloc: Global,
+    cursor: &mut Cursor<'_>,
+    most: usize,
+) -> Result<Vec<GridPoint>, WktFault>
+    ensures read { ReadsInMemory (λ ps. ps.items) (steps.line_positions most cursor.old) result cursor.new }
+    ensures counted { IfOk result (λ ps. vec_len ps ≤ most) }
+    ensures no_repeats { IfOk result (λ ps. without_repeats ps.items ≡ ps.items) }
+{
+    let mut positions = Vec::new(alloc);
+    let mut last = None;
+    let mut room = most;
+    loop {
+        let position = padded_position(cursor, room)?;
+        push_new(&mut positions, last, position)?;
+        if !cursor.eat(b',') {
+            return Ok(positions);
+        }
+        last = Some(position);
+        room -= 1;
+    }
+}
+
+/// Reads the positions behind the name LINESTRING, or EMPTY.
+fn line_list(alloc: Global, cursor: &mut Cursor<'_>) -> Result<Vec<GridPoint>, WktFault>
+    ensures read { ReadsInMemory (λ ps. ps.items) (spec.body (steps.line_positions position_limit) cursor.old) result cursor.new }
+    ensures counted { IfOk result (λ ps. vec_len ps ≤ position_limit) }
+    ensures no_repeats { IfOk result (λ ps. without_repeats ps.items ≡ ps.items) }
+{
+    if reads_empty(cursor)? {
+        return Ok(Vec::new(alloc));
+    }
+    cursor.expect(b'(')?;
+    let positions = line_positions(alloc, cursor, POSITION_LIMIT)?;
+    cursor.expect(b')')?;
+    Ok(positions)
+}
+
 /// Reads what stands behind a type's name, which stands at a byte.
 #[tactic(auto, unfolding(crate::specs::ServedSteps::typed_served, geometry_model::specs::TextReading::typed))]
 fn typed(
@@ -109,12 +176,14 @@ fn typed(
     name: &[u8],
 ) -> Result<Geometry, WktFault>
     ensures read { ReadsInMemory (λ g. g) (meant (typed_served at name.now) cursor.old) result cursor.new }
-    ensures points { IfOk result (λ g. shapes.kind g ≡ Kind.Point) }
+    ensures served { IfOk result IsOfServedType }
 {
     if name.eq_ignore_ascii_case(b"POINT") {
         Ok(Geometry::point(lone(cursor)?))
     } else if name.eq_ignore_ascii_case(b"MULTIPOINT") {
         Ok(Geometry::multi_point(point_list(alloc, cursor)?))
+    } else if name.eq_ignore_ascii_case(b"LINESTRING") {
+        Ok(Geometry::line_string(line_list(alloc, cursor)?))
     } else {
         Err(WktFault::Syntax(at))
     }
@@ -124,7 +193,7 @@ fn typed(
 #[tactic(auto, unfolding(crate::specs::ServedSteps::tagged_served))]
 fn tagged(alloc: Global, cursor: &mut Cursor<'_>) -> Result<Geometry, WktFault>
     ensures read { ReadsInMemory (λ g. g) (meant tagged_served cursor.old) result cursor.new }
-    ensures points { IfOk result (λ g. shapes.kind g ≡ Kind.Point) }
+    ensures served { IfOk result IsOfServedType }
 {
     let at = cursor.place();
     let name = cursor.run(ByteClass::Letter);
@@ -134,7 +203,7 @@ fn tagged(alloc: Global, cursor: &mut Cursor<'_>) -> Result<Geometry, WktFault>
 /// Reads a whole text.
 fn whole(alloc: Global, cursor: &mut Cursor<'_>) -> Result<Geometry, WktFault>
     ensures read { ReadsInMemory (λ g. g) (meant whole_served cursor.old) result cursor.new }
-    ensures points { IfOk result (λ g. shapes.kind g ≡ Kind.Point) }
+    ensures served { IfOk result IsOfServedType }
 {
     cursor.run(ByteClass::White);
     let geometry = tagged(alloc, cursor)?;
@@ -146,7 +215,7 @@ fn whole(alloc: Global, cursor: &mut Cursor<'_>) -> Result<Geometry, WktFault>
     }
 }
 
-/// Reads the text of a geometry (06-103r4, 7.2): a POINT or a MULTIPOINT, of whole numbers within the limit either way,
+/// Reads the text of a geometry (06-103r4, 7.2): a POINT, a MULTIPOINT or a LINESTRING, of whole numbers within the limit either way,
 /// as they may be written with signs, leading zeros and a point with zeros behind it. Words are taken in any ASCII case.
 /// Without a position it is written EMPTY. In a MULTIPOINT each position has parentheses or none.
 ///

@@ -63,6 +63,32 @@ fn texts_of_points(rt: HostRuntime) -> Result<(), Fail> {
 }
 
 #[test]
+fn texts_of_lines(rt: HostRuntime) -> Result<(), Fail> {
+    for (text, expected) in [
+        ("LINESTRING(0 0,1 0)", [(0, 0), (1, 0)].as_slice()),
+        ("linestring ( 0 0 , 0.0 -0 , 1 0 )", &[(0, 0), (1, 0)]),
+        ("LINESTRING(3 3,3 3,3 3)", &[(3, 3)]),
+        ("LineString(0 0,1 0,1 0,0 0)", &[(0, 0), (1, 0), (0, 0)]),
+        ("LINESTRING(5 6)", &[(5, 6)]),
+        ("LINESTRING EMPTY", &[]),
+    ] {
+        let geometry = read(rt.alloc(), text.as_bytes())?;
+        assert_eq!(rt;
+            geometry.geometry_type(),
+            GeometryType::LineString,
+            "{text}"
+        );
+        assert_eq!(rt; geometry.is_empty(), expected.is_empty(), "{text}");
+        assert_eq!(rt; geometry.listed().len(), 0, "{text}");
+        assert_eq!(rt; geometry.line().len(), expected.len(), "{text}");
+        for (position, wanted) in geometry.line().iter().zip(expected) {
+            assert_eq!(rt; (position.x(), position.y()), *wanted, "{text}");
+        }
+    }
+    Ok(())
+}
+
+#[test]
 fn no_point(rt: HostRuntime) -> Result<(), Fail> {
     for text in ["POINT EMPTY", " Point\tEmpty\n"] {
         let geometry = read(rt.alloc(), text.as_bytes())?;
@@ -80,6 +106,9 @@ fn canonical_texts(rt: HostRuntime) -> Result<(), Fail> {
         ("multipoint ( 3 4 )", "MULTIPOINT((3 4))"),
         ("MULTIPOINT(1 1,1 1)", "MULTIPOINT((1 1),(1 1))"),
         ("MultiPoint\tempty", "MULTIPOINT EMPTY"),
+        ("linestring ( 0 0,0 0, 1 -0.0 )", "LINESTRING(0 0,1 0)"),
+        ("LINESTRING(3 3,3 3)", "LINESTRING(3 3)"),
+        ("LineString Empty", "LINESTRING EMPTY"),
     ] {
         let mut sink = MemorySink::new(rt.alloc());
         print(&read(rt.alloc(), text.as_bytes())?, &mut sink)?;
@@ -94,7 +123,10 @@ fn texts_that_are_refused(rt: HostRuntime) {
         ("", WktFault::Syntax(0)),
         ("POIN", WktFault::Syntax(0)),
         ("  CIRCLE(1 2)", WktFault::Syntax(2)),
-        ("LINESTRING EMPTY", WktFault::Syntax(0)),
+        ("LINESTRING()", WktFault::Syntax(11)),
+        ("LINESTRING((0 0,1 1))", WktFault::Syntax(11)),
+        ("LINESTRING(0 0,1 1,)", WktFault::Syntax(19)),
+        ("LINESTRING(0 0 1 1)", WktFault::Syntax(15)),
         (" multilinestring((0 0,1 1))", WktFault::Syntax(1)),
         ("Polygon EMPTY", WktFault::Syntax(0)),
         ("MULTIPOLYGON(((0 0,1 0,0 1,0 0)))", WktFault::Syntax(0)),

@@ -17,4 +17,4 @@ pub returns-clause-refusal : goal.returns-clause-refusal
 returns-clause-refusal c = refused_stands c.args.text.now c.whole.result (returns-clause-fault c)
 
 pub returns-clause-canonical : goal.returns-clause-canonical
-returns-clause-canonical c = canonical_is_read c.args.text.now c.whole.result (returns-clause-spelled c) c.whole.ensures.points
+returns-clause-canonical c = canonical_is_read c.args.text.now c.whole.result (returns-clause-spelled c) c.whole.ensures.served
