@@ -5,6 +5,3 @@ pub mod location;
 
 pub use geometry_model::Location;
 pub use location::locate;
-
-#[cfg(test)]
-mod tests;

@@ -6,6 +6,3 @@ pub mod valid_geometry;
 
 pub use check_fault::CheckFault;
 pub use valid_geometry::{Valid, check};
-
-#[cfg(test)]
-mod tests;

@@ -9,8 +9,6 @@ mod numbers;
 mod positions;
 pub mod printing;
 mod reading;
-#[cfg(test)]
-mod reading_tests;
 pub mod wkt_fault;
 
 pub use geometry::Geometry;
@@ -19,6 +17,3 @@ pub use reading::read;
 pub use sinks::devices;
 pub use sinks::{MemorySink, Sink, SinkFault, StdSink, put_all, put_parts};
 pub use wkt_fault::WktFault;
-
-#[cfg(test)]
-mod geometry_tests;

@@ -1,6 +1,6 @@
 //! Geometries of points, which have no fault, and the faults that a refusal tells of.
 
-use crate::{CheckFault, check};
+use validity::{CheckFault, check};
 use fraction::GridPoint;
 use geometry_model::{Kind, ValidityFault};
 use std::test::Fail;

@@ -1,6 +1,6 @@
 //! Texts of points: what each spells, or its fault.
 
-use crate::{MemorySink, WktFault, print, read};
+use wkt::{MemorySink, WktFault, print, read};
 use geometry_model::GeometryType;
 use std::alloc::Global;
 use std::test::Fail;

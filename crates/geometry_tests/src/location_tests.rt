@@ -1,6 +1,6 @@
 //! Where points stand in geometries of points.
 
-use crate::{Location, locate};
+use side_labels::{Location, locate};
 use fraction::{GridPoint, RatPoint};
 use geometry_model::Kind;
 use std::test::Fail;

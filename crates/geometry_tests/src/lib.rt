@@ -1,0 +1,11 @@
+//! Tests of texts, validity and location of geometries.
+#![tactic(auto)]
+
+#[cfg(test)]
+mod location_tests;
+#[cfg(test)]
+mod printing_tests;
+#[cfg(test)]
+mod reading_tests;
+#[cfg(test)]
+mod validity_tests;
