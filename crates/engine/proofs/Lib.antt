@@ -1,4 +1,3 @@
 pub mod TextLemmas
 pub mod ScanLemmas
-pub mod BindingLemmas
 pub mod RunLemmas

@@ -3,7 +3,7 @@ use Rattle.std.specs.Prelude.{◌≡◌, ◌⊎◌, All, Bool, ℕ, pos, true, L
 use Rattle.std.specs.List.{enumerate_from, filter, flat_map}
 use Rattle.geometry_model.specs.Labels.{labelled_matrix}
 use Rattle.table_model.specs.AnswerTexts.{Writing}
-use Rattle.table_model.specs.Meanings.{Row, Table, all_true, meaning}
+use Rattle.table_model.specs.Meanings.{Row, Table, all_true, passing_rows}
 use Rattle.table_model.specs.Truths.{truth, no_argument}
 use Rattle.table_model.specs.declared.values.NoGeometry.{NoGeometry}
 use Rattle.table_model.specs.declared.values.Truth.{Truth}
@@ -27,7 +27,7 @@ holds_at = all_true value_at
 
 -- the meaning of a query over some tables (SQL)
 abbrev pub plain_meaning : List (Table NoGeometry) → Bound NoGeometry NoGeometry → List (List PlainRow)
-plain_meaning = meaning value_at
+plain_meaning = passing_rows value_at
 
 -- how geometries are written where there is none (profile)
 abbrev pub no_writing : Writing NoGeometry NoGeometry
