@@ -1,3 +1,4 @@
 pub mod TextLemmas
 pub mod ScanLemmas
+pub mod ReaderLemmas
 pub mod RunLemmas
