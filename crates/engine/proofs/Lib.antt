@@ -1,4 +1,4 @@
 pub mod TextLemmas
 pub mod ScanLemmas
-pub mod BindingLemmas
+pub mod ReaderLemmas
 pub mod RunLemmas

@@ -2,13 +2,12 @@
 
 ghost use Rattle.std.specs.Prelude.{◌≡◌, ◌∷◌, ◌++◌, [], ◌<◌, IfOk, OnOk};
 ghost use Rattle.csv.specs.Records.{fields_of, partial_of};
-ghost use Rattle.csv.specs.Writing.{row_text, default_writer};
 ghost use Rattle.table_model.specs.AnswerTexts.{column_name, column_header, field_text, header, item_header, item_text, record_of, reference_header};
 ghost use Rattle.table_model.specs.Truths.{field_at};
 ghost use Rattle.feature_table.specs.Cells.{shown};
 ghost use Rattle.engine.specs.Stage.{no_writing};
 
-use csv::{ByteRecord, WriterBuilder};
+use csv::ByteRecord;
 use feature_table::{Field, Row, TableDef};
 use itoa::Buffer;
 use spatial_sql::Bound;
@@ -32,29 +31,20 @@ pub fn header_record(
     Ok(fields)
 }
 
-/// The record of some rows, one for each reference of the query. (Profile.) It fails only for want of memory.
-pub fn row_record(alloc: Global, query: &Bound, rows: &[Row<'_>]) -> Result<ByteRecord, AllocError>
-    ensures { IfOk result (λ r. fields_of r ≡ record_of no_writing query.now rows.now) }
+/// Makes a record that of some rows, one for each reference of the query; what stood in it is gone. It fails only for want
+/// of memory.
+pub fn row_record(
+    fields: &mut ByteRecord,
+    query: &Bound,
+    rows: &[Row<'_>],
+) -> Result<(), AllocError>
+    ensures { OnOk result (fields_of fields.new ≡ record_of no_writing query.now rows.now) }
 {
-    let mut fields = ByteRecord::new(alloc);
+    fields.clear();
     for item in query.items.as_slice() {
-        push_item(&mut fields, item, rows)?;
+        push_item(fields, item, rows)?;
     }
-    Ok(fields)
-}
-
-/// The text of a record, ended by a line feed. (Profile.) It fails only for want of memory.
-pub fn record_text(alloc: Global, fields: &ByteRecord) -> Result<Vec<u8>, AllocError>
-    ensures { IfOk result (λ text. text.items ≡ row_text default_writer (fields_of fields.now)) }
-{
-    let mut writer = WriterBuilder::new().from_writer(Vec::new(alloc));
-    if writer.write_byte_record(fields).is_err() {
-        return Err(AllocError);
-    }
-    match writer.into_inner() {
-        Ok(text) => Ok(text),
-        Err(_) => Err(AllocError),
-    }
+    Ok(())
 }
 
 // The header of an item.

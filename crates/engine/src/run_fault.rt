@@ -1,9 +1,9 @@
 //! Why a run ends without an answer.
 
+use records::PutFault;
 use std::alloc::AllocError;
 use table_model::faults::{LoadFault, QueryFault, TableFault};
 use thiserror::Error;
-use wkt::SinkFault;
 
 /// Why a run ends without an answer, in the order of its steps but for want of memory, which may come at each. (Profile.)
 #[derive(Clone, Copy, Debug, PartialEq, Eq, Error)]
@@ -72,36 +72,5 @@ impl From<AllocError> for Fault {
 
     fn from(_error: AllocError) -> Fault {
         Fault::Memory
-    }
-}
-
-/// Why records aren't put. (Profile.)
-#[derive(Clone, Copy, Debug, PartialEq, Eq)]
-pub enum PutFault {
-    /// The sink failed.
-    Sink,
-    /// Memory ran out.
-    Memory,
-}
-
-impl From<SinkFault> for PutFault {
-    ghost use Rattle.std.specs.Prelude.{◌≡◌};
-    ghost use Rattle.engine.specs.declared.run_fault.PutFault.TheVariants as faults;
-
-    ghost from_gives = { λ _ f. f ≡ faults.Sink };
-
-    fn from(_fault: SinkFault) -> PutFault {
-        PutFault::Sink
-    }
-}
-
-impl From<AllocError> for PutFault {
-    ghost use Rattle.std.specs.Prelude.{◌≡◌};
-    ghost use Rattle.engine.specs.declared.run_fault.PutFault.TheVariants as faults;
-
-    ghost from_gives = { λ _ f. f ≡ faults.Memory };
-
-    fn from(_error: AllocError) -> PutFault {
-        PutFault::Memory
     }
 }

@@ -7,23 +7,28 @@ ghost use Rattle.std.specs.Io.KnownBytes.{Appends};
 ghost use Rattle.csv.specs.Writing.{row_text, default_writer};
 ghost use Rattle.sinks.specs.Sinks.{AppendsFront};
 ghost use Rattle.table_model.specs.AnswerTexts.{header, record_of};
-ghost use Rattle.engine.specs.Runs.{CountsPut, IsUnread, KeepsRefused, RefusesFirst, RefusesQuery, Runs, bound_query, count_after, outcome, pair_text, query_outcome};
+ghost use Rattle.engine.specs.Runs.{AnswersQuery, RunsOver, count_after, pair_text};
+ghost use Rattle.records.specs.RecordWriters.{CountsPut, IsReady};
+ghost use Rattle.feature_table.specs.Tables.{EachRecordsOf, records_in};
+ghost use Rattle.table_model.specs.Loading.{Record};
 ghost use Rattle.table_model.specs.Meanings.{referenced};
 ghost use Rattle.engine.specs.Stage.{HasReferences, IsPlace, no_writing, pair_rows};
 
 use crate::execute::{RowPair, execute};
-use crate::run_fault::{Fault, PutFault};
-use crate::answer_records::{header_record, record_text, row_record};
+use crate::run_fault::Fault;
+use crate::answer_records::{header_record, row_record};
 use csv::ByteRecord;
 use feature_table::{Database, Schema};
+use records::{PutFault, RecordWriter};
 use spatial_sql::{Bound, Query, bind, read_query};
 use std::alloc::{AllocError, Global};
 use std::io::Read;
-use wkt::{Sink, put_all};
+use wkt::Sink;
 
 /// Answers a query over the tables that the readers give, one for each table of the schema, in its order: reads
-/// the query, loads all tables, binds, and puts the header and the rows. The query is refused only with its own
-/// fault, whatever the readers give. (Profile.)
+/// the query, loads all tables, binds, and puts the header and the rows. Where the readers' texts are known the
+/// answer is that of the records that `csv` reads of them; whatever the readers are, there are records of which this
+/// is the answer.
 pub fn run<R: Read + Drop, S: Sink>(
     alloc: Global,
     schema: &Schema,
@@ -32,11 +37,10 @@ pub fn run<R: Read + Drop, S: Sink>(
     sink: &mut S,
 ) -> Result<(), Fault>
     requires { length readers.items ≡ length schema.now }
-    ensures answer { (texts : List (List ℕ)) → map R.remaining readers.items ≡ map Some texts → ¬ (IsUnread result)
-        → Runs result (outcome schema.now texts query.now) (S.taken sink.old) (S.taken sink.new) }
-    ensures earlier { (texts : List (List ℕ)) → map R.remaining readers.items ≡ map Some texts → RefusesFirst result schema.now texts }
-    ensures refused { RefusesQuery result (bound_query schema.now query.now) }
-    ensures kept { KeepsRefused result (S.taken sink.old) (S.taken sink.new) }
+    ensures texts { (texts : List (List ℕ)) → map R.remaining readers.items ≡ map Some texts
+        → RunsOver result schema.now (map records_in texts) query.now (S.taken sink.old) (S.taken sink.new) }
+    ensures records { (records : List (List Record)) × EachRecordsOf (map R.remaining readers.items) records
+        × RunsOver result schema.now records query.now (S.taken sink.old) (S.taken sink.new) }
     ensures failures { S.failures sink.new ≡ count_after (S.failures sink.old) result }
 {
     let query = read_query(alloc, query)?;
@@ -52,7 +56,7 @@ pub fn answer_query<S: Sink>(
     database: &Database<'_>,
     sink: &mut S,
 ) -> Result<(), Fault>
-    ensures answer { Runs result (query_outcome database.now.definitions query.now database.now.tables) (S.taken sink.old) (S.taken sink.new) }
+    ensures answer { AnswersQuery result database.now query.now (S.taken sink.old) (S.taken sink.new) }
     ensures failures { S.failures sink.new ≡ count_after (S.failures sink.old) result }
 {
     let bound = bind(alloc, query, database)?;
@@ -75,12 +79,10 @@ fn put_answer<S: Sink>(
     ensures front { OnErr result (AppendsFront (S.taken sink.old) (S.taken sink.new) (row_text default_writer (header no_writing database.now.definitions query.now) ++ concat (map (pair_text (referenced database.now.tables query.now.references) query.now) pairs.now))) }
     ensures failures { CountsPut (S.failures sink.old) (S.failures sink.new) result }
 {
-    put_record(
-        alloc,
-        &header_record(alloc, database.definitions(), query)?,
-        sink,
-    )?;
-    put_pairs(alloc, database, query, pairs, sink)
+    let mut writer = RecordWriter::new(alloc);
+    let header = header_record(alloc, database.definitions(), query)?;
+    writer.put(alloc, &header, sink)?;
+    put_pairs(alloc, database, query, pairs, &mut writer, sink)
 }
 
 // Puts the record of each pair.
@@ -89,57 +91,47 @@ fn put_pairs<S: Sink>(
     database: &Database<'_>,
     query: &Bound,
     pairs: &[RowPair],
+    writer: &mut RecordWriter,
     sink: &mut S,
 ) -> Result<(), PutFault>
+    requires writer { IsReady writer.old }
     requires references { HasReferences database.now.definitions query.now.references }
     requires places { All (IsPlace (referenced database.now.tables query.now.references)) pairs.now }
     ensures ok { OnOk result (Appends (S.taken sink.old) (S.taken sink.new) (concat (map (pair_text (referenced database.now.tables query.now.references) query.now) pairs.now))) }
     ensures front { OnErr result (AppendsFront (S.taken sink.old) (S.taken sink.new) (concat (map (pair_text (referenced database.now.tables query.now.references) query.now) pairs.now))) }
     ensures failures { CountsPut (S.failures sink.old) (S.failures sink.new) result }
 {
+    let mut fields = ByteRecord::new(alloc);
     for pair in pairs {
-        let record = pair_record(alloc, database, query, *pair)?;
-        put_record(alloc, &record, sink)?;
+        pair_record(database, query, *pair, &mut fields)?;
+        writer.put(alloc, &fields, sink)?;
     }
     Ok(())
 }
 
-// The record of a pair.
+// Makes a record that of a pair.
 fn pair_record(
-    alloc: Global,
     database: &Database<'_>,
     query: &Bound,
     pair: RowPair,
-) -> Result<ByteRecord, AllocError>
+    fields: &mut ByteRecord,
+) -> Result<(), AllocError>
     requires references { HasReferences database.now.definitions query.now.references }
     requires place { IsPlace (referenced database.now.tables query.now.references) pair }
-    ensures { IfOk result (λ r. fields_of r ≡ record_of no_writing query.now (pair_rows (referenced database.now.tables query.now.references) pair)) }
+    ensures { OnOk result (fields_of fields.new ≡ record_of no_writing query.now (pair_rows (referenced database.now.tables query.now.references) pair)) }
 {
     match (query.references.as_slice(), pair.second) {
-        ([one], _) => row_record(alloc, query, &[database.table(one.table).row(pair.first)]),
-        ([first, _], None) => row_record(
-            alloc,
-            query,
-            &[database.table(first.table).row(pair.first)],
-        ),
+        ([one], _) => row_record(fields, query, &[database.table(one.table).row(pair.first)]),
+        ([first, _], None) => {
+            row_record(fields, query, &[database.table(first.table).row(pair.first)])
+        }
         ([first, other], Some(second)) => {
             let rows = [
                 database.table(first.table).row(pair.first),
                 database.table(other.table).row(second),
             ];
-            row_record(alloc, query, &rows)
+            row_record(fields, query, &rows)
         }
         _ => unreachable!(),
     }
-}
-
-// Puts the text of a record.
-fn put_record<S: Sink>(alloc: Global, fields: &ByteRecord, sink: &mut S) -> Result<(), PutFault>
-    ensures ok { OnOk result (Appends (S.taken sink.old) (S.taken sink.new) (row_text default_writer (fields_of fields.now))) }
-    ensures front { OnErr result (AppendsFront (S.taken sink.old) (S.taken sink.new) (row_text default_writer (fields_of fields.now))) }
-    ensures failures { CountsPut (S.failures sink.old) (S.failures sink.new) result }
-{
-    let text = record_text(alloc, fields)?;
-    put_all(sink, text.as_slice())?;
-    Ok(())
 }

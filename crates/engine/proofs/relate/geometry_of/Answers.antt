@@ -12,5 +12,5 @@ returns-in-Err-clause-failure c = c.text_failure.ensures.failure (read_served c.
 
 pub returns-in-Err-check-clause-failure : goal.returns-in-Err-check-clause-failure
 returns-in-Err-check-clause-failure c =
-    subst (λ (r : Result Geometry TextFault). IsFailureOf (or_refused c.args.operand (tested r)) c.validity_failure.result) (sym c.in-Ok.ensures.ok)
+    subst (λ (r : Result Geometry TextFault). IsFailureOf (or_refused c.args.word (tested r)) c.validity_failure.result) (sym c.in-Ok.ensures.ok)
     (c.validity_failure.ensures.failure c.in-Ok.geometry c.in-Err-check.ensures.fault)

@@ -4,17 +4,27 @@ use Rattle.csv.specs.Writing.{row_text, default_writer}
 use Rattle.table_model.specs.AnswerTexts.{header}
 use Rattle.engine.specs.Stage.{no_writing}
 use Rattle.sinks.specs.Sinks.{AppendsFront}
-use Rattle.sinks.proofs.SinkLemmas.{AppendsFront-more, OnErr-holds}
-use Rattle.engine.proofs.TextLemmas.{first-front}
+use Rattle.sinks.proofs.SinkLemmas.{AppendsFront-kept, AppendsFront-more, OnErr-holds}
+use Rattle.engine.proofs.RunLemmas.{keeps-same}
+use Rattle.engine.proofs.TextLemmas.{first-front, first-put}
 use Rattle.engine.proofs.runs.put_answer.Goals as goal
 
-pub returns-in_err-put_record-clause-front : goal.returns-in_err-put_record-clause-front
-returns-in_err-put_record-clause-front g c =
-    OnErr-holds c.from_residual-in_err-put_record.result
+pub returns-in_err-put-clause-front : goal.returns-in_err-put-clause-front
+returns-in_err-put-clause-front g c =
+    OnErr-holds c.from_residual-in_err-put.result
     (AppendsFront-more _ _ _ _
-    (subst (λ l. AppendsFront (g.S.Sink.taken c.args.sink.now) (g.S.Sink.taken c.put_record-2.new.sink) l) (ap (row_text default_writer) (c.in_ok-header_record.ensures ∙ ap (λ ds. header no_writing ds c.args.query.now) c.definitions.ensures.value)) c.in_err-put_record.ensures.front))
+    (subst (λ l. AppendsFront (g.S.Sink.taken c.args.sink.now) (g.S.Sink.taken c.put.new.sink) l) (ap (row_text default_writer) (c.in_ok-header.ensures ∙ ap (λ ds. header no_writing ds c.args.query.now) c.definitions.ensures.value)) c.in_err-put.ensures.front))
 
 pub returns-clause-front : goal.returns-clause-front
 returns-clause-front g c =
-    first-front c.put_pairs.result _ (g.S.Sink.taken c.put_record-2.new.sink) _ _ _ _ (ap (row_text default_writer) (c.in_ok-header_record.ensures ∙ ap (λ ds. header no_writing ds c.args.query.now) c.definitions.ensures.value))
-    c.in_ok-put_record.ensures.ok c.put_pairs.ensures.front
+    first-front c.put_pairs.result _ (g.S.Sink.taken c.put.new.sink) _ _ _ _ (ap (row_text default_writer) (c.in_ok-header.ensures ∙ ap (λ ds. header no_writing ds c.args.query.now) c.definitions.ensures.value))
+    c.in_ok-put.ensures.ok c.put_pairs.ensures.front
+
+pub returns-in_err-header-clause-front : goal.returns-in_err-header-clause-front
+returns-in_err-header-clause-front g c =
+    OnErr-holds c.from_residual.result (AppendsFront-kept _ _ _ (keeps-same (g.S.Sink.taken c.args.sink.now)))
+
+pub returns-clause-ok : goal.returns-clause-ok
+returns-clause-ok g c =
+    first-put c.put_pairs.result _ (g.S.Sink.taken c.put.new.sink) _ _ _ _ (ap (row_text default_writer) (c.in_ok-header.ensures ∙ ap (λ ds. header no_writing ds c.args.query.now) c.definitions.ensures.value))
+    c.in_ok-put.ensures.ok c.put_pairs.ensures.ok

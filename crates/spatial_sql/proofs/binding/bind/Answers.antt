@@ -7,5 +7,5 @@ use Rattle.spatial_sql.proofs.binding.bind.Goals as goal
 
 pub returns-clause-bound : goal.returns-clause-bound
 returns-clause-bound c =
-    subst (λ definitions. IfOk c.bound_query.result (IsBound no_geometry_fits definitions)) c.definitions.ensures
+    subst (λ definitions. IfOk c.bound_query.result (IsBound no_geometry_fits definitions)) c.definitions.ensures.value
     (plain_answer_is_bound c.definitions.result.now c.args.query.now c.bound_query.result c.bound_query.ensures)
