@@ -1,6 +1,7 @@
 -- The parts of the query language that this crate reads.
-use Rattle.table_model.specs.Served.{Served, nothing_served}
+use Rattle.std.specs.Prelude.{true, false}
+use Rattle.table_model.specs.Served.{Served}
 
--- a SELECT over one table without functions (profile)
+-- all but functions
 abbrev pub language : Served
-language = nothing_served
+language = record { functions = false; second_reference = true; explain = true; analyze = true; limit = true; count = true }

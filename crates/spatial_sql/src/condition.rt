@@ -16,6 +16,7 @@ use std::alloc::Global;
 use table_model::conditions::Comparison;
 use table_model::faults::QueryFault;
 use table_model::queries::{Name, WrittenColumn};
+use table_model::texts::same_name;
 use table_model::tokens::TokenKind;
 use table_model::values::NoGeometry;
 
@@ -125,6 +126,23 @@ fn integer_value(negative: bool, digits: &[u8]) -> Option<i64>
         let value = magnitude(digits, GREATEST_MAGNITUDE - 1)?;
         Some(value as i64)
     }
+}
+
+/// The number of rows that digits give, where 64 bits with a sign hold it.
+pub fn limit_value(digits: &[u8]) -> Option<u64>
+    ensures { result ≡ spec.limit_value digits.now }
+{
+    magnitude(digits, GREATEST_MAGNITUDE - 1)
+}
+
+/// Whether a function of this name, in any ASCII case, is called next.
+#[tactic(auto, unfolding(table_model::specs::QueryReading::calls))]
+pub fn calls(tokens: &Cursor<'_, '_>, function: &[u8]) -> bool
+    ensures { result ≡ spec.calls function.now tokens.now }
+{
+    tokens.sees(TokenKind::Word)
+        && tokens.second_sees(TokenKind::LeftParenthesis)
+        && same_name(tokens.spelling(), function)
 }
 
 /// Reads digits, whose number may be negated.

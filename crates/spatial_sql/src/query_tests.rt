@@ -5,7 +5,7 @@ use std::alloc::{AllocError, Global};
 use std::test::Fail;
 use table_model::conditions::Comparison;
 use table_model::faults::QueryFault;
-use table_model::queries::{Selection, WrittenCond, WrittenOperand};
+use table_model::queries::{Explain, Selection, WrittenCond, WrittenOperand};
 
 fn fault_of(alloc: Global, text: &str) -> Option<QueryFault> {
     match read_query(alloc, text) {
@@ -42,10 +42,21 @@ fn refused(rt: HostRuntime) {
         ("SELECT id # FROM t", QueryFault::Lex(10)),
         ("SELECT ST_AsText(geom) FROM t", QueryFault::Syntax(7)),
         ("SELECT a.f(b) FROM t", QueryFault::Syntax(9)),
-        ("EXPLAIN SELECT id FROM t", QueryFault::Syntax(0)),
-        ("SELECT id FROM t, u", QueryFault::Syntax(16)),
-        ("SELECT id FROM t CROSS JOIN u", QueryFault::Syntax(17)),
-        ("SELECT id FROM t LIMIT 1", QueryFault::Syntax(17)),
+        ("EXPLAIN ANALYZE", QueryFault::Syntax(15)),
+        ("EXPLAIN EXPLAIN SELECT id FROM t", QueryFault::Syntax(8)),
+        ("SELECT id FROM t, u, v", QueryFault::Syntax(19)),
+        ("SELECT id FROM t JOIN u", QueryFault::Syntax(23)),
+        (
+            "SELECT id FROM t CROSS JOIN u ON a = b",
+            QueryFault::Syntax(30),
+        ),
+        ("SELECT id FROM big LIMIT -1", QueryFault::Syntax(25)),
+        (
+            "SELECT id FROM big LIMIT 9223372036854775808",
+            QueryFault::NumberTooBig(25),
+        ),
+        ("SELECT COUNT(*), id FROM t", QueryFault::Syntax(15)),
+        ("SELECT id, COUNT(*) FROM t", QueryFault::Syntax(11)),
         (
             "SELECT id FROM t WHERE pop = 9223372036854775808",
             QueryFault::NumberTooBig(29),
@@ -126,5 +137,23 @@ fn becomes_a_tree(rt: HostRuntime) -> Result<(), Fail> {
         _ => panic!(rt; "no comparison of a column with 5"),
     }
     assert!(rt; matches!(second, WrittenCond::Not(_)));
+    Ok(())
+}
+
+#[test]
+fn has_a_join_a_limit_and_a_count(rt: HostRuntime) -> Result<(), Fail> {
+    let query = read_query(
+        rt.alloc(),
+        "EXPLAIN ANALYZE SELECT COUNT(*) FROM t a INNER JOIN u ON a.id = u.id LIMIT 2;",
+    )?;
+    assert_eq!(rt; query.explain, Explain::Analyze);
+    assert!(rt; matches!(query.selection, Selection::Count));
+    let Some(second) = &query.second else {
+        panic!(rt; "no second table")
+    };
+    assert_eq!(rt; second.table.at, 52);
+    assert!(rt; query.on.is_some());
+    assert!(rt; query.condition.is_none());
+    assert_eq!(rt; query.limit, Some(2));
     Ok(())
 }
