@@ -1,7 +1,6 @@
 -- The parts of the query language that this crate reads.
-use Rattle.std.specs.Prelude.{true, false}
-use Rattle.table_model.specs.Served.{Served}
+use Rattle.table_model.specs.Served.{Served, all_served}
 
--- all but functions
+-- the whole language
 abbrev pub language : Served
-language = record { functions = false; second_reference = true; explain = true; analyze = true; limit = true; count = true }
+language = all_served

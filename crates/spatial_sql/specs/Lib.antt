@@ -2,3 +2,4 @@ pub mod Language
 pub mod Strings
 pub mod Sides
 pub mod Outcomes
+pub mod Predicates

@@ -7,7 +7,7 @@ ghost use Rattle.table_model.specs.Outcomes.{Gives};
 use crate::columns::{bound_column, columns_of};
 use crate::conjuncts::bound_conjuncts;
 use crate::references::bound_references;
-use crate::{Bound, Query};
+use crate::{Bound, PlainQuery};
 use feature_table::Database;
 use sqlite_items::Items;
 use std::alloc::{AllocError, Global};
@@ -125,7 +125,7 @@ fn bound_condition(
 /// A query bound to the tables of a schema: its tables first, then the select list, ON and WHERE.
 fn bound_query(
     alloc: Global,
-    query: &Query<'_>,
+    query: &PlainQuery<'_>,
     schema: &[TableDef<NoGeometry>],
 ) -> Result<Bound, QueryFault>
     ensures { Gives QueryFault.OutOfMemory (λ bound. bound) result (spec.binding spec.no_geometry schema.now query.now) }
@@ -151,7 +151,11 @@ fn bound_query(
 /// `UnknownTable` at a table's name, `SameName` at the name of a second reference that has the first's name,
 /// `UnknownColumn` and `AmbiguousColumn` at a column's first byte, `TypeMismatch` at the first byte of a comparison
 /// whose sides are not both INTEGER or both TEXT, NULL being either; or `OutOfMemory`. (SQL; the order: profile.)
-pub fn bind(alloc: Global, query: &Query<'_>, database: &Database<'_>) -> Result<Bound, QueryFault>
+pub fn bind(
+    alloc: Global,
+    query: &PlainQuery<'_>,
+    database: &Database<'_>,
+) -> Result<Bound, QueryFault>
     ensures { Gives QueryFault.OutOfMemory (λ bound. bound) result (spec.binding spec.no_geometry database.now.definitions query.now) }
 {
     bound_query(alloc, query, database.definitions())

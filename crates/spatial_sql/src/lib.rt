@@ -24,12 +24,16 @@ pub use binding::bind;
 pub use query::read_query;
 pub use schema::read_schema;
 pub use table_model::faults::{QueryFault, SchemaFault};
+use table_model::queries::{WrittenColumn, WrittenGeometry};
 use table_model::values::NoGeometry;
 pub use table_model::values::Truth;
 pub use truth::value;
 
-/// A SELECT as it is written. Names and strings are parts of the query's text. (SQL, the query; profile.)
-pub type Query<'a> = table_model::queries::Query<'a, NoGeometry, NoGeometry>;
+/// A query as it is written. Names and strings are parts of the query's text. (SQL, the query.)
+pub type Query<'a> = table_model::queries::Query<'a, WrittenGeometry<'a>, WrittenColumn<'a>>;
+
+/// A query without functions, as it is written.
+pub type PlainQuery<'a> = table_model::queries::Query<'a, NoGeometry, NoGeometry>;
 
 /// A query whose names have become places of a database. (SQL, the query.)
 pub type Bound = table_model::conditions::Bound<NoGeometry, NoGeometry>;

@@ -2,10 +2,12 @@
 
 ghost use Rattle.std.specs.Prelude.{◌≡◌, IfErr, IfOk, Ok};
 ghost use Rattle.table_model.specs.Outcomes.{Gives};
-ghost use Rattle.table_model.specs.Parsers.{Reads};
+ghost use Rattle.table_model.specs.Parsers as steps;
+ghost use Rattle.table_model.specs.Parsers.{Reads, ◌<$>◌};
 ghost use Rattle.table_model.specs.QueryGrammar.{AnswersQuery, IsQuery};
 ghost use Rattle.table_model.specs.QueryReading as spec;
 ghost use Rattle.table_model.specs.QueryRefusals.{AnswersFirst, StandsInQuery};
+ghost use Rattle.table_model.specs.declared.queries.WrittenItem.TheVariants as listed;
 ghost use Rattle.spatial_sql.specs.Language.{language};
 
 use crate::Query;
@@ -15,26 +17,74 @@ use crate::lex::{lex, same_kind};
 use sqlite_items::Items;
 use std::alloc::Global;
 use table_model::faults::QueryFault;
-use table_model::queries::{Explain, Name, WrittenReference};
+use table_model::queries::{Explain, Name, WrittenColumn, WrittenGeometry, WrittenReference};
 use table_model::texts::same_name;
 use table_model::tokens::{Token, TokenKind};
-use table_model::values::NoGeometry;
 
-type WrittenItem<'a> = table_model::queries::WrittenItem<'a, NoGeometry>;
+type WrittenItem<'a> = table_model::queries::WrittenItem<'a, WrittenColumn<'a>>;
 
-type WrittenCond<'a> = table_model::queries::WrittenCond<'a, NoGeometry>;
+type WrittenCond<'a> = table_model::queries::WrittenCond<'a, WrittenGeometry<'a>>;
 
-type Selection<'a> = table_model::queries::Selection<'a, NoGeometry>;
+type Selection<'a> = table_model::queries::Selection<'a, WrittenColumn<'a>>;
 
 /// How many bytes a schema or a query may have.
 pub const MOST_BYTES: usize = 65536;
+
+/// Reads a call of ST_AsText in the select list, from its name on.
+fn text_item<'a>(tokens: &mut Cursor<'_, 'a>, at: usize) -> Result<WrittenItem<'a>, QueryFault>
+    ensures { Reads QueryFault.OutOfMemory (spec.enclosed (listed.AsText at <$> spec.column) (steps.next tokens.old)) result tokens.new }
+{
+    tokens.advance();
+    expect(tokens, TokenKind::LeftParenthesis)?;
+    let argument = column(tokens)?;
+    expect(tokens, TokenKind::RightParenthesis)?;
+    Ok(WrittenItem::AsText(at, argument))
+}
+
+/// Reads a call of ST_Dimension in the select list, from its name on.
+fn dimension_item<'a>(tokens: &mut Cursor<'_, 'a>, at: usize) -> Result<WrittenItem<'a>, QueryFault>
+    ensures { Reads QueryFault.OutOfMemory (spec.enclosed (listed.Dimension at <$> spec.column) (steps.next tokens.old)) result tokens.new }
+{
+    tokens.advance();
+    expect(tokens, TokenKind::LeftParenthesis)?;
+    let argument = column(tokens)?;
+    expect(tokens, TokenKind::RightParenthesis)?;
+    Ok(WrittenItem::Dimension(at, argument))
+}
+
+/// Reads a call of ST_IsEmpty in the select list, from its name on.
+fn emptiness_item<'a>(tokens: &mut Cursor<'_, 'a>, at: usize) -> Result<WrittenItem<'a>, QueryFault>
+    ensures { Reads QueryFault.OutOfMemory (spec.enclosed (listed.IsEmpty at <$> spec.column) (steps.next tokens.old)) result tokens.new }
+{
+    tokens.advance();
+    expect(tokens, TokenKind::LeftParenthesis)?;
+    let argument = column(tokens)?;
+    expect(tokens, TokenKind::RightParenthesis)?;
+    Ok(WrittenItem::IsEmpty(at, argument))
+}
+
+/// Reads a column of the select list.
+fn column_item<'a>(tokens: &mut Cursor<'_, 'a>) -> Result<WrittenItem<'a>, QueryFault>
+    ensures { Reads QueryFault.OutOfMemory ((listed.Column <$> spec.column) tokens.old) result tokens.new }
+{
+    Ok(WrittenItem::Column(column(tokens)?))
+}
 
 /// Reads an item of the select list.
 #[tactic(auto, unfolding(table_model::specs::QueryReading::item))]
 fn item<'a>(tokens: &mut Cursor<'_, 'a>) -> Result<WrittenItem<'a>, QueryFault>
     ensures { Reads QueryFault.OutOfMemory (spec.item language.functions tokens.old) result tokens.new }
 {
-    Ok(WrittenItem::Column(column(tokens)?))
+    let at = tokens.place();
+    if calls(tokens, b"ST_AsText") {
+        text_item(tokens, at)
+    } else if calls(tokens, b"ST_Dimension") {
+        dimension_item(tokens, at)
+    } else if calls(tokens, b"ST_IsEmpty") {
+        emptiness_item(tokens, at)
+    } else {
+        column_item(tokens)
+    }
 }
 
 /// Reads items with commas between them.
@@ -272,9 +322,9 @@ fn read<'a>(alloc: Global, text: &'a str) -> Result<Query<'a>, QueryFault>
     query(alloc, &mut cursor)
 }
 
-/// Reads the text of a query, a SELECT over one table or two, without functions of geometries. The tree is the one
-/// that the grammar gives: EXPLAIN and ANALYZE, `*` or columns or `COUNT(*)`, a table reference, a second one with
-/// its condition, a condition of WHERE, LIMIT, and `;` at the end or not.
+/// Reads the text of a query, a SELECT over one table or two. The tree is the one that the grammar gives: EXPLAIN and
+/// ANALYZE, `*` or columns and functions of columns or `COUNT(*)`, a table reference, a second one with its
+/// condition, a condition of WHERE, LIMIT, and `;` at the end or not.
 ///
 /// Faults carry the byte, from 0, of the first token that can't stand, or the text's length: TooLong past 65,536
 /// bytes; Lex where a byte of the text begins no token, or a string isn't closed; then, whichever is met first,

@@ -40,7 +40,7 @@ fn refused(rt: HostRuntime) {
         ("SELECT id FROM t WHERE name = 'b", QueryFault::Lex(30)),
         ("FROM 'a", QueryFault::Lex(5)),
         ("SELECT id # FROM t", QueryFault::Lex(10)),
-        ("SELECT ST_AsText(geom) FROM t", QueryFault::Syntax(7)),
+        ("SELECT ST_Within(geom, geom) FROM t", QueryFault::Syntax(7)),
         ("SELECT a.f(b) FROM t", QueryFault::Syntax(9)),
         ("EXPLAIN ANALYZE", QueryFault::Syntax(15)),
         ("EXPLAIN EXPLAIN SELECT id FROM t", QueryFault::Syntax(8)),
