@@ -5,10 +5,10 @@ ghost use Rattle.std.specs.Prelude.{◌≡◌, ◌≤◌, ◌<◌, ◌^◌, ◌=
 ghost use Rattle.std.specs.Char as chars;
 ghost use Rattle.std.specs.Str.Parse.{digits_value};
 ghost use Rattle.table_model.specs.declared.queries.WrittenCond.TheVariants as tree;
-ghost use Rattle.table_model.specs.declared.queries.WrittenOperand.TheVariants as operands;
+ghost use Rattle.spatial_sql.specs.Predicates as names;
 ghost use Rattle.table_model.specs.QueryReading as spec;
 ghost use Rattle.table_model.specs.Parsers as steps;
-ghost use Rattle.table_model.specs.Parsers.{Reads, ◌<$>◌};
+ghost use Rattle.table_model.specs.Parsers.{Reads};
 ghost use Rattle.spatial_sql.specs.Language.{language};
 ghost use Rattle.spatial_sql.specs.Predicates.{
   named_predicates,
@@ -208,7 +208,7 @@ fn text_operand<'a>(
     tokens: &mut Cursor<'_, 'a>,
     at: usize,
 ) -> Result<WrittenOperand<'a>, QueryFault>
-    ensures { Reads QueryFault.OutOfMemory (spec.enclosed (operands.AsText at <$> spec.geometry) (steps.next tokens.old)) result tokens.new }
+    ensures { Reads QueryFault.OutOfMemory (spec.enclosed (names.text_argument at) (steps.next tokens.old)) result tokens.new }
 {
     tokens.advance();
     expect(tokens, TokenKind::LeftParenthesis)?;
@@ -222,7 +222,7 @@ fn dimension_operand<'a>(
     tokens: &mut Cursor<'_, 'a>,
     at: usize,
 ) -> Result<WrittenOperand<'a>, QueryFault>
-    ensures { Reads QueryFault.OutOfMemory (spec.enclosed (operands.Dimension at <$> spec.geometry) (steps.next tokens.old)) result tokens.new }
+    ensures { Reads QueryFault.OutOfMemory (spec.enclosed (names.dimension_argument at) (steps.next tokens.old)) result tokens.new }
 {
     tokens.advance();
     expect(tokens, TokenKind::LeftParenthesis)?;
@@ -233,7 +233,7 @@ fn dimension_operand<'a>(
 
 /// Reads a column as an operand.
 fn column_operand<'a>(tokens: &mut Cursor<'_, 'a>) -> Result<WrittenOperand<'a>, QueryFault>
-    ensures { Reads QueryFault.OutOfMemory ((operands.Column <$> spec.column) tokens.old) result tokens.new }
+    ensures { Reads QueryFault.OutOfMemory (names.column_operand tokens.old) result tokens.new }
 {
     Ok(WrittenOperand::Column(column(tokens)?))
 }
@@ -447,7 +447,7 @@ fn emptiness<'a>(
     tokens: &mut Cursor<'_, 'a>,
     at: usize,
 ) -> Result<WrittenCond<'a>, QueryFault>
-    ensures { Reads QueryFault.OutOfMemory (spec.tested (tree.IsEmpty at <$> spec.geometry) (steps.next tokens.old)) result tokens.new }
+    ensures { Reads QueryFault.OutOfMemory (spec.tested (names.empty_argument at) (steps.next tokens.old)) result tokens.new }
 {
     tokens.advance();
     expect(tokens, TokenKind::LeftParenthesis)?;

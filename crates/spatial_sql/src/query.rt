@@ -3,11 +3,11 @@
 ghost use Rattle.std.specs.Prelude.{◌≡◌, IfErr, IfOk, Ok};
 ghost use Rattle.table_model.specs.Outcomes.{Gives};
 ghost use Rattle.table_model.specs.Parsers as steps;
-ghost use Rattle.table_model.specs.Parsers.{Reads, ◌<$>◌};
+ghost use Rattle.table_model.specs.Parsers.{Reads};
 ghost use Rattle.table_model.specs.QueryGrammar.{AnswersQuery, IsQuery};
 ghost use Rattle.table_model.specs.QueryReading as spec;
 ghost use Rattle.table_model.specs.QueryRefusals.{AnswersFirst, StandsInQuery};
-ghost use Rattle.table_model.specs.declared.queries.WrittenItem.TheVariants as listed;
+ghost use Rattle.spatial_sql.specs.Predicates as names;
 ghost use Rattle.spatial_sql.specs.Language.{language};
 
 use crate::Query;
@@ -32,7 +32,7 @@ pub const MOST_BYTES: usize = 65536;
 
 /// Reads a call of ST_AsText in the select list, from its name on.
 fn text_item<'a>(tokens: &mut Cursor<'_, 'a>, at: usize) -> Result<WrittenItem<'a>, QueryFault>
-    ensures { Reads QueryFault.OutOfMemory (spec.enclosed (listed.AsText at <$> spec.column) (steps.next tokens.old)) result tokens.new }
+    ensures { Reads QueryFault.OutOfMemory (spec.enclosed (names.text_item at) (steps.next tokens.old)) result tokens.new }
 {
     tokens.advance();
     expect(tokens, TokenKind::LeftParenthesis)?;
@@ -43,7 +43,7 @@ fn text_item<'a>(tokens: &mut Cursor<'_, 'a>, at: usize) -> Result<WrittenItem<'
 
 /// Reads a call of ST_Dimension in the select list, from its name on.
 fn dimension_item<'a>(tokens: &mut Cursor<'_, 'a>, at: usize) -> Result<WrittenItem<'a>, QueryFault>
-    ensures { Reads QueryFault.OutOfMemory (spec.enclosed (listed.Dimension at <$> spec.column) (steps.next tokens.old)) result tokens.new }
+    ensures { Reads QueryFault.OutOfMemory (spec.enclosed (names.dimension_item at) (steps.next tokens.old)) result tokens.new }
 {
     tokens.advance();
     expect(tokens, TokenKind::LeftParenthesis)?;
@@ -54,7 +54,7 @@ fn dimension_item<'a>(tokens: &mut Cursor<'_, 'a>, at: usize) -> Result<WrittenI
 
 /// Reads a call of ST_IsEmpty in the select list, from its name on.
 fn emptiness_item<'a>(tokens: &mut Cursor<'_, 'a>, at: usize) -> Result<WrittenItem<'a>, QueryFault>
-    ensures { Reads QueryFault.OutOfMemory (spec.enclosed (listed.IsEmpty at <$> spec.column) (steps.next tokens.old)) result tokens.new }
+    ensures { Reads QueryFault.OutOfMemory (spec.enclosed (names.empty_item at) (steps.next tokens.old)) result tokens.new }
 {
     tokens.advance();
     expect(tokens, TokenKind::LeftParenthesis)?;
@@ -65,7 +65,7 @@ fn emptiness_item<'a>(tokens: &mut Cursor<'_, 'a>, at: usize) -> Result<WrittenI
 
 /// Reads a column of the select list.
 fn column_item<'a>(tokens: &mut Cursor<'_, 'a>) -> Result<WrittenItem<'a>, QueryFault>
-    ensures { Reads QueryFault.OutOfMemory ((listed.Column <$> spec.column) tokens.old) result tokens.new }
+    ensures { Reads QueryFault.OutOfMemory (names.column_item tokens.old) result tokens.new }
 {
     Ok(WrittenItem::Column(column(tokens)?))
 }
