@@ -42,25 +42,30 @@ predicate_by None ts = other_predicate ts
 abbrev pub other_operand : Reader (ServedOperand true)
 other_operand ts = called_or (operand_functions true (place ts)) (o.Column <$> column) ts
 
--- what stands between the parentheses of ST_AsText, of ST_Dimension, and a column, as operands
+-- what stands between the parentheses of ST_AsText, as an operand
 abbrev pub text_argument : ℕ → Reader (ServedOperand true)
 text_argument at = o.AsText at <$> geometry
 
+-- what stands between the parentheses of ST_Dimension, as an operand
 abbrev pub dimension_argument : ℕ → Reader (ServedOperand true)
 dimension_argument at = o.Dimension at <$> geometry
 
+-- a column, as an operand
 abbrev pub column_operand : Reader (ServedOperand true)
 column_operand = o.Column <$> column
 
--- what stands between the parentheses of ST_AsText, of ST_Dimension, of ST_IsEmpty, and a column, as items
+-- what stands between the parentheses of ST_AsText, as an item
 abbrev pub text_item : ℕ → Reader (ServedItem true)
 text_item at = i.AsText at <$> column
 
+-- what stands between the parentheses of ST_Dimension, as an item
 abbrev pub dimension_item : ℕ → Reader (ServedItem true)
 dimension_item at = i.Dimension at <$> column
 
+-- what stands between the parentheses of ST_IsEmpty, as an item
 abbrev pub empty_item : ℕ → Reader (ServedItem true)
 empty_item at = i.IsEmpty at <$> column
 
+-- a column, as an item
 abbrev pub column_item : Reader (ServedItem true)
 column_item = i.Column <$> column
