@@ -16,7 +16,7 @@ use Rattle.clap.specs.Takes.{is_given}
 use Rattle.clap.specs.Walk.{Held, Names, Outcome, done, waits, plain, refused, Row, Rule, Step, next, trailing, subcommand, value, Text, Waiting, idle, option, positional, Walk}
 use Rattle.clap.specs.Walk.{after_flag, after_step, answers_to, arg_by_index, finished, first_of, long_or_other, nothing_held, plain_word, rows_after, short_or_plain, subcommand_met, subcommand_or_other, to_positional, walk, walk_from, walked, walked_from, word_met}
 use Rattle.clap.specs.declared.error.kind.ErrorKind.TheVariants.{DisplayHelp, InvalidSubcommand}
-use Rattle.command_line.specs.Orders.{HasRelateWords, HasRunWords, HasWords, relate, run, sfq}
+use Rattle.command_line.specs.Orders.{HasCheckWords, HasRelateWords, HasRunWords, HasWords, check, relate, run, sfq}
 use Rattle.command_line.proofs.FilledRows.{first-filled, is_placed_or_help, rows-filled}
 
 -- no kind comes of either step
@@ -127,6 +127,9 @@ above = with_leaf_noted (marked_built sfq.top)
 abbrev run_shape : Shape
 run_shape = built_leaf (inherited above run.top)
 
+abbrev check_shape : Shape
+check_shape = built_leaf (inherited above check.top)
+
 abbrev relate_shape : Shape
 relate_shape = built_leaf (inherited above relate.top)
 
@@ -148,6 +151,14 @@ run-checked rows passed = go (is_given (codes "schema") rows) (is_given (codes "
     go true false c e = cc
     go false b c e = cc
 
+check-checked : (rows : List Row) → check_fault check_shape rows false ≡ [] → (is_given (codes "schema") rows ≡ true) × (is_given (codes "directory") rows ≡ true)
+check-checked rows passed = go (is_given (codes "schema") rows) (is_given (codes "directory") rows) passed
+  where
+    go : (a b : Bool) → check_kinds false false (not a || (not b || false)) ≡ [] → (a ≡ true) × (b ≡ true)
+    go true true e = (refl, refl)
+    go true false e = cc
+    go false b e = cc
+
 relate-checked : (rows : List Row) → check_fault relate_shape rows false ≡ [] → (is_given (codes "first") rows ≡ true) × (is_given (codes "second") rows ≡ true)
 relate-checked rows passed = go (is_given (codes "first") rows) (is_given (codes "second") rows) passed
   where
@@ -164,6 +175,13 @@ run-words words passed =
       word-there run_shape.rules words (codes "query") refl given.2,
     )
 
+check-words : (words : List Text) → level_fault check_shape [] nothing_held words false [] ≡ [] → HasCheckWords (rows_after check_shape.rules [] words)
+check-words words passed =
+    let given = check-checked (rows_after check_shape.rules [] words) (level-parts check_shape [] nothing_held words false [] passed).2 in (
+      word-there check_shape.rules words (codes "schema") refl given.0,
+      word-there check_shape.rules words (codes "directory") refl given.1,
+    )
+
 relate-words : (words : List Text) → level_fault relate_shape [] nothing_held words false [] ≡ [] → HasRelateWords (rows_after relate_shape.rules [] words)
 relate-words words passed =
     let given = relate-checked (rows_after relate_shape.rules [] words) (level-parts relate_shape [] nothing_held words false [] passed).2 in (
@@ -171,9 +189,9 @@ relate-words words passed =
       word-there relate_shape.rules words (codes "second") refl given.1,
     )
 
--- the subcommand, where the word is `run`, `relate` or `help`
-abbrev found : Bool → Bool → Bool → Option Shape
-found r l h = cond r (Some run_shape) (cond l (Some relate_shape) (cond h (Some help_leaf) None))
+-- the subcommand, where the word is `run`, `check`, `relate` or `help`
+abbrev found : Bool → Bool → Bool → Bool → Option Shape
+found r k l h = cond r (Some run_shape) (cond k (Some check_shape) (cond l (Some relate_shape) (cond h (Some help_leaf) None)))
 
 -- a word that `help` answers to is `help`
 help-named : (word : Text) → bytes_eq word (codes "help") ≡ false → answers_to word (label_of help_leaf) ≡ false
@@ -190,14 +208,15 @@ entered-words : (stop : Option (Text × List Text)) → NoHelp stop → entered_
     → HasWords (entered (built sfq) stop)
 entered-words None no_help passed has = absurd (true≢false (sym has))
 entered-words (Some p) no_help passed has =
-    go (answers_to p.0 (label_of run_shape)) (answers_to p.0 (label_of relate_shape)) (answers_to p.0 (label_of help_leaf)) (help-named p.0 no_help) passed has
+    go (answers_to p.0 (label_of run_shape)) (answers_to p.0 (label_of check_shape)) (answers_to p.0 (label_of relate_shape)) (answers_to p.0 (label_of help_leaf)) (help-named p.0 no_help) passed has
   where
-    go : (r l h : Bool) → h ≡ false → option_map_or (λ (s : Shape). level_fault s [] nothing_held p.1 false []) (found r l h) [] ≡ []
-        → is_some (option_map (λ (s : Shape). rows_at s p.1) (found r l h)) ≡ true → HasWords (option_map (λ (s : Shape). rows_at s p.1) (found r l h))
-    go true l h isnt passed has = inl (rows_after run_shape.rules [] p.1, refl, run-words p.1 passed)
-    go false true h isnt passed has = inr (rows_after relate_shape.rules [] p.1, refl, relate-words p.1 passed)
-    go false false true isnt passed has = absurd (true≢false isnt)
-    go false false false isnt passed has = absurd (true≢false (sym has))
+    go : (r k l h : Bool) → h ≡ false → option_map_or (λ (s : Shape). level_fault s [] nothing_held p.1 false []) (found r k l h) [] ≡ []
+        → is_some (option_map (λ (s : Shape). rows_at s p.1) (found r k l h)) ≡ true → HasWords (option_map (λ (s : Shape). rows_at s p.1) (found r k l h))
+    go true k l h isnt passed has = inl (rows_after run_shape.rules [] p.1, refl, run-words p.1 passed)
+    go false true l h isnt passed has = inr (inl (rows_after check_shape.rules [] p.1, refl, check-words p.1 passed))
+    go false false true h isnt passed has = inr (inr (rows_after relate_shape.rules [] p.1, refl, relate-words p.1 passed))
+    go false false false true isnt passed has = absurd (true≢false isnt)
+    go false false false false isnt passed has = absurd (true≢false (sym has))
 
 -- a subcommand has to be there
 top-checked : (rows : List Row) (has : Bool) → check_fault (built sfq).top rows has ≡ [] → has ≡ true

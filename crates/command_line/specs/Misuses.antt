@@ -3,8 +3,9 @@ use Rattle.std.specs.Prelude.{ℕ}
 use Rattle.clap.specs.declared.error.kind.ErrorKind.{ErrorKind}
 use Rattle.clap.specs.declared.error.kind.ErrorKind.TheVariants as kind
 
--- 0 for help, 7 for want of memory, else 2 (profile)
+-- 0 for help and for the version, 7 for want of memory, else 2 (profile)
 abbrev pub status_of : ErrorKind → ℕ
 status_of kind.DisplayHelp = 0
+status_of kind.DisplayVersion = 0
 status_of kind.OutOfMemory = 7
 status_of _ = 2

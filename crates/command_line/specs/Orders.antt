@@ -15,19 +15,27 @@ abbrev pub run : App
 run = with_rule (with_rule (with_rule (new_app (codes "run")) (required_word (codes "schema")))
     (required_word (codes "directory"))) (required_word (codes "query"))
 
+-- `check SCHEMA DIR`
+abbrev pub check : App
+check = with_rule (with_rule (new_app (codes "check")) (required_word (codes "schema"))) (required_word (codes "directory"))
+
 -- `relate WKT WKT` (profile)
 abbrev pub relate : App
 relate = with_rule (with_rule (new_app (codes "relate")) (required_word (codes "first")))
     (required_word (codes "second"))
 
--- `sfq`, with a subcommand that has to be there (profile)
+-- `sfq` without its subcommands, of which one has to be there; it has a version
+abbrev pub bare_sfq : App
+bare_sfq = on_top (λ s. record s { has_version = true; subcommand_required = true }) (new_app (codes "sfq"))
+
+-- `sfq` with its subcommands
 abbrev pub sfq : App
-sfq = with_subcommand (with_subcommand
-    (on_top (λ s. record s { subcommand_required = true }) (new_app (codes "sfq"))) run.top) relate.top
+sfq = with_subcommand (with_subcommand (with_subcommand bare_sfq run.top) check.top) relate.top
 
 -- the name of the order's subcommand (profile)
 abbrev pub name_of : Order → Text
 name_of (order.Run schema directory query) = codes "run"
+name_of (order.Check schema directory) = codes "check"
 name_of (order.Relate first second) = codes "relate"
 
 -- each text of the order is the word in its place (profile)
@@ -36,6 +44,9 @@ HasTextsOf rows (order.Run schema directory query) =
     (first_of (codes "schema") rows ≡ Some (string_bytes schema))
     × (first_of (codes "directory") rows ≡ Some (string_bytes directory))
     × (first_of (codes "query") rows ≡ Some (string_bytes query))
+HasTextsOf rows (order.Check schema directory) =
+    (first_of (codes "schema") rows ≡ Some (string_bytes schema))
+    × (first_of (codes "directory") rows ≡ Some (string_bytes directory))
 HasTextsOf rows (order.Relate first second) =
     (first_of (codes "first") rows ≡ Some (string_bytes first))
     × (first_of (codes "second") rows ≡ Some (string_bytes second))
@@ -54,11 +65,16 @@ HasRunWords rows = IsSome (first_of (codes "schema") rows)
     × IsSome (first_of (codes "directory") rows)
     × IsSome (first_of (codes "query") rows)
 
+-- each word of `check` is there
+abbrev pub HasCheckWords : List Row → Type 0
+HasCheckWords rows = IsSome (first_of (codes "schema") rows) × IsSome (first_of (codes "directory") rows)
+
 -- each word of `relate` is there (profile)
 abbrev pub HasRelateWords : List Row → Type 0
 HasRelateWords rows = IsSome (first_of (codes "first") rows) × IsSome (first_of (codes "second") rows)
 
--- the subcommand is `run` or `relate`, and each of its words is there (profile)
+-- the subcommand is `run`, `check` or `relate`, and each of its words is there (profile)
 abbrev pub HasWords : Option (Text × List Row) → Type 0
 HasWords met = ((rows : List Row) × (met ≡ Some (codes "run", rows)) × HasRunWords rows)
+    ⊎ ((rows : List Row) × (met ≡ Some (codes "check", rows)) × HasCheckWords rows)
     ⊎ ((rows : List Row) × (met ≡ Some (codes "relate", rows)) × HasRelateWords rows)

@@ -12,6 +12,13 @@ pub enum Order {
         /// The text of the SELECT.
         query: String,
     },
+    /// Load every table of a directory, and tell how many rows each has.
+    Check {
+        /// The path of the schema.
+        schema: String,
+        /// The path of the directory that holds one CSV file a table.
+        directory: String,
+    },
     /// Relate two geometries by their DE-9IM matrix.
     Relate {
         /// The well-known text of the first geometry.

@@ -18,18 +18,18 @@ impl Misuse {
     ghost use Rattle.clap.specs.Words.{kind_of};
     ghost use Rattle.command_line.specs.Misuses.{status_of};
 
-    /// The status to end with: 0 for help, 7 for want of memory, else 2. (Profile.)
+    /// The status to end with: 0 for help and for the version, 7 for want of memory, else 2. (Profile.)
     pub fn status(&self) -> u8
         ensures { result ≡ status_of (kind_of self.now.error) }
     {
         match self.error.kind() {
-            ErrorKind::DisplayHelp => 0,
+            ErrorKind::DisplayHelp | ErrorKind::DisplayVersion => 0,
             ErrorKind::OutOfMemory => 7,
             _ => 2,
         }
     }
 
-    /// Prints `clap`'s text: help on standard output, all else on standard error. It answers the
+    /// Prints `clap`'s text: help and version on standard output, all else on standard error. It answers the
     /// error of the stream that it prints on. (Profile.)
     pub fn print<R: Print + Eprint>(&self, rt: &R) -> io::Result<()> {
         self.error.print(rt)

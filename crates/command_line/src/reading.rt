@@ -4,13 +4,16 @@ ghost use Rattle.std.specs.Prelude.{◌≡◌, [], true, false, codes, IfOk, IfE
 ghost use Rattle.std.specs.String.{string_bytes};
 ghost use Rattle.clap.specs.Walk.{texts};
 ghost use Rattle.clap.specs.Words.{app_of, rule_of, rows_of, found_of, first_value, subcommand_rows_of, takes, fault_of, kind_of, HasKind};
-ghost use Rattle.command_line.specs.Orders.{Orders, OrdersBy, HasWords, HasTextsOf, HasRunWords, HasRelateWords, name_of, required_word, run, relate, sfq};
+ghost use Rattle.command_line.specs.Orders.{Orders, OrdersBy, HasWords, HasTextsOf, HasRunWords, HasCheckWords, HasRelateWords, name_of, required_word, check, run, relate, sfq};
 
 use crate::commands::Order;
 use crate::misuse::Misuse;
 use clap::error::ErrorKind;
 use clap::{Arg, ArgMatches, Command};
 use std::alloc::{AllocError, Global};
+
+/// What `--version` tells.
+const VERSION: &str = "0.1.0";
 
 /// Reads the words of a command line, the program's name first, by `clap`. At Ok they are the
 /// command and its words, and no step of `clap` refuses them. A misuse is want of memory or of a kind
@@ -40,6 +43,9 @@ fn read_order(alloc: Global, matches: &ArgMatches<'_>) -> Result<Option<Order>, 
     if let Some(run) = matches.subcommand_matches("run") {
         return read_run(alloc, run);
     }
+    if let Some(check) = matches.subcommand_matches("check") {
+        return read_check(alloc, check);
+    }
     if let Some(relate) = matches.subcommand_matches("relate") {
         return read_relate(alloc, relate);
     }
@@ -66,6 +72,21 @@ fn read_run(alloc: Global, run: &ArgMatches<'_>) -> Result<Option<Order>, AllocE
         directory,
         query,
     }))
+}
+
+// The order that the two words of `check` give, if they are there.
+fn read_check(alloc: Global, check: &ArgMatches<'_>) -> Result<Option<Order>, AllocError>
+    ensures name { IfOk result (λ r. IfSome r (λ o. name_of o ≡ codes "check")) }
+    ensures some { IfOk result (λ r. IfSome r (HasTextsOf (rows_of (found_of check.now)))) }
+    ensures none { IfOk result (λ r. IfNone r (¬ HasCheckWords (rows_of (found_of check.now)))) }
+{
+    let Some(schema) = text_of(alloc, check, "schema")? else {
+        return Ok(None);
+    };
+    let Some(directory) = text_of(alloc, check, "directory")? else {
+        return Ok(None);
+    };
+    Ok(Some(Order::Check { schema, directory }))
 }
 
 // The order that the two words of `relate` give, if they are there.
@@ -100,28 +121,44 @@ fn sfq_command<'a>(alloc: Global) -> Result<Command<'a>, AllocError>
     let about = "Answers SQL over tables of an integer grid, by exact geometry";
     let command = Command::new(alloc, "sfq")
         .about(about)
+        .version(VERSION)
         .subcommand_required(true);
     command
         .subcommand(run_command(alloc)?)?
+        .subcommand(check_command(alloc)?)?
         .subcommand(relate_command(alloc)?)
+}
+
+// The word that names the schema's file.
+fn schema_word<'a>(alloc: Global) -> Arg<'a>
+    ensures rule { rule_of result ≡ required_word (codes "schema") }
+    ensures local { result.global ≡ false }
+{
+    word(
+        alloc,
+        "schema",
+        "SCHEMA",
+        "The file of CREATE TABLE statements",
+    )
+}
+
+// The word that names the directory of the tables.
+fn directory_word<'a>(alloc: Global) -> Arg<'a>
+    ensures rule { rule_of result ≡ required_word (codes "directory") }
+    ensures local { result.global ≡ false }
+{
+    word(
+        alloc,
+        "directory",
+        "DIR",
+        "The directory of the tables: t.csv for table t",
+    )
 }
 
 // `run SCHEMA DIR QUERY`
 fn run_command<'a>(alloc: Global) -> Result<Command<'a>, AllocError>
     ensures { IfOk result (λ c. app_of c ≡ run) }
 {
-    let schema = word(
-        alloc,
-        "schema",
-        "SCHEMA",
-        "The file of CREATE TABLE statements",
-    );
-    let directory = word(
-        alloc,
-        "directory",
-        "DIR",
-        "The directory of the tables: t.csv for table t",
-    );
     let query = word(
         alloc,
         "query",
@@ -129,7 +166,18 @@ fn run_command<'a>(alloc: Global) -> Result<Command<'a>, AllocError>
         "The SELECT (after -- where it begins with a -)",
     );
     let run = Command::new(alloc, "run").about("Writes the rows that a SELECT means, as CSV");
-    run.arg(schema)?.arg(directory)?.arg(query)
+    run.arg(schema_word(alloc))?
+        .arg(directory_word(alloc))?
+        .arg(query)
+}
+
+// `check SCHEMA DIR`
+fn check_command<'a>(alloc: Global) -> Result<Command<'a>, AllocError>
+    ensures { IfOk result (λ c. app_of c ≡ check) }
+{
+    let about = "Loads every table, and tells how many rows each has";
+    let check = Command::new(alloc, "check").about(about);
+    check.arg(schema_word(alloc))?.arg(directory_word(alloc))
 }
 
 // `relate WKT WKT`

@@ -55,6 +55,25 @@ fn relate_has_its_two_words(rt: HostRuntime) -> Result<(), Fail> {
 }
 
 #[test]
+fn check_has_its_two_words(rt: HostRuntime) -> Result<(), Fail> {
+    let words = ["sfq", "check", "schema.sql", "data"];
+    let Order::Check { schema, directory } = order(rt.alloc(), words.as_slice())
+        .ok()
+        .ok_or("an order")?
+    else {
+        return Err(Fail::from("check"));
+    };
+    assert_eq!(rt; schema.as_str(), "schema.sql");
+    assert_eq!(rt; directory.as_str(), "data");
+    Ok(())
+}
+
+#[test]
+fn version_ends_with_0(rt: HostRuntime) {
+    assert_eq!(rt; misuse_status(&rt, &["sfq", "--version"]), Some(0));
+}
+
+#[test]
 fn mistakes_end_with_2(rt: HostRuntime) {
     assert_eq!(rt; misuse_status(&rt, &["sfq"]), Some(2));
     assert_eq!(rt; misuse_status(&rt, &["sfq", "run"]), Some(2));

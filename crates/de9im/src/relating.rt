@@ -8,7 +8,7 @@ ghost use Rattle.geometry_model.specs.Dimensions.{IsMatrix};
 ghost use Rattle.geometry_model.specs.Geometries.{kind};
 ghost use Rattle.geometry_model.specs.Labels.{labelled_matrix};
 ghost use Rattle.geometry_model.specs.declared.shapes.Kind.TheVariants as kinds;
-ghost use Rattle.wkt.specs.Sinks.{one_more};
+ghost use Rattle.integers.specs.Counts.{one_more};
 ghost use Rattle.de9im.specs.PointMatrices.{is_listed, some_listed, some_unlisted, dimension_of_points, matrix_of_points};
 
 use crate::matrix::Matrix;

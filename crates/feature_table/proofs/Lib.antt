@@ -1,3 +1,4 @@
+pub mod FailureLemmas
 pub mod FieldLemmas
 pub mod SchemaLemmas
 pub mod HeaderLemmas
@@ -6,6 +7,8 @@ pub mod RowLemmas
 pub mod ReadingLemmas
 pub mod LoadingLemmas
 pub mod LoadLemmas
+pub mod GeometryFieldLemmas
 pub mod KeyLemmas
 pub mod OrderLemmas
+pub mod ReaderRecords
 pub mod DatabaseLemmas

@@ -1,33 +1,31 @@
 -- Loading step by step.
 use Rattle.std.proofs.Common.{◌≡◌, ◌∷◌, [], List, Some, None, Ok, Err, refl, true, slice_get, Bool, false, ◌&&◌, ℕ, length, nat_le, zero, suc}
 use Rattle.std.proofs.lemmas.Bool.{false≢true}
-use Rattle.feature_table.specs.Stage.{no_geometry}
 use Rattle.table_model.specs.Definitions.{column_names, lawful, lawful_table, may_be_key, names_differ}
-use Rattle.table_model.specs.Loading.{Record, header_fault, keyed_rows, load, rows_of}
+use Rattle.table_model.specs.Loading.{GeometryReader, Record, header_fault, keyed_rows, load, rows_of}
 use Rattle.table_model.specs.Meanings.{Row}
 use Rattle.table_model.specs.declared.definitions.ColumnDef.{ColumnDef}
 use Rattle.table_model.specs.declared.definitions.TableDef.{TableDef}
 use Rattle.table_model.specs.declared.faults.LoadFault.{LoadFault}
 use Rattle.table_model.specs.declared.faults.LoadFault.TheVariants as fault
-use Rattle.table_model.specs.declared.values.NoGeometry.{NoGeometry}
 
 -- a header of faults
-pub header_fails : (table : TableDef NoGeometry) (header : Record) (records : List Record) (f : LoadFault) → header_fault table.columns header ≡ Some f
-    → load no_geometry table (header ∷ records) ≡ Err f
+pub header_fails : {T G : Type 0} (geometry : GeometryReader T G) (table : TableDef T) (header : Record) (records : List Record) (f : LoadFault) → header_fault table.columns header ≡ Some f
+    → load geometry table (header ∷ records) ≡ Err f
 unfolding load
-header_fails table header records f some = rw some refl
+header_fails geometry table header records f some = rw some refl
 
 -- a record of faults
-pub rows_fail : (table : TableDef NoGeometry) (header : Record) (records : List Record) (f : LoadFault) → header_fault table.columns header ≡ None
-    → rows_of no_geometry table header records ≡ Err f → load no_geometry table (header ∷ records) ≡ Err f
+pub rows_fail : {T G : Type 0} (geometry : GeometryReader T G) (table : TableDef T) (header : Record) (records : List Record) (f : LoadFault) → header_fault table.columns header ≡ None
+    → rows_of geometry table header records ≡ Err f → load geometry table (header ∷ records) ≡ Err f
 unfolding load
-rows_fail table header records f none some = rw (none, some) refl
+rows_fail geometry table header records f none some = rw (none, some) refl
 
 -- rows without fault
-pub rows_pass : (table : TableDef NoGeometry) (header : Record) (records : List Record) (rows : List (Row NoGeometry)) → header_fault table.columns header ≡ None
-    → rows_of no_geometry table header records ≡ Ok rows → load no_geometry table (header ∷ records) ≡ keyed_rows table.key rows
+pub rows_pass : {T G : Type 0} (geometry : GeometryReader T G) (table : TableDef T) (header : Record) (records : List Record) (rows : List (Row G)) → header_fault table.columns header ≡ None
+    → rows_of geometry table header records ≡ Ok rows → load geometry table (header ∷ records) ≡ keyed_rows table.key rows
 unfolding load
-rows_pass table header records rows none all = rw (none, all) refl
+rows_pass geometry table header records rows none all = rw (none, all) refl
 
 first-true : (b : Bool) → (b && true) ≡ true → b ≡ true
 first-true true h = refl
@@ -38,20 +36,20 @@ last-true true true c h = h
 last-true true false c h = absurd (false≢true h)
 last-true false b c h = absurd (false≢true h)
 
-alone : (table : TableDef NoGeometry) → lawful (table ∷ []) ≡ true → lawful_table table ≡ true
+alone : {T : Type 0} (table : TableDef T) → lawful (table ∷ []) ≡ true → lawful_table table ≡ true
 unfolding lawful
 alone table is = first-true (lawful_table table) is
 
-keyed_columns : (columns : List (ColumnDef NoGeometry)) (key : ℕ) → may_be_key (slice_get columns key) ≡ true → header_fault columns [] ≡ Some fault.MissingColumn
+keyed_columns : {T : Type 0} (columns : List (ColumnDef T)) (key : ℕ) → may_be_key (slice_get columns key) ≡ true → header_fault columns [] ≡ Some fault.MissingColumn
 unfolding header_fault
 keyed_columns [] zero h = absurd (false≢true h)
 keyed_columns [] (suc key) h = absurd (false≢true h)
 keyed_columns (c ∷ columns) key h = refl
 
 -- a text without a record lacks the first column
-pub no_header : (table : TableDef NoGeometry) → lawful (table ∷ []) ≡ true → load no_geometry table [] ≡ Err fault.MissingColumn
+pub no_header : {T G : Type 0} (geometry : GeometryReader T G) (table : TableDef T) → lawful (table ∷ []) ≡ true → load geometry table [] ≡ Err fault.MissingColumn
 unfolding load
-no_header table is =
+no_header geometry table is =
     let columns = table.columns in
     let key = last-true (nat_le (length columns) 32) (names_differ (column_names columns)) (may_be_key (slice_get columns table.key)) (alone table is) in
     rw (keyed_columns columns table.key key) refl

@@ -1,12 +1,12 @@
 -- What a field shows.
 use Rattle.feature_table.specs.declared.cells.Field.{Field}
 use Rattle.feature_table.specs.declared.cells.Field.TheVariants as field
-use Rattle.table_model.specs.declared.values.NoGeometry.{NoGeometry}
+use Rattle.feature_table.specs.GeometryFields.{GeometryValue}
 use Rattle.table_model.specs.declared.values.Value.{Value}
 use Rattle.table_model.specs.declared.values.Value.TheVariants as value
 
 -- the value that a field shows: of what is lent, its bytes (profile)
-abbrev pub shown : Field → Value NoGeometry
+abbrev pub shown : Field → Value GeometryValue
 shown field.Null = value.Null
 shown (field.Int n) = value.Integer n
 shown (field.Text text) = value.Text text.now

@@ -1,5 +1,5 @@
 pub mod Cells
-pub mod Stage
+pub mod GeometryFields
 pub mod Layouts
 pub mod Reading
 pub mod Records

@@ -3,7 +3,8 @@
 ghost use Rattle.std.specs.Prelude.{◌≡◌};
 ghost use Rattle.feature_table.specs.Cells.{shown};
 
-use table_model::values::{NoGeometry, Value};
+use crate::geometry_fields::Geometry;
+use table_model::values::Value;
 
 /// A field of a row, its text or geometry lent by the table. (06-104r4, feature tables.)
 #[derive(Clone, Copy)]
@@ -14,18 +15,18 @@ pub enum Field<'a> {
     Int(i64),
     /// A text.
     Text(&'a str),
-    /// A geometry. There is none yet.
-    Geom(&'a NoGeometry),
+    /// A geometry.
+    Geom(&'a Geometry),
 }
 
 /// What a value shows.
-pub(crate) fn field_of(value: &Value<NoGeometry>) -> Field<'_>
+pub(crate) fn field_of(value: &Value<Geometry>) -> Field<'_>
     ensures { shown result ≡ value.now }
 {
     match value {
         Value::Null => Field::Null,
         Value::Integer(number) => Field::Int(*number),
         Value::Text(text) => Field::Text(text.as_str()),
-        Value::Geometry(none) => match *none {},
+        Value::Geometry(geometry) => Field::Geom(geometry),
     }
 }

@@ -2,11 +2,13 @@
 
 ghost use Rattle.std.specs.Prelude.{◌≡◌, ◌<◌, ℕ, IfErr, IfOk, List, Some, length, map, slice_get};
 ghost use Rattle.std.specs.List.{slice_index_or};
+ghost use Rattle.feature_table.specs.GeometryFields.{ShapeValue, reading, takes};
 ghost use Rattle.feature_table.specs.Outcomes.{LoadsTable};
-ghost use Rattle.feature_table.specs.Tables.{EarlierLoad, table_in, tables_in};
+ghost use Rattle.feature_table.specs.Tables.{AreOfRecords, AreRecordsOf, EarlierLoad, records_in, table_in, tables_in};
 ghost use Rattle.table_model.specs.Databases.{at_table};
+ghost use Rattle.table_model.specs.FeatureTables.{IsDatabase};
+ghost use Rattle.table_model.specs.Loading.{Record, load};
 ghost use Rattle.table_model.specs.declared.definitions.TableDef.{TableDef as Definition};
-ghost use Rattle.table_model.specs.declared.values.NoGeometry.{NoGeometry};
 
 use crate::schemas::{Schema, TableDef};
 use crate::tables::Table;
@@ -15,7 +17,8 @@ use std::io::Read;
 use std::marker::Model;
 use table_model::faults::{LoadFault, TableFault};
 
-/// The tables of a schema, which it borrows. (06-104r4, feature tables.)
+/// The tables of a schema, which it borrows: lawful definitions, and for each the rows of its table. (06-104r4, feature
+/// tables.)
 #[derive(Drop)]
 pub struct Database<'s> {
     schema: &'s Schema,
@@ -23,15 +26,15 @@ pub struct Database<'s> {
 }
 
 impl<'s> Model for Database<'s> {
-    ghost use Rattle.std.specs.Prelude.{◌≡◌, length};
+    ghost use Rattle.feature_table.specs.GeometryFields.{GeometryValue, ShapeValue, takes};
     ghost use Rattle.table_model.specs.Databases.{Database};
-    ghost use Rattle.table_model.specs.declared.values.NoGeometry.{NoGeometry};
+    ghost use Rattle.table_model.specs.FeatureTables.{IsDatabase};
 
-    ghost Value = { Database NoGeometry NoGeometry };
+    ghost Value = { Database ShapeValue GeometryValue };
 
     ghost view = { λ d. record { definitions = d.schema.now; tables = d.tables.items } };
 
-    ghost invariant = { λ d. length d.tables.items ≡ length d.schema.now };
+    ghost invariant = { λ d. IsDatabase takes (record { definitions = d.schema.now; tables = d.tables.items }) };
 }
 
 /// Loads the table at a place of a schema, and tells of that place with a fault.
@@ -43,8 +46,10 @@ fn load_table<R: Read + Drop>(
 ) -> Result<Table, TableFault>
     requires { place < length schema.now }
     ensures place { IfErr result (λ f. f.table ≡ place) }
-    ensures loads { (text : List ℕ) (d : Definition NoGeometry) → R.remaining reader ≡ Some text
-        → LoadsTable (λ t. t) result (at_table place (table_in (slice_index_or schema.now place d) text)) }
+    ensures loads { (text : List ℕ) (d : Definition ShapeValue) → R.remaining reader ≡ Some text
+        → LoadsTable (λ t. t) result (at_table place (table_in reading (slice_index_or schema.now place d) text)) }
+    ensures records { (d : Definition ShapeValue) → (records : List Record) × AreRecordsOf (R.remaining reader) records
+        × LoadsTable (λ t. t) result (at_table place (load reading (slice_index_or schema.now place d) records)) }
 {
     match Table::load(alloc, schema.table(place), reader) {
         Ok(table) => Ok(table),
@@ -58,7 +63,8 @@ fn load_table<R: Read + Drop>(
 impl<'s> Database<'s> {
     /// Loads the tables of a schema in its order, each from the CSV text of one reader. The answer is the first
     /// fault where there is one, with its table: `Table::load` says which. So also a fault of reading is that of the
-    /// first table whose reading failed: each table before it has loaded. (Profile.)
+    /// first table whose reading failed: each table before it has loaded. Whatever the readers are, there are records of
+    /// which this is the answer, and at Ok the tables are those of a database. (06-104r4, feature tables.)
     pub fn load<R: Read + Drop>(
         alloc: Global,
         schema: &'s Schema,
@@ -67,10 +73,15 @@ impl<'s> Database<'s> {
         requires { length readers.items ≡ length schema.now }
         ensures schema { IfOk result (λ d. d.definitions ≡ schema.entry.now) }
         ensures loads { (texts : List (List ℕ)) → map R.remaining readers.items ≡ map Some texts
-            → LoadsTable (λ d. d.tables) result (tables_in schema.entry.now texts) }
+            → LoadsTable (λ d. d.tables) result (tables_in reading schema.entry.now texts) }
         ensures earlier { (texts : List (List ℕ)) → map R.remaining readers.items ≡ map Some texts
-            → IfErr result (λ f. EarlierLoad schema.entry.now texts f.table) }
+            → IfErr result (λ f. EarlierLoad reading schema.entry.now (map records_in texts) f.table) }
+        ensures records { AreOfRecords reading schema.entry.now (map R.remaining readers.items) (λ d. d.tables) result }
+        ensures database { IfOk result (IsDatabase takes) }
+        ensures table { IfErr result (λ f. f.table < length schema.entry.now) }
     {
+        // The definitions are lawful, as those of a database are.
+        let _definitions = schema.tables();
         let mut tables = Vec::new(alloc);
         for (place, reader) in readers.into_iter().enumerate() {
             let table = load_table(alloc, schema, place, reader)?;
@@ -84,9 +95,11 @@ impl<'s> Database<'s> {
         Ok(Database { schema, tables })
     }
 
-    /// Lends the definitions of the tables, in the order of the schema. (Profile.)
+    /// Lends the definitions of the tables, in the order of the schema. With its tables they are a database. (06-104r4,
+    /// feature tables.)
     pub fn definitions(&self) -> &'s [TableDef]
-        ensures { result.now ≡ self.now.definitions }
+        ensures value { result.now ≡ self.now.definitions }
+        ensures database { IsDatabase takes self.now }
     {
         self.schema.tables()
     }

@@ -3,17 +3,18 @@
 ghost use Rattle.std.specs.Prelude.{◌≡◌, ◌≤◌, IfErr, drop, false, length, reverse};
 ghost use Rattle.std.specs.List.{prefix_len};
 ghost use Rattle.feature_table.specs.Outcomes.{is_of_reading};
-ghost use Rattle.feature_table.specs.Stage.{no_geometry};
+ghost use Rattle.feature_table.specs.GeometryFields.{reading};
 ghost use Rattle.table_model.specs.Loading as spec;
 ghost use Rattle.table_model.specs.Outcomes.{Gives};
 ghost use Rattle.table_model.specs.declared.faults.LoadFault.TheVariants as fault;
 
+use crate::geometry_fields::{Geometry, read_geometry};
 use crate::schemas::ColumnType;
 use std::alloc::Global;
 use std::str;
 use table_model::faults::LoadFault;
 use table_model::texts::OwnedText;
-use table_model::values::{NoGeometry, Value};
+use table_model::values::Value;
 
 /// Whether a byte is passed over around a number.
 fn is_blank(byte: u8) -> bool
@@ -83,9 +84,9 @@ pub(crate) fn value_of(
     required: bool,
     column_type: &ColumnType,
     field: &[u8],
-) -> Result<Value<NoGeometry>, LoadFault>
+) -> Result<Value<Geometry>, LoadFault>
     ensures not_reading { IfErr result (λ f. is_of_reading f ≡ false) }
-    ensures value { Gives fault.OutOfMemory (λ v. v) result (spec.value_of no_geometry number required column_type.now field.now) }
+    ensures value { Gives fault.OutOfMemory (λ v. v) result (spec.value_of reading number required column_type.now field.now) }
 {
     if field.is_empty() {
         if required {
@@ -102,6 +103,8 @@ pub(crate) fn value_of(
             Ok(text) => Ok(Value::Text(OwnedText::copy_of(alloc, text)?)),
             Err(_) => Err(LoadFault::NotUtf8(number)),
         },
-        ColumnType::Geometry(none) => match *none {},
+        ColumnType::Geometry(shape) => {
+            Ok(Value::Geometry(read_geometry(alloc, number, shape, field)?))
+        }
     }
 }

@@ -5,14 +5,15 @@ ghost use Rattle.feature_table.specs.Outcomes.{is_of_reading};
 ghost use Rattle.table_model.specs.Loading as spec;
 ghost use Rattle.table_model.specs.declared.faults.LoadFault.TheVariants as fault;
 
+use crate::geometry_fields::Geometry;
 use sqlite_items::{self as items, Items};
 use std::alloc::{AllocError, Global};
 use std::collections::BTreeSet;
 use table_model::faults::LoadFault;
-use table_model::values::{NoGeometry, Value};
+use table_model::values::Value;
 
 /// The number at the key's place of a row.
-fn key_of(row: &[Value<NoGeometry>], key: usize) -> i64
+fn key_of(row: &[Value<Geometry>], key: usize) -> i64
     ensures { result ≡ spec.key_of key row.now }
 {
     match items::at(row, key) {
@@ -24,7 +25,7 @@ fn key_of(row: &[Value<NoGeometry>], key: usize) -> i64
 /// The number, from 1, of the first row whose key an earlier one has.
 fn double_key(
     alloc: Global,
-    rows: &[Items<Value<NoGeometry>>],
+    rows: &[Items<Value<Geometry>>],
     key: usize,
 ) -> Result<Option<usize>, AllocError>
     ensures { IfOk result (λ number. number ≡ spec.double_key (map (spec.key_of key) rows.now)) }
@@ -43,7 +44,7 @@ fn double_key(
 /// Puts rows into the order of their keys. The fault tells of two rows of one key.
 pub(crate) fn order_by_key(
     alloc: Global,
-    rows: &mut Vec<Items<Value<NoGeometry>>>,
+    rows: &mut Vec<Items<Value<Geometry>>>,
     key: usize,
 ) -> Result<(), LoadFault>
     ensures ok { OnOk result (spec.keyed_rows key rows.old.items ≡ Ok rows.new.items) }

@@ -5,6 +5,7 @@
 pub mod cells;
 pub mod databases;
 mod fields;
+pub mod geometry_fields;
 mod headers;
 mod keys;
 mod loading;
@@ -12,11 +13,10 @@ pub mod records;
 mod rows;
 pub mod schemas;
 pub mod tables;
-#[cfg(test)]
-mod tests;
 
 pub use cells::Field;
 pub use databases::Database;
+pub use geometry_fields::{ColumnShape, Geometry};
 pub use records::Records;
 pub use schemas::{ColumnDef, ColumnType, Schema, TableDef, lawful};
 pub use table_model::faults::{LoadFault, TableFault};

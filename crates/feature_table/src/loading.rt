@@ -1,23 +1,25 @@
 //! The rows of a table, read record by record.
 
-ghost use Rattle.std.specs.Prelude.{◌≡◌, ◌+◌, ◌<◌, ◌≤◌, IfErr, List, OnOk, length, true, vec_len};
+ghost use Rattle.std.specs.Prelude.{◌≡◌, ◌+◌, ◌-◌, ◌<◌, ◌≤◌, IfErr, IsOk, List, OnOk, length, take, true, vec_len};
 ghost use Rattle.feature_table.specs.Layouts.{IsLayout};
 ghost use Rattle.feature_table.specs.Outcomes.{Loads, is_of_reading};
 ghost use Rattle.feature_table.specs.Records.{Gives, IsReady, asked, read_failed, record_limit};
-ghost use Rattle.feature_table.specs.RowReading.{TakesRow};
-ghost use Rattle.feature_table.specs.Stage.{no_geometry};
+ghost use Rattle.feature_table.specs.RowReading.{IsOfRecord, RowsOfRecords, TakesRow};
+ghost use Rattle.feature_table.specs.GeometryFields.{reading};
 ghost use Rattle.table_model.specs.Loading as spec;
 
+use crate::geometry_fields::Geometry;
 use crate::headers::Layout;
 use crate::records::{Records, next_record};
-use crate::rows::{ROW_LIMIT, checked_row};
+use crate::rows::checked_row;
 use crate::schemas::TableDef;
 use csv::ByteRecord;
 use sqlite_items::Items;
 use std::alloc::Global;
 use std::io::Read;
+use table_model::definitions::ROW_LIMIT;
 use table_model::faults::LoadFault;
-use table_model::values::{NoGeometry, Value};
+use table_model::values::Value;
 
 /// Reads the next record, and answers its row where there is one.
 fn next_row<R: Read + Drop>(
@@ -27,7 +29,7 @@ fn next_row<R: Read + Drop>(
     number: usize,
     records: &mut Records<R>,
     record: &mut ByteRecord,
-) -> Result<Option<Items<Value<NoGeometry>>>, LoadFault>
+) -> Result<Option<Items<Value<Geometry>>>, LoadFault>
     requires size { vec_len layout.now.places ≡ length table.now.columns }
     requires ready { IsReady records.old }
     requires limit { asked records.old < record_limit }
@@ -35,7 +37,8 @@ fn next_row<R: Read + Drop>(
     ensures read_failed { IfErr result (λ f. is_of_reading f ≡ true → read_failed records.new ≡ true) }
     ensures ready { OnOk result (IsReady records.new) }
     ensures takes { (header : spec.Record) (rest : List spec.Record) → IsLayout table.now.columns header layout.now → Gives R.remaining records.old rest
-        → TakesRow R.remaining records.new table.now header number rest result }
+        → TakesRow R.remaining records.new reading table.now header number rest result }
+    ensures record { (header : spec.Record) → IsLayout table.now.columns header layout.now → IsOfRecord reading table.now header number result }
 {
     let found = next_record(records, record)?;
     if !found {
@@ -51,14 +54,17 @@ pub(crate) fn read_rows<R: Read + Drop>(
     table: &TableDef,
     layout: &Layout,
     records: &mut Records<R>,
-) -> Result<Vec<Items<Value<NoGeometry>>>, LoadFault>
+) -> Result<Vec<Items<Value<Geometry>>>, LoadFault>
     requires size { vec_len layout.now.places ≡ length table.now.columns }
     requires ready { IsReady records.old }
     requires header { asked records.old ≡ 1 }
     ensures taken { asked records.new ≤ record_limit }
     ensures read_failed { IfErr result (λ f. is_of_reading f ≡ true → read_failed records.new ≡ true) }
     ensures loads { (header : spec.Record) (rest : List spec.Record) → IsLayout table.now.columns header layout.now → Gives R.remaining records.old rest
-        → Loads (λ rows. rows.items) result (spec.rows_of no_geometry table.now header rest) }
+        → Loads (λ rows. rows.items) result (spec.rows_of reading table.now header rest) }
+    ensures records { (header : spec.Record) → IsLayout table.now.columns header layout.now → RowsOfRecords reading table.now header (λ rows. rows.items) result }
+    ensures before { (header : spec.Record) (rest : List spec.Record) → IsLayout table.now.columns header layout.now → Gives R.remaining records.old rest
+        → IfErr result (λ f. is_of_reading f ≡ true → IsOk (spec.each (take (asked records.new - 2) (spec.checked_rows reading table.now header rest)))) }
 {
     let mut rows = Vec::new(alloc);
     let mut record = ByteRecord::new(alloc);

@@ -5,25 +5,23 @@ ghost use Rattle.std.specs.List.{slice_index_or};
 ghost use Rattle.csv.specs.Records.{fields_of};
 ghost use Rattle.feature_table.specs.Layouts.{IsLayout};
 ghost use Rattle.feature_table.specs.Outcomes.{is_of_reading};
-ghost use Rattle.feature_table.specs.Stage.{no_geometry};
+ghost use Rattle.feature_table.specs.GeometryFields.{GeometryValue, reading};
 ghost use Rattle.table_model.specs.Loading as spec;
 ghost use Rattle.table_model.specs.Outcomes.{Gives};
 ghost use Rattle.table_model.specs.declared.faults.LoadFault.{LoadFault};
 ghost use Rattle.table_model.specs.declared.faults.LoadFault.TheVariants as fault;
-ghost use Rattle.table_model.specs.declared.values.NoGeometry.{NoGeometry};
 ghost use Rattle.table_model.specs.declared.values.Value.{Value};
 
 use crate::fields::value_of;
+use crate::geometry_fields::Geometry;
 use crate::headers::{Layout, field_at};
 use crate::schemas::{ColumnDef, TableDef};
 use csv::ByteRecord;
 use sqlite_items::Items;
 use std::alloc::Global;
+use table_model::definitions::ROW_LIMIT;
 use table_model::faults::LoadFault;
-use table_model::values::{NoGeometry, Value};
-
-/// The most rows that a table may have.
-pub(crate) const ROW_LIMIT: usize = 100_000;
+use table_model::values::Value;
 
 /// Whether the column at a place takes no null.
 fn is_required(table: &TableDef, place: usize, column: &ColumnDef) -> bool
@@ -40,14 +38,14 @@ fn value_at(
     number: usize,
     record: &ByteRecord,
     place: usize,
-) -> Result<Value<NoGeometry>, LoadFault>
+) -> Result<Value<Geometry>, LoadFault>
     requires places { length places.now ≡ length table.now.columns }
     requires within { place < length places.now }
     ensures not_reading { IfErr result (λ f. is_of_reading f ≡ false) }
-    ensures value { (header : spec.Record) (d : Result (Value NoGeometry) LoadFault)
+    ensures value { (header : spec.Record) (d : Result (Value GeometryValue) LoadFault)
         → places.now ≡ map (λ c. spec.place_in header c.name) table.now.columns
         → Gives fault.OutOfMemory (λ v. v) result
-        (slice_index_or (spec.values_of no_geometry table.now header number (fields_of record.now)) place d) }
+        (slice_index_or (spec.values_of reading table.now header number (fields_of record.now)) place d) }
 {
     let columns = table.columns.as_slice();
     let column = &columns[place];
@@ -69,11 +67,11 @@ fn row_of(
     places: &[usize],
     number: usize,
     record: &ByteRecord,
-) -> Result<Items<Value<NoGeometry>>, LoadFault>
+) -> Result<Items<Value<Geometry>>, LoadFault>
     requires { length places.now ≡ length table.now.columns }
     ensures not_reading { IfErr result (λ f. is_of_reading f ≡ false) }
     ensures row { (header : spec.Record) → places.now ≡ map (λ c. spec.place_in header c.name) table.now.columns
-        → Gives fault.OutOfMemory (λ row. row) result (spec.row_of no_geometry table.now header number (fields_of record.now)) }
+        → Gives fault.OutOfMemory (λ row. row) result (spec.row_of reading table.now header number (fields_of record.now)) }
 {
     let mut values = Vec::with_capacity(alloc, places.len())?;
     for place in 0..places.len() {
@@ -89,11 +87,11 @@ pub(crate) fn checked_row(
     layout: &Layout,
     number: usize,
     record: &ByteRecord,
-) -> Result<Items<Value<NoGeometry>>, LoadFault>
+) -> Result<Items<Value<Geometry>>, LoadFault>
     requires { vec_len layout.now.places ≡ length table.now.columns }
     ensures not_reading { IfErr result (λ f. is_of_reading f ≡ false) }
     ensures row { (header : spec.Record) → IsLayout table.now.columns header layout.now
-        → Gives fault.OutOfMemory (λ row. row) result (spec.checked_row no_geometry table.now header (number, fields_of record.now)) }
+        → Gives fault.OutOfMemory (λ row. row) result (spec.checked_row reading table.now header (number, fields_of record.now)) }
 {
     if record.len() != layout.width {
         return Err(LoadFault::UnequalRecord(number));

@@ -5,25 +5,20 @@ ghost use Rattle.std.specs.List.{list_all, list_any};
 ghost use Rattle.table_model.specs.Texts.{same_name};
 ghost use Rattle.table_model.specs.Definitions.{is_integer, lawful, lawful_table, may_be_key, names_differ};
 
+use crate::geometry_fields::ColumnShape;
 use sqlite_items::{self as items, Items};
 use std::marker::Model;
+use table_model::definitions::{COLUMN_LIMIT, TABLE_LIMIT};
 use table_model::texts::same_name;
-use table_model::values::NoGeometry;
 
-/// The type of a column: whole numbers or texts. No type of geometry is served. (SQL; profile.)
-pub type ColumnType = table_model::definitions::ColumnType<NoGeometry>;
+/// The type of a column: whole numbers, texts or geometries. (SQL; 06-104r4, 7.2.)
+pub type ColumnType = table_model::definitions::ColumnType<ColumnShape>;
 
 /// A column of a table. (06-104r4, feature tables.)
-pub type ColumnDef = table_model::definitions::ColumnDef<NoGeometry>;
+pub type ColumnDef = table_model::definitions::ColumnDef<ColumnShape>;
 
 /// A table: its columns in order, one of which is the feature key. (06-104r4, feature tables.)
-pub type TableDef = table_model::definitions::TableDef<NoGeometry>;
-
-/// The most tables that a schema may have. (Profile.)
-pub const TABLE_LIMIT: usize = 16;
-
-/// The most columns that a table may have. (Profile.)
-pub const COLUMN_LIMIT: usize = 32;
+pub type TableDef = table_model::definitions::TableDef<ColumnShape>;
 
 /// A lawful list of table definitions, which contracts see as that list. (06-104r4, feature tables; profile.)
 #[derive(Drop)]
@@ -35,9 +30,9 @@ impl Model for Schema {
     ghost use Rattle.std.specs.Prelude.{IsTrue, List};
     ghost use Rattle.table_model.specs.Definitions.{lawful};
     ghost use Rattle.table_model.specs.declared.definitions.TableDef.{TableDef};
-    ghost use Rattle.table_model.specs.declared.values.NoGeometry.{NoGeometry};
+    ghost use Rattle.feature_table.specs.GeometryFields.{ShapeValue};
 
-    ghost Value = { List (TableDef NoGeometry) };
+    ghost Value = { List (TableDef ShapeValue) };
 
     ghost view = { λ s. s.tables };
 
@@ -121,8 +116,7 @@ fn is_integer(column_type: &ColumnType) -> bool
 {
     match column_type {
         ColumnType::Integer => true,
-        ColumnType::Text => false,
-        ColumnType::Geometry(none) => match *none {},
+        ColumnType::Text | ColumnType::Geometry(_) => false,
     }
 }
 

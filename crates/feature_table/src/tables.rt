@@ -1,15 +1,17 @@
 //! Tables of typed rows.
 
-ghost use Rattle.std.specs.Prelude.{◌≡◌, ◌∷◌, ◌<◌, ◌≤◌, ℕ, IfErr, IsTrue, List, [], Some, length, slice_get, true};
+ghost use Rattle.std.specs.Prelude.{◌≡◌, ◌-◌, ◌∷◌, ◌<◌, ◌≤◌, ℕ, IfErr, IfOk, IsTrue, List, [], Some, length, slice_get, true};
 ghost use Rattle.feature_table.specs.Cells.{shown};
 ghost use Rattle.feature_table.specs.Outcomes.{Loads, is_of_reading};
 ghost use Rattle.feature_table.specs.Records.{Gives, IsReady, asked, read_failed, record_limit};
-ghost use Rattle.feature_table.specs.Stage.{no_geometry};
-ghost use Rattle.feature_table.specs.Tables.{table_in};
+ghost use Rattle.feature_table.specs.GeometryFields.{reading, takes};
+ghost use Rattle.feature_table.specs.Tables.{IsOfRecords, IsOfSomeRecords, IsTable, NoFaultBefore, table_in};
 ghost use Rattle.table_model.specs.Definitions.{lawful};
+ghost use Rattle.table_model.specs.FeatureTables.{AreRows};
 ghost use Rattle.table_model.specs.Loading as spec;
 
 use crate::cells::{Field, field_of};
+use crate::geometry_fields::Geometry;
 use crate::headers::layout_of;
 use crate::keys::order_by_key;
 use crate::loading::read_rows;
@@ -21,19 +23,19 @@ use std::alloc::Global;
 use std::io::Read;
 use std::marker::Model;
 use table_model::faults::LoadFault;
-use table_model::values::{NoGeometry, Value};
+use table_model::values::Value;
 
 /// A row of a table, which contracts see as the list of its values. (06-104r4, feature tables.)
 #[derive(Drop)]
 pub struct Row<'a> {
-    values: &'a Items<Value<NoGeometry>>,
+    values: &'a Items<Value<Geometry>>,
 }
 
 impl<'a> Model for Row<'a> {
     ghost use Rattle.table_model.specs.Meanings as plain;
-    ghost use Rattle.table_model.specs.declared.values.NoGeometry.{NoGeometry};
+    ghost use Rattle.feature_table.specs.GeometryFields.{GeometryValue};
 
-    ghost Value = { plain.Row NoGeometry };
+    ghost Value = { plain.Row GeometryValue };
 
     ghost view = { λ r. r.values.now };
 }
@@ -56,33 +58,39 @@ impl<'a> Row<'a> {
     }
 }
 
-/// A table: its rows by ascending key. Contracts see it as that list. (06-104r4, feature tables.)
+/// A table: the rows of a lawful definition, by ascending key. Contracts see it as that list. (06-104r4, feature tables.)
 #[derive(Drop)]
 pub struct Table {
-    rows: Vec<Items<Value<NoGeometry>>>,
+    rows: Vec<Items<Value<Geometry>>>,
 }
 
 impl Model for Table {
     ghost use Rattle.table_model.specs.Meanings as plain;
-    ghost use Rattle.table_model.specs.declared.values.NoGeometry.{NoGeometry};
+    ghost use Rattle.feature_table.specs.GeometryFields.{GeometryValue, takes};
+    ghost use Rattle.feature_table.specs.Tables.{IsTable};
 
-    ghost Value = { plain.Table NoGeometry };
+    ghost Value = { plain.Table GeometryValue };
 
     ghost view = { λ t. t.rows.items };
+
+    ghost invariant = { λ t. IsTable takes t.rows.items };
 }
 
 impl Table {
     /// Loads the table of a definition, which is lawful by itself, from the CSV text that a reader gives. The answer
     /// is the first fault where there is one: of the header, then of the records in order, then a repeated key. A
-    /// fault of reading is answered where it comes. It is `Table::load_from` over the records of the reader, so at
-    /// most 100,002 of them are read, the header among them. (Profile.)
+    /// fault of reading is answered where it comes. Whatever the reader is, there are records of which this is the
+    /// answer, and at Ok the rows are those of a table of this definition. It is `Table::load_from` over the records of
+    /// the reader, so at most 100,002 of them are read, the header among them. (06-104r4, feature tables.)
     pub fn load<R: Read + Drop>(
         alloc: Global,
         table: &TableDef,
         reader: R,
     ) -> Result<Table, LoadFault>
         requires { IsTrue (lawful (table.now ∷ [])) }
-        ensures { (text : List ℕ) → R.remaining reader ≡ Some text → Loads (λ t. t) result (table_in table.now text) }
+        ensures loads { (text : List ℕ) → R.remaining reader ≡ Some text → Loads (λ t. t) result (table_in reading table.now text) }
+        ensures records { IsOfRecords reading table.now (R.remaining reader) (λ t. t) result }
+        ensures rows { IfOk result (AreRows takes table.now) }
     {
         let mut records = Records::new(alloc, reader);
         Table::load_from(alloc, table, &mut records)
@@ -90,7 +98,7 @@ impl Table {
 
     /// Loads the table of a definition, which is lawful by itself, from records of which none was asked for yet. The
     /// answer is that of `Table::load`. It asks for at most 100,002 records, the header among them, and answers that
-    /// reading failed only where `csv` answered an error of reading. (Profile.)
+    /// reading failed only where `csv` answered an error of reading, and where no record before that one has a fault.
     pub fn load_from<R: Read + Drop>(
         alloc: Global,
         table: &TableDef,
@@ -101,7 +109,11 @@ impl Table {
         requires none { asked records.old ≡ 0 }
         ensures taken { asked records.new ≤ record_limit }
         ensures read_failed { IfErr result (λ f. is_of_reading f ≡ true → read_failed records.new ≡ true) }
-        ensures loads { (all : List spec.Record) → Gives R.remaining records.old all → Loads (λ t. t) result (spec.load no_geometry table.now all) }
+        ensures loads { (all : List spec.Record) → Gives R.remaining records.old all → Loads (λ t. t) result (spec.load reading table.now all) }
+        ensures records { IsOfSomeRecords reading table.now (λ t. t) result }
+        ensures before { (all : List spec.Record) → Gives R.remaining records.old all
+            → IfErr result (λ f. is_of_reading f ≡ true → NoFaultBefore reading table.now all (asked records.new - 1)) }
+        ensures rows { IfOk result (AreRows takes table.now) }
     {
         let mut header = ByteRecord::new(alloc);
         let found = next_record(records, &mut header)?;
@@ -115,9 +127,11 @@ impl Table {
         Ok(Table { rows })
     }
 
-    /// How many rows there are. (Profile.)
+    /// How many rows there are. They are the rows of a table: at most 100,000, strictly ascending by key, each value one for
+    /// its column. (06-104r4, feature tables.)
     pub fn rows(&self) -> usize
-        ensures { result ≡ length self.now }
+        ensures count { result ≡ length self.now }
+        ensures table { IsTable takes self.now }
     {
         self.rows.len()
     }

@@ -1,9 +1,9 @@
 -- Common divisors and the least form: bounds, and that a point in range stays in range.
-use Rattle.std.proofs.Common.{◌≡◌, sym, ap, subst, ◌∙◌, ℕ, ◌*◌, ◌/◌, ◌^◌, ◌<◌, ◌≤◌, ℤ, pos, negsuc, ◌*ℤ◌, ◌≤ℤ◌, ◌<ℤ◌, FitsSigned, w64, arith}
+use Rattle.std.proofs.Common.{◌≡◌, sym, ap, subst, ◌∙◌, ℕ, ◌*◌, ◌/◌, ◌%◌, ◌^◌, ◌<◌, ◌≤◌, ℤ, pos, negsuc, ◌*ℤ◌, ◌≤ℤ◌, ◌<ℤ◌, FitsSigned, w64, arith}
 use Rattle.std.specs.Prelude.{unsigned_abs, int_div, true}
 use Rattle.std.proofs.lemmas.Int.{ints, unsigned_abs-mul}
 use Rattle.std.proofs.lemmas.Bool.{and_parts}
-use Rattle.std.proofs.lemmas.Nat.Gcd.{le_of_dvd, same_from_IsGcd}
+use Rattle.std.proofs.lemmas.Nat.Gcd.{le_of_dvd, dvd_trans, same_from_IsGcd, IsGcd-from_mod}
 use Rattle.std.specs.Int.{IsGcd}
 use Rattle.std.specs.Ordering.{int_eq}
 use native.Mathlib.Nat.{pos_of_dvd_of_pos, div-le_self, le_of_mul-le-mul_left, mul-le-mul_left}
@@ -24,15 +24,31 @@ gcd_positive a b h = pos_of_dvd_of_pos (IsGcd-gcd a b).1 h
 pub gcd_at_most : (a b : ℕ) → 0 < b → gcd a b ≤ b
 gcd_at_most a b h = le_of_dvd h (IsGcd-gcd a b).1
 
--- the divisor of three numbers fits where the last is above 0
-pub divisor_fits : (w : ℤ) (a b g : ℕ) → pos 0 <ℤ w → FitsSigned w64 w → b ≡ unsigned_abs w → g ≡ gcd a b → (0 < g) × (g < 2 ^ 63)
-divisor_fits (pos n) a b g h fits e f =
-    let above : 0 < b = omega (arith, ints) in
-    (subst (λ n. 0 < n) (sym f) (gcd_positive a b above), subst (λ n. n < 2 ^ 63) (sym f) (below (gcd a b) (gcd_at_most a b above) (omega (arith, ints))))
+-- what divides the second number and the rest of the first divides the first
+pub gcd_by_rest : (a b : ℕ) → gcd b (a % b) ≡ gcd a b
+gcd_by_rest a b = gcd_from a b (gcd b (a % b)) (IsGcd-from_mod a b (gcd b (a % b)) (IsGcd-gcd b (a % b)))
+
+-- the divisor of three numbers, taken from the first with the last on
+pub gcd_regrouped : (x y w : ℕ) → gcd y (gcd x w) ≡ gcd (gcd x y) w
+gcd_regrouped x y w =
+    let inner = IsGcd-gcd x w in
+    let outer = IsGcd-gcd y (gcd x w) in
+    gcd_from (gcd x y) w (gcd y (gcd x w)) (
+      (IsGcd-gcd x y).2 (gcd y (gcd x w)) (dvd_trans _ outer.1 inner.0) outer.0,
+      dvd_trans _ outer.1 inner.1,
+      λ d h k. outer.2 d (dvd_trans _ h (IsGcd-gcd x y).1) (inner.2 d (dvd_trans _ h (IsGcd-gcd x y).0) k),
+    )
+
+-- the divisor of any number and one of at least 1 that fits is one too
+pub divisor_short : (a b g : ℕ) → 0 < b → b < 2 ^ 63 → g ≡ gcd a b → (0 < g) × (g < 2 ^ 63)
+divisor_short a b g above short e = (subst (λ n. 0 < n) (sym e) (gcd_positive a b above), below g (subst (λ n. n ≤ b) (sym e) (gcd_at_most a b above)))
   where
-    below : (n : ℕ) → n ≤ b → b < 2 ^ 63 → n < 2 ^ 63
-    below n k l = omega arith
-divisor_fits (negsuc n) a b g h fits e f = absurd (omega (arith, ints))
+    below : (n : ℕ) → n ≤ b → n < 2 ^ 63
+    below n k = omega arith
+
+-- a denominator without its sign
+pub denominator_short : (w : ℤ) (b : ℕ) → pos 0 <ℤ w → FitsSigned w64 w → b ≡ unsigned_abs w → (0 < b) × (b < 2 ^ 63)
+denominator_short w b h fits e = (omega (arith, ints), omega (arith, ints))
 
 -- ---- the least form in range
 

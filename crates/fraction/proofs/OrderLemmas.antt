@@ -8,7 +8,7 @@ use Rattle.std.specs.declared.cmp.Ordering.TheVariants.{Less, Equal, Greater}
 use Rattle.std.specs.Ordering.{int_cmp, int_eq, ordering_then, is_eq, eq_by_cmp}
 use Rattle.std.specs.Int.{int_max}
 use Rattle.integers.proofs.Signs.{less_no}
-use Rattle.integers.proofs.Tests.{equal_yes}
+use Rattle.integers.proofs.Tests.{equal_yes, cmp_two_scaled}
 use Rattle.geometry_model.specs.Points.{Position, Point, IsPoint, point_at, same_point, compare_x, compare_y, compare}
 use Rattle.geometry_model.specs.WellKnownText.{same_position}
 use Rattle.geometry_model.proofs.LeastFormFacts.{least_is_unique}
@@ -24,6 +24,13 @@ made_as_it_is f h = λ i. record { numerator = f.numerator; denominator = at_lea
 
 pub fraction_order_is : (f g : Fraction) → IsFraction f → IsFraction g → fraction_order f g ≡ compare_fractions f g
 fraction_order_is f g hf hg = ap₂ compare_fractions (made_as_it_is f hf) (made_as_it_is g hg)
+
+-- fractions with one denominator stand as their numerators do
+pub one_denominator : (f g : Fraction) → IsFraction f → f.denominator ≡ g.denominator → int_cmp f.numerator g.numerator ≡ compare_fractions f g
+one_denominator f g h e = sym (cmp_two_scaled f.denominator f.numerator g.numerator h) ∙ ap₂ int_cmp (turned f.denominator f.numerator ∙ ap (λ z. f.numerator *ℤ z) e) (turned f.denominator g.numerator)
+  where
+    turned : (y z : ℤ) → y *ℤ z ≡ z *ℤ y
+    turned y z = omega (arith, ints)
 
 pub point_order_is : (p q : Point) → IsPoint p → IsPoint q → point_order p q ≡ compare p q
 point_order_is p q hp hq = ap₂ ordering_then (fraction_order_is (x_of p) (x_of q) hp hq) (fraction_order_is (y_of p) (y_of q) hp hq)

@@ -2,6 +2,7 @@
 use Rattle.std.specs.Prelude.{ℕ, ◌*◌, ◌≤◌, pos, ◌≤ℤ◌, unsigned_abs}
 use Rattle.geometry_model.specs.Points.{Position, Point, IsPoint, IsLeast}
 use Rattle.geometry_model.specs.WellKnownText.{coordinate_limit}
+use Rattle.fraction.specs.Fractions.{Fraction, IsFraction}
 
 -- a position has both coordinates within the limit (profile)
 pub record IsOnGrid (a : Position) : Type 0 where
@@ -22,6 +23,12 @@ pub record IsInRange (p : Point) : Type 0 where
   pub denominator : p.W ≤ℤ pos denominator_limit
   pub x : unsigned_abs p.X ≤ coordinate_limit * unsigned_abs p.W
   pub y : unsigned_abs p.Y ≤ coordinate_limit * unsigned_abs p.W
+
+-- the numbers of one coordinate of such a point
+pub record IsFractionInRange (f : Fraction) : Type 0 where
+  pub positive : IsFraction f
+  pub denominator : f.denominator ≤ℤ pos denominator_limit
+  pub numerator : unsigned_abs f.numerator ≤ coordinate_limit * unsigned_abs f.denominator
 
 -- a point as it is kept: its numbers are in range and in least form (profile)
 pub record IsKeptPoint (p : Point) : Type 0 where

@@ -1,6 +1,6 @@
 //! Common divisors, by Euclid's remainders, and quotients.
 
-ghost use Rattle.std.specs.Prelude.{◌≡◌, pos, ◌<ℤ◌, unsigned_abs, int_div};
+ghost use Rattle.std.specs.Prelude.{◌≡◌, ◌<◌, pos, ◌<ℤ◌, unsigned_abs, int_div};
 ghost use Rattle.geometry_model.specs.Points.{gcd};
 
 /// The greatest number that divides both; the other where one is 0.
@@ -17,18 +17,35 @@ fn greatest_common_divisor(a: u64, b: u64) -> u64
     last
 }
 
+/// The greatest number that divides a number of any size and one of at least 1. After one remainder all numbers are short.
+fn divisor_with(long: u128, short: u64) -> u64
+    requires { 0 < short }
+    ensures { result ≡ gcd long short }
+{
+    let rest = long % u128::from(short);
+    greatest_common_divisor(short, rest as u64)
+}
+
 /// The greatest number that divides all three, of which the last is at least 1.
-pub(crate) fn common_divisor(x: i64, y: i64, w: i64) -> i64
+pub(crate) fn common_divisor(x: i128, y: i128, w: i64) -> i64
     requires { pos 0 <ℤ w }
     ensures exact { result ≡ pos (gcd (gcd (unsigned_abs x) (unsigned_abs y)) (unsigned_abs w)) }
     ensures positive { pos 0 <ℤ result }
 {
-    let of_two = greatest_common_divisor(x.unsigned_abs(), y.unsigned_abs());
-    greatest_common_divisor(of_two, w.unsigned_abs()) as i64
+    let of_first = divisor_with(x.unsigned_abs(), w.unsigned_abs());
+    divisor_with(y.unsigned_abs(), of_first) as i64
 }
 
 /// The quotient by a number of at least 1, rounded towards 0.
-pub(crate) fn quotient(number: i64, divisor: i64) -> i64
+pub(crate) fn quotient(number: i128, divisor: i64) -> i128
+    requires { pos 0 <ℤ divisor }
+    ensures { result ≡ int_div number divisor }
+{
+    number / i128::from(divisor)
+}
+
+/// The same of a short number.
+pub(crate) fn short_quotient(number: i64, divisor: i64) -> i64
     requires { pos 0 <ℤ divisor }
     ensures { result ≡ int_div number divisor }
 {

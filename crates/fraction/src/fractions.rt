@@ -1,22 +1,23 @@
 //! One coordinate of a rational point, with its exact order.
 
-ghost use Rattle.std.specs.Prelude.{◌≡◌, Some, pos, ◌<ℤ◌, ◌*ℤ◌};
+ghost use Rattle.std.specs.Prelude.{◌≡◌, Some, ◌*ℤ◌};
 ghost use Rattle.std.specs.Cmp.{partial_equiv_from_equiv, partial_order_from_agreeing_total};
 ghost use Rattle.std.specs.Ordering.{as_partial_cmp, eq_by_cmp, int_cmp};
 ghost use Rattle.std.proofs.Common.{refl};
 ghost use Rattle.std.proofs.lemmas.Cmp.{eq_by_cmp_equiv};
-ghost use Rattle.fraction.specs.Fractions.{Fraction, IsFraction, same_fraction, compare_fractions};
+ghost use Rattle.fraction.specs.Fractions.{Fraction, same_fraction, compare_fractions};
 ghost use Rattle.fraction.specs.Orders.{fraction_order};
+ghost use Rattle.fraction.specs.Ranges.{IsFractionInRange};
 ghost use Rattle.fraction.specs.OrderLaws.{fraction_order_total};
 
 use std::cmp::Ordering;
 use std::marker::Model;
 
 /// One coordinate of a rational point, in grid steps: a quotient of two whole numbers, the second at least 1. It needn't
-/// be in least form, and 1/2 equals 2/4. (Profile.)
+/// be in least form, and 1/2 equals 2/4. Its numbers are in the ranges of a point's. (Profile.)
 #[derive(Clone, Copy, Debug)]
 pub struct Frac {
-    numerator: i64,
+    numerator: i128,
     denominator: i64,
 }
 
@@ -25,15 +26,15 @@ impl Model for Frac {
 
     ghost view = { λ f. record { numerator = f.numerator; denominator = f.denominator } };
 
-    ghost invariant = { λ f. IsFraction (record { numerator = f.numerator; denominator = f.denominator }) };
+    ghost invariant = { λ f. IsFractionInRange (record { numerator = f.numerator; denominator = f.denominator }) };
 
     ghost inverse = { λ f. record { numerator = f.numerator; denominator = f.denominator } };
 }
 
 impl Frac {
-    /// The quotient of two numbers, the second at least 1.
-    pub(crate) fn new(numerator: i64, denominator: i64) -> Frac
-        requires { pos 0 <ℤ denominator }
+    /// The quotient of two numbers in the ranges of a point's.
+    pub(crate) fn new(numerator: i128, denominator: i64) -> Frac
+        requires { IsFractionInRange (record { numerator = numerator; denominator = denominator }) }
         ensures { result ≡ record { numerator = numerator; denominator = denominator } }
     {
         Frac {
@@ -43,11 +44,11 @@ impl Frac {
     }
 }
 
-/// The product of two numbers, which always fits.
-fn product(a: i64, b: i64) -> i128
-    ensures { result ≡ a *ℤ b }
+/// The product of one fraction's numerator and another's denominator, which always fits.
+fn product(f: &Frac, g: &Frac) -> i128
+    ensures { result ≡ f.now.numerator *ℤ g.now.denominator }
 {
-    i128::from(a) * i128::from(b)
+    f.numerator * i128::from(g.denominator)
 }
 
 impl Ord for Frac {
@@ -64,7 +65,11 @@ impl Ord for Frac {
         ensures order { result ≡ fraction_order self.now other.now }
         ensures exact { result ≡ compare_fractions self.now other.now }
     {
-        product(self.numerator, other.denominator).cmp(&product(other.numerator, self.denominator))
+        if self.denominator == other.denominator {
+            self.numerator.cmp(&other.numerator)
+        } else {
+            product(self, other).cmp(&product(other, self))
+        }
     }
 }
 

@@ -15,10 +15,10 @@ use std::cmp::Ordering;
 use std::marker::Model;
 
 /// The greatest coordinate of a position, and the negative of the least. (Profile.)
-pub const COORDINATE_LIMIT: i32 = 100_000;
+pub const COORDINATE_LIMIT: i32 = geometry_model::COORDINATE_LIMIT as i32;
 
-/// A position of the grid: two whole coordinates, each within 100,000 either way (OGC 06-103r4, 6.1.4; whole numbers
-/// and the limit: profile).
+/// A position of the grid: two whole coordinates, each within `COORDINATE_LIMIT` either way (OGC 06-103r4, 6.1.4; whole
+/// numbers and the limit: profile).
 #[derive(Clone, Copy, Debug)]
 pub struct GridPoint {
     x: i32,

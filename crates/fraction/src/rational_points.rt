@@ -12,7 +12,7 @@ ghost use Rattle.fraction.specs.OrderLaws.{point_order_total};
 ghost use Rattle.fraction.specs.Between.{IsBetween};
 ghost use Rattle.fraction.specs.Ranges.{IsInRange, IsKeptPoint, meeting_limit};
 
-use crate::divisors::{common_divisor, quotient};
+use crate::divisors::{common_divisor, quotient, short_quotient};
 use crate::fractions::Frac;
 use crate::grid_points::GridPoint;
 use std::cmp::Ordering;
@@ -23,8 +23,8 @@ use std::marker::Model;
 /// limit of coordinates.
 #[derive(Clone, Copy, Debug)]
 pub struct RatPoint {
-    numerator_x: i64,
-    numerator_y: i64,
+    numerator_x: i128,
+    numerator_y: i128,
     denominator: i64,
 }
 
@@ -44,15 +44,15 @@ impl RatPoint {
         ensures { result ≡ point_at at }
     {
         RatPoint {
-            numerator_x: i64::from(at.x()),
-            numerator_y: i64::from(at.y()),
+            numerator_x: i128::from(at.x()),
+            numerator_y: i128::from(at.y()),
             denominator: 1,
         }
     }
 
     /// The point (x/w, y/w): its triple in least form. It asks that w is from 1 to 16 L L and that x and y are within L w
     /// either way, L being the limit of coordinates. (Profile.)
-    pub fn reduced(x: i64, y: i64, w: i64) -> RatPoint
+    pub fn reduced(x: i128, y: i128, w: i64) -> RatPoint
         requires in_range { IsInRange (record { X = x; Y = y; W = w }) }
         ensures exact { result ≡ least_form (record { X = x; Y = y; W = w }) }
         ensures same { IsTrue (same_point result (record { X = x; Y = y; W = w })) }
@@ -62,7 +62,7 @@ impl RatPoint {
         RatPoint {
             numerator_x: quotient(x, divisor),
             numerator_y: quotient(y, divisor),
-            denominator: quotient(w, divisor),
+            denominator: short_quotient(w, divisor),
         }
     }
 
@@ -83,7 +83,7 @@ impl RatPoint {
     }
 
     /// X, the numerator of the first coordinate. (Profile.)
-    pub fn numerator_x(&self) -> i64
+    pub fn numerator_x(&self) -> i128
         ensures value { result ≡ self.now.X }
         ensures kept { IsKeptPoint self.now }
     {
@@ -91,7 +91,7 @@ impl RatPoint {
     }
 
     /// Y, the numerator of the second coordinate. (Profile.)
-    pub fn numerator_y(&self) -> i64
+    pub fn numerator_y(&self) -> i128
         ensures value { result ≡ self.now.Y }
         ensures kept { IsKeptPoint self.now }
     {

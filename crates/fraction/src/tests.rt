@@ -7,12 +7,12 @@ use std::cmp::Ordering;
 fn a_position_is_within_the_limit(rt: HostRuntime) {
     for (x, y, taken) in [
         (0, 0, true),
-        (100_000, -100_000, true),
-        (-100_000, 100_000, true),
-        (100_001, 0, false),
-        (-100_001, 0, false),
-        (0, 100_001, false),
-        (0, -100_001, false),
+        (10_000_000, -10_000_000, true),
+        (-10_000_000, 10_000_000, true),
+        (10_000_001, 0, false),
+        (-10_000_001, 0, false),
+        (0, 10_000_001, false),
+        (0, -10_000_001, false),
         (i32::MIN, i32::MAX, false),
     ] {
         match GridPoint::new(x, y) {
@@ -50,11 +50,11 @@ fn positions_stand_by_x_then_y(rt: HostRuntime) {
 
 #[test]
 fn a_position_is_a_point(rt: HostRuntime) {
-    match GridPoint::new(-7, 100_000) {
+    match GridPoint::new(-7, 10_000_000) {
         Some(position) => {
             let point = RatPoint::of_grid(position);
             assert_eq!(rt; point.numerator_x(), -7);
-            assert_eq!(rt; point.numerator_y(), 100_000);
+            assert_eq!(rt; point.numerator_y(), 10_000_000);
             assert_eq!(rt; point.denominator(), 1);
         }
         None => assert!(rt; false, "within the limit"),
@@ -70,13 +70,13 @@ fn a_point_is_kept_in_least_form(rt: HostRuntime) {
     let two_alone = RatPoint::reduced(-6, 4, 3);
     assert_eq!(rt; two_alone.numerator_x(), -6);
     assert_eq!(rt; two_alone.denominator(), 3);
-    let origin = RatPoint::reduced(0, 0, 160_000_000_000);
+    let origin = RatPoint::reduced(0, 0, 1_600_000_000_000_000);
     assert_eq!(rt; origin.numerator_x(), 0);
     assert_eq!(rt; origin.denominator(), 1);
-    let steep = RatPoint::reduced(-200_000, -79_999_800_000, 159_999_200_002);
-    assert_eq!(rt; steep.numerator_x(), -100_000);
-    assert_eq!(rt; steep.numerator_y(), -39_999_900_000);
-    assert_eq!(rt; steep.denominator(), 79_999_600_001);
+    let steep = RatPoint::reduced(-20_000_000, -799_999_980_000_000, 1_599_999_920_000_002);
+    assert_eq!(rt; steep.numerator_x(), -10_000_000);
+    assert_eq!(rt; steep.numerator_y(), -399_999_990_000_000);
+    assert_eq!(rt; steep.denominator(), 799_999_960_000_001);
 }
 
 #[test]
@@ -85,11 +85,11 @@ fn points_stand_by_the_numbers_that_they_stand_for(rt: HostRuntime) {
     let two_thirds = RatPoint::reduced(2, 0, 3);
     let one_high = RatPoint::reduced(2, 4, 4);
     let last = RatPoint::reduced(
-        15_999_999_999_999_999,
-        -15_999_999_999_999_999,
-        160_000_000_000,
+        15_999_999_999_999_999_999_999,
+        -15_999_999_999_999_999_999_999,
+        1_600_000_000_000_000,
     );
-    let corner = RatPoint::reduced(100_000, -100_000, 1);
+    let corner = RatPoint::reduced(10_000_000, -10_000_000, 1);
     for (a, b, by_x, by_y, order) in [
         (
             half,
@@ -168,8 +168,8 @@ fn a_mediant_lies_between(rt: HostRuntime) {
     assert!(rt; crossing < between && between < end);
     assert_eq!(rt; RatPoint::mediant(&end, &crossing), between);
     assert_eq!(rt; RatPoint::mediant(&end, &end), end);
-    let steep = RatPoint::reduced(-100_000, -39_999_900_000, 79_999_600_001);
+    let steep = RatPoint::reduced(-10_000_000, -399_999_990_000_000, 799_999_960_000_001);
     let beside = RatPoint::mediant(&steep, &origin);
-    assert_eq!(rt; beside.denominator(), 39_999_800_001);
+    assert_eq!(rt; beside.denominator(), 399_999_980_000_001);
     assert!(rt; steep < beside && beside < origin);
 }

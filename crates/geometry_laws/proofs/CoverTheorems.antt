@@ -1,5 +1,6 @@
 -- What finitely many points and lines leave free, the first edge above a point, and the triangles beside it.
-use Rattle.std.proofs.Common.{ℕ, ◌+◌, ◌*◌, ◌<◌, ◌≡◌, ◌≢◌, ◌⊎◌, inl, inr, true, false, ℤ, pos, ◌*ℤ◌, sym, ◌∙◌, List, [], ◌∷◌, ◌++◌, All, arith}
+use Rattle.std.proofs.Common.{ℕ, ◌+◌, ◌*◌, ◌<◌, ◌≡◌, ◌≢◌, ◌⊎◌, inl, inr, true, false, ℤ, pos, ◌-ℤ◌, ◌*ℤ◌, ◌<ℤ◌, sym, ap₂, ◌∙◌, List, [], ◌∷◌, ◌++◌, All, arith}
+use borrow.Author.Differences.{ints}
 use Rattle.std.proofs.lemmas.List.Elements.{All-nil, All-cons}
 use Rattle.geometry_model.specs.Points.{Position, Point, IsPoint, same_point}
 use Rattle.geometry_model.specs.Geometries.{Edge, Geometry, edges, listed, rings}
@@ -7,16 +8,20 @@ use Rattle.geometry_model.specs.Crossings.{strictly_above, at_or_above}
 use Rattle.geometry_model.specs.Dimensions.{area, weighted, weighted_three, HasTriangle, common}
 use Rattle.geometry_model.specs.Locations.{stands_at}
 use Rattle.geometry_model.specs.Labels.{above, below, edges_of_both}
-use Rattle.integers.proofs.Ring.{solve, var, ◌⊗◌}
+use Rattle.integers.proofs.Ring.{solve, var, lit, ◌⊖◌, ◌⊗◌}
+use Rattle.integers.proofs.Signs.{cancel_zero}
 use Rattle.geometry_laws.specs.RingLaws.{IsClosed}
 use Rattle.geometry_laws.specs.PieceLaws.{HasClosedRings}
-use Rattle.geometry_laws.specs.CoverLaws.{Line, value, IsLine, FirstAbove, IsSlantAt}
+use Rattle.geometry_laws.specs.CoverLaws.{Line, value, IsLine, FirstAbove, IsSlantAt, NearSides, AllNearStand}
 use Rattle.geometry_laws.proofs.Each.{Each, each_of, each_append}
 use Rattle.geometry_laws.proofs.RingParity.{each_from_all}
 use Rattle.geometry_laws.proofs.Triangles.{dots, dot_stands, marks}
 use Rattle.geometry_laws.proofs.Nudge.{IsSlant, breadth}
-use Rattle.geometry_laws.proofs.SideTriangles.{lower_triangle, upper_triangle}
-use Rattle.geometry_laws.proofs.First.{First, first, over_point, over_is_point, over_on, label_of_first}
+use Rattle.geometry_laws.proofs.SideTriangles.{lower_triangle, upper_triangle, near_sides}
+use Rattle.geometry_laws.proofs.NearPoints.{all_near_stand}
+use Rattle.geometry_laws.proofs.First.{First, first, over_point, over_is_point, over_on, over_higher, not_lower, label_of_first}
+use Rattle.geometry_laws.proofs.Plane.{right}
+use Rattle.geometry_laws.proofs.Cuts.{contains_of_among, among_from_contains}
 use Rattle.geometry_laws.proofs.Avoid.{OffLines, avoid_lines, OffPoints, avoid_points}
 
 pub all_from_each : {X : Type 0} (P : X → Type 0) (xs : List X) → Each P xs → All P xs
@@ -48,17 +53,30 @@ over_straight f x = crosswise (breadth f) x.X x.W
     crosswise : (d x w : ℤ) → (d *ℤ x) *ℤ w ≡ x *ℤ (d *ℤ w)
     crosswise d x w = solve (d ∷ x ∷ w ∷ []) ((var 0 ⊗ var 1) ⊗ var 2) (var 1 ⊗ (var 0 ⊗ var 2)) tt
 
+-- two points straight above a third are on one upright line
+straight : (p z x : Point) → IsPoint x → p.X *ℤ x.W ≡ x.X *ℤ p.W → z.X *ℤ x.W ≡ x.X *ℤ z.W → right p z ≡ pos 0
+straight p z x hx e f = cancel_zero x.W (right p z) hx (solve (p.X ∷ p.W ∷ z.X ∷ z.W ∷ x.W ∷ []) (var 4 ⊗ (var 2 ⊗ var 1 ⊖ var 0 ⊗ var 3)) ((var 2 ⊗ var 4) ⊗ var 1 ⊖ (var 0 ⊗ var 4) ⊗ var 3) tt
+    ∙ ap₂ (λ (s t : ℤ). s *ℤ p.W -ℤ t *ℤ z.W) f e ∙ solve (x.X ∷ p.W ∷ z.W ∷ []) ((var 0 ⊗ var 2) ⊗ var 1 ⊖ (var 0 ⊗ var 1) ⊗ var 2) (lit (pos 0)) tt)
+
 pub first_is_above : (es : List Edge) (x : Point) → IsPoint x → All (λ e. strictly_above e x ≡ false) es ⊎ FirstAbove es x
 first_is_above es x hx = go (first es x hx)
   where
+    lower : (s t : ℤ) → s <ℤ t → (s -ℤ t) <ℤ pos 0
+    lower s t h = omega (arith, ints)
+
     go : Each (λ e. strictly_above e x ≡ false) es ⊎ First es x → All (λ e. strictly_above e x ≡ false) es ⊎ FirstAbove es x
     go (inl h) = inl (all_from_each (λ e. strictly_above e x ≡ false) es h)
     go (inr r) = inr (record {
       point = over_point r.edge x;
       edge = r.edge;
+      among = contains_of_among r.edge es r.among;
+      is_above = r.is_above;
       is_point = over_is_point r.edge x hx r.is_above;
       straight_above = over_straight r.edge x;
+      higher = over_higher r.edge x hx r.is_above;
       is_on = over_on r.edge x hx r.is_above;
+      none_between = λ e c h z hz s k l. not_lower e (over_point r.edge x) z (over_is_point r.edge x hx r.is_above) hz (label_of_first es x hx r e (among_from_contains es e c) ∙ h) k
+          (straight (over_point r.edge x) z x hx (over_straight r.edge x) s) (lower (z.Y *ℤ (over_point r.edge x).W) ((over_point r.edge x).Y *ℤ z.W) l);
       alike = all_from_each (λ e. at_or_above e (over_point r.edge x) ≡ strictly_above e x) es (each_of (λ e. at_or_above e (over_point r.edge x) ≡ strictly_above e x) es (λ g m. label_of_first es x hx r g m));
     })
 
@@ -77,3 +95,9 @@ sides_have_triangles a b ca cb s hs h k = (
   lower_triangle a b (each_from_all IsClosed (rings a) ca) (each_from_all IsClosed (rings b) cb) s hs (slant_marks a b s hs h k),
   upper_triangle a b (each_from_all IsClosed (rings a) ca) (each_from_all IsClosed (rings b) cb) s hs (slant_marks a b s hs h k),
 )
+
+pub sides_are_near : (g : Geometry) (s : Point) → IsPoint s → IsSlantAt g s → (k : ℕ) → NearSides g s k
+sides_are_near g s hs h k = near_sides g s hs (slant_marks g g s hs h h) k
+
+pub near_points_stand_so : (g : Geometry) (s : Point) → IsPoint s → IsSlantAt g s → AllNearStand g s
+near_points_stand_so g s hs h = all_near_stand g s hs (slant_marks g g s hs h h)

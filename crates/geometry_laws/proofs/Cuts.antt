@@ -1,5 +1,5 @@
 -- Strictly within a piece: what the edges are there, seen from any of its points.
-use Rattle.std.proofs.Common.{ℕ, suc, ◌+◌, ◌<◌, ℤ, pos, ◌+ℤ◌, ◌*ℤ◌, ◌<ℤ◌, int_lt, int_le, ◌≡◌, ◌⊎◌, inl, inr, Bool, true, false, ◌&&◌, ◌||◌, if◌then◌else◌, refl, sym, ap, subst, ◌∙◌, List, [], ◌∷◌, length, Contains, arith}
+use Rattle.std.proofs.Common.{ℕ, zero, suc, ◌+◌, ◌<◌, ℤ, pos, ◌+ℤ◌, ◌*ℤ◌, ◌<ℤ◌, int_lt, int_le, ◌≡◌, ◌⊎◌, inl, inr, Bool, true, false, ◌&&◌, ◌||◌, if◌then◌else◌, refl, sym, ap, subst, ◌∙◌, List, [], ◌∷◌, length, Contains, arith, slice_index_or}
 use borrow.Author.Differences.{ints}
 use Rattle.std.specs.Ordering.{int_eq}
 use Rattle.std.specs.declared.cmp.Ordering.{Ordering}
@@ -37,6 +37,14 @@ contains_of_among x (y ∷ ys) (inr a) = let c : Contains ys x = contains_of_amo
   where
     more : (k n : ℕ) → k < n → suc k < suc n
     more k n h = omega arith
+
+at_place : {X : Type 0} (xs : List X) (x : X) (k : ℕ) → k < length xs → slice_index_or xs k x ≡ x → Among x xs
+at_place [] x k h e = absurd (omega (arith, h))
+at_place (y ∷ ys) x zero h e = inl (sym e)
+at_place (y ∷ ys) x (suc k) h e = inr (at_place ys x k (omega (arith, h)) e)
+
+pub among_from_contains : {X : Type 0} (xs : List X) (x : X) → Contains xs x → Among x xs
+among_from_contains xs x h = at_place xs x h.0 h.1 h.2
 
 -- ---- the ends of a piece are points
 pub record Ends (c : Piece) : Type 0 where

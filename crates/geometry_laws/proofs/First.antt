@@ -7,14 +7,17 @@ use Rattle.geometry_model.specs.Geometries.{Edge}
 use Rattle.geometry_model.specs.Sides.{side, on}
 use Rattle.geometry_model.specs.Crossings.{exactly_one as xor, reaches, spans, side_rightward, strictly_above, at_or_above}
 use Rattle.integers.proofs.Ring.{solve, var, lit, ◌⊕◌, ◌⊖◌, ◌⊗◌}
-use Rattle.integers.proofs.Signs.{strict_plus_plus, plus_plus, at_most_or_less, at_most_yes, at_most_no, less_yes, less_no, less_from}
+use Rattle.integers.proofs.Signs.{strict_plus_plus, strict_plus_minus, plus_plus, minus_plus, zero_times, at_most_from, at_most_or_less, at_most_yes, at_most_no, less_yes, less_no, less_from}
 use Rattle.integers.proofs.Quotients.{trans_at_most, at_most_scaled}
 use Rattle.integers.proofs.Tests.{equal_yes}
-use Rattle.geometry_laws.proofs.LineSides.{side'}
+use Rattle.geometry_laws.proofs.LineSides.{side', side_turned}
 use Rattle.geometry_laws.proofs.Each.{Each, Among}
 use Rattle.geometry_laws.proofs.Scaling.{and_parts, and_from}
 use Rattle.geometry_laws.proofs.Nudge.{breadth, breadth_positive}
 use Rattle.geometry_laws.proofs.WithinPiece.{on_from_touch}
+use Rattle.geometry_laws.proofs.Plane.{right}
+use Rattle.geometry_laws.proofs.LineOrder.{up}
+use Rattle.geometry_laws.proofs.Hulls.{on_parts}
 
 -- how far the edge is above the point, times the breadth of the edge
 abbrev pub height : Edge → Point → ℤ
@@ -154,3 +157,61 @@ label_of_first es x hx r g m = go (spans g x) refl
         (ap (λ (z : ℤ). int_le z (pos 0)) (ap (side_rightward g) (over_is_raised r.edge x) ∙ rightward_raised g (breadth r.edge) (height r.edge x) x)
         ∙ number (breadth r.edge) (side_rightward g x) (height r.edge x) (breadth g) (wide r.edge x hx r.is_above) (high r.edge x r.is_above) (breadth_positive g x hx e)
         (λ l. r.least g m (and_from (spans g x) (int_lt (side_rightward g x) (pos 0)) e (less_yes (side_rightward g x) (pos 0) l))))
+
+-- no edge above x meets the upright line between x and the first edge's point
+straight_side : (a b : Position) (p q : Point) → side a b q *ℤ p.W ≡ side a b p *ℤ q.W +ℤ ((b.x -ℤ a.x) *ℤ up p q -ℤ (b.y -ℤ a.y) *ℤ right p q)
+straight_side a b p q = solve (a.x ∷ a.y ∷ b.x ∷ b.y ∷ p.X ∷ p.Y ∷ p.W ∷ q.X ∷ q.Y ∷ q.W ∷ [])
+    (((var 2 ⊖ var 0) ⊗ (var 8 ⊖ var 1 ⊗ var 9) ⊖ (var 3 ⊖ var 1) ⊗ (var 7 ⊖ var 0 ⊗ var 9)) ⊗ var 6)
+    (((var 2 ⊖ var 0) ⊗ (var 5 ⊖ var 1 ⊗ var 6) ⊖ (var 3 ⊖ var 1) ⊗ (var 4 ⊖ var 0 ⊗ var 6)) ⊗ var 9
+    ⊕ ((var 2 ⊖ var 0) ⊗ (var 8 ⊗ var 6 ⊖ var 5 ⊗ var 9) ⊖ (var 3 ⊖ var 1) ⊗ (var 7 ⊗ var 6 ⊖ var 4 ⊗ var 9))) tt
+
+-- on one upright line the side from left to right grows with the height, by the breadth
+rightward_along : (g : Edge) (p q : Point) → right p q ≡ pos 0 → side_rightward g q *ℤ p.W ≡ side_rightward g p *ℤ q.W +ℤ breadth g *ℤ up p q
+rightward_along g p q e = go (int_le g.start.x g.end.x)
+  where
+    dropped : (a b : Position) → side a b q *ℤ p.W ≡ side a b p *ℤ q.W +ℤ (b.x -ℤ a.x) *ℤ up p q
+    dropped a b = straight_side a b p q ∙ ap (λ (z : ℤ). side a b p *ℤ q.W +ℤ ((b.x -ℤ a.x) *ℤ up p q -ℤ (b.y -ℤ a.y) *ℤ z)) e
+        ∙ solve ((side a b p *ℤ q.W) ∷ ((b.x -ℤ a.x) *ℤ up p q) ∷ (b.y -ℤ a.y) ∷ []) (var 0 ⊕ (var 1 ⊖ var 2 ⊗ lit (pos 0))) (var 0 ⊕ var 1) tt
+
+    go : (t : Bool) → (if t then side g.start g.end q else side g.end g.start q) *ℤ p.W ≡ (if t then side g.start g.end p else side g.end g.start p) *ℤ q.W +ℤ (if t then g.end.x -ℤ g.start.x else g.start.x -ℤ g.end.x) *ℤ up p q
+    go true = dropped g.start g.end
+    go false = dropped g.end g.start
+
+-- an edge at or above p meets the upright line through p at p or higher
+pub not_lower : (g : Edge) (p z : Point) → IsPoint p → IsPoint z → at_or_above g p ≡ true → on g z ≡ true → right p z ≡ pos 0 → up p z <ℤ pos 0 → ⊥
+not_lower g p z hp hz h k e l = clash (side_rightward g z *ℤ p.W) (side_rightward g p *ℤ z.W) (breadth g *ℤ up p z) (rightward_along g p z e) flat_times
+    (times_weak (side_rightward g p) z.W (at_most_from (side_rightward g p) (pos 0) ((and_parts (spans g p) (int_le (side_rightward g p) (pos 0)) h).1)) hz)
+    (strict_plus_minus (breadth g) (up p z) (breadth_positive g p hp ((and_parts (spans g p) (int_le (side_rightward g p) (pos 0)) h).0)) l)
+  where
+    turned : (s t : ℤ) → t ≡ pos 0 -ℤ s → s ≡ pos 0 → t ≡ pos 0
+    turned s t e h = omega (arith, ints)
+
+    flat : side_rightward g z ≡ pos 0
+    flat = go (int_le g.start.x g.end.x)
+      where
+        go : (t : Bool) → (if t then side g.start g.end z else side g.end g.start z) ≡ pos 0
+        go true = (on_parts g z k).on_line
+        go false = turned (side g.start g.end z) (side g.end g.start z) (side_turned g.start g.end z) ((on_parts g z k).on_line)
+
+    flat_times : side_rightward g z *ℤ p.W ≡ pos 0
+    flat_times = zero_times (side_rightward g z) p.W flat
+
+    weak : (w : ℤ) → pos 0 <ℤ w → pos 0 ≤ℤ w
+    weak w h = omega (arith, ints)
+
+    times_weak : (s w : ℤ) → s ≤ℤ pos 0 → pos 0 <ℤ w → (s *ℤ w) ≤ℤ pos 0
+    times_weak s w h k = minus_plus s w h (weak w k)
+
+    clash : (x y z : ℤ) → x ≡ y +ℤ z → x ≡ pos 0 → y ≤ℤ pos 0 → z <ℤ pos 0 → ⊥
+    clash x y z e f h k = omega (arith, ints)
+
+-- and it is higher than x
+pub over_higher : (f : Edge) (x : Point) → IsPoint x → strictly_above f x ≡ true → (x.Y *ℤ (over_point f x).W) <ℤ ((over_point f x).Y *ℤ x.W)
+unfolding over_point
+over_higher f x hx h = raises (breadth f) (height f x) x.Y x.W (strict_plus_plus (height f x) x.W (high f x h) hx)
+  where
+    more : (s t r : ℤ) → t ≡ s +ℤ r → pos 0 <ℤ r → s <ℤ t
+    more s t r e h = omega (arith, ints)
+
+    raises : (d h y w : ℤ) → pos 0 <ℤ (h *ℤ w) → (y *ℤ (d *ℤ w)) <ℤ ((d *ℤ y +ℤ h) *ℤ w)
+    raises d h y w k = more (y *ℤ (d *ℤ w)) ((d *ℤ y +ℤ h) *ℤ w) (h *ℤ w) (solve (d ∷ h ∷ y ∷ w ∷ []) ((var 0 ⊗ var 2 ⊕ var 1) ⊗ var 3) (var 2 ⊗ (var 0 ⊗ var 3) ⊕ var 1 ⊗ var 3) tt) k

@@ -22,6 +22,7 @@ pub mod Cuts
 pub mod WithinPiece
 pub mod PieceTheorems
 pub mod SideTriangles
+pub mod NearPoints
 pub mod First
 pub mod Avoid
 pub mod CoverTheorems

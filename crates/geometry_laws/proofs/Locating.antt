@@ -2,7 +2,7 @@
 use Rattle.std.proofs.Common.{ℤ, pos, ◌+ℤ◌, ◌*ℤ◌, ◌≤ℤ◌, ◌<ℤ◌, ◌≡◌, Bool, true, false, if◌then◌else◌, refl, sym, ap, ap₂, ◌∙◌, List, [], ◌∷◌, flat_map, option_to_list, arith}
 use borrow.Author.Differences.{ints}
 use Rattle.geometry_model.specs.Points.{Position, Point, IsPoint, point_at}
-use Rattle.geometry_model.specs.Geometries.{Edge, Geometry, edges, edges_of_line, edges_of_lines, listed}
+use Rattle.geometry_model.specs.Geometries.{Edge, Geometry, edges, edges_of_line, edges_of_lines, listed, joined_rings}
 use Rattle.geometry_model.specs.Sides.{on}
 use Rattle.geometry_model.specs.Crossings.{exactly_one as xor, odd_above}
 use Rattle.geometry_model.specs.Locations.{stands_at, last_after, ends, in_points, in_lines, in_rings, locate}
@@ -114,3 +114,4 @@ locate_off (Geometry.MultiPoint ps) p hp h = points_off ps p h.listed_off
 locate_off (Geometry.LineString l) p hp h = lines_off (l ∷ []) p hp h.edges_off
 locate_off (Geometry.MultiLineString ls) p hp h = lines_off ls p hp h.edges_off
 locate_off (Geometry.Polygon rs) p hp h = rings_off rs p h.edges_off
+locate_off (Geometry.MultiPolygon es) p hp h = rings_off (joined_rings es) p h.edges_off

@@ -39,7 +39,7 @@ side_lifted a b d n p = solve (a.x ∷ a.y ∷ b.x ∷ b.y ∷ p.X ∷ p.Y ∷ p
 abbrev pub IsSlant : Point → Edge → Type 0
 IsSlant p e = on e p ≡ true → e.start.x ≡ e.end.x → ⊥
 
-off_by_breadth : (d : ℤ) (e : Edge) (n : ℕ) (p : Point) → (d ≡ pos 0 → ⊥) → on e p ≡ true → (e.start.x ≡ e.end.x → ⊥) → on e (lifted d n p) ≡ false
+pub off_by_breadth : (d : ℤ) (e : Edge) (n : ℕ) (p : Point) → (d ≡ pos 0 → ⊥) → on e p ≡ true → (e.start.x ≡ e.end.x → ⊥) → on e (lifted d n p) ≡ false
 off_by_breadth d e n p hd h f = by_contraries (on e (lifted d n p)) false (λ k. absurd (apart ((on_parts e (lifted d n p) k).on_line))) refl
   where
     drop : (n s t r : ℤ) → r ≡ n *ℤ s +ℤ t → s ≡ pos 0 → r ≡ pos 0 → t ≡ pos 0

@@ -4,7 +4,7 @@ use mathlib.Core.Path.{fun_ext}
 use Rattle.std.specs.List.{list_any}
 use Rattle.std.specs.Ordering.{int_cmp, ordering_then, is_eq}
 use Rattle.geometry_model.specs.Points.{Position, Point, same_point, compare, point_at}
-use Rattle.geometry_model.specs.Geometries.{Edge, Geometry, edges_of_lines}
+use Rattle.geometry_model.specs.Geometries.{Edge, Geometry, edges_of_lines, joined_rings}
 use Rattle.geometry_model.specs.Sides.{side, on, between}
 use Rattle.geometry_model.specs.Crossings.{exactly_one, reaches, spans, side_rightward, strictly_above, at_or_above, odd, odd_above, odd_at_or_above}
 use Rattle.geometry_model.specs.Locations.{stands_at, ends, on_some, in_points, in_lines, in_rings, locate}
@@ -125,3 +125,4 @@ locate_respects (Geometry.MultiPoint ps) = in_points_respects ps
 locate_respects (Geometry.LineString ps) = in_lines_respects (ps ∷ [])
 locate_respects (Geometry.MultiLineString ls) = in_lines_respects ls
 locate_respects (Geometry.Polygon rs) = in_rings_respects rs
+locate_respects (Geometry.MultiPolygon es) = in_rings_respects (joined_rings es)

@@ -2,7 +2,7 @@
 use Rattle.std.proofs.Common.{ℕ, ◌+◌, ◌<◌, ℤ, pos, ◌+ℤ◌, ◌-ℤ◌, ◌*ℤ◌, ◌<ℤ◌, ◌≡◌, Bool, true, false, if◌then◌else◌, refl, sym, ap, ap₂, ◌∙◌, List, [], ◌∷◌, ◌++◌, map, arith}
 use borrow.Author.Differences.{ints}
 use Rattle.geometry_model.specs.Points.{Position, Point, IsPoint, point_at}
-use Rattle.geometry_model.specs.Geometries.{Edge, Geometry, edges, listed, rings}
+use Rattle.geometry_model.specs.Geometries.{Edge, Geometry, edges, listed, rings, joined_rings}
 use Rattle.geometry_model.specs.Sides.{on}
 use Rattle.geometry_model.specs.Dimensions.{weighted_three, HasTriangle, common}
 use Rattle.geometry_model.specs.Locations.{stands_at, locate}
@@ -74,6 +74,7 @@ above_kept (Geometry.MultiPoint ps) p z hp hz c h = refl
 above_kept (Geometry.LineString l) p z hp hz c h = refl
 above_kept (Geometry.MultiLineString ls) p z hp hz c h = refl
 above_kept (Geometry.Polygon rs) p z hp hz c h = ap (λ (t : Bool). if t then Interior else Exterior) (parity_by_missing rs p z hp hz c h)
+above_kept (Geometry.MultiPolygon es) p z hp hz c h = ap (λ (t : Bool). if t then Interior else Exterior) (parity_by_missing (joined_rings es) p z hp hz c h)
 
 -- ---- the triangle
 pub triangle_of_off : (a b : Geometry) (p : Point) (l k : Location) → Each IsClosed (rings a) → Each IsClosed (rings b) → IsPoint p → OffAll (marks a b) p → above a p ≡ l → above b p ≡ k → HasTriangle (common a l b k)

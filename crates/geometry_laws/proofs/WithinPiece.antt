@@ -4,7 +4,7 @@ use borrow.Author.Differences.{ints}
 use Rattle.std.specs.Ordering.{int_eq}
 use Rattle.std.specs.declared.cmp.Ordering.TheVariants.{Less}
 use Rattle.geometry_model.specs.Points.{Position, Point, IsPoint, point_at, compare}
-use Rattle.geometry_model.specs.Geometries.{Edge, Geometry, edges, edges_of_lines, listed, rings}
+use Rattle.geometry_model.specs.Geometries.{Edge, Geometry, edges, edges_of_lines, listed, rings, joined_rings}
 use Rattle.geometry_model.specs.Sides.{side, on, on_one_line}
 use Rattle.geometry_model.specs.Crossings.{exactly_one as xor, reaches as position_reaches, spans, side_rightward, strictly_above, at_or_above, odd, odd_above, odd_at_or_above}
 use Rattle.geometry_model.specs.Dimensions.{area}
@@ -67,6 +67,7 @@ locate_within es ps c h d x y i j (Geometry.MultiPoint qs) k b = points_within e
 locate_within es ps c h d x y i j (Geometry.LineString l) k b = lines_within es ps c h d x y i j (l ∷ []) b.edge
 locate_within es ps c h d x y i j (Geometry.MultiLineString ls) k b = lines_within es ps c h d x y i j ls b.edge
 locate_within es ps c h d x y i j (Geometry.Polygon rs) k b = ap₂ (λ (s t : Bool). if s then Boundary else if t then Interior else Exterior) (on_some_within es ps c h d x y i j rs b.edge) (odd_within es ps c h d x y i j rs k b.edge)
+locate_within es ps c h d x y i j (Geometry.MultiPolygon qs) k b = ap₂ (λ (s t : Bool). if s then Boundary else if t then Interior else Exterior) (on_some_within es ps c h d x y i j (joined_rings qs) b.edge) (odd_within es ps c h d x y i j (joined_rings qs) k b.edge)
 
 -- ---- edges that go through the point
 abbrev pub touches : Edge → Point → Bool
@@ -249,6 +250,7 @@ above_within es ps c h d x y i j (Geometry.MultiPoint qs) k b = refl
 above_within es ps c h d x y i j (Geometry.LineString l) k b = refl
 above_within es ps c h d x y i j (Geometry.MultiLineString ls) k b = refl
 above_within es ps c h d x y i j (Geometry.Polygon rs) k b = ap (λ (t : Bool). if t then Interior else Exterior) (odd_within es ps c h d x y i j rs k b.edge)
+above_within es ps c h d x y i j (Geometry.MultiPolygon qs) k b = ap (λ (t : Bool). if t then Interior else Exterior) (odd_within es ps c h d x y i j (joined_rings qs) k b.edge)
 
 pub below_within : (es : List Edge) (ps : List Position) (c : Piece) (h : IsPiece es ps c) → Ends c → (h.edge.start.x ≡ h.edge.end.x → ⊥) → (x y : Point) → Inside es ps c h x → Inside es ps c h y → (g : Geometry) → Each IsClosed (rings g) → Belongs es ps g → below g x ≡ below g y
 below_within es ps c h d s x y i j (Geometry.Point o) k b = refl
@@ -256,3 +258,4 @@ below_within es ps c h d s x y i j (Geometry.MultiPoint qs) k b = refl
 below_within es ps c h d s x y i j (Geometry.LineString l) k b = refl
 below_within es ps c h d s x y i j (Geometry.MultiLineString ls) k b = refl
 below_within es ps c h d s x y i j (Geometry.Polygon rs) k b = ap (λ (t : Bool). if t then Interior else Exterior) (odd_at_or_above_within es ps c h d s x y i j rs k b.edge)
+below_within es ps c h d s x y i j (Geometry.MultiPolygon qs) k b = ap (λ (t : Bool). if t then Interior else Exterior) (odd_at_or_above_within es ps c h d s x y i j (joined_rings qs) k b.edge)

@@ -1,11 +1,11 @@
 -- Laws of what finitely many points and lines leave free, and of the first edge above a point.
-use Rattle.std.specs.Prelude.{◌≡◌, ◌≢◌, ℕ, ◌+◌, ◌<◌, ◌⊎◌, false, true, List, All, ℤ, pos, ◌+ℤ◌, ◌*ℤ◌}
+use Rattle.std.specs.Prelude.{◌≡◌, ◌≢◌, ℕ, ◌+◌, ◌<◌, ◌⊎◌, false, true, List, All, Contains, ℤ, pos, ◌+ℤ◌, ◌-ℤ◌, ◌*ℤ◌, ◌<ℤ◌}
 use Rattle.geometry_model.specs.Points.{Point, IsPoint, same_point}
 use Rattle.geometry_model.specs.Geometries.{Edge, Geometry, edges, listed}
 use Rattle.geometry_model.specs.Sides.{on}
 use Rattle.geometry_model.specs.Crossings.{strictly_above, at_or_above}
 use Rattle.geometry_model.specs.Dimensions.{area, weighted, weighted_three, HasTriangle, common}
-use Rattle.geometry_model.specs.Locations.{stands_at}
+use Rattle.geometry_model.specs.Locations.{stands_at, locate}
 use Rattle.geometry_model.specs.Labels.{above, below}
 use Rattle.geometry_laws.specs.PieceLaws.{HasClosedRings}
 
@@ -33,13 +33,25 @@ abbrev pub LinesDontCover : Type 0
 LinesDontCover = (ls : List Line) (p q r : Point) → All IsLine ls → area p q r ≢ pos 0
     → (k m n : ℕ) × (0 < k + m + n) × All (λ l. value l (weighted_three k p m q n r) ≢ pos 0) ls
 
--- a point straight above x on an edge at which the same edges are at or above as are strictly above x (profile)
+-- the points are on one upright line
+abbrev pub IsStraightOver : Point → Point → Type 0
+IsStraightOver p q = p.X *ℤ q.W ≡ q.X *ℤ p.W
+
+-- the first has a lesser y than the second
+abbrev pub IsLower : Point → Point → Type 0
+IsLower p q = (p.Y *ℤ q.W) <ℤ (q.Y *ℤ p.W)
+
+-- the first of the edges that are strictly above x, and its point straight above x: every other such edge meets the upright line there or higher, and just the edges that are strictly above x are at or above that point
 pub record FirstAbove (es : List Edge) (x : Point) : Type 0 where
   pub point : Point
   pub edge : Edge
+  pub among : Contains es edge
+  pub is_above : strictly_above edge x ≡ true
   pub is_point : IsPoint point
-  pub straight_above : point.X *ℤ x.W ≡ x.X *ℤ point.W
+  pub straight_above : IsStraightOver point x
+  pub higher : IsLower x point
   pub is_on : on edge point ≡ true
+  pub none_between : (e : Edge) → Contains es e → strictly_above e x ≡ true → (z : Point) → IsPoint z → IsStraightOver z x → on e z ≡ true → IsLower z point → ⊥
   pub alike : All (λ e. at_or_above e point ≡ strictly_above e x) es
 
 -- no edge is strictly above a point, or there is a first one (profile)
@@ -55,3 +67,34 @@ pub record IsSlantAt (g : Geometry) (p : Point) : Type 0 where
 abbrev pub SidesHaveTriangles : Type 0
 SidesHaveTriangles = (a b : Geometry) → HasClosedRings a → HasClosedRings b → (s : Point) → IsPoint s → IsSlantAt a s → IsSlantAt b s
     → HasTriangle (common a (below a s) b (below b s)) × HasTriangle (common a (above a s) b (above b s))
+
+-- the first is straight below the second, nearer than 1/k
+pub record IsJustBelow (k : ℕ) (p q : Point) : Type 0 where
+  pub straight : IsStraightOver p q
+  pub lower : IsLower p q
+  pub near : (pos k *ℤ (q.Y *ℤ p.W -ℤ p.Y *ℤ q.W)) <ℤ (p.W *ℤ q.W)
+
+-- a point straight below s and one straight above it, both nearer than 1/k, that stand in g as below and above say
+pub record NearSides (g : Geometry) (s : Point) (k : ℕ) : Type 0 where
+  pub under : Point
+  pub over : Point
+  pub under_is_point : IsPoint under
+  pub over_is_point : IsPoint over
+  pub is_below : IsJustBelow k under s
+  pub is_above : IsJustBelow k s over
+  pub under_stands : locate g under ≡ below g s
+  pub over_stands : locate g over ≡ above g s
+
+-- straight below and straight above a point through which no upright edge goes there are, arbitrarily near, points that stand as below and above say
+abbrev pub SidesAreNear : Type 0
+SidesAreNear = (g : Geometry) (s : Point) → IsPoint s → IsSlantAt g s → (k : ℕ) → NearSides g s k
+
+-- nearer than some 1/k, all points straight below s stand in g as below says, and all straight above it as above says
+pub record AllNearStand (g : Geometry) (s : Point) : Type 0 where
+  pub k : ℕ
+  pub under_stand : (t : Point) → IsPoint t → IsJustBelow k t s → locate g t ≡ below g s
+  pub over_stand : (t : Point) → IsPoint t → IsJustBelow k s t → locate g t ≡ above g s
+
+-- straight below and straight above a point through which no upright edge goes, all points near enough stand as below and above say
+abbrev pub NearPointsStandSo : Type 0
+NearPointsStandSo = (g : Geometry) (s : Point) → IsPoint s → IsSlantAt g s → AllNearStand g s

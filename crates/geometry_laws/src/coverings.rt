@@ -1,6 +1,6 @@
 //! Laws of what finitely many points and lines leave free, and of the first edge above a point.
 
-ghost use Rattle.geometry_laws.specs.CoverLaws.{PointsDontCover, LinesDontCover, FirstIsAbove, SidesHaveTriangles};
+ghost use Rattle.geometry_laws.specs.CoverLaws.{PointsDontCover, LinesDontCover, FirstIsAbove, SidesHaveTriangles, SidesAreNear, NearPointsStandSo};
 
 /// Finitely many points don't cover a segment. (Profile.)
 pub fn points_dont_cover()
@@ -12,7 +12,7 @@ pub fn lines_dont_cover()
     ensures { LinesDontCover }
 {}
 
-/// Where some edge is strictly above a point there is a first one: at its point straight above, just those edges are at or above that are strictly above the point itself. (Profile.)
+/// Where some edge of a list is strictly above a point there is a first one: it is one of the list, no other meets the upright line between, and at its point just those edges are at or above that are strictly above the point itself.
 pub fn first_is_above()
     ensures { FirstIsAbove }
 {}
@@ -20,4 +20,14 @@ pub fn first_is_above()
 /// Just below and just above a point through which no upright edge goes there are triangles of points that stand as the sides say. (Profile.)
 pub fn sides_have_triangles()
     ensures { SidesHaveTriangles }
+{}
+
+/// Straight below and straight above a point through which no upright edge goes there are, arbitrarily near, points that stand as `below` and `above` say.
+pub fn sides_are_near()
+    ensures { SidesAreNear }
+{}
+
+/// Straight below and straight above such a point, all points near enough stand as `below` and `above` say.
+pub fn near_points_stand_so()
+    ensures { NearPointsStandSo }
 {}

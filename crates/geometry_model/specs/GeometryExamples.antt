@@ -6,7 +6,7 @@ use Rattle.geometry_model.specs.Locations.{locate}
 use Rattle.geometry_model.specs.Patterns.{matrix_text, pattern_of_text}
 use Rattle.geometry_model.specs.Predicates.{holds, forces_meeting}
 use Rattle.geometry_model.specs.Pieces.{Piece, pieces}
-use Rattle.geometry_model.specs.Labels.{labelled_matrix, cuts_of_both, edges_of_both}
+use Rattle.geometry_model.specs.Labels.{labelled_matrix, cuts_of_both, edges_of_both, below, above}
 use Rattle.geometry_model.specs.Envelopes.{Envelope, envelope, meets}
 use Rattle.geometry_model.specs.TextReading.{read_text}
 use Rattle.geometry_model.specs.declared.point_sets.Location.{Location}
@@ -32,6 +32,14 @@ relate s t = with_both (λ a b. matrix_text (labelled_matrix a b)) (read_text s)
 -- where the point (X/W, Y/W) stands in the geometry of a text (profile)
 abbrev pub place : List ℕ → Point → Option Location
 place s p = with_one (λ a. locate a p) (read_text s)
+
+-- where what is just below the point (X/W, Y/W) stands in the geometry of a text
+abbrev pub just_below : List ℕ → Point → Option Location
+just_below s p = with_one (λ a. below a p) (read_text s)
+
+-- where what is just above it stands
+abbrev pub just_above : List ℕ → Point → Option Location
+just_above s p = with_one (λ a. above a p) (read_text s)
 
 -- whether a predicate holds of two texts, by their label matrix (profile)
 abbrev pub tested : Predicate → List ℕ → List ℕ → Option Bool
@@ -76,3 +84,11 @@ frame = codes "POLYGON((0 0,10 0,10 10,0 10,0 0),(4 4,6 4,6 6,4 6,4 4))"
 -- a square that stands on a corner (profile)
 abbrev pub diamond : List ℕ
 diamond = codes "POLYGON((0 2,2 0,4 2,2 4,0 2))"
+
+-- two squares beside each other
+abbrev pub two_squares : List ℕ
+two_squares = codes "MULTIPOLYGON(((0 0,4 0,4 4,0 4,0 0)),((6 0,8 0,8 4,6 4,6 0)))"
+
+-- a square in the hole of another
+abbrev pub square_in_a_hole : List ℕ
+square_in_a_hole = codes "MULTIPOLYGON(((0 0,10 0,10 10,0 10,0 0),(2 2,8 2,8 8,2 8,2 2)),((4 4,6 4,6 6,4 6,4 4)))"

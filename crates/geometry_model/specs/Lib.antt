@@ -20,6 +20,7 @@ pub mod PointSetLaws
 pub mod DimensionLaws
 pub mod PredicateLaws
 pub mod Validity
+pub mod GivenMatrix
 pub mod FirstFaults
 pub mod ValidityExamples
 pub mod LeastFormLaws

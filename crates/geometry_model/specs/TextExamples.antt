@@ -1,5 +1,5 @@
 -- Words for examples of texts.
-use Rattle.std.specs.Prelude.{ℕ, ℤ, pos, List, [], ◌∷◌}
+use Rattle.std.specs.Prelude.{ℕ, ◌+◌, ℤ, pos, List, [], ◌∷◌}
 use Rattle.geometry_model.specs.Points.{Position}
 use Rattle.geometry_model.specs.TextReading.{Input}
 
@@ -10,6 +10,10 @@ at x y = record { x = x; y = y }
 -- the ring of a square of side 4 (profile)
 abbrev pub square : List Position
 square = at (pos 0) (pos 0) ∷ at (pos 4) (pos 0) ∷ at (pos 4) (pos 4) ∷ at (pos 0) (pos 4) ∷ at (pos 0) (pos 0) ∷ []
+
+-- the ring of a corner of side 1 whose least position has these numbers
+abbrev pub corner : ℕ → List Position
+corner n = at (pos n) (pos n) ∷ at (pos (n + 1)) (pos n) ∷ at (pos n) (pos (n + 1)) ∷ at (pos n) (pos n) ∷ []
 
 -- a text to be read from its first byte on (profile)
 abbrev pub input : List ℕ → Input

@@ -7,11 +7,12 @@ use Rattle.std.specs.Option.{option_to_list}
 use Rattle.std.specs.Str.{str_to_ascii_lowercase}
 use Rattle.std.specs.Str.Parse.{digits_value}
 use Rattle.geometry_model.specs.Points.{Position}
+use Rattle.geometry_model.specs.declared.limits.TheConstants.{COORDINATE_LIMIT}
 use Rattle.geometry_model.specs.Geometries.{Geometry, Point, MultiPoint, LineString, MultiLineString, Polygon, MultiPolygon, joined_rings}
 
 -- the greatest size of a coordinate (profile)
 abbrev pub coordinate_limit : ℕ
-coordinate_limit = 100000
+coordinate_limit = COORDINATE_LIMIT
 
 -- the most positions of a geometry, as they are written (profile)
 abbrev pub position_limit : ℕ

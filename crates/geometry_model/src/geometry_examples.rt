@@ -1,5 +1,5 @@
 //! Worked rows of points, locations, cut points, patterns, predicates and envelopes, computed.
-#![tactic(auto, unfolding(crate::specs::TextReading::read_text, crate::specs::TextReading::whole, crate::specs::TextReading::tagged, crate::specs::TextReading::typed, crate::specs::TextReading::body, crate::specs::TextReading::parts, crate::specs::TextReading::line, crate::specs::TextReading::separated, crate::specs::TextReading::point, crate::specs::TextReading::position, crate::specs::TextReading::space, crate::specs::TextReading::coordinate, crate::specs::TextReading::numeral, crate::specs::TextReading::fraction, crate::specs::TextReading::sign,))]
+#![tactic(auto, unfolding(crate::specs::TextReading::read_text, crate::specs::TextReading::whole, crate::specs::TextReading::tagged, crate::specs::TextReading::typed, crate::specs::TextReading::body, crate::specs::TextReading::parts, crate::specs::TextReading::polygon, crate::specs::TextReading::polygons, crate::specs::TextReading::line, crate::specs::TextReading::separated, crate::specs::TextReading::point, crate::specs::TextReading::position, crate::specs::TextReading::space, crate::specs::TextReading::coordinate, crate::specs::TextReading::numeral, crate::specs::TextReading::fraction, crate::specs::TextReading::sign,))]
 
 ghost use Rattle.std.specs.Prelude.{◌≡◌, true, false, [], ◌∷◌, codes, pos, negsuc, Some, None};
 ghost use Rattle.std.specs.declared.cmp.Ordering.TheVariants.{Less, Equal, Greater};
@@ -8,6 +8,8 @@ ghost use Rattle.geometry_model.specs.Patterns.{pattern_of_text};
 ghost use Rattle.geometry_model.specs.Predicates.{forces_meeting};
 ghost use Rattle.geometry_model.specs.GeometryExamples.{
   place,
+  just_below,
+  just_above,
   tested,
   forces,
   cuts,
@@ -19,6 +21,7 @@ ghost use Rattle.geometry_model.specs.GeometryExamples.{
   square,
   frame,
   diamond,
+  square_in_a_hole,
 };
 ghost use Rattle.geometry_model.specs.declared.point_sets.Location.TheVariants.{Interior, Boundary, Exterior};
 ghost use Rattle.geometry_model.specs.declared.relations.Predicate.TheVariants.{
@@ -58,6 +61,25 @@ pub fn locations()
     ensures in_a_hole { place frame (point (pos 5) (pos 5) (pos 1)) ≡ Some Exterior }
     ensures on_the_ring_of_a_hole { place frame (point (pos 4) (pos 5) (pos 1)) ≡ Some Boundary }
     ensures beside_a_hole { place frame (point (pos 7) (pos 10) (pos 2)) ≡ Some Interior }
+    ensures in_an_element_within_a_hole { place square_in_a_hole (point (pos 5) (pos 5) (pos 1)) ≡ Some Interior }
+    ensures between_an_element_and_the_hole { place square_in_a_hole (point (pos 3) (pos 3) (pos 1)) ≡ Some Exterior }
+    ensures on_the_ring_of_an_element { place square_in_a_hole (point (pos 4) (pos 5) (pos 1)) ≡ Some Boundary }
+{}
+
+/// Below is towards lesser y: just below the lower edge of an area is its exterior, and just above that edge its interior.
+pub fn sides_of_edges()
+    ensures below_the_lower_edge { just_below square (point (pos 2) (pos 0) (pos 1)) ≡ Some Exterior }
+    ensures above_the_lower_edge { just_above square (point (pos 2) (pos 0) (pos 1)) ≡ Some Interior }
+    ensures below_the_upper_edge { just_below square (point (pos 2) (pos 4) (pos 1)) ≡ Some Interior }
+    ensures above_the_upper_edge { just_above square (point (pos 2) (pos 4) (pos 1)) ≡ Some Exterior }
+    ensures below_the_lower_edge_of_a_hole { just_below frame (point (pos 5) (pos 4) (pos 1)) ≡ Some Interior }
+    ensures above_the_lower_edge_of_a_hole { just_above frame (point (pos 5) (pos 4) (pos 1)) ≡ Some Exterior }
+    ensures below_a_slanting_edge { just_below diamond (point (pos 1) (pos 1) (pos 1)) ≡ Some Exterior }
+    ensures above_a_slanting_edge { just_above diamond (point (pos 1) (pos 1) (pos 1)) ≡ Some Interior }
+    ensures below_an_element_within_a_hole { just_below square_in_a_hole (point (pos 5) (pos 4) (pos 1)) ≡ Some Exterior }
+    ensures above_an_element_within_a_hole { just_above square_in_a_hole (point (pos 5) (pos 4) (pos 1)) ≡ Some Interior }
+    ensures below_a_line { just_below (codes "LINESTRING(0 0,4 0)") (point (pos 2) (pos 0) (pos 1)) ≡ Some Exterior }
+    ensures above_a_line { just_above (codes "LINESTRING(0 0,4 0)") (point (pos 2) (pos 0) (pos 1)) ≡ Some Exterior }
 {}
 
 /// Cut points and pieces of two lines that cross, of two that share a stretch, and of an upright one. (Profile.)
@@ -77,10 +99,10 @@ pub fn cut_points_and_pieces()
         ≡ Some (from_to (point (pos 0) (pos 0) (pos 1)) (point (pos 2) (pos 0) (pos 1))
         ∷ from_to (point (pos 2) (negsuc 0) (pos 1)) (point (pos 2) (pos 0) (pos 1))
         ∷ from_to (point (pos 2) (pos 0) (pos 1)) (point (pos 2) (pos 1) (pos 1)) ∷ []) }
-    ensures at_the_limit { cuts (codes "LINESTRING(-100000 -100000,100000 99999)") (codes "LINESTRING(-100000 100000,99999 -100000)")
-        ≡ Some (point (negsuc 99999) (negsuc 99999) (pos 1) ∷ point (negsuc 99999) (pos 100000) (pos 1)
-        ∷ point (negsuc 99999) (negsuc 39999899999) (pos 79999600001)
-        ∷ point (pos 99999) (negsuc 99999) (pos 1) ∷ point (pos 100000) (pos 99999) (pos 1) ∷ []) }
+    ensures at_the_limit { cuts (codes "LINESTRING(-10000000 -10000000,10000000 9999999)") (codes "LINESTRING(-10000000 10000000,9999999 -10000000)")
+        ≡ Some (point (negsuc 9999999) (negsuc 9999999) (pos 1) ∷ point (negsuc 9999999) (pos 10000000) (pos 1)
+        ∷ point (negsuc 9999999) (negsuc 399999989999999) (pos 799999960000001)
+        ∷ point (pos 9999999) (negsuc 9999999) (pos 1) ∷ point (pos 10000000) (pos 9999999) (pos 1) ∷ []) }
 {}
 
 /// Texts of patterns: nine characters, letters in either case (06-103r4, 6.1.15.2).
@@ -94,6 +116,8 @@ pub fn pattern_texts()
 /// Predicates of worked rows, by their label matrices (06-103r4, 6.1.15.3).
 pub fn predicates_of_rows()
     ensures empty_geometries_are_equal { tested Equals (codes "POINT EMPTY") (codes "LINESTRING EMPTY") ≡ Some true }
+    ensures empty_areas_are_equal { tested Equals (codes "MULTIPOLYGON EMPTY") (codes "POLYGON EMPTY") ≡ Some true }
+    ensures one_element_is_a_polygon { tested Equals (codes "MULTIPOLYGON(((0 0,4 0,4 4,0 4,0 0)))") square ≡ Some true }
     ensures two_elements_are_equal { tested Equals (codes "LINESTRING(0 0,2 0)") (codes "MULTILINESTRING((0 0,1 0),(1 0,2 0))") ≡ Some true }
     ensures corner_touches { tested Touches (codes "LINESTRING(-2 2,2 -2)") square ≡ Some true }
     ensures corner_does_not_cross { tested Crosses (codes "LINESTRING(-2 2,2 -2)") square ≡ Some false }

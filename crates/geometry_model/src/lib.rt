@@ -8,6 +8,7 @@ pub mod dimension_laws;
 pub mod geometry_examples;
 pub mod geometry_faults;
 pub mod least_form_laws;
+pub mod limits;
 pub mod matrix_examples;
 pub mod point_set_laws;
 pub mod point_sets;
@@ -20,6 +21,7 @@ pub mod validity_examples;
 pub mod validity_faults;
 
 pub use geometry_faults::GeometryFault;
+pub use limits::COORDINATE_LIMIT;
 pub use point_sets::{Dimension, Location};
 pub use relations::{Pattern, PatternCharacter, Predicate};
 pub use shapes::{GeometryType, Kind};

@@ -8,10 +8,11 @@ ghost use Rattle.geometry_model.specs.Geometries.{
   LineString,
   MultiLineString,
   Polygon,
+  MultiPolygon,
 };
 ghost use Rattle.geometry_model.specs.CanonicalText.{canonical_text};
-ghost use Rattle.geometry_model.specs.TextReading.{read_text, separated, parts, position};
-ghost use Rattle.geometry_model.specs.TextExamples.{at, square, input};
+ghost use Rattle.geometry_model.specs.TextReading.{read_text, separated, parts, polygons, body, position};
+ghost use Rattle.geometry_model.specs.TextExamples.{at, square, corner, input};
 ghost use Rattle.geometry_model.specs.declared.text_faults.TextFault.TheVariants.{
   Syntax,
   OffGrid,
@@ -26,7 +27,7 @@ pub fn texts_of_points()
     ensures points { read_text (codes "POINT(1. .0)") ≡ Ok (Point (Some (at (pos 1) (pos 0)))) }
     ensures signs { read_text (codes "POINT(+1.00 01)") ≡ Ok (Point (Some (at (pos 1) (pos 1)))) }
     ensures minus { read_text (codes "POINT(-0 -2)") ≡ Ok (Point (Some (at (pos 0) (negsuc 1)))) }
-    ensures limit { read_text (codes "POINT(-100000 100000)") ≡ Ok (Point (Some (at (negsuc 99999) (pos 100000)))) }
+    ensures limit { read_text (codes "POINT(-10000000 10000000)") ≡ Ok (Point (Some (at (negsuc 9999999) (pos 10000000)))) }
     ensures white { read_text (codes "multipoint ( 1 2 , 3 4.0 )") ≡ Ok (MultiPoint (at (pos 1) (pos 2) ∷ at (pos 3) (pos 4) ∷ [])) }
     ensures parentheses { read_text (codes "MultiPoint((1 2), 3 4)") ≡ Ok (MultiPoint (at (pos 1) (pos 2) ∷ at (pos 3) (pos 4) ∷ [])) }
     ensures empty { read_text (codes " Point\tEmpty\n") ≡ Ok (Point None) }
@@ -40,6 +41,15 @@ pub fn repeated_positions()
     ensures ring { read_text (codes "POLYGON((0 0,0 0,1 0,0 0))") ≡ Ok (Polygon ((at (pos 0) (pos 0) ∷ at (pos 1) (pos 0) ∷ at (pos 0) (pos 0) ∷ []) ∷ [])) }
     ensures elements { read_text (codes "MULTILINESTRING((0 0,0 0),(0 0,1 0,0 0))")
         ≡ Ok (MultiLineString ((at (pos 0) (pos 0) ∷ []) ∷ (at (pos 0) (pos 0) ∷ at (pos 1) (pos 0) ∷ at (pos 0) (pos 0) ∷ []) ∷ [])) }
+{}
+
+/// Texts of several polygons: a hole in the first, repeats in any ring, white space, none at all (06-103r4, 7.2).
+pub fn texts_of_polygons()
+    ensures hole { read_text (codes "MULTIPOLYGON(((0 0,4 0,4 4,0 4,0 0),(1 1,2 1,1 2,1 1)),((9 9,10 9,9 10,9 9)))")
+        ≡ Ok (MultiPolygon ((square ∷ corner 1 ∷ []) ∷ (corner 9 ∷ []) ∷ [])) }
+    ensures repeats { read_text (codes "MULTIPOLYGON(((9 9,9 9,10 9,9 10,9 10,9 9)),((3 3,3 3)))") ≡ Ok (MultiPolygon ((corner 9 ∷ []) ∷ ((at (pos 3) (pos 3) ∷ []) ∷ []) ∷ [])) }
+    ensures white { read_text (codes " multipolygon ( ( ( 9 9 , 10 9 , 9 10.0 , 9 9 ) ) , ((3 3)) ) ") ≡ Ok (MultiPolygon ((corner 9 ∷ []) ∷ ((at (pos 3) (pos 3) ∷ []) ∷ []) ∷ [])) }
+    ensures empty { read_text (codes "MultiPolygon EMPTY") ≡ Ok (MultiPolygon []) }
 {}
 
 /// The first fault of a text, and its byte. (Profile.)
@@ -57,9 +67,23 @@ pub fn first_faults()
     ensures more_behind { read_text (codes "POINT EMPTY x") ≡ Err (Syntax 12) }
     ensures beyond_ascii { read_text (80 ∷ 195 ∷ 150 ∷ []) ≡ Err (Syntax 0) }
     ensures off_grid { read_text (codes "POINT(1.5 2)") ≡ Err (OffGrid 6) }
-    ensures off_grid_first { read_text (codes "POINT(100001.5 0)") ≡ Err (OffGrid 6) }
-    ensures out_of_range { read_text (codes "POINT(100001 0)") ≡ Err (OutOfRange 6) }
-    ensures left_to_right { read_text (codes "LINESTRING(0 -100001,1.5 2") ≡ Err (OutOfRange 13) }
+    ensures off_grid_first { read_text (codes "POINT(10000001.5 0)") ≡ Err (OffGrid 6) }
+    ensures out_of_range { read_text (codes "POINT(10000001 0)") ≡ Err (OutOfRange 6) }
+    ensures left_to_right { read_text (codes "LINESTRING(0 -10000001,1.5 2") ≡ Err (OutOfRange 13) }
+{}
+
+/// The first fault of a text of several polygons, and its byte.
+pub fn first_faults_of_polygons()
+    ensures bad_number { read_text (codes "MULTIPOLYGON(((0 0,x 1)))") ≡ Err (Syntax 19) }
+    ensures off_grid { read_text (codes "MULTIPOLYGON(((0 0)),((0 0,1.5 2)))") ≡ Err (OffGrid 27) }
+    ensures out_of_range { read_text (codes "MULTIPOLYGON(((0 0)),((0 0),(0 -10000001)))") ≡ Err (OutOfRange 31) }
+    ensures rings_alone { read_text (codes "MULTIPOLYGON((0 0,1 0))") ≡ Err (Syntax 14) }
+    ensures unfinished { read_text (codes "MULTIPOLYGON(((0 0,1 0))") ≡ Err (Syntax 24) }
+    ensures empty_element { read_text (codes "MULTIPOLYGON(EMPTY)") ≡ Err (Syntax 13) }
+    ensures no_ring { read_text (codes "MULTIPOLYGON(())") ≡ Err (Syntax 14) }
+    ensures no_position { read_text (codes "MULTIPOLYGON((()))") ≡ Err (Syntax 15) }
+    ensures comma_last { read_text (codes "MULTIPOLYGON(((0 0)),)") ≡ Err (Syntax 21) }
+    ensures joined_words { read_text (codes "MULTIPOLYGONEMPTY") ≡ Err (Syntax 0) }
 {}
 
 /// The counts of positions and parts, at limits of two: the fault comes at the first number of the position, and
@@ -71,6 +95,18 @@ pub fn counted_parts()
     ensures position_of_a_part { parts 2 2 (input (codes "(1 1,2 2),(3 3)")) ≡ Err TooLong }
 {}
 
+/// The counts of the rings and positions of all polygons, at limits of two rings or three positions: each polygon hands
+/// on what is left of both.
+pub fn counted_polygons()
+    ensures as_many { body (polygons 2 2 9) (input (codes "(((1 1)),((2 2)))"))
+        ≡ Ok (((at (pos 1) (pos 1) ∷ []) ∷ []) ∷ ((at (pos 2) (pos 2) ∷ []) ∷ []) ∷ [], record { left = []; at = 17 }) }
+    ensures third_polygon { body (polygons 2 2 9) (input (codes "(((1 1)),((2 2)),((3 3)))")) ≡ Err TooLong }
+    ensures ring_behind_two { body (polygons 2 2 9) (input (codes "(((1 1),(2 2)),((3.5 3)))")) ≡ Err TooLong }
+    ensures ring_in_the_second { body (polygons 2 2 9) (input (codes "(((1 1)),((2 2),(")) ≡ Err TooLong }
+    ensures no_ring { body (polygons 2 2 9) (input (codes "(((1 1)),((2 2)),())")) ≡ Err (Syntax 18) }
+    ensures position_of_the_second { body (polygons 9 9 3) (input (codes "(((1 1,2 2)),((3 3,4 4)))")) ≡ Err TooLong }
+{}
+
 /// Canonical texts (06-103r4, 7.2).
 pub fn canonical_texts()
     ensures point { canonical_text (Point (Some (at (negsuc 0) (pos 20)))) ≡ codes "POINT(-1 20)" }
@@ -79,6 +115,9 @@ pub fn canonical_texts()
     ensures lines { canonical_text (MultiLineString ((at (pos 0) (pos 0) ∷ at (pos 2) (pos 0) ∷ []) ∷ (at (pos 2) (pos 0) ∷ at (pos 4) (pos 0) ∷ []) ∷ []))
         ≡ codes "MULTILINESTRING((0 0,2 0),(2 0,4 0))" }
     ensures polygon { canonical_text (Polygon (square ∷ [])) ≡ codes "POLYGON((0 0,4 0,4 4,0 4,0 0))" }
+    ensures polygons { canonical_text (MultiPolygon ((square ∷ corner 1 ∷ []) ∷ (corner 9 ∷ []) ∷ []))
+        ≡ codes "MULTIPOLYGON(((0 0,4 0,4 4,0 4,0 0),(1 1,2 1,1 2,1 1)),((9 9,10 9,9 10,9 9)))" }
+    ensures no_polygons { canonical_text (MultiPolygon []) ≡ codes "MULTIPOLYGON EMPTY" }
     ensures no_point { canonical_text (Point None) ≡ codes "POINT EMPTY" }
     ensures no_points { canonical_text (MultiPoint []) ≡ codes "MULTIPOINT EMPTY" }
     ensures no_line { canonical_text (LineString []) ≡ codes "LINESTRING EMPTY" }

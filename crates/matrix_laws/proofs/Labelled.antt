@@ -4,7 +4,7 @@ use borrow.Author.Differences.{ints}
 use Rattle.std.specs.List.{list_any}
 use Rattle.std.specs.Ordering.{int_eq}
 use Rattle.geometry_model.specs.Points.{Position, Point, IsPoint, same_point}
-use Rattle.geometry_model.specs.Geometries.{Edge, Geometry, edges, edges_of_lines, listed, rings}
+use Rattle.geometry_model.specs.Geometries.{Edge, Geometry, edges, edges_of_lines, listed, rings, joined_rings}
 use Rattle.geometry_model.specs.Sides.{on}
 use Rattle.geometry_model.specs.Crossings.{exactly_one, strictly_above, at_or_above, side_rightward}
 use Rattle.geometry_model.specs.Dimensions.{weighted, weighted_three, HasPoint, HasSegment, HasTriangle, HasDimension, common, IsMatrix}
@@ -252,6 +252,7 @@ exterior_above (Geometry.MultiPoint qs) z h = refl
 exterior_above (Geometry.LineString l) z h = refl
 exterior_above (Geometry.MultiLineString ls) z h = refl
 exterior_above (Geometry.Polygon rs) z h = ap (λ (t : Bool). if t then Interior else Exterior) (parity_of_rings rs z ∙ parity_none (λ e. strictly_above e z) (edges_of_lines rs) h)
+exterior_above (Geometry.MultiPolygon es) z h = ap (λ (t : Bool). if t then Interior else Exterior) (parity_of_rings (joined_rings es) z ∙ parity_none (λ e. strictly_above e z) (edges_of_lines (joined_rings es)) h)
 
 -- straight above a free point no cut stands
 straight : (c z o : Point) → IsPoint o → o.X *ℤ z.W ≡ z.X *ℤ o.W → c.X *ℤ o.W ≡ o.X *ℤ c.W → right c z ≡ pos 0

@@ -3,7 +3,7 @@ use Rattle.std.proofs.Common.{◌≡◌, ◌≢◌, ℕ, suc, Bool, true, false,
 use Rattle.std.specs.List.{list_any}
 use Rattle.std.specs.Option.{option_map_or}
 use Rattle.geometry_model.specs.Points.{Position, Point, point_at}
-use Rattle.geometry_model.specs.Geometries.{Geometry, edges_of_lines, positions, kind}
+use Rattle.geometry_model.specs.Geometries.{Geometry, edges_of_lines, positions, kind, joined_rings}
 use Rattle.geometry_model.specs.Sides.{on}
 use Rattle.geometry_model.specs.Crossings.{odd_above}
 use Rattle.geometry_model.specs.Locations.{stands_at, on_some, is_odd_end, in_points, in_lines, in_rings, locate}
@@ -175,6 +175,7 @@ inhabited (Geometry.MultiPoint (a ∷ rest)) v n = record { at = a; not_exterior
 inhabited (Geometry.LineString ps) v n = let t = touched (ps ∷ []) (λ i a e. v (TooFewPoints i) (a ∷ [], e, refl)) n in record { at = t.at; not_exterior = not_outside_lines (ps ∷ []) (point_at t.at) t.is_on }
 inhabited (Geometry.MultiLineString ls) v n = let t = touched ls (λ i a e. v (TooFewPoints i) (a ∷ [], e, refl)) n in record { at = t.at; not_exterior = not_outside_lines ls (point_at t.at) t.is_on }
 inhabited (Geometry.Polygon rs) v n = let t = touched rs (λ i a e. v (TooFewPoints i) (a ∷ [], e, refl)) n in record { at = t.at; not_exterior = not_outside_rings rs (point_at t.at) t.is_on }
+inhabited (Geometry.MultiPolygon es) v n = let t = touched (joined_rings es) (λ i a e. v (TooFewPoints i) (a ∷ [], e, refl)) n in record { at = t.at; not_exterior = not_outside_rings (joined_rings es) (point_at t.at) t.is_on }
 
 -- ---- equal geometries
 record Covering (m : Matrix) : Type 0 where

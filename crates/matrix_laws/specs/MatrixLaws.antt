@@ -4,6 +4,7 @@ use Rattle.geometry_model.specs.Geometries.{Geometry}
 use Rattle.geometry_model.specs.Dimensions.{Matrix, IsMatrix}
 use Rattle.geometry_model.specs.Labels.{labelled_matrix}
 use Rattle.geometry_model.specs.Validity.{IsValid}
+use Rattle.geometry_model.specs.GivenMatrix.{GivesMatrix}
 use Rattle.geometry_laws.specs.PieceLaws.{HasClosedRings}
 
 -- the label matrix of two geometries whose rings are closed is their matrix (06-103r4, 6.1.15.2)
@@ -13,10 +14,6 @@ LabelledIsMatrix = (a b : Geometry) → HasClosedRings a → HasClosedRings b �
 -- the label matrix of two valid geometries is their matrix (06-103r4, 6.1.15.2)
 abbrev pub LabelsArePointSets : Type 0
 LabelsArePointSets = (a b : Geometry) → IsValid a → IsValid b → IsMatrix a b (labelled_matrix a b)
-
--- the function gives the matrix of every two valid geometries (06-103r4, 6.1.15.2)
-abbrev pub GivesMatrix : (Geometry → Geometry → Matrix) → Type 0
-GivesMatrix matrix = (a b : Geometry) → IsValid a → IsValid b → IsMatrix a b (matrix a b)
 
 -- the label matrix gives it (06-103r4, 6.1.15.2)
 abbrev pub LabelsGiveMatrix : Type 0

@@ -1,8 +1,8 @@
--- The numbers that sides and meeting points are made of fit 64 bits, and their denominators keep the limit.
+-- The numbers that meeting points are made of: numerators fit 128 bits, denominators 64, and they keep the limit.
 use Rattle.std.specs.Prelude.{◌≡◌, ℕ, ◌*◌, ◌≤◌, [], ◌∷◌, ℤ, pos, ◌+ℤ◌, ◌-ℤ◌, ◌*ℤ◌, ◌≤ℤ◌, ◌<ℤ◌, unsigned_abs}
 use Rattle.std.proofs.Common.{arith}
 use Rattle.std.proofs.lemmas.Int.{ints}
-use mir.Syntax.{w64}
+use mir.Syntax.{w64, w128}
 use mir.Val.{SFits}
 use Rattle.integers.proofs.Ring.{solve, var, lit, ◌⊖◌, ◌⊗◌}
 use Rattle.orient.proofs.Bounds.{product_within}
@@ -13,44 +13,29 @@ use Rattle.fraction.proofs.DivisorLemmas.{quotient_at_most}
 use Rattle.fraction.specs.Ranges.{IsOnGrid, IsInRange, meeting_limit}
 
 -- ---- a vector product of steps
-pub record VectorFits (dx dy ex ey : ℤ) : Type 0 where
-  pub first : SFits w64 (dx *ℤ ey)
-  pub second : SFits w64 (dy *ℤ ex)
-  pub difference : SFits w64 (dx *ℤ ey -ℤ dy *ℤ ex)
-
-fits : (z : ℤ) → unsigned_abs z ≤ meeting_limit → SFits w64 z
-fits z h = omega (arith, ints)
-
 difference_within : (y z : ℤ) → unsigned_abs y ≤ 2 * coordinate_limit * (2 * coordinate_limit) → unsigned_abs z ≤ 2 * coordinate_limit * (2 * coordinate_limit) → unsigned_abs (y -ℤ z) ≤ meeting_limit
 difference_within y z h k = omega (arith, ints)
-
-weaker : (n : ℕ) → n ≤ 2 * coordinate_limit * (2 * coordinate_limit) → n ≤ meeting_limit
-weaker n h = omega arith
 
 vector_within : (dx dy ex ey : ℤ) → unsigned_abs dx ≤ 2 * coordinate_limit → unsigned_abs dy ≤ 2 * coordinate_limit → unsigned_abs ex ≤ 2 * coordinate_limit → unsigned_abs ey ≤ 2 * coordinate_limit
     → unsigned_abs (dx *ℤ ey -ℤ dy *ℤ ex) ≤ meeting_limit
 vector_within dx dy ex ey hdx hdy hex hey = difference_within (dx *ℤ ey) (dy *ℤ ex)
     (product_within dx ey (2 * coordinate_limit) (2 * coordinate_limit) hdx hey) (product_within dy ex (2 * coordinate_limit) (2 * coordinate_limit) hdy hex)
 
-pub vector_fits : (dx dy ex ey : ℤ) → unsigned_abs dx ≤ 2 * coordinate_limit → unsigned_abs dy ≤ 2 * coordinate_limit → unsigned_abs ex ≤ 2 * coordinate_limit → unsigned_abs ey ≤ 2 * coordinate_limit
-    → VectorFits dx dy ex ey
-vector_fits dx dy ex ey hdx hdy hex hey = record {
-  first = fits (dx *ℤ ey) (weaker (unsigned_abs (dx *ℤ ey)) (product_within dx ey (2 * coordinate_limit) (2 * coordinate_limit) hdx hey));
-  second = fits (dy *ℤ ex) (weaker (unsigned_abs (dy *ℤ ex)) (product_within dy ex (2 * coordinate_limit) (2 * coordinate_limit) hdy hex));
-  difference = fits (dx *ℤ ey -ℤ dy *ℤ ex) (vector_within dx dy ex ey hdx hdy hex hey);
-}
-
 -- ---- a sum with weights
 pub record SumFits (m a n b : ℤ) : Type 0 where
-  pub one : SFits w64 a
-  pub other : SFits w64 b
-  pub first : SFits w64 (m *ℤ a)
-  pub second : SFits w64 (n *ℤ b)
-  pub sum : SFits w64 (m *ℤ a +ℤ n *ℤ b)
+  pub first_weight : SFits w128 m
+  pub second_weight : SFits w128 n
+  pub one : SFits w128 a
+  pub other : SFits w128 b
+  pub first : SFits w128 (m *ℤ a)
+  pub second : SFits w128 (n *ℤ b)
+  pub sum : SFits w128 (m *ℤ a +ℤ n *ℤ b)
   pub bound : unsigned_abs (m *ℤ a +ℤ n *ℤ b) ≤ coordinate_limit * unsigned_abs (m +ℤ n)
 
 pub sum_fits : (m a n b : ℤ) → pos 0 ≤ℤ m → pos 0 ≤ℤ n → (m +ℤ n) ≤ℤ pos meeting_limit → unsigned_abs a ≤ coordinate_limit → unsigned_abs b ≤ coordinate_limit → SumFits m a n b
 sum_fits m a n b hm hn h ha hb = record {
+  first_weight = weight m n hm hn h;
+  second_weight = weight' m n hm hn h;
   one = short a ha;
   other = short b hb;
   first = part m n (m *ℤ a) hm hn h one;
@@ -59,8 +44,14 @@ sum_fits m a n b hm hn h ha hb = record {
   bound = both;
 }
   where
-    short : (z : ℤ) → unsigned_abs z ≤ coordinate_limit → SFits w64 z
+    short : (z : ℤ) → unsigned_abs z ≤ coordinate_limit → SFits w128 z
     short z h = omega (arith, ints)
+
+    weight : (m n : ℤ) → pos 0 ≤ℤ m → pos 0 ≤ℤ n → (m +ℤ n) ≤ℤ pos meeting_limit → SFits w128 m
+    weight m n h k l = omega (arith, ints)
+
+    weight' : (m n : ℤ) → pos 0 ≤ℤ m → pos 0 ≤ℤ n → (m +ℤ n) ≤ℤ pos meeting_limit → SFits w128 n
+    weight' m n h k l = omega (arith, ints)
 
     one : unsigned_abs (m *ℤ a) ≤ unsigned_abs m * coordinate_limit
     one = product_within m a (unsigned_abs m) coordinate_limit (omega arith) ha
@@ -68,16 +59,16 @@ sum_fits m a n b hm hn h ha hb = record {
     other : unsigned_abs (n *ℤ b) ≤ unsigned_abs n * coordinate_limit
     other = product_within n b (unsigned_abs n) coordinate_limit (omega arith) hb
 
-    part : (m n z : ℤ) → pos 0 ≤ℤ m → pos 0 ≤ℤ n → (m +ℤ n) ≤ℤ pos meeting_limit → unsigned_abs z ≤ unsigned_abs m * coordinate_limit → SFits w64 z
+    part : (m n z : ℤ) → pos 0 ≤ℤ m → pos 0 ≤ℤ n → (m +ℤ n) ≤ℤ pos meeting_limit → unsigned_abs z ≤ unsigned_abs m * coordinate_limit → SFits w128 z
     part m n z h k l e = omega (arith, ints)
 
-    part' : (m n z : ℤ) → pos 0 ≤ℤ m → pos 0 ≤ℤ n → (m +ℤ n) ≤ℤ pos meeting_limit → unsigned_abs z ≤ unsigned_abs n * coordinate_limit → SFits w64 z
+    part' : (m n z : ℤ) → pos 0 ≤ℤ m → pos 0 ≤ℤ n → (m +ℤ n) ≤ℤ pos meeting_limit → unsigned_abs z ≤ unsigned_abs n * coordinate_limit → SFits w128 z
     part' m n z h k l e = omega (arith, ints)
 
     positive : (m n : ℤ) → pos 0 ≤ℤ m → pos 0 ≤ℤ n → pos 0 ≤ℤ (m +ℤ n)
     positive m n h k = omega (arith, ints)
 
-    whole : (m n z : ℤ) → (m +ℤ n) ≤ℤ pos meeting_limit → pos 0 ≤ℤ (m +ℤ n) → unsigned_abs z ≤ coordinate_limit * unsigned_abs (m +ℤ n) → SFits w64 z
+    whole : (m n z : ℤ) → (m +ℤ n) ≤ℤ pos meeting_limit → pos 0 ≤ℤ (m +ℤ n) → unsigned_abs z ≤ coordinate_limit * unsigned_abs (m +ℤ n) → SFits w128 z
     whole m n z h k e = omega (arith, ints)
 
     together : (m n y z : ℤ) → pos 0 ≤ℤ m → pos 0 ≤ℤ n → unsigned_abs y ≤ unsigned_abs m * coordinate_limit → unsigned_abs z ≤ unsigned_abs n * coordinate_limit → unsigned_abs (y +ℤ z) ≤ coordinate_limit * unsigned_abs (m +ℤ n)
@@ -101,10 +92,6 @@ least_within p l h k = through (least_form p).W p.W (pos l) (quotient_at_most p.
     through a b c h k = omega (arith, ints)
 
 -- ---- the sides of two positions differ by no more than the limit
-pub side_at : (a b c : Position) → side a b (point_at c) ≡ (b.x -ℤ a.x) *ℤ (c.y -ℤ a.y) -ℤ (b.y -ℤ a.y) *ℤ (c.x -ℤ a.x)
-side_at a b c = solve (a.x ∷ a.y ∷ b.x ∷ b.y ∷ c.x ∷ c.y ∷ [])
-    ((var 2 ⊖ var 0) ⊗ (var 5 ⊖ var 1 ⊗ lit (pos 1)) ⊖ (var 3 ⊖ var 1) ⊗ (var 4 ⊖ var 0 ⊗ lit (pos 1))) ((var 2 ⊖ var 0) ⊗ (var 5 ⊖ var 1) ⊖ (var 3 ⊖ var 1) ⊗ (var 4 ⊖ var 0)) tt
-
 sides_differ : (a b c d : Position) → side a b (point_at d) -ℤ side a b (point_at c) ≡ (b.x -ℤ a.x) *ℤ (d.y -ℤ c.y) -ℤ (b.y -ℤ a.y) *ℤ (d.x -ℤ c.x)
 sides_differ a b c d = solve (a.x ∷ a.y ∷ b.x ∷ b.y ∷ c.x ∷ c.y ∷ d.x ∷ d.y ∷ [])
     (((var 2 ⊖ var 0) ⊗ (var 7 ⊖ var 1 ⊗ lit (pos 1)) ⊖ (var 3 ⊖ var 1) ⊗ (var 6 ⊖ var 0 ⊗ lit (pos 1))) ⊖ ((var 2 ⊖ var 0) ⊗ (var 5 ⊖ var 1 ⊗ lit (pos 1)) ⊖ (var 3 ⊖ var 1) ⊗ (var 4 ⊖ var 0 ⊗ lit (pos 1))))

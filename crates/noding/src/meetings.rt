@@ -8,9 +8,8 @@ ghost use Rattle.noding.specs.Meetings.{IsMeeting, named, NamesCommonCuts};
 
 use crate::answers::Meet;
 use crate::crossings::crossing;
-use crate::products::side_number;
 use crate::stretches::common_stretch;
-use orient::Segment;
+use orient::{Segment, side_number};
 use std::cmp::Ordering;
 
 /// The points that two segments have in common: none, one or a stretch (OGC 06-103r4, 6.1.15.2: intersection). It is exact,

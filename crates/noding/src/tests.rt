@@ -27,7 +27,11 @@ fn meetings(rt: HostRuntime) -> Result<(), Fail> {
     let stretch = Meet::Along(RatPoint::reduced(2, 0, 1), RatPoint::reduced(4, 0, 1));
     let touching = Meet::At(RatPoint::reduced(2, 0, 1));
     let whole = Meet::Along(RatPoint::reduced(0, 0, 1), RatPoint::reduced(2, 2, 1));
-    let finest = Meet::At(RatPoint::reduced(-100_000, -39_999_900_000, 79_999_600_001));
+    let finest = Meet::At(RatPoint::reduced(
+        -10_000_000,
+        -399_999_990_000_000,
+        799_999_960_000_001,
+    ));
     let upright = Meet::Along(RatPoint::reduced(1, 0, 1), RatPoint::reduced(1, 3, 1));
     let cases = [
         (((0, 0), (3, 1)), ((0, 1), (2, 0)), crossing),
@@ -36,8 +40,8 @@ fn meetings(rt: HostRuntime) -> Result<(), Fail> {
         (((0, 0), (2, 2)), ((1, 0), (3, 2)), Meet::Apart),
         (((0, 0), (2, 2)), ((2, 2), (0, 0)), whole),
         (
-            ((-100_000, -100_000), (100_000, 99_999)),
-            ((-100_000, 100_000), (99_999, -100_000)),
+            ((-10_000_000, -10_000_000), (10_000_000, 9_999_999)),
+            ((-10_000_000, 10_000_000), (9_999_999, -10_000_000)),
             finest,
         ),
         // One end on the other segment, and on its line past its end.
@@ -67,7 +71,7 @@ fn meetings(rt: HostRuntime) -> Result<(), Fail> {
     Ok(())
 }
 
-type Numbers = (i64, i64, i64);
+type Numbers = (i128, i128, i64);
 
 fn numbers(point: &RatPoint) -> Numbers {
     (
@@ -143,16 +147,16 @@ fn nodes_of_segments(rt: HostRuntime) -> Result<(), Fail> {
         // The finest crossing.
         (
             &[
-                ((-100_000, -100_000), (100_000, 99_999)),
-                ((-100_000, 100_000), (99_999, -100_000)),
+                ((-10_000_000, -10_000_000), (10_000_000, 9_999_999)),
+                ((-10_000_000, 10_000_000), (9_999_999, -10_000_000)),
             ],
             &[],
             &[
-                (-100_000, -100_000, 1),
-                (-100_000, 100_000, 1),
-                (-100_000, -39_999_900_000, 79_999_600_001),
-                (99_999, -100_000, 1),
-                (100_000, 99_999, 1),
+                (-10_000_000, -10_000_000, 1),
+                (-10_000_000, 10_000_000, 1),
+                (-10_000_000, -399_999_990_000_000, 799_999_960_000_001),
+                (9_999_999, -10_000_000, 1),
+                (10_000_000, 9_999_999, 1),
             ],
         ),
     ];

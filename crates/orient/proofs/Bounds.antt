@@ -1,74 +1,86 @@
--- The numbers that a side is made of fit 128 bits.
-use Rattle.std.specs.Prelude.{ℕ, ◌*◌, ◌^◌, ◌≤◌, ℤ, ◌-ℤ◌, ◌*ℤ◌, unsigned_abs}
+-- The numbers that a side is made of: at points with denominator 1 they fit 64 bits, at others 128.
+use Rattle.std.specs.Prelude.{◌≡◌, ℕ, ◌*◌, ◌≤◌, [], ◌∷◌, ℤ, pos, ◌-ℤ◌, ◌*ℤ◌, unsigned_abs}
 use Rattle.std.proofs.Common.{arith}
 use Rattle.std.proofs.Math.Nat.{mul-le-mul}
 use Rattle.std.proofs.lemmas.Int.{ints, unsigned_abs-mul}
 use mir.Syntax.{w32, w64, w128}
 use mir.Val.{SFits}
+use Rattle.integers.proofs.Ring.{solve, var, lit, ◌⊖◌, ◌⊗◌}
+use Rattle.geometry_model.specs.Points.{Position, Point}
+use Rattle.geometry_model.specs.Sides.{side}
+use Rattle.geometry_model.specs.WellKnownText.{coordinate_limit}
+use Rattle.fraction.specs.Ranges.{IsKeptPoint, denominator_limit}
 
 -- a product's absolute value
 pub product_within : (a b : ℤ) (m n : ℕ) → unsigned_abs a ≤ m → unsigned_abs b ≤ n → unsigned_abs (a *ℤ b) ≤ m * n
 product_within a b m n h k = rw unsigned_abs-mul (mul-le-mul h k)
 
 -- ---- how far a coordinate lies beyond that of a position
-pub record BeyondFits (n w a : ℤ) : Type 0 where
-  pub numerator : SFits w128 n
-  pub denominator : SFits w128 w
-  pub coordinate : SFits w128 a
-  pub product : SFits w128 (a *ℤ w)
-  pub difference : SFits w128 (n -ℤ a *ℤ w)
-  pub bound : unsigned_abs (n -ℤ a *ℤ w) ≤ 2 ^ 84
+pub record BeyondFits (n z : ℤ) : Type 0 where
+  pub difference : SFits w128 (n -ℤ z)
+  pub bound : unsigned_abs (n -ℤ z) ≤ 2 * coordinate_limit * denominator_limit
 
-widened : (z : ℤ) → SFits w64 z → SFits w128 z
-widened z h = omega (arith, ints)
+pub beyond_fits : (n z : ℤ) → unsigned_abs n ≤ coordinate_limit * denominator_limit → unsigned_abs z ≤ coordinate_limit * denominator_limit → BeyondFits n z
+beyond_fits n z h k = record { difference = omega (arith, ints); bound = omega (arith, ints) }
 
-half_widened : (z : ℤ) → SFits w32 z → SFits w128 z
-half_widened z h = omega (arith, ints)
+-- ---- the numerators of a point with denominator 1 are those of a position
+pub record PositionFits (p : Point) : Type 0 where
+  pub x : SFits w32 p.X
+  pub y : SFits w32 p.Y
 
-at_most : (z : ℤ) → SFits w64 z → unsigned_abs z ≤ 2 ^ 63
-at_most z h = omega (arith, ints)
+pub position_fits : (p : Point) → IsKeptPoint p → p.W ≡ pos 1 → PositionFits p
+position_fits p h e = record { x = fits p.X p.W e h.range.x; y = fits p.Y p.W e h.range.y }
+  where
+    fits : (z w : ℤ) → w ≡ pos 1 → unsigned_abs z ≤ coordinate_limit * unsigned_abs w → SFits w32 z
+    fits z w e h = omega (arith, ints)
 
-short_fits : (z : ℤ) → unsigned_abs z ≤ 2 ^ 84 → SFits w128 z
-short_fits z h = omega (arith, ints)
+-- ---- a vector product of steps: the side of a position, with denominator 1
+pub side_at : (a b : Position) (x y : ℤ) → side a b (record { X = x; Y = y; W = pos 1 }) ≡ (b.x -ℤ a.x) *ℤ (y -ℤ a.y) -ℤ (b.y -ℤ a.y) *ℤ (x -ℤ a.x)
+side_at a b x y = solve (a.x ∷ a.y ∷ b.x ∷ b.y ∷ x ∷ y ∷ [])
+    ((var 2 ⊖ var 0) ⊗ (var 5 ⊖ var 1 ⊗ lit (pos 1)) ⊖ (var 3 ⊖ var 1) ⊗ (var 4 ⊖ var 0 ⊗ lit (pos 1))) ((var 2 ⊖ var 0) ⊗ (var 5 ⊖ var 1) ⊖ (var 3 ⊖ var 1) ⊗ (var 4 ⊖ var 0)) tt
 
-short_product_fits : (z : ℤ) → unsigned_abs z ≤ 2 ^ 83 → SFits w128 z
-short_product_fits z h = omega (arith, ints)
+pub record ShortVectorFits (dx dy ex ey : ℤ) : Type 0 where
+  pub first : SFits w64 (dx *ℤ ey)
+  pub second : SFits w64 (dy *ℤ ex)
+  pub difference : SFits w64 (dx *ℤ ey -ℤ dy *ℤ ex)
 
-difference_within : (n z : ℤ) → unsigned_abs n ≤ 2 ^ 63 → unsigned_abs z ≤ 2 ^ 83 → unsigned_abs (n -ℤ z) ≤ 2 ^ 84
-difference_within n z h k = omega (arith, ints)
+pub short_vector_fits : (dx dy ex ey : ℤ) → unsigned_abs dx ≤ 2 * coordinate_limit → unsigned_abs dy ≤ 2 * coordinate_limit → unsigned_abs ex ≤ 2 * coordinate_limit
+    → unsigned_abs ey ≤ 2 * coordinate_limit → ShortVectorFits dx dy ex ey
+short_vector_fits dx dy ex ey hdx hdy hex hey =
+    let y : unsigned_abs (dx *ℤ ey) ≤ 2 * coordinate_limit * (2 * coordinate_limit) = product_within dx ey (2 * coordinate_limit) (2 * coordinate_limit) hdx hey in
+    let z : unsigned_abs (dy *ℤ ex) ≤ 2 * coordinate_limit * (2 * coordinate_limit) = product_within dy ex (2 * coordinate_limit) (2 * coordinate_limit) hdy hex in
+    record { first = fits (dx *ℤ ey) y; second = fits (dy *ℤ ex) z; difference = differ (dx *ℤ ey) (dy *ℤ ex) y z }
+  where
+    fits : (z : ℤ) → unsigned_abs z ≤ 2 * coordinate_limit * (2 * coordinate_limit) → SFits w64 z
+    fits z h = omega (arith, ints)
 
-pub beyond_fits : (n w a : ℤ) → SFits w64 n → SFits w64 w → SFits w32 a → unsigned_abs a ≤ 2 ^ 20 → BeyondFits n w a
-beyond_fits n w a hn hw ha h =
-    let z : unsigned_abs (a *ℤ w) ≤ 2 ^ 83 = product_within a w (2 ^ 20) (2 ^ 63) h (at_most w hw) in
-    let d : unsigned_abs (n -ℤ a *ℤ w) ≤ 2 ^ 84 = difference_within n (a *ℤ w) (at_most n hn) z in
-    record {
-      numerator = widened n hn;
-      denominator = widened w hw;
-      coordinate = half_widened a ha;
-      product = short_product_fits (a *ℤ w) z;
-      difference = short_fits (n -ℤ a *ℤ w) d;
-      bound = d;
-    }
+    differ : (y z : ℤ) → unsigned_abs y ≤ 2 * coordinate_limit * (2 * coordinate_limit) → unsigned_abs z ≤ 2 * coordinate_limit * (2 * coordinate_limit) → SFits w64 (y -ℤ z)
+    differ y z h k = omega (arith, ints)
 
--- ---- a vector product
+-- ---- a vector product of a step and of what lies beyond its start
 pub record VectorFits (dx dy ex ey : ℤ) : Type 0 where
+  pub one : SFits w128 dx
+  pub other : SFits w128 dy
   pub first : SFits w128 (dx *ℤ ey)
   pub second : SFits w128 (dy *ℤ ex)
   pub difference : SFits w128 (dx *ℤ ey -ℤ dy *ℤ ex)
 
-product_fits : (z : ℤ) → unsigned_abs z ≤ 2 ^ 116 → SFits w128 z
-product_fits z h = omega (arith, ints)
+-- the greatest product
+abbrev product_limit : ℕ
+product_limit = 2 * coordinate_limit * (2 * coordinate_limit * denominator_limit)
 
-products_fit : (y z : ℤ) → unsigned_abs y ≤ 2 ^ 116 → unsigned_abs z ≤ 2 ^ 116 → SFits w128 (y -ℤ z)
-products_fit y z h k = omega (arith, ints)
-
-pub vector_fits : (dx dy ex ey : ℤ) → unsigned_abs dx ≤ 2 ^ 32 → unsigned_abs dy ≤ 2 ^ 32 → unsigned_abs ex ≤ 2 ^ 84 → unsigned_abs ey ≤ 2 ^ 84
-    → VectorFits dx dy ex ey
+pub vector_fits : (dx dy ex ey : ℤ) → unsigned_abs dx ≤ 2 * coordinate_limit → unsigned_abs dy ≤ 2 * coordinate_limit → unsigned_abs ex ≤ 2 * coordinate_limit * denominator_limit
+    → unsigned_abs ey ≤ 2 * coordinate_limit * denominator_limit → VectorFits dx dy ex ey
 vector_fits dx dy ex ey hdx hdy hex hey =
-    let y : unsigned_abs (dx *ℤ ey) ≤ 2 ^ 116 = product_within dx ey (2 ^ 32) (2 ^ 84) hdx hey in
-    let z : unsigned_abs (dy *ℤ ex) ≤ 2 ^ 116 = product_within dy ex (2 ^ 32) (2 ^ 84) hdy hex in
-    record {
-      first = product_fits (dx *ℤ ey) y;
-      second = product_fits (dy *ℤ ex) z;
-      difference = products_fit (dx *ℤ ey) (dy *ℤ ex) y z;
-    }
+    let y : unsigned_abs (dx *ℤ ey) ≤ product_limit = product_within dx ey (2 * coordinate_limit) (2 * coordinate_limit * denominator_limit) hdx hey in
+    let z : unsigned_abs (dy *ℤ ex) ≤ product_limit = product_within dy ex (2 * coordinate_limit) (2 * coordinate_limit * denominator_limit) hdy hex in
+    record { one = widened dx hdx; other = widened dy hdy; first = fits (dx *ℤ ey) y; second = fits (dy *ℤ ex) z; difference = differ (dx *ℤ ey) (dy *ℤ ex) y z }
+  where
+    widened : (z : ℤ) → unsigned_abs z ≤ 2 * coordinate_limit → SFits w128 z
+    widened z h = omega (arith, ints)
+
+    fits : (z : ℤ) → unsigned_abs z ≤ product_limit → SFits w128 z
+    fits z h = omega (arith, ints)
+
+    differ : (y z : ℤ) → unsigned_abs y ≤ product_limit → unsigned_abs z ≤ product_limit → SFits w128 (y -ℤ z)
+    differ y z h k = omega (arith, ints)

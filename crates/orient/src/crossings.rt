@@ -12,7 +12,7 @@ use fraction::{GridPoint, RatPoint};
 fn reaches(a: GridPoint, p: &RatPoint) -> bool
     ensures { result ≡ spec.reaches a p.now }
 {
-    numerator_over(a.x(), p.denominator()) <= i128::from(p.numerator_x())
+    numerator_over(a.x(), p.denominator()) <= p.numerator_x()
 }
 
 /// Whether exactly one end of the segment isn't to the right of the point.

@@ -8,7 +8,7 @@ pub mod sides;
 
 pub use crossings::{at_or_above, crosses_up};
 pub use segments::Segment;
-pub use sides::{on, side};
+pub use sides::{on, side, side_number};
 
 #[cfg(test)]
 mod tests;

@@ -1,16 +1,32 @@
 //! On which side of a segment a point lies, and whether it lies on it.
 
-ghost use Rattle.std.specs.Prelude.{◌≡◌, ◌&&◌, pos, int_le};
+ghost use Rattle.std.specs.Prelude.{◌≡◌, ◌≢◌, ◌≤◌, ◌&&◌, pos, unsigned_abs, int_le};
 ghost use Rattle.std.specs.Ordering.{int_cmp};
+ghost use Rattle.geometry_model.specs.Points.{point_at};
 ghost use Rattle.geometry_model.specs.Sides as spec;
+ghost use Rattle.geometry_model.specs.WellKnownText.{coordinate_limit};
+ghost use Rattle.fraction.specs.Ranges.{IsOnGrid};
 
-use crate::products::{beyond, numerator_over, step, vector_product};
+use crate::products::{beyond, numerator_over, short_vector_product, step, vector_product};
 use crate::segments::Segment;
 use fraction::{GridPoint, RatPoint};
 use std::cmp::Ordering;
 
-/// The number whose sign is the side of p, seen from `from` to `to`.
-pub(crate) fn signed_side(from: GridPoint, to: GridPoint, p: &RatPoint) -> i128
+/// The number whose sign is the side of the position (x, y), seen from `from` to `to`.
+fn side_of_position(from: GridPoint, to: GridPoint, x: i32, y: i32) -> i64
+    requires x_bound { unsigned_abs x ≤ coordinate_limit }
+    requires y_bound { unsigned_abs y ≤ coordinate_limit }
+    ensures { result ≡ spec.side from to (record { X = x; Y = y; W = pos 1 }) }
+{
+    let dx = step(from.x(), to.x());
+    let dy = step(from.y(), to.y());
+    let ex = step(from.x(), x);
+    let ey = step(from.y(), y);
+    short_vector_product(dx, dy, ex, ey)
+}
+
+/// The number whose sign is the side of p, seen from `from` to `to`, whatever p's denominator.
+fn side_of_point(from: GridPoint, to: GridPoint, p: &RatPoint) -> i128
     ensures { result ≡ spec.side from to p.now }
 {
     let dx = step(from.x(), to.x());
@@ -18,6 +34,30 @@ pub(crate) fn signed_side(from: GridPoint, to: GridPoint, p: &RatPoint) -> i128
     let ex = beyond(p.numerator_x(), p.denominator(), from.x());
     let ey = beyond(p.numerator_y(), p.denominator(), from.y());
     vector_product(dx, dy, ex, ey)
+}
+
+/// The number whose sign is the side of p, seen from `from` to `to`. At a position of the grid short numbers do.
+pub(crate) fn signed_side(from: GridPoint, to: GridPoint, p: &RatPoint) -> i128
+    ensures { result ≡ spec.side from to p.now }
+{
+    if p.denominator() == 1 {
+        let x = p.numerator_x() as i32;
+        let y = p.numerator_y() as i32;
+        i128::from(side_of_position(from, to, x, y))
+    } else {
+        side_of_point(from, to, p)
+    }
+}
+
+/// The number whose sign is the side of a position, seen from the segment's start to its end.
+pub fn side_number(segment: &Segment, at: GridPoint) -> i64
+    ensures value { result ≡ spec.side segment.now.start segment.now.end (point_at at) }
+    ensures differ { segment.now.start ≢ segment.now.end }
+    ensures start { IsOnGrid segment.now.start }
+    ensures end { IsOnGrid segment.now.end }
+    ensures position { IsOnGrid at }
+{
+    side_of_position(segment.start(), segment.end(), at.x(), at.y())
 }
 
 /// On which side of the segment's line p lies, seen from the start to the end: `Greater` on its left, `Less` on its
@@ -36,13 +76,12 @@ fn ascend(a: i128, b: i128, c: i128) -> bool
 }
 
 /// Whether the coordinate n/w lies between s and t, ends counted.
-fn is_between(s: i32, t: i32, n: i64, w: i64) -> bool
+fn is_between(s: i32, t: i32, n: i128, w: i64) -> bool
     ensures { result ≡ spec.between s t n w }
 {
     let from = numerator_over(s, w);
     let to = numerator_over(t, w);
-    let at = i128::from(n);
-    ascend(from, at, to) || ascend(to, at, from)
+    ascend(from, n, to) || ascend(to, n, from)
 }
 
 /// Whether p lies within the segment's ends in both coordinates.

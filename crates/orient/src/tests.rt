@@ -1,6 +1,6 @@
 //! Points beside, on and off segments, with values worked out by hand.
 
-use crate::{Segment, at_or_above, crosses_up, on, side};
+use crate::{Segment, at_or_above, crosses_up, on, side, side_number};
 use fraction::{GridPoint, RatPoint};
 use std::cmp::Ordering;
 use std::test::Fail;
@@ -70,9 +70,9 @@ fn points_beside_and_on_segments(rt: HostRuntime) -> Result<(), Fail> {
         ),
         // At the limit.
         (
-            (-100_000, -100_000),
-            (100_000, 99_999),
-            (-100_000, 100_000),
+            (-10_000_000, -10_000_000),
+            (10_000_000, 9_999_999),
+            (-10_000_000, 10_000_000),
             Ordering::Greater,
             false,
             false,
@@ -81,8 +81,10 @@ fn points_beside_and_on_segments(rt: HostRuntime) -> Result<(), Fail> {
     ];
     for (a, b, p, wanted_side, is_on, is_crossed, is_at_or_above) in cases {
         let segment = segment(a, b)?;
-        let p = RatPoint::of_grid(position(p)?);
+        let at = position(p)?;
+        let p = RatPoint::of_grid(at);
         assert_eq!(rt; side(&segment, &p), wanted_side, "{p:?}");
+        assert_eq!(rt; side_number(&segment, at).cmp(&0), wanted_side, "{p:?}");
         assert_eq!(rt; on(&segment, &p), is_on, "{p:?}");
         assert_eq!(rt; crosses_up(&segment, &p), is_crossed, "{p:?}");
         assert_eq!(rt; at_or_above(&segment, &p), is_at_or_above, "{p:?}");
@@ -94,7 +96,7 @@ fn points_beside_and_on_segments(rt: HostRuntime) -> Result<(), Fail> {
 fn points_between_the_grid(rt: HostRuntime) -> Result<(), Fail> {
     let crossing = RatPoint::reduced(6, 2, 5);
     let halfway = RatPoint::reduced(0, -1, 2);
-    let finest = RatPoint::reduced(-100_000, -39_999_900_000, 79_999_600_001);
+    let finest = RatPoint::reduced(-10_000_000, -399_999_990_000_000, 799_999_960_000_001);
     // The segment's ends and the point; the side, whether it is on it, and strictly below it.
     let cases = [
         ((0, 0), (3, 1), crossing, Ordering::Equal, true, false),
@@ -125,40 +127,40 @@ fn points_between_the_grid(rt: HostRuntime) -> Result<(), Fail> {
             false,
         ),
         (
-            (-100_000, -100_000),
-            (100_000, 99_999),
+            (-10_000_000, -10_000_000),
+            (10_000_000, 9_999_999),
             halfway,
             Ordering::Equal,
             true,
             false,
         ),
         (
-            (-100_000, -99_999),
-            (100_000, 99_998),
+            (-10_000_000, -9_999_999),
+            (10_000_000, 9_999_998),
             halfway,
             Ordering::Equal,
             true,
             false,
         ),
         (
-            (-100_000, -100_000),
-            (100_000, 99_999),
+            (-10_000_000, -10_000_000),
+            (10_000_000, 9_999_999),
             finest,
             Ordering::Equal,
             true,
             false,
         ),
         (
-            (-100_000, 100_000),
-            (99_999, -100_000),
+            (-10_000_000, 10_000_000),
+            (9_999_999, -10_000_000),
             finest,
             Ordering::Equal,
             true,
             false,
         ),
         (
-            (-100_000, 100_000),
-            (99_999, -100_000),
+            (-10_000_000, 10_000_000),
+            (9_999_999, -10_000_000),
             halfway,
             Ordering::Greater,
             false,

@@ -1,12 +1,12 @@
 -- In a valid polygon the holes lie inside the outer ring and apart from one another, so the interior is what is inside the outer ring and in no hole.
-use Rattle.std.proofs.Common.{ℕ, zero, suc, ◌<◌, ◌≡◌, ◌⊎◌, inl, inr, ◌↔◌, Bool, true, false, if◌then◌else◌, refl, sym, ap, ap₂, ◌∙◌, List, [], ◌∷◌, Some, slice_get, All, Contains, length, slice_index_or, arith}
-use Rattle.geometry_model.specs.Points.{Position, Point, IsPoint, point_at}
+use Rattle.std.proofs.Common.{ℕ, suc, ◌+◌, ◌≡◌, ◌⊎◌, inl, inr, ◌↔◌, Bool, true, false, if◌then◌else◌, refl, sym, ap, ap₂, ◌∙◌, List, [], ◌∷◌, All, Contains, arith}
+use Rattle.geometry_model.specs.Points.{Position, Point, IsPoint}
 use Rattle.geometry_model.specs.Geometries.{Edge, Polygon, edges_of_line, edges_of_lines}
 use Rattle.geometry_model.specs.Sides.{on}
 use Rattle.geometry_model.specs.Crossings.{exactly_one as xor, strictly_above, odd_above}
 use Rattle.geometry_model.specs.Locations.{locate}
 use Rattle.geometry_model.specs.Labels.{above}
-use Rattle.geometry_model.specs.Validity.{IsValid, RingsShare, inside}
+use Rattle.geometry_model.specs.Validity.{Element, IsValid, RingsShare, inside}
 use Rattle.geometry_model.specs.declared.point_sets.Location.TheVariants.{Interior, Exterior}
 use Rattle.geometry_model.specs.declared.validity_faults.ValidityFault.TheVariants.{RingNotClosed, RingsMeet, HoleOutside, HolesNested}
 use Rattle.geometry_laws.specs.RingLaws.{IsClosed}
@@ -15,47 +15,12 @@ use Rattle.geometry_laws.proofs.RingParity.{each_from_all, parity_of_rings}
 use Rattle.geometry_laws.proofs.Locating.{Off, locate_off}
 use Rattle.geometry_laws.proofs.CoverTheorems.{all_from_each}
 use Rattle.geometry_laws.proofs.Xor.{xor_false}
-use Rattle.polygon_laws.proofs.Nested.{odd_in, Disjoint, on_ring, not_both, carried, parity_in}
+use Rattle.polygon_laws.proofs.Places.{Pairs, place_of, each_by, pairs_by, next_less, some_next}
+use Rattle.polygon_laws.proofs.Nested.{odd_in, Disjoint, on_ring, parity_in, carried_in, over_neither}
 use Rattle.polygon_laws.proofs.Closing.{closed}
 
--- ---- by place
-at_place : {X : Type 0} (xs : List X) (x : X) (k : ℕ) → k < length xs → slice_index_or xs k x ≡ x → Among x xs
-at_place [] x k h e = absurd (omega (arith, h))
-at_place (y ∷ ys) x zero h e = inl (sym e)
-at_place (y ∷ ys) x (suc k) h e = inr (at_place ys x k (omega (arith, h)) e)
-
-pub among_from_contains : {X : Type 0} (xs : List X) (x : X) → Contains xs x → Among x xs
-among_from_contains xs x h = at_place xs x h.0 h.1 h.2
-
-pub record Place {X : Type 0} (x : X) (xs : List X) : Type 0 where
-  pub index : ℕ
-  pub there : slice_get xs index ≡ Some x
-
-place_of : {X : Type 0} (x : X) (xs : List X) → Among x xs → Place x xs
-place_of x [] a = absurd a
-place_of x (y ∷ ys) (inl e) = record { index = 0; there = ap Some (sym e) }
-place_of x (y ∷ ys) (inr a) = let r : Place x ys = place_of x ys a in record { index = suc r.index; there = r.there }
-
-each_by : {X : Type 0} (P : X → Type 0) (xs : List X) → ((i : ℕ) (x : X) → slice_get xs i ≡ Some x → P x) → Each P xs
-each_by P [] f = tt
-each_by P (x ∷ xs) f = (f 0 x refl, each_by P xs (λ i y e. f (suc i) y e))
-
-abbrev pub Pairs : {X : Type 0} → (X → X → Type 0) → List X → Type 0
-Pairs P [] = Unit {0}
-Pairs P (x ∷ xs) = Each (P x) xs × Pairs P xs
-
-next_less : (i j : ℕ) → i < j → suc i < suc j
-next_less i j h = omega arith
-
-some_next : (j : ℕ) → 0 < suc j
-some_next j = omega arith
-
-pairs_by : {X : Type 0} (P : X → X → Type 0) (xs : List X) → ((i j : ℕ) (x y : X) → i < j → slice_get xs i ≡ Some x → slice_get xs j ≡ Some y → P x y) → Pairs P xs
-pairs_by P [] f = tt
-pairs_by P (x ∷ xs) f = (each_by (P x) xs (λ j y e. f 0 (suc j) x y (some_next j) refl e), pairs_by P xs (λ i j y z l e g. f (suc i) (suc j) y z (next_less i j l) e g))
-
 -- ---- what validity says
-disjoint_from : (r s : List Position) → (RingsShare r s → ⊥) → Disjoint r s
+pub disjoint_from : (r s : List Position) → (RingsShare r s → ⊥) → Disjoint r s
 disjoint_from r s f z hz e g a b h k = f (record {
   i = (place_of e (edges_of_line r) a).index;
   j = (place_of g (edges_of_line s) b).index;
@@ -70,36 +35,47 @@ not_false : (t : Bool) → (t ≡ false → ⊥) → t ≡ true
 not_false true f = refl
 not_false false f = absurd (f refl)
 
-not_true : (t : Bool) → (t ≡ true → ⊥) → t ≡ false
+pub not_true : (t : Bool) → (t ≡ true → ⊥) → t ≡ false
 not_true true f = absurd (f refl)
 not_true false f = refl
 
-abbrev NotNested : List Position → List Position → Type 0
-NotNested h k = (inside h k ≡ false) × (inside k h ≡ false)
+-- two holes share no point, and neither is inside the other
+pub record Apart (h k : List Position) : Type 0 where
+  pub disjoint : Disjoint h k
+  pub not_over : inside h k ≡ false
+  pub not_in : inside k h ≡ false
 
 pub record Lawful (outer : List Position) (holes : List (List Position)) : Type 0 where
   pub outer_closed : IsClosed outer
   pub holes_closed : Each IsClosed holes
   pub outer_apart : Each (Disjoint outer) holes
-  pub holes_apart : Pairs Disjoint holes
   pub holes_inside : Each (λ h. inside outer h ≡ true) holes
-  pub not_nested : Pairs NotNested holes
+  pub holes_apart : Pairs Apart holes
+
+abbrev whole : List (List Position) → Element
+whole rs = record { first = 0; rings = rs }
+
+stands : (rs : List (List Position)) → Contains (whole rs ∷ []) (whole rs)
+stands rs = (0, omega arith, refl)
+
+numbered_as : (k : ℕ) → k ≡ 0 + k
+numbered_as k = omega arith
 
 pub lawful : (outer : List Position) (holes : List (List Position)) → IsValid (Polygon (outer ∷ holes)) → Lawful outer holes
 lawful outer holes v = record {
   outer_closed = closed outer (λ n. v (RingNotClosed 0) (outer, refl, n));
   holes_closed = each_by IsClosed holes (λ i h e. closed h (λ n. v (RingNotClosed (suc i)) (h, e, n)));
-  outer_apart = each_by (Disjoint outer) holes (λ i h e. disjoint_from outer h (λ s. v (RingsMeet 0 (suc i)) (outer, h, some_next i, refl, e, s)));
-  holes_apart = pairs_by Disjoint holes (λ i j h k l e g. disjoint_from h k (λ s. v (RingsMeet (suc i) (suc j)) (h, k, next_less i j l, e, g, s)));
-  holes_inside = each_by (λ h. inside outer h ≡ true) holes (λ i h e. not_false (inside outer h) (λ f. v (HoleOutside (suc i)) (outer, h, some_next i, refl, e, f)));
-  not_nested = pairs_by NotNested holes (λ i j h k l e g. (not_true (inside h k) (λ f. v (HolesNested (suc i) (suc j)) (h, k, some_next i, next_less i j l, e, g, inl f)), not_true (inside k h) (λ f. v (HolesNested (suc i) (suc j)) (h, k, some_next i, next_less i j l, e, g, inr f))));
+  outer_apart = each_by (Disjoint outer) holes (λ i h e. disjoint_from outer h (λ s. v (RingsMeet 0 (suc i)) (whole (outer ∷ holes), 0, suc i, outer, h, stands (outer ∷ holes), some_next i, (numbered_as 0, refl), (numbered_as (suc i), e), s)));
+  holes_inside = each_by (λ h. inside outer h ≡ true) holes (λ i h e. not_false (inside outer h) (λ f. v (HoleOutside (suc i)) (whole (outer ∷ holes), suc i, outer, h, stands (outer ∷ holes), some_next i, refl, (numbered_as (suc i), e), f)));
+  holes_apart = pairs_by Apart holes (λ i j h k l e g. record {
+    disjoint = disjoint_from h k (λ s. v (RingsMeet (suc i) (suc j)) (whole (outer ∷ holes), suc i, suc j, h, k, stands (outer ∷ holes), next_less i j l, (numbered_as (suc i), e), (numbered_as (suc j), g), s));
+    not_over = not_true (inside h k) (λ f. v (HolesNested (suc i) (suc j)) (whole (outer ∷ holes), suc i, suc j, h, k, stands (outer ∷ holes), some_next i, next_less i j l, (numbered_as (suc i), e), (numbered_as (suc j), g), inl f));
+    not_in = not_true (inside k h) (λ f. v (HolesNested (suc i) (suc j)) (whole (outer ∷ holes), suc i, suc j, h, k, stands (outer ∷ holes), some_next i, next_less i j l, (numbered_as (suc i), e), (numbered_as (suc j), g), inr f));
+  });
 }
 
 -- ---- a hole's ring is inside the outer ring
-empty_even : (p : Point) → odd_in [] p ≡ false
-empty_even p = parity_in [] p
-
-no_way : (t : Bool) → t ≡ true → t ≡ false → ⊥
+pub no_way : (t : Bool) → t ≡ true → t ≡ false → ⊥
 no_way t e f = let z : true ≡ false = sym e ∙ f in absurd (cc)
 
 ring_inside : (outer h : List Position) → IsClosed outer → Disjoint outer h → inside outer h ≡ true → (p : Point) → IsPoint p → (e : Edge) → Among e (edges_of_line h) → on e p ≡ true → odd_in outer p ≡ true
@@ -112,24 +88,16 @@ hole_ring_is_inside outer holes v h a p hp e m k = go (lawful outer holes v)
     go : Lawful outer holes → odd_in outer p ≡ true
     go l = ring_inside outer h l.outer_closed (each_at (Disjoint outer) holes h l.outer_apart a) (each_at (λ q. inside outer q ≡ true) holes h l.holes_inside a) p hp e m k
 
--- ---- what is odd over a hole is odd over the outer ring
-inside_outer : (outer h : List Position) → IsClosed outer → IsClosed h → Disjoint outer h → inside outer h ≡ true → (p : Point) → IsPoint p → odd_in h p ≡ true → odd_in outer p ≡ true
-inside_outer outer [] c k d f p hp o = absurd (no_way (odd_in [] p) o (empty_even p))
-inside_outer [] (b ∷ v) c k d f p hp o = absurd (no_way (odd_in [] (point_at b)) f (empty_even (point_at b)))
-inside_outer (a ∷ u) (b ∷ v) c k d f p hp o = carried a u b v c k d f p hp o
-
 -- ---- no point is odd over two holes
-apart_holes : (h k : List Position) → IsClosed h → IsClosed k → Disjoint h k → NotNested h k → (p : Point) → IsPoint p → odd_in h p ≡ true → odd_in k p ≡ true → ⊥
-apart_holes [] k c d e f p hp s t = no_way (odd_in [] p) s (empty_even p)
-apart_holes (a ∷ u) [] c d e f p hp s t = no_way (odd_in [] p) t (empty_even p)
-apart_holes (a ∷ u) (b ∷ v) c d e f p hp s t = not_both a u b v c d e f.0 f.1 p hp s t
-
 abbrev NotBoth : Point → List Position → List Position → Type 0
 NotBoth p h k = odd_in h p ≡ true → odd_in k p ≡ true → ⊥
 
-pairs_apart : (p : Point) → IsPoint p → (holes : List (List Position)) → Each IsClosed holes → Pairs Disjoint holes → Pairs NotNested holes → Pairs (NotBoth p) holes
-pairs_apart p hp [] c d n = tt
-pairs_apart p hp (h ∷ hs) c d n = (each_of (NotBoth p h) hs (λ k m. apart_holes h k c.0 (each_at IsClosed hs k c.1 m) (each_at (Disjoint h) hs k d.0 m) (each_at (NotNested h) hs k n.0 m) p hp), pairs_apart p hp hs c.1 d.1 n.1)
+pairs_apart : (p : Point) → IsPoint p → (holes : List (List Position)) → Each IsClosed holes → Pairs Apart holes → Pairs (NotBoth p) holes
+pairs_apart p hp [] c d = tt
+pairs_apart p hp (h ∷ hs) c d = (each_of (NotBoth p h) hs (λ k m. apart_by (each_at (Apart h) hs k d.0 m) (each_at IsClosed hs k c.1 m)), pairs_apart p hp hs c.1 d.1)
+  where
+    apart_by : {k : List Position} → Apart h k → IsClosed k → NotBoth p h k
+    apart_by {k} a ck = over_neither h k c.0 ck a.disjoint a.not_over a.not_in p hp
 
 -- ---- the parity over all holes
 pub record OddHole (p : Point) (holes : List (List Position)) : Type 0 where
@@ -137,7 +105,7 @@ pub record OddHole (p : Point) (holes : List (List Position)) : Type 0 where
   pub among : Among hole holes
   pub odd : odd_in hole p ≡ true
 
-one_more : (r : List Position) (rs : List (List Position)) (p : Point) → odd_above (r ∷ rs) p ≡ xor (odd_in r p) (odd_above rs p)
+pub one_more : (r : List Position) (rs : List (List Position)) (p : Point) → odd_above (r ∷ rs) p ≡ xor (odd_in r p) (odd_above rs p)
 one_more r rs p = parity_of_rings (r ∷ rs) p ∙ parity_append (λ e. strictly_above e p) (edges_of_line r) (edges_of_lines rs) ∙ ap₂ xor (sym (parity_in r p)) (sym (parity_of_rings rs p))
 
 abbrev Counted : Point → List (List Position) → Type 0
@@ -152,6 +120,29 @@ counted p (h ∷ hs) n = go (odd_in h p) refl (counted p hs n.1)
     go false e (inl r) = inl ((e, r.0), one_more h hs p ∙ ap₂ xor e r.1)
     go true e (inr r) = absurd (each_at (NotBoth p h) hs r.0.hole n.0 r.0.among e r.0.odd)
     go false e (inr r) = inr (record { hole = r.0.hole; among = inr r.0.among; odd = r.0.odd }, one_more h hs p ∙ ap₂ xor e r.1)
+
+-- ---- odd over a polygon: odd over its outer ring, and over no hole
+pub cut : (outer : List Position) (holes : List (List Position)) → Lawful outer holes → (p : Point) → IsPoint p → odd_above (outer ∷ holes) p ≡ true → (odd_in outer p ≡ true) × Each (λ h. odd_in h p ≡ false) holes
+cut outer holes l p hp e = go (counted p holes (pairs_apart p hp holes l.holes_closed l.holes_apart))
+  where
+    go : Counted p holes → (odd_in outer p ≡ true) × Each (λ h. odd_in h p ≡ false) holes
+    go (inl r) = (sym (xor_false (odd_in outer p)) ∙ ap (xor (odd_in outer p)) (sym r.1) ∙ sym (one_more outer holes p) ∙ e, r.0)
+    go (inr r) = absurd (no_way (odd_above (outer ∷ holes) p) e (one_more outer holes p ∙ ap₂ xor (carried_in outer r.0.hole l.outer_closed (each_at IsClosed holes r.0.hole l.holes_closed r.0.among) (each_at (Disjoint outer) holes r.0.hole l.outer_apart r.0.among) (each_at (λ q. inside outer q ≡ true) holes r.0.hole l.holes_inside r.0.among) p hp r.0.odd) r.1))
+
+pub uncut : (outer : List Position) (holes : List (List Position)) → Lawful outer holes → (p : Point) → IsPoint p → odd_in outer p ≡ true → Each (λ h. odd_in h p ≡ false) holes → odd_above (outer ∷ holes) p ≡ true
+uncut outer holes l p hp e h = go (counted p holes (pairs_apart p hp holes l.holes_closed l.holes_apart))
+  where
+    go : Counted p holes → odd_above (outer ∷ holes) p ≡ true
+    go (inl r) = one_more outer holes p ∙ ap₂ xor e r.1
+    go (inr r) = absurd (no_way (odd_in r.0.hole p) r.0.odd (each_at (λ q. odd_in q p ≡ false) holes r.0.hole h r.0.among))
+
+-- what is odd over the outer ring and even over the polygon is odd over a hole
+pub in_some_hole : (outer : List Position) (holes : List (List Position)) → Lawful outer holes → (p : Point) → IsPoint p → odd_in outer p ≡ true → odd_above (outer ∷ holes) p ≡ false → OddHole p holes
+in_some_hole outer holes l p hp e f = go (counted p holes (pairs_apart p hp holes l.holes_closed l.holes_apart))
+  where
+    go : Counted p holes → OddHole p holes
+    go (inl r) = absurd (no_way (odd_above (outer ∷ holes) p) (one_more outer holes p ∙ ap₂ xor e r.1) f)
+    go (inr r) = r.0
 
 -- ---- the interior
 off_rings : (rs : List (List Position)) (p : Point) → Each (λ e. on e p ≡ false) (edges_of_lines rs) → Off (Polygon rs) p
@@ -168,22 +159,11 @@ holes_are_cut outer holes v p hp off = (λ e. forth (lawful outer holes v) e, λ
     here : locate (Polygon (outer ∷ holes)) p ≡ above (Polygon (outer ∷ holes)) p
     here = locate_off (Polygon (outer ∷ holes)) p hp (off_rings (outer ∷ holes) p (each_from_all (λ e. on e p ≡ false) (edges_of_lines (outer ∷ holes)) off))
 
-    count : Lawful outer holes → Counted p holes
-    count l = counted p holes (pairs_apart p hp holes l.holes_closed l.holes_apart l.not_nested)
-
-    odd_of : locate (Polygon (outer ∷ holes)) p ≡ Interior → odd_above (outer ∷ holes) p ≡ true
-    odd_of e = interior_odd (odd_above (outer ∷ holes) p) (sym (locate_off (Polygon (outer ∷ holes)) p hp (off_rings (outer ∷ holes) p (each_from_all (λ g. on g p ≡ false) (edges_of_lines (outer ∷ holes)) off))) ∙ e)
-
-    forth_by : Lawful outer holes → odd_above (outer ∷ holes) p ≡ true → Counted p holes → (odd_above (outer ∷ []) p ≡ true) × All (λ h. odd_above (h ∷ []) p ≡ false) holes
-    forth_by l e (inl r) = (sym (xor_false (odd_in outer p)) ∙ ap (xor (odd_in outer p)) (sym r.1) ∙ sym (one_more outer holes p) ∙ e, all_from_each (λ h. odd_in h p ≡ false) holes r.0)
-    forth_by l e (inr r) = absurd (no_way (odd_above (outer ∷ holes) p) e (one_more outer holes p ∙ ap₂ xor (inside_outer outer r.0.hole l.outer_closed (each_at IsClosed holes r.0.hole l.holes_closed r.0.among) (each_at (Disjoint outer) holes r.0.hole l.outer_apart r.0.among) (each_at (λ q. inside outer q ≡ true) holes r.0.hole l.holes_inside r.0.among) p hp r.0.odd) r.1))
+    listed : (odd_in outer p ≡ true) × Each (λ h. odd_in h p ≡ false) holes → (odd_above (outer ∷ []) p ≡ true) × All (λ h. odd_above (h ∷ []) p ≡ false) holes
+    listed k = (k.0, all_from_each (λ h. odd_in h p ≡ false) holes k.1)
 
     forth : Lawful outer holes → locate (Polygon (outer ∷ holes)) p ≡ Interior → (odd_above (outer ∷ []) p ≡ true) × All (λ h. odd_above (h ∷ []) p ≡ false) holes
-    forth l e = forth_by l (odd_of e) (count l)
-
-    back_by : odd_above (outer ∷ []) p ≡ true → Each (λ h. odd_in h p ≡ false) holes → Counted p holes → odd_above (outer ∷ holes) p ≡ true
-    back_by e h (inl r) = one_more outer holes p ∙ ap₂ xor e r.1
-    back_by e h (inr r) = absurd (no_way (odd_in r.0.hole p) r.0.odd (each_at (λ q. odd_in q p ≡ false) holes r.0.hole h r.0.among))
+    forth l e = listed (cut outer holes l p hp (interior_odd (odd_above (outer ∷ holes) p) (sym here ∙ e)))
 
     back : Lawful outer holes → odd_above (outer ∷ []) p ≡ true → Each (λ h. odd_in h p ≡ false) holes → locate (Polygon (outer ∷ holes)) p ≡ Interior
-    back l e h = here ∙ ap (λ (t : Bool). if t then Interior else Exterior) (back_by e h (count l))
+    back l e h = here ∙ ap (λ (t : Bool). if t then Interior else Exterior) (uncut outer holes l p hp e h)

@@ -1,7 +1,11 @@
+pub mod Places
+pub mod Through
+pub mod OneElement
 pub mod Stretch
 pub mod Outside
 pub mod Nested
 pub mod Closing
 pub mod Holes
+pub mod Areas
 pub mod Parting
 pub mod Empty

@@ -6,6 +6,7 @@ use Rattle.geometry_model.specs.Geometries.{Edge, edges_of_line, edges_of_lines}
 use Rattle.geometry_model.specs.Sides.{side, on}
 use Rattle.geometry_model.specs.Crossings.{exactly_one as xor, reaches, side_rightward, strictly_above, at_or_above, odd_above}
 use Rattle.geometry_model.specs.Dimensions.{weighted}
+use Rattle.geometry_model.specs.Validity.{inside}
 use Rattle.integers.proofs.Signs.{plus_plus, cancel_nonnegative, less_no, at_most_or_less, at_most_from, not_at_most_from}
 use Rattle.geometry_laws.specs.RingLaws.{IsClosed, Misses}
 use Rattle.geometry_laws.proofs.Each.{Each, Among, each_of, each_map, each_at, each_left, each_right, among_left, among_right, among_either, parity, parity_none, parity_append, same_parity}
@@ -215,3 +216,25 @@ carried a u b v ca cb d e p hp h = go (shown a u b v ca cb d p hp)
     go (inl k) = absurd (clash (odd_in (b ∷ v) p) h k.1)
     go (inr (inl k)) = k ∙ e
     go (inr (inr k)) = absurd (not_each a u b v ca cb d e (sym k ∙ h))
+
+-- ---- whether the rings have positions or not
+pub empty_even : (p : Point) → odd_in [] p ≡ false
+empty_even p = parity_in [] p
+
+-- what is odd over the inner ring is odd over the outer
+pub carried_in : (r s : List Position) → IsClosed r → IsClosed s → Disjoint r s → inside r s ≡ true → (p : Point) → IsPoint p → odd_in s p ≡ true → odd_in r p ≡ true
+carried_in r [] c k d f p hp o = absurd (clash (odd_in [] p) o (empty_even p))
+carried_in [] (b ∷ v) c k d f p hp o = absurd (clash (odd_in [] (point_at b)) f (empty_even (point_at b)))
+carried_in (a ∷ u) (b ∷ v) c k d f p hp o = carried a u b v c k d f p hp o
+
+-- where neither is inside the other nothing is odd over both
+pub over_neither : (r s : List Position) → IsClosed r → IsClosed s → Disjoint r s → inside r s ≡ false → inside s r ≡ false → (p : Point) → IsPoint p → odd_in r p ≡ true → odd_in s p ≡ true → ⊥
+over_neither [] s c k d e f p hp g h = clash (odd_in [] p) g (empty_even p)
+over_neither (a ∷ u) [] c k d e f p hp g h = clash (odd_in [] p) h (empty_even p)
+over_neither (a ∷ u) (b ∷ v) c k d e f p hp g h = not_both a u b v c k d e f p hp g h
+
+-- not each is inside the other
+pub not_each_in : (r s : List Position) → IsClosed r → IsClosed s → Disjoint r s → inside r s ≡ true → inside s r ≡ true → ⊥
+not_each_in [] s c k d e f = absurd (let z : false ≡ true = f in cc)
+not_each_in (a ∷ u) [] c k d e f = absurd (let z : false ≡ true = e in cc)
+not_each_in (a ∷ u) (b ∷ v) c k d e f = not_each a u b v c k d e f

@@ -4,7 +4,7 @@ use borrow.Author.Differences.{ints}
 use Rattle.std.proofs.lemmas.Int.{clamps}
 use Rattle.std.specs.Int.{int_min, int_max}
 use Rattle.geometry_model.specs.Points.{Position, Point, IsPoint, point_at}
-use Rattle.geometry_model.specs.Geometries.{Edge, Geometry, edges, edges_of_line, edges_of_lines, lines, listed, positions, rings}
+use Rattle.geometry_model.specs.Geometries.{Edge, Geometry, edges, edges_of_line, edges_of_lines, lines, listed, positions, rings, joined_rings}
 use Rattle.geometry_model.specs.Sides.{side, on}
 use Rattle.geometry_model.specs.Crossings.{exactly_one as xor, reaches, spans, side_rightward, strictly_above}
 use Rattle.geometry_model.specs.Locations.{stands_at, locate}
@@ -268,6 +268,7 @@ above_aside (Geometry.MultiPoint qs) p hp c h = refl
 above_aside (Geometry.LineString l) p hp c h = refl
 above_aside (Geometry.MultiLineString ls) p hp c h = refl
 above_aside (Geometry.Polygon rs) p hp c h = rings_aside rs p hp c h
+above_aside (Geometry.MultiPolygon es) p hp c h = rings_aside (joined_rings es) p hp c h
 
 pub outside_is_exterior : (g : Geometry) → HasClosedRings g → (p : Point) → IsPoint p → IsOutside (envelope g) p → locate g p ≡ Exterior
 outside_is_exterior g c p hp h = locate_off g p hp (off_aside g p hp (one_side (positions g) p hp h)) ∙ above_aside g p hp (each_from_all IsClosed (rings g) c) (one_side (positions g) p hp h)

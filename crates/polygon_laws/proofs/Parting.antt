@@ -1,22 +1,21 @@
 -- At a point strictly within a ring edge of a valid polygon that isn't upright, just that edge goes through the point: so the rings part the interior from the exterior there.
-use Rattle.std.proofs.Common.{ℕ, zero, suc, ◌+◌, ◌<◌, ◌≡◌, ◌⊎◌, inl, inr, Bool, true, false, if◌then◌else◌, ℤ, pos, ◌-ℤ◌, ◌<ℤ◌, ◌≤ℤ◌, int_le, refl, sym, ap, ap₂, ◌∙◌, List, [], ◌∷◌, length, Some, None, slice_get, Contains, arith}
+use Rattle.std.proofs.Common.{ℕ, zero, suc, ◌+◌, ◌<◌, ◌≡◌, ◌⊎◌, inl, inr, Bool, true, false, if◌then◌else◌, ℤ, pos, ◌-ℤ◌, ◌<ℤ◌, ◌≤ℤ◌, int_le, refl, sym, ap, ap₂, subst, ◌∙◌, List, [], ◌∷◌, length, Some, None, slice_get, arith}
 use borrow.Author.Differences.{ints}
-use Rattle.std.proofs.lemmas.Option.{slice_get-get_or}
 use Rattle.std.specs.Ordering.{int_eq}
 use Rattle.std.specs.declared.cmp.Ordering.{Ordering}
 use Rattle.std.specs.declared.cmp.Ordering.TheVariants.{Less, Equal, Greater}
 use Rattle.geometry_model.specs.Points.{Position, Point, IsPoint, point_at, same_point, compare}
-use Rattle.geometry_model.specs.Geometries.{Edge, Polygon, edges_of_line, edges_of_lines}
+use Rattle.geometry_model.specs.Geometries.{Edge, Geometry, edges_of_line, edges_of_lines, rings, joined_rings}
 use Rattle.geometry_model.specs.Sides.{side, on}
 use Rattle.geometry_model.specs.Crossings.{exactly_one as xor, reaches, spans, side_rightward, odd_above, odd_at_or_above}
 use Rattle.geometry_model.specs.Locations.{stands_at, last_after}
 use Rattle.geometry_model.specs.Validity.{IsValid, Clash, ShareOther}
-use Rattle.geometry_model.specs.declared.validity_faults.ValidityFault.TheVariants.{RingNotClosed, RingNotSimple, RingsMeet}
+use Rattle.geometry_model.specs.declared.validity_faults.ValidityFault.TheVariants.{RingNotClosed, RingNotSimple}
 use Rattle.integers.proofs.Signs.{at_most_yes, at_most_no}
 use Rattle.integers.proofs.Tests.{equal_yes}
 use Rattle.geometry_laws.specs.RingLaws.{IsClosed}
 use Rattle.geometry_laws.proofs.Plane.{right}
-use Rattle.geometry_laws.proofs.Each.{parity, parity_append}
+use Rattle.geometry_laws.proofs.Each.{Each, each_append, parity, parity_append}
 use Rattle.geometry_laws.proofs.Xor.{xor_self, xor_assoc}
 use Rattle.geometry_laws.proofs.Identities.{right_turned}
 use Rattle.geometry_laws.proofs.Scaling.{and_from}
@@ -27,11 +26,17 @@ use Rattle.geometry_laws.proofs.RingParity.{reaches_is, position_is_point}
 use Rattle.geometry_laws.proofs.Locating.{start_is_on, end_is_on, by_contraries}
 use Rattle.geometry_laws.proofs.Cuts.{turn_less, not_after_both, not_before_both, same_end}
 use Rattle.geometry_laws.proofs.WithinPiece.{touches, on_from_touch, strictly_right, parity_at_or_above}
+use Rattle.geometry_laws.proofs.Nudge.{IsSlant}
+use Rattle.geometry_laws.proofs.CoverTheorems.{all_from_each, sides_are_near, near_points_stand_so}
+use Rattle.geometry_laws.specs.CoverLaws.{IsSlantAt, NearSides, AllNearStand}
+use Rattle.geometry_model.specs.Labels.{below, above}
+use Rattle.geometry_model.specs.declared.point_sets.Location.TheVariants.{Interior, Exterior}
+use Rattle.polygon_laws.specs.PolygonLaws.{ArePartedAs}
 use Rattle.polygon_laws.proofs.Closing.{closed}
-
--- ---- by place
-pub place_from_contains : {X : Type 0} (xs : List X) (x : X) (c : Contains xs x) → slice_get xs c.0 ≡ Some x
-place_from_contains xs x c = slice_get-get_or xs c.0 x c.1 ∙ ap Some c.2
+use Rattle.polygon_laws.proofs.Places.{among_at, each_by, pairs_at}
+use Rattle.polygon_laws.proofs.Through.{one_parity, none_parity}
+use Rattle.polygon_laws.proofs.Nested.{Disjoint}
+use Rattle.polygon_laws.proofs.Areas.{rings_apart}
 
 -- ---- the edge goes through the point
 reaches_yes : (a : Position) (x : Point) → pos 0 <ℤ right (point_at a) x → reaches a x ≡ true
@@ -81,23 +86,7 @@ goes_through e p hp h s t f = and_from (spans e p) (int_eq (side_rightward e p) 
     go Greater k Equal l = absurd (no_way (stands_at p e.end) ((equal_is_same (point_at e.end) p).0 l) t)
     go Greater k Greater l = absurd (no_way (on e p) h (not_before_both e p hp (turn_less (point_at e.start) p k) (turn_less (point_at e.end) p l)))
 
--- ---- one that passes, at one place
-one_parity : {X : Type 0} (f : X → Bool) (xs : List X) (j : ℕ) (x : X) → slice_get xs j ≡ Some x → f x ≡ true → ((k : ℕ) (y : X) → (k ≡ j → ⊥) → slice_get xs k ≡ Some y → f y ≡ false) → parity f xs ≡ true
-one_parity f [] j x e h g = absurd (let z : None ≡ Some x = e in cc)
-one_parity {X} f (y ∷ ys) zero x e h g = ap₂ xor (ap f same ∙ h) (none ys (λ k z q. g (suc k) z (λ w. absurd (omega (arith, w))) q))
-  where
-    same : y ≡ x
-    same = let z : Some y ≡ Some x = e in cc
-
-    none : (zs : List X) → ((k : ℕ) (z : X) → slice_get zs k ≡ Some z → f z ≡ false) → parity f zs ≡ false
-    none [] n = refl
-    none (z ∷ zs) n = ap₂ xor (n 0 z refl) (none zs (λ k w q. n (suc k) w q))
-one_parity f (y ∷ ys) (suc j) x e h g = ap₂ xor (g 0 y (λ w. absurd (omega (arith, w))) refl) (one_parity f ys j x e h (λ k z n q. g (suc k) z (λ w. n (omega (arith, w))) q))
-
-none_parity : {X : Type 0} (f : X → Bool) (xs : List X) → ((k : ℕ) (y : X) → slice_get xs k ≡ Some y → f y ≡ false) → parity f xs ≡ false
-none_parity f [] n = refl
-none_parity f (y ∷ ys) n = ap₂ xor (n 0 y refl) (none_parity f ys (λ k z q. n (suc k) z q))
-
+-- ---- over all rings
 over_rings : (f : Edge → Bool) (rs : List (List Position)) → parity f (edges_of_lines rs) ≡ parity (λ r. parity f (edges_of_line r)) rs
 over_rings f [] = refl
 over_rings f (r ∷ rs) = parity_append f (edges_of_line r) (edges_of_lines rs) ∙ ap (xor (parity f (edges_of_line r))) (over_rings f rs)
@@ -172,37 +161,93 @@ clashes ring c i j e f l g h p hp k m s t = go (equal_or_not j (i + 1)) (equal_o
     go (inr q) (inl w) (inr v) = inr (inr (q, (λ b. v b.1), record { at = p; is_point = hp; on_first = k; on_second = m }))
     go (inr q) (inr w) v = inr (inr (q, (λ b. w b.0), record { at = p; is_point = hp; on_first = k; on_second = m }))
 
--- ---- exactly one of the two parities
+-- ---- no other edge goes through the point
 apart_from : (a : Position) (p : Point) → stands_at p a ≡ false → same_point p (point_at a) ≡ false
 apart_from a p h = same_symmetric p (point_at a) ∙ h
 
-pub rings_part : (rs : List (List Position)) → IsValid (Polygon rs) → (i : ℕ) (ring : List Position) → slice_get rs i ≡ Some ring → (j : ℕ) (e : Edge) → slice_get (edges_of_line ring) j ≡ Some e
-    → (p : Point) → IsPoint p → on e p ≡ true → stands_at p e.start ≡ false → stands_at p e.end ≡ false → (e.start.x ≡ e.end.x → ⊥) → xor (odd_above rs p) (odd_at_or_above rs p) ≡ true
-rings_part rs v i ring ri j e ej p hp h s t f = ap (xor (odd_above rs p)) (parity_at_or_above rs p) ∙ sym (xor_assoc (odd_above rs p) (odd_above rs p) (parity (λ g. touches g p) (edges_of_lines rs)))
-    ∙ ap (λ (b : Bool). xor b (parity (λ g. touches g p) (edges_of_lines rs))) (xor_self (odd_above rs p)) ∙ over_rings (λ g. touches g p) rs
-    ∙ one_parity (λ r. parity (λ g. touches g p) (edges_of_line r)) rs i ring ri
-    (one_parity (λ g. touches g p) (edges_of_line ring) j e ej (goes_through e p hp h s t f) same_ring) other_ring
+not_on : (e : Edge) (p : Point) → (on e p ≡ true → ⊥) → on e p ≡ false
+not_on e p n = by_contraries (on e p) false (λ q. absurd (n q)) refl
+
+-- none of its ring, since the ring is simple
+no_edge_of_ring : (g : Geometry) → IsValid g → (i : ℕ) (ring : List Position) → slice_get (rings g) i ≡ Some ring → (j : ℕ) (e : Edge) → slice_get (edges_of_line ring) j ≡ Some e
+    → (p : Point) → IsPoint p → on e p ≡ true → stands_at p e.start ≡ false → stands_at p e.end ≡ false → (k : ℕ) (d : Edge) → (k ≡ j → ⊥) → slice_get (edges_of_line ring) k ≡ Some d → on d p ≡ false
+no_edge_of_ring g v i ring ri j e ej p hp h s t k d n dk = not_on d p (λ m. pick m (less_or_more k j n))
   where
-    off : (g : Edge) → (on g p ≡ true → ⊥) → touches g p ≡ false
-    off g n = by_contraries (touches g p) (on g p) (on_from_touch g p hp) (by_contraries (on g p) false (λ q. absurd (n q)) refl)
-
     ring_closed : IsClosed ring
-    ring_closed = closed ring (λ n. v (RingNotClosed i) (ring, ri, n))
+    ring_closed = closed ring (λ q. v (RingNotClosed i) (ring, ri, q))
 
-    not_simple : (a b : ℕ) (g k : Edge) → a < b → slice_get (edges_of_line ring) a ≡ Some g → slice_get (edges_of_line ring) b ≡ Some k → on g p ≡ true → on k p ≡ true
-        → (same_point p (point_at g.end) ≡ false) ⊎ (same_point p (point_at k.start) ≡ false) → (same_point p (point_at g.start) ≡ false) ⊎ (same_point p (point_at k.end) ≡ false) → ⊥
-    not_simple a b g k l ga kb m n u w = v (RingNotSimple i) (ring, ri, record { i = a; j = b; e = g; f = k; later = l; first = ga; second = kb; clash = clashes ring (closed ring (λ q. v (RingNotClosed i) (ring, ri, q))) a b g k l ga kb p hp m n u w })
+    not_simple : (a b : ℕ) (c f : Edge) → a < b → slice_get (edges_of_line ring) a ≡ Some c → slice_get (edges_of_line ring) b ≡ Some f → on c p ≡ true → on f p ≡ true
+        → (same_point p (point_at c.end) ≡ false) ⊎ (same_point p (point_at f.start) ≡ false) → (same_point p (point_at c.start) ≡ false) ⊎ (same_point p (point_at f.end) ≡ false) → ⊥
+    not_simple a b c f l ca fb m q u w = v (RingNotSimple i) (ring, ri, record { i = a; j = b; e = c; f = f; later = l; first = ca; second = fb; clash = clashes ring ring_closed a b c f l ca fb p hp m q u w })
 
-    same_ring : (k : ℕ) (g : Edge) → (k ≡ j → ⊥) → slice_get (edges_of_line ring) k ≡ Some g → touches g p ≡ false
-    same_ring k g n gk = off g (λ m. pick m (less_or_more k j n))
-      where
-        pick : on g p ≡ true → (k < j) ⊎ (j < k) → ⊥
-        pick m (inl l) = not_simple k j g e l gk ej m h (inr (apart_from e.start p s)) (inr (apart_from e.end p t))
-        pick m (inr l) = not_simple j k e g l ej gk h m (inl (apart_from e.end p t)) (inl (apart_from e.start p s))
+    pick : on d p ≡ true → (k < j) ⊎ (j < k) → ⊥
+    pick m (inl l) = not_simple k j d e l dk ej m h (inr (apart_from e.start p s)) (inr (apart_from e.end p t))
+    pick m (inr l) = not_simple j k e d l ej dk h m (inl (apart_from e.end p t)) (inl (apart_from e.start p s))
 
-    other_ring : (k : ℕ) (r : List Position) → (k ≡ i → ⊥) → slice_get rs k ≡ Some r → parity (λ g. touches g p) (edges_of_line r) ≡ false
-    other_ring k r n rk = none_parity (λ g. touches g p) (edges_of_line r) (λ m g gm. off g (λ q. pick m g gm q (less_or_more k i n)))
-      where
-        pick : (m : ℕ) (g : Edge) → slice_get (edges_of_line r) m ≡ Some g → on g p ≡ true → (k < i) ⊎ (i < k) → ⊥
-        pick m g gm q (inl l) = v (RingsMeet k i) (r, ring, l, rk, ri, record { i = m; j = j; e = g; f = e; first = gm; second = ej; share = record { at = p; is_point = hp; on_first = q; on_second = h } })
-        pick m g gm q (inr l) = v (RingsMeet i k) (ring, r, l, ri, rk, record { i = j; j = m; e = e; f = g; first = ej; second = gm; share = record { at = p; is_point = hp; on_first = h; on_second = q } })
+-- none of another ring, since no two rings share a point
+no_edge_of_others : (g : Geometry) → IsValid g → (i : ℕ) (ring : List Position) → slice_get (rings g) i ≡ Some ring → (j : ℕ) (e : Edge) → slice_get (edges_of_line ring) j ≡ Some e
+    → (p : Point) → IsPoint p → on e p ≡ true → (k : ℕ) (r : List Position) → (k ≡ i → ⊥) → slice_get (rings g) k ≡ Some r → (m : ℕ) (d : Edge) → slice_get (edges_of_line r) m ≡ Some d → on d p ≡ false
+no_edge_of_others g v i ring ri j e ej p hp h k r n rk m d dm = not_on d p (λ q. pick q (less_or_more k i n))
+  where
+    pick : on d p ≡ true → (k < i) ⊎ (i < k) → ⊥
+    pick q (inl l) = pairs_at Disjoint (rings g) (rings_apart g v) k i r ring l rk ri p hp d e (among_at (edges_of_line r) m d dm) (among_at (edges_of_line ring) j e ej) q h
+    pick q (inr l) = pairs_at Disjoint (rings g) (rings_apart g v) i k ring r l ri rk p hp e d (among_at (edges_of_line ring) j e ej) (among_at (edges_of_line r) m d dm) h q
+
+-- ---- exactly one of the two parities
+pub rings_part : (g : Geometry) → IsValid g → (i : ℕ) (ring : List Position) → slice_get (rings g) i ≡ Some ring → (j : ℕ) (e : Edge) → slice_get (edges_of_line ring) j ≡ Some e
+    → (p : Point) → IsPoint p → on e p ≡ true → stands_at p e.start ≡ false → stands_at p e.end ≡ false → (e.start.x ≡ e.end.x → ⊥) → xor (odd_above (rings g) p) (odd_at_or_above (rings g) p) ≡ true
+rings_part g v i ring ri j e ej p hp h s t f = ap (xor (odd_above (rings g) p)) (parity_at_or_above (rings g) p) ∙ sym (xor_assoc (odd_above (rings g) p) (odd_above (rings g) p) (parity (λ k. touches k p) (edges_of_lines (rings g))))
+    ∙ ap (λ (b : Bool). xor b (parity (λ k. touches k p) (edges_of_lines (rings g)))) (xor_self (odd_above (rings g) p)) ∙ over_rings (λ k. touches k p) (rings g)
+    ∙ one_parity (λ r. parity (λ k. touches k p) (edges_of_line r)) (rings g) i ring ri
+    (one_parity (λ k. touches k p) (edges_of_line ring) j e ej (goes_through e p hp h s t f) (λ k d n q. untouched d (no_edge_of_ring g v i ring ri j e ej p hp h s t k d n q)))
+    (λ k r n q. none_parity (λ d. touches d p) (edges_of_line r) (λ m d dm. untouched d (no_edge_of_others g v i ring ri j e ej p hp h k r n q m d dm)))
+  where
+    untouched : (d : Edge) → on d p ≡ false → touches d p ≡ false
+    untouched d n = by_contraries (touches d p) (on d p) (on_from_touch d p hp) n
+
+-- ---- what is just below and just above
+parted_as : (s t : Bool) → xor s t ≡ true → ArePartedAs (if t then Interior else Exterior) (if s then Interior else Exterior)
+parted_as true true e = absurd (cc)
+parted_as true false e = inr (refl, refl)
+parted_as false true e = inl (refl, refl)
+parted_as false false e = absurd (cc)
+
+each_ring : (P : Edge → Type 0) (rs : List (List Position)) → ((k : ℕ) (r : List Position) → slice_get rs k ≡ Some r → (m : ℕ) (d : Edge) → slice_get (edges_of_line r) m ≡ Some d → P d) → Each P (edges_of_lines rs)
+each_ring P [] f = tt
+each_ring P (r ∷ rs) f = each_append P (edges_of_line r) (edges_of_lines rs) (each_by P (edges_of_line r) (λ m d q. f 0 r refl m d q)) (each_ring P rs (λ k q h m d z. f (suc k) q h m d z))
+
+-- every edge through the point is that one, so none of them is upright
+slant_at : (g : Geometry) → IsValid g → (i : ℕ) (ring : List Position) → slice_get (rings g) i ≡ Some ring → (j : ℕ) (e : Edge) → slice_get (edges_of_line ring) j ≡ Some e
+    → (p : Point) → IsPoint p → on e p ≡ true → stands_at p e.start ≡ false → stands_at p e.end ≡ false → (e.start.x ≡ e.end.x → ⊥) → Each (IsSlant p) (edges_of_lines (rings g))
+slant_at g v i ring ri j e ej p hp h s t f = each_ring (IsSlant p) (rings g) (λ k r rk m d dm. at_ring k r rk m d dm (equal_or_not k i))
+  where
+    same_item : {X : Type 0} (x y : X) → Some x ≡ Some y → x ≡ y
+    same_item x y z = cc
+
+    none : (d : Edge) → on d p ≡ false → IsSlant p d
+    none d n = λ y q. absurd (let z : true ≡ false = sym y ∙ n in cc)
+
+    at_edge : (k : ℕ) (r : List Position) → k ≡ i → slice_get (rings g) k ≡ Some r → (m : ℕ) (d : Edge) → slice_get (edges_of_line r) m ≡ Some d → (m ≡ j) ⊎ (m ≡ j → ⊥) → IsSlant p d
+    at_edge k r w rk m d dm (inl n) = λ y q. f (subst (λ (c : Edge). c.start.x ≡ c.end.x) (same_item d e (sym dm ∙ ap₂ (λ (o : List Position) (l : ℕ). slice_get (edges_of_line o) l) (same_item r ring (sym rk ∙ ap (slice_get (rings g)) w ∙ ri)) n ∙ ej)) q)
+    at_edge k r w rk m d dm (inr n) = none d (no_edge_of_ring g v i ring ri j e ej p hp h s t m d n (ap (λ (o : List Position). slice_get (edges_of_line o) m) (sym (same_item r ring (sym rk ∙ ap (slice_get (rings g)) w ∙ ri))) ∙ dm))
+
+    at_ring : (k : ℕ) (r : List Position) → slice_get (rings g) k ≡ Some r → (m : ℕ) (d : Edge) → slice_get (edges_of_line r) m ≡ Some d → (k ≡ i) ⊎ (k ≡ i → ⊥) → IsSlant p d
+    at_ring k r rk m d dm (inl w) = at_edge k r w rk m d dm (equal_or_not m j)
+    at_ring k r rk m d dm (inr n) = none d (no_edge_of_others g v i ring ri j e ej p hp h k r n rk m d dm)
+
+-- an area has no edges but those of its rings, and no listed positions
+slant_area : (g : Geometry) (p : Point) (i : ℕ) (ring : List Position) → slice_get (rings g) i ≡ Some ring → Each (IsSlant p) (edges_of_lines (rings g)) → IsSlantAt g p
+slant_area (Geometry.Point o) p i ring e h = absurd (let z : None ≡ Some ring = e in cc)
+slant_area (Geometry.MultiPoint qs) p i ring e h = absurd (let z : None ≡ Some ring = e in cc)
+slant_area (Geometry.LineString l) p i ring e h = absurd (let z : None ≡ Some ring = e in cc)
+slant_area (Geometry.MultiLineString ls) p i ring e h = absurd (let z : None ≡ Some ring = e in cc)
+slant_area (Geometry.Polygon rs) p i ring e h = record { edges = all_from_each (IsSlant p) (edges_of_lines rs) h; positions = all_from_each (λ a. stands_at p a ≡ false) [] tt }
+slant_area (Geometry.MultiPolygon es) p i ring e h = record { edges = all_from_each (IsSlant p) (edges_of_lines (joined_rings es)) h; positions = all_from_each (λ a. stands_at p a ≡ false) [] tt }
+
+pub sides_of_a_ring : (g : Geometry) → IsValid g → (i : ℕ) (ring : List Position) → slice_get (rings g) i ≡ Some ring → (j : ℕ) (e : Edge) → slice_get (edges_of_line ring) j ≡ Some e
+    → (p : Point) → IsPoint p → on e p ≡ true → stands_at p e.start ≡ false → stands_at p e.end ≡ false → (e.start.x ≡ e.end.x → ⊥) → ArePartedAs (below g p) (above g p) × ((k : ℕ) → NearSides g p k) × AllNearStand g p
+sides_of_a_ring g v i ring ri j e ej p hp h s t f = (
+  parted_as (odd_above (rings g) p) (odd_at_or_above (rings g) p) (rings_part g v i ring ri j e ej p hp h s t f),
+  sides_are_near g p hp (slant_area g p i ring ri (slant_at g v i ring ri j e ej p hp h s t f)),
+  near_points_stand_so g p hp (slant_area g p i ring ri (slant_at g v i ring ri j e ej p hp h s t f)),
+)

@@ -1,1 +1,3 @@
 pub mod PolygonLaws
+pub mod ElementLaws
+pub mod NestingLaws

@@ -2,22 +2,13 @@
 //! SELECT means; and it relates two geometries by their DE-9IM matrix.
 #![tactic(auto)]
 
-pub mod execute;
-pub mod failure;
-pub mod fault;
-pub mod first_run;
-pub mod records;
-pub mod relate;
-pub mod run;
-pub mod serve;
-
-use crate::failure::Failure;
 use command_line::{Misuse, Order, order};
+use engine::{Failure, failed, serve};
+use sinks::{Sink, StdSink, put_all};
 use std::alloc::{AllocError, Global};
 use std::io::{self, BufWriter, ErrorKind};
 use std::process::ExitCode;
 use std::{env, fs};
-use wkt::{Sink, StdSink, put_all};
 
 /// The status for words of the command line that are no order.
 const MISUSE: u8 = 2;
@@ -37,13 +28,13 @@ fn main(rt: HostRuntime) -> ExitCode {
     };
     let buffer = match BufWriter::new(rt.alloc(), rt.stdout()) {
         Ok(buffer) => buffer,
-        Err(_) => return ExitCode::from(serve::failed(&Failure::OutOfMemory, &mut err)),
+        Err(_) => return ExitCode::from(failed(&Failure::OutOfMemory, &mut err)),
     };
     let mut out = StdSink::new(buffer);
     let opener = |path: &str| fs::open(&rt, path).ok();
-    let status = serve::serve(rt.alloc(), &order, opener, &mut out, &mut err);
+    let status = serve(rt.alloc(), &order, opener, &mut out, &mut err);
     if out.flush().is_err() && status == 0 {
-        return ExitCode::from(serve::failed(&Failure::WriteFailed, &mut err));
+        return ExitCode::from(failed(&Failure::WriteFailed, &mut err));
     }
     ExitCode::from(status)
 }
@@ -62,7 +53,7 @@ fn read_words(rt: &HostRuntime) -> io::Result<Vec<String>> {
 // Tells why the words of the command line can't be had, and answers the status: memory ran out, or they aren't UTF-8.
 fn failed_words<E: Sink>(error: &io::Error, err: &mut E) -> u8 {
     if error.kind() == ErrorKind::OutOfMemory {
-        return serve::failed(&Failure::OutOfMemory, err);
+        return failed(&Failure::OutOfMemory, err);
     }
     let _ = put_all(err, NOT_UTF8);
     MISUSE
@@ -73,7 +64,7 @@ fn failed_order<E: Sink>(rt: &HostRuntime, misuse: &Misuse, err: &mut E) -> u8 {
     let is_printed = misuse.print(rt).is_ok();
     let status = misuse.status();
     if status == 0 && !is_printed {
-        return serve::failed(&Failure::WriteFailed, err);
+        return failed(&Failure::WriteFailed, err);
     }
     status
 }
@@ -86,6 +77,3 @@ fn read_order(alloc: Global, texts: &[String]) -> Result<Order, Misuse> {
     }
     order(alloc, words.as_slice())
 }
-
-#[cfg(test)]
-mod tests;

@@ -3,4 +3,3 @@ pub mod Counts
 pub mod Outcomes
 pub mod TokenSlices
 pub mod Ascii
-pub mod PredicateNames

@@ -1,6 +1,6 @@
 -- The parts of the query language that this crate reads.
-use Rattle.table_model.specs.Served.{Served, all_served}
+use Rattle.table_model.specs.Served.{Served, nothing_served}
 
--- the whole language
+-- a SELECT over one table without functions (profile)
 abbrev pub language : Served
-language = all_served
+language = nothing_served

@@ -2,4 +2,3 @@ pub mod Language
 pub mod Strings
 pub mod Sides
 pub mod Outcomes
-pub mod Predicates

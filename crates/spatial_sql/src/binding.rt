@@ -2,12 +2,14 @@
 
 ghost use Rattle.std.specs.Prelude.{◌≡◌, ◌++◌, map, IfOk, OnOk};
 ghost use Rattle.table_model.specs.Binding as spec;
+ghost use Rattle.table_model.specs.BoundQueries.{IsBound, no_geometry_fits};
+ghost use Rattle.table_model.specs.Loading.{each};
 ghost use Rattle.table_model.specs.Outcomes.{Gives};
 
 use crate::columns::{bound_column, columns_of};
 use crate::conjuncts::bound_conjuncts;
 use crate::references::bound_references;
-use crate::{Bound, PlainQuery};
+use crate::{Bound, Query};
 use feature_table::Database;
 use sqlite_items::Items;
 use std::alloc::{AllocError, Global};
@@ -72,7 +74,7 @@ fn listed_items(
     references: &[Reference],
     written: &[WrittenItem<'_, NoGeometry>],
 ) -> Result<Items<Item<NoGeometry>>, QueryFault>
-    ensures { Gives QueryFault.OutOfMemory (λ items. items) result (spec.in_order (map (spec.bound_item spec.no_geometry schema.now references.now) written.now)) }
+    ensures { Gives QueryFault.OutOfMemory (λ items. items) result (each (map (spec.bound_item spec.no_geometry schema.now references.now) written.now)) }
 {
     let mut items = Items::new(alloc);
     for item in written {
@@ -125,7 +127,7 @@ fn bound_condition(
 /// A query bound to the tables of a schema: its tables first, then the select list, ON and WHERE.
 fn bound_query(
     alloc: Global,
-    query: &PlainQuery<'_>,
+    query: &Query<'_>,
     schema: &[TableDef<NoGeometry>],
 ) -> Result<Bound, QueryFault>
     ensures { Gives QueryFault.OutOfMemory (λ bound. bound) result (spec.binding spec.no_geometry schema.now query.now) }
@@ -150,13 +152,11 @@ fn bound_query(
 /// ON and of WHERE, and answers the first fault from left to right with its byte:
 /// `UnknownTable` at a table's name, `SameName` at the name of a second reference that has the first's name,
 /// `UnknownColumn` and `AmbiguousColumn` at a column's first byte, `TypeMismatch` at the first byte of a comparison
-/// whose sides are not both INTEGER or both TEXT, NULL being either; or `OutOfMemory`. (SQL; the order: profile.)
-pub fn bind(
-    alloc: Global,
-    query: &PlainQuery<'_>,
-    database: &Database<'_>,
-) -> Result<Bound, QueryFault>
-    ensures { Gives QueryFault.OutOfMemory (λ bound. bound) result (spec.binding spec.no_geometry database.now.definitions query.now) }
+/// whose sides are not both INTEGER or both TEXT, NULL being either; or `OutOfMemory`. What it answers is bound to the
+/// definitions of this database: its tables and columns are there, and its types fit. (SQL; the order: profile.)
+pub fn bind(alloc: Global, query: &Query<'_>, database: &Database<'_>) -> Result<Bound, QueryFault>
+    ensures answer { Gives QueryFault.OutOfMemory (λ bound. bound) result (spec.binding spec.no_geometry database.now.definitions query.now) }
+    ensures bound { IfOk result (IsBound no_geometry_fits database.now.definitions) }
 {
     bound_query(alloc, query, database.definitions())
 }

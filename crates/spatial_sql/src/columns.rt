@@ -58,13 +58,13 @@ fn refers_to(reference: &Option<Name<'_>>, name: &[u8]) -> bool
 }
 
 /// The column that a written one can be of the reference at a place.
-fn candidate(
+fn column_meant(
     schema: &[TableDef<NoGeometry>],
     written: &WrittenColumn<'_>,
     place: usize,
     reference: &Reference,
 ) -> Option<Found>
-    ensures { result ≡ spec.candidate schema.now written.now place reference.now }
+    ensures { result ≡ spec.column_meant schema.now written.now place reference.now }
 {
     if !refers_to(&written.reference, reference.name.as_slice()) {
         return None;
@@ -89,7 +89,7 @@ pub fn bound_column(
     let at = name_start(&written.name, &written.reference);
     let mut found = None;
     for (place, reference) in references.iter().enumerate() {
-        if let Some(column) = candidate(schema, written, place, reference) {
+        if let Some(column) = column_meant(schema, written, place, reference) {
             if found.is_some() {
                 return Err(QueryFault::AmbiguousColumn(at));
             }

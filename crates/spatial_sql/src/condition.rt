@@ -1,36 +1,27 @@
 //! Reads names, operands and conditions. Each function ensures the outcome of the reader of its name in
 //! `specs/QueryReading.antt` of `table_model`, which has the grammar.
 
-ghost use Rattle.std.specs.Prelude.{◌≡◌, ◌≤◌, ◌<◌, ◌^◌, ◌==◌, if◌then◌else◌, MatchOption, Some, None, false, true};
+ghost use Rattle.std.specs.Prelude.{◌≡◌, ◌≤◌, ◌<◌, ◌^◌, MatchOption, false, true};
 ghost use Rattle.std.specs.Char as chars;
 ghost use Rattle.std.specs.Str.Parse.{digits_value};
 ghost use Rattle.table_model.specs.declared.queries.WrittenCond.TheVariants as tree;
-ghost use Rattle.spatial_sql.specs.Predicates as names;
 ghost use Rattle.table_model.specs.QueryReading as spec;
 ghost use Rattle.table_model.specs.Parsers as steps;
 ghost use Rattle.table_model.specs.Parsers.{Reads};
 ghost use Rattle.spatial_sql.specs.Language.{language};
-ghost use Rattle.spatial_sql.specs.Predicates.{
-  named_predicates,
-  named_in,
-  other_predicate,
-  other_operand,
-  predicate_by,
-};
 
 use crate::cursor::Cursor;
-use geometry_model::Predicate;
 use sqlite_items::{Boxed, Items};
 use std::alloc::Global;
 use table_model::conditions::Comparison;
 use table_model::faults::QueryFault;
-use table_model::queries::{Name, WrittenColumn, WrittenGeometry, WrittenPredicate};
-use table_model::texts::same_name;
+use table_model::queries::{Name, WrittenColumn};
 use table_model::tokens::TokenKind;
+use table_model::values::NoGeometry;
 
-type WrittenOperand<'a> = table_model::queries::WrittenOperand<'a, WrittenGeometry<'a>>;
+type WrittenOperand<'a> = table_model::queries::WrittenOperand<'a, NoGeometry>;
 
-type WrittenCond<'a> = table_model::queries::WrittenCond<'a, WrittenGeometry<'a>>;
+type WrittenCond<'a> = table_model::queries::WrittenCond<'a, NoGeometry>;
 
 /// How deep NOT and parentheses may nest.
 pub const MOST_LEVELS: usize = 64;
@@ -136,23 +127,6 @@ fn integer_value(negative: bool, digits: &[u8]) -> Option<i64>
     }
 }
 
-/// The number of rows that digits give, where 64 bits with a sign hold it.
-pub fn limit_value(digits: &[u8]) -> Option<u64>
-    ensures { result ≡ spec.limit_value digits.now }
-{
-    magnitude(digits, GREATEST_MAGNITUDE - 1)
-}
-
-/// Whether a function of this name, in any ASCII case, is called next.
-#[tactic(auto, unfolding(table_model::specs::QueryReading::calls))]
-pub fn calls(tokens: &Cursor<'_, '_>, function: &[u8]) -> bool
-    ensures { result ≡ spec.calls function.now tokens.now }
-{
-    tokens.sees(TokenKind::Word)
-        && tokens.second_sees(TokenKind::LeftParenthesis)
-        && same_name(tokens.spelling(), function)
-}
-
 /// Reads digits, whose number may be negated.
 #[tactic(auto, unfolding(table_model::specs::QueryReading::integer))]
 fn integer<'a>(
@@ -170,85 +144,6 @@ fn integer<'a>(
             tokens.advance();
             Ok(WrittenOperand::Integer(value))
         }
-    }
-}
-
-/// Reads a string.
-#[tactic(auto, unfolding(table_model::specs::QueryReading::string))]
-fn string<'a>(tokens: &mut Cursor<'_, 'a>) -> Result<Name<'a>, QueryFault>
-    ensures { Reads QueryFault.OutOfMemory (spec.string tokens.old) result tokens.new }
-{
-    if tokens.sees(TokenKind::Text) {
-        let text = tokens.written();
-        tokens.advance();
-        Ok(text)
-    } else {
-        Err(refuse(tokens))
-    }
-}
-
-/// Reads a geometry argument: a column, or ST_GeomFromText of a string.
-#[tactic(auto, unfolding(table_model::specs::QueryReading::geometry))]
-fn geometry<'a>(tokens: &mut Cursor<'_, 'a>) -> Result<WrittenGeometry<'a>, QueryFault>
-    ensures { Reads QueryFault.OutOfMemory (spec.geometry tokens.old) result tokens.new }
-{
-    if calls(tokens, b"ST_GeomFromText") {
-        tokens.advance();
-        expect(tokens, TokenKind::LeftParenthesis)?;
-        let text = string(tokens)?;
-        expect(tokens, TokenKind::RightParenthesis)?;
-        Ok(WrittenGeometry::FromText(text))
-    } else {
-        Ok(WrittenGeometry::Column(column(tokens)?))
-    }
-}
-
-/// Reads a call of ST_AsText, from its name on.
-fn text_operand<'a>(
-    tokens: &mut Cursor<'_, 'a>,
-    at: usize,
-) -> Result<WrittenOperand<'a>, QueryFault>
-    ensures { Reads QueryFault.OutOfMemory (spec.enclosed (names.text_argument at) (steps.next tokens.old)) result tokens.new }
-{
-    tokens.advance();
-    expect(tokens, TokenKind::LeftParenthesis)?;
-    let argument = geometry(tokens)?;
-    expect(tokens, TokenKind::RightParenthesis)?;
-    Ok(WrittenOperand::AsText(at, argument))
-}
-
-/// Reads a call of ST_Dimension, from its name on.
-fn dimension_operand<'a>(
-    tokens: &mut Cursor<'_, 'a>,
-    at: usize,
-) -> Result<WrittenOperand<'a>, QueryFault>
-    ensures { Reads QueryFault.OutOfMemory (spec.enclosed (names.dimension_argument at) (steps.next tokens.old)) result tokens.new }
-{
-    tokens.advance();
-    expect(tokens, TokenKind::LeftParenthesis)?;
-    let argument = geometry(tokens)?;
-    expect(tokens, TokenKind::RightParenthesis)?;
-    Ok(WrittenOperand::Dimension(at, argument))
-}
-
-/// Reads a column as an operand.
-fn column_operand<'a>(tokens: &mut Cursor<'_, 'a>) -> Result<WrittenOperand<'a>, QueryFault>
-    ensures { Reads QueryFault.OutOfMemory (names.column_operand tokens.old) result tokens.new }
-{
-    Ok(WrittenOperand::Column(column(tokens)?))
-}
-
-/// Reads ST_AsText, ST_Dimension or a column.
-fn other_operand<'a>(tokens: &mut Cursor<'_, 'a>) -> Result<WrittenOperand<'a>, QueryFault>
-    ensures { Reads QueryFault.OutOfMemory (other_operand tokens.old) result tokens.new }
-{
-    let at = tokens.place();
-    if calls(tokens, b"ST_AsText") {
-        text_operand(tokens, at)
-    } else if calls(tokens, b"ST_Dimension") {
-        dimension_operand(tokens, at)
-    } else {
-        column_operand(tokens)
     }
 }
 
@@ -273,7 +168,7 @@ fn operand<'a>(tokens: &mut Cursor<'_, 'a>) -> Result<WrittenOperand<'a>, QueryF
     } else if tokens.sees(TokenKind::Integer) {
         integer(tokens, false)
     } else {
-        other_operand(tokens)
+        Ok(WrittenOperand::Column(column(tokens)?))
     }
 }
 
@@ -327,202 +222,10 @@ fn null_test<'a>(
     }
 }
 
-/// Which truth the digits after a predicate and `=` stand for, where their number is 1 or 0.
-fn truth_digit(digits: &[u8]) -> Option<bool>
-    ensures { result ≡ (if digits_value 10 digits.now == 1 then Some true else (if digits_value 10 digits.now == 0 then Some false else None)) }
-{
-    let value = magnitude(digits, 36)?;
-    if value == 1 {
-        Some(true)
-    } else if value == 0 {
-        Some(false)
-    } else {
-        None
-    }
-}
-
-/// Reads the 1 or the 0 that a predicate is compared with: 0 negates it.
-#[tactic(auto, unfolding(table_model::specs::QueryReading::truth_value))]
-fn truth_value<'a>(
-    alloc: Global,
-    tokens: &mut Cursor<'_, 'a>,
-    cond: WrittenCond<'a>,
-) -> Result<WrittenCond<'a>, QueryFault>
-    ensures { Reads QueryFault.OutOfMemory (spec.truth_value cond.entry tokens.old) result tokens.new }
-{
-    if !tokens.sees(TokenKind::Integer) {
-        return Err(refuse(tokens));
-    }
-    match truth_digit(tokens.spelling()) {
-        None => Err(refuse(tokens)),
-        Some(holds) => {
-            tokens.advance();
-            if holds {
-                Ok(cond)
-            } else {
-                Ok(WrittenCond::Not(Boxed::new(alloc, cond)?))
-            }
-        }
-    }
-}
-
-/// Reads what a predicate is compared with, where it is compared.
-#[tactic(auto, unfolding(table_model::specs::QueryReading::truth_test))]
-fn truth_test<'a>(
-    alloc: Global,
-    tokens: &mut Cursor<'_, 'a>,
-    cond: WrittenCond<'a>,
-) -> Result<WrittenCond<'a>, QueryFault>
-    ensures { Reads QueryFault.OutOfMemory (spec.truth_test cond.entry tokens.old) result tokens.new }
-{
-    if tokens.eat(TokenKind::Equal) {
-        truth_value(alloc, tokens, cond)
-    } else {
-        Ok(cond)
-    }
-}
-
-/// Reads the arguments of a predicate of two geometries, which starts at a place.
-#[tactic(auto, unfolding(table_model::specs::QueryReading::relates))]
-fn relates<'a>(
-    tokens: &mut Cursor<'_, 'a>,
-    at: usize,
-    predicate: Predicate,
-) -> Result<WrittenCond<'a>, QueryFault>
-    ensures { Reads QueryFault.OutOfMemory (spec.relates at predicate tokens.old) result tokens.new }
-{
-    let a = geometry(tokens)?;
-    expect(tokens, TokenKind::Comma)?;
-    let b = geometry(tokens)?;
-    Ok(WrittenCond::Relates(at, WrittenPredicate::Named(predicate), a, b))
-}
-
-/// Reads the arguments of ST_Relate, which starts at a place.
-#[tactic(auto, unfolding(table_model::specs::QueryReading::relates_by))]
-fn relates_by<'a>(tokens: &mut Cursor<'_, 'a>, at: usize) -> Result<WrittenCond<'a>, QueryFault>
-    ensures { Reads QueryFault.OutOfMemory (spec.relates_by at tokens.old) result tokens.new }
-{
-    let a = geometry(tokens)?;
-    expect(tokens, TokenKind::Comma)?;
-    let b = geometry(tokens)?;
-    expect(tokens, TokenKind::Comma)?;
-    let pattern = string(tokens)?;
-    Ok(WrittenCond::Relates(at, WrittenPredicate::Relate(pattern), a, b))
-}
-
-/// Reads a call of a predicate of two geometries, from its name on, and what it is compared with.
-fn related<'a>(
-    alloc: Global,
-    tokens: &mut Cursor<'_, 'a>,
-    at: usize,
-    predicate: Predicate,
-) -> Result<WrittenCond<'a>, QueryFault>
-    ensures { Reads QueryFault.OutOfMemory (spec.tested (spec.relates at predicate) (steps.next tokens.old)) result tokens.new }
-{
-    tokens.advance();
-    expect(tokens, TokenKind::LeftParenthesis)?;
-    let cond = relates(tokens, at, predicate)?;
-    expect(tokens, TokenKind::RightParenthesis)?;
-    truth_test(alloc, tokens, cond)
-}
-
-/// Reads a call of ST_Relate, from its name on, and what it is compared with.
-fn related_by<'a>(
-    alloc: Global,
-    tokens: &mut Cursor<'_, 'a>,
-    at: usize,
-) -> Result<WrittenCond<'a>, QueryFault>
-    ensures { Reads QueryFault.OutOfMemory (spec.tested (spec.relates_by at) (steps.next tokens.old)) result tokens.new }
-{
-    tokens.advance();
-    expect(tokens, TokenKind::LeftParenthesis)?;
-    let cond = relates_by(tokens, at)?;
-    expect(tokens, TokenKind::RightParenthesis)?;
-    truth_test(alloc, tokens, cond)
-}
-
-/// Reads a call of ST_IsEmpty, from its name on, and what it is compared with.
-fn emptiness<'a>(
-    alloc: Global,
-    tokens: &mut Cursor<'_, 'a>,
-    at: usize,
-) -> Result<WrittenCond<'a>, QueryFault>
-    ensures { Reads QueryFault.OutOfMemory (spec.tested (names.empty_argument at) (steps.next tokens.old)) result tokens.new }
-{
-    tokens.advance();
-    expect(tokens, TokenKind::LeftParenthesis)?;
-    let argument = geometry(tokens)?;
-    expect(tokens, TokenKind::RightParenthesis)?;
-    truth_test(alloc, tokens, WrittenCond::IsEmpty(at, argument))
-}
-
-/// The predicate of two geometries that is called next, by its name.
-fn named_predicate(tokens: &Cursor<'_, '_>) -> Option<Predicate>
-    ensures { result ≡ named_in named_predicates tokens.now }
-{
-    if calls(tokens, b"ST_Equals") {
-        Some(Predicate::Equals)
-    } else if calls(tokens, b"ST_Disjoint") {
-        Some(Predicate::Disjoint)
-    } else if calls(tokens, b"ST_Intersects") {
-        Some(Predicate::Intersects)
-    } else if calls(tokens, b"ST_Touches") {
-        Some(Predicate::Touches)
-    } else if calls(tokens, b"ST_Crosses") {
-        Some(Predicate::Crosses)
-    } else if calls(tokens, b"ST_Within") {
-        Some(Predicate::Within)
-    } else if calls(tokens, b"ST_Contains") {
-        Some(Predicate::Contains)
-    } else if calls(tokens, b"ST_Overlaps") {
-        Some(Predicate::Overlaps)
-    } else {
-        None
-    }
-}
-
-/// Reads ST_Relate, ST_IsEmpty or a comparison.
-fn other_predicate<'a>(
-    alloc: Global,
-    tokens: &mut Cursor<'_, 'a>,
-) -> Result<WrittenCond<'a>, QueryFault>
-    ensures { Reads QueryFault.OutOfMemory (other_predicate tokens.old) result tokens.new }
-{
-    let at = tokens.place();
-    if calls(tokens, b"ST_Relate") {
-        related_by(alloc, tokens, at)
-    } else if calls(tokens, b"ST_IsEmpty") {
-        emptiness(alloc, tokens, at)
-    } else {
-        comparison(alloc, tokens)
-    }
-}
-
-/// Reads a predicate whose name is looked at first.
-fn predicate_by_name<'a>(
-    alloc: Global,
-    tokens: &mut Cursor<'_, 'a>,
-) -> Result<WrittenCond<'a>, QueryFault>
-    ensures { Reads QueryFault.OutOfMemory (predicate_by (named_in named_predicates tokens.old) tokens.old) result tokens.new }
-{
-    let at = tokens.place();
-    match named_predicate(tokens) {
-        Some(predicate) => related(alloc, tokens, at, predicate),
-        None => other_predicate(alloc, tokens),
-    }
-}
-
 /// Reads a predicate.
+#[tactic(auto, unfolding(table_model::specs::QueryReading::predicate, table_model::specs::QueryReading::comparison))]
 fn predicate<'a>(alloc: Global, tokens: &mut Cursor<'_, 'a>) -> Result<WrittenCond<'a>, QueryFault>
     ensures { Reads QueryFault.OutOfMemory (spec.predicate language.functions tokens.old) result tokens.new }
-{
-    predicate_by_name(alloc, tokens)
-}
-
-/// Reads a comparison, or IS NULL or IS NOT NULL of an operand.
-#[tactic(auto, unfolding(table_model::specs::QueryReading::comparison))]
-fn comparison<'a>(alloc: Global, tokens: &mut Cursor<'_, 'a>) -> Result<WrittenCond<'a>, QueryFault>
-    ensures { Reads QueryFault.OutOfMemory (spec.comparison language.functions tokens.old) result tokens.new }
 {
     let at = tokens.place();
     let left = operand(tokens)?;

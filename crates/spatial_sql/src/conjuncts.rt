@@ -2,7 +2,9 @@
 
 ghost use Rattle.spatial_sql.specs.Strings.{after_first};
 ghost use Rattle.std.specs.Prelude.{◌≡◌, [], ◌∷◌, map, IfOk};
+ghost use Rattle.binding_laws.specs.FilterLaws.{joined_in_order};
 ghost use Rattle.table_model.specs.Binding as spec;
+ghost use Rattle.table_model.specs.Loading.{each};
 ghost use Rattle.table_model.specs.Outcomes.{Gives};
 
 use crate::columns::bound_column;
@@ -139,17 +141,57 @@ fn only(alloc: Global, cond: Cond<NoGeometry>) -> Result<Items<Cond<NoGeometry>>
     Ok(conjuncts)
 }
 
-/// The condition that has these conjuncts: the only one, or the AND of them.
-fn condition_of(mut conjuncts: Items<Cond<NoGeometry>>) -> Cond<NoGeometry>
-    ensures { result ≡ spec.condition_of conjuncts }
+/// A written condition, bound as it stands.
+#[cycle(conditions)]
+fn bound_cond(
+    alloc: Global,
+    schema: &[TableDef<NoGeometry>],
+    references: &[Reference],
+    written: &WrittenCond<'_, NoGeometry>,
+) -> Result<Cond<NoGeometry>, QueryFault>
+    ensures { Gives QueryFault.OutOfMemory (λ c. c) result (spec.bound_cond spec.no_geometry schema.now references.now written.now) }
 {
-    if conjuncts.len() == 1 {
-        return conjuncts.remove(0);
+    match written {
+        WrittenCond::Or(parts) => {
+            let parts = bound_parts(alloc, schema, references, parts.as_slice())?;
+            Ok(Cond::Or(parts))
+        }
+        WrittenCond::And(parts) => {
+            let parts = bound_parts(alloc, schema, references, parts.as_slice())?;
+            Ok(Cond::And(parts))
+        }
+        WrittenCond::Not(part) => {
+            let part = bound_cond(alloc, schema, references, part.get())?;
+            Ok(Cond::Not(Boxed::new(alloc, part)?))
+        }
+        WrittenCond::Compare(at, sign, a, b) => {
+            comparison(alloc, schema, references, *at, *sign, a, b)
+        }
+        WrittenCond::IsNull(operand) => null_test(alloc, schema, references, operand),
+        WrittenCond::IsEmpty(_, argument) | WrittenCond::Relates(_, _, argument, _) => {
+            match *argument {}
+        }
     }
-    Cond::And(conjuncts)
 }
 
-/// The conjuncts of a written condition.
+/// The parts of a written condition, bound as they stand.
+#[cycle(conditions)]
+fn bound_parts(
+    alloc: Global,
+    schema: &[TableDef<NoGeometry>],
+    references: &[Reference],
+    parts: &[WrittenCond<'_, NoGeometry>],
+) -> Result<Items<Cond<NoGeometry>>, QueryFault>
+    ensures { Gives QueryFault.OutOfMemory (λ c. c) result (each (map (spec.bound_cond spec.no_geometry schema.now references.now) parts.now)) }
+{
+    let mut bound = Items::new(alloc);
+    for part in parts {
+        bound.push(bound_cond(alloc, schema, references, part)?)?;
+    }
+    Ok(bound)
+}
+
+/// The conjuncts of a written condition: those of the parts of an AND, in order; any other condition is one.
 #[cycle(conjuncts)]
 pub fn bound_conjuncts(
     alloc: Global,
@@ -160,46 +202,18 @@ pub fn bound_conjuncts(
     ensures { Gives QueryFault.OutOfMemory (λ c. c) result (spec.bound_conjuncts spec.no_geometry schema.now references.now written.now) }
 {
     match written {
-        WrittenCond::Or(parts) => {
-            let alternatives = alternatives(alloc, schema, references, parts.as_slice())?;
-            Ok(only(alloc, Cond::Or(alternatives))?)
-        }
         WrittenCond::And(parts) => joined(alloc, schema, references, parts.as_slice()),
-        WrittenCond::Not(part) => {
-            let conjuncts = bound_conjuncts(alloc, schema, references, part.get())?;
-            let part = Boxed::new(alloc, condition_of(conjuncts))?;
-            Ok(only(alloc, Cond::Not(part))?)
-        }
-        WrittenCond::Compare(at, sign, a, b) => {
-            let cond = comparison(alloc, schema, references, *at, *sign, a, b)?;
-            Ok(only(alloc, cond)?)
-        }
-        WrittenCond::IsNull(operand) => {
-            let cond = null_test(alloc, schema, references, operand)?;
+        WrittenCond::Or(_)
+        | WrittenCond::Not(_)
+        | WrittenCond::Compare(_, _, _, _)
+        | WrittenCond::IsNull(_) => {
+            let cond = bound_cond(alloc, schema, references, written)?;
             Ok(only(alloc, cond)?)
         }
         WrittenCond::IsEmpty(_, argument) | WrittenCond::Relates(_, _, argument, _) => {
             match *argument {}
         }
     }
-}
-
-/// The parts of an OR, each bound.
-#[cycle(conjuncts)]
-fn alternatives(
-    alloc: Global,
-    schema: &[TableDef<NoGeometry>],
-    references: &[Reference],
-    parts: &[WrittenCond<'_, NoGeometry>],
-) -> Result<Items<Cond<NoGeometry>>, QueryFault>
-    ensures { Gives QueryFault.OutOfMemory (λ c. c) result (spec.alternatives (map (spec.bound_conjuncts spec.no_geometry schema.now references.now) parts.now)) }
-{
-    let mut bound = Items::new(alloc);
-    for part in parts {
-        let conjuncts = bound_conjuncts(alloc, schema, references, part)?;
-        bound.push(condition_of(conjuncts))?;
-    }
-    Ok(bound)
 }
 
 /// The conjuncts of the parts of an AND, in order.
@@ -210,7 +224,7 @@ fn joined(
     references: &[Reference],
     parts: &[WrittenCond<'_, NoGeometry>],
 ) -> Result<Items<Cond<NoGeometry>>, QueryFault>
-    ensures { Gives QueryFault.OutOfMemory (λ c. c) result (spec.joined_in_order (map (spec.bound_conjuncts spec.no_geometry schema.now references.now) parts.now)) }
+    ensures { Gives QueryFault.OutOfMemory (λ c. c) result (joined_in_order (map (spec.bound_conjuncts spec.no_geometry schema.now references.now) parts.now)) }
 {
     let mut bound = Items::new(alloc);
     for part in parts {

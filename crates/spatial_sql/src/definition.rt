@@ -12,15 +12,10 @@ use feature_table::{ColumnDef, ColumnType, TableDef};
 use sqlite_items::Items;
 use std::alloc::{AllocError, Global};
 use std::str;
+use table_model::definitions::{COLUMN_LIMIT, TABLE_LIMIT};
 use table_model::faults::SchemaFault;
 use table_model::texts::{OwnedText, same_name};
 use table_model::tokens::TokenKind;
-
-/// The most columns of a table.
-const MOST_COLUMNS: usize = 32;
-
-/// The most tables of a schema.
-const MOST_TABLES: usize = 16;
 
 /// The fault at the next token: no rule goes on with it.
 pub fn refuse(tokens: &Cursor<'_, '_>) -> SchemaFault
@@ -231,7 +226,7 @@ fn column(
     ensures { Reads SchemaFault.OutOfMemory (spec.column spec.no_geometry_type columns.now has_key tokens.old) result tokens.new }
 {
     let taken = has_column(columns, tokens.spelling());
-    let name = new_name(alloc, tokens, columns.len() >= MOST_COLUMNS, taken)?;
+    let name = new_name(alloc, tokens, columns.len() >= COLUMN_LIMIT, taken)?;
     let column_type = column_type(tokens)?;
     let (not_null, is_key) = marks(tokens, has_key, &column_type)?;
     let column = ColumnDef {
@@ -309,7 +304,7 @@ fn table_name(
     ensures { Reads SchemaFault.OutOfMemory (spec.table_name tables.now tokens.old) result tokens.new }
 {
     let taken = has_table(tables, tokens.spelling());
-    new_name(alloc, tokens, tables.len() >= MOST_TABLES, taken)
+    new_name(alloc, tokens, tables.len() >= TABLE_LIMIT, taken)
 }
 
 /// Reads a table after those that were read.

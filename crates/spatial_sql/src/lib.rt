@@ -2,8 +2,6 @@
 //! a query is bound to a database.
 #![tactic(auto)]
 
-#[cfg(test)]
-mod bind_tests;
 mod binding;
 mod columns;
 mod condition;
@@ -12,28 +10,20 @@ pub mod cursor;
 mod definition;
 pub mod lex;
 mod query;
-#[cfg(test)]
-mod query_tests;
 mod references;
 mod schema;
-#[cfg(test)]
-mod schema_tests;
 mod truth;
 
 pub use binding::bind;
 pub use query::read_query;
 pub use schema::read_schema;
 pub use table_model::faults::{QueryFault, SchemaFault};
-use table_model::queries::{WrittenColumn, WrittenGeometry};
 use table_model::values::NoGeometry;
 pub use table_model::values::Truth;
 pub use truth::value;
 
-/// A query as it is written. Names and strings are parts of the query's text. (SQL, the query.)
-pub type Query<'a> = table_model::queries::Query<'a, WrittenGeometry<'a>, WrittenColumn<'a>>;
-
-/// A query without functions, as it is written.
-pub type PlainQuery<'a> = table_model::queries::Query<'a, NoGeometry, NoGeometry>;
+/// A SELECT as it is written. Names and strings are parts of the query's text. (SQL, the query; profile.)
+pub type Query<'a> = table_model::queries::Query<'a, NoGeometry, NoGeometry>;
 
 /// A query whose names have become places of a database. (SQL, the query.)
 pub type Bound = table_model::conditions::Bound<NoGeometry, NoGeometry>;

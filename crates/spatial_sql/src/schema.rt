@@ -11,11 +11,13 @@ ghost use Rattle.table_model.specs.declared.values.NoGeometry.{NoGeometry};
 use crate::cursor::Cursor;
 use crate::definition::{expect, refuse, table};
 use crate::lex::lex;
-use crate::query::MOST_BYTES;
 use feature_table::{Schema, TableDef};
 use std::alloc::Global;
 use table_model::faults::SchemaFault;
 use table_model::tokens::TokenKind;
+
+/// How many bytes a schema may have.
+const MOST_BYTES: usize = 65536;
 
 /// Reads a semicolon, where one stands, and tells whether a table follows it.
 #[tactic(auto, unfolding(table_model::specs::SchemaReading::goes_on))]

@@ -6,3 +6,6 @@ pub mod FilterFacts
 pub mod WrittenFolds
 pub mod TruthFacts
 pub mod ListFacts
+pub mod CondInduction
+pub mod ConjunctFacts
+pub mod PlaceFacts

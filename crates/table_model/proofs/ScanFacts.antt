@@ -1,12 +1,13 @@
 -- The candidates of scans.
-use Rattle.std.specs.Prelude.{◌≡◌, refl, ℕ, Bool, true, cond, List, [], ◌∷◌, map, filter, flat_map}
+use Rattle.std.specs.Prelude.{◌≡◌, refl, ℕ, Bool, true, cond, List, [], ◌∷◌, map, filter, flat_map, Option}
 use Rattle.std.proofs.Common.{ap, ◌∙◌, sym}
 use mathlib.Core.Path.{fun_ext}
 use Rattle.geometry_model.specs.Geometries.{Geometry}
 use Rattle.table_model.specs.Candidates.{candidates_among, gives, placed, pairs_with}
-use Rattle.table_model.specs.Meanings.{Row, Table, product}
+use Rattle.table_model.specs.Meanings.{Table, product}
+use Rattle.table_model.specs.Places.{choices, places_in, rows_at, row_at}
+use Rattle.table_model.specs.Truths.{Rows}
 use Rattle.table_model.specs.declared.conditions.Cond.{Cond}
-use Rattle.table_model.specs.declared.conditions.GeometryArgument.{GeometryArgument}
 use Rattle.table_model.specs.declared.plans.AccessMethod.TheVariants as methods
 use Rattle.table_model.specs.declared.plans.Access.{Access}
 
@@ -28,17 +29,22 @@ with_each x (y ∷ ys) = ap (λ zs. (x ∷ y ∷ []) ∷ zs) (with_each x ys)
 abbrev scan : ℕ → Access
 scan reference = record { reference = reference; method = methods.Scan }
 
-pub scan_of_one : (conjuncts : List (Cond (GeometryArgument Geometry))) (table : Table Geometry) → candidates_among conjuncts (table ∷ []) (scan 0 ∷ []) ≡ product (table ∷ [])
-scan_of_one conjuncts table = all_kept (gives conjuncts methods.Scan) (map (λ row. row ∷ []) table) (λ rows. refl) ∙ sym (product_of_one table)
+pub scan_of_one : {A G : Type 0} (denotes : Rows G → A → Option Geometry) (conjuncts : List (Cond A)) (table : Table G)
+    → candidates_among denotes conjuncts (table ∷ []) (scan 0 ∷ []) ≡ choices (table ∷ [])
+scan_of_one denotes conjuncts table =
+    all_kept (λ choice. gives denotes conjuncts methods.Scan (rows_at (table ∷ []) choice)) (map (λ place. place ∷ []) (places_in table)) (λ rows. refl)
+    ∙ sym (product_of_one (places_in table))
 
--- a row with each row of the second table
-pairs : (conjuncts : List (Cond (GeometryArgument Geometry))) (second : Table Geometry) (row : Row Geometry) → pairs_with conjuncts (scan 1) second row ≡ map (λ choice. row ∷ choice) (product (second ∷ []))
-pairs conjuncts second row =
-    all_kept (gives conjuncts methods.Scan) (map (λ other. row ∷ other ∷ []) second) (λ rows. refl)
-    ∙ sym (with_each row second)
-    ∙ ap (map (λ choice. row ∷ choice)) (sym (product_of_one second))
+-- a place with each place of the second table
+pairs : {A G : Type 0} (denotes : Rows G → A → Option Geometry) (conjuncts : List (Cond A)) (first second : Table G) (place : ℕ)
+    → pairs_with denotes conjuncts (first ∷ second ∷ []) (scan 1) place ≡ map (λ choice. place ∷ choice) (product (places_in second ∷ []))
+pairs denotes conjuncts first second place =
+    all_kept (λ choice. gives denotes conjuncts methods.Scan (rows_at (first ∷ second ∷ []) choice)) (map (λ other. place ∷ other ∷ []) (places_in second)) (λ rows. refl)
+    ∙ sym (with_each place (places_in second))
+    ∙ ap (map (λ choice. place ∷ choice)) (sym (product_of_one (places_in second)))
 
-pub scans_of_two : (conjuncts : List (Cond (GeometryArgument Geometry))) (first second : Table Geometry) → candidates_among conjuncts (first ∷ second ∷ []) (scan 0 ∷ scan 1 ∷ []) ≡ product (first ∷ second ∷ [])
-scans_of_two conjuncts first second =
-    ap (flat_map (pairs_with conjuncts (scan 1) second)) (all_kept (λ row. gives conjuncts methods.Scan (placed 0 row [])) first (λ row. refl))
-    ∙ ap (λ f. flat_map f first) (fun_ext (pairs conjuncts second))
+pub scans_of_two : {A G : Type 0} (denotes : Rows G → A → Option Geometry) (conjuncts : List (Cond A)) (first second : Table G)
+    → candidates_among denotes conjuncts (first ∷ second ∷ []) (scan 0 ∷ scan 1 ∷ []) ≡ choices (first ∷ second ∷ [])
+scans_of_two denotes conjuncts first second =
+    ap (flat_map (pairs_with denotes conjuncts (first ∷ second ∷ []) (scan 1))) (all_kept (λ place. gives denotes conjuncts methods.Scan (placed 0 (row_at first place) [])) (places_in first) (λ place. refl))
+    ∙ ap (λ f. flat_map f (places_in first)) (fun_ext (pairs denotes conjuncts first second))

@@ -5,7 +5,7 @@ use Rattle.std.proofs.lemmas.List.{map-append}
 use Rattle.geometry_model.specs.Geometries.{Geometry}
 use Rattle.geometry_model.specs.Dimensions.{Matrix}
 use Rattle.table_model.specs.Meanings.{is_true}
-use Rattle.table_model.specs.TruthLaws.{Argument, ConjunctsAreJoined, NestedAndsAreOne, OneConjunctIsItsAnd}
+use Rattle.table_model.specs.TruthLaws.{Argument, ConjunctsAreJoined, NestedAndsAreOne}
 use Rattle.table_model.specs.Truths.{Rows, and_of, all_of, truth_by_parts, truth}
 use Rattle.table_model.specs.declared.conditions.Cond.{Cond}
 use Rattle.table_model.specs.declared.conditions.Cond.TheVariants as conds
@@ -13,7 +13,7 @@ use Rattle.table_model.specs.declared.values.Truth.{Truth}
 use Rattle.table_model.specs.declared.values.Truth.TheVariants.{True, False, Unknown}
 use Rattle.table_model.proofs.CondFolds.{fold-And}
 
-and_true : (a b : Truth) → is_true (and_of a b) ≡ (is_true a && is_true b)
+pub and_true : (a b : Truth) → is_true (and_of a b) ≡ (is_true a && is_true b)
 and_true True b = refl
 and_true False b = refl
 and_true Unknown True = refl
@@ -47,11 +47,11 @@ all_joined (x ∷ a) b =
     all_from x (a ++ b) ∙ ap (and_of x) (all_joined a b) ∙ sym (and_associates x (all_of a) (all_of b)) ∙ ap (λ t. and_of t (all_of b)) (sym (all_from x a))
 
 -- the truth of an AND is that of its parts
-of_parts : {A G : Type 0} (matrix : Geometry → Geometry → Matrix) (denotes : Rows G → A → Option Geometry) (rows : Rows G) (parts : List (Cond A))
+pub of_parts : {A G : Type 0} (matrix : Geometry → Geometry → Matrix) (denotes : Rows G → A → Option Geometry) (rows : Rows G) (parts : List (Cond A))
     → truth matrix denotes rows (conds.And parts) ≡ all_of (map (truth matrix denotes rows) parts)
 of_parts {A = A} matrix denotes rows parts = fold-And A Truth (truth_by_parts matrix denotes rows) parts
 
-are_true : {A : Type 0} (f : A → Truth) (parts : List A) → is_true (all_of (map f parts)) ≡ list_all (λ c. is_true (f c)) parts
+pub are_true : {A : Type 0} (f : A → Truth) (parts : List A) → is_true (all_of (map f parts)) ≡ list_all (λ c. is_true (f c)) parts
 are_true f [] = refl
 are_true f (x ∷ parts) = ap is_true (all_from (f x) (map f parts)) ∙ and_true (f x) (all_of (map f parts)) ∙ ap (λ b. is_true (f x) && b) (are_true f parts)
 
@@ -72,8 +72,3 @@ nested_ands_are_one matrix denotes rows before inside after =
   where
     f : Cond Argument → Truth
     f = truth matrix denotes rows
-
-pub one_conjunct_is_its_and : OneConjunctIsItsAnd
-one_conjunct_is_its_and matrix denotes rows [] = refl
-one_conjunct_is_its_and matrix denotes rows (c ∷ []) = sym (of_parts matrix denotes rows (c ∷ []))
-one_conjunct_is_its_and matrix denotes rows (c ∷ d ∷ more) = refl

@@ -1,5 +1,5 @@
 -- The records of an answer: the header, and the fields of each row of the meaning.
-use Rattle.std.specs.Prelude.{Bool, ℕ, ℤ, List, [], ◌∷◌, ◌++◌, map, length, ◌==◌, cond, codes, Option, Some, None, slice_get}
+use Rattle.std.specs.Prelude.{Bool, if◌then◌else◌, ℕ, zero, suc, decimal, ℤ, List, [], ◌∷◌, ◌++◌, map, length, ◌==◌, cond, codes, Option, Some, None, slice_get}
 use Rattle.std.specs.Fmt.{signed_decimal}
 use Rattle.table_model.specs.Meanings.{Row}
 use Rattle.table_model.specs.Binding.{table_columns}
@@ -78,6 +78,17 @@ header writing tables query = map (item_header writing tables query.references) 
 abbrev pub record_of : {G A C : Type 0} → Writing G C → Bound A C → List (Row G) → List (List ℕ)
 record_of writing query rows = map (item_text writing rows) query.items
 
--- the records of an answer: the header, then one for each member of the meaning (profile)
+-- the records of an answer without COUNT(*): the header, then one for each member of the meaning
 abbrev pub answer_records : {T G A C : Type 0} → Writing G C → List (TableDef T) → Bound A C → List (List (Row G)) → List (List (List ℕ))
 answer_records writing tables query rows = header writing tables query ∷ map (record_of writing query) rows
+
+-- the record of a number of rows; under LIMIT 0 there is none (SQL, COUNT and LIMIT)
+abbrev pub count_records : Option ℕ → ℕ → List (List (List ℕ))
+count_records None n = (decimal n ∷ []) ∷ []
+count_records (Some zero) n = []
+count_records (Some (suc limit)) n = (decimal n ∷ []) ∷ []
+
+-- the records of an answer: under COUNT(*) its header, then how many members the meaning has (SQL, COUNT)
+abbrev pub answer : {T G A C : Type 0} → Writing G C → List (TableDef T) → Bound A C → List (List (Row G)) → List (List (List ℕ))
+answer writing tables query rows =
+    if query.counts then (codes "COUNT(*)" ∷ []) ∷ count_records query.limit (length rows) else answer_records writing tables query rows

@@ -4,6 +4,8 @@ use Rattle.std.specs.List.{position, enumerate_from, filter_map, flat_map}
 use Rattle.geometry_model.specs.declared.relations.Pattern.{Pattern}
 use Rattle.geometry_model.specs.declared.relations.Predicate.{Predicate}
 use Rattle.geometry_model.specs.declared.relations.Predicate.TheVariants as predicates
+use Rattle.table_model.specs.Loading.{each}
+use Rattle.table_model.specs.Statements.{Statement, conjuncts_of}
 use Rattle.table_model.specs.Texts.{same_name}
 use Rattle.table_model.specs.declared.faults.QueryFault.{QueryFault}
 use Rattle.table_model.specs.declared.faults.QueryFault.TheVariants.{UnknownTable, SameName, UnknownColumn, AmbiguousColumn, TypeMismatch, Syntax}
@@ -52,22 +54,6 @@ infixl 10 ◌>>=◌
 abbrev pub ◌>>=◌ : {X Y : Type 0} → Checked X → (X → Checked Y) → Checked Y
 Ok x >>= f = f x
 Err e >>= f = Err e
-
--- all answers, or the first fault (profile)
-abbrev pub in_order : {X : Type 0} → List (Checked X) → Checked (List X)
-in_order [] = Ok []
-in_order (r ∷ more) = do
-  x ← r
-  xs ← in_order more
-  Ok (x ∷ xs)
-
--- the lists that are answered, joined, or the first fault (profile)
-abbrev pub joined_in_order : {X : Type 0} → List (Checked (List X)) → Checked (List X)
-joined_in_order [] = Ok []
-joined_in_order (r ∷ more) = do
-  xs ← r
-  ys ← joined_in_order more
-  Ok (xs ++ ys)
 
 -- ---- the tables of FROM
 
@@ -150,15 +136,15 @@ found_in reference (Some (column, type)) = Some (record { place = record { refer
 found_in reference None = None
 
 -- the column that a written one can be of the reference at a place (profile)
-abbrev pub candidate : {T : Type 0} → List (TableDef T) → WrittenColumn → ℕ → Reference → Option Found
-candidate schema written place reference =
+abbrev pub column_meant : {T : Type 0} → List (TableDef T) → WrittenColumn → ℕ → Reference → Option Found
+column_meant schema written place reference =
     if refers_to written.reference reference.name
     then found_in place (column_named written.name.text 0 (columns_of schema reference))
     else None
 
 -- the columns that a written one can be, among those of some references, of which the first has this place (profile)
-abbrev pub candidates : {T : Type 0} → List (TableDef T) → WrittenColumn → ℕ → List Reference → List Found
-candidates schema written place references = filter_map (λ r. candidate schema written r.0 r.1) (enumerate_from place references)
+abbrev pub columns_meant : {T : Type 0} → List (TableDef T) → WrittenColumn → ℕ → List Reference → List Found
+columns_meant schema written place references = filter_map (λ r. column_meant schema written r.0 r.1) (enumerate_from place references)
 
 -- the one that it can be: none is a fault, and so are two (SQL, column names)
 abbrev pub the_one : ℕ → List Found → Checked Found
@@ -169,7 +155,7 @@ the_one at (found ∷ other ∷ more) = Err (AmbiguousColumn at)
 -- a column, found by its names; faults are at its first byte (SQL, column names)
 abbrev pub bound_column : {T : Type 0} → List (TableDef T) → List Reference → WrittenColumn → Checked Found
 bound_column schema references written =
-    the_one (name_start written.name written.reference) (candidates schema written 0 references)
+    the_one (name_start written.name written.reference) (columns_meant schema written 0 references)
 
 -- ---- conditions
 
@@ -243,11 +229,6 @@ bound_predicate pattern (written_predicate.Relate written) = do
   p ← pattern written
   Ok (predicates.Relate p)
 
--- the condition that has these conjuncts: the only one, or the AND of them (profile)
-abbrev pub condition_of : {B : Type 0} → List (Cond B) → Cond B
-condition_of (cond ∷ []) = cond
-condition_of conjuncts = conds.And conjuncts
-
 -- a comparison; its sides are bound first (SQL, comparison)
 abbrev pub bound_comparison : {T A B C D : Type 0} → GeometryBinding T A B C D → List (TableDef T) → List Reference → ℕ → Comparison → WrittenOperand A → WrittenOperand A → Checked (Cond B)
 bound_comparison how schema references at sign a b = do
@@ -278,49 +259,40 @@ bound_relation how schema references at written a b = do
   y ← geometry_only at right
   Ok (conds.Relates predicate x y)
 
--- a condition as its own only conjunct (profile)
-abbrev pub only : {B : Type 0} → Checked (Cond B) → Checked (List (Cond B))
-only bound = do
-  cond ← bound
-  Ok (cond ∷ [])
+-- a condition of bound parts, or their first fault from left to right (SQL, the search condition)
+abbrev pub bound_by_parts : {T A B C D : Type 0} → GeometryBinding T A B C D → List (TableDef T) → List Reference → WrittenCond-F A (Checked (Cond B)) → Checked (Cond B)
+bound_by_parts how schema references (WrittenCond-F.Or parts) = do
+  bound ← each parts
+  Ok (conds.Or bound)
+bound_by_parts how schema references (WrittenCond-F.And parts) = do
+  bound ← each parts
+  Ok (conds.And bound)
+bound_by_parts how schema references (WrittenCond-F.Not part) = do
+  bound ← part
+  Ok (conds.Not bound)
+bound_by_parts how schema references (WrittenCond-F.Compare at sign a b) = bound_comparison how schema references at sign a b
+bound_by_parts how schema references (WrittenCond-F.IsNull a) = bound_null_test how schema references a
+bound_by_parts how schema references (WrittenCond-F.IsEmpty at a) = bound_emptiness how schema references at a
+bound_by_parts how schema references (WrittenCond-F.Relates at predicate a b) = bound_relation how schema references at predicate a b
 
--- the condition of a part that stands as its conjuncts (profile)
-abbrev pub whole : {B : Type 0} → Checked (List (Cond B)) → Checked (Cond B)
-whole part = do
-  conjuncts ← part
-  Ok (condition_of conjuncts)
+-- a written condition, bound as it stands, or its first fault (SQL, the search condition)
+abbrev pub bound_cond : {T A B C D : Type 0} → GeometryBinding T A B C D → List (TableDef T) → List Reference → WrittenCond A → Checked (Cond B)
+bound_cond {A = A} {B = B} how schema references = fold-WrittenCond A (Checked (Cond B)) (bound_by_parts how schema references)
 
--- the parts of an OR, each standing as its conjuncts (profile)
-abbrev pub alternatives : {B : Type 0} → List (Checked (List (Cond B))) → Checked (List (Cond B))
-alternatives parts = in_order (map whole parts)
+-- the condition of ON or of WHERE, where it is written (SQL, ON and WHERE)
+abbrev pub bound_whole : {T A B C D : Type 0} → GeometryBinding T A B C D → List (TableDef T) → List Reference → Option (WrittenCond A) → Checked (Option (Cond B))
+bound_whole how schema references (Some written) = do
+  cond ← bound_cond how schema references written
+  Ok (Some cond)
+bound_whole how schema references None = Ok None
 
--- an OR of bound parts (profile)
-abbrev pub or_of : {B : Type 0} → Checked (List (Cond B)) → Checked (Cond B)
-or_of bound = do
-  parts ← bound
-  Ok (conds.Or parts)
-
--- a NOT of a bound part (profile)
-abbrev pub not_of : {B : Type 0} → Checked (Cond B) → Checked (Cond B)
-not_of bound = do
-  part ← bound
-  Ok (conds.Not part)
-
--- the conjuncts of a condition: those of the parts of an AND, in order; any other condition is its own only one. Here each part of a condition stands as its conjuncts (profile)
-abbrev pub conjuncts_by_parts : {T A B C D : Type 0} → GeometryBinding T A B C D → List (TableDef T) → List Reference → WrittenCond-F A (Checked (List (Cond B))) → Checked (List (Cond B))
-conjuncts_by_parts how schema references (WrittenCond-F.Or parts) = only (or_of (alternatives parts))
-conjuncts_by_parts how schema references (WrittenCond-F.And parts) = joined_in_order parts
-conjuncts_by_parts how schema references (WrittenCond-F.Not part) = only (not_of (whole part))
-conjuncts_by_parts how schema references (WrittenCond-F.Compare at sign a b) = only (bound_comparison how schema references at sign a b)
-conjuncts_by_parts how schema references (WrittenCond-F.IsNull a) = only (bound_null_test how schema references a)
-conjuncts_by_parts how schema references (WrittenCond-F.IsEmpty at a) = only (bound_emptiness how schema references at a)
-conjuncts_by_parts how schema references (WrittenCond-F.Relates at predicate a b) = only (bound_relation how schema references at predicate a b)
-
--- the conjuncts of a written condition, bound, or its first fault (profile)
+-- the conjuncts of a written condition, bound, or its first fault
 abbrev pub bound_conjuncts : {T A B C D : Type 0} → GeometryBinding T A B C D → List (TableDef T) → List Reference → WrittenCond A → Checked (List (Cond B))
-bound_conjuncts {A = A} {B = B} how schema references = fold-WrittenCond A (Checked (List (Cond B))) (conjuncts_by_parts how schema references)
+bound_conjuncts how schema references written = do
+  cond ← bound_cond how schema references written
+  Ok (conjuncts_of cond)
 
--- those of ON or of WHERE; what is absent has none (profile)
+-- those of ON or of WHERE; what is absent has none
 abbrev pub bound_condition : {T A B C D : Type 0} → GeometryBinding T A B C D → List (TableDef T) → List Reference → Option (WrittenCond A) → Checked (List (Cond B))
 bound_condition how schema references (Some written) = bound_conjuncts how schema references written
 bound_condition how schema references None = Ok []
@@ -356,7 +328,7 @@ all_items schema references = flat_map (λ r. items_of r.0 (columns_of schema r.
 -- what SELECT lists (SQL, the select list)
 abbrev pub bound_items : {T A B C D : Type 0} → GeometryBinding T A B C D → List (TableDef T) → List Reference → Selection C → Checked (List (Item D))
 bound_items how schema references selections.All = Ok (all_items schema references)
-bound_items how schema references (selections.Items written) = in_order (map (bound_item how schema references) written)
+bound_items how schema references (selections.Items written) = each (map (bound_item how schema references) written)
 bound_items how schema references selections.Count = Ok []
 
 -- whether COUNT(*) is listed
@@ -367,7 +339,7 @@ counts selections.Count = true
 
 -- ---- the whole query
 
--- a query bound to the tables of a schema: the tables of FROM first, then the select list, ON and WHERE (SQL, the query)
+-- a query bound to the tables of a schema, with its conjuncts: the tables of FROM first, then the select list, ON and WHERE (SQL, the query)
 abbrev pub binding : {T A B C D : Type 0} → GeometryBinding T A B C D → List (TableDef T) → Query A C → Checked (Bound B D)
 binding how schema query = do
   references ← bound_references schema query.first query.second
@@ -375,6 +347,23 @@ binding how schema query = do
   joining ← bound_condition how schema references query.on
   filtering ← bound_condition how schema references query.condition
   Ok (record { explain = query.explain; references = references; items = listed; conjuncts = joining ++ filtering; counts = counts query.selection; limit = query.limit })
+
+-- a query bound as it stands: the tables of FROM first, then the select list, ON and WHERE (SQL, the query)
+abbrev pub statement : {T A B C D : Type 0} → GeometryBinding T A B C D → List (TableDef T) → Query A C → Checked (Statement B D)
+statement how schema query = do
+  references ← bound_references schema query.first query.second
+  listed ← bound_items how schema references query.selection
+  on ← bound_whole how schema references query.on
+  condition ← bound_whole how schema references query.condition
+  Ok (record {
+    explain = query.explain;
+    references = references;
+    items = listed;
+    on = on;
+    condition = condition;
+    counts = counts query.selection;
+    limit = query.limit;
+  })
 
 -- how geometry arguments are bound where none is served (profile)
 abbrev pub no_geometry : {T : Type 0} → GeometryBinding T NoGeometry NoGeometry NoGeometry NoGeometry

@@ -6,6 +6,7 @@ use Rattle.table_model.specs.declared.definitions.ColumnType.{ColumnType}
 use Rattle.table_model.specs.declared.definitions.ColumnType.TheVariants as column
 use Rattle.table_model.specs.declared.definitions.ColumnDef.{ColumnDef}
 use Rattle.table_model.specs.declared.definitions.TableDef.{TableDef}
+use Rattle.table_model.specs.declared.definitions.TheConstants.{COLUMN_LIMIT, TABLE_LIMIT}
 
 -- no two of these names are the same (profile: names are compared without regard to ASCII case)
 abbrev pub names_differ : List (List ℕ) → Bool
@@ -29,8 +30,8 @@ column_names columns = map (λ c. c.name) columns
 
 -- a table has at most 32 columns, whose names differ, and one of them is its key (profile)
 abbrev pub lawful_table : {T : Type 0} → TableDef T → Bool
-lawful_table table = nat_le (length table.columns) 32 && (names_differ (column_names table.columns) && may_be_key (slice_get table.columns table.key))
+lawful_table table = nat_le (length table.columns) COLUMN_LIMIT && (names_differ (column_names table.columns) && may_be_key (slice_get table.columns table.key))
 
 -- a schema has at most 16 tables, whose names differ, each of them lawful (profile)
 unfoldable pub lawful : {T : Type 0} → List (TableDef T) → Bool
-lawful tables = nat_le (length tables) 16 && (names_differ (map (λ t. t.name) tables) && list_all lawful_table tables)
+lawful tables = nat_le (length tables) TABLE_LIMIT && (names_differ (map (λ t. t.name) tables) && list_all lawful_table tables)

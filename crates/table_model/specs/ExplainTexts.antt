@@ -1,5 +1,5 @@
 -- The text of EXPLAIN and of EXPLAIN ANALYZE. Each line is ended by a line feed.
-use Rattle.std.specs.Prelude.{ℕ, ◌+◌, List, [], ◌∷◌, ◌++◌, map, slice_index_or, decimal, codes}
+use Rattle.std.specs.Prelude.{ℕ, ◌+◌, Bool, true, false, Option, Some, None, List, [], ◌∷◌, ◌++◌, map, slice_index_or, decimal, codes}
 use Rattle.std.specs.List.{join_with_byte}
 use Rattle.table_model.specs.declared.conditions.Bound.{Bound}
 use Rattle.table_model.specs.declared.conditions.Reference.{Reference}
@@ -37,10 +37,25 @@ filters_text (place ∷ more) = join_with_byte 32 (map conjunct_number (place �
 abbrev pub line : List ℕ → List ℕ → List ℕ
 line word text = word ++ codes " " ++ text ++ codes "\n"
 
--- the text of EXPLAIN (profile)
-abbrev pub explain_text : {A C : Type 0} → Bound A C → Plan → List ℕ
-explain_text query plan = line (codes "cost") (decimal plan.cost) ++ access_lines query.references plan.accesses ++ line (codes "filter") (filters_text plan.filters)
+-- the line of COUNT(*), where it stands
+abbrev pub count_line : Bool → List ℕ
+count_line true = codes "count\n"
+count_line false = []
 
--- the text of EXPLAIN ANALYZE: the work ends it (profile)
+-- the line of LIMIT, where it stands
+abbrev pub limit_line : Option ℕ → List ℕ
+limit_line (Some n) = line (codes "limit") (decimal n)
+limit_line None = []
+
+-- the text of EXPLAIN
+abbrev pub explain_text : {A C : Type 0} → Bound A C → Plan → List ℕ
+explain_text query plan =
+    line (codes "cost") (decimal plan.cost)
+    ++ access_lines query.references plan.accesses
+    ++ line (codes "filter") (filters_text plan.filters)
+    ++ count_line query.counts
+    ++ limit_line query.limit
+
+-- the text of EXPLAIN ANALYZE: the work ends it
 abbrev pub analyze_text : {A C : Type 0} → Bound A C → Plan → ℕ → List ℕ
 analyze_text query plan work = explain_text query plan ++ line (codes "work") (decimal work)

@@ -5,7 +5,7 @@ use Rattle.table_model.specs.AnswerTexts.{Writing, answer_records}
 use Rattle.table_model.specs.Binding.{Checked, binding, no_geometry}
 use Rattle.table_model.specs.BindingExamples.{towns}
 use Rattle.table_model.specs.Loading.{GeometryReader, Record}
-use Rattle.table_model.specs.Meanings.{Row, meaning}
+use Rattle.table_model.specs.Meanings.{Row, passing_rows}
 use Rattle.table_model.specs.Truths.{truth, no_argument}
 use Rattle.table_model.specs.declared.conditions.Bound.{Bound}
 use Rattle.table_model.specs.declared.conditions.ColumnPlace.{ColumnPlace}
@@ -134,7 +134,7 @@ third_query = query_of_columns (items.Column (column_at 0) ∷ []) (conds.Not (c
 
 -- what a query means over the table (profile)
 abbrev pub meant : Bound NoGeometry NoGeometry → List (List (Row NoGeometry))
-meant query = meaning (truth labelled_matrix no_argument) (town_rows ∷ []) query
+meant query = passing_rows (truth labelled_matrix no_argument) (town_rows ∷ []) query
 
 -- where no geometry is served, none is written (profile)
 abbrev pub plain_writing : Writing NoGeometry NoGeometry

@@ -1,7 +1,9 @@
 pub mod Outcomes
 pub mod Parsers
 pub mod Texts
+pub mod Statements
 pub mod Meanings
+pub mod Places
 pub mod AnswerTexts
 pub mod FaultLines
 pub mod Truths
@@ -25,11 +27,16 @@ pub mod Work
 pub mod ExplainTexts
 pub mod PlanExamples
 pub mod PlanLaws
+pub mod PlaceLaws
 pub mod SchemaGrammar
 pub mod BindingExamples
 pub mod GeometryColumns
 pub mod GeometryColumnExamples
+pub mod BoundQueries
+pub mod BindingRules
 pub mod FirstRunExamples
+pub mod JoinExamples
 pub mod SchemaRefusals
 pub mod FeatureTables
+pub mod ValidGeometries
 pub mod SchemaExamples

@@ -12,6 +12,7 @@ use Rattle.table_model.specs.declared.definitions.ColumnType.{ColumnType}
 use Rattle.table_model.specs.declared.definitions.ColumnType.TheVariants as column
 use Rattle.table_model.specs.declared.definitions.ColumnDef.{ColumnDef}
 use Rattle.table_model.specs.declared.definitions.TableDef.{TableDef}
+use Rattle.table_model.specs.declared.definitions.TheConstants.{ROW_LIMIT}
 use Rattle.table_model.specs.declared.faults.LoadFault.{LoadFault}
 use Rattle.table_model.specs.declared.faults.LoadFault.TheVariants as fault
 use Rattle.table_model.specs.declared.values.Value.{Value}
@@ -100,7 +101,7 @@ row_of geometry table header number fields = each (values_of geometry table head
 
 -- the most rows that a table has (profile)
 abbrev pub row_limit : ℕ
-row_limit = 100000
+row_limit = ROW_LIMIT
 
 -- the typed row of the record of this number: the length is tested first, then the number of rows, then the
 -- fields (profile)

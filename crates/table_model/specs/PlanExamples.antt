@@ -1,16 +1,27 @@
 -- Words for worked rows of plans.
-use Rattle.std.specs.Prelude.{ℕ, suc, zero, ◌+◌, pos, false, List, [], ◌∷◌, map, Option, Some, None, option_map}
-use Rattle.geometry_model.specs.Geometries.{Geometry, Point, LineString, Polygon}
+use Rattle.std.specs.Prelude.{ℕ, suc, zero, ◌+◌, pos, true, false, List, [], ◌∷◌, map, codes, Option, Some, None, option_map}
+use Rattle.geometry_model.specs.Geometries.{Geometry, Point, MultiPoint, LineString, Polygon}
 use Rattle.geometry_model.specs.Labels.{labelled_matrix}
 use Rattle.geometry_model.specs.TextExamples.{at}
 use Rattle.geometry_model.specs.declared.relations.Predicate.{Predicate}
+use Rattle.geometry_model.specs.declared.relations.Predicate.TheVariants as predicates
+use Rattle.table_model.specs.AnswerTexts.{answer}
+use Rattle.table_model.specs.Arguments.{denoted}
 use Rattle.table_model.specs.ExplainTexts.{explain_text, analyze_text}
 use Rattle.table_model.specs.Meanings.{Row, Table}
+use Rattle.table_model.specs.GeometryColumns.{ColumnShape, geometry_writing}
+use Rattle.table_model.specs.Loading.{Record}
+use Rattle.table_model.specs.Places.{query_rows, meant}
 use Rattle.table_model.specs.Plans.{lawful_plans, chosen}
-use Rattle.table_model.specs.Work.{work}
+use Rattle.table_model.specs.Truths.{truth}
+use Rattle.table_model.specs.Work.{work, work_to_row}
 use Rattle.table_model.specs.declared.values.Value.{Value}
 use Rattle.table_model.specs.declared.values.Value.TheVariants as values
 use Rattle.table_model.specs.declared.conditions.Comparison.{Comparison}
+use Rattle.table_model.specs.declared.conditions.Comparison.TheVariants as signs
+use Rattle.table_model.specs.declared.conditions.Item.TheVariants as items
+use Rattle.table_model.specs.declared.definitions.ColumnType.TheVariants as columns
+use Rattle.table_model.specs.declared.definitions.TableDef.{TableDef}
 use Rattle.table_model.specs.declared.conditions.ColumnPlace.{ColumnPlace}
 use Rattle.table_model.specs.declared.conditions.GeometryArgument.{GeometryArgument}
 use Rattle.table_model.specs.declared.conditions.GeometryArgument.TheVariants as arguments
@@ -113,4 +124,76 @@ explained tables q = option_map (explain_text q) (chosen tables q)
 
 -- the text of EXPLAIN ANALYZE for the chosen plan, by the label matrix (profile)
 abbrev pub analyzed : List (Table Geometry) → Query → Option (List ℕ)
-analyzed tables q = option_map (λ plan. analyze_text q plan (work labelled_matrix tables q plan)) (chosen tables q)
+analyzed tables q = option_map (λ plan. analyze_text q plan (work labelled_matrix denoted tables q plan)) (chosen tables q)
+
+-- a query under LIMIT
+abbrev pub limit_to : ℕ → Query → Query
+limit_to n q = record q { limit = Some n }
+
+-- a query that counts
+abbrev pub counting : Query → Query
+counting q = record q { counts = true }
+
+-- a query that lists the keys of these references
+abbrev pub listing : List ℕ → Query → Query
+listing references q = record q { items = map (λ reference. items.Column (key reference)) references }
+
+-- the two squares, their keys exchanged
+abbrev pub exchanged : Table Geometry
+exchanged = row 1 (values.Geometry (square 4 0)) ∷ row 2 (values.Geometry (square 0 0)) ∷ []
+
+-- the table of a hundred points
+abbrev pub big : List (Table Geometry)
+big = point_rows 1 100 ∷ []
+
+-- over the table of points: the key is above 99, or the point and a square have a point in common
+abbrev pub far_or_near : Query
+far_or_near = query (of 0 (codes "big") ∷ []) (conds.Or (key_is signs.Greater 0 99 ∷ with_literal predicates.Intersects (square 0 0) ∷ []) ∷ [])
+
+-- the point and a square have a point in common
+abbrev pub near : Query
+near = query (of 0 (codes "big") ∷ []) (with_literal predicates.Intersects (square 0 0) ∷ [])
+
+-- pairs of a point and a square that have a point in common, where the key of the point isn't 2
+abbrev pub joined : Query
+joined = query (of 0 (codes "b") ∷ of 1 (codes "s") ∷ []) (of_both predicates.Intersects ∷ key_is signs.NotEqual 0 2 ∷ [])
+
+-- pairs of a point near a square and a square, which have a point in common
+abbrev pub near_and_joined : Query
+near_and_joined = query (of 0 (codes "b") ∷ of 1 (codes "s") ∷ []) (with_literal predicates.Intersects (square 0 0) ∷ of_both predicates.Intersects ∷ [])
+
+-- pairs of squares that touch
+abbrev pub touching : Query
+touching = query (of 0 (codes "a") ∷ of 0 (codes "b") ∷ []) (of_both predicates.Touches ∷ [])
+
+-- what stands at the places of the meaning, by the label matrix
+abbrev pub wanted : List (Table Geometry) → Query → List (List (Row Geometry))
+wanted tables q = map (query_rows tables q) (meant (truth labelled_matrix denoted) tables q)
+
+-- the records of an answer, the names of the columns being these tables'
+abbrev pub answered : List (TableDef ColumnShape) → List (Table Geometry) → Query → List Record
+answered definitions tables q = answer geometry_writing definitions q (wanted tables q)
+
+-- the work of the chosen plan after so many rows
+abbrev pub worked_to : List (Table Geometry) → Query → ℕ → Option ℕ
+worked_to tables q n = option_map (λ plan. work_to_row labelled_matrix denoted tables q plan n) (chosen tables q)
+
+-- the table definition of points or squares
+abbrev pub definition : List ℕ → TableDef ColumnShape
+definition name = record {
+  name = name;
+  columns = record { name = codes "id"; column_type = columns.Integer; not_null = false } ∷ record { name = codes "geom"; column_type = columns.Geometry None; not_null = false } ∷ [];
+  key = 0;
+}
+
+-- a row with a point
+abbrev pub first_point : Row Geometry
+first_point = row 1 (values.Geometry (Point (Some (at (pos 1) (pos 1)))))
+
+-- a predicate of the second reference's geometry with itself
+abbrev pub of_second : Predicate → Condition
+of_second predicate = conds.Relates predicate (geometry 1) (geometry 1)
+
+-- over the table of empty geometries: equal to the empty one
+abbrev pub equal_to_empty : Query
+equal_to_empty = query (of 0 (codes "e") ∷ []) (with_literal predicates.Equals (MultiPoint []) ∷ [])

@@ -1,9 +1,11 @@
 -- Laws of the chosen plan, each as one statement.
-use Rattle.std.specs.Prelude.{◌≡◌, ℕ, ◌<◌, ◌≤◌, ◌==◌, if◌then◌else◌, nat_lt, List, [], ◌∷◌, ◌++◌, length, count_by, All, Some, IsSome}
+use Rattle.std.specs.Prelude.{◌≡◌, ℕ, ◌<◌, ◌≤◌, ◌==◌, if◌then◌else◌, nat_lt, List, [], ◌∷◌, ◌++◌, length, count_by, All, Option, Some, IsSome}
 use Rattle.geometry_model.specs.Geometries.{Geometry}
 use Rattle.table_model.specs.Candidates.{candidates}
-use Rattle.table_model.specs.Meanings.{Table, product, referenced}
+use Rattle.table_model.specs.Meanings.{Table, referenced}
+use Rattle.table_model.specs.Places.{choices}
 use Rattle.table_model.specs.Plans.{filters, lawful_plans, IsLawful, chosen}
+use Rattle.table_model.specs.Truths.{Rows}
 use Rattle.table_model.specs.declared.conditions.Cond.{Cond}
 use Rattle.table_model.specs.declared.conditions.ColumnPlace.{ColumnPlace}
 use Rattle.table_model.specs.declared.conditions.GeometryArgument.{GeometryArgument}
@@ -43,15 +45,15 @@ FirstIsChosen = (tables : List (Table Geometry)) (query : GeometryQuery) (plan :
 abbrev pub SomePlanIsChosen : Type 0
 SomePlanIsChosen = (tables : List (Table Geometry)) (query : GeometryQuery) → 1 ≤ length query.references → length query.references ≤ 2 → IsSome (chosen tables query)
 
--- the candidates of two scans, the first reference being the outer one, are the pairs of the product in their order (profile)
-abbrev pub ScansGiveProduct : Type 0
-ScansGiveProduct = (tables : List (Table Geometry)) (query : GeometryQuery) → length query.references ≡ 2
-    → candidates tables query (record { reference = 0; method = methods.Scan } ∷ record { reference = 1; method = methods.Scan } ∷ []) ≡ product (referenced tables query.references)
+-- the candidates of two scans, the first reference being the outer one, are the choices of places in their order
+abbrev pub ScansGiveChoices : Type 0
+ScansGiveChoices = (denotes : Rows Geometry → GeometryArgument Geometry → Option Geometry) (tables : List (Table Geometry)) (query : GeometryQuery) → length query.references ≡ 2
+    → candidates denotes tables query (record { reference = 0; method = methods.Scan } ∷ record { reference = 1; method = methods.Scan } ∷ []) ≡ choices (referenced tables query.references)
 
--- those of the scan of the only reference are its rows (profile)
-abbrev pub ScanGivesTable : Type 0
-ScanGivesTable = (tables : List (Table Geometry)) (query : GeometryQuery) → length query.references ≡ 1
-    → candidates tables query (record { reference = 0; method = methods.Scan } ∷ []) ≡ product (referenced tables query.references)
+-- those of the scan of the only reference are its places
+abbrev pub ScanGivesPlaces : Type 0
+ScanGivesPlaces = (denotes : Rows Geometry → GeometryArgument Geometry → Option Geometry) (tables : List (Table Geometry)) (query : GeometryQuery) → length query.references ≡ 1
+    → candidates denotes tables query (record { reference = 0; method = methods.Scan } ∷ []) ≡ choices (referenced tables query.references)
 
 -- the filters of every plan are all conjuncts, each once: the place of a conjunct stands once among them, and no other
 -- number does (profile)

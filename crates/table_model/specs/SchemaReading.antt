@@ -10,6 +10,7 @@ use Rattle.table_model.specs.Tokens.{tokens, most_bytes}
 use Rattle.table_model.specs.declared.definitions.ColumnType.{ColumnType}
 use Rattle.table_model.specs.declared.definitions.ColumnType.TheVariants as types
 use Rattle.table_model.specs.declared.definitions.ColumnDef.{ColumnDef}
+use Rattle.table_model.specs.declared.definitions.TheConstants.{COLUMN_LIMIT, TABLE_LIMIT}
 use Rattle.table_model.specs.declared.definitions.TableDef.{TableDef}
 use Rattle.table_model.specs.declared.faults.SchemaFault.{SchemaFault}
 use Rattle.table_model.specs.declared.faults.SchemaFault.TheVariants as fault
@@ -93,7 +94,7 @@ has_column columns name = list_any (λ c. same_name c.name name) columns
 
 -- the most columns of a table (profile)
 abbrev pub most_columns : ℕ
-most_columns = 32
+most_columns = COLUMN_LIMIT
 
 -- column = name type mark*, after those that were read: the column, and whether it is the key (profile)
 unfoldable pub column : {T : Type 0} → (List ℕ → Option T) → List (ColumnDef T) → Bool → Reader (ColumnDef T × Bool)
@@ -146,7 +147,7 @@ has_table tables name = list_any (λ t. same_name t.name name) tables
 
 -- the most tables of a schema (profile)
 abbrev pub most_tables : ℕ
-most_tables = 16
+most_tables = TABLE_LIMIT
 
 -- the name of a table, after those that were read (profile)
 unfoldable pub table_name : {T : Type 0} → List (TableDef T) → Reader (List ℕ)

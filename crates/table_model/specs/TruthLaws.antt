@@ -2,7 +2,6 @@
 use Rattle.std.specs.Prelude.{◌≡◌, List, ◌∷◌, ◌++◌, Option}
 use Rattle.geometry_model.specs.Geometries.{Geometry}
 use Rattle.geometry_model.specs.Dimensions.{Matrix}
-use Rattle.table_model.specs.Binding.{condition_of}
 use Rattle.table_model.specs.Meanings.{is_true, all_true}
 use Rattle.table_model.specs.Truths.{Rows, truth}
 use Rattle.table_model.specs.declared.conditions.Cond.{Cond}
@@ -22,8 +21,3 @@ ConjunctsAreJoined = (matrix : Geometry → Geometry → Matrix) (denotes : Rows
 abbrev pub NestedAndsAreOne : Type 0
 NestedAndsAreOne = (matrix : Geometry → Geometry → Matrix) (denotes : Rows Geometry → Argument → Option Geometry) (rows : Rows Geometry) (before inside after : List (Cond Argument))
     → truth matrix denotes rows (conds.And (before ++ conds.And inside ∷ after)) ≡ truth matrix denotes rows (conds.And (before ++ (inside ++ after)))
-
--- the condition that stands for some conjuncts has the truth of their AND, also where there is one alone (SQL's three-valued logic)
-abbrev pub OneConjunctIsItsAnd : Type 0
-OneConjunctIsItsAnd = (matrix : Geometry → Geometry → Matrix) (denotes : Rows Geometry → Argument → Option Geometry) (rows : Rows Geometry) (conjuncts : List (Cond Argument))
-    → truth matrix denotes rows (condition_of conjuncts) ≡ truth matrix denotes rows (conds.And conjuncts)

@@ -3,6 +3,15 @@
 use crate::texts::OwnedText;
 use sqlite_items::Items;
 
+/// The most tables that a schema may have.
+pub const TABLE_LIMIT: usize = 16;
+
+/// The most columns that a table may have.
+pub const COLUMN_LIMIT: usize = 32;
+
+/// The most rows that a table may have.
+pub const ROW_LIMIT: usize = 100_000;
+
 /// The type of a column, generic in what names a type of geometry. (SQL; 06-104r4, 7.2.)
 #[derive(Debug, Drop)]
 pub enum ColumnType<T> {

@@ -4,12 +4,17 @@
 //! types that the definitions and the programs share.
 #![tactic(auto)]
 
+pub mod answer_examples;
 pub mod binding_examples;
 pub mod conditions;
 pub mod definitions;
 pub mod faults;
 pub mod first_run_examples;
 pub mod geometry_column_examples;
+pub mod join_examples;
+pub mod limit_examples;
+pub mod place_examples;
+pub mod place_laws;
 pub mod plan_examples;
 pub mod plan_laws;
 pub mod plans;

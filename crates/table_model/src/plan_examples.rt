@@ -20,6 +20,10 @@ ghost use Rattle.table_model.specs.PlanExamples.{
   with_literal,
   of_both,
   with_itself,
+  exchanged,
+  near,
+  joined,
+  near_and_joined,
   costs,
   explained,
   analyzed,
@@ -90,4 +94,20 @@ pub fn scans_of_small_tables()
     ensures four_rows { costs (point_rows 1 4 ∷ []) (query (of 0 (codes "t") ∷ []) (with_literal Intersects (square 0 0) ∷ [])) ≡ 4 ∷ 4 ∷ [] }
     ensures of_four_rows { explained (point_rows 1 4 ∷ []) (query (of 0 (codes "t") ∷ []) (with_literal Intersects (square 0 0) ∷ []))
         ≡ Some (codes "cost 4\nouter t scan\nfilter 1\n") }
+{}
+
+/// An outer reference that can be probed: each line of the cost and of the expected rows tells in one of the costs, and of
+/// two plans that cost the same the earlier one is chosen.
+pub fn probes_of_outer_references()
+    ensures costs { costs (point_rows 1 100 ∷ squares ∷ []) near_and_joined ≡ 300 ∷ 500 ∷ 36 ∷ 58 ∷ 202 ∷ 30 ∷ 30 ∷ [] }
+    ensures text { analyzed (point_rows 1 100 ∷ squares ∷ []) near_and_joined ≡ Some (codes "cost 30\nouter s scan\ninner b probe 1\nfilter 1 2\nwork 16\n") }
+    ensures rounded_costs { costs (point_rows 1 19 ∷ squares ∷ []) near_and_joined ≡ 57 ∷ 95 ∷ 9 ∷ 13 ∷ 40 ∷ 12 ∷ 12 ∷ [] }
+    ensures rounded { analyzed (point_rows 1 19 ∷ squares ∷ []) near_and_joined ≡ Some (codes "cost 9\nouter b probe 1\ninner s scan\nfilter 1 2\nwork 16\n") }
+{}
+
+/// Squares whose keys are exchanged, and all pairs of two squares.
+pub fn plans_of_pairs()
+    ensures exchanged { analyzed (point_rows 1 100 ∷ exchanged ∷ []) joined ≡ Some (codes "cost 30\nouter s scan\ninner b probe 1\nfilter 2 1\nwork 8\n") }
+    ensures cross_join { explained (squares ∷ []) (query (of 0 (codes "a") ∷ of 0 (codes "b") ∷ []) []) ≡ Some (codes "cost 6\nouter a scan\ninner b scan\nfilter none\n") }
+    ensures without_analyze { explained (point_rows 1 100 ∷ []) near ≡ Some (codes "cost 14\nouter big probe 1\nfilter 1\n") }
 {}

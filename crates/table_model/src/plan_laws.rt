@@ -8,8 +8,8 @@ ghost use Rattle.table_model.specs.PlanLaws.{
   FirstIsChosen,
   SomePlanIsChosen,
   FiltersAreConjuncts,
-  ScansGiveProduct,
-  ScanGivesTable,
+  ScansGiveChoices,
+  ScanGivesPlaces,
 };
 
 /// The chosen plan is lawful.
@@ -42,12 +42,12 @@ pub fn filters_are_conjuncts()
     ensures { FiltersAreConjuncts }
 {}
 
-/// Two scans give the pairs of the product, in its order.
-pub fn scans_give_product()
-    ensures { ScansGiveProduct }
+/// Two scans give all choices of places, in their order.
+pub fn scans_give_choices()
+    ensures { ScansGiveChoices }
 {}
 
-/// A scan gives the rows of its table.
-pub fn scan_gives_table()
-    ensures { ScanGivesTable }
+/// A scan gives all places of its table.
+pub fn scan_gives_places()
+    ensures { ScanGivesPlaces }
 {}

@@ -1,7 +1,7 @@
 //! Laws of three-valued truth.
 
 ghost use Rattle.std.specs.Prelude.{◌≡◌, [], ◌∷◌};
-ghost use Rattle.table_model.specs.TruthLaws.{ConjunctsAreJoined, NestedAndsAreOne, OneConjunctIsItsAnd};
+ghost use Rattle.table_model.specs.TruthLaws.{ConjunctsAreJoined, NestedAndsAreOne};
 ghost use Rattle.table_model.specs.Truths.{not_of, and_of, or_of, all_of, any_of};
 ghost use Rattle.table_model.specs.declared.values.Truth.TheVariants.{True, False, Unknown};
 
@@ -33,10 +33,4 @@ pub fn conjuncts_are_joined()
 /// three-valued logic.)
 pub fn nested_ands_are_one()
     ensures { NestedAndsAreOne }
-{}
-
-/// The condition that stands for some conjuncts has the truth of their AND, also where there is one alone. (SQL's
-/// three-valued logic.)
-pub fn one_conjunct_is_its_and()
-    ensures { OneConjunctIsItsAnd }
 {}

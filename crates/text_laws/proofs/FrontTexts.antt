@@ -5,10 +5,11 @@ use Rattle.std.proofs.lemmas.Bool.Decides.{Decides-eqb}
 use Rattle.std.specs.Char.{is_ascii_alphabetic}
 use Rattle.std.specs.Str.{str_eq_ignore_ascii_case}
 use Rattle.geometry_model.specs.Points.{Position}
-use Rattle.geometry_model.specs.Geometries.{Geometry, Point, MultiPoint, LineString, MultiLineString, Polygon}
+use Rattle.geometry_model.specs.Geometries.{Geometry, Point, MultiPoint, LineString, MultiLineString, Polygon, MultiPolygon}
 use Rattle.geometry_model.specs.WellKnownText.{is_white, position_limit, part_limit}
-use Rattle.geometry_model.specs.TextReading.{Input, Reader, and_then, pure, refuse, too_long, run, eat, place, sees, ◌>>◌, ◌>>=◌, expect, padded, enclosed, position, point, separated, line, parts, body, lone, first, positions, lists, typed, tagged, end, whole}
+use Rattle.geometry_model.specs.TextReading.{Input, Reader, and_then, pure, refuse, too_long, run, eat, place, sees, ◌>>◌, ◌>>=◌, expect, padded, enclosed, position, point, separated, line, parts, polygon, polygons, body, lone, first, positions, lists, nested_lists, typed, tagged, end, whole}
 use Rattle.geometry_model.specs.declared.text_faults.TextFault.{TextFault}
+use Rattle.text_laws.proofs.RoomLists.{going_on, positions_in, items, ring, alone, itself, parts_are_items, polygons_are_items}
 use Rattle.text_laws.proofs.TextSound.{IfRead}
 use Rattle.text_laws.proofs.Fronts.{Fork, plus, Shares, Alike, Follows, Stays, then_follows, then_on, if_follows, weaker_follows, pure_follows, refuse_follows, place_follows, run_follows, sees_follows, eat_follows, not_eaten, expect_follows, padded_follows, enclosed_follows}
 use Rattle.text_laws.proofs.FrontNumbers.{position_follows}
@@ -19,10 +20,6 @@ point_follows f room = then_on f (Unit {0}) (sees (λ c. c == 40)) (λ met. if m
     (λ met. if_follows f (Unit {0}) met (enclosed (padded (position room))) (position room)
     (weaker_follows f (Unit {0}) (enclosed (padded (position room))) (enclosed_follows f (Unit {0}) (padded (position room)) (padded_follows f (Unit {0}) (position room) (position_follows f room))))
     (position_follows f room))
-
--- what may come behind an item: a comma and more
-abbrev going_on : {A : Type 0} → A → Reader (List A) → Reader (List A)
-going_on x more = eat 44 >>= λ met. (if met then (more >>= λ xs. pure (x ∷ xs)) else pure (x ∷ []))
 
 going_on_follows : {A : Type 0} (f : Fork) (S : Type 0) (x : A) (more : Reader (List A)) → Follows f S more → ((xs : List A) → S → Stays f S (pure (x ∷ xs))) → Follows f S (going_on x more)
 going_on_follows f S x more h stays = then_on f S (eat 44) (λ met. (if met then (more >>= λ xs. pure (x ∷ xs)) else pure (x ∷ []))) (eat_follows f 44 refl f.not_comma)
@@ -43,11 +40,29 @@ line_follows : (f : Fork) (room : ℕ) → Follows f ⊥ (line room)
 unfolding line
 line_follows f room = enclosed_follows f (Unit {0}) (separated position room) (separated_follows f position (position_follows f) room)
 
+items_follow : {A : Type 0} (f : Fork) (item : ℕ → ℕ → Reader A) (rings : A → List (List Position)) → ((count room : ℕ) → Follows f ⊥ (item count room))
+    → (turns count room : ℕ) → Follows f ⊥ (items item rings turns count room)
+unfolding items
+items_follow f item rings h zero count room = then_on f ⊥ (padded (item count room)) (λ x. pure (x ∷ [])) (padded_follows f ⊥ (item count room) (h count room)) (λ x. pure_follows f ⊥ (x ∷ []))
+items_follow f item rings h (suc turns) count room = then_on f ⊥ (padded (item count room)) (λ x. going_on x (items item rings turns (count - length (rings x)) (room - positions_in (rings x))))
+    (padded_follows f ⊥ (item count room) (h count room))
+    (λ x. going_on_follows f ⊥ x (items item rings turns (count - length (rings x)) (room - positions_in (rings x)))
+    (items_follow f item rings h turns (count - length (rings x)) (room - positions_in (rings x))) (λ xs s. absurd s))
+
+ring_follows : (f : Fork) (count room : ℕ) → Follows f ⊥ (ring count room)
+unfolding ring
+ring_follows f zero room = then_on f ⊥ (expect 40) (λ _. too_long) (expect_follows f 40 refl f.not_open) (λ _ i j h. tt)
+ring_follows f (suc count) room = line_follows f room
+
 parts_follow : (f : Fork) (count room : ℕ) → Follows f ⊥ (parts count room)
-unfolding parts
-parts_follow f zero room = padded_follows f ⊥ (expect 40 >> too_long) (then_on f ⊥ (expect 40) (λ _. too_long) (expect_follows f 40 refl f.not_open) (λ _ i j h. tt))
-parts_follow f (suc count) room = then_on f ⊥ (padded (line room)) (λ x. going_on x (parts count (room - length x))) (padded_follows f ⊥ (line room) (line_follows f room))
-    (λ x. going_on_follows f ⊥ x (parts count (room - length x)) (parts_follow f count (room - length x)) (λ xs s. absurd s))
+parts_follow f count room i j h = rw (parts_are_items count room i, parts_are_items count room j) (items_follow f ring alone (ring_follows f) count count room i j h)
+
+polygon_follows : (f : Fork) (count room : ℕ) → Follows f ⊥ (polygon count room)
+unfolding polygon
+polygon_follows f count room = enclosed_follows f ⊥ (parts count room) (parts_follow f count room)
+
+polygons_follow : (f : Fork) (turns count room : ℕ) → Follows f ⊥ (polygons turns count room)
+polygons_follow f turns count room i j h = rw (polygons_are_items turns count room i, polygons_are_items turns count room j) (items_follow f polygon itself (polygon_follows f) turns count room i j h)
 
 body_follows : {A : Type 0} (f : Fork) (S : Type 0) (inner : Reader (List A)) → Follows f S inner → Follows f ⊥ (body inner)
 unfolding body
@@ -69,6 +84,9 @@ positions_follow f item h = body_follows f (Unit {0}) (separated item position_l
 lists_follow : (f : Fork) → Follows f ⊥ lists
 lists_follow f = body_follows f ⊥ (parts part_limit position_limit) (parts_follow f part_limit position_limit)
 
+nested_lists_follow : (f : Fork) → Follows f ⊥ nested_lists
+nested_lists_follow f = body_follows f ⊥ (polygons part_limit part_limit position_limit) (polygons_follow f part_limit part_limit position_limit)
+
 -- what a type's name makes of what was read
 made_follows : {A B : Type 0} (f : Fork) (step : Reader A) (make : A → B) → Follows f ⊥ step → Follows f ⊥ (step >>= λ x. pure (make x))
 made_follows f step make h = then_on f ⊥ step (λ x. pure (make x)) h (λ x. pure_follows f ⊥ (make x))
@@ -79,7 +97,8 @@ typed_follows f at name = if_follows f ⊥ (str_eq_ignore_ascii_case name (codes
     (if_follows f ⊥ (str_eq_ignore_ascii_case name (codes "MULTIPOINT")) _ _ (made_follows f (positions point) MultiPoint (positions_follow f point (point_follows f)))
     (if_follows f ⊥ (str_eq_ignore_ascii_case name (codes "LINESTRING")) _ _ (made_follows f (positions position) LineString (positions_follow f position (position_follows f)))
     (if_follows f ⊥ (str_eq_ignore_ascii_case name (codes "MULTILINESTRING")) _ _ (made_follows f lists MultiLineString (lists_follow f))
-    (if_follows f ⊥ (str_eq_ignore_ascii_case name (codes "POLYGON")) _ _ (made_follows f lists Polygon (lists_follow f)) (refuse_follows Geometry f ⊥ at)))))
+    (if_follows f ⊥ (str_eq_ignore_ascii_case name (codes "POLYGON")) _ _ (made_follows f lists Polygon (lists_follow f))
+    (if_follows f ⊥ (str_eq_ignore_ascii_case name (codes "MULTIPOLYGON")) _ _ (made_follows f nested_lists MultiPolygon (nested_lists_follow f)) (refuse_follows Geometry f ⊥ at))))))
 
 tagged_follows : (f : Fork) → Follows f ⊥ tagged
 unfolding tagged

@@ -1,16 +1,17 @@
 -- A text with more positions than the count allows is read as too long.
-use Rattle.std.proofs.Common.{◌≡◌, refl, sym, ap, ◌∙◌, subst, ℕ, zero, suc, ◌-◌, ◌<◌, ◌≤◌, ◌==◌, ◌⊎◌, inl, inr, false, List, [], ◌∷◌, ◌++◌, length, take, drop, Option, Some, None, Result, Ok, Err, codes, length-append, append-nil, le_of_suc-le-suc, zero-lt-suc, arith}
+use Rattle.std.proofs.Common.{◌≡◌, refl, sym, ap, ◌∙◌, subst, ℕ, zero, suc, ◌-◌, ◌<◌, ◌≤◌, ◌==◌, ◌⊎◌, inl, inr, List, [], ◌∷◌, length, take, drop, Option, Some, None, Result, Ok, Err, codes, append-nil, le_of_suc-le-suc, zero-lt-suc, le_refl, arith}
 use Rattle.std.specs.List.{prefix_len, flat_map}
 use Rattle.std.specs.Char.{is_ascii_alphabetic}
 use Rattle.geometry_model.specs.Points.{Position}
-use Rattle.geometry_model.specs.Geometries.{Geometry, Point, MultiPoint, LineString, MultiLineString, Polygon}
-use Rattle.geometry_model.specs.WellKnownText.{begins_with, written_parts, Rule, ◌⨾◌, Byte, Blank, Space, Padded, Enclosed, Separated, Number, PositionText, PointText, LineText, Body, TaggedText, Writes, IsWithinCounts, is_white, written_positions, position_limit, part_limit}
-use Rattle.geometry_model.specs.TextReading.{Input, Reader, and_then, after, too_long, ◌>>◌, expect, padded, enclosed, numeral, position, point, separated, line, parts, body, positions, lists, typed, tagged, whole, outcome, read_text}
+use Rattle.geometry_model.specs.Geometries.{Geometry, Point, MultiPoint, LineString, MultiLineString, Polygon, MultiPolygon, joined_rings}
+use Rattle.geometry_model.specs.WellKnownText.{begins_with, written_parts, Rule, ◌⨾◌, Byte, Blank, Space, Padded, Enclosed, Separated, Number, PositionText, PointText, LineText, PolygonText, Body, TaggedText, Writes, IsWithinCounts, is_white, written_positions, position_limit, part_limit}
+use Rattle.geometry_model.specs.TextReading.{Input, Reader, and_then, after, too_long, ◌>>◌, expect, padded, enclosed, numeral, position, point, separated, line, parts, polygon, polygons, body, positions, lists, nested_lists, typed, tagged, whole, outcome, read_text}
 use Rattle.geometry_model.specs.declared.text_faults.TextFault.{TextFault}
 use Rattle.geometry_model.specs.declared.text_faults.TextFault.TheVariants.{Syntax, OffGrid, OutOfRange, TooLong}
 use Rattle.text_laws.specs.RefusalLaws.{TooManyIsTooLong}
+use Rattle.text_laws.proofs.RoomLists.{positions_in, items, ring, alone, itself, rings_of, alone_of, parts_are_items, polygons_are_items, FitsCounts, IsOver, fits_or_not, fits_or_over, rest_over}
 use Rattle.text_laws.proofs.TextSteps.{Took, apart, byte_is, no_run}
-use Rattle.text_laws.proofs.TextComplete.{IsRead, IsFound, Ends, Closed, Begins, Complete, space_ends, white_ends, expect_read, blank_read, padded_read, numeral_at, position_begins, position_not_white, position_read, point_read, point_not_white, Closes, closed_by_comma, closes, differs, name_read, named, tagged_not_white, padded_line_read}
+use Rattle.text_laws.proofs.TextComplete.{IsRead, IsFound, Ends, Closed, Begins, Complete, space_ends, white_ends, expect_read, blank_read, padded_read, numeral_at, position_begins, position_not_white, position_read, point_read, point_not_white, Closes, closed_by_comma, closes, differs, name_read, named, tagged_not_white, list_not_white, ReadsItem, HasRings, ring_read, one_ring, polygon_read, rings_of_polygon}
 
 -- the text is read as too long
 abbrev pub IsFull : {A : Type 0} → Result (A × Input) TextFault → Type 0
@@ -98,77 +99,109 @@ separated_full P item starts complete full (suc room) (x ∷ y ∷ more) i rest 
     (full_then (separated item room (after 1 j)) _
     (separated_full P item starts complete full room (y ∷ more) (after 1 j) rest (le_of_suc-le-suc many) (b.2.0, ap (drop 1) (known.1 ∙ a_is) ∙ b.2.1, b.2.2) stop)))
 
--- ---- lines and parts
-line_full : (room : ℕ) (ps : List Position) (i : Input) (rest : List ℕ) → room < length ps → Took i.left (LineText ps) rest → IsFull (line room i)
+-- ---- lists in parentheses
+enclosed_list_full : {A : Type 0} (P : A → Rule) (Over : List A → Type 0) (inner : Reader (List A))
+    → ((xs : List A) (i : Input) (rest : List ℕ) → Over xs → Took i.left (Separated P xs) rest → Closes rest → IsFull (inner i))
+    → (xs : List A) (i : Input) (rest : List ℕ) → Over xs → Took i.left (Enclosed (Separated P xs)) rest → IsFull (enclosed inner i)
+enclosed_list_full P Over inner full xs i rest over t = enclosed_full (λ ys text. Separated P ys text × Over ys) Closes inner closes
+    (λ j ys more taken stop. full ys j more taken.2.1 (taken.0, taken.1, taken.2.0) stop) i xs rest
+    (t.0, t.1, (t.2.0, t.2.1, t.2.2, t.2.3, (t.2.4.0, t.2.4.1, t.2.4.2, (t.2.4.3, over), t.2.4.4))) tt
+
+padded_list_full : {A : Type 0} (P : A → Rule) (Over : List A → Type 0) (step : Reader (List A))
+    → ((xs : List A) (i : Input) (rest : List ℕ) → Over xs → Took i.left (Enclosed (Separated P xs)) rest → IsFull (step i))
+    → (xs : List A) (i : Input) (rest : List ℕ) → Over xs → Took i.left (Padded (Enclosed (Separated P xs))) rest → Closed rest → IsFull (padded step i)
+padded_list_full P Over step full xs i rest over t stop = padded_full (λ ys text. Enclosed (Separated P ys) text × Over ys) step
+    (λ ys text more taken. list_not_white P ys text more taken.0)
+    (λ j ys more taken ends. full ys j more taken.2.1 (taken.0, taken.1, taken.2.0)) i xs rest
+    (t.0, t.1, (t.2.0, t.2.1, t.2.2, t.2.3, (t.2.4.0, t.2.4.1, t.2.4.2, (t.2.4.3, over), t.2.4.4))) stop
+
+padded_line_full : (room : ℕ) (ps : List Position) (i : Input) (rest : List ℕ) → room < length ps → Took i.left (Padded (LineText ps)) rest → Closed rest → IsFull (padded (line room) i)
 unfolding line
-line_full room ps i rest many t = enclosed_full (λ qs text. Separated PositionText qs text × (room < length qs)) Closes (separated position room) closes
-    (λ j qs more taken stop. separated_full PositionText position position_not_white position_read position_full room qs j more taken.2.1 (taken.0, taken.1, taken.2.0) stop) i ps rest
-    (t.0, t.1, (t.2.0, t.2.1, t.2.2, t.2.3, (t.2.4.0, t.2.4.1, t.2.4.2, (t.2.4.3, many), t.2.4.4))) tt
+padded_line_full room = padded_list_full PositionText (λ ps. room < length ps) (line room)
+    (enclosed_list_full PositionText (λ ps. room < length ps) (separated position room) (separated_full PositionText position position_not_white position_read position_full room))
 
-line_not_white : (ps : List Position) (text more : List ℕ) → LineText ps text → begins_with is_white (text ++ more) ≡ false
-line_not_white ps text more t = ap (λ u. begins_with is_white (u ++ more)) (t.2 ∙ ap (λ u. u ++ t.1) t.3)
+-- ---- items
+-- an item with more rings or positions than may come is too long
+abbrev pub FullItem : {A : Type 0} → (A → Rule) → (ℕ → ℕ → Reader A) → (A → List (List Position)) → Type 0
+FullItem {A} P item rings = (count room : ℕ) (x : A) (i : Input) (rest : List ℕ) → IsOver count room (rings x) → Took i.left (Padded (P x)) rest → Closed rest → IsFull (padded (item count room) i)
 
-pub padded_line_full : (room : ℕ) (ps : List Position) (i : Input) (rest : List ℕ) → room < length ps → Took i.left (Padded (LineText ps)) rest → Closed rest → IsFull (padded (line room) i)
-padded_line_full room ps i rest many t stop = padded_full (λ qs text. LineText qs text × (room < length qs)) (line room)
-    (λ qs text more taken. line_not_white qs text more taken.0)
-    (λ j qs more taken ends. line_full room qs j more taken.2.1 (taken.0, taken.1, taken.2.0)) i ps rest
-    (t.0, t.1, (t.2.0, t.2.1, t.2.2, t.2.3, (t.2.4.0, t.2.4.1, t.2.4.2, (t.2.4.3, many), t.2.4.4))) stop
+-- an item that is too long
+pub item_full : {A : Type 0} (item : ℕ → ℕ → Reader A) (rings : A → List (List Position)) (turns count room : ℕ) (i : Input) → IsFull (padded (item count room) i) → IsFull (items item rings turns count room i)
+unfolding items
+item_full item rings zero count room i full = full_then (padded (item count room) i) _ full
+item_full item rings (suc turns) count room i full = full_then (padded (item count room) i) _ full
 
+-- an item and a comma: it is too long itself, or it fits and what follows is too long
+pub item_and_more : {A : Type 0} (P : A → Rule) (item : ℕ → ℕ → Reader A) (rings : A → List (List Position)) → HasRings P rings → ReadsItem P item rings → FullItem P item rings
+    → (turns count room : ℕ) (x : A) (i : Input) (behind : List ℕ) → count ≤ turns → Took i.left (Padded (P x)) (44 ∷ behind)
+    → ((t : ℕ) (j : Input) → count - length (rings x) ≤ t → FitsCounts count room (rings x) → j.left ≡ behind → IsFull (items item rings t (count - length (rings x)) (room - positions_in (rings x)) j))
+    → IsFull (items item rings turns count room i)
+unfolding items
+item_and_more P item rings has complete full zero count room x i behind enough t again =
+    full_then (padded (item count room) i) _ (full count room x i (44 ∷ behind) (inl (omega (arith, enough, has x t.2.4.0 t.2.4.3))) t (closed_by_comma behind))
+item_and_more P item rings has complete full (suc turns) count room x i behind enough t again = go (fits_or_over count room (rings x))
+  where
+    go : FitsCounts count room (rings x) ⊎ IsOver count room (rings x) → IsFull (items item rings (suc turns) count room i)
+    go (inr over) = full_then (padded (item count room) i) _ (full count room x i (44 ∷ behind) over t (closed_by_comma behind))
+    go (inl fits) = then_full (λ z j. (z ≡ x) × (j.left ≡ 44 ∷ behind)) (padded (item count room) i) _ (complete count room x i (44 ∷ behind) fits t (closed_by_comma behind))
+        (λ z j known. rw (ap (begins_with (λ b. b == 44)) known.1)
+        (full_then (items item rings turns (count - length (rings z)) (room - positions_in (rings z)) (after 1 j)) _
+        (subst (λ w. IsFull (items item rings turns (count - length (rings w)) (room - positions_in (rings w)) (after 1 j))) (sym known.0)
+        (again turns (after 1 j) (omega (arith, enough, has x t.2.4.0 t.2.4.3)) fits (ap (drop 1) known.1)))))
+
+-- the first item and the rest of the text
+pub comma_behind : {A : Type 0} (P : A → Rule) (x y : A) (more : List A) (from rest : List ℕ) → Took from (Separated P (x ∷ y ∷ more)) rest
+    → (behind : List ℕ) × Took from (Padded (P x)) (44 ∷ behind) × Took behind (Separated P (y ∷ more)) rest
+comma_behind P x y more from rest t =
+    let a = apart from rest (Padded (P x)) (Byte 44 ⨾ Separated P (y ∷ more)) t in
+    let b = apart a.0 rest (Byte 44) (Separated P (y ∷ more)) a.2 in
+    (b.0, subst (Took from (Padded (P x))) (byte_is 44 a.0 b.0 b.1) a.1, b.2)
+
+items_full : {A : Type 0} (P : A → Rule) (item : ℕ → ℕ → Reader A) (rings : A → List (List Position)) → HasRings P rings → ReadsItem P item rings → FullItem P item rings
+    → (turns count room : ℕ) (xs : List A) (i : Input) (rest : List ℕ) → count ≤ turns → IsOver count room (rings_of rings xs) → Took i.left (Separated P xs) rest → Closes rest → IsFull (items item rings turns count room i)
+items_full P item rings has complete full turns count room [] i rest enough over t stop = absurd t.2
+items_full P item rings has complete full turns count room (x ∷ []) i rest enough over t stop = item_full item rings turns count room i
+    (full count room x i rest (subst (IsOver count room) (append-nil (rings x)) over) t stop.0)
+items_full P item rings has complete full turns count room (x ∷ y ∷ more) i rest enough over t stop =
+    let c = comma_behind P x y more i.left rest t in
+    item_and_more P item rings has complete full turns count room x i c.0 enough c.1
+    (λ s j enough_left fits j_is. items_full P item rings has complete full s (count - length (rings x)) (room - positions_in (rings x)) (y ∷ more) j rest enough_left
+    (rest_over count room (rings x) (rings_of rings (y ∷ more)) over fits) (c.2.0, j_is ∙ c.2.1, c.2.2) stop)
+
+-- ---- rings and elements, polygons
 -- a part where none may come: its parenthesis is enough
-no_part_full : (ps : List Position) (i : Input) (rest : List ℕ) → Took i.left (Padded (LineText ps)) rest → IsFull {A = List (List Position)} (padded (expect 40 >> too_long) i)
-no_part_full ps i rest t =
+no_ring_full : (ps : List Position) (i : Input) (rest : List ℕ) → Took i.left (Padded (LineText ps)) rest → IsFull {A = List Position} (padded (expect 40 >> too_long) i)
+no_ring_full ps i rest t =
     let a = apart i.left rest Blank (LineText ps ⨾ Blank) t in
     let b = apart a.0 rest (LineText ps) Blank a.2 in
     let c = apart a.0 b.0 (Byte 40) (Separated PositionText ps ⨾ Byte 41) b.1 in
     let opens : a.0 ≡ 40 ∷ c.0 = byte_is 40 a.0 c.0 c.1 in
     let j = after (prefix_len is_white i.left) i in
     let j_is : j.left ≡ a.0 = blank_read i.left a.0 a.1 (ap (begins_with is_white) opens) in
-    full_then {A = List (List Position)} ((expect 40 >> too_long) j) _
+    full_then {A = List Position} ((expect 40 >> too_long) j) _
     (then_full (λ _ k. k.left ≡ c.0) (expect 40 j) (λ _. too_long) (expect_read 40 j c.0 (j_is ∙ opens)) (λ _ k known. tt))
 
--- more parts, or more positions, than may come
-abbrev IsOver : ℕ → ℕ → List (List Position) → Type 0
-IsOver count room xs = (count < length xs) ⊎ (room < length (flat_map (λ x. x) xs))
+long_line : (x : List Position) (count room : ℕ) → IsOver (suc count) room (alone x) → room < length x
+long_line x count room (inl many) = absurd (omega (arith, many))
+long_line x count room (inr many) = rw (append-nil x) at many
 
-one_over : (x : List Position) (count room : ℕ) → IsOver (suc count) room (x ∷ []) → room < length x
-one_over x count room (inl many) = absurd (omega (arith, many))
-one_over x count room (inr many) = omega (arith, length-append x [], many)
+pub ring_full : FullItem LineText ring alone
+unfolding ring
+ring_full zero room x i rest over t stop = no_ring_full x i rest t
+ring_full (suc count) room x i rest over t stop = padded_line_full room x i rest (long_line x count room over) t stop
 
-rest_over : (x : List Position) (more : List (List Position)) (count room : ℕ) → IsOver (suc count) room (x ∷ more) → length x ≤ room → IsOver count (room - length x) more
-rest_over x more count room (inl many) fits = inl (le_of_suc-le-suc many)
-rest_over x more count room (inr many) fits = inr (omega (arith, length-append x (flat_map (λ z. z) more), many, fits))
+parts_full : (count room : ℕ) (xs : List (List Position)) (i : Input) (rest : List ℕ) → IsOver count room xs → Took i.left (Separated LineText xs) rest → Closes rest → IsFull (parts count room i)
+parts_full count room xs i rest over t stop = rw (parts_are_items count room i)
+    (items_full LineText ring alone one_ring ring_read ring_full count count room xs i rest (le_refl count) (subst (IsOver count room) (sym (alone_of xs)) over) t stop)
 
-pub fits_or_not : (m n : ℕ) → (m ≤ n) ⊎ (n < m)
-fits_or_not m n = grind arith
+pub polygon_full : FullItem PolygonText polygon itself
+unfolding polygon
+polygon_full count room = padded_list_full LineText (IsOver count room) (polygon count room) (enclosed_list_full LineText (IsOver count room) (parts count room) (parts_full count room))
 
-pub parts_full : (count room : ℕ) (xs : List (List Position)) (i : Input) (rest : List ℕ) → IsOver count room xs → Took i.left (Separated LineText xs) rest → Closes rest → IsFull (parts count room i)
-unfolding parts
-parts_full count room [] i rest over t stop = absurd t.2
-parts_full zero room (x ∷ []) i rest over t stop = no_part_full x i rest t
-parts_full zero room (x ∷ y ∷ more) i rest over t stop = no_part_full x i (apart i.left rest (Padded (LineText x)) (Byte 44 ⨾ Separated LineText (y ∷ more)) t).0
-    (apart i.left rest (Padded (LineText x)) (Byte 44 ⨾ Separated LineText (y ∷ more)) t).1
-parts_full (suc count) room (x ∷ []) i rest over t stop = full_then (padded (line room) i) _ (padded_line_full room x i rest (one_over x count room over) t stop.0)
-parts_full (suc count) room (x ∷ y ∷ more) i rest over t stop = go (fits_or_not (length x) room) (λ r j many took. parts_full count r (y ∷ more) j rest many took stop)
-  where
-    a : (ys : List ℕ) × Took i.left (Padded (LineText x)) ys × Took ys (Byte 44 ⨾ Separated LineText (y ∷ more)) rest
-    a = apart i.left rest (Padded (LineText x)) (Byte 44 ⨾ Separated LineText (y ∷ more)) t
-
-    b : (ys : List ℕ) × Took a.0 (Byte 44) ys × Took ys (Separated LineText (y ∷ more)) rest
-    b = apart a.0 rest (Byte 44) (Separated LineText (y ∷ more)) a.2
-
-    a_is : a.0 ≡ 44 ∷ b.0
-    a_is = byte_is 44 a.0 b.0 b.1
-
-    stops : Closed a.0
-    stops = subst Closed (sym a_is) (closed_by_comma b.0)
-
-    go : (length x ≤ room) ⊎ (room < length x) → ((r : ℕ) (j : Input) → IsOver count r (y ∷ more) → Took j.left (Separated LineText (y ∷ more)) rest → IsFull (parts count r j)) → IsFull (parts (suc count) room i)
-    go (inr many) again = full_then (padded (line room) i) _ (padded_line_full room x i a.0 many a.1 stops)
-    go (inl fits) again = then_full (λ z j. (z ≡ x) × (j.left ≡ a.0)) (padded (line room) i) _ (padded_line_read room x i a.0 fits a.1 stops)
-        (λ z j known. rw (ap (begins_with (λ b. b == 44)) (known.1 ∙ a_is))
-        (full_then (parts count (room - length z) (after 1 j)) _
-        (again (room - length z) (after 1 j) (subst (λ w. IsOver count (room - length w) (y ∷ more)) (sym known.0) (rest_over x (y ∷ more) count room over fits))
-        (b.2.0, ap (drop 1) (known.1 ∙ a_is) ∙ b.2.1, b.2.2))))
+polygons_full : (turns count room : ℕ) → count ≤ turns → (xs : List (List (List Position))) (i : Input) (rest : List ℕ) → IsOver count room (joined_rings xs) → Took i.left (Separated PolygonText xs) rest → Closes rest
+    → IsFull (polygons turns count room i)
+polygons_full turns count room enough xs i rest over t stop = rw (polygons_are_items turns count room i)
+    (items_full PolygonText polygon itself rings_of_polygon polygon_read polygon_full turns count room xs i rest enough over t stop)
 
 -- ---- whole texts
 body_full : {A : Type 0} (P : A → Rule) (Over : List A → Type 0) (inner : Reader (List A)) → (Over [] → ⊥)
@@ -185,9 +218,7 @@ body_full P Over inner none full (x ∷ more) i rest over t =
     let no_letter : prefix_len is_ascii_alphabetic left ≡ 0 = no_run is_ascii_alphabetic left (ap (begins_with is_ascii_alphabetic) (left_is ∙ opens)) in
     let past : drop (prefix_len is_ascii_alphabetic left) left ≡ a.0 = ap (λ n. drop n left) no_letter ∙ left_is in
     rw (ap (λ n. length (take n left) == 0) no_letter)
-    (enclosed_full (λ ys text. Separated P ys text × Over ys) Closes inner closes (λ j ys after_it taken stop. full ys j after_it taken.2.1 (taken.0, taken.1, taken.2.0) stop)
-    (after (prefix_len is_ascii_alphabetic left) (after (prefix_len is_white i.left) i)) (x ∷ more) rest
-    (a.2.0, past ∙ a.2.1, (a.2.2.0, a.2.2.1, a.2.2.2, a.2.2.3, (a.2.2.4.0, a.2.2.4.1, a.2.2.4.2, (a.2.2.4.3, over), a.2.2.4.4))) tt)
+    (enclosed_list_full P Over inner full (x ∷ more) (after (prefix_len is_ascii_alphabetic left) (after (prefix_len is_white i.left) i)) rest over (a.2.0, past ∙ a.2.1, a.2.2))
 
 -- more positions or parts than the counts allow
 abbrev pub IsOverCounts : Geometry → Type 0
@@ -212,7 +243,7 @@ not_over_none (inr many) = omega (arith, many)
 
 lists_full : (ls : List (List Position)) (i : Input) (rest : List ℕ) → IsOver part_limit position_limit ls → Took i.left (Body LineText ls) rest → IsFull (lists i)
 lists_full ls i rest over t = body_full LineText (IsOver part_limit position_limit) (parts part_limit position_limit) not_over_none
-    (λ xs j more many took stop. parts_full part_limit position_limit xs j more many took stop) ls i rest over t
+    (parts_full part_limit position_limit) ls i rest over t
 
 tagged_full : (w : Geometry) (i : Input) (rest : List ℕ) → IsOverCounts w → Took i.left (TaggedText w) rest → IsFull (tagged i)
 unfolding tagged typed
@@ -246,6 +277,18 @@ tagged_full (Polygon rs) i rest over t = let n = prefix_len is_ascii_alphabetic 
       named (take n i.left) own (codes "POLYGON") r.0,
     )
     (full_then (lists (after n i)) _ (lists_full rs (after n i) rest (turned rs over) r.1))
+tagged_full (MultiPolygon es) i rest over t = let n = prefix_len is_ascii_alphabetic i.left in let own = codes "MULTIPOLYGON" in
+    let r = name_read own PolygonText es i.left rest refl t in
+    rw (
+      named (take n i.left) own (codes "POINT") r.0,
+      named (take n i.left) own (codes "MULTIPOINT") r.0,
+      named (take n i.left) own (codes "LINESTRING") r.0,
+      named (take n i.left) own (codes "MULTILINESTRING") r.0,
+      named (take n i.left) own (codes "POLYGON") r.0,
+      named (take n i.left) own (codes "MULTIPOLYGON") r.0,
+    )
+    (full_then (nested_lists (after n i)) _ (body_full PolygonText (λ ys. IsOver part_limit position_limit (joined_rings ys)) (polygons part_limit part_limit position_limit) not_over_none
+    (polygons_full part_limit part_limit position_limit (le_refl part_limit)) es (after n i) rest (turned (joined_rings es) over) r.1))
 
 pub whole_full : (w : Geometry) (text : List ℕ) → IsOverCounts w → Writes w text → IsFull (whole (record { left = text; at = 0 }))
 unfolding whole

@@ -1,18 +1,19 @@
 -- A text whose last position is one too many is read as too long, whatever stands behind the first number of that position.
-use Rattle.std.proofs.Common.{◌≡◌, refl, sym, ap, ◌∙◌, subst, ℕ, zero, suc, ◌+◌, ◌-◌, ◌<◌, ◌≤◌, ◌==◌, ◌⊎◌, inl, inr, Bool, true, false, List, [], ◌∷◌, ◌++◌, length, drop, map, Some, None, Ok, Err, codes, append_assoc, append-nil, length-append, zero-lt-suc, arith}
-use Rattle.std.specs.List.{list_all, list_any, prefix_len, flat_map}
+use Rattle.std.proofs.Common.{◌≡◌, refl, sym, ap, ◌∙◌, subst, ℕ, zero, suc, ◌+◌, ◌-◌, ◌<◌, ◌≤◌, ◌==◌, ◌⊎◌, inl, inr, Bool, true, false, List, [], ◌∷◌, ◌++◌, length, drop, map, Some, None, Ok, Err, codes, append_assoc, append-nil, le_refl, zero-lt-suc, arith}
+use Rattle.std.specs.List.{list_all, list_any, prefix_len}
 use Rattle.std.specs.Char.{is_ascii_alphabetic, is_ascii_digit, to_ascii_lowercase}
 use Rattle.std.proofs.lemmas.Bool.{or_parts}
 use Rattle.geometry_model.specs.Points.{Position}
-use Rattle.geometry_model.specs.Geometries.{Geometry, Point, MultiPoint, LineString, MultiLineString, Polygon}
-use Rattle.geometry_model.specs.WellKnownText.{begins_with, Rule, ◌⨾◌, Byte, Blank, Padded, Enclosed, Separated, PositionText, PointText, LineText, Writes, is_white, written_positions, position_limit, part_limit}
-use Rattle.geometry_model.specs.TextReading.{Input, Reader, FoundNumber, and_then, pure, after, too_long, ◌>>◌, ◌>>=◌, expect, padded, numeral, coordinate, space, position, point, separated, line, parts, positions, typed, whole, outcome, read_text}
+use Rattle.geometry_model.specs.Geometries.{Geometry, Point, MultiPoint, LineString, MultiLineString, Polygon, MultiPolygon, joined_rings}
+use Rattle.geometry_model.specs.WellKnownText.{begins_with, Rule, ◌⨾◌, Byte, Blank, Padded, Enclosed, Separated, PositionText, PointText, LineText, PolygonText, Writes, is_white, written_positions, position_limit, part_limit}
+use Rattle.geometry_model.specs.TextReading.{Input, Reader, FoundNumber, and_then, pure, after, too_long, ◌>>◌, ◌>>=◌, expect, padded, enclosed, numeral, coordinate, space, position, point, separated, line, parts, polygon, polygons, positions, typed, whole, outcome, read_text}
 use Rattle.geometry_model.specs.TextRefusals.{begins_more, HasTooManyPositions, IsFirstNumber}
 use Rattle.geometry_model.specs.declared.text_faults.TextFault.TheVariants.{TooLong}
+use Rattle.text_laws.proofs.RoomLists.{positions_in, items, ring, alone, itself, rings_of, alone_of, positions_of_both, parts_are_items, polygons_are_items, FitsCounts}
 use Rattle.text_laws.proofs.TextSteps.{Took, apart, byte_is, read_run}
-use Rattle.text_laws.proofs.TextComplete.{Begins, Complete, Ends, closed_by_comma, expect_read, named, digit_not_white, differs, numeral_begins, position_not_white, position_read, point_not_white, point_read, padded_read, padded_line_read}
-use Rattle.text_laws.proofs.FullTexts.{IsFull, full_then, then_full, full_is}
-use Rattle.text_laws.proofs.OpenParts.{no_part, Layout, layout, Named, whole_by_list, lines_named, rings_named}
+use Rattle.text_laws.proofs.TextComplete.{Begins, Complete, Ends, closed_by_comma, expect_read, named, digit_not_white, differs, numeral_begins, position_not_white, position_read, point_not_white, point_read, padded_read, ReadsItem, HasRings, ring_read, one_ring, polygon_read, rings_of_polygon}
+use Rattle.text_laws.proofs.FullTexts.{IsFull, full_then, then_full, full_is, FullItem, item_full, item_and_more, comma_behind, ring_full, polygon_full}
+use Rattle.text_laws.proofs.OpenParts.{Parenthesized, parenthesized, padded_open, no_ring, at_front, Layout, layout, Named, whole_by_list, lines_named, rings_named, polygons_named}
 use Rattle.text_laws.proofs.RefusedNumbers.{Read, first_number}
 use Rattle.text_laws.proofs.LastNumbers.{pair, HasDigit, NoDigit, Within, within, any_left, any_right, none_of_both, blank_no_digit, position_digit, blank_before}
 
@@ -154,164 +155,98 @@ point_digit p text (inr h) = enclosed_digit (apart text [] (Byte 40) (Padded (Po
         next : (ys : List ℕ) × Took a.0 (Padded (PositionText p)) ys × Took ys (Byte 41) [] → HasDigit text
         next b = ap (list_any is_ascii_digit) (byte_is 40 text a.0 a.1) ∙ padded_digit PositionText p a.0 b.0 (position_digit p) b.1
 
-line_last : (room : ℕ) (ps : List Position) (i : Input) (front closing other from rest : List ℕ) → length ps ≡ room + 1 → Took from (LineText ps) rest → from ≡ front ++ pair closing → NoDigit rest → NoDigit closing → Stands other
-    → i.left ≡ front ++ other → IsFull (line room i)
-unfolding line
-line_last room ps i front closing other from rest many t split none quiet s is = go (apart from rest (Byte 40) (Separated PositionText ps ⨾ Byte 41) t)
+-- lists in parentheses have digits where their items do
+list_digit : {A : Type 0} (P : A → Rule) → ((x : A) (text : List ℕ) → P x text → HasDigit text) → (xs : List A) (text : List ℕ) → Enclosed (Separated P xs) text → HasDigit text
+list_digit P digit xs text t = go (apart text [] (Byte 40) (Separated P xs ⨾ Byte 41) (text, sym (append-nil text), t))
   where
-    go : (ys : List ℕ) × Took from (Byte 40) ys × Took ys (Separated PositionText ps ⨾ Byte 41) rest → IsFull (line room i)
-    go a = next (apart a.0 rest (Separated PositionText ps) (Byte 41) a.2)
+    go : (ys : List ℕ) × Took text (Byte 40) ys × Took ys (Separated P xs ⨾ Byte 41) [] → HasDigit text
+    go a = next (apart a.0 [] (Separated P xs) (Byte 41) a.2)
       where
-        next : (ys : List ℕ) × Took a.0 (Separated PositionText ps) ys × Took ys (Byte 41) rest → IsFull (line room i)
-        next b = read (within front [] 40 a.0 closing (inl refl) (sym split ∙ byte_is 40 from a.0 a.1) (separated_digit PositionText position_digit ps a.0 b.0 b.1) quiet)
-          where
-            read : Within front [] 40 a.0 closing → IsFull (line room i)
-            read w = then_full (λ _ k. k.left ≡ w.rest ++ other) (expect 40 i) _ (expect_read 40 i (w.rest ++ other) (is ∙ ap (λ f. f ++ other) w.front_is))
-                (λ _ k k_is. full_then (separated position room k) _ (separated_last PositionText position position_not_white position_read position_digit position_last room ps k w.rest closing other a.0 (41 ∷ rest) many
-                (subst (Took a.0 (Separated PositionText ps)) (byte_is 41 b.0 rest b.2) b.1) w.left_is none quiet s k_is))
+        next : (ys : List ℕ) × Took a.0 (Separated P xs) ys × Took ys (Byte 41) [] → HasDigit text
+        next b = ap (list_any is_ascii_digit) (byte_is 40 text a.0 a.1) ∙ separated_digit P digit xs a.0 b.0 b.1
 
 line_digit : (ps : List Position) (text : List ℕ) → LineText ps text → HasDigit text
-line_digit ps text t = go (apart text [] (Byte 40) (Separated PositionText ps ⨾ Byte 41) (text, sym (append-nil text), t))
+line_digit = list_digit PositionText position_digit
+
+polygon_digit : (rs : List (List Position)) (text : List ℕ) → PolygonText rs text → HasDigit text
+polygon_digit = list_digit LineText line_digit
+
+-- a list in parentheses: the pair stands behind its parenthesis
+list_last : {A : Type 0} (P : A → Rule) (inner : Reader (List A)) (xs : List A) (closing other : List ℕ) → ((x : A) (text : List ℕ) → P x text → HasDigit text)
+    → ((k : Input) (f g rest : List ℕ) → Took g (Separated P xs) rest → g ≡ f ++ pair closing → NoDigit rest → k.left ≡ f ++ other → IsFull (inner k))
+    → (i : Input) (front from rest : List ℕ) → Took from (Padded (Enclosed (Separated P xs))) rest → from ≡ front ++ pair closing → NoDigit rest → NoDigit closing → i.left ≡ front ++ other → IsFull (padded (enclosed inner) i)
+list_last P inner xs closing other digit full i front from rest t split none quiet is = go (parenthesized P xs from rest t)
   where
-    go : (ys : List ℕ) × Took text (Byte 40) ys × Took ys (Separated PositionText ps ⨾ Byte 41) [] → HasDigit text
-    go a = next (apart a.0 [] (Separated PositionText ps) (Byte 41) a.2)
+    go : Parenthesized P xs from rest → IsFull (padded (enclosed inner) i)
+    go o = made (within front o.white 40 o.list closing (inl refl) (sym split ∙ o.from_is) (separated_digit P digit xs o.list (41 ∷ o.end) o.items_are) quiet)
       where
-        next : (ys : List ℕ) × Took a.0 (Separated PositionText ps) ys × Took ys (Byte 41) [] → HasDigit text
-        next b = ap (list_any is_ascii_digit) (byte_is 40 text a.0 a.1) ∙ separated_digit PositionText position_digit ps a.0 b.0 b.1
+        end_quiet : NoDigit o.end
+        end_quiet = ap (list_any is_ascii_digit) o.end_blank.1 ∙ none_of_both is_ascii_digit o.end_blank.0 rest (blank_no_digit o.end_blank.0 o.end_blank.2) none
 
--- a line behind white space: the pair stands behind its parenthesis
-record Opened (front from rest closing : List ℕ) (ps : List Position) : Type 0 where
-  white : List ℕ
-  inside : List ℕ
-  left : List ℕ
-  end : List ℕ
-  all_white : list_all is_white white ≡ true
-  front_is : front ≡ white ++ (40 ∷ inside)
-  line_is : Took left (LineText ps) end
-  left_is : left ≡ (40 ∷ inside) ++ pair closing
-  quiet : NoDigit rest → NoDigit end
+        made : Within front o.white 40 o.list closing → IsFull (padded (enclosed inner) i)
+        made w = padded_open inner i o.white (w.rest ++ other) o.all_white (at_front o.white w.rest other front i.left 40 w.front_is is)
+            (λ k k_is. full k w.rest o.list (41 ∷ o.end) o.items_are w.left_is end_quiet k_is)
 
-opened_line : (ps : List Position) (front closing from rest : List ℕ) → Took from (Padded (LineText ps)) rest → from ≡ front ++ pair closing → NoDigit closing → Opened front from rest closing ps
-opened_line ps front closing from rest t split none = go (apart from rest Blank (LineText ps ⨾ Blank) t)
+-- ---- items
+-- an item whose last position is one too many
+LastItem : {A : Type 0} → (A → Rule) → (ℕ → ℕ → Reader A) → (A → List (List Position)) → Type 0
+LastItem {A} P item rings = (count room : ℕ) (x : A) (i : Input) (front closing other from rest : List ℕ) → positions_in (rings x) ≡ room + 1 → Took from (Padded (P x)) rest → from ≡ front ++ pair closing
+    → NoDigit rest → NoDigit closing → Stands other → i.left ≡ front ++ other → IsFull (padded (item count room) i)
+
+items_last : {A : Type 0} (P : A → Rule) (item : ℕ → ℕ → Reader A) (rings : A → List (List Position)) → HasRings P rings → ReadsItem P item rings → FullItem P item rings
+    → ((x : A) (text : List ℕ) → P x text → HasDigit text) → LastItem P item rings
+    → (turns count room : ℕ) (xs : List A) (i : Input) (front closing other from rest : List ℕ) → count ≤ turns → positions_in (rings_of rings xs) ≡ room + 1 → Took from (Separated P xs) rest → from ≡ front ++ pair closing
+    → NoDigit rest → NoDigit closing → Stands other → i.left ≡ front ++ other → IsFull (items item rings turns count room i)
+unfolding LastItem
+items_last P item rings has complete full digit last turns count room [] i front closing other from rest enough many t split none quiet s is = absurd t.2
+items_last P item rings has complete full digit last turns count room (x ∷ []) i front closing other from rest enough many t split none quiet s is = item_full item rings turns count room i
+    (last count room x i front closing other from rest (subst (λ rs. positions_in rs ≡ room + 1) (append-nil (rings x)) many) t split none quiet s is)
+items_last P item rings has complete full digit last turns count room (x ∷ y ∷ more) i front closing other from rest enough many t split none quiet s is = go (comma_behind P x y more from rest t)
+    (λ n j f g left enough_left took split_too left_is. items_last P item rings has complete full digit last n (count - length (rings x)) (room - positions_in (rings x)) (y ∷ more) j f closing other g rest
+    enough_left left took split_too none quiet s left_is)
   where
-    go : (ys : List ℕ) × Took from Blank ys × Took ys (LineText ps ⨾ Blank) rest → Opened front from rest closing ps
-    go a = next (apart a.0 rest (LineText ps) Blank a.2)
+    left_of : FitsCounts count room (rings x) → positions_in (rings_of rings (y ∷ more)) ≡ (room - positions_in (rings x)) + 1
+    left_of fits = omega (arith, positions_of_both (rings x) (rings_of rings (y ∷ more)), fits.1, many)
+
+    go : (V : List ℕ) × Took from (Padded (P x)) (44 ∷ V) × Took V (Separated P (y ∷ more)) rest
+        → ((n : ℕ) (j : Input) (f g : List ℕ) → positions_in (rings_of rings (y ∷ more)) ≡ (room - positions_in (rings x)) + 1 → count - length (rings x) ≤ n → Took g (Separated P (y ∷ more)) rest → g ≡ f ++ pair closing
+        → j.left ≡ f ++ other → IsFull (items item rings n (count - length (rings x)) (room - positions_in (rings x)) j))
+        → IsFull (items item rings turns count room i)
+    go c again = made (within front c.1.0 44 c.0 closing (inr refl) (sym split ∙ c.1.1) (separated_digit P digit (y ∷ more) c.0 rest c.2) quiet)
       where
-        next : (ys : List ℕ) × Took a.0 (LineText ps) ys × Took ys Blank rest → Opened front from rest closing ps
-        next b = after_open (apart a.0 b.0 (Byte 40) (Separated PositionText ps ⨾ Byte 41) b.1)
-          where
-            after_open : (ys : List ℕ) × Took a.0 (Byte 40) ys × Took ys (Separated PositionText ps ⨾ Byte 41) b.0 → Opened front from rest closing ps
-            after_open c = listed (apart c.0 b.0 (Separated PositionText ps) (Byte 41) c.2)
-              where
-                opens_here : a.0 ≡ 40 ∷ c.0
-                opens_here = byte_is 40 a.0 c.0 c.1
+        made : Within front c.1.0 44 c.0 closing → IsFull (items item rings turns count room i)
+        made w = item_and_more P item rings has complete full turns count room x i (w.rest ++ other) enough
+            (c.1.0, at_front c.1.0 w.rest other front i.left 44 w.front_is is, c.1.2)
+            (λ n j enough_left fits j_is. again n j w.rest c.0 (left_of fits) enough_left c.2 w.left_is j_is)
 
-                made : Within front a.1.0 40 c.0 closing → Opened front from rest closing ps
-                made w = record {
-                  white = a.1.0;
-                  inside = w.rest;
-                  left = a.0;
-                  end = b.0;
-                  all_white = a.1.2;
-                  front_is = w.front_is;
-                  line_is = b.1;
-                  left_is = opens_here ∙ ap (λ l. 40 ∷ l) w.left_is;
-                  quiet = λ none. ap (list_any is_ascii_digit) b.2.1 ∙ none_of_both is_ascii_digit b.2.0 rest (blank_no_digit b.2.0 b.2.2) none;
-                }
-
-                listed : (ys : List ℕ) × Took c.0 (Separated PositionText ps) ys × Took ys (Byte 41) b.0 → Opened front from rest closing ps
-                listed d = made (within front a.1.0 40 c.0 closing (inl refl) (sym split ∙ (a.1.1 ∙ ap (λ l. a.1.0 ++ l) opens_here)) (separated_digit PositionText position_digit ps c.0 d.0 d.1) none)
-
-at_white : (white inside other front left : List ℕ) → front ≡ white ++ (40 ∷ inside) → left ≡ front ++ other → left ≡ white ++ (40 ∷ (inside ++ other))
-at_white white inside other front left e is = is ∙ (ap (λ f. f ++ other) e ∙ append_assoc white (40 ∷ inside) other)
-
-padded_line_last : (room : ℕ) (ps : List Position) (i : Input) (front closing other from rest : List ℕ) → length ps ≡ room + 1 → Took from (Padded (LineText ps)) rest → from ≡ front ++ pair closing → NoDigit rest → NoDigit closing → Stands other
-    → i.left ≡ front ++ other → IsFull (padded (line room) i)
-padded_line_last room ps i front closing other from rest many t split none quiet s is = go (opened_line ps front closing from rest t split quiet)
+-- ---- rings and elements, polygons
+ring_last : LastItem LineText ring alone
+unfolding LastItem ring line
+ring_last zero room x i front closing other from rest many t split none quiet s is = go (parenthesized PositionText x from rest t)
   where
-    go : Opened front from rest closing ps → IsFull (padded (line room) i)
-    go o = let j = after (prefix_len is_white i.left) i in
-        full_then (line room j) _ (line_last room ps j (40 ∷ o.inside) closing other o.left o.end many o.line_is o.left_is (o.quiet none) quiet s
-        (behind_white i o.white (40 ∷ (o.inside ++ other)) o.all_white (at_white o.white o.inside other front i.left o.front_is is) refl))
-
-no_part_last : (ps : List Position) (i : Input) (front closing other from rest : List ℕ) → Took from (Padded (LineText ps)) rest → from ≡ front ++ pair closing → NoDigit closing → i.left ≡ front ++ other
-    → IsFull {A = List (List Position)} (padded (expect 40 >> too_long) i)
-no_part_last ps i front closing other from rest t split none is = go (opened_line ps front closing from rest t split none)
-  where
-    go : Opened front from rest closing ps → IsFull {A = List (List Position)} (padded (expect 40 >> too_long) i)
-    go o = no_part i o.white (o.inside ++ other) o.all_white (at_white o.white o.inside other front i.left o.front_is is)
-
--- each line has a position
-line_long : (ps : List Position) (text rest : List ℕ) → Took text (LineText ps) rest → 0 < length ps
-line_long [] text rest t = go (apart text rest (Byte 40) (Separated PositionText [] ⨾ Byte 41) t)
-  where
-    go : (ys : List ℕ) × Took text (Byte 40) ys × Took ys (Separated PositionText [] ⨾ Byte 41) rest → 0 < 0
-    go a = absurd (apart a.0 rest (Separated PositionText []) (Byte 41) a.2).1.2
-line_long (p ∷ ps) text rest t = omega arith
-
-lines_long : (ls : List (List Position)) (from rest : List ℕ) → Took from (Separated LineText ls) rest → 0 < length (flat_map (λ l. l) ls)
-lines_long [] from rest t = absurd t.2
-lines_long (l ∷ []) from rest t = go (apart (apart from rest Blank (LineText l ⨾ Blank) t).0 rest (LineText l) Blank (apart from rest Blank (LineText l ⨾ Blank) t).2)
-  where
-    go : (zs : List ℕ) × Took (apart from rest Blank (LineText l ⨾ Blank) t).0 (LineText l) zs × Took zs Blank rest → 0 < length (l ++ [])
-    go b = longer (length l) (length (l ++ [])) (line_long l _ b.0 b.1) (length-append l [])
+    go : Parenthesized PositionText x from rest → IsFull {A = List Position} (padded (expect 40 >> too_long) i)
+    go o = made (within front o.white 40 o.list closing (inl refl) (sym split ∙ o.from_is) (separated_digit PositionText position_digit x o.list (41 ∷ o.end) o.items_are) quiet)
       where
-        longer : (m n : ℕ) → 0 < m → n ≡ m + 0 → 0 < n
-        longer m n h e = omega (arith, h, e)
-lines_long (l ∷ k ∷ more) from rest t = go (apart from rest (Padded (LineText l)) (Byte 44 ⨾ Separated LineText (k ∷ more)) t)
-  where
-    longer : (m n k : ℕ) → 0 < m → n ≡ m + k → 0 < n
-    longer m n k h e = omega (arith, h, e)
+        made : Within front o.white 40 o.list closing → IsFull {A = List Position} (padded (expect 40 >> too_long) i)
+        made w = no_ring i o.white (w.rest ++ other) o.all_white (at_front o.white w.rest other front i.left 40 w.front_is is)
+ring_last (suc count) room x i front closing other from rest many t split none quiet s is = list_last PositionText (separated position room) x closing other position_digit
+    (λ k f g more took split_too none_too k_is. separated_last PositionText position position_not_white position_read position_digit position_last room x k f closing other g more (ap length (sym (append-nil x)) ∙ many)
+    took split_too none_too quiet s k_is) i front from rest t split none quiet is
 
-    go : (ys : List ℕ) × Took from (Padded (LineText l)) ys × Took ys (Byte 44 ⨾ Separated LineText (k ∷ more)) rest → 0 < length (l ++ flat_map (λ z. z) (k ∷ more))
-    go a = next (apart from a.0 Blank (LineText l ⨾ Blank) a.1)
-      where
-        next : (ys : List ℕ) × Took from Blank ys × Took ys (LineText l ⨾ Blank) a.0 → 0 < length (l ++ flat_map (λ z. z) (k ∷ more))
-        next b = longer (length l) (length (l ++ flat_map (λ z. z) (k ∷ more))) (length (flat_map (λ z. z) (k ∷ more))) (line_long l b.0 (apart b.0 a.0 (LineText l) Blank b.2).0 (apart b.0 a.0 (LineText l) Blank b.2).1) (length-append l (flat_map (λ z. z) (k ∷ more)))
-
-parts_last : (count room : ℕ) (xs : List (List Position)) (i : Input) (front closing other from rest : List ℕ) → length (flat_map (λ l. l) xs) ≡ room + 1 → Took from (Separated LineText xs) rest → from ≡ front ++ pair closing
+parts_last : (count room : ℕ) (xs : List (List Position)) (i : Input) (front closing other from rest : List ℕ) → positions_in xs ≡ room + 1 → Took from (Separated LineText xs) rest → from ≡ front ++ pair closing
     → NoDigit rest → NoDigit closing → Stands other → i.left ≡ front ++ other → IsFull (parts count room i)
-unfolding parts
-parts_last count room [] i front closing other from rest many t split none quiet s is = absurd t.2
-parts_last zero room (x ∷ []) i front closing other from rest many t split none quiet s is = no_part_last x i front closing other from rest t split quiet is
-parts_last zero room (x ∷ y ∷ more) i front closing other from rest many t split none quiet s is = go (apart from rest (Padded (LineText x)) (Byte 44 ⨾ Separated LineText (y ∷ more)) t)
-  where
-    go : (ys : List ℕ) × Took from (Padded (LineText x)) ys × Took ys (Byte 44 ⨾ Separated LineText (y ∷ more)) rest → IsFull {A = List (List Position)} (padded (expect 40 >> too_long) i)
-    go a = no_part_last x i front closing other from a.0 a.1 split quiet is
-parts_last (suc count) room (x ∷ []) i front closing other from rest many t split none quiet s is = full_then (padded (line room) i) _
-    (padded_line_last room x i front closing other from rest (alone (length x) (length (x ++ [])) room (length-append x []) many) t split none quiet s is)
-  where
-    alone : (m n k : ℕ) → n ≡ m + 0 → n ≡ k + 1 → m ≡ k + 1
-    alone m n k e f = omega (arith, e, f)
-parts_last (suc count) room (x ∷ y ∷ more) i front closing other from rest many t split none quiet s is =
-    go (apart from rest (Padded (LineText x)) (Byte 44 ⨾ Separated LineText (y ∷ more)) t)
-    (λ r j f g few took split_too left_is. parts_last count r (y ∷ more) j f closing other g rest few took split_too none quiet s left_is)
-  where
-    go : (ys : List ℕ) × Took from (Padded (LineText x)) ys × Took ys (Byte 44 ⨾ Separated LineText (y ∷ more)) rest
-        → ((r : ℕ) (j : Input) (f g : List ℕ) → length (flat_map (λ l. l) (y ∷ more)) ≡ r + 1 → Took g (Separated LineText (y ∷ more)) rest → g ≡ f ++ pair closing → j.left ≡ f ++ other → IsFull (parts count r j)) → IsFull (parts (suc count) room i)
-    go a again = next (apart a.0 rest (Byte 44) (Separated LineText (y ∷ more)) a.2)
-      where
-        next : (ys : List ℕ) × Took a.0 (Byte 44) ys × Took ys (Separated LineText (y ∷ more)) rest → IsFull (parts (suc count) room i)
-        next b = read (within front a.1.0 44 b.0 closing (inr refl) (sym split ∙ (a.1.1 ∙ ap (λ l. a.1.0 ++ l) (byte_is 44 a.0 b.0 b.1))) (separated_digit LineText line_digit (y ∷ more) b.0 rest b.2) quiet)
-            (lines_long (y ∷ more) b.0 rest b.2) (length-append x (flat_map (λ l. l) (y ∷ more)))
-          where
-            few_of : (m k n t : ℕ) → 0 < k → t ≡ m + k → t ≡ n + 1 → m ≤ n
-            few_of m k n t long e f = omega (arith, long, e, f)
+parts_last count room xs i front closing other from rest many t split none quiet s is = rw (parts_are_items count room i)
+    (items_last LineText ring alone one_ring ring_read ring_full line_digit ring_last count count room xs i front closing other from rest (le_refl count) (ap positions_in (alone_of xs) ∙ many) t split none quiet s is)
 
-            left_of : (m k n t : ℕ) → 0 < k → t ≡ m + k → t ≡ n + 1 → k ≡ (n - m) + 1
-            left_of m k n t long e f = omega (arith, long, e, f)
+polygon_last : LastItem PolygonText polygon itself
+unfolding LastItem polygon
+polygon_last count room x i front closing other from rest many t split none quiet s is = list_last LineText (parts count room) x closing other line_digit
+    (λ k f g more took split_too none_too k_is. parts_last count room x k f closing other g more many took split_too none_too quiet s k_is) i front from rest t split none quiet is
 
-            read : Within front a.1.0 44 b.0 closing → 0 < length (flat_map (λ l. l) (y ∷ more)) → length (x ++ flat_map (λ l. l) (y ∷ more)) ≡ length x + length (flat_map (λ l. l) (y ∷ more)) → IsFull (parts (suc count) room i)
-            read w long total =
-                let behind = 44 ∷ (w.rest ++ other) in
-                let k = length (flat_map (λ l. l) (y ∷ more)) in
-                let sum = length (x ++ flat_map (λ l. l) (y ∷ more)) in
-                then_full (λ z j. (z ≡ x) × (j.left ≡ behind)) (padded (line room) i) _
-                (padded_line_read room x i behind (few_of (length x) k room sum long total many)
-                (a.1.0, is ∙ (ap (λ f. f ++ other) w.front_is ∙ append_assoc a.1.0 (44 ∷ w.rest) other), a.1.2) (closed_by_comma (w.rest ++ other)))
-                (λ z j known. rw (ap (begins_with (λ c. c == 44)) known.1)
-                (full_then (parts count (room - length z) (after 1 j)) _ (again (room - length z) (after 1 j) w.rest b.0
-                (left_of (length x) k room sum long total many ∙ ap (λ v. (room - length v) + 1) (sym known.0)) b.2 w.left_is (ap (drop 1) known.1))))
+polygons_last : (turns count room : ℕ) (xs : List (List (List Position))) (i : Input) (front closing other from rest : List ℕ) → count ≤ turns → positions_in (joined_rings xs) ≡ room + 1 → Took from (Separated PolygonText xs) rest
+    → from ≡ front ++ pair closing → NoDigit rest → NoDigit closing → Stands other → i.left ≡ front ++ other → IsFull (polygons turns count room i)
+polygons_last turns count room xs i front closing other from rest enough many t split none quiet s is = rw (polygons_are_items turns count room i)
+    (items_last PolygonText polygon itself rings_of_polygon polygon_read polygon_full polygon_digit polygon_last turns count room xs i front closing other from rest enough many t split none quiet s is)
 
 -- ---- whole texts
 points_named : Named (codes "MULTIPOINT") (separated point position_limit)
@@ -350,6 +285,7 @@ lasting (MultiPoint []) text front closing other t split none s counted = absurd
 lasting (LineString []) text front closing other t split none s counted = absurd (none_long position_limit counted)
 lasting (MultiLineString []) text front closing other t split none s counted = absurd (none_long position_limit counted)
 lasting (Polygon []) text front closing other t split none s counted = absurd (none_long position_limit counted)
+lasting (MultiPolygon []) text front closing other t split none s counted = absurd (none_long position_limit counted)
 lasting (MultiPoint (p ∷ ps)) text front closing other t split none s counted = whole_last (codes "MULTIPOINT") PointText p ps text front closing other (separated point position_limit) refl (zero-lt-suc 9) points_named point_digit
     (layout (codes "MULTIPOINT") PointText p ps text t) split none
     (λ i f from rest took split_too quiet is. separated_last PointText point point_not_white point_read point_digit point_last position_limit (p ∷ ps) i f closing other from rest counted took split_too quiet none s is)
@@ -362,6 +298,9 @@ lasting (MultiLineString (l ∷ ls)) text front closing other t split none s cou
 lasting (Polygon (r ∷ rs)) text front closing other t split none s counted = whole_last (codes "POLYGON") LineText r rs text front closing other (parts part_limit position_limit) refl (zero-lt-suc 6) rings_named line_digit
     (layout (codes "POLYGON") LineText r rs text t) split none
     (λ i f from rest took split_too quiet is. parts_last part_limit position_limit (r ∷ rs) i f closing other from rest counted took split_too quiet none s is)
+lasting (MultiPolygon (e ∷ es)) text front closing other t split none s counted = whole_last (codes "MULTIPOLYGON") PolygonText e es text front closing other (polygons part_limit part_limit position_limit) refl (zero-lt-suc 11)
+    polygons_named polygon_digit (layout (codes "MULTIPOLYGON") PolygonText e es text t) split none
+    (λ i f from rest took split_too quiet is. polygons_last part_limit part_limit position_limit (e ∷ es) i f closing other from rest (le_refl part_limit) counted took split_too quiet none s is)
 
 no_digit : (xs : List ℕ) → list_any begins_more xs ≡ false → NoDigit xs
 no_digit [] e = refl

@@ -1,4 +1,5 @@
 pub mod TextSteps
+pub mod RoomLists
 pub mod TextSound
 pub mod TextComplete
 pub mod TextPlaces

@@ -1,19 +1,20 @@
 -- A text whose last parenthesis opens a part too many is read as too long, whatever stands behind the parenthesis.
-use Rattle.std.proofs.Common.{◌≡◌, refl, sym, ap, ◌∙◌, subst, ℕ, zero, suc, ◌+◌, ◌-◌, ◌<◌, ◌≤◌, ◌==◌, ◌||◌, ◌⊎◌, inl, inr, Bool, true, false, List, [], ◌∷◌, ◌++◌, length, take, drop, map, Err, codes, append_assoc, append-nil, le_of_suc-le-suc, zero-lt-suc, arith}
+use Rattle.std.proofs.Common.{◌≡◌, refl, sym, ap, ◌∙◌, subst, ℕ, zero, suc, ◌+◌, ◌-◌, ◌<◌, ◌≤◌, ◌==◌, ◌||◌, Bool, true, false, List, [], ◌∷◌, ◌++◌, length, take, drop, map, Err, codes, append_assoc, append-nil, length-append, le_refl, zero-lt-suc, arith}
 use Rattle.std.specs.List.{list_all, list_any, prefix_len}
 use Rattle.std.specs.Char.{is_ascii_alphabetic, is_ascii_digit}
 use Rattle.std.specs.Char.{to_ascii_lowercase}
 use Rattle.std.specs.Str.{str_to_ascii_lowercase}
 use Rattle.std.proofs.lemmas.Bool.{true≢false, and_parts, or_parts}
 use Rattle.geometry_model.specs.Points.{Position}
-use Rattle.geometry_model.specs.Geometries.{Geometry, Point, MultiPoint, LineString, MultiLineString, Polygon}
-use Rattle.geometry_model.specs.WellKnownText.{begins_with, Rule, ◌⨾◌, Byte, Blank, Padded, Enclosed, Word, Separated, PositionText, LineText, Body, Writes, is_white, written_parts, position_limit, part_limit}
-use Rattle.geometry_model.specs.TextReading.{Input, Reader, after, too_long, ◌>>◌, expect, padded, line, parts, body, lists, typed, tagged, whole, outcome, read_text}
+use Rattle.geometry_model.specs.Geometries.{Geometry, Point, MultiPoint, LineString, MultiLineString, Polygon, MultiPolygon, joined_rings}
+use Rattle.geometry_model.specs.WellKnownText.{begins_with, Rule, ◌⨾◌, Byte, Blank, Padded, Enclosed, Word, Separated, PositionText, LineText, PolygonText, Body, Writes, is_white, written_parts, position_limit, part_limit}
+use Rattle.geometry_model.specs.TextReading.{Input, Reader, after, too_long, ◌>>◌, expect, padded, enclosed, parts, polygon, polygons, body, lists, nested_lists, typed, tagged, whole, outcome, read_text}
 use Rattle.geometry_model.specs.TextRefusals.{begins_more, HasTooManyParts}
 use Rattle.geometry_model.specs.declared.text_faults.TextFault.TheVariants.{TooLong}
+use Rattle.text_laws.proofs.RoomLists.{positions_in, items, ring, alone, itself, rings_of, alone_of, parts_are_items, polygons_are_items, FitsCounts}
 use Rattle.text_laws.proofs.TextSteps.{Took, apart, byte_is, no_run, read_run}
-use Rattle.text_laws.proofs.TextComplete.{expect_read, closed_by_comma, white_byte, letters, word_begins, same_length, named, padded_line_read}
-use Rattle.text_laws.proofs.FullTexts.{IsFull, full_then, then_full, full_is, fits_or_not, padded_line_full}
+use Rattle.text_laws.proofs.TextComplete.{expect_read, white_byte, letters, word_begins, same_length, named, ReadsItem, HasRings, ring_read, one_ring, polygon_read, rings_of_polygon}
+use Rattle.text_laws.proofs.FullTexts.{IsFull, full_then, then_full, full_is, FullItem, item_full, item_and_more, comma_behind, ring_full, polygon_full}
 
 -- ---- the last opening parenthesis of a text
 abbrev opens : ℕ → Bool
@@ -67,76 +68,139 @@ opening (x ∷ xs) tail other (w ∷ ws) V all e = go (opening xs tail other ws 
     go : Opening (xs ++ (40 ∷ other)) ws → Opening ((x ∷ xs) ++ (40 ∷ other)) (w ∷ ws)
     go o = record { more = o.more; is = ap (λ z. z ∷ (xs ++ (40 ∷ other))) (head_of x w (xs ++ (40 ∷ tail)) (ws ++ (40 ∷ V)) e) ∙ ap (λ l. w ∷ l) o.is }
 
--- a line's text opens
-line_opens : (ps : List Position) (from rest : List ℕ) (t : Took from (Padded (LineText ps)) rest) → (V : List ℕ) × (from ≡ t.2.0 ++ (40 ∷ V)) × (list_all is_white t.2.0 ≡ true)
-unfolding apart
-line_opens ps from rest t =
-    let a = apart from rest Blank (LineText ps ⨾ Blank) t in
-    let b = apart a.0 rest (LineText ps) Blank a.2 in
-    let c = apart a.0 b.0 (Byte 40) (Separated PositionText ps ⨾ Byte 41) b.1 in
-    (c.0, a.1.1 ∙ ap (λ l. t.2.0 ++ l) (byte_is 40 a.0 c.0 c.1), a.1.2)
+-- a list in parentheses, with white space around it
+pub record Parenthesized {A : Type 0} (P : A → Rule) (xs : List A) (from rest : List ℕ) : Type 0 where
+  pub white : List ℕ
+  pub list : List ℕ
+  pub end : List ℕ
+  pub from_is : from ≡ white ++ (40 ∷ list)
+  pub all_white : list_all is_white white ≡ true
+  pub items_are : Took list (Separated P xs) (41 ∷ end)
+  pub end_blank : Took end Blank rest
+
+pub parenthesized : {A : Type 0} (P : A → Rule) (xs : List A) (from rest : List ℕ) → Took from (Padded (Enclosed (Separated P xs))) rest → Parenthesized P xs from rest
+parenthesized P xs from rest t =
+    let a = apart from rest Blank (Enclosed (Separated P xs) ⨾ Blank) t in
+    let b = apart a.0 rest (Enclosed (Separated P xs)) Blank a.2 in
+    let c = apart a.0 b.0 (Byte 40) (Separated P xs ⨾ Byte 41) b.1 in
+    let d = apart c.0 b.0 (Separated P xs) (Byte 41) c.2 in
+    record {
+      white = a.1.0;
+      list = c.0;
+      end = b.0;
+      from_is = a.1.1 ∙ ap (λ l. a.1.0 ++ l) (byte_is 40 a.0 c.0 c.1);
+      all_white = a.1.2;
+      items_are = subst (Took c.0 (Separated P xs)) (byte_is 41 d.0 b.0 d.2) d.1;
+      end_blank = b.2;
+    }
 
 any_open : (white V : List ℕ) → list_any opens (white ++ (40 ∷ V)) ≡ true
 any_open [] V = refl
 any_open (w ∷ ws) V = or_last (opens w) (list_any opens (ws ++ (40 ∷ V))) (any_open ws V)
 
-separated_opens : (xs : List (List Position)) (from rest : List ℕ) → Took from (Separated LineText xs) rest → list_any opens from ≡ true
-separated_opens [] from rest t = absurd t.2
-separated_opens (x ∷ []) from rest t = let o = line_opens x from rest t in ap (list_any opens) o.1 ∙ any_open t.2.0 o.0
-separated_opens (x ∷ y ∷ more) from rest t = go (apart from rest (Padded (LineText x)) (Byte 44 ⨾ Separated LineText (y ∷ more)) t)
-  where
-    go : (ys : List ℕ) × Took from (Padded (LineText x)) ys × Took ys (Byte 44 ⨾ Separated LineText (y ∷ more)) rest → list_any opens from ≡ true
-    go a = let o = line_opens x from a.0 a.1 in ap (list_any opens) o.1 ∙ any_open a.1.2.0 o.0
+-- an item has a parenthesis
+OpensItem : {A : Type 0} → (A → Rule) → Type 0
+OpensItem {A} P = (x : A) (from rest : List ℕ) → Took from (Padded (P x)) rest → list_any opens from ≡ true
 
--- ---- parts
--- where no part may come, its parenthesis is enough
-pub no_part : (i : Input) (white V : List ℕ) → list_all is_white white ≡ true → i.left ≡ white ++ (40 ∷ V) → IsFull {A = List (List Position)} (padded (expect 40 >> too_long) i)
-no_part i white V all is =
+list_opens : {A : Type 0} (P : A → Rule) (xs : List A) (from rest : List ℕ) → Took from (Padded (Enclosed (Separated P xs))) rest → list_any opens from ≡ true
+list_opens P xs from rest t = let p = parenthesized P xs from rest t in ap (list_any opens) p.from_is ∙ any_open p.white p.list
+
+separated_opens : {A : Type 0} (P : A → Rule) → OpensItem P → (xs : List A) (from rest : List ℕ) → Took from (Separated P xs) rest → list_any opens from ≡ true
+unfolding OpensItem
+separated_opens P item_opens [] from rest t = absurd t.2
+separated_opens P item_opens (x ∷ []) from rest t = item_opens x from rest t
+separated_opens P item_opens (x ∷ y ∷ more) from rest t = let c = comma_behind P x y more from rest t in item_opens x from (44 ∷ c.0) c.1
+
+line_opens : OpensItem LineText
+unfolding OpensItem
+line_opens x = list_opens PositionText x
+
+polygon_opens : OpensItem PolygonText
+unfolding OpensItem
+polygon_opens x = list_opens LineText x
+
+-- ---- items
+-- a parenthesis and a list that is too long
+enclosed_open : {A : Type 0} (inner : Reader (List A)) (i : Input) (L : List ℕ) → i.left ≡ 40 ∷ L → ((j : Input) → j.left ≡ L → IsFull (inner j)) → IsFull (enclosed inner i)
+enclosed_open inner i L is full = then_full (λ _ j. j.left ≡ L) (expect 40 i) _ (expect_read 40 i L is) (λ _ j j_is. full_then (inner j) _ (full j j_is))
+
+pub padded_open : {A : Type 0} (inner : Reader (List A)) (i : Input) (white L : List ℕ) → list_all is_white white ≡ true → i.left ≡ white ++ (40 ∷ L) → ((j : Input) → j.left ≡ L → IsFull (inner j))
+    → IsFull (padded (enclosed inner) i)
+padded_open inner i white L all is full =
+    let j = after (prefix_len is_white i.left) i in
+    full_then (enclosed inner j) _ (enclosed_open inner j L (read_run is_white i.left white (40 ∷ L) is all refl).1 full)
+
+-- where no ring may come, its parenthesis is enough
+pub no_ring : (i : Input) (white V : List ℕ) → list_all is_white white ≡ true → i.left ≡ white ++ (40 ∷ V) → IsFull {A = List Position} (padded (expect 40 >> too_long) i)
+no_ring i white V all is =
     let j = after (prefix_len is_white i.left) i in
     let j_is : j.left ≡ 40 ∷ V = (read_run is_white i.left white (40 ∷ V) is all refl).1 in
-    full_then {A = List (List Position)} ((expect 40 >> too_long) j) _
+    full_then {A = List Position} ((expect 40 >> too_long) j) _
     (then_full (λ _ k. k.left ≡ V) (expect 40 j) (λ _. too_long) (expect_read 40 j V j_is) (λ _ k known. tt))
+
+-- behind the first bytes of the front
+pub at_front : (P inside other front left : List ℕ) (c : ℕ) → front ≡ P ++ (c ∷ inside) → left ≡ front ++ other → left ≡ P ++ (c ∷ (inside ++ other))
+at_front P inside other front left c e is = is ∙ (ap (λ f. f ++ other) e ∙ append_assoc P (c ∷ inside) other)
+
+-- an item whose last parenthesis opens a ring too many
+OpenItem : {A : Type 0} → (A → Rule) → (ℕ → ℕ → Reader A) → (A → List (List Position)) → Type 0
+OpenItem {A} P item rings = (count room : ℕ) (x : A) (i : Input) (front tail other from rest : List ℕ) → count < length (rings x) → from ≡ front ++ (40 ∷ tail) → list_any opens tail ≡ false
+    → Took from (Padded (P x)) rest → i.left ≡ front ++ (40 ∷ other) → IsFull (padded (item count room) i)
+
+open_items : {A : Type 0} (P : A → Rule) (item : ℕ → ℕ → Reader A) (rings : A → List (List Position)) → HasRings P rings → ReadsItem P item rings → FullItem P item rings → OpensItem P → OpenItem P item rings
+    → (turns count room : ℕ) (xs : List A) (i : Input) (front tail other from rest : List ℕ) → count ≤ turns → count < length (rings_of rings xs) → from ≡ front ++ (40 ∷ tail) → list_any opens tail ≡ false
+    → Took from (Separated P xs) rest → i.left ≡ front ++ (40 ∷ other) → IsFull (items item rings turns count room i)
+unfolding OpenItem
+open_items P item rings has complete full item_opens last turns count room [] i front tail other from rest enough many split none t is = absurd t.2
+open_items P item rings has complete full item_opens last turns count room (x ∷ []) i front tail other from rest enough many split none t is = item_full item rings turns count room i
+    (last count room x i front tail other from rest (subst (λ rs. count < length rs) (append-nil (rings x)) many) split none t is)
+open_items P item rings has complete full item_opens last turns count room (x ∷ y ∷ more) i front tail other from rest enough many split none t is = go (comma_behind P x y more from rest t)
+    (λ s j f g few enough_left split_too took left_is. open_items P item rings has complete full item_opens last s (count - length (rings x)) (room - positions_in (rings x)) (y ∷ more) j f tail other g rest enough_left few split_too none took left_is)
+  where
+    fewer : FitsCounts count room (rings x) → count - length (rings x) < length (rings_of rings (y ∷ more))
+    fewer fits = omega (arith, length-append (rings x) (rings_of rings (y ∷ more)), fits.0, many)
+
+    go : (V : List ℕ) × Took from (Padded (P x)) (44 ∷ V) × Took V (Separated P (y ∷ more)) rest
+        → ((s : ℕ) (j : Input) (f g : List ℕ) → count - length (rings x) < length (rings_of rings (y ∷ more)) → count - length (rings x) ≤ s → g ≡ f ++ (40 ∷ tail) → Took g (Separated P (y ∷ more)) rest
+        → j.left ≡ f ++ (40 ∷ other) → IsFull (items item rings s (count - length (rings x)) (room - positions_in (rings x)) j))
+        → IsFull (items item rings turns count room i)
+    go c again = made (behind front c.1.0 44 c.0 tail (sym split ∙ c.1.1) (separated_opens P item_opens (y ∷ more) c.0 rest c.2) none)
+      where
+        made : Behind front c.1.0 44 c.0 tail → IsFull (items item rings turns count room i)
+        made b = item_and_more P item rings has complete full turns count room x i (b.rest ++ (40 ∷ other)) enough
+            (c.1.0, at_front c.1.0 b.rest (40 ∷ other) front i.left 44 b.front_is is, c.1.2)
+            (λ s j enough_left fits j_is. again s j b.rest c.0 (fewer fits) enough_left b.left_is c.2 j_is)
+
+-- ---- rings and elements, polygons
+open_ring : OpenItem LineText ring alone
+unfolding OpenItem ring
+open_ring zero room x i front tail other from rest many split none t is =
+    let o = parenthesized PositionText x from rest t in
+    let p = opening front tail other o.white o.list o.all_white (sym split ∙ o.from_is) in
+    no_ring i o.white p.more o.all_white (is ∙ p.is)
+open_ring (suc count) room x i front tail other from rest many split none t is = absurd (omega (arith, many))
 
 open_parts : (count room : ℕ) (xs : List (List Position)) (i : Input) (front tail other from rest : List ℕ) → count < length xs → from ≡ front ++ (40 ∷ tail) → list_any opens tail ≡ false
     → Took from (Separated LineText xs) rest → i.left ≡ front ++ (40 ∷ other) → IsFull (parts count room i)
-unfolding parts
-open_parts count room [] i front tail other from rest many split none t is = absurd t.2
-open_parts zero room (x ∷ []) i front tail other from rest many split none t is =
-    let o = line_opens x from rest t in
-    let p = opening front tail other t.2.0 o.0 o.2 (sym split ∙ o.1) in
-    no_part i t.2.0 p.more o.2 (is ∙ p.is)
-open_parts zero room (x ∷ y ∷ more) i front tail other from rest many split none t is = go (apart from rest (Padded (LineText x)) (Byte 44 ⨾ Separated LineText (y ∷ more)) t)
+open_parts count room xs i front tail other from rest many split none t is = rw (parts_are_items count room i)
+    (open_items LineText ring alone one_ring ring_read ring_full line_opens open_ring count count room xs i front tail other from rest (le_refl count)
+    (subst (λ rs. count < length rs) (sym (alone_of xs)) many) split none t is)
+
+open_polygon : OpenItem PolygonText polygon itself
+unfolding OpenItem polygon
+open_polygon count room x i front tail other from rest many split none t is = go (parenthesized LineText x from rest t)
   where
-    go : (ys : List ℕ) × Took from (Padded (LineText x)) ys × Took ys (Byte 44 ⨾ Separated LineText (y ∷ more)) rest → IsFull {A = List (List Position)} (padded (expect 40 >> too_long) i)
-    go a =
-        let o = line_opens x from a.0 a.1 in
-        let p = opening front tail other a.1.2.0 o.0 o.2 (sym split ∙ o.1) in
-        no_part i a.1.2.0 p.more o.2 (is ∙ p.is)
-open_parts (suc count) room (x ∷ []) i front tail other from rest many split none t is = absurd (omega (arith, many))
-open_parts (suc count) room (x ∷ y ∷ more) i front tail other from rest many split none t is =
-    go (apart from rest (Padded (LineText x)) (Byte 44 ⨾ Separated LineText (y ∷ more)) t) (fits_or_not (length x) room)
-    (λ r j f g took split_too left_is. open_parts count r (y ∷ more) j f tail other g rest (le_of_suc-le-suc many) split_too none took left_is)
-  where
-    go : (ys : List ℕ) × Took from (Padded (LineText x)) ys × Took ys (Byte 44 ⨾ Separated LineText (y ∷ more)) rest → (length x ≤ room) ⊎ (room < length x)
-        → ((r : ℕ) (j : Input) (f g : List ℕ) → Took g (Separated LineText (y ∷ more)) rest → g ≡ f ++ (40 ∷ tail) → j.left ≡ f ++ (40 ∷ other) → IsFull (parts count r j))
-        → IsFull (parts (suc count) room i)
-    go a fits again = made fits
+    go : Parenthesized LineText x from rest → IsFull (padded (enclosed (parts count room)) i)
+    go o = made (behind front o.white 40 o.list tail (sym split ∙ o.from_is) (separated_opens LineText line_opens x o.list (41 ∷ o.end) o.items_are) none)
       where
-        b : (ys : List ℕ) × Took a.0 (Byte 44) ys × Took ys (Separated LineText (y ∷ more)) rest
-        b = apart a.0 rest (Byte 44) (Separated LineText (y ∷ more)) a.2
+        made : Behind front o.white 40 o.list tail → IsFull (padded (enclosed (parts count room)) i)
+        made b = padded_open (parts count room) i o.white (b.rest ++ (40 ∷ other)) o.all_white (at_front o.white b.rest (40 ∷ other) front i.left 40 b.front_is is)
+            (λ k k_is. open_parts count room x k b.rest tail other o.list (41 ∷ o.end) many b.left_is none o.items_are k_is)
 
-        found : Behind front a.1.0 44 b.0 tail
-        found = behind front a.1.0 44 b.0 tail (sym split ∙ (a.1.1 ∙ ap (λ l. a.1.0 ++ l) (byte_is 44 a.0 b.0 b.1))) (separated_opens (y ∷ more) b.0 rest b.2) none
-
-        here : Took i.left (Padded (LineText x)) (44 ∷ (found.rest ++ (40 ∷ other)))
-        here = (a.1.0, is ∙ (ap (λ f. f ++ (40 ∷ other)) found.front_is ∙ append_assoc a.1.0 (44 ∷ found.rest) (40 ∷ other)), a.1.2)
-
-        made : (length x ≤ room) ⊎ (room < length x) → IsFull (parts (suc count) room i)
-        made (inr much) = full_then (padded (line room) i) _ (padded_line_full room x i (44 ∷ (found.rest ++ (40 ∷ other))) much here (closed_by_comma (found.rest ++ (40 ∷ other))))
-        made (inl few) = then_full (λ z j. (z ≡ x) × (j.left ≡ 44 ∷ (found.rest ++ (40 ∷ other)))) (padded (line room) i) _
-            (padded_line_read room x i (44 ∷ (found.rest ++ (40 ∷ other))) few here (closed_by_comma (found.rest ++ (40 ∷ other))))
-            (λ z j known. rw (ap (begins_with (λ c. c == 44)) known.1)
-            (full_then (parts count (room - length z) (after 1 j)) _ (again (room - length z) (after 1 j) found.rest b.0 b.2 found.left_is (ap (drop 1) known.1))))
+open_polygons : (turns count room : ℕ) (xs : List (List (List Position))) (i : Input) (front tail other from rest : List ℕ) → count ≤ turns → count < length (joined_rings xs) → from ≡ front ++ (40 ∷ tail)
+    → list_any opens tail ≡ false → Took from (Separated PolygonText xs) rest → i.left ≡ front ++ (40 ∷ other) → IsFull (polygons turns count room i)
+open_polygons turns count room xs i front tail other from rest enough many split none t is = rw (polygons_are_items turns count room i)
+    (open_items PolygonText polygon itself rings_of_polygon polygon_read polygon_full polygon_opens open_polygon turns count room xs i front tail other from rest enough many split none t is)
 
 -- ---- the whole text
 -- behind the name: white space, the list's parenthesis and the parts
@@ -148,8 +212,7 @@ body_open inner i white L all is full =
     let no_letter : prefix_len is_ascii_alphabetic left ≡ 0 = no_run is_ascii_alphabetic left (ap (begins_with is_ascii_alphabetic) left_is) in
     let past : drop (prefix_len is_ascii_alphabetic left) left ≡ 40 ∷ L = ap (λ n. drop n left) no_letter ∙ left_is in
     let k = after (prefix_len is_ascii_alphabetic left) (after (prefix_len is_white i.left) i) in
-    rw (ap (λ n. length (take n left) == 0) no_letter)
-    (then_full (λ _ j. j.left ≡ L) (expect 40 k) _ (expect_read 40 k L past) (λ _ j j_is. full_then (inner j) _ (full j j_is)))
+    rw (ap (λ n. length (take n left) == 0) no_letter) (enclosed_open inner k L past full)
 
 pub not_letter : (white L : List ℕ) → list_all is_white white ≡ true → begins_with is_ascii_alphabetic (white ++ (40 ∷ L)) ≡ false
 not_letter [] L all = refl
@@ -248,16 +311,30 @@ rings_named at n i w full =
     )
     (full_then (lists i) _ full)
 
-whole_open : (own : List ℕ) (ls : List (List Position)) (text front tail other : List ℕ) → list_all is_ascii_alphabetic (map to_ascii_lowercase own) ≡ true → 0 < length own
-    → Named own (parts part_limit position_limit) → Layout own LineText ls text → text ≡ front ++ (40 ∷ tail) → list_any opens tail ≡ false → part_limit < length ls
+pub polygons_named : Named (codes "MULTIPOLYGON") (polygons part_limit part_limit position_limit)
+unfolding typed
+polygons_named at n i w full =
+    rw (
+      named n (codes "MULTIPOLYGON") (codes "POINT") w,
+      named n (codes "MULTIPOLYGON") (codes "MULTIPOINT") w,
+      named n (codes "MULTIPOLYGON") (codes "LINESTRING") w,
+      named n (codes "MULTIPOLYGON") (codes "MULTILINESTRING") w,
+      named n (codes "MULTIPOLYGON") (codes "POLYGON") w,
+      named n (codes "MULTIPOLYGON") (codes "MULTIPOLYGON") w,
+    )
+    (full_then (nested_lists i) _ full)
+
+whole_open : {A : Type 0} (own : List ℕ) (P : A → Rule) (inner : Reader (List A)) (xs : List A) (text front tail other : List ℕ) → list_all is_ascii_alphabetic (map to_ascii_lowercase own) ≡ true → 0 < length own
+    → Named own inner → OpensItem P → Layout own P xs text → text ≡ front ++ (40 ∷ tail) → list_any opens tail ≡ false
+    → ((k : Input) (f g rest : List ℕ) → g ≡ f ++ (40 ∷ tail) → Took g (Separated P xs) rest → k.left ≡ f ++ (40 ∷ other) → IsFull (inner k))
     → IsFull (whole (record { left = front ++ (40 ∷ other); at = 0 }))
-whole_open own ls text front tail other letters_are long named_full y split none many = go
-    (behind front (y.before ++ (y.name ++ y.white)) 40 y.list tail (sym split ∙ y.text_is) (separated_opens ls y.list (41 ∷ y.end) y.items_are) none)
+whole_open own P inner xs text front tail other letters_are long named_full item_opens y split none full = go
+    (behind front (y.before ++ (y.name ++ y.white)) 40 y.list tail (sym split ∙ y.text_is) (separated_opens P item_opens xs y.list (41 ∷ y.end) y.items_are) none)
   where
     go : Behind front (y.before ++ (y.name ++ y.white)) 40 y.list tail → IsFull (whole (record { left = front ++ (40 ∷ other); at = 0 }))
-    go b = whole_by_list own LineText ls text (parts part_limit position_limit) letters_are long named_full y (record { left = front ++ (40 ∷ other); at = 0 }) (b.rest ++ (40 ∷ other))
-        (ap (λ f. f ++ (40 ∷ other)) b.front_is ∙ append_assoc (y.before ++ (y.name ++ y.white)) (40 ∷ b.rest) (40 ∷ other))
-        (λ k k_is. open_parts part_limit position_limit ls k b.rest tail other y.list (41 ∷ y.end) many b.left_is none y.items_are k_is)
+    go b = whole_by_list own P xs text inner letters_are long named_full y (record { left = front ++ (40 ∷ other); at = 0 }) (b.rest ++ (40 ∷ other))
+        (at_front (y.before ++ (y.name ++ y.white)) b.rest (40 ∷ other) front (front ++ (40 ∷ other)) 40 b.front_is refl)
+        (λ k k_is. full k b.rest y.list (41 ∷ y.end) b.left_is y.items_are k_is)
 
 no_parts : (m n : ℕ) → m ≡ 0 → m ≡ n + 1 → ⊥
 no_parts m n e k = omega (arith, e, k)
@@ -268,11 +345,17 @@ opened (Point p) text front tail other t split none counted = absurd (no_parts 0
 opened (MultiPoint ps) text front tail other t split none counted = absurd (no_parts 0 part_limit refl counted)
 opened (LineString ps) text front tail other t split none counted = absurd (no_parts 0 part_limit refl counted)
 opened (MultiLineString []) text front tail other t split none counted = absurd (no_parts 0 part_limit refl counted)
+opened (MultiPolygon []) text front tail other t split none counted = absurd (no_parts 0 part_limit refl counted)
 opened (Polygon []) text front tail other t split none counted = absurd (no_parts 0 part_limit refl counted)
-opened (MultiLineString (l ∷ ls)) text front tail other t split none counted = whole_open (codes "MULTILINESTRING") (l ∷ ls) text front tail other refl (zero-lt-suc 14) lines_named
-    (layout (codes "MULTILINESTRING") LineText l ls text t) split none (omega (arith, counted))
-opened (Polygon (r ∷ rs)) text front tail other t split none counted = whole_open (codes "POLYGON") (r ∷ rs) text front tail other refl (zero-lt-suc 6) rings_named
-    (layout (codes "POLYGON") LineText r rs text t) split none (omega (arith, counted))
+opened (MultiLineString (l ∷ ls)) text front tail other t split none counted = whole_open (codes "MULTILINESTRING") LineText (parts part_limit position_limit) (l ∷ ls) text front tail other refl (zero-lt-suc 14) lines_named line_opens
+    (layout (codes "MULTILINESTRING") LineText l ls text t) split none
+    (λ k f g rest split_too took is. open_parts part_limit position_limit (l ∷ ls) k f tail other g rest (omega (arith, counted)) split_too none took is)
+opened (Polygon (r ∷ rs)) text front tail other t split none counted = whole_open (codes "POLYGON") LineText (parts part_limit position_limit) (r ∷ rs) text front tail other refl (zero-lt-suc 6) rings_named line_opens
+    (layout (codes "POLYGON") LineText r rs text t) split none
+    (λ k f g rest split_too took is. open_parts part_limit position_limit (r ∷ rs) k f tail other g rest (omega (arith, counted)) split_too none took is)
+opened (MultiPolygon (e ∷ es)) text front tail other t split none counted = whole_open (codes "MULTIPOLYGON") PolygonText (polygons part_limit part_limit position_limit) (e ∷ es) text front tail other refl (zero-lt-suc 11)
+    polygons_named polygon_opens (layout (codes "MULTIPOLYGON") PolygonText e es text t) split none
+    (λ k f g rest split_too took is. open_polygons part_limit part_limit position_limit (e ∷ es) k f tail other g rest (le_refl part_limit) (omega (arith, counted)) split_too none took is)
 
 no_opening : (xs : List ℕ) → list_any begins_more xs ≡ false → list_any opens xs ≡ false
 no_opening [] e = refl

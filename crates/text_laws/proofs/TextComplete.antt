@@ -1,6 +1,6 @@
 -- What is spelled is read.
-use Rattle.std.proofs.Common.{◌≡◌, refl, sym, ap, ap₂, ◌∙◌, subst, ℕ, zero, suc, ◌+◌, ◌-◌, ◌<◌, ◌≤◌, ◌==◌, ◌⊎◌, inl, inr, ℤ, Bool, true, false, List, [], ◌∷◌, ◌++◌, length, take, drop, map, Option, Some, None, Result, Ok, Err, nat_lt, codes, if◌then◌else◌, length-append, append-nil, append_assoc, suc-le-suc, le_of_suc-le-suc, zero-lt-suc, zero-le, lt_irrefl, arith}
-use Rattle.std.specs.List.{list_all, prefix_len, flat_map}
+use Rattle.std.proofs.Common.{◌≡◌, refl, sym, ap, ap₂, ◌∙◌, subst, ℕ, zero, suc, ◌+◌, ◌-◌, ◌<◌, ◌≤◌, ◌==◌, ◌⊎◌, inl, inr, ℤ, Bool, true, false, List, [], ◌∷◌, ◌++◌, length, take, drop, map, Option, Some, None, Result, Ok, Err, nat_lt, codes, if◌then◌else◌, append-nil, append_assoc, suc-le-suc, le_of_suc-le-suc, zero-lt-suc, zero-le, le_refl, lt_irrefl, arith}
+use Rattle.std.specs.List.{list_all, prefix_len}
 use Rattle.std.specs.Option.{option_to_list}
 use Rattle.std.specs.Char.{is_ascii_alphabetic, is_ascii_digit, to_ascii_lowercase}
 use Rattle.std.specs.Str.{str_eq_ignore_ascii_case, str_to_ascii_lowercase, bytes_eq}
@@ -10,11 +10,12 @@ use Rattle.std.proofs.lemmas.Bool.Decides.{Decides-eqb}
 use Rattle.std.proofs.lemmas.Slice.Eq.{bytes_eq-Decides}
 use Rattle.std.proofs.lemmas.List.{length-map}
 use Rattle.geometry_model.specs.Points.{Position}
-use Rattle.geometry_model.specs.Geometries.{Geometry, Point, MultiPoint, LineString, MultiLineString, Polygon}
-use Rattle.geometry_model.specs.WellKnownText.{Rule, ◌⨾◌, Byte, Blank, Space, Padded, Enclosed, Word, Separated, Sign, Digits, Fraction, Numeral, Number, PositionText, PointText, LineText, Body, TaggedText, Writes, IsWithinCounts, coordinate_limit, position_limit, part_limit, is_white, is_whole, signed, geometry_of}
-use Rattle.geometry_model.specs.TextReading.{Input, Reader, FoundNumber, and_then, pure, after, begins_with, refuse, too_long, ◌>>=◌, expect, padded, enclosed, sign, fraction, numeral, coordinate, space, position, point, separated, line, parts, body, lone, first, positions, lists, typed, tagged, whole, outcome, read_text}
+use Rattle.geometry_model.specs.Geometries.{Geometry, Point, MultiPoint, LineString, MultiLineString, Polygon, MultiPolygon, joined_rings}
+use Rattle.geometry_model.specs.WellKnownText.{Rule, ◌⨾◌, Byte, Blank, Space, Padded, Enclosed, Word, Separated, Sign, Digits, Fraction, Numeral, Number, PositionText, PointText, LineText, PolygonText, Body, TaggedText, Writes, IsWithinCounts, coordinate_limit, position_limit, part_limit, is_white, is_whole, signed, geometry_of}
+use Rattle.geometry_model.specs.TextReading.{Input, Reader, FoundNumber, and_then, pure, after, begins_with, refuse, too_long, ◌>>=◌, expect, padded, enclosed, sign, fraction, numeral, coordinate, space, position, point, separated, line, parts, polygon, polygons, body, lone, first, positions, lists, nested_lists, typed, tagged, whole, outcome, read_text}
 use Rattle.geometry_model.specs.declared.text_faults.TextFault.{TextFault}
 use Rattle.text_laws.specs.ReadingLaws.{SpelledIsRead}
+use Rattle.text_laws.proofs.RoomLists.{positions_in, items, ring, alone, itself, rings_of, alone_of, parts_are_items, polygons_are_items, FitsCounts, first_fits, others_fit}
 use Rattle.text_laws.proofs.TextSteps.{read_run, no_run, apart, byte_is, some, Took}
 
 -- something is found, and has the property
@@ -307,43 +308,85 @@ unfolding line
 line_read room = enclosed_list_read PositionText (λ ps. length ps ≤ room) (separated position room)
     (λ xs i rest fits t stop. separated_read PositionText position position_not_white position_read room xs i rest fits t stop)
 
-abbrev pub FitsCounts : ℕ → ℕ → List (List Position) → Type 0
-FitsCounts count room xs = (length xs ≤ count) × (length (flat_map (λ x. x) xs) ≤ room)
+-- a list in parentheses, with white space around it
+pub list_not_white : {A : Type 0} (P : A → Rule) (xs : List A) (text more : List ℕ) → Enclosed (Separated P xs) text → begins_with is_white (text ++ more) ≡ false
+list_not_white P xs text more t = ap (λ u. begins_with is_white (u ++ more)) (t.2 ∙ ap (λ u. u ++ t.1) t.3)
+
+pub padded_list_read : {A : Type 0} (P : A → Rule) (Good : List A → Type 0) (step : Reader (List A))
+    → ((xs : List A) (i : Input) (rest : List ℕ) → Good xs → Took i.left (Enclosed (Separated P xs)) rest → IsRead (step i) (λ ys j. (ys ≡ xs) × (j.left ≡ rest)))
+    → (xs : List A) (i : Input) (rest : List ℕ) → Good xs → Took i.left (Padded (Enclosed (Separated P xs))) rest → Closed rest → IsRead (padded step i) (λ ys j. (ys ≡ xs) × (j.left ≡ rest))
+padded_list_read P Good step complete xs i rest good t stop = padded_read (λ ys text. Enclosed (Separated P ys) text × Good ys) step
+    (λ ys text more taken. list_not_white P ys text more taken.0)
+    (λ j ys more taken ends. complete ys j more taken.2.1 (taken.0, taken.1, taken.2.0)) i xs rest
+    (t.0, t.1, (t.2.0, t.2.1, t.2.2, t.2.3, (t.2.4.0, t.2.4.1, t.2.4.2, (t.2.4.3, good), t.2.4.4))) stop
 
 pub padded_line_read : (room : ℕ) (ps : List Position) (i : Input) (rest : List ℕ) → length ps ≤ room → Took i.left (Padded (LineText ps)) rest → Closed rest
     → IsRead (padded (line room) i) (λ qs j. (qs ≡ ps) × (j.left ≡ rest))
-padded_line_read room ps i rest fits t stop = padded_read (λ qs text. LineText qs text × (length qs ≤ room)) (line room)
-    (λ qs text more taken. ap (λ u. begins_with is_white (u ++ more)) (taken.0.2 ∙ ap (λ u. u ++ taken.0.1) taken.0.3))
-    (λ j qs more taken ends. line_read room qs j more taken.2.1 (taken.0, taken.1, taken.2.0)) i ps rest
-    (t.0, t.1, (t.2.0, t.2.1, t.2.2, t.2.3, (t.2.4.0, t.2.4.1, t.2.4.2, (t.2.4.3, fits), t.2.4.4))) stop
+padded_line_read room = padded_list_read PositionText (λ ps. length ps ≤ room) (line room) (line_read room)
 
-pub first_fits : (x ys : List Position) (room : ℕ) → length (x ++ ys) ≤ room → length x ≤ room
-first_fits x ys room fits = omega (arith, length-append x ys, fits)
+-- an item that fits is read whole
+abbrev pub ReadsItem : {A : Type 0} → (A → Rule) → (ℕ → ℕ → Reader A) → (A → List (List Position)) → Type 0
+ReadsItem {A} P item rings = (count room : ℕ) (x : A) (i : Input) (rest : List ℕ) → FitsCounts count room (rings x) → Took i.left (Padded (P x)) rest → Closed rest
+    → IsRead (padded (item count room) i) (λ y j. (y ≡ x) × (j.left ≡ rest))
 
-pub others_fit : (x ys : List Position) (room : ℕ) → length (x ++ ys) ≤ room → length ys ≤ room - length x
-others_fit x ys room fits = omega (arith, length-append x ys, fits)
+-- an item has a ring at least
+abbrev pub HasRings : {A : Type 0} → (A → Rule) → (A → List (List Position)) → Type 0
+HasRings {A} P rings = (x : A) (text : List ℕ) → P x text → 0 < length (rings x)
+
+pub items_read : {A : Type 0} (P : A → Rule) (item : ℕ → ℕ → Reader A) (rings : A → List (List Position)) → HasRings P rings → ReadsItem P item rings
+    → (turns count room : ℕ) (xs : List A) (i : Input) (rest : List ℕ) → count ≤ turns → FitsCounts count room (rings_of rings xs) → Took i.left (Separated P xs) rest → Closes rest
+    → IsRead (items item rings turns count room i) (λ ys j. (ys ≡ xs) × (j.left ≡ rest))
+unfolding items
+items_read P item rings full_item complete turns count room [] i rest enough fits t stop = absurd t.2
+items_read P item rings full_item complete zero count room (x ∷ []) i rest enough fits t stop =
+    absurd (omega (arith, enough, full_item x t.2.4.0 t.2.4.3, (first_fits count room (rings x) [] fits).0))
+items_read P item rings full_item complete zero count room (x ∷ y ∷ more) i rest enough fits t stop =
+    absurd (omega (arith, enough, full_item x t.2.3.4.0 t.2.3.4.3, (first_fits count room (rings x) (rings_of rings (y ∷ more)) fits).0))
+items_read P item rings full_item complete (suc turns) count room (x ∷ []) i rest enough fits t stop = then_is (λ y j. (y ≡ x) × (j.left ≡ rest)) (padded (item count room) i) _ _
+    (complete count room x i rest (first_fits count room (rings x) [] fits) t stop.0)
+    (λ y j known. rw (ap (begins_with (λ b. b == 44)) known.1 ∙ stop.1) (ap (λ z. z ∷ []) known.0, known.1))
+items_read P item rings full_item complete (suc turns) count room (x ∷ y ∷ more) i rest enough fits t stop =
+    let a = apart i.left rest (Padded (P x)) (Byte 44 ⨾ Separated P (y ∷ more)) t in
+    let b = apart a.0 rest (Byte 44) (Separated P (y ∷ more)) a.2 in
+    let a_is : a.0 ≡ 44 ∷ b.0 = byte_is 44 a.0 b.0 b.1 in
+    then_is (λ z j. (z ≡ x) × (j.left ≡ a.0)) (padded (item count room) i) _ _
+    (complete count room x i a.0 (first_fits count room (rings x) (rings_of rings (y ∷ more)) fits) a.1 (subst Closed (sym a_is) (closed_by_comma b.0)))
+    (λ z j known. rw (ap (begins_with (λ b. b == 44)) (known.1 ∙ a_is))
+    (then_is (λ zs k. (zs ≡ y ∷ more) × (k.left ≡ rest)) (items item rings turns (count - length (rings z)) (room - positions_in (rings z)) (after 1 j)) _ _
+    (items_read P item rings full_item complete turns (count - length (rings z)) (room - positions_in (rings z)) (y ∷ more) (after 1 j) rest
+    (subst (λ w. count - length (rings w) ≤ turns) (sym known.0) (omega (arith, enough, full_item x t.2.3.4.0 t.2.3.4.3)))
+    (subst (λ w. FitsCounts (count - length (rings w)) (room - positions_in (rings w)) (rings_of rings (y ∷ more))) (sym known.0) (others_fit count room (rings x) (rings_of rings (y ∷ more)) fits))
+    (b.2.0, ap (drop 1) (known.1 ∙ a_is) ∙ b.2.1, b.2.2) stop)
+    (λ zs k last. (ap₂ (λ u v. u ∷ v) known.0 last.0, last.1))))
+
+-- rings and elements
+pub ring_read : ReadsItem LineText ring alone
+unfolding ring
+ring_read zero room x i rest fits t stop = absurd (omega (arith, fits.0))
+ring_read (suc count) room x i rest fits t stop = padded_line_read room x i rest (rw (append-nil x) at fits.1) t stop
+
+pub one_ring : HasRings LineText alone
+one_ring x text t = zero-lt-suc 0
 
 pub parts_read : (count room : ℕ) (xs : List (List Position)) (i : Input) (rest : List ℕ) → FitsCounts count room xs → Took i.left (Separated LineText xs) rest → Closes rest
     → IsRead (parts count room i) (λ ys j. (ys ≡ xs) × (j.left ≡ rest))
-unfolding parts
-parts_read zero room [] i rest fits t stop = absurd t.2
-parts_read zero room (x ∷ more) i rest fits t stop = absurd (omega (arith, fits.0))
-parts_read (suc count) room [] i rest fits t stop = absurd t.2
-parts_read (suc count) room (x ∷ []) i rest fits t stop = then_is (λ y j. (y ≡ x) × (j.left ≡ rest)) (padded (line room) i) _ _
-    (padded_line_read room x i rest (first_fits x [] room fits.1) t stop.0)
-    (λ y j known. rw (ap (begins_with (λ b. b == 44)) known.1 ∙ stop.1) (ap (λ z. z ∷ []) known.0, known.1))
-parts_read (suc count) room (x ∷ y ∷ more) i rest fits t stop =
-    let a = apart i.left rest (Padded (LineText x)) (Byte 44 ⨾ Separated LineText (y ∷ more)) t in
-    let b = apart a.0 rest (Byte 44) (Separated LineText (y ∷ more)) a.2 in
-    let a_is : a.0 ≡ 44 ∷ b.0 = byte_is 44 a.0 b.0 b.1 in
-    let others : FitsCounts count (room - length x) (y ∷ more) = (le_of_suc-le-suc fits.0, others_fit x (flat_map (λ z. z) (y ∷ more)) room fits.1) in
-    then_is (λ z j. (z ≡ x) × (j.left ≡ a.0)) (padded (line room) i) _ _
-    (padded_line_read room x i a.0 (first_fits x (flat_map (λ z. z) (y ∷ more)) room fits.1) a.1 (subst Closed (sym a_is) (closed_by_comma b.0)))
-    (λ z j known. rw (ap (begins_with (λ b. b == 44)) (known.1 ∙ a_is))
-    (then_is (λ zs k. (zs ≡ y ∷ more) × (k.left ≡ rest)) (parts count (room - length z) (after 1 j)) _ _
-    (parts_read count (room - length z) (y ∷ more) (after 1 j) rest (subst (λ w. FitsCounts count (room - length w) (y ∷ more)) (sym known.0) others)
-    (b.2.0, ap (drop 1) (known.1 ∙ a_is) ∙ b.2.1, b.2.2) stop)
-    (λ zs k last. (ap₂ (λ u v. u ∷ v) known.0 last.0, last.1))))
+parts_read count room xs i rest fits t stop = rw (parts_are_items count room i)
+    (items_read LineText ring alone one_ring ring_read count count room xs i rest (le_refl count) (subst (FitsCounts count room) (sym (alone_of xs)) fits) t stop)
+
+-- polygons
+pub polygon_read : ReadsItem PolygonText polygon itself
+unfolding polygon
+polygon_read count room = padded_list_read LineText (FitsCounts count room) (polygon count room)
+    (enclosed_list_read LineText (FitsCounts count room) (parts count room) (parts_read count room))
+
+pub rings_of_polygon : HasRings PolygonText itself
+rings_of_polygon [] text t = absurd t.4.3
+rings_of_polygon (r ∷ rs) text t = zero-lt-suc (length rs)
+
+pub polygons_read : (turns count room : ℕ) → count ≤ turns → (xs : List (List (List Position))) (i : Input) (rest : List ℕ) → FitsCounts count room (joined_rings xs) → Took i.left (Separated PolygonText xs) rest → Closes rest
+    → IsRead (polygons turns count room i) (λ ys j. (ys ≡ xs) × (j.left ≡ rest))
+polygons_read turns count room enough xs i rest fits t stop = rw (polygons_are_items turns count room i)
+    (items_read PolygonText polygon itself rings_of_polygon polygon_read turns count room xs i rest enough fits t stop)
 
 -- words
 
@@ -493,6 +536,19 @@ tagged_read (Polygon rs) i rest counts t ends = let n = prefix_len is_ascii_alph
     (then_is (λ ys j. (ys ≡ rs) × (j.left ≡ rest)) (lists (after n i)) _ _
     (body_read LineText (FitsCounts part_limit position_limit) _ (parts_read part_limit position_limit) rs (after n i) rest (counts.1, counts.0) r.1 ends.2)
     (λ ys j known. (ap Polygon known.0, known.1)))
+tagged_read (MultiPolygon es) i rest counts t ends = let n = prefix_len is_ascii_alphabetic i.left in let own = codes "MULTIPOLYGON" in
+    let r = name_read own PolygonText es i.left rest refl t in
+    rw (
+      named (take n i.left) own (codes "POINT") r.0,
+      named (take n i.left) own (codes "MULTIPOINT") r.0,
+      named (take n i.left) own (codes "LINESTRING") r.0,
+      named (take n i.left) own (codes "MULTILINESTRING") r.0,
+      named (take n i.left) own (codes "POLYGON") r.0,
+      named (take n i.left) own (codes "MULTIPOLYGON") r.0,
+    )
+    (then_is (λ ys j. (ys ≡ es) × (j.left ≡ rest)) (nested_lists (after n i)) _ _
+    (body_read PolygonText (λ ys. FitsCounts part_limit position_limit (joined_rings ys)) _ (polygons_read part_limit part_limit position_limit (le_refl part_limit)) es (after n i) rest (counts.1, counts.0) r.1 ends.2)
+    (λ ys j known. (ap MultiPolygon known.0, known.1)))
 
 -- a type's name isn't empty, and a letter isn't white space
 pub name_not_white : {A : Type 0} (own : List ℕ) (P : A → Rule) (xs : List A) (text rest : List ℕ) → list_all is_ascii_alphabetic (map to_ascii_lowercase own) ≡ true → 0 < length own
@@ -506,6 +562,7 @@ tagged_not_white (MultiPoint ps) text rest t = name_not_white (codes "MULTIPOINT
 tagged_not_white (LineString ps) text rest t = name_not_white (codes "LINESTRING") PositionText ps text rest refl (zero-lt-suc 9) t
 tagged_not_white (MultiLineString ls) text rest t = name_not_white (codes "MULTILINESTRING") LineText ls text rest refl (zero-lt-suc 14) t
 tagged_not_white (Polygon rs) text rest t = name_not_white (codes "POLYGON") LineText rs text rest refl (zero-lt-suc 6) t
+tagged_not_white (MultiPolygon es) text rest t = name_not_white (codes "MULTIPOLYGON") PolygonText es text rest refl (zero-lt-suc 11) t
 
 pub whole_read : (w : Geometry) (text : List ℕ) → IsWithinCounts w → Writes w text → IsRead (whole (record { left = text; at = 0 })) (λ v _. v ≡ w)
 unfolding whole

@@ -1,12 +1,12 @@
 -- Reading loses no byte.
-use Rattle.std.proofs.Common.{◌≡◌, refl, sym, ◌∙◌, ℕ, zero, suc, ◌+◌, ◌≤◌, ◌==◌, Bool, true, false, List, [], ◌∷◌, length, Result, Ok, Err, nat_lt, if◌then◌else◌, length-drop, suc-le-suc, zero-le, arith}
+use Rattle.std.proofs.Common.{◌≡◌, refl, sym, ◌∙◌, ℕ, zero, suc, ◌+◌, ◌-◌, ◌≤◌, ◌==◌, Bool, true, false, List, [], ◌∷◌, length, Result, Ok, Err, nat_lt, if◌then◌else◌, length-drop, suc-le-suc, zero-le, arith}
 use Rattle.std.specs.List.{prefix_len}
 use Rattle.std.specs.Char.{is_ascii_digit}
 use Rattle.std.specs.Str.Parse.{digits_value}
 use Rattle.std.proofs.lemmas.Bool.{true≢false}
 use Rattle.std.proofs.lemmas.List.Sums.{prefix_len-le-length}
 use Rattle.geometry_model.specs.WellKnownText.{begins_with, coordinate_limit, is_white, is_whole}
-use Rattle.geometry_model.specs.TextReading.{Input, Reader, FoundNumber, pure, after, refuse, too_long, run, eat, ◌>>◌, ◌>>=◌, expect, padded, enclosed, sign, fraction, numeral, coordinate, space, position, point, separated, line}
+use Rattle.geometry_model.specs.TextReading.{Input, Reader, FoundNumber, pure, after, refuse, too_long, run, eat, ◌>>◌, ◌>>=◌, expect, padded, enclosed, sign, fraction, numeral, coordinate, space, position, point, separated, line, parts, polygon}
 use Rattle.geometry_model.specs.declared.text_faults.TextFault.{TextFault}
 use Rattle.text_laws.proofs.TextSound.{IfRead, then_read}
 
@@ -120,3 +120,14 @@ separated_keeps item keeps (suc room) = keeps_then (padded (item (suc room))) _ 
 pub line_keeps : (room : ℕ) → Keeps (line room)
 unfolding line
 line_keeps room = enclosed_keeps (separated position room) (separated_keeps position position_keeps room)
+
+pub parts_keeps : (count room : ℕ) → Keeps (parts count room)
+unfolding parts
+parts_keeps zero room = padded_keeps (expect 40 >> too_long) (keeps_then (expect 40) _ (expect_keeps 40) (λ _ i. tt))
+parts_keeps (suc count) room = keeps_then (padded (line room)) _ (padded_keeps (line room) (line_keeps room))
+    (λ x. keeps_then (eat 44) _ (eat_keeps 44) (λ met. keeps_if met (parts count (room - length x) >>= λ more. pure (x ∷ more)) (pure (x ∷ []))
+    (keeps_then (parts count (room - length x)) _ (parts_keeps count (room - length x)) (λ more. pure_keeps (x ∷ more))) (pure_keeps (x ∷ []))))
+
+pub polygon_keeps : (count room : ℕ) → Keeps (polygon count room)
+unfolding polygon
+polygon_keeps count room = enclosed_keeps (parts count room) (parts_keeps count room)

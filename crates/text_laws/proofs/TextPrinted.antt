@@ -7,9 +7,9 @@ use Rattle.std.specs.Fmt.{decimal, signed_decimal}
 use Rattle.std.specs.Str.Parse.{digits_value, AllDigits}
 use Rattle.std.proofs.lemmas.Fmt.{decimal_is_IsNumeral}
 use Rattle.geometry_model.specs.Points.{Position}
-use Rattle.geometry_model.specs.Geometries.{Geometry, Point, MultiPoint, LineString, MultiLineString, Polygon}
-use Rattle.geometry_model.specs.WellKnownText.{Rule, ◌⨾◌, Padded, Enclosed, Word, Separated, Sign, Number, PositionText, PointText, LineText, Body, TaggedText, Spells, IsWithinCounts, coordinate_limit, signed, same_position, without_repeats, geometry_of}
-use Rattle.geometry_model.specs.CanonicalText.{position_text, point_text, listed_text, line_text, tagged_text, canonical_text}
+use Rattle.geometry_model.specs.Geometries.{Geometry, Point, MultiPoint, LineString, MultiLineString, Polygon, MultiPolygon, joined_rings}
+use Rattle.geometry_model.specs.WellKnownText.{Rule, ◌⨾◌, Padded, Enclosed, Word, Separated, Sign, Number, PositionText, PointText, LineText, PolygonText, Body, TaggedText, Spells, IsWithinCounts, coordinate_limit, signed, same_position, without_repeats, geometry_of}
+use Rattle.geometry_model.specs.CanonicalText.{position_text, point_text, listed_text, line_text, polygon_text, tagged_text, canonical_text}
 use Rattle.text_laws.specs.ReadingLaws.{CanonicalTextSpells}
 
 -- repeats
@@ -81,12 +81,26 @@ as_many : (xs : List (List Position)) → length (map without_repeats xs) ≡ le
 as_many [] = refl
 as_many (x ∷ xs) = ap suc (as_many xs)
 
+repeats_once_all : (es : List (List (List Position))) → map (map without_repeats) (map (map without_repeats) es) ≡ map (map without_repeats) es
+repeats_once_all [] = refl
+repeats_once_all (e ∷ es) = rw (repeats_once_each e, repeats_once_all es) refl
+
+-- the rings of polygons without repeats are their rings without repeats
+pub rings_kept : (es : List (List (List Position))) → joined_rings (map (map without_repeats) es) ≡ map without_repeats (joined_rings es)
+rings_kept [] = refl
+rings_kept (e ∷ es) = ap (λ rs. map without_repeats e ++ rs) (rings_kept es) ∙ sym (map-append e (joined_rings es))
+  where
+    map-append : (xs ys : List (List Position)) → map without_repeats (xs ++ ys) ≡ map without_repeats xs ++ map without_repeats ys
+    map-append [] ys = refl
+    map-append (x ∷ xs) ys = ap (λ rs. without_repeats x ∷ rs) (map-append xs ys)
+
 geometry_again : (w : Geometry) → geometry_of (geometry_of w) ≡ geometry_of w
 geometry_again (Point p) = refl
 geometry_again (MultiPoint ps) = refl
 geometry_again (LineString ps) = ap LineString (repeats_once ps)
 geometry_again (MultiLineString ls) = ap MultiLineString (repeats_once_each ls)
 geometry_again (Polygon rs) = ap Polygon (repeats_once_each rs)
+geometry_again (MultiPolygon es) = ap MultiPolygon (repeats_once_all es)
 
 -- dropping repeats keeps what is written within the counts
 pub counts_again : (w : Geometry) → IsWithinCounts w → IsWithinCounts (geometry_of w)
@@ -95,6 +109,7 @@ counts_again (MultiPoint ps) within = within
 counts_again (LineString ps) within = (le_trans (shorter ps) within.0, within.1)
 counts_again (MultiLineString ls) within = (le_trans (shorter_each ls) within.0, rw (as_many ls) within.1)
 counts_again (Polygon rs) within = (le_trans (shorter_each rs) within.0, rw (as_many rs) within.1)
+counts_again (MultiPolygon es) within = rw (rings_kept es) (le_trans (shorter_each (joined_rings es)) within.0, rw (as_many (joined_rings es)) within.1)
 
 -- what is written lies within the limits
 
@@ -136,12 +151,16 @@ point_limits p text (inr t) = position_limits p t.4.3.4.0 t.4.3.4.3
 line_limits : (ps : List Position) (text : List ℕ) → LineText ps text → OneOrMore Limits ps
 line_limits ps text t = each_in PositionText Limits position_limits ps t.4.0 t.4.3
 
+polygon_limits : (rs : List (List Position)) (text : List ℕ) → PolygonText rs text → OneOrMore (OneOrMore Limits) rs
+polygon_limits rs text t = each_in LineText (OneOrMore Limits) line_limits rs t.4.0 t.4.3
+
 abbrev InLimits : Geometry → Type 0
 InLimits (Point p) = AllByRecursion Limits (option_to_list p)
 InLimits (MultiPoint ps) = AllByRecursion Limits ps
 InLimits (LineString ps) = AllByRecursion Limits ps
 InLimits (MultiLineString ls) = AllByRecursion (OneOrMore Limits) ls
 InLimits (Polygon rs) = AllByRecursion (OneOrMore Limits) rs
+InLimits (MultiPolygon es) = AllByRecursion (OneOrMore (OneOrMore Limits)) es
 
 tagged_limits : (w : Geometry) (text : List ℕ) → TaggedText w text → InLimits w
 tagged_limits (Point p) text t = each_of PositionText Limits position_limits (option_to_list p) t.1 t.4
@@ -149,6 +168,7 @@ tagged_limits (MultiPoint ps) text t = each_of PointText Limits point_limits ps 
 tagged_limits (LineString ps) text t = each_of PositionText Limits position_limits ps t.1 t.4
 tagged_limits (MultiLineString ls) text t = each_of LineText (OneOrMore Limits) line_limits ls t.1 t.4
 tagged_limits (Polygon rs) text t = each_of LineText (OneOrMore Limits) line_limits rs t.1 t.4
+tagged_limits (MultiPolygon es) text t = each_of PolygonText (OneOrMore (OneOrMore Limits)) polygon_limits es t.1 t.4
 
 some_kept : (ps : List Position) → OneOrMore Limits ps → OneOrMore Limits (without_repeats ps)
 some_kept [] none = none
@@ -158,12 +178,21 @@ each_kept : (ls : List (List Position)) → AllByRecursion (OneOrMore Limits) ls
 each_kept [] all = tt
 each_kept (l ∷ ls) all = (some_kept l all.0, each_kept ls all.1)
 
+some_rings_kept : (rs : List (List Position)) → OneOrMore (OneOrMore Limits) rs → OneOrMore (OneOrMore Limits) (map without_repeats rs)
+some_rings_kept [] none = none
+some_rings_kept (r ∷ rs) all = each_kept (r ∷ rs) all
+
+all_rings_kept : (es : List (List (List Position))) → AllByRecursion (OneOrMore (OneOrMore Limits)) es → AllByRecursion (OneOrMore (OneOrMore Limits)) (map (map without_repeats) es)
+all_rings_kept [] all = tt
+all_rings_kept (e ∷ es) all = (some_rings_kept e all.0, all_rings_kept es all.1)
+
 limits_kept : (w : Geometry) → InLimits w → InLimits (geometry_of w)
 limits_kept (Point p) all = all
 limits_kept (MultiPoint ps) all = all
 limits_kept (LineString ps) all = all_kept Limits ps all
 limits_kept (MultiLineString ls) all = each_kept ls all
 limits_kept (Polygon rs) all = each_kept rs all
+limits_kept (MultiPolygon es) all = all_rings_kept es all
 
 -- what is printed is of the grammar
 
@@ -217,6 +246,9 @@ listed_printed P Q f printed (x ∷ more) all = let text = join_with_byte 44 (ma
 line_printed : (ps : List Position) → OneOrMore Limits ps → LineText ps (line_text ps)
 line_printed ps all = listed_printed PositionText Limits position_text position_printed ps all
 
+polygon_printed : (rs : List (List Position)) → OneOrMore (OneOrMore Limits) rs → PolygonText rs (polygon_text rs)
+polygon_printed rs all = listed_printed LineText (OneOrMore Limits) line_text line_printed rs all
+
 point_printed : (p : Position) → Limits p → PointText p (point_text p)
 point_printed p within = inr (40 ∷ [], position_text p ++ 41 ∷ [], refl, refl, (position_text p, 41 ∷ [], refl, padded (PositionText p) (position_text p) (position_printed p within), refl))
 
@@ -237,6 +269,7 @@ geometry_printed (MultiPoint ps) all = tagged_printed PointText Limits point_tex
 geometry_printed (LineString ps) all = tagged_printed PositionText Limits position_text position_printed (codes "LINESTRING") ps all
 geometry_printed (MultiLineString ls) all = tagged_printed LineText (OneOrMore Limits) line_text line_printed (codes "MULTILINESTRING") ls all
 geometry_printed (Polygon rs) all = tagged_printed LineText (OneOrMore Limits) line_text line_printed (codes "POLYGON") rs all
+geometry_printed (MultiPolygon es) all = tagged_printed PolygonText (OneOrMore (OneOrMore Limits)) polygon_text polygon_printed (codes "MULTIPOLYGON") es all
 
 pub canonical_text_spells : CanonicalTextSpells
 canonical_text_spells text g spelled = let w = spelled.written in let h = geometry_of w in

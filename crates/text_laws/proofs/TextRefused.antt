@@ -1,22 +1,23 @@
 -- Where reading answers W2, W3 or W4, that refusal stands.
 use Rattle.std.proofs.Common.{◌≡◌, refl, sym, ap, ◌∙◌, subst, ℕ, zero, suc, ◌+◌, ◌-◌, ◌<◌, ◌≤◌, ◌==◌, ◌⊎◌, inl, inr, ℤ, pos, Bool, true, false, ◌||◌, List, [], ◌∷◌, ◌++◌, length, take, drop, Some, Result, Ok, Err, nat_lt, codes, if◌then◌else◌, take-append-drop, length-append, append-nil, append_assoc, suc-le-suc, zero-lt-suc, zero-le, arith}
-use Rattle.std.specs.List.{list_any, prefix_len, flat_map}
+use Rattle.std.specs.List.{list_any, prefix_len}
 use Rattle.std.specs.Char.{is_ascii_alphabetic, is_ascii_digit}
 use Rattle.std.specs.Str.{str_eq_ignore_ascii_case}
 use Rattle.std.specs.Str.Parse.{digits_value}
 use Rattle.std.proofs.lemmas.Bool.{or_parts}
 use Rattle.std.proofs.lemmas.Bool.Decides.{Decides-ltb, Decides-eqb}
 use Rattle.geometry_model.specs.Points.{Position}
-use Rattle.geometry_model.specs.Geometries.{Geometry, Point, MultiPoint, LineString, MultiLineString, Polygon}
-use Rattle.geometry_model.specs.WellKnownText.{begins_with, Rule, ◌⨾◌, Byte, Blank, Space, Padded, Enclosed, Word, Separated, Sign, Digits, Fraction, Numeral, Number, PositionText, PointText, LineText, Body, TaggedText, Writes, IsWithinCounts, written_positions, written_parts, coordinate_limit, position_limit, part_limit, is_white, is_whole, geometry_of}
-use Rattle.geometry_model.specs.TextReading.{Input, Reader, FoundNumber, and_then, pure, after, refuse, too_long, run, eat, ◌>>◌, ◌>>=◌, expect, padded, enclosed, sign, fraction, numeral, coordinate, space, position, point, separated, line, parts, body, lone, first, positions, lists, typed, tagged, whole, outcome, read_text}
+use Rattle.geometry_model.specs.Geometries.{Geometry, Point, MultiPoint, LineString, MultiLineString, Polygon, MultiPolygon, joined_rings}
+use Rattle.geometry_model.specs.WellKnownText.{begins_with, Rule, ◌⨾◌, Byte, Blank, Space, Padded, Enclosed, Word, Separated, Sign, Digits, Fraction, Numeral, Number, PositionText, PointText, LineText, PolygonText, Body, TaggedText, Writes, IsWithinCounts, written_positions, written_parts, coordinate_limit, position_limit, part_limit, is_white, is_whole, geometry_of}
+use Rattle.geometry_model.specs.TextReading.{Input, Reader, FoundNumber, and_then, pure, after, refuse, too_long, run, eat, ◌>>◌, ◌>>=◌, expect, padded, enclosed, sign, fraction, numeral, coordinate, space, position, point, separated, line, parts, polygon, polygons, body, lone, first, positions, lists, nested_lists, typed, tagged, whole, outcome, read_text}
 use Rattle.geometry_model.specs.TextRefusals.{begins_more, IsFirstNumber, HasNumber, IsOffGrid, IsOutOfRange, HasTooManyPositions, HasTooManyParts, TakesNumber}
 use Rattle.geometry_model.specs.declared.text_faults.TextFault.{TextFault}
 use Rattle.geometry_model.specs.declared.text_faults.TextFault.TheVariants.{Syntax, OffGrid, OutOfRange, TooLong}
 use Rattle.text_laws.specs.ReadingLaws.{RefusalsStand}
+use Rattle.text_laws.proofs.RoomLists.{positions_in, items, ring, alone, itself, rings_of, alone_of, positions_of_both, parts_are_items, polygons_are_items, FitsCounts, both_fit}
 use Rattle.text_laws.proofs.TextSteps.{all_pass, stops, first_is, some, nothing, word_is, byte_is, Took, both, took_run}
-use Rattle.text_laws.proofs.TextPlaces.{total, Keeps, keeps_if, ate, run_keeps, expect_keeps, padded_keeps, numeral_keeps, coordinate_keeps, space_keeps, position_keeps, point_keeps, line_keeps}
-use Rattle.text_laws.proofs.TextSound.{IfRead, then_read, any_read, first_sound, behind, past_word, word_at, sign_sound, numeral_sound, space_sound, expect_sound, padded_sound, position_sound, point_sound, line_sound, FitsCounts}
+use Rattle.text_laws.proofs.TextPlaces.{total, Keeps, keeps_if, ate, run_keeps, expect_keeps, padded_keeps, numeral_keeps, coordinate_keeps, space_keeps, position_keeps, point_keeps, line_keeps, polygon_keeps}
+use Rattle.text_laws.proofs.TextSound.{IfRead, then_read, any_read, first_sound, behind, past_word, word_at, sign_sound, numeral_sound, space_sound, expect_sound, padded_sound, position_sound, point_sound, ring_sound, polygon_sound}
 
 -- what is refused: a number, a further position, a further part
 data Kind : Type 0 where
@@ -463,7 +464,7 @@ line_fails room = enclosed_fails (Separated PositionText) (RoomList room) (separ
 
 abbrev RoomParts : ℕ → ℕ → Kind → List (List Position) → Type 0
 RoomParts count room AtNumber xs = FitsCounts count room xs
-RoomParts count room AtPosition xs = length (flat_map (λ x. x) xs) ≡ suc room
+RoomParts count room AtPosition xs = positions_in xs ≡ suc room
 RoomParts count room AtPart xs = length xs ≡ suc count
 
 abbrev OnlyPart : Kind → List Position → Type 0
@@ -491,48 +492,77 @@ part_stuck i rest opened = record {
   counts = tt;
 }
 
-part_fails : (i : Input) → IfFails {A = List (List Position)} ((expect 40 >> too_long) i) (Stuck LineText OnlyPart i)
+part_fails : (i : Input) → IfFails {A = List Position} ((expect 40 >> too_long) i) (Stuck LineText OnlyPart i)
 part_fails i = then_fails (λ _ j. Took i.left (Byte 40) j.left) (λ _. ⊥) (Stuck LineText OnlyPart i) (expect 40 i) _ (expect_sound 40 i) (expect_quiet 40 i) (λ fault b. absurd b)
     (λ _ j t. part_stuck i j.left (byte_is 40 i.left j.left t))
 
-only_one : (room : ℕ) (k : Kind) (x : List Position) → OnlyPart k x → RoomParts zero room k (x ∷ [])
-only_one room AtNumber x none = absurd none
-only_one room AtPosition x none = absurd none
-only_one room AtPart x one = refl
+one_part : (count room : ℕ) (k : Kind) (xs : List (List Position)) → RoomParts count room k xs → RoomParts count room k (xs ++ [])
+one_part count room k xs counts = rw (append-nil xs) counts
 
-fits_one : (x : List Position) (room : ℕ) → length x ≤ room → length (x ++ []) ≤ room
-fits_one x room fits = rw (append-nil x) fits
+more_parts : (count room : ℕ) (xs : List (List Position)) → FitsCounts count room xs → (k : Kind) (ys : List (List Position)) → RoomParts (count - length xs) (room - positions_in xs) k ys → RoomParts count room k (xs ++ ys)
+more_parts count room xs fits AtNumber ys others = both_fit count room xs ys fits others
+more_parts count room xs fits AtPosition ys full = omega (arith, positions_of_both xs ys, fits.1, full)
+more_parts count room xs fits AtPart ys full = omega (arith, length-append xs ys, fits.0, full)
 
-fits_more : (x ys : List Position) (room : ℕ) → length x ≤ room → length ys ≤ room - length x → length (x ++ ys) ≤ room
-fits_more x ys room fits others = omega (arith, length-append x ys, fits, others)
+items_fails : {A : Type 0} (P : A → Rule) (item : ℕ → ℕ → Reader A) (rings : A → List (List Position))
+    → ((count room : ℕ) (i : Input) → IfRead (padded (item count room) i) (λ x j. Took i.left (Padded (P x)) j.left × FitsCounts count room (rings x)))
+    → ((count room : ℕ) → Keeps (item count room)) → ((count room : ℕ) → Fails P (λ k x. RoomParts count room k (rings x)) (item count room))
+    → (turns count room : ℕ) → Fails (Separated P) (λ k xs. RoomParts count room k (rings_of rings xs)) (items item rings turns count room)
+unfolding items
+items_fails P item rings sound keeps fails zero count room i = then_fails (λ _ _. Unit {0}) (Stuck (λ x. Padded (P x)) (λ k x. RoomParts count room k (rings x)) i)
+    (Stuck (Separated P) (λ k xs. RoomParts count room k (rings_of rings xs)) i) (padded (item count room) i) _ (any_read (padded (item count room) i))
+    (padded_fails P (λ k x. RoomParts count room k (rings x)) (item count room) (fails count room) i)
+    (λ fault s. stuck_as (λ x. Padded (P x)) (Separated P) (λ k x. RoomParts count room k (rings x)) (λ k xs. RoomParts count room k (rings_of rings xs)) (λ x. x ∷ []) i fault (λ x text t. t)
+    (λ k x. one_part count room k (rings x)) s) (λ _ _ _. tt)
+items_fails P item rings sound keeps fails (suc turns) count room i =
+    then_fails (λ x j. (Took i.left (Padded (P x)) j.left × FitsCounts count room (rings x)) × (total j ≡ total i)) (Stuck (λ x. Padded (P x)) (λ k x. RoomParts count room k (rings x)) i)
+    (Stuck (Separated P) (λ k xs. RoomParts count room k (rings_of rings xs)) i) (padded (item count room) i) _
+    (and_read (λ x j. Took i.left (Padded (P x)) j.left × FitsCounts count room (rings x)) (λ _ j. total j ≡ total i) (padded (item count room) i) (sound count room i) (padded_keeps (item count room) (keeps count room) i))
+    (padded_fails P (λ k x. RoomParts count room k (rings x)) (item count room) (fails count room) i)
+    (λ fault s. stuck_as (λ x. Padded (P x)) (Separated P) (λ k x. RoomParts count room k (rings x)) (λ k xs. RoomParts count room k (rings_of rings xs)) (λ x. x ∷ []) i fault (λ x text t. t)
+    (λ k x. one_part count room k (rings x)) s)
+    (λ x j known. later_fails P (λ k xs. RoomParts (count - length (rings x)) (room - positions_in (rings x)) k (rings_of rings xs)) (λ k xs. RoomParts count room k (rings_of rings xs))
+    (items item rings turns (count - length (rings x)) (room - positions_in (rings x)))
+    (items_fails P item rings sound keeps fails turns (count - length (rings x)) (room - positions_in (rings x))) x i j known.0.0 known.1
+    (λ k xs. more_parts count room (rings x) known.0.1 k (rings_of rings xs)) _ refl)
 
-full_more : (x ys : List Position) (room : ℕ) → length x ≤ room → length ys ≡ suc (room - length x) → length (x ++ ys) ≡ suc room
-full_more x ys room fits others = omega (arith, length-append x ys, fits, others)
+-- rings and elements
+no_ring : (room : ℕ) (k : Kind) (x : List Position) → OnlyPart k x → RoomParts zero room k (alone x)
+no_ring room AtNumber x none = absurd none
+no_ring room AtPosition x none = absurd none
+no_ring room AtPart x one = refl
 
-one_part : (count room : ℕ) (k : Kind) (x : List Position) → RoomList room k x → RoomParts (suc count) room k (x ∷ [])
-one_part count room AtNumber x fits = (suc-le-suc zero-le, fits_one x room fits)
-one_part count room AtPosition x full = ap length (append-nil x) ∙ full
-one_part count room AtPart x none = absurd none
+one_ring : (count room : ℕ) (k : Kind) (x : List Position) → RoomList room k x → RoomParts (suc count) room k (alone x)
+one_ring count room AtNumber x fits = (suc-le-suc zero-le, rw (append-nil x) fits)
+one_ring count room AtPosition x full = ap length (append-nil x) ∙ full
+one_ring count room AtPart x none = absurd none
 
-more_parts : (count room : ℕ) (x : List Position) → length x ≤ room → (k : Kind) (xs : List (List Position)) → RoomParts count (room - length x) k xs → RoomParts (suc count) room k (x ∷ xs)
-more_parts count room x fits AtNumber xs others = (suc-le-suc others.0, fits_more x (flat_map (λ y. y) xs) room fits others.1)
-more_parts count room x fits AtPosition xs full = full_more x (flat_map (λ y. y) xs) room fits full
-more_parts count room x fits AtPart xs full = ap suc full
+ring_fails : (count room : ℕ) → Fails LineText (λ k x. RoomParts count room k (alone x)) (ring count room)
+unfolding ring
+ring_fails zero room i = fails_so (Stuck LineText OnlyPart i) _ ((expect 40 >> too_long) i)
+    (λ fault s. stuck_as LineText LineText OnlyPart (λ k x. RoomParts zero room k (alone x)) (λ x. x) i fault (λ x text t. t) (no_ring room) s) (part_fails i)
+ring_fails (suc count) room i = fails_so (Stuck LineText (RoomList room) i) _ (line room i)
+    (λ fault s. stuck_as LineText LineText (RoomList room) (λ k x. RoomParts (suc count) room k (alone x)) (λ x. x) i fault (λ x text t. t) (one_ring count room) s) (line_fails room i)
+
+ring_keeps : (count room : ℕ) → Keeps (ring count room)
+unfolding ring
+ring_keeps zero room i = then_read (λ _ _. Unit {0}) (expect 40 i) _ _ (any_read (expect 40 i)) (λ _ _ _. tt)
+ring_keeps (suc count) room i = line_keeps room i
 
 parts_fails : (count room : ℕ) → Fails (Separated LineText) (RoomParts count room) (parts count room)
-unfolding parts
-parts_fails zero room i = fails_so (Stuck (λ x. Padded (LineText x)) OnlyPart i) _ (padded (expect 40 >> too_long) i)
-    (λ fault s. stuck_as (λ x. Padded (LineText x)) (Separated LineText) OnlyPart (RoomParts zero room) (λ x. x ∷ []) i fault (λ x text t. t) (only_one room) s)
-    (padded_fails LineText OnlyPart (expect 40 >> too_long) part_fails i)
-parts_fails (suc count) room i = let step = padded (line room) in
-    then_fails (λ x j. (Took i.left (Padded (LineText x)) j.left × (length x ≤ room)) × (total j ≡ total i)) (Stuck (λ x. Padded (LineText x)) (RoomList room) i)
-    (Stuck (Separated LineText) (RoomParts (suc count) room) i) (step i) _
-    (and_read (λ x j. Took i.left (Padded (LineText x)) j.left × (length x ≤ room)) (λ _ j. total j ≡ total i) (step i)
-    (padded_sound LineText (λ x. length x ≤ room) (line room) (line_sound room) i) (padded_keeps (line room) (line_keeps room) i))
-    (padded_fails LineText (RoomList room) (line room) (line_fails room) i)
-    (λ fault s. stuck_as (λ x. Padded (LineText x)) (Separated LineText) (RoomList room) (RoomParts (suc count) room) (λ x. x ∷ []) i fault (λ x text t. t) (one_part count room) s)
-    (λ x j known. later_fails LineText (RoomParts count (room - length x)) (RoomParts (suc count) room) (parts count (room - length x)) (parts_fails count (room - length x)) x i j known.0.0 known.1
-    (more_parts count room x known.0.1) _ refl)
+parts_fails count room i = rw (parts_are_items count room i) (fails_so (Stuck (Separated LineText) (λ k xs. RoomParts count room k (rings_of alone xs)) i) _ (items ring alone count count room i)
+    (λ fault s. stuck_as (Separated LineText) (Separated LineText) (λ k xs. RoomParts count room k (rings_of alone xs)) (RoomParts count room) (λ xs. xs) i fault (λ xs text t. t)
+    (λ k xs counts. subst (RoomParts count room k) (alone_of xs) counts) s)
+    (items_fails LineText ring alone (λ n m. padded_sound LineText (λ x. FitsCounts n m (alone x)) (ring n m) (ring_sound n m)) ring_keeps ring_fails count count room i))
+
+-- polygons
+polygon_fails : (count room : ℕ) → Fails PolygonText (RoomParts count room) (polygon count room)
+unfolding polygon
+polygon_fails count room = enclosed_fails (Separated LineText) (RoomParts count room) (parts count room) (parts_fails count room)
+
+polygons_fails : (turns count room : ℕ) → Fails (Separated PolygonText) (λ k xs. RoomParts count room k (joined_rings xs)) (polygons turns count room)
+polygons_fails turns count room i = rw (polygons_are_items turns count room i)
+    (items_fails PolygonText polygon itself (λ n m. padded_sound PolygonText (FitsCounts n m) (polygon n m) (polygon_sound n m)) polygon_keeps polygon_fails turns count room i)
 
 -- the whole text
 
@@ -590,6 +620,11 @@ rings_counts AtNumber ls fits = (fits.1, fits.0)
 rings_counts AtPosition ls full = full
 rings_counts AtPart ls full = full
 
+polygons_counts : (k : Kind) (es : List (List (List Position))) → RoomParts part_limit position_limit k (joined_rings es) → RoomGeometry k (MultiPolygon es)
+polygons_counts AtNumber es fits = (fits.1, fits.0)
+polygons_counts AtPosition es full = full
+polygons_counts AtPart es full = full
+
 -- behind a type's name
 named_fails : {A B C : Type 0} (own : List ℕ) (P : A → Rule) (f : B → List A) (R : Kind → B → Type 0) (make : B → Geometry) (inner : Reader (List C)) (result : List C → Geometry)
     → ((i : Input) → IfFails (inner i) (Stuck (λ x. Separated P (f x)) R i)) → ((x : B) (text : List ℕ) → (Word own ⨾ Body P (f x)) text → TaggedText (make x) text) → ((k : Kind) (x : B) → R k x → RoomGeometry k (make x))
@@ -604,30 +639,33 @@ lone_fails i = then_fails (λ _ _. Unit {0}) (Stuck (λ p. Padded (PositionText 
     (padded_fails PositionText (Room position_limit) (position position_limit) (position_fails position_limit) i) (λ fault s. s) (λ _ _ _. tt)
 
 typed_fails : (at : ℕ) (name : List ℕ) (i j : Input) → i.left ≡ name ++ j.left → total j ≡ total i
-    → (b1 b2 b3 b4 b5 : Bool) → str_eq_ignore_ascii_case name (codes "POINT") ≡ b1 → str_eq_ignore_ascii_case name (codes "MULTIPOINT") ≡ b2
-    → str_eq_ignore_ascii_case name (codes "LINESTRING") ≡ b3 → str_eq_ignore_ascii_case name (codes "MULTILINESTRING") ≡ b4 → str_eq_ignore_ascii_case name (codes "POLYGON") ≡ b5
+    → (b1 b2 b3 b4 b5 b6 : Bool) → str_eq_ignore_ascii_case name (codes "POINT") ≡ b1 → str_eq_ignore_ascii_case name (codes "MULTIPOINT") ≡ b2
+    → str_eq_ignore_ascii_case name (codes "LINESTRING") ≡ b3 → str_eq_ignore_ascii_case name (codes "MULTILINESTRING") ≡ b4 → str_eq_ignore_ascii_case name (codes "POLYGON") ≡ b5 → str_eq_ignore_ascii_case name (codes "MULTIPOLYGON") ≡ b6
     → IfFails ((if b1 then (lone >>= λ ps. pure (Point (first ps)))
     else if b2 then (positions point >>= λ ps. pure (MultiPoint ps))
     else if b3 then (positions position >>= λ ps. pure (LineString ps))
     else if b4 then (lists >>= λ ls. pure (MultiLineString ls))
     else if b5 then (lists >>= λ ls. pure (Polygon ls))
+    else if b6 then (nested_lists >>= λ es. pure (MultiPolygon es))
     else refuse at) j) (Stuck TaggedText RoomGeometry i)
-typed_fails at name i j split e true b2 b3 b4 b5 e1 e2 e3 e4 e5 = named_fails (codes "POINT") PositionText (λ p. p ∷ []) (Room position_limit) (λ p. Point (Some p))
+typed_fails at name i j split e true b2 b3 b4 b5 b6 e1 e2 e3 e4 e5 e6 = named_fails (codes "POINT") PositionText (λ p. p ∷ []) (Room position_limit) (λ p. Point (Some p))
     (padded (position position_limit) >>= λ p. pure (p ∷ [])) (λ ps. Point (first ps)) lone_fails (λ p text t. t) lone_counts i j (name, split, word_is name (codes "POINT") e1) e
-typed_fails at name i j split e false true b3 b4 b5 e1 e2 e3 e4 e5 = named_fails (codes "MULTIPOINT") PointText (λ ps. ps) (RoomList position_limit) MultiPoint
+typed_fails at name i j split e false true b3 b4 b5 b6 e1 e2 e3 e4 e5 e6 = named_fails (codes "MULTIPOINT") PointText (λ ps. ps) (RoomList position_limit) MultiPoint
     (separated point position_limit) MultiPoint (points_fails position_limit) (λ ps text t. t) points_counts i j (name, split, word_is name (codes "MULTIPOINT") e2) e
-typed_fails at name i j split e false false true b4 b5 e1 e2 e3 e4 e5 = named_fails (codes "LINESTRING") PositionText (λ ps. ps) (RoomList position_limit) LineString
+typed_fails at name i j split e false false true b4 b5 b6 e1 e2 e3 e4 e5 e6 = named_fails (codes "LINESTRING") PositionText (λ ps. ps) (RoomList position_limit) LineString
     (separated position position_limit) LineString (positions_fails position_limit) (λ ps text t. t) line_counts i j (name, split, word_is name (codes "LINESTRING") e3) e
-typed_fails at name i j split e false false false true b5 e1 e2 e3 e4 e5 = named_fails (codes "MULTILINESTRING") LineText (λ ls. ls) (RoomParts part_limit position_limit) MultiLineString
+typed_fails at name i j split e false false false true b5 b6 e1 e2 e3 e4 e5 e6 = named_fails (codes "MULTILINESTRING") LineText (λ ls. ls) (RoomParts part_limit position_limit) MultiLineString
     (parts part_limit position_limit) MultiLineString (parts_fails part_limit position_limit) (λ ls text t. t) lines_counts i j (name, split, word_is name (codes "MULTILINESTRING") e4) e
-typed_fails at name i j split e false false false false true e1 e2 e3 e4 e5 = named_fails (codes "POLYGON") LineText (λ ls. ls) (RoomParts part_limit position_limit) Polygon
+typed_fails at name i j split e false false false false true b6 e1 e2 e3 e4 e5 e6 = named_fails (codes "POLYGON") LineText (λ ls. ls) (RoomParts part_limit position_limit) Polygon
     (parts part_limit position_limit) Polygon (parts_fails part_limit position_limit) (λ ls text t. t) rings_counts i j (name, split, word_is name (codes "POLYGON") e5) e
-typed_fails at name i j split e false false false false false e1 e2 e3 e4 e5 = tt
+typed_fails at name i j split e false false false false false true e1 e2 e3 e4 e5 e6 = named_fails (codes "MULTIPOLYGON") PolygonText (λ es. es) (λ k es. RoomParts part_limit position_limit k (joined_rings es)) MultiPolygon
+    (polygons part_limit part_limit position_limit) MultiPolygon (polygons_fails part_limit part_limit position_limit) (λ es text t. t) polygons_counts i j (name, split, word_is name (codes "MULTIPOLYGON") e6) e
+typed_fails at name i j split e false false false false false false e1 e2 e3 e4 e5 e6 = tt
 
 tagged_fails : Fails TaggedText RoomGeometry tagged
 unfolding tagged typed
 tagged_fails i = let m = prefix_len is_ascii_alphabetic i.left in
-    typed_fails i.at (take m i.left) i (after m i) (sym (take-append-drop m i.left)) (run_keeps is_ascii_alphabetic i) _ _ _ _ _ refl refl refl refl refl
+    typed_fails i.at (take m i.left) i (after m i) (sym (take-append-drop m i.left)) (run_keeps is_ascii_alphabetic i) _ _ _ _ _ _ refl refl refl refl refl refl
 
 ended_quiet : (i : Input) (g : Geometry) (j : Input) (empty : Bool) → IfFails (and_then (if empty then Ok (true, j) else Err (Syntax j.at)) (λ _. pure g)) (Stuck Writes RoomGeometry i)
 ended_quiet i g j true = tt

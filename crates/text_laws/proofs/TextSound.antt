@@ -1,18 +1,19 @@
 -- What is read is spelled.
-use Rattle.std.proofs.Common.{◌≡◌, refl, sym, ap, ◌∙◌, subst, ℕ, zero, suc, ◌+◌, ◌-◌, ◌<◌, ◌≤◌, ◌==◌, inl, inr, Bool, true, false, List, [], ◌∷◌, ◌++◌, length, take, drop, Result, Ok, Err, nat_lt, codes, if◌then◌else◌, take-append-drop, length-append, append-nil, suc-le-suc, zero-le, lt_irrefl, arith}
-use Rattle.std.specs.List.{prefix_len, flat_map}
+use Rattle.std.proofs.Common.{◌≡◌, refl, sym, ap, ◌∙◌, subst, ℕ, zero, suc, ◌+◌, ◌-◌, ◌<◌, ◌≤◌, ◌==◌, inl, inr, Bool, true, false, List, [], ◌∷◌, ◌++◌, length, take, drop, Result, Ok, Err, nat_lt, codes, if◌then◌else◌, take-append-drop, append-nil, suc-le-suc, zero-le, lt_irrefl}
+use Rattle.std.specs.List.{prefix_len}
 use Rattle.std.specs.Option.{option_to_list}
 use Rattle.std.specs.Char.{is_ascii_alphabetic, is_ascii_digit}
 use Rattle.std.specs.Str.{str_eq_ignore_ascii_case}
 use Rattle.std.specs.Str.Parse.{digits_value}
 use Rattle.std.proofs.lemmas.Bool.{true≢false, ltb-false}
 use Rattle.geometry_model.specs.Points.{Position}
-use Rattle.geometry_model.specs.Geometries.{Geometry, Point, MultiPoint, LineString, MultiLineString, Polygon}
-use Rattle.geometry_model.specs.WellKnownText.{Rule, ◌⨾◌, Byte, Blank, Space, Padded, Enclosed, Word, Separated, Sign, Digits, Fraction, Numeral, Number, PositionText, PointText, LineText, Body, TaggedText, Writes, Spells, IsWithinCounts, coordinate_limit, position_limit, part_limit, is_white, is_whole}
-use Rattle.geometry_model.specs.TextReading.{Input, Reader, FoundNumber, and_then, pure, after, begins_with, refuse, too_long, run, eat, ◌>>◌, ◌>>=◌, expect, padded, enclosed, sign, fraction, numeral, coordinate, space, position, point, separated, line, parts, body, lone, first, positions, lists, typed, tagged, whole, outcome, read_text}
+use Rattle.geometry_model.specs.Geometries.{Geometry, Point, MultiPoint, LineString, MultiLineString, Polygon, MultiPolygon, joined_rings}
+use Rattle.geometry_model.specs.WellKnownText.{Rule, ◌⨾◌, Byte, Blank, Space, Padded, Enclosed, Word, Separated, Sign, Digits, Fraction, Numeral, Number, PositionText, PointText, LineText, PolygonText, Body, TaggedText, Writes, Spells, IsWithinCounts, coordinate_limit, position_limit, part_limit, is_white, is_whole}
+use Rattle.geometry_model.specs.TextReading.{Input, Reader, FoundNumber, and_then, pure, after, begins_with, refuse, too_long, run, eat, ◌>>◌, ◌>>=◌, expect, padded, enclosed, sign, fraction, numeral, coordinate, space, position, point, separated, line, parts, polygon, polygons, body, lone, first, positions, lists, nested_lists, typed, tagged, whole, outcome, read_text}
 use Rattle.geometry_model.specs.declared.text_faults.TextFault.{TextFault}
 use Rattle.geometry_model.specs.declared.text_faults.TextFault.TheVariants.{Syntax}
 use Rattle.text_laws.specs.ReadingLaws.{ReadIsSpelled}
+use Rattle.text_laws.proofs.RoomLists.{positions_in, items, ring, alone, itself, rings_of, alone_of, parts_are_items, polygons_are_items, FitsCounts, one_fits, both_fit}
 use Rattle.text_laws.proofs.TextSteps.{all_pass, stops, no_run, first_is, some, nothing, word_is, Took, both, took_run}
 
 -- what is found, where something is, has the property
@@ -178,39 +179,50 @@ pub line_sound : (room : ℕ) → Sound LineText (λ xs. length xs ≤ room) (li
 unfolding line
 line_sound room = enclosed_sound (Separated PositionText) (λ xs. length xs ≤ room) (separated position room) (separated_sound PositionText position position_sound room)
 
--- the elements and rings, and all their positions
-abbrev pub FitsCounts : ℕ → ℕ → List (List Position) → Type 0
-FitsCounts count room xs = (length xs ≤ count) × (length (flat_map (λ x. x) xs) ≤ room)
-
-added : (x ys : List Position) (room : ℕ) → length x ≤ room → length ys ≤ room - length x → length (x ++ ys) ≤ room
-added x ys room fits others = omega (arith, length-append x ys, fits, others)
-
-never : (i : Input) → IfRead {A = List (List Position)} ((expect 40 >> too_long) i) (λ _ _. ⊥)
-never i = then_read (λ _ _. Unit {0}) (expect 40 i) _ _ (any_read (expect 40 i)) (λ _ j _. tt)
-
-refused_part : (count room : ℕ) → Sound (Separated LineText) (FitsCounts count room) (padded (expect 40 >> too_long))
-refused_part count room i = weaker (λ x j. Took i.left (Padded (λ _. ⊥)) j.left × ⊥) _ (padded (expect 40 >> too_long) i) (λ x j taken. absurd taken.1)
-    (padded_sound (λ _ _. ⊥) (λ _. ⊥) (expect 40 >> too_long) (λ k. weaker (λ _ _. ⊥) _ ((expect 40 >> too_long) k) (λ x j b. absurd b) (never k)) i)
-
-more_parts : (count room : ℕ) (next : Reader (List (List Position))) (x : List Position) → length x ≤ room
-    → Sound (Separated LineText) (FitsCounts count (room - length x)) next
-    → (from : List ℕ) (j : Input) → Took from (Padded (LineText x)) j.left → (met : Bool) → begins_with (λ b. b == 44) j.left ≡ met
+-- items, and what they use up of the rooms
+more_items : {A : Type 0} (P : A → Rule) (rings : A → List (List Position)) (count room : ℕ) (next : Reader (List A)) (x : A) → FitsCounts count room (rings x)
+    → Sound (Separated P) (λ xs. FitsCounts (count - length (rings x)) (room - positions_in (rings x)) (rings_of rings xs)) next
+    → (from : List ℕ) (j : Input) → Took from (Padded (P x)) j.left → (met : Bool) → begins_with (λ b. b == 44) j.left ≡ met
     → IfRead ((if met then (next >>= λ more. pure (x ∷ more)) else pure (x ∷ [])) (if met then after 1 j else j))
-    (λ xs k. Took from (Separated LineText xs) k.left × FitsCounts (suc count) room xs)
-more_parts count room next x fits sound from j one true e =
-    then_read (λ more k. Took (drop 1 j.left) (Separated LineText more) k.left × FitsCounts count (room - length x) more) (next (after 1 j)) _ _ (sound (after 1 j))
+    (λ xs k. Took from (Separated P xs) k.left × FitsCounts count room (rings_of rings xs))
+more_items P rings count room next x fits sound from j one true e =
+    then_read (λ more k. Took (drop 1 j.left) (Separated P more) k.left × FitsCounts (count - length (rings x)) (room - positions_in (rings x)) (rings_of rings more)) (next (after 1 j)) _ _ (sound (after 1 j))
     (λ more k others. (
-      joined LineText x more from j.left (drop 1 j.left) k.left one (44 ∷ [], first_is 44 j.left e, refl) others.0,
-      (suc-le-suc others.1.0, added x (flat_map (λ y. y) more) room fits others.1.1),
+      joined P x more from j.left (drop 1 j.left) k.left one (44 ∷ [], first_is 44 j.left e, refl) others.0,
+      both_fit count room (rings x) (rings_of rings more) fits others.1,
     ))
-more_parts count room next x fits sound from j one false e = (one, (suc-le-suc zero-le, added x [] room fits zero-le))
+more_items P rings count room next x fits sound from j one false e = (one, one_fits count room (rings x) fits)
+
+items_sound : {A : Type 0} (P : A → Rule) (item : ℕ → ℕ → Reader A) (rings : A → List (List Position)) → ((count room : ℕ) → Sound P (λ x. FitsCounts count room (rings x)) (item count room))
+    → (turns count room : ℕ) → Sound (Separated P) (λ xs. FitsCounts count room (rings_of rings xs)) (items item rings turns count room)
+unfolding items
+items_sound P item rings sound zero count room i = then_read (λ x j. Took i.left (Padded (P x)) j.left × FitsCounts count room (rings x)) (padded (item count room) i) _ _
+    (padded_sound P (λ x. FitsCounts count room (rings x)) (item count room) (sound count room) i)
+    (λ x j taken. (taken.0, one_fits count room (rings x) taken.1))
+items_sound P item rings sound (suc turns) count room i = then_read (λ x j. Took i.left (Padded (P x)) j.left × FitsCounts count room (rings x)) (padded (item count room) i) _ _
+    (padded_sound P (λ x. FitsCounts count room (rings x)) (item count room) (sound count room) i)
+    (λ x j taken. more_items P rings count room (items item rings turns (count - length (rings x)) (room - positions_in (rings x))) x taken.1
+    (items_sound P item rings sound turns (count - length (rings x)) (room - positions_in (rings x))) i.left j taken.0 _ refl)
+
+-- rings and elements
+pub ring_sound : (count room : ℕ) → Sound LineText (λ x. FitsCounts count room (alone x)) (ring count room)
+unfolding ring
+ring_sound zero room i = then_read (λ _ _. Unit {0}) (expect 40 i) _ _ (any_read (expect 40 i)) (λ _ j _. tt)
+ring_sound (suc count) room i = weaker (λ x j. Took i.left (LineText x) j.left × (length x ≤ room)) (λ x j. Took i.left (LineText x) j.left × FitsCounts (suc count) room (alone x)) (line room i)
+    (λ x j taken. (taken.0, (suc-le-suc zero-le, rw (append-nil x) taken.1))) (line_sound room i)
 
 pub parts_sound : (count room : ℕ) → Sound (Separated LineText) (FitsCounts count room) (parts count room)
-unfolding parts
-parts_sound zero room i = refused_part zero room i
-parts_sound (suc count) room i = then_read (λ x j. Took i.left (Padded (LineText x)) j.left × (length x ≤ room)) (padded (line room) i) _ _
-    (padded_sound LineText (λ x. length x ≤ room) (line room) (line_sound room) i)
-    (λ x j taken. more_parts count room (parts count (room - length x)) x taken.1 (parts_sound count (room - length x)) i.left j taken.0 _ refl)
+parts_sound count room i = rw (parts_are_items count room i)
+    (weaker (λ xs j. Took i.left (Separated LineText xs) j.left × FitsCounts count room (rings_of alone xs)) (λ xs j. Took i.left (Separated LineText xs) j.left × FitsCounts count room xs)
+    (items ring alone count count room i) (λ xs j taken. (taken.0, subst (FitsCounts count room) (alone_of xs) taken.1)) (items_sound LineText ring alone ring_sound count count room i))
+
+-- polygons
+pub polygon_sound : (count room : ℕ) → Sound PolygonText (FitsCounts count room) (polygon count room)
+unfolding polygon
+polygon_sound count room = enclosed_sound (Separated LineText) (FitsCounts count room) (parts count room) (parts_sound count room)
+
+pub polygons_sound : (turns count room : ℕ) → Sound (Separated PolygonText) (λ xs. FitsCounts count room (joined_rings xs)) (polygons turns count room)
+polygons_sound turns count room i = rw (polygons_are_items turns count room i) (items_sound PolygonText polygon itself polygon_sound turns count room i)
 
 pub in_parentheses : {A : Type 0} (P : A → Rule) (xs : List A) (us bs cs : List ℕ) → Took us Blank bs → Took bs (Enclosed (Separated P xs)) cs → Took us (Body P xs) cs
 in_parentheses P [] us bs cs white taken = absurd taken.2.4.3
@@ -279,38 +291,42 @@ abbrev Tagged : List ℕ → Geometry → Input → Type 0
 Tagged from g j = Took from (TaggedText g) j.left × IsWithinCounts g
 
 typed_by : (at : ℕ) (name : List ℕ) (i : Input) (from : List ℕ) → begins_with is_ascii_alphabetic i.left ≡ false → from ≡ name ++ i.left
-    → (b1 b2 b3 b4 b5 : Bool) → str_eq_ignore_ascii_case name (codes "POINT") ≡ b1 → str_eq_ignore_ascii_case name (codes "MULTIPOINT") ≡ b2
-    → str_eq_ignore_ascii_case name (codes "LINESTRING") ≡ b3 → str_eq_ignore_ascii_case name (codes "MULTILINESTRING") ≡ b4 → str_eq_ignore_ascii_case name (codes "POLYGON") ≡ b5
+    → (b1 b2 b3 b4 b5 b6 : Bool) → str_eq_ignore_ascii_case name (codes "POINT") ≡ b1 → str_eq_ignore_ascii_case name (codes "MULTIPOINT") ≡ b2
+    → str_eq_ignore_ascii_case name (codes "LINESTRING") ≡ b3 → str_eq_ignore_ascii_case name (codes "MULTILINESTRING") ≡ b4 → str_eq_ignore_ascii_case name (codes "POLYGON") ≡ b5 → str_eq_ignore_ascii_case name (codes "MULTIPOLYGON") ≡ b6
     → IfRead ((if b1 then (lone >>= λ ps. pure (Point (first ps)))
     else if b2 then (positions point >>= λ ps. pure (MultiPoint ps))
     else if b3 then (positions position >>= λ ps. pure (LineString ps))
     else if b4 then (lists >>= λ ls. pure (MultiLineString ls))
     else if b5 then (lists >>= λ ls. pure (Polygon ls))
+    else if b6 then (nested_lists >>= λ es. pure (MultiPolygon es))
     else refuse at) i) (Tagged from)
-typed_by at name i from quiet whole_is true b2 b3 b4 b5 e1 e2 e3 e4 e5 = then_read (λ ps j. Took i.left (Body PositionText ps) j.left × IsLone ps) (lone i) _ _ (lone_sound i quiet)
+typed_by at name i from quiet whole_is true b2 b3 b4 b5 b6 e1 e2 e3 e4 e5 e6 = then_read (λ ps j. Took i.left (Body PositionText ps) j.left × IsLone ps) (lone i) _ _ (lone_sound i quiet)
     (λ ps j taken. (
       both from i.left j.left (Word (codes "POINT")) (Body PositionText (option_to_list (first ps))) (name, whole_is, word_is name (codes "POINT") e1)
           (rw taken.1.0 taken.0),
       (rw taken.1.0 taken.1.1, zero-le),
     ))
-typed_by at name i from quiet whole_is false true b3 b4 b5 e1 e2 e3 e4 e5 = then_read (λ ps j. Took i.left (Body PointText ps) j.left × (length ps ≤ position_limit)) (positions point i) _ _
+typed_by at name i from quiet whole_is false true b3 b4 b5 b6 e1 e2 e3 e4 e5 e6 = then_read (λ ps j. Took i.left (Body PointText ps) j.left × (length ps ≤ position_limit)) (positions point i) _ _
     (body_sound PointText (λ ps. length ps ≤ position_limit) _ zero-le (separated_sound PointText point point_sound position_limit) i quiet)
     (λ ps j taken. (both from i.left j.left (Word (codes "MULTIPOINT")) (Body PointText ps) (name, whole_is, word_is name (codes "MULTIPOINT") e2) taken.0, (taken.1, zero-le)))
-typed_by at name i from quiet whole_is false false true b4 b5 e1 e2 e3 e4 e5 = then_read (λ ps j. Took i.left (Body PositionText ps) j.left × (length ps ≤ position_limit)) (positions position i) _ _
+typed_by at name i from quiet whole_is false false true b4 b5 b6 e1 e2 e3 e4 e5 e6 = then_read (λ ps j. Took i.left (Body PositionText ps) j.left × (length ps ≤ position_limit)) (positions position i) _ _
     (body_sound PositionText (λ ps. length ps ≤ position_limit) _ zero-le (separated_sound PositionText position position_sound position_limit) i quiet)
     (λ ps j taken. (both from i.left j.left (Word (codes "LINESTRING")) (Body PositionText ps) (name, whole_is, word_is name (codes "LINESTRING") e3) taken.0, (taken.1, zero-le)))
-typed_by at name i from quiet whole_is false false false true b5 e1 e2 e3 e4 e5 = then_read (λ ls j. Took i.left (Body LineText ls) j.left × FitsCounts part_limit position_limit ls) (lists i) _ _
+typed_by at name i from quiet whole_is false false false true b5 b6 e1 e2 e3 e4 e5 e6 = then_read (λ ls j. Took i.left (Body LineText ls) j.left × FitsCounts part_limit position_limit ls) (lists i) _ _
     (body_sound LineText (FitsCounts part_limit position_limit) _ (zero-le, zero-le) (parts_sound part_limit position_limit) i quiet)
     (λ ls j taken. (both from i.left j.left (Word (codes "MULTILINESTRING")) (Body LineText ls) (name, whole_is, word_is name (codes "MULTILINESTRING") e4) taken.0, (taken.1.1, taken.1.0)))
-typed_by at name i from quiet whole_is false false false false true e1 e2 e3 e4 e5 = then_read (λ ls j. Took i.left (Body LineText ls) j.left × FitsCounts part_limit position_limit ls) (lists i) _ _
+typed_by at name i from quiet whole_is false false false false true b6 e1 e2 e3 e4 e5 e6 = then_read (λ ls j. Took i.left (Body LineText ls) j.left × FitsCounts part_limit position_limit ls) (lists i) _ _
     (body_sound LineText (FitsCounts part_limit position_limit) _ (zero-le, zero-le) (parts_sound part_limit position_limit) i quiet)
     (λ ls j taken. (both from i.left j.left (Word (codes "POLYGON")) (Body LineText ls) (name, whole_is, word_is name (codes "POLYGON") e5) taken.0, (taken.1.1, taken.1.0)))
-typed_by at name i from quiet whole_is false false false false false e1 e2 e3 e4 e5 = tt
+typed_by at name i from quiet whole_is false false false false false true e1 e2 e3 e4 e5 e6 = then_read (λ es j. Took i.left (Body PolygonText es) j.left × FitsCounts part_limit position_limit (joined_rings es)) (nested_lists i) _ _
+    (body_sound PolygonText (λ es. FitsCounts part_limit position_limit (joined_rings es)) _ (zero-le, zero-le) (polygons_sound part_limit part_limit position_limit) i quiet)
+    (λ es j taken. (both from i.left j.left (Word (codes "MULTIPOLYGON")) (Body PolygonText es) (name, whole_is, word_is name (codes "MULTIPOLYGON") e6) taken.0, (taken.1.1, taken.1.0)))
+typed_by at name i from quiet whole_is false false false false false false e1 e2 e3 e4 e5 e6 = tt
 
 tagged_sound : Sound TaggedText IsWithinCounts tagged
 unfolding tagged typed
 tagged_sound i = let m = prefix_len is_ascii_alphabetic i.left in
-    typed_by i.at (take m i.left) (after m i) i.left (stops is_ascii_alphabetic i.left) (sym (take-append-drop m i.left)) _ _ _ _ _ refl refl refl refl refl
+    typed_by i.at (take m i.left) (after m i) i.left (stops is_ascii_alphabetic i.left) (sym (take-append-drop m i.left)) _ _ _ _ _ _ refl refl refl refl refl refl
 
 ended : (text : List ℕ) (g : Geometry) (j : Input) → Took text (Writes g) j.left → IsWithinCounts g → (empty : Bool) → (length j.left == 0) ≡ empty
     → IfRead (and_then (if empty then Ok (true, j) else Err (Syntax j.at)) (λ _. pure g)) (λ h _. Writes h text × IsWithinCounts h)

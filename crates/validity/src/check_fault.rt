@@ -1,14 +1,15 @@
 //! Why a geometry isn't taken as valid.
 
-ghost use Rattle.std.specs.Prelude.{◌≡◌};
+ghost use Rattle.std.specs.Prelude.{◌≡◌, Some};
 ghost use Rattle.validity.specs.CheckFaults.{fault_in};
 
 use geometry_model::ValidityFault;
 use std::alloc::AllocError;
 use thiserror::Error;
 
-/// Why a geometry isn't taken as valid: its first fault (06-103r4, 6.1.7 and 6.1.11; the order is a profile), or want
-/// of memory. Elements and rings are numbered from 0, and ring 0 is the outer one.
+/// Why a geometry isn't taken as valid: its first fault (06-103r4, 6.1.7, 6.1.11.1 and 6.1.14; the order is this
+/// project's), or want of memory. Elements are numbered from 0, and so are rings, through all elements; the first ring
+/// of an element is its outer one.
 #[derive(Clone, Copy, Debug, PartialEq, Eq, Error)]
 pub enum CheckFault {
     /// V1: the line with this number has a single position, or the ring fewer than 4 with the closing one.
@@ -20,13 +21,13 @@ pub enum CheckFault {
     /// V3: the ring meets or covers itself.
     #[error("ring {0} isn't simple")]
     RingNotSimple(usize),
-    /// V4: the two rings share a point; the lesser number comes first.
+    /// V4: the two rings of one element share a point; the lesser number comes first.
     #[error("rings {0} and {1} meet")]
     RingsMeet(usize, usize),
-    /// V5: the hole isn't inside the outer ring.
+    /// V5: the hole isn't inside the outer ring of its element.
     #[error("hole {0} is outside")]
     HoleOutside(usize),
-    /// V6: of the two holes one is inside the other; the lesser number comes first.
+    /// V6: of the two holes of one element one is inside the other; the lesser number comes first.
     #[error("holes {0} and {1} are nested")]
     HolesNested(usize, usize),
     /// V7: rings of the two elements share a point; the lesser number comes first.
@@ -41,7 +42,23 @@ pub enum CheckFault {
 }
 
 impl CheckFault {
-    /// The fault of the geometry; none where memory ran out. (Profile.)
+    /// The refusal that tells of a fault.
+    pub(crate) fn of(fault: ValidityFault) -> CheckFault
+        ensures { fault_in result ≡ Some fault }
+    {
+        match fault {
+            ValidityFault::TooFewPoints(part) => CheckFault::TooFewPoints(part),
+            ValidityFault::RingNotClosed(ring) => CheckFault::RingNotClosed(ring),
+            ValidityFault::RingNotSimple(ring) => CheckFault::RingNotSimple(ring),
+            ValidityFault::RingsMeet(i, j) => CheckFault::RingsMeet(i, j),
+            ValidityFault::HoleOutside(ring) => CheckFault::HoleOutside(ring),
+            ValidityFault::HolesNested(i, j) => CheckFault::HolesNested(i, j),
+            ValidityFault::ElementsMeet(i, j) => CheckFault::ElementsMeet(i, j),
+            ValidityFault::ElementInside(i, j) => CheckFault::ElementInside(i, j),
+        }
+    }
+
+    /// The fault of the geometry; none where memory ran out.
     pub fn validity_fault(self) -> Option<ValidityFault>
         ensures { result ≡ fault_in self }
     {

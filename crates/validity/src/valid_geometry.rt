@@ -4,10 +4,10 @@ ghost use Rattle.std.specs.Prelude.{◌≡◌, IfOk, OnOk, IfErr, None};
 ghost use Rattle.geometry_model.specs.Geometries as spec;
 ghost use Rattle.geometry_model.specs.Validity.{IsValid};
 ghost use Rattle.geometry_model.specs.FirstFaults.{validity_fault};
-ghost use Rattle.validity.specs.CheckFaults.{IsFaultOf};
+ghost use Rattle.validity.specs.CheckFaults.{IsFaultOf, IsStandingFaultOf, IsFirstFaultOf};
 
 use crate::check_fault::CheckFault;
-use geometry_model::Kind;
+use geometry_model::{Kind, ValidityFault};
 use orient::Segment;
 use std::alloc::Global;
 use std::marker::Model;
@@ -72,14 +72,32 @@ fn edges_of(alloc: Global, geometry: &Geometry) -> Vec<Segment>
     }
 }
 
+/// The first fault of a geometry in the order of tests. Points have none.
+fn first_fault(geometry: &Geometry) -> Option<ValidityFault>
+    ensures { result ≡ validity_fault geometry.now }
+{
+    match geometry.kind() {
+        Kind::Point => None,
+        Kind::Line | Kind::Area => unreachable!("no geometry of these kinds is made yet"),
+    }
+}
+
 /// Takes a geometry as valid where it has no fault, and otherwise answers its first fault: the faults are tested in
-/// their order, V1 to V6, and within one the least numbers first (06-103r4, 6.1.7 and 6.1.11; the order is a
-/// profile). Points need no test. It may fail for want of memory too.
+/// their order, V1 to V8, and within one the least numbers first (06-103r4, 6.1.7, 6.1.11.1 and 6.1.14; the order is
+/// this project's). Points need no test. It may fail for want of memory too.
 pub fn check(alloc: Global, geometry: Geometry) -> Result<Valid, CheckFault>
     ensures same { IfOk result (λ valid. valid ≡ geometry) }
+    ensures valid { OnOk result (IsValid geometry) }
     ensures faultless { OnOk result (validity_fault geometry ≡ None) }
     ensures fault { IfErr result (IsFaultOf geometry) }
+    ensures stands { IfErr result (IsStandingFaultOf geometry) }
+    ensures first { IfErr result (IsFirstFaultOf geometry) }
 {
-    let segments = edges_of(alloc, &geometry);
-    Ok(Valid { geometry, segments })
+    match first_fault(&geometry) {
+        Some(fault) => Err(CheckFault::of(fault)),
+        None => {
+            let segments = edges_of(alloc, &geometry);
+            Ok(Valid { geometry, segments })
+        }
+    }
 }

@@ -1,42 +1,34 @@
 -- The tests of faults say what the faults say of rational points.
-use Rattle.std.proofs.Common.{◌≡◌, ◌≢◌, ◌↔◌, ◌⊎◌, inl, inr, ℕ, zero, suc, ◌+◌, ◌<◌, ◌==◌, Bool, true, false, not, ◌&&◌, ◌||◌, List, [], ◌∷◌, length, Option, Some, None, nat_lt, slice_get, if◌then◌else◌, refl, sym, ap, ◌∙◌, subst, zero-add, add-zero, add-one, suc-le-suc, zero-lt-suc, le_of_suc-le-suc, arith}
+use Rattle.std.proofs.Common.{◌≡◌, ◌≢◌, ◌↔◌, ◌⊎◌, inl, inr, ℕ, zero, suc, ◌+◌, ◌-◌, ◌<◌, ◌==◌, Bool, true, false, not, ◌&&◌, ◌||◌, List, [], ◌∷◌, length, Option, Some, None, nat_lt, slice_get, if◌then◌else◌, refl, sym, ap, ◌∙◌, subst, ltb-true, lt-ltb, zero-add, add-zero, add-one, suc-le-suc, zero-lt-suc, le_of_suc-le-suc, arith}
 use Rattle.std.specs.List.{list_any, enumerate_from}
 use Rattle.std.specs.Ordering.{int_eq}
 use Rattle.std.proofs.lemmas.Bool.{true≢false, false_from_ne_true}
-use Rattle.std.proofs.lemmas.Bool.Decides.{Decides-eqb, Decides-ltb}
+use Rattle.std.proofs.lemmas.Bool.Decides.{Decides-eqb}
 use Rattle.geometry_model.specs.Points.{Position, same_point, point_at}
 use Rattle.geometry_model.specs.Sides.{on}
-use Rattle.geometry_model.specs.Geometries.{Geometry, Edge, lines, edges_of_line, rings}
+use Rattle.geometry_model.specs.Geometries.{Geometry, Edge, lines, edges_of_line, rings, elements}
 use Rattle.geometry_model.specs.Locations.{last_after}
 use Rattle.geometry_model.specs.WellKnownText.{same_position}
-use Rattle.geometry_model.specs.Validity.{is_short, ShareOther, Clash, IsNotSimple, RingsShare, inside, IsNotClosed, HasFault}
-use Rattle.geometry_model.specs.FirstFaults.{share_point, share_other, clash, any_pair, is_not_simple, rings_share, is_not_closed, test_of, test_of_both, has_fault}
+use Rattle.geometry_model.specs.Validity.{is_short, ShareOther, Clash, IsNotSimple, RingsShare, inside, IsNotClosed, inside_element, Element, numbered_elements, ElementsShare, HasFault}
+use Rattle.geometry_model.specs.FirstFaults.{share_point, share_other, clash, any_pair, is_not_simple, rings_share, is_not_closed, elements_share, test_of, test_of_both, ring_of, has_fault}
 use Rattle.geometry_model.specs.declared.validity_faults.ValidityFault.{ValidityFault}
-use Rattle.geometry_model.specs.declared.validity_faults.ValidityFault.TheVariants.{TooFewPoints, RingNotClosed, RingNotSimple, RingsMeet, HoleOutside, HolesNested}
+use Rattle.geometry_model.specs.declared.validity_faults.ValidityFault.TheVariants.{TooFewPoints, RingNotClosed, RingNotSimple, RingsMeet, HoleOutside, HolesNested, ElementsMeet, ElementInside}
 use Rattle.integers.proofs.Tests.{equal_yes}
 use Rattle.geometry_laws.proofs.Scaling.{and_parts, and_from}
 use Rattle.validity_laws.specs.FaultLaws.{FaultIsDecided, AreClosed}
 use Rattle.validity_laws.proofs.SharedPoints.{shared_point_is_decided, start_on, end_on, one_above, at_both, no_difference}
+use Rattle.validity_laws.proofs.ElementFacts.{or_true, or_from, some_from, some_yes, ring_from, ring_yes, later_ring, greater_number}
 use Rattle.validity_laws.proofs.OtherPoints.{other_point_is_decided, same_from, same_yes}
-
-or_true : (a b : Bool) → (a ≡ true) ⊎ (b ≡ true) → a || b ≡ true
-or_true true b h = refl
-or_true false b (inl e) = absurd (true≢false (sym e))
-or_true false b (inr e) = e
-
-or_from : (a b : Bool) → a || b ≡ true → (a ≡ true) ⊎ (b ≡ true)
-or_from true b e = inl refl
-or_from false b e = inr e
 
 -- ---- the test of one list, and of two
 one_is : (test : List Position → Bool) (o : Option (List Position)) → (test_of test o ≡ true) ↔ ((ps : List Position) × (o ≡ Some ps) × (test ps ≡ true))
 one_is test None = ((λ h. absurd (true≢false (sym h))), (λ t. absurd (let e = t.1 in cc)))
 one_is test (Some ps) = ((λ h. (ps, refl, h)), (λ t. let e : ps ≡ t.0 = (let f = t.1 in cc) in ap test e ∙ t.2))
 
-abbrev Two : (List Position → List Position → Bool) → Option (List Position) → Option (List Position) → Type 0
-Two test o p = (r s : List Position) × (o ≡ Some r) × (p ≡ Some s) × (test r s ≡ true)
+abbrev Two : {A : Type 0} → (A → A → Bool) → Option A → Option A → Type 0
+Two {A} test o p = (r s : A) × (o ≡ Some r) × (p ≡ Some s) × (test r s ≡ true)
 
-two_are : (test : List Position → List Position → Bool) (o p : Option (List Position)) → (test_of_both test o p ≡ true) ↔ Two test o p
+two_are : {A : Type 0} (test : A → A → Bool) (o p : Option A) → (test_of_both test o p ≡ true) ↔ Two test o p
 two_are test None p = ((λ h. absurd (true≢false (sym h))), (λ t. absurd (let e = t.2 in cc)))
 two_are test (Some r) None = ((λ h. absurd (true≢false (sym h))), (λ t. absurd (let e = t.3 in cc)))
 two_are test (Some r) (Some s) = (
@@ -241,6 +233,114 @@ not_true : (b : Bool) → not b ≡ true → b ≡ false
 not_true true h = absurd (true≢false (sym h))
 not_true false h = refl
 
+elements_share_is : (d e : List (List Position)) → (elements_share d e ≡ true) ↔ ElementsShare d e
+elements_share_is d e = (
+  (λ h. let k = some_from (λ r. list_any (rings_share r) e) d h in let l = some_from (rings_share k.0) e k.2 in
+      record { r = k.0; s = l.0; first = k.1; second = l.1; share = (rings_share_is k.0 l.0).0 l.2 }),
+  (λ w. some_yes (λ r. list_any (rings_share r) e) d w.r w.first (some_yes (rings_share w.r) e w.s w.second ((rings_share_is w.r w.s).1 w.share))),
+)
+
+-- ---- faults of two rings of one polygon
+abbrev meeting_test : ℕ → ℕ → Element → Bool
+meeting_test i j e = nat_lt i j && test_of_both rings_share (ring_of e i) (ring_of e j)
+
+meeting_is : (g : Geometry) (i j : ℕ) → (has_fault g (RingsMeet i j) ≡ true) ↔ HasFault g (RingsMeet i j)
+meeting_is g i j = (
+  (λ h. let k = some_from (meeting_test i j) (numbered_elements g) h in
+      let parts = and_parts (nat_lt i j) (test_of_both rings_share (ring_of k.0 i) (ring_of k.0 j)) k.2 in
+      let t = (two_are rings_share (ring_of k.0 i) (ring_of k.0 j)).0 parts.1 in
+      let r = ring_from k.0 i t.0 t.2 in let s = ring_from k.0 j t.1 t.3 in
+      (k.0, i - k.0.first, j - k.0.first, t.0, t.1, k.1, later_ring k.0.first (i - k.0.first) (j - k.0.first) i j r.0 s.0 (ltb-true i j parts.0), r, s, (rings_share_is t.0 t.1).0 t.4)),
+  (λ t. some_yes (meeting_test i j) (numbered_elements g) t.0 t.5
+      (and_from (nat_lt i j) (test_of_both rings_share (ring_of t.0 i) (ring_of t.0 j)) (lt-ltb i j (greater_number t.0.first t.1 t.2 i j t.7.0 t.8.0 t.6))
+      ((two_are rings_share (ring_of t.0 i) (ring_of t.0 j)).1 (t.3, t.4, ring_yes t.0 t.1 i t.3 t.7, ring_yes t.0 t.2 j t.4 t.8, (rings_share_is t.3 t.4).1 t.9)))),
+)
+
+abbrev off : List Position → List Position → Bool
+off outer hole = not (inside outer hole)
+
+abbrev outside_test : ℕ → Element → Bool
+outside_test i e = nat_lt e.first i && test_of_both off (ring_of e e.first) (ring_of e i)
+
+outside_is : (g : Geometry) (i : ℕ) → (has_fault g (HoleOutside i) ≡ true) ↔ HasFault g (HoleOutside i)
+outside_is g i = (
+  (λ h. let k = some_from (outside_test i) (numbered_elements g) h in
+      let parts = and_parts (nat_lt k.0.first i) (test_of_both off (ring_of k.0 k.0.first) (ring_of k.0 i)) k.2 in
+      let t = (two_are off (ring_of k.0 k.0.first) (ring_of k.0 i)).0 parts.1 in
+      let r = ring_from k.0 k.0.first t.0 t.2 in let s = ring_from k.0 i t.1 t.3 in
+      (k.0, i - k.0.first, t.0, t.1, k.1, behind k.0.first i (ltb-true k.0.first i parts.0), ap (slice_get k.0.rings) (nothing k.0.first) ∙ r.1, s, not_true (inside t.0 t.1) t.4)),
+  (λ t. some_yes (outside_test i) (numbered_elements g) t.0 t.4
+      (and_from (nat_lt t.0.first i) (test_of_both off (ring_of t.0 t.0.first) (ring_of t.0 i)) (lt-ltb t.0.first i (past t.0.first t.1 i t.7.0 t.5))
+      ((two_are off (ring_of t.0 t.0.first) (ring_of t.0 i)).1
+      (t.2, t.3, ring_yes t.0 0 t.0.first t.2 (sym (add-zero t.0.first), t.6), ring_yes t.0 t.1 i t.3 t.7, ap not t.8)))),
+)
+  where
+    behind : (first i : ℕ) → first < i → 0 < i - first
+    behind first i h = omega (arith, h)
+
+    nothing : (first : ℕ) → 0 ≡ first - first
+    nothing first = omega arith
+
+    past : (first k i : ℕ) → i ≡ first + k → 0 < k → first < i
+    past first k i e h = omega (arith, e, h)
+
+abbrev one_in_the_other : List Position → List Position → Bool
+one_in_the_other r s = inside r s || inside s r
+
+abbrev nested_test : ℕ → ℕ → Element → Bool
+nested_test i j e = nat_lt e.first i && nat_lt i j && test_of_both one_in_the_other (ring_of e i) (ring_of e j)
+
+nested_is : (g : Geometry) (i j : ℕ) → (has_fault g (HolesNested i j) ≡ true) ↔ HasFault g (HolesNested i j)
+nested_is g i j = (
+  (λ h. let k = some_from (nested_test i j) (numbered_elements g) h in
+      let parts = and_parts (nat_lt k.0.first i && nat_lt i j) (test_of_both one_in_the_other (ring_of k.0 i) (ring_of k.0 j)) k.2 in
+      let orders = and_parts (nat_lt k.0.first i) (nat_lt i j) parts.0 in
+      let t = (two_are one_in_the_other (ring_of k.0 i) (ring_of k.0 j)).0 parts.1 in
+      let r = ring_from k.0 i t.0 t.2 in let s = ring_from k.0 j t.1 t.3 in (
+        k.0,
+        i - k.0.first,
+        j - k.0.first,
+        t.0,
+        t.1,
+        k.1,
+        behind k.0.first i (ltb-true k.0.first i orders.0),
+        later_ring k.0.first (i - k.0.first) (j - k.0.first) i j r.0 s.0 (ltb-true i j orders.1),
+        r,
+        s,
+        or_from (inside t.0 t.1) (inside t.1 t.0) t.4,
+      )),
+  (λ t. some_yes (nested_test i j) (numbered_elements g) t.0 t.5
+      (and_from (nat_lt t.0.first i && nat_lt i j) (test_of_both one_in_the_other (ring_of t.0 i) (ring_of t.0 j))
+      (and_from (nat_lt t.0.first i) (nat_lt i j) (lt-ltb t.0.first i (past t.0.first t.1 i t.8.0 t.6)) (lt-ltb i j (greater_number t.0.first t.1 t.2 i j t.8.0 t.9.0 t.7)))
+      ((two_are one_in_the_other (ring_of t.0 i) (ring_of t.0 j)).1
+      (t.3, t.4, ring_yes t.0 t.1 i t.3 t.8, ring_yes t.0 t.2 j t.4 t.9, or_true (inside t.3 t.4) (inside t.4 t.3) t.10)))),
+)
+  where
+    behind : (first i : ℕ) → first < i → 0 < i - first
+    behind first i h = omega (arith, h)
+
+    past : (first k i : ℕ) → i ≡ first + k → 0 < k → first < i
+    past first k i e h = omega (arith, e, h)
+
+-- ---- faults of two polygons
+touching_is : (g : Geometry) (i j : ℕ) → (has_fault g (ElementsMeet i j) ≡ true) ↔ HasFault g (ElementsMeet i j)
+touching_is g i j = let k = two_are elements_share (slice_get (elements g) i) (slice_get (elements g) j) in (
+  (λ h. let parts = and_parts (nat_lt i j) (test_of_both elements_share (slice_get (elements g) i) (slice_get (elements g) j)) h in let t = k.0 parts.1 in
+      (t.0, t.1, ltb-true i j parts.0, t.2, t.3, (elements_share_is t.0 t.1).0 t.4)),
+  (λ t. and_from (nat_lt i j) (test_of_both elements_share (slice_get (elements g) i) (slice_get (elements g) j)) (lt-ltb i j t.2) (k.1 (t.0, t.1, t.3, t.4, (elements_share_is t.0 t.1).1 t.5))),
+)
+
+abbrev swallowed : List (List Position) → List (List Position) → Bool
+swallowed d e = inside_element e d
+
+swallowed_is : (g : Geometry) (i j : ℕ) → (has_fault g (ElementInside i j) ≡ true) ↔ HasFault g (ElementInside i j)
+swallowed_is g i j = let k = two_are swallowed (slice_get (elements g) i) (slice_get (elements g) j) in (
+  (λ h. let parts = and_parts (not (i == j)) (test_of_both swallowed (slice_get (elements g) i) (slice_get (elements g) j)) h in let t = k.0 parts.1 in
+      (t.0, t.1, (λ same. true≢false (sym ((Decides-eqb i j).1 same) ∙ not_true (i == j) parts.0)), t.2, t.3, t.4)),
+  (λ t. and_from (not (i == j)) (test_of_both swallowed (slice_get (elements g) i) (slice_get (elements g) j))
+      (ap not (false_from_ne_true (i == j) (λ same. t.2 ((Decides-eqb i j).0 same)))) (k.1 (t.0, t.1, t.3, t.4, t.5))),
+)
+
 -- what the test of a fault asks of the rings
 abbrev pub NeedsClosed : Geometry → ValidityFault → Type 0
 NeedsClosed g (TooFewPoints i) = Unit {0}
@@ -249,6 +349,8 @@ NeedsClosed g (RingNotSimple i) = AreClosed g
 NeedsClosed g (RingsMeet i j) = Unit {0}
 NeedsClosed g (HoleOutside i) = Unit {0}
 NeedsClosed g (HolesNested i j) = Unit {0}
+NeedsClosed g (ElementsMeet i j) = Unit {0}
+NeedsClosed g (ElementInside i j) = Unit {0}
 
 pub fault_decided : (g : Geometry) (fault : ValidityFault) → NeedsClosed g fault → (has_fault g fault ≡ true) ↔ HasFault g fault
 fault_decided g (TooFewPoints i) closed = one_is (is_short g) (slice_get (lines g) i)
@@ -258,22 +360,11 @@ fault_decided g (RingNotSimple i) closed = let k = one_is is_not_simple (slice_g
   (λ h. let t = k.0 h in (t.0, t.1, (simple_is t.0 (λ open_ring. closed i (t.0, t.1, open_ring))).0 t.2)),
   (λ t. k.1 (t.0, t.1, (simple_is t.0 (λ open_ring. closed i (t.0, t.1, open_ring))).1 t.2)),
 )
-fault_decided g (RingsMeet i j) closed = let k = two_are rings_share (slice_get (rings g) i) (slice_get (rings g) j) in (
-  (λ h. let parts = and_parts (nat_lt i j) (test_of_both rings_share (slice_get (rings g) i) (slice_get (rings g) j)) h in let t = k.0 parts.1 in
-      (t.0, t.1, (Decides-ltb i j).0 parts.0, t.2, t.3, (rings_share_is t.0 t.1).0 t.4)),
-  (λ t. and_from (nat_lt i j) (test_of_both rings_share (slice_get (rings g) i) (slice_get (rings g) j)) ((Decides-ltb i j).1 t.2) (k.1 (t.0, t.1, t.3, t.4, (rings_share_is t.0 t.1).1 t.5))),
-)
-fault_decided g (HoleOutside i) closed = let test : List Position → List Position → Bool = (λ outer hole. not (inside outer hole)) in let k = two_are test (slice_get (rings g) 0) (slice_get (rings g) i) in (
-  (λ h. let parts = and_parts (nat_lt 0 i) (test_of_both test (slice_get (rings g) 0) (slice_get (rings g) i)) h in let t = k.0 parts.1 in
-      (t.0, t.1, (Decides-ltb 0 i).0 parts.0, t.2, t.3, not_true (inside t.0 t.1) t.4)),
-  (λ t. and_from (nat_lt 0 i) (test_of_both test (slice_get (rings g) 0) (slice_get (rings g) i)) ((Decides-ltb 0 i).1 t.2) (k.1 (t.0, t.1, t.3, t.4, ap not t.5))),
-)
-fault_decided g (HolesNested i j) closed = let test : List Position → List Position → Bool = (λ r s. inside r s || inside s r) in let k = two_are test (slice_get (rings g) i) (slice_get (rings g) j) in (
-  (λ h. let parts = and_parts (nat_lt 0 i && nat_lt i j) (test_of_both test (slice_get (rings g) i) (slice_get (rings g) j)) h in let both = and_parts (nat_lt 0 i) (nat_lt i j) parts.0 in let t = k.0 parts.1 in
-      (t.0, t.1, (Decides-ltb 0 i).0 both.0, (Decides-ltb i j).0 both.1, t.2, t.3, or_from (inside t.0 t.1) (inside t.1 t.0) t.4)),
-  (λ t. and_from (nat_lt 0 i && nat_lt i j) (test_of_both test (slice_get (rings g) i) (slice_get (rings g) j)) (and_from (nat_lt 0 i) (nat_lt i j) ((Decides-ltb 0 i).1 t.2) ((Decides-ltb i j).1 t.3))
-      (k.1 (t.0, t.1, t.4, t.5, or_true (inside t.0 t.1) (inside t.1 t.0) t.6))),
-)
+fault_decided g (RingsMeet i j) closed = meeting_is g i j
+fault_decided g (HoleOutside i) closed = outside_is g i
+fault_decided g (HolesNested i j) closed = nested_is g i j
+fault_decided g (ElementsMeet i j) closed = touching_is g i j
+fault_decided g (ElementInside i j) closed = swallowed_is g i j
 
 pub fault_is_decided : FaultIsDecided
 fault_is_decided g (TooFewPoints i) closed = fault_decided g (TooFewPoints i) tt
@@ -282,3 +373,5 @@ fault_is_decided g (RingNotSimple i) closed = fault_decided g (RingNotSimple i) 
 fault_is_decided g (RingsMeet i j) closed = fault_decided g (RingsMeet i j) tt
 fault_is_decided g (HoleOutside i) closed = fault_decided g (HoleOutside i) tt
 fault_is_decided g (HolesNested i j) closed = fault_decided g (HolesNested i j) tt
+fault_is_decided g (ElementsMeet i j) closed = fault_decided g (ElementsMeet i j) tt
+fault_is_decided g (ElementInside i j) closed = fault_decided g (ElementInside i j) tt

@@ -1,14 +1,15 @@
 -- The first fault that is found stands, and none is found exactly where the geometry is valid.
-use Rattle.std.proofs.Common.{◌≡◌, ◌⊎◌, inl, inr, ℕ, zero, suc, ◌+◌, ◌-◌, ◌<◌, ◌≤◌, Bool, true, false, List, [], ◌∷◌, ◌++◌, length, map, flat_map, find, cond, Option, Some, None, slice_get, refl, sym, ap, ◌∙◌, zero-lt-suc, suc-le-suc, arith}
+use Rattle.std.proofs.Common.{◌≡◌, ◌⊎◌, inl, inr, ℕ, zero, suc, ◌+◌, ◌-◌, ◌<◌, ◌≤◌, Bool, true, false, List, [], ◌∷◌, ◌++◌, length, map, flat_map, find, cond, Option, Some, None, Contains, slice_index_or, refl, sym, ap, ◌∙◌, subst, zero-add, arith}
 use Rattle.std.specs.List.{range_with_len}
 use Rattle.std.proofs.lemmas.Bool.{true≢false}
-use Rattle.geometry_model.specs.Points.{Position}
-use Rattle.geometry_model.specs.Geometries.{Geometry, lines, rings}
-use Rattle.geometry_model.specs.Validity.{HasFault, IsValid}
-use Rattle.geometry_model.specs.FirstFaults.{has_fault, numbers, of_pairs, in_order, validity_fault}
+use Rattle.std.proofs.lemmas.List.{append_assoc}
+use Rattle.geometry_model.specs.Geometries.{Geometry, lines, rings, elements}
+use Rattle.geometry_model.specs.Validity.{Element, numbered_elements, HasFault, IsValid}
+use Rattle.geometry_model.specs.FirstFaults.{has_fault, numbers, of_pairs, rings_end, of_every_two, of_elements, in_order, validity_fault}
 use Rattle.geometry_model.specs.declared.validity_faults.ValidityFault.{ValidityFault}
-use Rattle.geometry_model.specs.declared.validity_faults.ValidityFault.TheVariants.{TooFewPoints, RingNotClosed, RingNotSimple, RingsMeet, HoleOutside, HolesNested}
+use Rattle.geometry_model.specs.declared.validity_faults.ValidityFault.TheVariants.{TooFewPoints, RingNotClosed, RingNotSimple, RingsMeet, HoleOutside, HolesNested, ElementsMeet, ElementInside}
 use Rattle.validity_laws.specs.FaultLaws.{AreClosed, FirstFaultStands, NoneIsFoundWhereValid}
+use Rattle.validity_laws.proofs.ElementFacts.{greater_number, within}
 use Rattle.validity_laws.proofs.FaultFacts.{NeedsClosed, fault_decided}
 
 -- ---- finding in a list
@@ -69,27 +70,39 @@ fails_at p f (suc count) start (suc d) e h = ap (λ m. p (f m)) (moved start d)
 fails_from : (p : ValidityFault → Bool) (f : ℕ → ValidityFault) (start n i : ℕ) → find p (map f (numbers start n)) ≡ None → start ≤ i → i < n → p (f i) ≡ false
 fails_from p f start n i e low high = ap (λ m. p (f m)) (omega (arith, low)) ∙ fails_at p f (n - start) start (i - start) e (omega (arith, low, high))
 
--- each pair of the range fails
-pair_fails_at : (p : ValidityFault → Bool) (f : ℕ → ℕ → ValidityFault) (count start n d j : ℕ) → find p (flat_map (λ i. map (f i) (numbers (i + 1) n)) (range_with_len start count)) ≡ None
-    → d < count → start + d < j → j < n → p (f (start + d) j) ≡ false
-pair_fails_at p f zero start n d j e h low high = absurd (omega (arith, h))
-pair_fails_at p f (suc count) start n zero j e h low high = ap (λ m. p (f m j)) (omega arith)
-    ∙ fails_from p (f start) (start + 1) n j (none_in_two p (map (f start) (numbers (start + 1) n)) (flat_map (λ i. map (f i) (numbers (i + 1) n)) (range_with_len (start + 1) count)) e).0 (omega (arith, low)) high
-pair_fails_at p f (suc count) start n (suc d) j e h low high = ap (λ m. p (f m j)) (moved start d)
-    ∙ pair_fails_at p f count (start + 1) n d j (none_in_two p (map (f start) (numbers (start + 1) n)) (flat_map (λ i. map (f i) (numbers (i + 1) n)) (range_with_len (start + 1) count)) e).1
-    (omega (arith, h)) (omega (arith, low)) high
+-- each pair of the range fails, the second number going from one that the first settles
+pair_fails_at : (p : ValidityFault → Bool) (f : ℕ → ℕ → ValidityFault) (from : ℕ → ℕ) (count start n d j : ℕ) → find p (flat_map (λ i. map (f i) (numbers (from i) n)) (range_with_len start count)) ≡ None
+    → d < count → from (start + d) ≤ j → j < n → p (f (start + d) j) ≡ false
+pair_fails_at p f from zero start n d j e h low high = absurd (omega (arith, h))
+pair_fails_at p f from (suc count) start n zero j e h low high = ap (λ m. p (f m j)) (unmoved start)
+    ∙ fails_from p (f start) (from start) n j (none_in_two p (map (f start) (numbers (from start) n)) (flat_map (λ i. map (f i) (numbers (from i) n)) (range_with_len (start + 1) count)) e).0
+    (subst (λ m. from m ≤ j) (unmoved start) low) high
+  where
+    unmoved : (start : ℕ) → start + 0 ≡ start
+    unmoved start = omega arith
+pair_fails_at p f from (suc count) start n (suc d) j e h low high = ap (λ m. p (f m j)) (moved start d)
+    ∙ pair_fails_at p f from count (start + 1) n d j (none_in_two p (map (f start) (numbers (from start) n)) (flat_map (λ i. map (f i) (numbers (from i) n)) (range_with_len (start + 1) count)) e).1
+    (omega (arith, h)) (subst (λ m. from m ≤ j) (moved start d) low) high
   where
     moved : (start d : ℕ) → start + suc d ≡ (start + 1) + d
     moved start d = omega arith
 
 pair_fails : (p : ValidityFault → Bool) (f : ℕ → ℕ → ValidityFault) (start n i j : ℕ) → find p (of_pairs f start n) ≡ None → start ≤ i → i < j → j < n → p (f i j) ≡ false
-pair_fails p f start n i j e low mid high = ap (λ m. p (f m j)) (omega (arith, low)) ∙ pair_fails_at p f (n - start) start n (i - start) j e (omega (arith, low, mid, high)) (omega (arith, low, mid)) high
+pair_fails p f start n i j e low mid high = ap (λ m. p (f m j)) (omega (arith, low))
+    ∙ pair_fails_at p f (λ m. m + 1) (n - start) start n (i - start) j e (omega (arith, low, mid, high)) (omega (arith, low, mid)) high
 
--- what stands at a place of a list lies within it
-within : (xs : List (List Position)) (i : ℕ) (x : List Position) → slice_get xs i ≡ Some x → i < length xs
-within [] i x e = absurd cc
-within (y ∷ ys) zero x e = zero-lt-suc (length ys)
-within (y ∷ ys) (suc i) x e = suc-le-suc (within ys i x e)
+every_two_fail : (p : ValidityFault → Bool) (f : ℕ → ℕ → ValidityFault) (n i j : ℕ) → find p (of_every_two f n) ≡ None → i < n → j < n → p (f i j) ≡ false
+every_two_fail p f n i j e low high = ap (λ m. p (f m j)) (sym (zero-add i)) ∙ pair_fails_at p f (λ m. 0) (n - 0) 0 n i j e (omega (arith, low)) (omega arith) high
+
+-- none is found among the faults of each element
+none_at : (p : ValidityFault → Bool) (faults : Element → List ValidityFault) (es : List Element) (e : Element) (k : ℕ) → find p (flat_map faults es) ≡ None → k < length es → slice_index_or es k e ≡ e
+    → find p (faults e) ≡ None
+none_at p faults [] e k none h same = absurd (omega (arith, h))
+none_at p faults (x ∷ xs) e zero none h same = ap (λ y. find p (faults y)) (sym same) ∙ (none_in_two p (faults x) (flat_map faults xs) none).0
+none_at p faults (x ∷ xs) e (suc k) none h same = none_at p faults xs e k (none_in_two p (faults x) (flat_map faults xs) none).1 (omega (arith, h)) same
+
+none_of : (p : ValidityFault → Bool) (faults : Element → List ValidityFault) (es : List Element) (e : Element) → find p (flat_map faults es) ≡ None → Contains es e → find p (faults e) ≡ None
+none_of p faults es e none c = none_at p faults es e c.0 none c.1 c.2
 
 -- ---- the laws
 abbrev pub short_ones : Geometry → List ValidityFault
@@ -102,13 +115,32 @@ abbrev pub crossed_ones : Geometry → List ValidityFault
 crossed_ones g = map RingNotSimple (numbers 0 (length (rings g)))
 
 abbrev pub meeting_ones : Geometry → List ValidityFault
-meeting_ones g = of_pairs RingsMeet 0 (length (rings g))
+meeting_ones g = of_elements (λ e. of_pairs RingsMeet e.first (rings_end e)) g
 
 abbrev pub outside_ones : Geometry → List ValidityFault
-outside_ones g = map HoleOutside (numbers 1 (length (rings g)))
+outside_ones g = of_elements (λ e. map HoleOutside (numbers (e.first + 1) (rings_end e))) g
 
 abbrev pub nested_ones : Geometry → List ValidityFault
-nested_ones g = of_pairs HolesNested 1 (length (rings g))
+nested_ones g = of_elements (λ e. of_pairs HolesNested (e.first + 1) (rings_end e)) g
+
+abbrev pub touching_ones : Geometry → List ValidityFault
+touching_ones g = of_pairs ElementsMeet 0 (length (elements g))
+
+abbrev pub swallowed_ones : Geometry → List ValidityFault
+swallowed_ones g = of_every_two ElementInside (length (elements g))
+
+-- the faults that are tested before rings are known to be closed, and the later ones
+abbrev pub early_ones : Geometry → List ValidityFault
+early_ones g = short_ones g ++ open_ones g
+
+abbrev pub late_ones : Geometry → List ValidityFault
+late_ones g = crossed_ones g ++ (meeting_ones g ++ (outside_ones g ++ (nested_ones g ++ (touching_ones g ++ swallowed_ones g))))
+
+regrouped : (a b c d e f g h : List ValidityFault) → a ++ b ++ c ++ d ++ e ++ f ++ g ++ h ≡ (a ++ b) ++ (c ++ (d ++ (e ++ (f ++ (g ++ h)))))
+regrouped a b c d e f g h = simp append_assoc
+
+pub in_two : (g : Geometry) → in_order g ≡ early_ones g ++ late_ones g
+in_two g = regrouped (short_ones g) (open_ones g) (crossed_ones g) (meeting_ones g) (outside_ones g) (nested_ones g) (touching_ones g) (swallowed_ones g)
 
 pub are_closed : (g : Geometry) → find (has_fault g) (open_ones g) ≡ None → AreClosed g
 are_closed g none i h = true≢false (sym ((fault_decided g (RingNotClosed i) tt).1 h) ∙ fails_from (has_fault g) RingNotClosed 0 (length (rings g)) i none (omega arith) (within (rings g) i h.0 h.1))
@@ -120,62 +152,62 @@ record NoneFound (g : Geometry) : Type 0 where
   meeting : find (has_fault g) (meeting_ones g) ≡ None
   outside : find (has_fault g) (outside_ones g) ≡ None
   nested : find (has_fault g) (nested_ones g) ≡ None
+  touching : find (has_fault g) (touching_ones g) ≡ None
+  swallowed : find (has_fault g) (swallowed_ones g) ≡ None
 
 none_found : (g : Geometry) → validity_fault g ≡ None → NoneFound g
 none_found g e = let p = has_fault g in
-    let a = none_in_two p (short_ones g ++ open_ones g ++ crossed_ones g ++ meeting_ones g ++ outside_ones g) (nested_ones g) e in
-    let b = none_in_two p (short_ones g ++ open_ones g ++ crossed_ones g ++ meeting_ones g) (outside_ones g) a.0 in
-    let c = none_in_two p (short_ones g ++ open_ones g ++ crossed_ones g) (meeting_ones g) b.0 in
-    let d = none_in_two p (short_ones g ++ open_ones g) (crossed_ones g) c.0 in
-    let f = none_in_two p (short_ones g) (open_ones g) d.0 in
-    record { short = f.0; opened = f.1; crossed = d.1; meeting = c.1; outside = b.1; nested = a.1 }
+    let a = none_in_two p (early_ones g) (late_ones g) (ap (find (has_fault g)) (sym (in_two g)) ∙ e) in
+    let b = none_in_two p (short_ones g) (open_ones g) a.0 in
+    let c = none_in_two p (crossed_ones g) (meeting_ones g ++ (outside_ones g ++ (nested_ones g ++ (touching_ones g ++ swallowed_ones g)))) a.1 in
+    let d = none_in_two p (meeting_ones g) (outside_ones g ++ (nested_ones g ++ (touching_ones g ++ swallowed_ones g))) c.1 in
+    let f = none_in_two p (outside_ones g) (nested_ones g ++ (touching_ones g ++ swallowed_ones g)) d.1 in
+    let h = none_in_two p (nested_ones g) (touching_ones g ++ swallowed_ones g) f.1 in
+    let k = none_in_two p (touching_ones g) (swallowed_ones g) h.1 in
+    record { short = b.0; opened = b.1; crossed = c.0; meeting = d.0; outside = f.0; nested = h.0; touching = k.0; swallowed = k.1 }
 
 pub stands_not : (g : Geometry) (fault : ValidityFault) → NeedsClosed g fault → has_fault g fault ≡ false → HasFault g fault → ⊥
 stands_not g fault needs none h = true≢false (sym ((fault_decided g fault needs).1 h) ∙ none)
+
+from_first : (first k i : ℕ) → i ≡ first + k → first ≤ i
+from_first first k i e = omega (arith, e)
+
+past_first : (first k i : ℕ) → i ≡ first + k → 0 < k → first + 1 ≤ i
+past_first first k i e h = omega (arith, e, h)
+
+to_end : (first k i n : ℕ) → i ≡ first + k → k < n → i < first + n
+to_end first k i n e h = omega (arith, e, h)
 
 valid_of : (g : Geometry) → NoneFound g → IsValid g
 valid_of g none (TooFewPoints i) h = stands_not g (TooFewPoints i) tt (fails_from (has_fault g) TooFewPoints 0 (length (lines g)) i none.short (omega arith) (within (lines g) i h.0 h.1)) h
 valid_of g none (RingNotClosed i) h = are_closed g none.opened i h
 valid_of g none (RingNotSimple i) h = stands_not g (RingNotSimple i) (are_closed g none.opened)
     (fails_from (has_fault g) RingNotSimple 0 (length (rings g)) i none.crossed (omega arith) (within (rings g) i h.0 h.1)) h
-valid_of g none (RingsMeet i j) h = stands_not g (RingsMeet i j) tt (pair_fails (has_fault g) RingsMeet 0 (length (rings g)) i j none.meeting (omega arith) h.2 (within (rings g) j h.1 h.4)) h
-valid_of g none (HoleOutside i) h = stands_not g (HoleOutside i) tt (fails_from (has_fault g) HoleOutside 1 (length (rings g)) i none.outside h.2 (within (rings g) i h.1 h.4)) h
-valid_of g none (HolesNested i j) h = stands_not g (HolesNested i j) tt (pair_fails (has_fault g) HolesNested 1 (length (rings g)) i j none.nested h.2 h.3 (within (rings g) j h.1 h.5)) h
+valid_of g none (RingsMeet i j) h = stands_not g (RingsMeet i j) tt
+    (pair_fails (has_fault g) RingsMeet h.0.first (rings_end h.0) i j (none_of (has_fault g) (λ e. of_pairs RingsMeet e.first (rings_end e)) (numbered_elements g) h.0 none.meeting h.5)
+    (from_first h.0.first h.1 i h.7.0) (greater_number h.0.first h.1 h.2 i j h.7.0 h.8.0 h.6) (to_end h.0.first h.2 j (length h.0.rings) h.8.0 (within h.0.rings h.2 h.4 h.8.1))) h
+valid_of g none (HoleOutside i) h = stands_not g (HoleOutside i) tt
+    (fails_from (has_fault g) HoleOutside (h.0.first + 1) (rings_end h.0) i (none_of (has_fault g) (λ e. map HoleOutside (numbers (e.first + 1) (rings_end e))) (numbered_elements g) h.0 none.outside h.4)
+    (past_first h.0.first h.1 i h.7.0 h.5) (to_end h.0.first h.1 i (length h.0.rings) h.7.0 (within h.0.rings h.1 h.3 h.7.1))) h
+valid_of g none (HolesNested i j) h = stands_not g (HolesNested i j) tt
+    (pair_fails (has_fault g) HolesNested (h.0.first + 1) (rings_end h.0) i j (none_of (has_fault g) (λ e. of_pairs HolesNested (e.first + 1) (rings_end e)) (numbered_elements g) h.0 none.nested h.5)
+    (past_first h.0.first h.1 i h.8.0 h.6) (greater_number h.0.first h.1 h.2 i j h.8.0 h.9.0 h.7) (to_end h.0.first h.2 j (length h.0.rings) h.9.0 (within h.0.rings h.2 h.4 h.9.1))) h
+valid_of g none (ElementsMeet i j) h = stands_not g (ElementsMeet i j) tt
+    (pair_fails (has_fault g) ElementsMeet 0 (length (elements g)) i j none.touching (omega arith) h.2 (within (elements g) j h.1 h.4)) h
+valid_of g none (ElementInside i j) h = stands_not g (ElementInside i j) tt
+    (every_two_fail (has_fault g) ElementInside (length (elements g)) i j none.swallowed (within (elements g) i h.0 h.3) (within (elements g) j h.1 h.4)) h
 
 -- a fault of a ring that isn't simple is found only where the rings are closed
 closed_before : (g : Geometry) (i : ℕ) → validity_fault g ≡ Some (RingNotSimple i) → AreClosed g
-closed_before g i e = are_closed g (four (found_in_two p (short_ones g ++ open_ones g ++ crossed_ones g ++ meeting_ones g ++ outside_ones g) (nested_ones g) (Some (RingNotSimple i)) e))
+closed_before g i e = late (found_in_two (has_fault g) (early_ones g) (late_ones g) (Some (RingNotSimple i)) (ap (find (has_fault g)) (sym (in_two g)) ∙ e))
   where
-    p : ValidityFault → Bool
-    p = has_fault g
+    not_early : (find (has_fault g) (short_ones g) ≡ Some (RingNotSimple i)) ⊎ ((find (has_fault g) (short_ones g) ≡ None) × (find (has_fault g) (open_ones g) ≡ Some (RingNotSimple i))) → ⊥
+    not_early (inl f) = let k = kind_of (has_fault g) TooFewPoints (numbers 0 (length (lines g))) (RingNotSimple i) f in let same = k.1 in cc
+    not_early (inr f) = let k = kind_of (has_fault g) RingNotClosed (numbers 0 (length (rings g))) (RingNotSimple i) f.1 in let same = k.1 in cc
 
-    both : (find (has_fault g) (short_ones g ++ open_ones g) ≡ None) → find (has_fault g) (open_ones g) ≡ None
-    both e = (none_in_two (has_fault g) (short_ones g) (open_ones g) e).1
-
-    zero_of : (find (has_fault g) (short_ones g) ≡ Some (RingNotSimple i)) ⊎ ((find (has_fault g) (short_ones g) ≡ None) × (find (has_fault g) (open_ones g) ≡ Some (RingNotSimple i))) → find (has_fault g) (open_ones g) ≡ None
-    zero_of (inl e) = let k = kind_of (has_fault g) TooFewPoints (numbers 0 (length (lines g))) (RingNotSimple i) e in absurd (let f = k.1 in cc)
-    zero_of (inr e) = let k = kind_of (has_fault g) RingNotClosed (numbers 0 (length (rings g))) (RingNotSimple i) e.1 in absurd (let f = k.1 in cc)
-
-    one : (find (has_fault g) (short_ones g ++ open_ones g) ≡ Some (RingNotSimple i)) ⊎ ((find (has_fault g) (short_ones g ++ open_ones g) ≡ None) × (find (has_fault g) (crossed_ones g) ≡ Some (RingNotSimple i)))
-        → find (has_fault g) (open_ones g) ≡ None
-    one (inl e) = zero_of (found_in_two (has_fault g) (short_ones g) (open_ones g) (Some (RingNotSimple i)) e)
-    one (inr e) = both e.0
-
-    two : (find (has_fault g) (short_ones g ++ open_ones g ++ crossed_ones g) ≡ Some (RingNotSimple i))
-        ⊎ ((find (has_fault g) (short_ones g ++ open_ones g ++ crossed_ones g) ≡ None) × (find (has_fault g) (meeting_ones g) ≡ Some (RingNotSimple i))) → find (has_fault g) (open_ones g) ≡ None
-    two (inl e) = one (found_in_two (has_fault g) (short_ones g ++ open_ones g) (crossed_ones g) (Some (RingNotSimple i)) e)
-    two (inr e) = both (none_in_two (has_fault g) (short_ones g ++ open_ones g) (crossed_ones g) e.0).0
-
-    three : (find (has_fault g) (short_ones g ++ open_ones g ++ crossed_ones g ++ meeting_ones g) ≡ Some (RingNotSimple i))
-        ⊎ ((find (has_fault g) (short_ones g ++ open_ones g ++ crossed_ones g ++ meeting_ones g) ≡ None) × (find (has_fault g) (outside_ones g) ≡ Some (RingNotSimple i))) → find (has_fault g) (open_ones g) ≡ None
-    three (inl e) = two (found_in_two (has_fault g) (short_ones g ++ open_ones g ++ crossed_ones g) (meeting_ones g) (Some (RingNotSimple i)) e)
-    three (inr e) = both (none_in_two (has_fault g) (short_ones g ++ open_ones g) (crossed_ones g) (none_in_two (has_fault g) (short_ones g ++ open_ones g ++ crossed_ones g) (meeting_ones g) e.0).0).0
-
-    four : (find (has_fault g) (short_ones g ++ open_ones g ++ crossed_ones g ++ meeting_ones g ++ outside_ones g) ≡ Some (RingNotSimple i))
-        ⊎ ((find (has_fault g) (short_ones g ++ open_ones g ++ crossed_ones g ++ meeting_ones g ++ outside_ones g) ≡ None) × (find (has_fault g) (nested_ones g) ≡ Some (RingNotSimple i))) → find (has_fault g) (open_ones g) ≡ None
-    four (inl e) = three (found_in_two (has_fault g) (short_ones g ++ open_ones g ++ crossed_ones g ++ meeting_ones g) (outside_ones g) (Some (RingNotSimple i)) e)
-    four (inr e) = both (none_in_two (has_fault g) (short_ones g ++ open_ones g) (crossed_ones g) (none_in_two (has_fault g) (short_ones g ++ open_ones g ++ crossed_ones g) (meeting_ones g)
-        (none_in_two (has_fault g) (short_ones g ++ open_ones g ++ crossed_ones g ++ meeting_ones g) (outside_ones g) e.0).0).0).0
+    late : (find (has_fault g) (early_ones g) ≡ Some (RingNotSimple i)) ⊎ ((find (has_fault g) (early_ones g) ≡ None) × (find (has_fault g) (late_ones g) ≡ Some (RingNotSimple i))) → AreClosed g
+    late (inl f) = absurd (not_early (found_in_two (has_fault g) (short_ones g) (open_ones g) (Some (RingNotSimple i)) f))
+    late (inr f) = are_closed g (none_in_two (has_fault g) (short_ones g) (open_ones g) f.0).1
 
 needs : (g : Geometry) (fault : ValidityFault) → validity_fault g ≡ Some fault → NeedsClosed g fault
 needs g (TooFewPoints i) e = tt
@@ -184,6 +216,8 @@ needs g (RingNotSimple i) e = closed_before g i e
 needs g (RingsMeet i j) e = tt
 needs g (HoleOutside i) e = tt
 needs g (HolesNested i j) e = tt
+needs g (ElementsMeet i j) e = tt
+needs g (ElementInside i j) e = tt
 
 pub first_fault_stands : FirstFaultStands
 first_fault_stands g fault e = (fault_decided g fault (needs g fault e)).0 (found_passes (has_fault g) (in_order g) fault e)

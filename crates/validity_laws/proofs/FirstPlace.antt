@@ -2,13 +2,13 @@
 use Rattle.std.proofs.Common.{◌≡◌, ◌⊎◌, inl, inr, ℕ, zero, suc, ◌<◌, Bool, true, false, List, [], ◌∷◌, ◌++◌, length, map, find, cond, Some, None, slice_index_or, refl, sym, ap, ◌∙◌, subst, arith}
 use Rattle.std.proofs.lemmas.List.{append_assoc}
 use Rattle.geometry_model.specs.Geometries.{Geometry, lines, rings}
-use Rattle.geometry_model.specs.FirstFaults.{has_fault, numbers, in_order, validity_fault}
+use Rattle.geometry_model.specs.FirstFaults.{has_fault, numbers, validity_fault}
 use Rattle.geometry_model.specs.declared.validity_faults.ValidityFault.{ValidityFault}
-use Rattle.geometry_model.specs.declared.validity_faults.ValidityFault.TheVariants.{TooFewPoints, RingNotClosed, RingNotSimple, RingsMeet, HoleOutside, HolesNested}
+use Rattle.geometry_model.specs.declared.validity_faults.ValidityFault.TheVariants.{TooFewPoints, RingNotClosed, RingNotSimple, RingsMeet, HoleOutside, HolesNested, ElementsMeet, ElementInside}
 use Rattle.geometry_laws.proofs.Each.{Each, Among, each_at, each_append, each_left}
 use Rattle.validity_laws.specs.FaultLaws.{AreClosed, IsFirst, FirstFaultIsFirst}
 use Rattle.validity_laws.proofs.FaultFacts.{NeedsClosed}
-use Rattle.validity_laws.proofs.FirstFaultFacts.{found_in_two, none_in_two, head_fails, short_ones, open_ones, crossed_ones, meeting_ones, outside_ones, nested_ones, are_closed, stands_not, first_fault_stands}
+use Rattle.validity_laws.proofs.FirstFaultFacts.{found_in_two, none_in_two, head_fails, short_ones, open_ones, early_ones, late_ones, in_two, are_closed, stands_not, first_fault_stands}
 
 at_place : (xs : List ValidityFault) (x : ValidityFault) (k : ℕ) → k < length xs → slice_index_or xs k x ≡ x → Among x xs
 at_place [] x k h e = absurd (omega (arith, h))
@@ -43,18 +43,6 @@ all_fail : (p : ValidityFault → Bool) (xs : List ValidityFault) → find p xs 
 all_fail p [] e = tt
 all_fail p (x ∷ xs) e = let h = head_fails p x xs e in (h.0, all_fail p xs h.1)
 
--- ---- the faults that are tested before rings are known to be closed, and the later ones
-abbrev early_ones : Geometry → List ValidityFault
-early_ones g = short_ones g ++ open_ones g
-
-abbrev late_ones : Geometry → List ValidityFault
-late_ones g = crossed_ones g ++ (meeting_ones g ++ (outside_ones g ++ nested_ones g))
-
-in_two : (g : Geometry) → in_order g ≡ early_ones g ++ late_ones g
-in_two g = append_assoc (early_ones g ++ crossed_ones g ++ meeting_ones g) (outside_ones g) (nested_ones g)
-    ∙ (append_assoc (early_ones g ++ crossed_ones g) (meeting_ones g) (outside_ones g ++ nested_ones g)
-    ∙ append_assoc (early_ones g) (crossed_ones g) (meeting_ones g ++ (outside_ones g ++ nested_ones g)))
-
 pub each_mapped : (P : ValidityFault → Type 0) (f : ℕ → ValidityFault) → ((k : ℕ) → P (f k)) → (ns : List ℕ) → Each P (map f ns)
 each_mapped P f h [] = tt
 each_mapped P f h (n ∷ ns) = (h n, each_mapped P f h ns)
@@ -70,6 +58,8 @@ closed_need g (RingNotSimple i) c = c
 closed_need g (RingsMeet i j) c = tt
 closed_need g (HoleOutside i) c = tt
 closed_need g (HolesNested i j) c = tt
+closed_need g (ElementsMeet i j) c = tt
+closed_need g (ElementInside i j) c = tt
 
 first_at : (g : Geometry) (fault : ValidityFault) → validity_fault g ≡ Some fault
     → (find (has_fault g) (early_ones g) ≡ Some fault) ⊎ ((find (has_fault g) (early_ones g) ≡ None) × (find (has_fault g) (late_ones g) ≡ Some fault)) → IsFirst g fault

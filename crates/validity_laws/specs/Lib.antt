@@ -1,2 +1,3 @@
 pub mod SharedPointLaws
 pub mod FaultLaws
+pub mod ValidPartLaws

@@ -5,9 +5,9 @@ use Rattle.std.specs.Ordering.{int_eq}
 use Rattle.std.proofs.lemmas.Int.{ints}
 use Rattle.std.proofs.lemmas.List.Elements.{All-nil, All-cons, All-append}
 use Rattle.geometry_model.specs.Points.{Position}
-use Rattle.geometry_model.specs.Geometries.{Geometry, Point, MultiPoint, LineString, MultiLineString, Polygon, Edge, edges, edges_of_line, edges_of_lines}
-use Rattle.geometry_model.specs.WellKnownText.{Separated, LineText, Body, TaggedText, written_parts, same_position, without_repeats, geometry_of}
-use Rattle.text_laws.proofs.TextPrinted.{counts_again}
+use Rattle.geometry_model.specs.Geometries.{Geometry, Point, MultiPoint, LineString, MultiLineString, Polygon, MultiPolygon, joined_rings, Edge, edges, edges_of_line, edges_of_lines}
+use Rattle.geometry_model.specs.WellKnownText.{Separated, LineText, PolygonText, Body, TaggedText, written_parts, same_position, without_repeats, geometry_of}
+use Rattle.text_laws.proofs.TextPrinted.{counts_again, rings_kept}
 use Rattle.wkt.specs.KeptGeometries.{IsKept, SpelledIsKept}
 
 -- neighbours
@@ -63,6 +63,7 @@ ends_apart (MultiPoint ps) = All-nil Apart
 ends_apart (LineString ps) = lines_apart (ps ∷ [])
 ends_apart (MultiLineString ls) = lines_apart ls
 ends_apart (Polygon rs) = lines_apart rs
+ends_apart (MultiPolygon es) = subst (λ rs. All Apart (edges_of_lines rs)) (sym (rings_kept es)) (lines_apart (joined_rings es))
 
 -- rings and elements
 
@@ -89,12 +90,28 @@ body_has_positions : (ls : List (List Position)) (text : List ℕ) → Body Line
 body_has_positions [] text t = All-nil HasPositions
 body_has_positions (l ∷ more) text t = separated_have_positions (l ∷ more) t.4.4.0 t.4.4.3
 
+polygon_has_positions : (rs : List (List Position)) (text : List ℕ) → PolygonText rs text → All HasPositions (map without_repeats rs)
+polygon_has_positions rs text t = separated_have_positions rs t.4.0 t.4.3
+
+polygons_have_positions : (es : List (List (List Position))) (text : List ℕ) → Separated PolygonText es text → All HasPositions (joined_rings (map (map without_repeats) es))
+polygons_have_positions [] text t = absurd t
+polygons_have_positions (e ∷ []) text t =
+    All-append HasPositions (map without_repeats e) [] (polygon_has_positions e t.4.0 t.4.3) (All-nil HasPositions)
+polygons_have_positions (e ∷ f ∷ more) text t =
+    All-append HasPositions (map without_repeats e) (joined_rings (map (map without_repeats) (f ∷ more))) (polygon_has_positions e t.3.4.0 t.3.4.3)
+    (polygons_have_positions (f ∷ more) t.4.1 t.4.4)
+
+polygon_body_has_positions : (es : List (List (List Position))) (text : List ℕ) → Body PolygonText es text → All HasPositions (joined_rings (map (map without_repeats) es))
+polygon_body_has_positions [] text t = All-nil HasPositions
+polygon_body_has_positions (e ∷ more) text t = polygons_have_positions (e ∷ more) t.4.4.0 t.4.4.3
+
 parts_have_positions : (w : Geometry) (text : List ℕ) → TaggedText w text → All HasPositions (written_parts (geometry_of w))
 parts_have_positions (Point p) text t = All-nil HasPositions
 parts_have_positions (MultiPoint ps) text t = All-nil HasPositions
 parts_have_positions (LineString ps) text t = All-nil HasPositions
 parts_have_positions (MultiLineString ls) text t = body_has_positions ls t.1 t.4
 parts_have_positions (Polygon rs) text t = body_has_positions rs t.1 t.4
+parts_have_positions (MultiPolygon es) text t = polygon_body_has_positions es t.1 t.4
 
 pub spelled_is_kept : SpelledIsKept
 spelled_is_kept text g spelled =

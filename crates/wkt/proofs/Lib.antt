@@ -1,7 +1,5 @@
 pub mod Bodies
 pub mod Digits
 mod KeptFacts
-pub mod PartLemmas
 mod PrintLemmas
-pub mod SinkLemmas
 pub mod Wholes

@@ -3,7 +3,7 @@ use Rattle.std.proofs.Common.{◌≡◌, refl, sym, ap, ◌∙◌, ℕ, Bool, tr
 use Rattle.std.specs.Char.{is_ascii_alphabetic}
 use Rattle.std.specs.List.{prefix_len}
 use Rattle.geometry_model.specs.CanonicalText.{canonical_text}
-use Rattle.geometry_model.specs.Geometries.{Geometry, Point, MultiPoint, LineString, MultiLineString, Polygon, kind}
+use Rattle.geometry_model.specs.Geometries.{Geometry, Point, MultiPoint, LineString, MultiLineString, Polygon, MultiPolygon, kind}
 use Rattle.geometry_model.specs.declared.shapes.Kind.TheVariants as kinds
 use Rattle.text_laws.proofs.TextPrinted.{canonical_text_spells}
 use Rattle.geometry_model.specs.TextReading.{Input, Reader, ◌>>◌, and_then, pure, refuse, after, run, end, typed, tagged, whole, outcome, read_text}
@@ -140,6 +140,7 @@ canonical_is_served (MultiPoint (p ∷ ps)) is = refl
 canonical_is_served (LineString ps) is = let no : kinds.Line ≡ kinds.Point = is in cc
 canonical_is_served (MultiLineString ls) is = let no : kinds.Line ≡ kinds.Point = is in cc
 canonical_is_served (Polygon rs) is = let no : kinds.Area ≡ kinds.Point = is in cc
+canonical_is_served (MultiPolygon es) is = let no : kinds.Area ≡ kinds.Point = is in cc
 
 -- the canonical text of what is read is read as the same
 pub canonical_is_read : (text : List ℕ) (r : Result Geometry WktFault) → IfOk r (λ g. Spells text g) → IfOk r (λ g. kind g ≡ kinds.Point)

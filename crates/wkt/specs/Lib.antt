@@ -1,12 +1,7 @@
 pub mod KeptGeometries
-pub mod MemorySinks
 pub mod Printing
 pub mod Shapes
 pub mod ReadingSteps
 pub mod Served
 pub mod ServedSteps
-pub mod Sinks
-pub mod StdSinks
-pub mod StopReaders
-pub mod StopSinks
 pub mod TextFaults

@@ -25,6 +25,7 @@ comes_later name =
     str_eq_ignore_ascii_case name (codes "LINESTRING")
     || str_eq_ignore_ascii_case name (codes "MULTILINESTRING")
     || str_eq_ignore_ascii_case name (codes "POLYGON")
+    || str_eq_ignore_ascii_case name (codes "MULTIPOLYGON")
 
 -- the text doesn't name such a type (profile)
 abbrev pub IsServed : List ℕ → Type 0

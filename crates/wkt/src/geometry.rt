@@ -85,7 +85,7 @@ impl Geometry {
         match self.geometry_type() {
             GeometryType::Point | GeometryType::MultiPoint => Kind::Point,
             GeometryType::LineString | GeometryType::MultiLineString => Kind::Line,
-            GeometryType::Polygon => Kind::Area,
+            GeometryType::Polygon | GeometryType::MultiPolygon => Kind::Area,
         }
     }
 

@@ -53,11 +53,14 @@ fn printed(alloc: Global, geometry: &Geometry) -> Result<MemorySink, SinkFault> 
 #[test]
 fn texts_are_canonical(rt: HostRuntime) -> Result<(), Fail> {
     let points = [at(1, 2)?, at(3, 4)?];
-    let repeated = [at(-100_000, 100_000)?, at(0, -7)?, at(0, -7)?];
+    let repeated = [at(-10_000_000, 10_000_000)?, at(0, -7)?, at(0, -7)?];
     for (geometry, text) in [
         (Geometry::point(None), "POINT EMPTY"),
         (Geometry::point(Some(at(1, 2)?)), "POINT(1 2)"),
-        (Geometry::point(Some(at(-100_000, 0)?)), "POINT(-100000 0)"),
+        (
+            Geometry::point(Some(at(-10_000_000, 0)?)),
+            "POINT(-10000000 0)",
+        ),
         (
             Geometry::multi_point(Vec::new(rt.alloc())),
             "MULTIPOINT EMPTY",
@@ -72,7 +75,7 @@ fn texts_are_canonical(rt: HostRuntime) -> Result<(), Fail> {
         ),
         (
             Geometry::multi_point(Vec::from_slice(rt.alloc(), &repeated)?),
-            "MULTIPOINT((-100000 100000),(0 -7),(0 -7))",
+            "MULTIPOINT((-10000000 10000000),(0 -7),(0 -7))",
         ),
     ] {
         let sink = printed(rt.alloc(), &geometry).map_err(|_| "a text")?;

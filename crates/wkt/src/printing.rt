@@ -6,10 +6,10 @@ ghost use Rattle.std.specs.Option.{option_to_list};
 ghost use Rattle.std.specs.Io.KnownBytes.{Appends};
 ghost use Rattle.geometry_model.specs.CanonicalText.{canonical_text, point_text, position_text, tagged_text};
 ghost use Rattle.wkt.specs.Printing.{HoldsText};
-ghost use Rattle.wkt.specs.Sinks.{AppendsFront, CountsFailure};
+ghost use Rattle.sinks.specs.Sinks.{AppendsFront, CountsFailure};
 
 use crate::geometry::{Geometry, Shape};
-use crate::sink::{Sink, SinkFault, put_all, put_parts};
+use sinks::{Sink, SinkFault, put_all, put_parts};
 use fraction::GridPoint;
 use itoa::Buffer;
 

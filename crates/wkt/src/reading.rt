@@ -146,7 +146,7 @@ fn whole(alloc: Global, cursor: &mut Cursor<'_>) -> Result<Geometry, WktFault>
     }
 }
 
-/// Reads the text of a geometry (06-103r4, 7.2): a POINT or a MULTIPOINT, of whole numbers within 100,000 either way,
+/// Reads the text of a geometry (06-103r4, 7.2): a POINT or a MULTIPOINT, of whole numbers within the limit either way,
 /// as they may be written with signs, leading zeros and a point with zeros behind it. Words are taken in any ASCII case.
 /// Without a position it is written EMPTY. In a MULTIPOINT each position has parentheses or none.
 ///

@@ -19,6 +19,7 @@ returns-clause-labelled c =
 -- points have no rings
 closed : (g : Geometry) → kind g ≡ kinds.Point → Each IsClosed (rings g)
 closed (geometries.Polygon rs) k = absurd cc
+closed (geometries.MultiPolygon es) k = absurd cc
 closed _ k = tt
 
 pub returns-clause-point_sets : goal.returns-clause-point_sets

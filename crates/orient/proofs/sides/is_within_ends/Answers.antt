@@ -1,6 +1,6 @@
 use Rattle.std.proofs.Common.{◌≡◌, ◌&&◌, Bool, true, ℤ, ◌∙◌, ap}
 use Rattle.std.proofs.lemmas.Int.{to_z-of_z}
-use mir.Syntax.{w32, w64}
+use mir.Syntax.{w32, w64, w128}
 use mir.Val.{SFits}
 use Rattle.geometry_model.specs.Points.{Position}
 use Rattle.geometry_model.specs.Sides.{between}
@@ -17,8 +17,8 @@ returns-then-is_between c =
     let tx : SFits w32 c.x-2.result = record { sfits = c.x-2.type_inv } in
     let sy : SFits w32 c.y.result = record { sfits = c.y.type_inv } in
     let ty : SFits w32 c.y-then-is_between.result = record { sfits = c.y-then-is_between.type_inv } in
-    let nx : SFits w64 c.numerator_x.result = record { sfits = c.numerator_x.type_inv } in
-    let ny : SFits w64 c.numerator_y.result = record { sfits = c.numerator_y.type_inv } in
+    let nx : SFits w128 c.numerator_x.result = record { sfits = c.numerator_x.type_inv } in
+    let ny : SFits w128 c.numerator_y.result = record { sfits = c.numerator_y.type_inv } in
     let w : SFits w64 c.denominator-w.result = record { sfits = c.denominator-w.type_inv } in
     let x_of = λ (a : Position). a.x in
     let y_of = λ (a : Position). a.y in

@@ -4,9 +4,11 @@ use Rattle.std.specs.Fmt.{digits}
 use Rattle.geometry_model.specs.Geometries.{Geometry}
 use Rattle.geometry_model.specs.Labels.{labelled_matrix}
 use Rattle.geometry_model.specs.declared.relations.Predicate.TheVariants.{Disjoint, Intersects}
+use Rattle.table_model.specs.Arguments.{denoted}
 use Rattle.table_model.specs.Candidates.{candidates}
 use Rattle.table_model.specs.Meanings.{Table}
 use Rattle.table_model.specs.PlanExamples.{Query, point_rows, square, of, query, key_is, geometry, with_literal, scan, plan}
+use Rattle.table_model.specs.Places.{query_rows}
 use Rattle.table_model.specs.Plans.{chosen}
 use Rattle.table_model.specs.Work.{work}
 use Rattle.table_model.specs.declared.conditions.Comparison.TheVariants.{Greater}
@@ -29,8 +31,8 @@ or_plan = plan 100 (scan 0 ∷ []) (0 ∷ [])
 or_chosen : chosen tables or_query ≡ Some or_plan
 or_chosen = simp cond_folds refl
 
-or_work : work labelled_matrix tables or_query or_plan ≡ 100
-or_work = work_of_one (candidates tables or_query or_plan.accesses) (Or (key_is Greater 0 99 ∷ with_literal Intersects (square 0 0) ∷ [])) (λ rows. sum (0 ∷ both rows (geometry 0) (arguments.Literal (square 0 0)) ∷ [])) (λ rows. simp cond_folds refl)
+or_work : work labelled_matrix denoted tables or_query or_plan ≡ 100
+or_work = work_of_one (candidates denoted tables or_query or_plan.accesses) (query_rows tables or_query) (Or (key_is Greater 0 99 ∷ with_literal Intersects (square 0 0) ∷ [])) (λ rows. sum (0 ∷ both rows (geometry 0) (arguments.Literal (square 0 0)) ∷ [])) (λ rows. simp cond_folds refl)
 
 pub returns-clause-under_or : goal.returns-clause-under_or
 unfolding digits
@@ -45,8 +47,8 @@ disjoint_plan = plan 100 (scan 0 ∷ []) (0 ∷ [])
 disjoint_chosen : chosen tables disjoint_query ≡ Some disjoint_plan
 disjoint_chosen = simp cond_folds refl
 
-disjoint_work : work labelled_matrix tables disjoint_query disjoint_plan ≡ 100
-disjoint_work = work_of_one (candidates tables disjoint_query disjoint_plan.accesses) (with_literal Disjoint (square 0 0)) (λ rows. both rows (geometry 0) (arguments.Literal (square 0 0))) (λ rows. simp cond_folds refl)
+disjoint_work : work labelled_matrix denoted tables disjoint_query disjoint_plan ≡ 100
+disjoint_work = work_of_one (candidates denoted tables disjoint_query disjoint_plan.accesses) (query_rows tables disjoint_query) (with_literal Disjoint (square 0 0)) (λ rows. both rows (geometry 0) (arguments.Literal (square 0 0))) (λ rows. simp cond_folds refl)
 
 pub returns-clause-disjoint : goal.returns-clause-disjoint
 unfolding digits

@@ -1,6 +1,7 @@
 use Rattle.std.proofs.Common.{◌≡◌, sym, ap, ap₂, subst, ◌∙◌, pos, w64}
 use Rattle.std.specs.Prelude.{unsigned_abs, int_div}
 use Rattle.std.proofs.lemmas.Int.{to_z-of_z}
+use mir.Syntax.{w128}
 use mir.Val.{to_z, of_z}
 use Rattle.geometry_model.specs.Points.{Point, same_point, gcd, least_form}
 use Rattle.geometry_model.proofs.LeastFormFacts.{least_is_same}
@@ -8,18 +9,18 @@ use Rattle.fraction.specs.Ranges.{IsKeptPoint}
 use Rattle.fraction.proofs.DivisorLemmas.{least_is_kept, quotients_are}
 use Rattle.fraction.proofs.rational_points.RatPoint.reduced.Goals as goal
 
-abbrev given : goal.After-quotient-3 → Point
+abbrev given : goal.After-short_quotient → Point
 given c = record { X = c.args.x; Y = c.args.y; W = c.args.w }
 
-abbrev made : goal.After-quotient-3 → Point
-made c = record { X = to_z w64 (of_z w64 c.quotient.result); Y = to_z w64 (of_z w64 c.quotient-2.result); W = to_z w64 (of_z w64 c.quotient-3.result) }
+abbrev made : goal.After-short_quotient → Point
+made c = record { X = to_z w128 (of_z w128 c.quotient.result); Y = to_z w128 (of_z w128 c.quotient-2.result); W = to_z w64 (of_z w64 c.short_quotient.result) }
 
-made_is : (c : goal.After-quotient-3) → made c ≡ least_form (given c)
+made_is : (c : goal.After-short_quotient) → made c ≡ least_form (given c)
 made_is c = quotients_are (given c) _ _ _ c.common_divisor-divisor.result
-    (c.common_divisor-divisor.ensures.exact ∙ ap₂ (λ n w. pos (gcd n (unsigned_abs w))) (ap₂ (λ x y. gcd (unsigned_abs x) (unsigned_abs y)) (to_z-of_z w64 c.args.x c.ranges.x) (to_z-of_z w64 c.args.y c.ranges.y)) (to_z-of_z w64 c.args.w c.ranges.w))
-    (to_z-of_z w64 _ (record { sfits = c.quotient.type_inv }) ∙ c.quotient.ensures ∙ ap₂ int_div (to_z-of_z w64 c.args.x c.ranges.x) divisor_fits)
-    (to_z-of_z w64 _ (record { sfits = c.quotient-2.type_inv }) ∙ c.quotient-2.ensures ∙ ap₂ int_div (to_z-of_z w64 c.args.y c.ranges.y) divisor_fits)
-    (to_z-of_z w64 _ (record { sfits = c.quotient-3.type_inv }) ∙ c.quotient-3.ensures ∙ ap₂ int_div (to_z-of_z w64 c.args.w c.ranges.w) divisor_fits)
+    (c.common_divisor-divisor.ensures.exact ∙ ap₂ (λ n w. pos (gcd n (unsigned_abs w))) (ap₂ (λ x y. gcd (unsigned_abs x) (unsigned_abs y)) (to_z-of_z w128 c.args.x c.ranges.x) (to_z-of_z w128 c.args.y c.ranges.y)) (to_z-of_z w64 c.args.w c.ranges.w))
+    (to_z-of_z w128 _ (record { sfits = c.quotient.type_inv }) ∙ c.quotient.ensures ∙ ap₂ int_div (to_z-of_z w128 c.args.x c.ranges.x) divisor_fits)
+    (to_z-of_z w128 _ (record { sfits = c.quotient-2.type_inv }) ∙ c.quotient-2.ensures ∙ ap₂ int_div (to_z-of_z w128 c.args.y c.ranges.y) divisor_fits)
+    (to_z-of_z w64 _ (record { sfits = c.short_quotient.type_inv }) ∙ c.short_quotient.ensures ∙ ap₂ int_div (to_z-of_z w64 c.args.w c.ranges.w) divisor_fits)
   where
     divisor_fits : to_z w64 (of_z w64 c.common_divisor-divisor.result) ≡ c.common_divisor-divisor.result
     divisor_fits = to_z-of_z w64 _ (record { sfits = c.common_divisor-divisor.type_inv })

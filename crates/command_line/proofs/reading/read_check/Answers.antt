@@ -1,0 +1,20 @@
+-- The two texts are the words; a text that is missing is no word of the subcommand.
+use Rattle.std.proofs.Common.{codes}
+use Rattle.clap.specs.Words.{found_of}
+use Rattle.command_line.proofs.OrderLemmas.{first_of-none, first_of-text}
+use Rattle.command_line.proofs.reading.read_check.Goals as goal
+
+pub returns-in_default-clause-none : goal.returns-in_default-clause-none
+returns-in_default-clause-none c (schema, directory) =
+    first_of-none (found_of c.args.check.now) (codes "schema") _ c.in_ok-schema.ensures c.in_default.is schema
+
+pub returns-in_default-2-clause-none : goal.returns-in_default-2-clause-none
+returns-in_default-2-clause-none c (schema, directory) =
+    first_of-none (found_of c.args.check.now) (codes "directory") _ c.in_ok-directory.ensures c.in_default-2.is directory
+
+pub returns-clause-some : goal.returns-clause-some
+returns-clause-some c =
+    let found = found_of c.args.check.now in (
+      first_of-text found (codes "schema") c.in_ok-schema.field-0 c.in-Some.schema c.in_ok-schema.ensures c.in-Some.is,
+      first_of-text found (codes "directory") c.in_ok-directory.field-0 c.in-Some-2.directory c.in_ok-directory.ensures c.in-Some-2.is,
+    )

@@ -1,0 +1,10 @@
+use Rattle.std.proofs.Common.{◌≡◌, length}
+use denote.Param.Always.{always_mut}
+use Rattle.engine.proofs.commands.open_tables.Given as goal
+
+-- a reader for each table before this one
+abbrev pub invariant-loop-table : goal.invariant-loop-table
+invariant-loop-table g l = record {
+  callable : always_mut g.F.FnMut l.initial.opener → always_mut g.F.FnMut l.opener;
+  count : length l.readers.items ≡ l.table-index;
+}

@@ -1,0 +1,57 @@
+-- Relating two geometries that stand as texts: their matrix, or the failure.
+use Rattle.std.specs.Prelude.{◌≡◌, ◌⊎◌, ℕ, List, Option, Some, None, Result, Ok, Err}
+use Rattle.geometry_model.specs.CheckedTexts.{tested}
+use Rattle.geometry_model.specs.Dimensions.{IsMatrix, Matrix}
+use Rattle.geometry_model.specs.Geometries.{Geometry, kind}
+use Rattle.geometry_model.specs.Labels.{labelled_matrix}
+use Rattle.geometry_model.specs.WellKnownText.{Spells}
+use Rattle.geometry_model.specs.declared.geometry_faults.GeometryFault.{GeometryFault}
+use Rattle.geometry_model.specs.declared.shapes.Kind.{Kind}
+use Rattle.geometry_model.specs.declared.shapes.Kind.TheVariants as kinds
+use Rattle.wkt.specs.Served.{read_served}
+use Rattle.engine.specs.declared.failure.Failure.{Failure}
+use Rattle.engine.specs.declared.failure.Failure.TheVariants as f
+use Rattle.engine.specs.declared.failure.GeometryWord.{GeometryWord}
+use Rattle.engine.specs.declared.failure.GeometryWord.TheVariants.{First, Second}
+
+-- a geometry, or the refusal of the text where it should stand (profile)
+abbrev pub or_refused : GeometryWord → Result Geometry GeometryFault → Result Geometry Failure
+or_refused word (Ok g) = Ok g
+or_refused word (Err fault) = Err (f.Refused word fault)
+
+-- the valid geometry that a text spells, or the refusal (06-103r4, 7.2 and 6.1)
+abbrev pub geometry_in_word : GeometryWord → List ℕ → Result Geometry Failure
+geometry_in_word word text = or_refused word (tested (read_served text))
+
+-- the matrix of two geometries of these kinds: that of others than points isn't served yet (profile)
+abbrev pub served_matrix : Kind → Kind → Geometry → Geometry → Result Matrix Failure
+served_matrix kinds.Point kinds.Point a b = Ok (labelled_matrix a b)
+served_matrix kinds.Point kinds.Line a b = Err (f.NotServed Second)
+served_matrix kinds.Point kinds.Area a b = Err (f.NotServed Second)
+served_matrix kinds.Line _ a b = Err (f.NotServed First)
+served_matrix kinds.Area _ a b = Err (f.NotServed First)
+
+-- a step after another; a failure stays (profile)
+abbrev pub and_then : {A B : Type 0} → Result A Failure → (A → Result B Failure) → Result B Failure
+and_then (Ok a) step = step a
+and_then (Err failure) step = Err failure
+
+-- the matrix of the geometries that two texts spell, or the first failure: the first text is read and tested before the
+-- second, and both before a kind is refused (06-103r4, 6.1.15.2; the order: profile)
+abbrev pub relation : List ℕ → List ℕ → Result Matrix Failure
+relation first second =
+    and_then (geometry_in_word First first) (λ a. and_then (geometry_in_word Second second) (λ b. served_matrix (kind a) (kind b) a b))
+
+-- the texts spell two geometries whose DE-9IM matrix this is, over their interiors, boundaries and exteriors as sets of
+-- points (06-103r4, 6.1.15.2 and 7.2)
+abbrev pub RelatesTexts : List ℕ → List ℕ → Matrix → Type 0
+RelatesTexts first second m = (a b : Geometry) × Spells first a × Spells second b × IsMatrix a b m
+
+-- the failure is that of the outcome, or of want of memory (profile)
+abbrev pub IsFailureOf : {A : Type 0} → Result A Failure → Failure → Type 0
+IsFailureOf outcome failure = (failure ≡ f.OutOfMemory) ⊎ (outcome ≡ Err failure)
+
+-- the failure that a geometry's fault is, and want of memory where there is none (profile)
+abbrev pub refused_or_memory : GeometryWord → Option GeometryFault → Failure
+refused_or_memory word (Some fault) = f.Refused word fault
+refused_or_memory word None = f.OutOfMemory

@@ -1,0 +1,169 @@
+//! The records of an answer, made in memory.
+
+ghost use Rattle.std.specs.Prelude.{◌≡◌, ◌∷◌, ◌++◌, [], ◌<◌, IfOk, OnOk};
+ghost use Rattle.csv.specs.Records.{fields_of, partial_of};
+ghost use Rattle.csv.specs.Writing.{row_text, default_writer};
+ghost use Rattle.table_model.specs.AnswerTexts.{column_name, column_header, field_text, header, item_header, item_text, record_of, reference_header};
+ghost use Rattle.table_model.specs.Truths.{field_at};
+ghost use Rattle.feature_table.specs.Cells.{shown};
+ghost use Rattle.engine.specs.Stage.{no_writing};
+
+use csv::{ByteRecord, WriterBuilder};
+use feature_table::{Field, Row, TableDef};
+use itoa::Buffer;
+use spatial_sql::Bound;
+use std::alloc::{AllocError, Global};
+use table_model::conditions::{ColumnPlace, Item, Reference};
+use table_model::values::NoGeometry;
+
+/// The header record of a query's answer. (Profile.) It fails only for want of memory.
+pub fn header_record(
+    alloc: Global,
+    definitions: &[TableDef],
+    query: &Bound,
+) -> Result<ByteRecord, AllocError>
+    ensures { IfOk result (λ r. fields_of r ≡ header no_writing definitions.now query.now) }
+{
+    let mut fields = ByteRecord::new(alloc);
+    for item in query.items.as_slice() {
+        let text = item_header(alloc, definitions, query.references.as_slice(), item)?;
+        fields.push_field(text.as_slice())?;
+    }
+    Ok(fields)
+}
+
+/// The record of some rows, one for each reference of the query. (Profile.) It fails only for want of memory.
+pub fn row_record(alloc: Global, query: &Bound, rows: &[Row<'_>]) -> Result<ByteRecord, AllocError>
+    ensures { IfOk result (λ r. fields_of r ≡ record_of no_writing query.now rows.now) }
+{
+    let mut fields = ByteRecord::new(alloc);
+    for item in query.items.as_slice() {
+        push_item(&mut fields, item, rows)?;
+    }
+    Ok(fields)
+}
+
+/// The text of a record, ended by a line feed. (Profile.) It fails only for want of memory.
+pub fn record_text(alloc: Global, fields: &ByteRecord) -> Result<Vec<u8>, AllocError>
+    ensures { IfOk result (λ text. text.items ≡ row_text default_writer (fields_of fields.now)) }
+{
+    let mut writer = WriterBuilder::new().from_writer(Vec::new(alloc));
+    if writer.write_byte_record(fields).is_err() {
+        return Err(AllocError);
+    }
+    match writer.into_inner() {
+        Ok(text) => Ok(text),
+        Err(_) => Err(AllocError),
+    }
+}
+
+// The header of an item.
+fn item_header(
+    alloc: Global,
+    definitions: &[TableDef],
+    references: &[Reference],
+    item: &Item<NoGeometry>,
+) -> Result<Vec<u8>, AllocError>
+    ensures { IfOk result (λ text. text.items ≡ item_header no_writing definitions.now references.now item.now) }
+{
+    match item {
+        Item::Column(place) => column_header(alloc, definitions, references, *place),
+        Item::AsText(none) | Item::Dimension(none) | Item::IsEmpty(none) => match *none {},
+    }
+}
+
+// The header of a column.
+fn column_header(
+    alloc: Global,
+    definitions: &[TableDef],
+    references: &[Reference],
+    place: ColumnPlace,
+) -> Result<Vec<u8>, AllocError>
+    ensures { IfOk result (λ text. text.items ≡ column_header definitions.now references.now place) }
+{
+    match references.get(place.reference) {
+        Some(reference) => {
+            let alone = references.len() == 1;
+            reference_header(alloc, definitions, alone, reference, place.column)
+        }
+        None => Ok(Vec::new(alloc)),
+    }
+}
+
+// The header of a column of a reference, which may be the only one.
+fn reference_header(
+    alloc: Global,
+    definitions: &[TableDef],
+    alone: bool,
+    reference: &Reference,
+    column: usize,
+) -> Result<Vec<u8>, AllocError>
+    ensures { IfOk result (λ text. text.items ≡ reference_header definitions.now alone (Some reference.now) column) }
+{
+    let name = column_name(definitions, reference.table, column);
+    if alone {
+        return Vec::from_slice(alloc, name);
+    }
+    let mut text = Vec::from_slice(alloc, reference.name.as_slice())?;
+    text.extend_from_slice(b".")?;
+    text.extend_from_slice(name)?;
+    Ok(text)
+}
+
+// The name of a column, as the schema spells it.
+fn column_name(definitions: &[TableDef], table: usize, column: usize) -> &[u8]
+    ensures { result.now ≡ column_name definitions.now table column }
+{
+    match definitions.get(table) {
+        Some(definition) => match definition.columns.get(column) {
+            Some(column) => column.name.bytes(),
+            None => b"",
+        },
+        None => b"",
+    }
+}
+
+// Adds the field of an item.
+fn push_item(
+    fields: &mut ByteRecord,
+    item: &Item<NoGeometry>,
+    rows: &[Row<'_>],
+) -> Result<(), AllocError>
+    requires { partial_of fields.old ≡ [] }
+    ensures fields { OnOk result (fields_of fields.new ≡ fields_of fields.old ++ item_text no_writing rows.now item.now ∷ []) }
+    ensures partial { OnOk result (partial_of fields.new ≡ []) }
+{
+    match item {
+        Item::Column(place) => push_field(fields, field_at(rows, *place)),
+        Item::AsText(none) | Item::Dimension(none) | Item::IsEmpty(none) => match *none {},
+    }
+}
+
+// The field at a place of some rows; what isn't there is null.
+fn field_at<'a>(rows: &'a [Row<'_>], place: ColumnPlace) -> Field<'a>
+    ensures { shown result ≡ field_at rows.entry.now place }
+{
+    if let Some(row) = rows.get(place.reference) {
+        if place.column < row.len() {
+            return row.field(place.column);
+        }
+    }
+    Field::Null
+}
+
+// Adds the text of a field.
+fn push_field(fields: &mut ByteRecord, field: Field<'_>) -> Result<(), AllocError>
+    requires { partial_of fields.old ≡ [] }
+    ensures fields { OnOk result (fields_of fields.new ≡ fields_of fields.old ++ field_text no_writing (shown field.entry) ∷ []) }
+    ensures partial { OnOk result (partial_of fields.new ≡ []) }
+{
+    match field {
+        Field::Null => fields.push_field(b""),
+        Field::Int(number) => {
+            let mut buffer = Buffer::new();
+            fields.push_field(buffer.format(number).as_bytes())
+        }
+        Field::Text(text) => fields.push_field(text.as_bytes()),
+        Field::Geom(none) => match *none {},
+    }
+}

@@ -1,0 +1,226 @@
+//! What the program does with its order, over readers and sinks of any kind.
+
+ghost use Rattle.std.specs.Prelude.{◌≡◌, length, IfOk};
+ghost use Rattle.engine.specs.Failures.{failure_status};
+
+use crate::failure::{Failure, fault_line, status};
+use crate::run_fault::Fault;
+use crate::relate::relate_texts;
+use crate::runs::run;
+use command_line::Order;
+use feature_table::{Database, Schema};
+use itoa::Buffer;
+use spatial_sql::read_schema;
+use std::alloc::{AllocError, Global};
+use std::io::{ErrorKind, Read};
+use wkt::{Sink, SinkFault, put_parts};
+
+/// How many bytes of a schema's file are read: one more than a schema may have.
+const SCHEMA_BYTES: u64 = 65_537;
+
+/// Does what the order says: puts the answer on `out` and the line of a failure on `err`, and answers the status.
+/// The opener gives the reader of the file at a path, and None where it can't be opened. (Profile.)
+pub fn serve<R: Read + Drop, F: FnMut(&str) -> Option<R>, S: Sink, E: Sink>(
+    alloc: Global,
+    order: &Order,
+    opener: F,
+    out: &mut S,
+    err: &mut E,
+) -> u8
+    requires { F.IsAlwaysCallable opener }
+{
+    match order {
+        Order::Run {
+            schema,
+            directory,
+            query,
+        } => {
+            let paths = Paths {
+                schema: schema.as_str(),
+                directory: directory.as_str(),
+            };
+            serve_run(alloc, &paths, query.as_str(), opener, out, err)
+        }
+        Order::Check { schema, directory } => {
+            let paths = Paths {
+                schema: schema.as_str(),
+                directory: directory.as_str(),
+            };
+            serve_check(alloc, &paths, opener, out, err)
+        }
+        Order::Relate { first, second } => serve_relate(alloc, first, second, out, err),
+    }
+}
+
+// Where the files of a command stand.
+#[derive(Drop)]
+struct Paths<'a> {
+    schema: &'a str,
+    directory: &'a str,
+}
+
+// Answers a query: the schema's file is read first, then the schema, then all files of tables are opened in the
+// schema's order, and then the query is run.
+fn serve_run<R: Read + Drop, F: FnMut(&str) -> Option<R>, S: Sink, E: Sink>(
+    alloc: Global,
+    paths: &Paths<'_>,
+    query: &str,
+    mut opener: F,
+    out: &mut S,
+    err: &mut E,
+) -> u8
+    requires { F.IsAlwaysCallable opener }
+{
+    let text = match schema_text(alloc, opener(paths.schema)) {
+        Ok(text) => text,
+        Err(failure) => return failed(&failure, err),
+    };
+    let schema = match read_schema(alloc, text.as_slice()) {
+        Ok(schema) => schema,
+        Err(fault) => return failed(&Failure::Schema(fault), err),
+    };
+    let readers = match open_tables(alloc, &schema, paths.directory, opener) {
+        Ok(readers) => readers,
+        Err(failure) => return failed(&failure, err),
+    };
+    match run(alloc, &schema, readers, query, out) {
+        Ok(()) => 0,
+        Err(fault) => failed(&run_failure(&schema, fault), err),
+    }
+}
+
+// Loads every table, and puts a line for each, in the schema's order: its name and how many rows it has. The files are
+// opened as for a run, and nothing is put where one of them doesn't load.
+fn serve_check<R: Read + Drop, F: FnMut(&str) -> Option<R>, S: Sink, E: Sink>(
+    alloc: Global,
+    paths: &Paths<'_>,
+    mut opener: F,
+    out: &mut S,
+    err: &mut E,
+) -> u8
+    requires { F.IsAlwaysCallable opener }
+{
+    let text = match schema_text(alloc, opener(paths.schema)) {
+        Ok(text) => text,
+        Err(failure) => return failed(&failure, err),
+    };
+    let schema = match read_schema(alloc, text.as_slice()) {
+        Ok(schema) => schema,
+        Err(fault) => return failed(&Failure::Schema(fault), err),
+    };
+    let readers = match open_tables(alloc, &schema, paths.directory, opener) {
+        Ok(readers) => readers,
+        Err(failure) => return failed(&failure, err),
+    };
+    let database = match Database::load(alloc, &schema, readers) {
+        Ok(database) => database,
+        Err(fault) => return failed(&run_failure(&schema, Fault::from(fault)), err),
+    };
+    match put_counts(&database, out) {
+        Ok(()) => 0,
+        Err(_) => failed(&Failure::WriteFailed, err),
+    }
+}
+
+// Puts a line for each table: its name, a blank and the number of its rows.
+fn put_counts<S: Sink>(database: &Database<'_>, out: &mut S) -> Result<(), SinkFault> {
+    for (place, table) in database.definitions().iter().enumerate() {
+        let mut digits = Buffer::new();
+        let rows = digits.format(database.table(place).rows());
+        put_parts(
+            out,
+            &[table.name.as_str().as_bytes(), b" ", rows.as_bytes(), b"\n"],
+        )?;
+    }
+    Ok(())
+}
+
+// Puts the nine characters of the matrix of two geometries, and a line feed.
+fn serve_relate<S: Sink, E: Sink>(
+    alloc: Global,
+    first: &str,
+    second: &str,
+    out: &mut S,
+    err: &mut E,
+) -> u8 {
+    let matrix = match relate_texts(alloc, first.as_bytes(), second.as_bytes()) {
+        Ok(matrix) => matrix,
+        Err(failure) => return failed(&failure, err),
+    };
+    match put_parts(out, &[matrix.text().as_slice(), b"\n"]) {
+        Ok(()) => 0,
+        Err(_) => failed(&Failure::WriteFailed, err),
+    }
+}
+
+/// Puts the line of a failure, and answers its status, also where the line can't be put. (Profile.)
+pub fn failed<E: Sink>(failure: &Failure<'_>, err: &mut E) -> u8
+    ensures { result ≡ failure_status failure.now }
+{
+    let _ = fault_line(failure, err);
+    status(failure)
+}
+
+// The bytes of a schema's file, but for what is past the greatest length of a schema.
+fn schema_text<R: Read + Drop>(
+    alloc: Global,
+    file: Option<R>,
+) -> Result<Vec<u8>, Failure<'static>> {
+    let Some(file) = file else {
+        return Err(Failure::SchemaUnreadable);
+    };
+    let mut text = Vec::new(alloc);
+    match file.take(SCHEMA_BYTES).read_to_end(&mut text) {
+        Ok(_) => Ok(text),
+        Err(error) if error.kind() == ErrorKind::OutOfMemory => Err(Failure::OutOfMemory),
+        Err(_) => Err(Failure::SchemaUnreadable),
+    }
+}
+
+// Opens the files of all tables, in the schema's order.
+fn open_tables<'s, R: Read + Drop, F: FnMut(&str) -> Option<R>>(
+    alloc: Global,
+    schema: &'s Schema,
+    directory: &str,
+    mut opener: F,
+) -> Result<Vec<R>, Failure<'s>>
+    requires { F.IsAlwaysCallable opener }
+    ensures { IfOk result (λ readers. length readers.items ≡ length schema.entry.now) }
+{
+    let mut readers = Vec::new(alloc);
+    for table in schema.tables() {
+        let name = table.name.as_str();
+        let Ok(path) = table_path(alloc, directory, name) else {
+            return Err(Failure::OutOfMemory);
+        };
+        let Some(reader) = opener(path.as_str()) else {
+            return Err(Failure::TableUnreadable(name));
+        };
+        if readers.push(reader).is_err() {
+            return Err(Failure::OutOfMemory);
+        }
+    }
+    Ok(readers)
+}
+
+// The path of a table's file.
+fn table_path(alloc: Global, directory: &str, name: &str) -> Result<String, AllocError> {
+    let mut path = String::from_str(alloc, directory)?;
+    path.push_str("/")?;
+    path.push_str(name)?;
+    path.push_str(".csv")?;
+    Ok(path)
+}
+
+// The failure that a fault of a run is.
+fn run_failure(schema: &Schema, fault: Fault) -> Failure<'_> {
+    match fault {
+        Fault::Query(fault) => Failure::Query(fault),
+        Fault::Load(table, fault) => match schema.tables().get(table) {
+            Some(table) => Failure::Load(table.name.as_str(), fault),
+            None => Failure::Load("", fault),
+        },
+        Fault::Sink => Failure::WriteFailed,
+        Fault::Memory => Failure::OutOfMemory,
+    }
+}

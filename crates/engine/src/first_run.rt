@@ -1,0 +1,12 @@
+//! The answer of the worked run, computed: the bytes that its records are.
+
+ghost use Rattle.std.specs.Prelude.{◌≡◌, [], ◌∷◌, codes};
+ghost use Rattle.table_model.specs.BindingExamples.{towns};
+ghost use Rattle.table_model.specs.FirstRunExamples.{town_rows, first_query, third_query};
+ghost use Rattle.engine.specs.Runs.{answer_text};
+
+/// The text of the answers of two queries over one table: the header, then a record for each row. (Profile.)
+pub fn answer_of_the_first_run()
+    ensures first { answer_text towns (town_rows ∷ []) first_query ≡ codes "id,name\n1,a\n" }
+    ensures third { answer_text towns (town_rows ∷ []) third_query ≡ codes "id\n4\n" }
+{}

@@ -1,0 +1,89 @@
+//! The command `relate`: the DE-9IM matrix of two geometries in well-known text.
+
+ghost use Rattle.std.specs.Prelude.{◌≡◌, Result, Ok, Err, IfOk, IfErr, IfSome, option_map};
+ghost use Rattle.geometry_model.specs.CheckedTexts.{tested};
+ghost use Rattle.geometry_model.specs.Dimensions.{IsMatrix};
+ghost use Rattle.geometry_model.specs.Geometries.{Geometry, kind};
+ghost use Rattle.geometry_model.specs.WellKnownText.{Spells};
+ghost use Rattle.geometry_model.specs.declared.geometry_faults.GeometryFault.TheVariants as g;
+ghost use Rattle.geometry_model.specs.declared.text_faults.TextFault.{TextFault};
+ghost use Rattle.validity.specs.CheckFaults.{IsFaultOf, fault_in};
+ghost use Rattle.wkt.specs.TextFaults.{text_fault};
+ghost use Rattle.engine.specs.Relations.{IsFailureOf, RelatesTexts, geometry_in_word, or_refused, refused_or_memory, relation, served_matrix};
+
+use crate::failure::{Failure, GeometryWord};
+use de9im::{Matrix, Work, relate};
+use geometry_model::{GeometryFault, Kind};
+use std::alloc::Global;
+use validity::{CheckFault, Valid, check};
+use wkt::{WktFault, read};
+
+/// The DE-9IM matrix of the geometries that two texts spell. The first text is read and checked before the second, and
+/// both before a geometry is refused that isn't of points, whose matrix isn't served yet. It fails for want of memory
+/// too. (06-103r4, 6.1.15.2; the order is a profile.)
+pub fn relate_texts(alloc: Global, first: &[u8], second: &[u8]) -> Result<Matrix, Failure<'static>>
+    ensures ok { IfOk result (λ m. relation first.now second.now ≡ Ok m) }
+    ensures point_sets { IfOk result (RelatesTexts first.now second.now) }
+    ensures failure { IfErr result (IsFailureOf (relation first.now second.now)) }
+{
+    let first = geometry_of(alloc, GeometryWord::First, first)?;
+    let second = geometry_of(alloc, GeometryWord::Second, second)?;
+    matrix_of(alloc, &first, &second)
+}
+
+// The valid geometry that a text spells.
+fn geometry_of(alloc: Global, word: GeometryWord, text: &[u8]) -> Result<Valid, Failure<'static>>
+    ensures ok { IfOk result (λ g. geometry_in_word word text.now ≡ Ok g) }
+    ensures spelled { IfOk result (λ g. Spells text.now g) }
+    ensures failure { IfErr result (IsFailureOf (geometry_in_word word text.now)) }
+{
+    let geometry = match read(alloc, text) {
+        Ok(geometry) => geometry,
+        Err(fault) => return Err(text_failure(word, fault)),
+    };
+    match check(alloc, geometry) {
+        Ok(valid) => Ok(valid),
+        Err(fault) => Err(validity_failure(word, fault)),
+    }
+}
+
+// The failure that a fault of a geometry's text is.
+fn text_failure(word: GeometryWord, fault: WktFault) -> Failure<'static>
+    ensures failure { (read : Result Geometry TextFault) → IfSome (text_fault fault) (λ found. read ≡ Err found)
+        → IsFailureOf (or_refused word (tested read)) result }
+    ensures exact { result ≡ refused_or_memory word (option_map g.Text (text_fault fault)) }
+{
+    match fault.text_fault() {
+        Some(fault) => Failure::Refused(word, GeometryFault::Text(fault)),
+        None => Failure::OutOfMemory,
+    }
+}
+
+// The failure that a fault of a geometry is.
+fn validity_failure(word: GeometryWord, fault: CheckFault) -> Failure<'static>
+    ensures failure { (g : Geometry) → IsFaultOf g fault → IsFailureOf (or_refused word (tested (Ok g))) result }
+    ensures exact { result ≡ refused_or_memory word (option_map g.Invalid (fault_in fault)) }
+{
+    match fault.validity_fault() {
+        Some(fault) => Failure::Refused(word, GeometryFault::Invalid(fault)),
+        None => Failure::OutOfMemory,
+    }
+}
+
+// The matrix of two geometries, where they are of points.
+fn matrix_of(alloc: Global, first: &Valid, second: &Valid) -> Result<Matrix, Failure<'static>>
+    ensures ok { IfOk result (λ m. served_matrix (kind first.now) (kind second.now) first.now second.now ≡ Ok m) }
+    ensures point_sets { IfOk result (λ m. IsMatrix first.now second.now m) }
+    ensures failure { IfErr result (IsFailureOf (served_matrix (kind first.now) (kind second.now) first.now second.now)) }
+{
+    if first.kind() != Kind::Point {
+        return Err(Failure::NotServed(GeometryWord::First));
+    }
+    if second.kind() != Kind::Point {
+        return Err(Failure::NotServed(GeometryWord::Second));
+    }
+    match relate(alloc, first, second, &mut Work::new()) {
+        Ok(matrix) => Ok(matrix),
+        Err(_) => Err(Failure::OutOfMemory),
+    }
+}

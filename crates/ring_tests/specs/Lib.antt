@@ -1,0 +1,2 @@
+pub mod EdgeRuns
+pub mod RunLaws

@@ -1,0 +1,98 @@
+//! What two edges have in common.
+
+ghost use Rattle.std.specs.Prelude.{◌≡◌, ◌&&◌, ◌||◌, pos, not};
+ghost use Rattle.geometry_model.specs.Points.{point_at};
+ghost use Rattle.geometry_model.specs.Sides.{on, between, side as spec_side};
+ghost use Rattle.geometry_model.specs.FirstFaults as spec;
+
+use fraction::GridPoint;
+use orient::{Segment, side_number};
+
+/// Whether a coordinate lies between two others, ends counted.
+fn is_between(from: i32, to: i32, at: i32) -> bool
+    ensures { result ≡ between from to at (pos 1) }
+{
+    from <= at && at <= to || to <= at && at <= from
+}
+
+/// Whether a place lies within the box of two others, ends counted.
+fn is_in_box(sx: i32, sy: i32, tx: i32, ty: i32, x: i32, y: i32) -> bool
+    ensures { result ≡ (between sx tx x (pos 1) && between sy ty y (pos 1)) }
+{
+    is_between(sx, tx, x) && is_between(sy, ty, y)
+}
+
+/// Whether a position lies within the segment's ends in both coordinates.
+fn is_within_ends(segment: &Segment, at: GridPoint) -> bool
+    ensures { result ≡ (between segment.now.start.x segment.now.end.x at.x (pos 1) && between segment.now.start.y segment.now.end.y at.y (pos 1)) }
+{
+    let start = segment.start();
+    let end = segment.end();
+    is_in_box(start.x(), start.y(), end.x(), end.y(), at.x(), at.y())
+}
+
+/// Whether a position lies on the segment, ends counted, where the side on which it lies is known.
+fn is_on(segment: &Segment, at: GridPoint, side: i64) -> bool
+    requires { side ≡ spec_side segment.now.start segment.now.end (point_at at) }
+    ensures { result ≡ on segment.now (point_at at) }
+{
+    side == 0 && is_within_ends(segment, at)
+}
+
+/// Whether of two numbers one is above 0 and the other below.
+fn are_opposite(a: i64, b: i64) -> bool
+    ensures { result ≡ spec.opposite a b }
+{
+    a < 0 && 0 < b || 0 < a && b < 0
+}
+
+/// Whether an end of one of two edges lies on the other, where their sides are known.
+fn touch(e: &Segment, f: &Segment, start: i64, end: i64, back_start: i64, back_end: i64) -> bool
+    requires start { start ≡ spec_side e.now.start e.now.end (point_at f.now.start) }
+    requires end { end ≡ spec_side e.now.start e.now.end (point_at f.now.end) }
+    requires back_start { back_start ≡ spec_side f.now.start f.now.end (point_at e.now.start) }
+    requires back_end { back_end ≡ spec_side f.now.start f.now.end (point_at e.now.end) }
+    ensures { result ≡ (on e.now (point_at f.now.start) || on e.now (point_at f.now.end) || on f.now (point_at e.now.start) || on f.now (point_at e.now.end)) }
+{
+    is_on(e, f.start(), start)
+        || is_on(e, f.end(), end)
+        || is_on(f, e.start(), back_start)
+        || is_on(f, e.end(), back_end)
+}
+
+/// Whether the ends of each of two edges lie on opposite sides of the other.
+fn cross(start: i64, end: i64, back_start: i64, back_end: i64) -> bool
+    ensures { result ≡ (spec.opposite start end && spec.opposite back_start back_end) }
+{
+    are_opposite(start, end) && are_opposite(back_start, back_end)
+}
+
+/// Whether two edges share a point (06-103r4, 6.1.15: intersection of point sets). An end of one is on the other, or they
+/// cross.
+pub fn share_point(e: &Segment, f: &Segment) -> bool
+    ensures { result ≡ spec.share_point e.now f.now }
+{
+    let start = side_number(e, f.start());
+    let end = side_number(e, f.end());
+    let back_start = side_number(f, e.start());
+    let back_end = side_number(f, e.end());
+    touch(e, f, start, end, back_start, back_end) || cross(start, end, back_start, back_end)
+}
+
+/// Whether a position other than the common one is on the edge.
+fn other_on(common: GridPoint, segment: &Segment, at: GridPoint) -> bool
+    ensures { result ≡ spec.other_on common segment.now at }
+{
+    is_on(segment, at, side_number(segment, at)) && at != common
+}
+
+/// Whether two edges with a common end share another point too (06-103r4, 6.1.6.1: simple). An end other than the common one
+/// is on both.
+pub fn share_other(common: GridPoint, e: &Segment, f: &Segment) -> bool
+    ensures { result ≡ spec.share_other common e.now f.now }
+{
+    other_on(common, e, f.start())
+        || other_on(common, e, f.end())
+        || other_on(common, f, e.start())
+        || other_on(common, f, e.end())
+}

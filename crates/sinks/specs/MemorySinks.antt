@@ -1,0 +1,11 @@
+-- What a sink over memory shows.
+use Rattle.std.specs.Prelude.{ℕ, List}
+use Rattle.sinks.specs.declared.memory.MemorySink.{MemorySink}
+
+-- the bytes that it took (profile)
+abbrev pub memory_bytes : MemorySink → List ℕ
+memory_bytes s = s.bytes.items
+
+-- how often a put failed (profile)
+abbrev pub memory_failures : MemorySink → ℕ
+memory_failures s = s.failures

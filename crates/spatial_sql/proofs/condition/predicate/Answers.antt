@@ -1,6 +1,0 @@
-use Rattle.std.proofs.Common.{subst, sym}
-use Rattle.spatial_sql.proofs.PredicateNames.{predicate_is}
-use Rattle.spatial_sql.proofs.condition.predicate.Goals as goal
-
-pub returns : goal.returns
-returns c = rw (predicate_is c.args.tokens.now) c.predicate_by_name.ensures

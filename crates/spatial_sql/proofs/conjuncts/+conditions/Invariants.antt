@@ -1,0 +1,10 @@
+use Rattle.std.proofs.Common.{◌≡◌, map, drop}
+use Rattle.table_model.specs.Binding as spec
+use Rattle.table_model.specs.Loading.{each}
+use Rattle.spatial_sql.proofs.Outcomes.{behind}
+use Rattle.spatial_sql.proofs.conjuncts.+conditions.Given as goal
+
+abbrev pub invariant-bound_parts-loop-part : goal.invariant-bound_parts-loop-part
+invariant-bound_parts-loop-part l =
+    behind l.bound (each (map (spec.bound_cond spec.no_geometry l.schema l.references) (drop l.part-index l.parts)))
+    ≡ each (map (spec.bound_cond spec.no_geometry l.schema l.references) l.parts)

@@ -1,0 +1,30 @@
+//! Laws of rows by places. Nothing here runs: each function has an empty body, and its contract is a law of the
+//! definitions, whatever a geometry and its arguments are.
+
+ghost use Rattle.table_model.specs.PlaceLaws.{
+  ChoicesGiveProduct,
+  SelectedGivesPassing,
+  MeantGivesLimited,
+  UpToPassingIsFront,
+};
+
+/// What stands at all choices of places is the product of the tables. (SQL, FROM.)
+pub fn choices_give_product<G>()
+    ensures { ChoicesGiveProduct G }
+{}
+
+/// What stands at the choices of places that ON and WHERE select are the rows at which every conjunct is true.
+/// (SQL, WHERE.)
+pub fn selected_gives_passing<G, A, C>()
+    ensures { SelectedGivesPassing G A C }
+{}
+
+/// What stands at the places of a meaning are the rows that LIMIT leaves. (SQL, LIMIT.)
+pub fn meant_gives_limited<G, A, C>()
+    ensures { MeantGivesLimited G A C }
+{}
+
+/// The elements up to the n-th that passes a test are the least front with the first n that pass.
+pub fn up_to_passing_is_front<X>()
+    ensures { UpToPassingIsFront X }
+{}

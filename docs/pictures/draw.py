@@ -1,0 +1,110 @@
+#!/usr/bin/env python3
+"""Draws the pictures of the documents: two geometries on the grid, and beside them their DE-9IM matrix.
+
+Run it in this folder without arguments. It writes one SVG for each entry of PICTURES, the same bytes each time. The
+matrices are those of the worked rows; the script computes none.
+"""
+
+import re
+
+UNIT = 44
+MARGIN = 26
+CELL = 46
+FIRST = "#1f5fa8"
+SECOND = "#c0561f"
+
+PICTURES = {
+    "touching-corner": ("LINESTRING(-2 2,2 -2)", "POLYGON((0 0,4 0,4 4,0 4,0 0))", "F01FF0212"),
+    "shared-edge": ("POLYGON((0 0,4 0,4 4,0 4,0 0))", "POLYGON((4 0,8 0,8 4,4 4,4 0))", "FF2F11212"),
+    "line-across-a-hole": (
+        "LINESTRING(-1 5,11 5)",
+        "POLYGON((0 0,10 0,10 10,0 10,0 0),(4 4,6 4,6 6,4 6,4 4))",
+        "101FF0212",
+    ),
+}
+
+
+def parts(text):
+    """The lists of positions of a text: of each innermost pair of parentheses one."""
+    lists = []
+    for inner in re.findall(r"\(([^()]*)\)", text):
+        lists.append([tuple(int(n) for n in position.split()) for position in inner.split(",")])
+    return lists
+
+
+class Sheet:
+    """A drawing in grid steps, y upwards."""
+
+    def __init__(self, positions):
+        self.left = min(x for x, _ in positions) - 1
+        self.right = max(x for x, _ in positions) + 1
+        self.bottom = min(y for _, y in positions) - 1
+        self.top = max(y for _, y in positions) + 1
+        longest = max(self.right - self.left, self.top - self.bottom)
+        self.unit = min(UNIT, 420 // longest)
+        self.lines = []
+
+    def at(self, position):
+        x, y = position
+        return MARGIN + (x - self.left) * self.unit, MARGIN + (self.top - y) * self.unit
+
+    def width(self):
+        return 2 * MARGIN + (self.right - self.left) * self.unit
+
+    def height(self):
+        return 2 * MARGIN + (self.top - self.bottom) * self.unit
+
+    def grid(self):
+        for x in range(self.left, self.right + 1):
+            for y in range(self.bottom, self.top + 1):
+                cx, cy = self.at((x, y))
+                self.lines.append(f'<circle cx="{cx}" cy="{cy}" r="1.2" fill="#999"/>')
+
+    def geometry(self, text, colour):
+        path = ""
+        for positions in parts(text):
+            spots = [self.at(p) for p in positions]
+            path += "M" + " L".join(f"{x} {y}" for x, y in spots) + (" Z " if text.startswith(("POLYGON", "MULTIPOLYGON")) else " ")
+        fill = colour if text.startswith(("POLYGON", "MULTIPOLYGON")) else "none"
+        self.lines.append(
+            f'<path d="{path.strip()}" fill="{fill}" fill-opacity="0.22" fill-rule="evenodd" stroke="{colour}" stroke-width="2.5"/>'
+        )
+
+    def matrix(self, text, left, top):
+        names = ["I", "B", "E"]
+        for i, name in enumerate(names):
+            self.lines.append(label(left + (i + 1.5) * CELL, top + CELL / 2, name, SECOND))
+            self.lines.append(label(left + CELL / 2, top + (i + 1.5) * CELL, name, FIRST))
+        for i in range(9):
+            x, y = left + (i % 3 + 1) * CELL, top + (i // 3 + 1) * CELL
+            self.lines.append(f'<rect x="{x}" y="{y}" width="{CELL}" height="{CELL}" fill="none" stroke="#666"/>')
+            self.lines.append(label(x + CELL / 2, y + CELL / 2, text[i], "#222"))
+
+
+def label(x, y, text, colour):
+    return (
+        f'<text x="{x:g}" y="{y:g}" fill="{colour}" font-family="sans-serif" font-size="18" '
+        f'text-anchor="middle" dominant-baseline="central">{text}</text>'
+    )
+
+
+def draw(name, first, second, matrix):
+    sheet = Sheet([p for text in (first, second) for positions in parts(text) for p in positions])
+    sheet.grid()
+    sheet.geometry(second, SECOND)
+    sheet.geometry(first, FIRST)
+    left = sheet.width()
+    height = max(sheet.height(), 4 * CELL + 2 * MARGIN)
+    sheet.matrix(matrix, left, (height - 4 * CELL) / 2)
+    width = left + 4 * CELL + MARGIN
+    body = "\n".join(sheet.lines)
+    with open(f"{name}.svg", "w", encoding="utf-8") as file:
+        file.write(
+            f'<svg xmlns="http://www.w3.org/2000/svg" viewBox="0 0 {width:g} {height:g}" width="{width:g}" height="{height:g}">\n'
+            f"<title>{first} and {second}: {matrix}</title>\n"
+            f'<rect width="100%" height="100%" fill="#fff"/>\n{body}\n</svg>\n'
+        )
+
+
+for picture, rows in PICTURES.items():
+    draw(picture, *rows)
