@@ -1,5 +1,5 @@
 -- A predicate is read by the name of its function.
-use Rattle.std.proofs.Common.{◌≡◌, ℕ, Bool, true, false, if◌then◌else◌, List, [], ◌∷◌, ◌++◌, map, Option, Some, None, refl}
+use Rattle.std.proofs.Common.{◌≡◌, ℕ, Bool, true, false, if◌then◌else◌, List, [], ◌∷◌, ◌++◌, map, Some, refl}
 use Rattle.geometry_model.specs.declared.relations.Predicate.{Predicate}
 use Rattle.table_model.specs.Parsers.{place, next}
 use Rattle.table_model.specs.QueryReading.{Functions, calls, called_or, relates, tested, comparison, predicate}

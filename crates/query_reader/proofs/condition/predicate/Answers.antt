@@ -1,4 +1,3 @@
-use Rattle.std.proofs.Common.{subst, sym}
 use Rattle.query_reader.proofs.PredicateNames.{predicate_is}
 use Rattle.query_reader.proofs.condition.predicate.Goals as goal
 
