@@ -1,0 +1,4 @@
+pub mod Lexing
+pub mod Counts
+pub mod TokenSlices
+pub mod PredicateNames
