@@ -83,6 +83,14 @@ fn refusals_tell_the_fault(rt: HostRuntime) {
             CheckFault::HolesNested(1, 2),
             Some(ValidityFault::HolesNested(1, 2)),
         ),
+        (
+            CheckFault::ElementsMeet(0, 1),
+            Some(ValidityFault::ElementsMeet(0, 1)),
+        ),
+        (
+            CheckFault::ElementInside(1, 0),
+            Some(ValidityFault::ElementInside(1, 0)),
+        ),
         (CheckFault::OutOfMemory, None),
     ];
     for (refusal, fault) in cases {
