@@ -1,5 +1,5 @@
 -- Records of readers.
-use Rattle.std.proofs.Common.{◌≡◌, List, [], ◌∷◌, ℕ, Option, Some, None, refl}
+use Rattle.std.proofs.Common.{List, [], ◌∷◌, ℕ, Option, Some, None, refl}
 use Rattle.table_model.specs.Loading.{Record}
 use Rattle.feature_table.specs.Tables.{AreRecordsOf, EachRecordsOf, records_in}
 

@@ -35,7 +35,7 @@ use Rattle.table_model.specs.declared.faults.LoadFault.TheVariants as load
 use Rattle.table_model.specs.declared.faults.TableFault.{TableFault}
 use Rattle.table_model.specs.declared.faults.QueryFault.{QueryFault}
 use Rattle.table_model.specs.declared.faults.QueryFault.TheVariants as query
-use Rattle.engine.specs.Faults.{load_wants_memory, memory_or, of_load, of_put, of_query, of_table, wants_memory}
+use Rattle.engine.specs.Faults.{load_wants_memory, memory_or, of_put, of_query, of_table, wants_memory}
 use Rattle.engine.specs.Runs.{IsReached, RefusesTable, Runs, after, answer_text, bound_text, csv_text, none_reached, outcome, pair_text, query_outcome}
 use Rattle.engine.specs.Stage.{no_writing, pair_rows, plain_meaning}
 use Rattle.engine.specs.declared.execute.RowPair.{RowPair}

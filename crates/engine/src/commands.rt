@@ -4,8 +4,8 @@ ghost use Rattle.std.specs.Prelude.{◌≡◌, length, IfOk};
 ghost use Rattle.engine.specs.Failures.{failure_status};
 
 use crate::failure::{Failure, fault_line, status};
-use crate::run_fault::Fault;
 use crate::relate::relate_texts;
+use crate::run_fault::Fault;
 use crate::runs::run;
 use command_line::Order;
 use feature_table::{Database, Schema};

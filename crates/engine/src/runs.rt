@@ -14,9 +14,9 @@ ghost use Rattle.table_model.specs.Loading.{Record};
 ghost use Rattle.table_model.specs.Meanings.{referenced};
 ghost use Rattle.engine.specs.Stage.{HasReferences, IsPlace, no_writing, pair_rows};
 
+use crate::answer_records::{header_record, row_record};
 use crate::execute::{RowPair, execute};
 use crate::run_fault::Fault;
-use crate::answer_records::{header_record, row_record};
 use csv::ByteRecord;
 use feature_table::{Database, Schema};
 use records::{PutFault, RecordWriter};
@@ -123,7 +123,11 @@ fn pair_record(
     match (query.references.as_slice(), pair.second) {
         ([one], _) => row_record(fields, query, &[database.table(one.table).row(pair.first)]),
         ([first, _], None) => {
-            row_record(fields, query, &[database.table(first.table).row(pair.first)])
+            row_record(
+                fields,
+                query,
+                &[database.table(first.table).row(pair.first)],
+            )
         }
         ([first, other], Some(second)) => {
             let rows = [

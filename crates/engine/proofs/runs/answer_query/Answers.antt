@@ -1,5 +1,5 @@
 -- Each exit of the query's steps.
-use Rattle.std.proofs.Common.{◌≡◌, ◌++◌, map, List, ap, subst, ◌∙◌}
+use Rattle.std.proofs.Common.{◌≡◌, ◌++◌, map, ap, subst, ◌∙◌}
 use Rattle.std.specs.List.{concat}
 use Rattle.std.specs.Io.KnownBytes.{Appends}
 use Rattle.csv.specs.Writing.{row_text, default_writer}

@@ -16,7 +16,7 @@ returns-in_err-query-clause-records g c =
       these.0,
       these.1,
       λ matrix gives. unread-runs c.from_residual.result c.in_err-query.field-0.0 matrix c.args.schema.now these.0 c.args.query.now (g.S.Sink.taken c.args.sink.now)
-      c.from_residual.ensures.1 c.in_err-query.ensures.exact,
+          c.from_residual.ensures.1 c.in_err-query.ensures.exact,
     )
 
 pub returns-in_err-database-clause-texts : goal.returns-in_err-database-clause-texts
@@ -31,8 +31,8 @@ returns-in_err-database-clause-records g c =
       these.records,
       these.are_of,
       λ matrix gives. unloaded-runs c.from_residual-in_err-database.result c.in_err-database.field-0.0 matrix c.args.schema.now these.records c.args.query.now c.in_ok-query.query
-      (g.S.Sink.taken c.args.sink.now) c.from_residual-in_err-database.ensures.1 c.in_ok-query.ensures.exact these.loads
-      c.in_err-database.ensures.table these.earlier,
+          (g.S.Sink.taken c.args.sink.now) c.from_residual-in_err-database.ensures.1 c.in_ok-query.ensures.exact these.loads
+          c.in_err-database.ensures.table these.earlier,
     )
 
 pub returns-clause-texts : goal.returns-clause-texts
@@ -47,6 +47,6 @@ returns-clause-records g c =
       these.records,
       these.are_of,
       λ matrix gives. loaded-runs c.answer_query.result matrix c.args.schema.now c.in_ok-database.database.definitions these.records c.args.query.now c.in_ok-query.query
-      c.in_ok-database.database.tables (g.S.Sink.taken c.args.sink.now) (g.S.Sink.taken c.answer_query.new.sink)
-      c.in_ok-query.ensures.exact these.loads c.in_ok-database.ensures.schema (c.answer_query.ensures.answer matrix gives),
+          c.in_ok-database.database.tables (g.S.Sink.taken c.args.sink.now) (g.S.Sink.taken c.answer_query.new.sink)
+          c.in_ok-query.ensures.exact these.loads c.in_ok-database.ensures.schema (c.answer_query.ensures.answer matrix gives),
     )
