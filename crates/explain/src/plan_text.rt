@@ -1,0 +1,70 @@
+//! The texts of EXPLAIN and of EXPLAIN ANALYZE, put into a sink.
+
+ghost use Rattle.std.specs.Prelude.{◌≡◌, ◌++◌, decimal, codes, OnOk, OnErr};
+ghost use Rattle.std.specs.Io.KnownBytes.{Appends};
+ghost use Rattle.sinks.specs.Sinks.{AppendsFront, CountsFailure};
+ghost use Rattle.table_model.specs.ExplainTexts.{line, access_lines, filters_text, explain_text, analyze_text};
+
+use crate::accesses::put_accesses;
+use crate::filters::put_filters;
+use crate::lines::{put_count, put_limit, put_number};
+use sinks::{Sink, SinkFault};
+use table_model::conditions::Bound;
+use table_model::plans::Plan;
+
+/// Puts what EXPLAIN says of a plan of a query: its cost, a line for each access, the filters in the order in which
+/// they are evaluated, and lines for COUNT(*) and LIMIT where these stand. It takes no memory. At Err the sink failed,
+/// and a beginning of the text has been put.
+pub fn explain<S: Sink, A, C>(
+    query: &Bound<A, C>,
+    plan: &Plan,
+    sink: &mut S,
+) -> Result<(), SinkFault>
+    ensures ok { OnOk result (Appends (S.taken sink.old) (S.taken sink.new) (explain_text query.now plan.now)) }
+    ensures front { OnErr result (AppendsFront (S.taken sink.old) (S.taken sink.new) (explain_text query.now plan.now)) }
+    ensures failures { CountsFailure (S.failures sink.old) (S.failures sink.new) result }
+{
+    put_number(sink, b"cost", plan.cost)?;
+    put_plan_accesses(sink, query, plan)?;
+    put_plan_filters(sink, plan)?;
+    put_count(sink, query.counts)?;
+    put_limit(sink, query.limit)
+}
+
+/// Puts what EXPLAIN ANALYZE says of a plan of a query: the text of EXPLAIN, and the work that was done. It takes no
+/// memory. At Err the sink failed, and a beginning of the text has been put.
+pub fn analyze<S: Sink, A, C>(
+    query: &Bound<A, C>,
+    plan: &Plan,
+    work: u64,
+    sink: &mut S,
+) -> Result<(), SinkFault>
+    ensures ok { OnOk result (Appends (S.taken sink.old) (S.taken sink.new) (analyze_text query.now plan.now work)) }
+    ensures front { OnErr result (AppendsFront (S.taken sink.old) (S.taken sink.new) (analyze_text query.now plan.now work)) }
+    ensures failures { CountsFailure (S.failures sink.old) (S.failures sink.new) result }
+{
+    explain(query, plan, sink)?;
+    put_number(sink, b"work", work)
+}
+
+// Puts the lines of a plan's accesses.
+fn put_plan_accesses<S: Sink, A, C>(
+    sink: &mut S,
+    query: &Bound<A, C>,
+    plan: &Plan,
+) -> Result<(), SinkFault>
+    ensures ok { OnOk result (Appends (S.taken sink.old) (S.taken sink.new) (access_lines query.now.references plan.now.accesses)) }
+    ensures front { OnErr result (AppendsFront (S.taken sink.old) (S.taken sink.new) (access_lines query.now.references plan.now.accesses)) }
+    ensures failures { CountsFailure (S.failures sink.old) (S.failures sink.new) result }
+{
+    put_accesses(sink, query.references.as_slice(), plan.accesses.as_slice())
+}
+
+// Puts the line of a plan's filters.
+fn put_plan_filters<S: Sink>(sink: &mut S, plan: &Plan) -> Result<(), SinkFault>
+    ensures ok { OnOk result (Appends (S.taken sink.old) (S.taken sink.new) (line (codes "filter") (filters_text plan.now.filters))) }
+    ensures front { OnErr result (AppendsFront (S.taken sink.old) (S.taken sink.new) (line (codes "filter") (filters_text plan.now.filters))) }
+    ensures failures { CountsFailure (S.failures sink.old) (S.failures sink.new) result }
+{
+    put_filters(sink, plan.filters.as_slice())
+}
