@@ -1,0 +1,2 @@
+pub mod EnvelopeLemmas
+pub mod FoundLemmas

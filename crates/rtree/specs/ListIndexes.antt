@@ -1,0 +1,8 @@
+-- What the plain index shows.
+use Rattle.std.specs.Prelude.{List, Option}
+use Rattle.geometry_model.specs.Envelopes.{Envelope}
+use Rattle.rtree.specs.declared.lists.ListIndex.{ListIndex}
+
+-- the envelopes of its list
+abbrev pub listed : ListIndex → List (Option Envelope)
+listed index = index.envelopes.items

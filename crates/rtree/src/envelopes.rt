@@ -1,0 +1,166 @@
+//! Envelopes: the least upright rectangle round some positions.
+
+ghost use Rattle.std.specs.Prelude.{◌≡◌, ◌≤ℤ◌, ◌&&◌};
+ghost use Rattle.std.specs.Int.{int_min, int_max};
+ghost use Rattle.geometry_model.specs.Envelopes.{Envelope as Rectangle, envelope_at, with_position, envelope_of_positions, joined, overlap, meets};
+
+use fraction::GridPoint;
+use std::marker::Model;
+
+/// The least and the greatest x and y of some positions. (OGC 06-103r4, 6.1.2.2: Envelope.)
+#[derive(Clone, Copy, Debug)]
+pub struct Envelope {
+    least_x: i32,
+    greatest_x: i32,
+    least_y: i32,
+    greatest_y: i32,
+}
+
+impl Model for Envelope {
+    ghost Value = { Rectangle };
+
+    ghost view = { λ e. record { least_x = e.least_x; greatest_x = e.greatest_x; least_y = e.least_y; greatest_y = e.greatest_y } };
+
+    ghost invariant = { λ e. (e.least_x ≤ℤ e.greatest_x) × (e.least_y ≤ℤ e.greatest_y) };
+
+    ghost inverse = { λ e. record { least_x = e.least_x; greatest_x = e.greatest_x; least_y = e.least_y; greatest_y = e.greatest_y } };
+}
+
+impl Envelope {
+    /// The envelope of some positions; absent where there are none. (OGC 06-103r4, 6.1.2.2: Envelope.)
+    pub fn of_positions(positions: &[GridPoint]) -> Option<Envelope>
+        ensures { result ≡ envelope_of_positions positions.now }
+    {
+        let mut all = None;
+        let mut left = positions.len();
+        while left > 0 {
+            left -= 1;
+            all = Some(with_position(positions[left], all));
+        }
+        all
+    }
+
+    /// The least x. (OGC 06-103r4, 6.1.2.2: Envelope.)
+    pub fn least_x(&self) -> i32
+        ensures value { result ≡ self.now.least_x }
+        ensures ordered { self.now.least_x ≤ℤ self.now.greatest_x }
+    {
+        self.least_x
+    }
+
+    /// The greatest x. (OGC 06-103r4, 6.1.2.2: Envelope.)
+    pub fn greatest_x(&self) -> i32
+        ensures { result ≡ self.now.greatest_x }
+    {
+        self.greatest_x
+    }
+
+    /// The least y. (OGC 06-103r4, 6.1.2.2: Envelope.)
+    pub fn least_y(&self) -> i32
+        ensures value { result ≡ self.now.least_y }
+        ensures ordered { self.now.least_y ≤ℤ self.now.greatest_y }
+    {
+        self.least_y
+    }
+
+    /// The greatest y. (OGC 06-103r4, 6.1.2.2: Envelope.)
+    pub fn greatest_y(&self) -> i32
+        ensures { result ≡ self.now.greatest_y }
+    {
+        self.greatest_y
+    }
+}
+
+// The envelope of these bounds.
+fn bounded(least_x: i32, greatest_x: i32, least_y: i32, greatest_y: i32) -> Envelope
+    requires across { least_x ≤ℤ greatest_x }
+    requires up { least_y ≤ℤ greatest_y }
+    ensures { result ≡ record { least_x = least_x; greatest_x = greatest_x; least_y = least_y; greatest_y = greatest_y } }
+{
+    Envelope {
+        least_x,
+        greatest_x,
+        least_y,
+        greatest_y,
+    }
+}
+
+/// The envelope of both. (OGC 06-103r4, 6.1.2.2: Envelope.)
+pub fn joined(one: Envelope, other: Envelope) -> Envelope
+    ensures { result ≡ joined one other }
+{
+    bounded(
+        lesser(one.least_x(), other.least_x()),
+        greater(one.greatest_x(), other.greatest_x()),
+        lesser(one.least_y(), other.least_y()),
+        greater(one.greatest_y(), other.greatest_y()),
+    )
+}
+
+// Whether the rectangles overlap, their edges counted.
+fn overlap(one: Envelope, other: Envelope) -> bool
+    ensures { result ≡ overlap one other }
+{
+    let right = one.least_x() <= other.greatest_x();
+    let left = other.least_x() <= one.greatest_x();
+    let above = one.least_y() <= other.greatest_y();
+    let below = other.least_y() <= one.greatest_y();
+    both(both(both(right, left), above), below)
+}
+
+/// Whether two envelopes meet: both are absent, or both are there and overlap, their edges counted.
+pub fn meets(one: Option<Envelope>, other: Option<Envelope>) -> bool
+    ensures { result ≡ meets one other }
+{
+    match (one, other) {
+        (None, None) => true,
+        (Some(e), Some(f)) => overlap(e, f),
+        _ => false,
+    }
+}
+
+// The envelope of one position.
+fn envelope_at(a: GridPoint) -> Envelope
+    ensures { result ≡ envelope_at a }
+{
+    Envelope {
+        least_x: a.x(),
+        greatest_x: a.x(),
+        least_y: a.y(),
+        greatest_y: a.y(),
+    }
+}
+
+// The envelope of a position and of what follows it.
+fn with_position(a: GridPoint, rest: Option<Envelope>) -> Envelope
+    ensures { result ≡ with_position a rest }
+{
+    let one = envelope_at(a);
+    match rest {
+        None => one,
+        Some(e) => joined(one, e),
+    }
+}
+
+// The lesser of two numbers.
+fn lesser(a: i32, b: i32) -> i32
+    ensures value { result ≡ int_min a b }
+    ensures within { result ≤ℤ a }
+{
+    a.min(b)
+}
+
+// The greater of two numbers.
+fn greater(a: i32, b: i32) -> i32
+    ensures value { result ≡ int_max a b }
+    ensures within { a ≤ℤ result }
+{
+    a.max(b)
+}
+
+// Whether both are so.
+fn both(a: bool, b: bool) -> bool
+    ensures { result ≡ (a && b) }
+{
+    a && b
+}

@@ -1,0 +1,16 @@
+//! Envelopes, and indexes that find the envelopes that meet one asked for.
+//!
+//! An index stands for a list of optional envelopes by position. An absent envelope is that of an empty geometry: it
+//! meets only an absent one.
+#![tactic(auto)]
+
+pub mod envelopes;
+pub mod indexes;
+pub mod lists;
+
+pub use envelopes::{Envelope, meets};
+pub use indexes::EnvelopeIndex;
+pub use lists::ListIndex;
+
+#[cfg(test)]
+mod tests;
