@@ -6,11 +6,11 @@ use Rattle.clap.specs.Simple.{on_top}
 use Rattle.command_line.specs.declared.commands.Order.{Order}
 use Rattle.command_line.specs.declared.commands.Order.TheVariants as order
 
--- a word that has to be there, shown in help by one name (profile)
+-- a word that has to be there, shown in help by one name
 abbrev pub required_word : Text → Rule
 required_word id = record (new_rule id) { required = true; value_names = 1 }
 
--- `run SCHEMA DIR QUERY` (profile)
+-- `run SCHEMA DIR QUERY`
 abbrev pub run : App
 run = with_rule (with_rule (with_rule (new_app (codes "run")) (required_word (codes "schema")))
     (required_word (codes "directory"))) (required_word (codes "query"))
@@ -19,7 +19,7 @@ run = with_rule (with_rule (with_rule (new_app (codes "run")) (required_word (co
 abbrev pub check : App
 check = with_rule (with_rule (new_app (codes "check")) (required_word (codes "schema"))) (required_word (codes "directory"))
 
--- `relate WKT WKT` (profile)
+-- `relate WKT WKT`
 abbrev pub relate : App
 relate = with_rule (with_rule (new_app (codes "relate")) (required_word (codes "first")))
     (required_word (codes "second"))
@@ -32,13 +32,13 @@ bare_sfq = on_top (λ s. record s { has_version = true; subcommand_required = tr
 abbrev pub sfq : App
 sfq = with_subcommand (with_subcommand (with_subcommand bare_sfq run.top) check.top) relate.top
 
--- the name of the order's subcommand (profile)
+-- the name of the order's subcommand
 abbrev pub name_of : Order → Text
 name_of (order.Run schema directory query) = codes "run"
 name_of (order.Check schema directory) = codes "check"
 name_of (order.Relate first second) = codes "relate"
 
--- each text of the order is the word in its place (profile)
+-- each text of the order is the word in its place
 abbrev pub HasTextsOf : List Row → Order → Type 0
 HasTextsOf rows (order.Run schema directory query) =
     (first_of (codes "schema") rows ≡ Some (string_bytes schema))
@@ -51,15 +51,15 @@ HasTextsOf rows (order.Relate first second) =
     (first_of (codes "first") rows ≡ Some (string_bytes first))
     × (first_of (codes "second") rows ≡ Some (string_bytes second))
 
--- the subcommand is that of the order, and so are its words (profile)
+-- the subcommand is that of the order, and so are its words
 abbrev pub OrdersBy : Option (Text × List Row) → Order → Type 0
 OrdersBy met order = (rows : List Row) × (met ≡ Some (name_of order, rows)) × HasTextsOf rows order
 
--- the words give this order (profile)
+-- the words give this order
 abbrev pub Orders : List Text → Order → Type 0
 Orders words = OrdersBy (subcommand_of sfq words)
 
--- each word of `run` is there (profile)
+-- each word of `run` is there
 abbrev pub HasRunWords : List Row → Type 0
 HasRunWords rows = IsSome (first_of (codes "schema") rows)
     × IsSome (first_of (codes "directory") rows)
@@ -69,11 +69,11 @@ HasRunWords rows = IsSome (first_of (codes "schema") rows)
 abbrev pub HasCheckWords : List Row → Type 0
 HasCheckWords rows = IsSome (first_of (codes "schema") rows) × IsSome (first_of (codes "directory") rows)
 
--- each word of `relate` is there (profile)
+-- each word of `relate` is there
 abbrev pub HasRelateWords : List Row → Type 0
 HasRelateWords rows = IsSome (first_of (codes "first") rows) × IsSome (first_of (codes "second") rows)
 
--- the subcommand is `run`, `check` or `relate`, and each of its words is there (profile)
+-- the subcommand is `run`, `check` or `relate`, and each of its words is there
 abbrev pub HasWords : Option (Text × List Row) → Type 0
 HasWords met = ((rows : List Row) × (met ≡ Some (codes "run", rows)) × HasRunWords rows)
     ⊎ ((rows : List Row) × (met ≡ Some (codes "check", rows)) × HasCheckWords rows)

@@ -1,6 +1,6 @@
 //! What the command line can ask for.
 
-/// A command with its words, as texts of its own. (Profile.)
+/// A command with its words, as texts of its own.
 #[derive(Debug, Drop)]
 pub enum Order {
     /// Answer a query over the tables of a directory.

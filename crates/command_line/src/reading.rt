@@ -18,7 +18,6 @@ const VERSION: &str = "0.1.0";
 /// Reads the words of a command line, the program's name first, by `clap`. At Ok they are the
 /// command and its words, and no step of `clap` refuses them. A misuse is want of memory or of a kind
 /// that the step which refuses the words names, so it is want of memory where `clap` takes them.
-/// (Profile.)
 pub fn order<'a>(alloc: Global, words: &'a [&'a str]) -> Result<Order, Misuse>
     ensures ok { IfOk result (Orders (texts words.entry.now)) }
     ensures accepted { OnOk result (fault_of sfq (texts words.entry.now) ≡ []) }

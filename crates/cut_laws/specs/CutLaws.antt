@@ -8,27 +8,27 @@ use Rattle.geometry_model.specs.CutPoints.{IsCut, cut_points}
 use Rattle.geometry_model.specs.Pieces.{Piece, IsPiece, pieces, compare_pieces}
 use Rattle.geometry_model.specs.Labels.{labelled_matrix}
 
--- the list of cut points holds exactly the cuts (profile)
+-- the list of cut points holds exactly the cuts
 abbrev pub CutPointsAreCuts : Type 0
 CutPointsAreCuts = (es : List Edge) (ps : List Position) (p : Point) → IsPoint p → IsCut es ps p ↔ Any (λ q. same_point q p ≡ true) (cut_points es ps)
 
--- its points are in least form (profile)
+-- its points are in least form
 abbrev pub CutPointsAreLeast : Type 0
 CutPointsAreLeast = (es : List Edge) (ps : List Position) → All (λ p. IsPoint p × IsLeast p) (cut_points es ps)
 
--- it is in ascending order, each point once (profile)
+-- it is in ascending order, each point once
 abbrev pub CutPointsAscend : Type 0
 CutPointsAscend = (es : List Edge) (ps : List Position) → AllPairs (λ p q. compare p q ≡ Less) (cut_points es ps)
 
--- the list of pieces holds exactly the pieces, their ends being in least form (profile)
+-- the list of pieces holds exactly the pieces, their ends being in least form
 abbrev pub PiecesArePieces : Type 0
 PiecesArePieces = (es : List Edge) (ps : List Position) (c : Piece) → IsLeast c.lesser → IsLeast c.greater
     → IsPiece es ps c ↔ Contains (pieces (cut_points es ps) es) c
 
--- it is in ascending order, each piece once (profile)
+-- it is in ascending order, each piece once
 abbrev pub PiecesAscend : Type 0
 PiecesAscend = (es : List Edge) (ps : List Position) → AllPairs (λ c d. compare_pieces c d ≡ Less) (pieces (cut_points es ps) es)
 
--- the label matrix of two geometries the other way round is the transposed one (profile)
+-- the label matrix of two geometries the other way round is the transposed one
 abbrev pub LabelledIsTransposed : Type 0
 LabelledIsTransposed = (a b : Geometry) → labelled_matrix b a ≡ transposed (labelled_matrix a b)

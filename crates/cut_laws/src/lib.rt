@@ -11,20 +11,20 @@ ghost use Rattle.cut_laws.specs.CutLaws.{
   LabelledIsTransposed,
 };
 
-/// The list of cut points holds exactly the cuts, in least form, ascending, each once. (Profile.)
+/// The list of cut points holds exactly the cuts, in least form, ascending, each once.
 pub fn cut_points_are_cuts()
     ensures cuts { CutPointsAreCuts }
     ensures least { CutPointsAreLeast }
     ensures ascending { CutPointsAscend }
 {}
 
-/// The list of pieces holds exactly the pieces, ascending, each once. (Profile.)
+/// The list of pieces holds exactly the pieces, ascending, each once.
 pub fn pieces_are_pieces()
     ensures pieces { PiecesArePieces }
     ensures ascending { PiecesAscend }
 {}
 
-/// The label matrix of two geometries the other way round is the transposed one. (Profile.)
+/// The label matrix of two geometries the other way round is the transposed one.
 pub fn label_matrix_is_transposed()
     ensures { LabelledIsTransposed }
 {}

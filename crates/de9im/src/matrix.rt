@@ -75,7 +75,7 @@ impl Matrix {
         }
     }
 
-    /// The matrix of the two geometries the other way round. (Profile.)
+    /// The matrix of the two geometries the other way round.
     pub(crate) fn transposed(&self) -> Matrix
         ensures { result ≡ transposed self.now }
     {

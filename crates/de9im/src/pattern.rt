@@ -13,7 +13,7 @@ pub trait MatrixPattern: Sized {
     ghost pattern: { Self → Pattern };
 
     /// The pattern that a text of nine characters `T F * 0 1 2` writes, by rows, `t` and `f` being taken too; of any
-    /// other text None. It takes no memory. (06-103r4, 6.1.15.2; small letters: profile.)
+    /// other text None. It takes no memory. (06-103r4, 6.1.15.2; small letters: this project's choice.)
     fn read(text: &str) -> Option<Self>
         ensures { option_map pattern result ≡ pattern_of_text text.now };
 

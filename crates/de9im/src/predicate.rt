@@ -8,12 +8,12 @@ use crate::matrix::Matrix;
 use crate::pattern::MatrixPattern;
 use geometry_model::{Kind, Pattern, PatternCharacter, Predicate};
 
-/// What a spatial predicate says of itself. [`Predicate`] alone has it. (Profile.)
+/// What a spatial predicate says of itself. [`Predicate`] alone has it.
 pub trait SpatialPredicate {
     // The predicate that a value is.
     ghost predicate: { Self → Predicate };
 
-    /// Whether the envelopes of two geometries meet wherever the predicate holds of them (profile): of Equals,
+    /// Whether the envelopes of two geometries meet wherever the predicate holds of them: of Equals,
     /// Intersects, Touches, Crosses, Within, Contains and Overlaps, and of a pattern with T, 0, 1 or 2 in a cell of
     /// interiors and boundaries alone. It takes no memory.
     fn forces_meeting(&self) -> bool
@@ -39,7 +39,7 @@ impl SpatialPredicate for Predicate {
 }
 
 /// Whether the predicate holds of two geometries of these kinds whose DE-9IM matrix this is (06-103r4, 6.1.15.3; the
-/// patterns of each predicate are a profile). It takes no memory.
+/// patterns of each predicate are this project's). It takes no memory.
 pub fn holds(predicate: Predicate, first: Kind, second: Kind, matrix: &Matrix) -> bool
     ensures { result ≡ holds predicate first second matrix.now }
 {

@@ -18,7 +18,7 @@ use geometry_model::Dimension;
 use std::alloc::{AllocError, Global};
 use validity::Valid;
 
-/// The DE-9IM matrix of two geometries of points, by their labels (06-103r4, 6.1.15.2; labels: profile). It adds one to
+/// The DE-9IM matrix of two geometries of points, by their labels (06-103r4, 6.1.15.2; labels: this project's choice). It adds one to
 /// the work. It fails only for want of memory, and then leaves the work as it was.
 pub fn relate(
     alloc: Global,

@@ -2,7 +2,7 @@
 
 use std::marker::Model;
 
-/// How many matrices were computed. The count stays at the greatest u64 once it is there. (Profile.)
+/// How many matrices were computed. The count stays at the greatest u64 once it is there.
 #[derive(Debug, Drop)]
 pub struct Work {
     count: u64,
@@ -20,14 +20,14 @@ impl Work {
     ghost use Rattle.std.specs.Prelude.{◌≡◌};
     ghost use Rattle.integers.specs.Counts.{one_more};
 
-    /// No matrix yet. (Profile.)
+    /// No matrix yet.
     pub fn new() -> Work
         ensures { result ≡ 0 }
     {
         Work { count: 0 }
     }
 
-    /// The number of matrices. (Profile.)
+    /// The number of matrices.
     pub fn count(&self) -> u64
         ensures { result ≡ self.now }
     {

@@ -14,7 +14,7 @@ use Rattle.engine.specs.declared.failure.Failure.TheVariants as f
 use Rattle.engine.specs.declared.failure.GeometryWord.{GeometryWord}
 use Rattle.engine.specs.declared.failure.GeometryWord.TheVariants.{First, Second}
 
--- a geometry, or the refusal of the text where it should stand (profile)
+-- a geometry, or the refusal of the text where it should stand
 abbrev pub or_refused : GeometryWord → Result Geometry GeometryFault → Result Geometry Failure
 or_refused word (Ok g) = Ok g
 or_refused word (Err fault) = Err (f.Refused word fault)
@@ -23,7 +23,7 @@ or_refused word (Err fault) = Err (f.Refused word fault)
 abbrev pub geometry_in_word : GeometryWord → List ℕ → Result Geometry Failure
 geometry_in_word word text = or_refused word (tested (read_served text))
 
--- the matrix of two geometries of these kinds: that of others than points isn't served yet (profile)
+-- the matrix of two geometries of these kinds: that of others than points isn't served yet
 abbrev pub served_matrix : Kind → Kind → Geometry → Geometry → Result Matrix Failure
 served_matrix kinds.Point kinds.Point a b = Ok (labelled_matrix a b)
 served_matrix kinds.Point kinds.Line a b = Err (f.NotServed Second)
@@ -31,13 +31,13 @@ served_matrix kinds.Point kinds.Area a b = Err (f.NotServed Second)
 served_matrix kinds.Line _ a b = Err (f.NotServed First)
 served_matrix kinds.Area _ a b = Err (f.NotServed First)
 
--- a step after another; a failure stays (profile)
+-- a step after another; a failure stays
 abbrev pub and_then : {A B : Type 0} → Result A Failure → (A → Result B Failure) → Result B Failure
 and_then (Ok a) step = step a
 and_then (Err failure) step = Err failure
 
 -- the matrix of the geometries that two texts spell, or the first failure: the first text is read and tested before the
--- second, and both before a kind is refused (06-103r4, 6.1.15.2; the order: profile)
+-- second, and both before a kind is refused (06-103r4, 6.1.15.2; the order: this project's choice)
 abbrev pub relation : List ℕ → List ℕ → Result Matrix Failure
 relation first second =
     and_then (geometry_in_word First first) (λ a. and_then (geometry_in_word Second second) (λ b. served_matrix (kind a) (kind b) a b))
@@ -47,11 +47,11 @@ relation first second =
 abbrev pub RelatesTexts : List ℕ → List ℕ → Matrix → Type 0
 RelatesTexts first second m = (a b : Geometry) × Spells first a × Spells second b × IsMatrix a b m
 
--- the failure is that of the outcome, or of want of memory (profile)
+-- the failure is that of the outcome, or of want of memory
 abbrev pub IsFailureOf : {A : Type 0} → Result A Failure → Failure → Type 0
 IsFailureOf outcome failure = (failure ≡ f.OutOfMemory) ⊎ (outcome ≡ Err failure)
 
--- the failure that a geometry's fault is, and want of memory where there is none (profile)
+-- the failure that a geometry's fault is, and want of memory where there is none
 abbrev pub refused_or_memory : GeometryWord → Option GeometryFault → Failure
 refused_or_memory word (Some fault) = f.Refused word fault
 refused_or_memory word None = f.OutOfMemory

@@ -30,7 +30,7 @@ use Rattle.engine.specs.Faults.{of_query, of_table}
 use Rattle.engine.specs.declared.run_fault.Fault.{Fault}
 use Rattle.engine.specs.declared.run_fault.Fault.TheVariants as faults
 
--- the text of some records, each ended by a line feed (profile)
+-- the text of some records, each ended by a line feed
 abbrev pub csv_text : List (List (List ℕ)) → List ℕ
 csv_text rows = concat (map (row_text default_writer) rows)
 
@@ -42,7 +42,7 @@ answer_text matrix definitions tables query = csv_text (answer_records no_writin
 abbrev pub bound_text : List (TableDef NoGeometry) → List (Table NoGeometry) → Bound NoGeometry NoGeometry → List ℕ
 bound_text definitions tables query = csv_text (answer_records no_writing definitions query (plain_meaning tables query))
 
--- the text of the record of a pair (profile)
+-- the text of the record of a pair
 abbrev pub pair_text : List (Table NoGeometry) → Bound NoGeometry NoGeometry → RowPair → List ℕ
 pair_text tables query pair = row_text default_writer (record_of no_writing query (pair_rows tables pair))
 

@@ -15,7 +15,7 @@ use std::alloc::{AllocError, Global};
 use table_model::conditions::{ColumnPlace, Item, Reference};
 use table_model::values::NoGeometry;
 
-/// The header record of a query's answer. (Profile.) It fails only for want of memory.
+/// The header record of a query's answer. It fails only for want of memory.
 pub fn header_record(
     alloc: Global,
     definitions: &[TableDef],

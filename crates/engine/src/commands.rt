@@ -19,7 +19,7 @@ use wkt::{Sink, SinkFault, put_parts};
 const SCHEMA_BYTES: u64 = 65_537;
 
 /// Does what the order says: puts the answer on `out` and the line of a failure on `err`, and answers the status.
-/// The opener gives the reader of the file at a path, and None where it can't be opened. (Profile.)
+/// The opener gives the reader of the file at a path, and None where it can't be opened.
 pub fn serve<R: Read + Drop, F: FnMut(&str) -> Option<R>, S: Sink, E: Sink>(
     alloc: Global,
     order: &Order,
@@ -153,7 +153,7 @@ fn serve_relate<S: Sink, E: Sink>(
     }
 }
 
-/// Puts the line of a failure, and answers its status, also where the line can't be put. (Profile.)
+/// Puts the line of a failure, and answers its status, also where the line can't be put.
 pub fn failed<E: Sink>(failure: &Failure<'_>, err: &mut E) -> u8
     ensures { result ≡ failure_status failure.now }
 {

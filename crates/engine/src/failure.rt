@@ -19,7 +19,7 @@ pub enum GeometryWord {
     Second,
 }
 
-/// Why the program ends without its answer. Names of tables are lent, as the schema spells them. (Profile.)
+/// Why the program ends without its answer. Names of tables are lent, as the schema spells them.
 #[derive(Clone, Copy, Debug)]
 pub enum Failure<'a> {
     /// The schema isn't taken.
@@ -61,7 +61,7 @@ struct Words<'a> {
 }
 
 /// Puts the line of a failure: `sfq: `, its text and a line feed. It takes no memory. At Err the sink failed, and
-/// a beginning of the line has been put. (Profile.)
+/// a beginning of the line has been put.
 pub fn fault_line<S: Sink>(failure: &Failure<'_>, sink: &mut S) -> Result<(), SinkFault>
     ensures ok { OnOk result (Appends (S.taken sink.old) (S.taken sink.new) (failure_line failure.now)) }
     ensures front { OnErr result (AppendsFront (S.taken sink.old) (S.taken sink.new) (failure_line failure.now)) }
@@ -88,7 +88,7 @@ fn digits<'b>(number: Option<usize>, buffer: &'b mut Buffer) -> &'b str
 }
 
 /// The status that the program ends with: 3 for the schema, 4 for a table, 5 for the query or a geometry of
-/// `relate`, 6 where reading or writing failed, 7 for want of memory. (Profile.)
+/// `relate`, 6 where reading or writing failed, 7 for want of memory.
 pub fn status(failure: &Failure<'_>) -> u8
     ensures { result ≡ failure_status failure.now }
 {

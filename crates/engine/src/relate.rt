@@ -20,7 +20,7 @@ use wkt::{WktFault, read};
 
 /// The DE-9IM matrix of the geometries that two texts spell. The first text is read and checked before the second, and
 /// both before a geometry is refused that isn't of points, whose matrix isn't served yet. It fails for want of memory
-/// too. (06-103r4, 6.1.15.2; the order is a profile.)
+/// too. (06-103r4, 6.1.15.2; the order is this project's.)
 pub fn relate_texts(alloc: Global, first: &[u8], second: &[u8]) -> Result<Matrix, Failure<'static>>
     ensures ok { IfOk result (λ m. relation first.now second.now ≡ Ok m) }
     ensures point_sets { IfOk result (RelatesTexts first.now second.now) }

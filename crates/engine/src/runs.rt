@@ -49,7 +49,7 @@ pub fn run<R: Read + Drop, S: Sink>(
 }
 
 /// Answers a query over a database: binds it, and puts the header and the rows. At Ok all of the answer has been
-/// put; nothing where the query isn't bound, and a beginning where the sink failed or memory ran out. (Profile.)
+/// put; nothing where the query isn't bound, and a beginning where the sink failed or memory ran out.
 pub fn answer_query<S: Sink>(
     alloc: Global,
     query: &Query<'_>,

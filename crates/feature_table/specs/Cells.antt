@@ -5,7 +5,7 @@ use Rattle.feature_table.specs.GeometryFields.{GeometryValue}
 use Rattle.table_model.specs.declared.values.Value.{Value}
 use Rattle.table_model.specs.declared.values.Value.TheVariants as value
 
--- the value that a field shows: of what is lent, its bytes (profile)
+-- the value that a field shows: of what is lent, its bytes
 abbrev pub shown : Field → Value GeometryValue
 shown field.Null = value.Null
 shown (field.Int n) = value.Integer n

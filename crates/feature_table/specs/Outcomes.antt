@@ -4,11 +4,11 @@ use Rattle.table_model.specs.declared.faults.LoadFault.{LoadFault}
 use Rattle.table_model.specs.declared.faults.LoadFault.TheVariants as fault
 use Rattle.table_model.specs.declared.faults.TableFault.{TableFault}
 
--- a fault that no definition gives: reading failed, or memory ran out (profile)
+-- a fault that no definition gives: reading failed, or memory ran out
 abbrev pub IsFailure : LoadFault → Type 0
 IsFailure f = (f ≡ fault.ReadFailed) ⊎ (f ≡ fault.OutOfMemory)
 
--- whether a fault says that reading failed (profile)
+-- whether a fault says that reading failed
 abbrev pub is_of_reading : LoadFault → Bool
 is_of_reading fault.MissingColumn = false
 is_of_reading fault.DoubleHeader = false
@@ -23,12 +23,12 @@ is_of_reading fault.TooManyRows = false
 is_of_reading fault.ReadFailed = true
 is_of_reading fault.OutOfMemory = false
 
--- a call's answer, seen by view, is the one that the definitions give, unless reading failed or memory ran out (profile)
+-- a call's answer, seen by view, is the one that the definitions give, unless reading failed or memory ran out
 abbrev pub Loads : {X Y : Type 0} → (X → Y) → Result X LoadFault → Result Y LoadFault → Type 0
 Loads view (Ok x) answer = answer ≡ Ok (view x)
 Loads view (Err f) answer = ¬ (IsFailure f) → answer ≡ Err f
 
--- the same of an answer whose fault tells of a table (profile)
+-- the same of an answer whose fault tells of a table
 abbrev pub LoadsTable : {X Y : Type 0} → (X → Y) → Result X TableFault → Result Y TableFault → Type 0
 LoadsTable view (Ok x) answer = answer ≡ Ok (view x)
 LoadsTable view (Err f) answer = ¬ (IsFailure f.fault) → answer ≡ Err f

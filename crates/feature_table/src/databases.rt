@@ -104,7 +104,7 @@ impl<'s> Database<'s> {
         self.schema.tables()
     }
 
-    /// Lends the table at a place of the schema. (Profile.)
+    /// Lends the table at a place of the schema.
     pub fn table(&self, i: usize) -> &Table
         requires { i < length self.now.definitions }
         ensures { slice_get self.now.tables i ≡ Some result.now }

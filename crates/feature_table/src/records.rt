@@ -16,7 +16,7 @@ use std::io::Read;
 use table_model::faults::LoadFault;
 
 /// The records of a table's CSV text, the header among them, taken one by one. No more than 100,002 are asked for:
-/// the header, as many as a table may have rows, and one that tells of more. (Profile.)
+/// the header, as many as a table may have rows, and one that tells of more.
 #[derive(Drop)]
 pub struct Records<R> {
     reader: Reader<R>,
@@ -38,7 +38,7 @@ fn record_reader<R: Read + Drop>(alloc: Global, reader: R) -> Reader<R>
 }
 
 impl<R: Read + Drop> Records<R> {
-    /// The records of the CSV text that a reader gives. None is read yet. (Profile.)
+    /// The records of the CSV text that a reader gives. None is read yet.
     pub fn new(alloc: Global, reader: R) -> Records<R>
         ensures ready { IsReady result }
         ensures none { asked result ≡ 0 }
@@ -52,14 +52,14 @@ impl<R: Read + Drop> Records<R> {
         }
     }
 
-    /// How many records `csv` was asked for. (Profile.)
+    /// How many records `csv` was asked for.
     pub fn asked(&self) -> usize
         ensures { result ≡ asked self.now }
     {
         self.asked
     }
 
-    /// Whether `csv` answered the last time that reading failed. (Profile.)
+    /// Whether `csv` answered the last time that reading failed.
     pub fn read_failed(&self) -> bool
         ensures { result ≡ read_failed self.now }
     {
@@ -67,7 +67,7 @@ impl<R: Read + Drop> Records<R> {
     }
 
     /// Asks `csv` for the next record, and says whether there is one. An error is that of `csv`; it is one of reading
-    /// or tells that memory ran out, and no record is asked for after it. (Profile.)
+    /// or tells that memory ran out, and no record is asked for after it.
     pub fn read(&mut self, record: &mut ByteRecord) -> Result<bool, Error>
         requires ready { IsReady self.old }
         requires limit { asked self.old < record_limit }

@@ -20,7 +20,7 @@ pub type ColumnDef = table_model::definitions::ColumnDef<ColumnShape>;
 /// A table: its columns in order, one of which is the feature key. (06-104r4, feature tables.)
 pub type TableDef = table_model::definitions::TableDef<ColumnShape>;
 
-/// A lawful list of table definitions, which contracts see as that list. (06-104r4, feature tables; profile.)
+/// A lawful list of table definitions, which contracts see as that list. (06-104r4, feature tables)
 #[derive(Drop)]
 pub struct Schema {
     tables: Items<TableDef>,
@@ -40,7 +40,7 @@ impl Model for Schema {
 }
 
 impl Schema {
-    /// The schema of a lawful list of definitions. It takes no memory. (Profile.)
+    /// The schema of a lawful list of definitions. It takes no memory.
     pub fn of(tables: Vec<TableDef>) -> Schema
         requires { IsTrue (lawful tables.items) }
         ensures { result ≡ tables.items }
@@ -50,7 +50,7 @@ impl Schema {
         }
     }
 
-    /// Lends the definitions, in the order of the schema. They are lawful. (Profile.)
+    /// Lends the definitions, in the order of the schema. They are lawful.
     pub fn tables(&self) -> &[TableDef]
         ensures value { result.now ≡ self.now }
         ensures lawful { IsTrue (lawful self.now) }
@@ -147,7 +147,7 @@ fn are_lawful(tables: &[TableDef]) -> bool
 
 /// Whether a list of table definitions is lawful: at most 16 tables of at most 32 columns, names of tables and
 /// names of columns that differ without regard to ASCII case, and of each table a key, which is an INTEGER
-/// column. The empty list is lawful. It takes no memory. (06-104r4, feature tables, of the key; profile.)
+/// column. The empty list is lawful. It takes no memory. (06-104r4, feature tables, of the key)
 #[tactic(auto, unfolding(table_model::specs::Definitions::lawful))]
 pub fn lawful(tables: &[TableDef]) -> bool
     ensures { result ≡ lawful tables.now }

@@ -41,14 +41,14 @@ impl<'a> Model for Row<'a> {
 }
 
 impl<'a> Row<'a> {
-    /// How many fields the row has. Of a table that was loaded they are as many as its columns. (Profile.)
+    /// How many fields the row has. Of a table that was loaded they are as many as its columns.
     pub fn len(&self) -> usize
         ensures { result ≡ length self.now }
     {
         self.values.len()
     }
 
-    /// Lends the field of the column at a place. (Profile.)
+    /// Lends the field of the column at a place.
     pub fn field(&self, column: usize) -> Field<'a>
         requires { column < length self.now }
         ensures { slice_get self.now column ≡ Some (shown result) }
@@ -136,7 +136,7 @@ impl Table {
         self.rows.len()
     }
 
-    /// Lends the row at a place. (Profile.)
+    /// Lends the row at a place.
     pub fn row(&self, i: usize) -> Row<'_>
         requires { i < length self.now }
         ensures { slice_get self.now i ≡ Some result }

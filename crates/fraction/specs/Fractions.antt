@@ -4,27 +4,27 @@ use Rattle.std.specs.declared.cmp.Ordering.{Ordering}
 use Rattle.std.specs.Ordering.{int_cmp, int_eq}
 use Rattle.geometry_model.specs.Points.{Point}
 
--- a quotient of two whole numbers (06-103r4, 6.1.4; rational coordinates alone: profile)
+-- a quotient of two whole numbers (06-103r4, 6.1.4; rational coordinates alone: this project's choice)
 pub record Fraction : Type 0 where
   pub numerator : ℤ
   pub denominator : ℤ
 
--- it stands for a number where the denominator is at least 1 (profile)
+-- it stands for a number where the denominator is at least 1
 abbrev pub IsFraction : Fraction → Type 0
 IsFraction f = pos 0 <ℤ f.denominator
 
--- the first coordinate of a point (profile)
+-- the first coordinate of a point
 abbrev pub x_of : Point → Fraction
 x_of p = record { numerator = p.X; denominator = p.W }
 
--- the second (profile)
+-- the second
 abbrev pub y_of : Point → Fraction
 y_of p = record { numerator = p.Y; denominator = p.W }
 
--- two fractions stand for one number: multiplied across (profile)
+-- two fractions stand for one number: multiplied across
 abbrev pub same_fraction : Fraction → Fraction → Bool
 same_fraction f g = int_eq (f.numerator *ℤ g.denominator) (g.numerator *ℤ f.denominator)
 
--- the order of the numbers that two fractions stand for (profile)
+-- the order of the numbers that two fractions stand for
 abbrev pub compare_fractions : Fraction → Fraction → Ordering
 compare_fractions f g = int_cmp (f.numerator *ℤ g.denominator) (g.numerator *ℤ f.denominator)

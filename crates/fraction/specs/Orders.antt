@@ -6,18 +6,18 @@ use Rattle.std.specs.Int.{int_max}
 use Rattle.geometry_model.specs.Points.{Position, Point}
 use Rattle.fraction.specs.Fractions.{Fraction, x_of, y_of, compare_fractions}
 
--- positions by x, then by y (profile)
+-- positions by x, then by y
 abbrev pub position_order : Position → Position → Ordering
 position_order = then_cmp (on (λ a. a.x) int_cmp) (on (λ a. a.y) int_cmp)
 
--- a denominator below 1 is read as 1; no fraction of the code has one (profile)
+-- a denominator below 1 is read as 1; no fraction of the code has one
 abbrev pub made_fraction : Fraction → Fraction
 made_fraction f = record { numerator = f.numerator; denominator = int_max (pos 1) f.denominator }
 
--- fractions by the numbers that they stand for (profile)
+-- fractions by the numbers that they stand for
 abbrev pub fraction_order : Fraction → Fraction → Ordering
 fraction_order = on made_fraction compare_fractions
 
--- points by x, then by y (profile)
+-- points by x, then by y
 abbrev pub point_order : Point → Point → Ordering
 point_order = then_cmp (on x_of fraction_order) (on y_of fraction_order)

@@ -4,20 +4,20 @@ use Rattle.geometry_model.specs.Points.{Position, Point, IsPoint, IsLeast}
 use Rattle.geometry_model.specs.WellKnownText.{coordinate_limit}
 use Rattle.fraction.specs.Fractions.{Fraction, IsFraction}
 
--- a position has both coordinates within the limit (profile)
+-- a position has both coordinates within the limit
 pub record IsOnGrid (a : Position) : Type 0 where
   pub x : unsigned_abs a.x ≤ coordinate_limit
   pub y : unsigned_abs a.y ≤ coordinate_limit
 
--- the greatest denominator of a point that meeting segments of the grid have (profile)
+-- the greatest denominator of a point that meeting segments of the grid have
 abbrev pub meeting_limit : ℕ
 meeting_limit = 8 * coordinate_limit * coordinate_limit
 
--- the greatest denominator of a point: twice that, so that the mediant of two points that meeting segments have is one (profile)
+-- the greatest denominator of a point: twice that, so that the mediant of two points that meeting segments have is one
 abbrev pub denominator_limit : ℕ
 denominator_limit = 16 * coordinate_limit * coordinate_limit
 
--- the numbers of a point that lies within the limit and has a denominator within its own (profile)
+-- the numbers of a point that lies within the limit and has a denominator within its own
 pub record IsInRange (p : Point) : Type 0 where
   pub positive : IsPoint p
   pub denominator : p.W ≤ℤ pos denominator_limit
@@ -30,7 +30,7 @@ pub record IsFractionInRange (f : Fraction) : Type 0 where
   pub denominator : f.denominator ≤ℤ pos denominator_limit
   pub numerator : unsigned_abs f.numerator ≤ coordinate_limit * unsigned_abs f.denominator
 
--- a point as it is kept: its numbers are in range and in least form (profile)
+-- a point as it is kept: its numbers are in range and in least form
 pub record IsKeptPoint (p : Point) : Type 0 where
   pub range : IsInRange p
   pub least : IsLeast p

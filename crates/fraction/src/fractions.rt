@@ -14,7 +14,7 @@ use std::cmp::Ordering;
 use std::marker::Model;
 
 /// One coordinate of a rational point, in grid steps: a quotient of two whole numbers, the second at least 1. It needn't
-/// be in least form, and 1/2 equals 2/4. Its numbers are in the ranges of a point's. (Profile.)
+/// be in least form, and 1/2 equals 2/4. Its numbers are in the ranges of a point's.
 #[derive(Clone, Copy, Debug)]
 pub struct Frac {
     numerator: i128,
@@ -60,7 +60,7 @@ impl Ord for Frac {
 
     ghost matches_eq = { λ f g. refl };
 
-    /// The order of the numbers that the fractions stand for. (Profile.)
+    /// The order of the numbers that the fractions stand for.
     fn cmp(&self, other: &Frac) -> Ordering
         ensures order { result ≡ fraction_order self.now other.now }
         ensures exact { result ≡ compare_fractions self.now other.now }
@@ -91,7 +91,7 @@ impl PartialEq for Frac {
 
     ghost laws = { partial_equiv_from_equiv (eq_by_cmp_equiv fraction_order_total) };
 
-    /// Whether the fractions stand for one number. (Profile.)
+    /// Whether the fractions stand for one number.
     fn eq(&self, other: &Frac) -> bool
         ensures order { result ≡ eq_by_cmp fraction_order self.now other.now }
         ensures exact { result ≡ same_fraction self.now other.now }

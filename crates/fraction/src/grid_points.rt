@@ -14,11 +14,11 @@ ghost use Rattle.fraction.specs.OrderLaws.{same_position_equiv};
 use std::cmp::Ordering;
 use std::marker::Model;
 
-/// The greatest coordinate of a position, and the negative of the least. (Profile.)
+/// The greatest coordinate of a position, and the negative of the least.
 pub const COORDINATE_LIMIT: i32 = geometry_model::COORDINATE_LIMIT as i32;
 
 /// A position of the grid: two whole coordinates, each within `COORDINATE_LIMIT` either way (OGC 06-103r4, 6.1.4; whole
-/// numbers and the limit: profile).
+/// numbers and the limit: this project's choice).
 #[derive(Clone, Copy, Debug)]
 pub struct GridPoint {
     x: i32,
@@ -37,7 +37,7 @@ impl Model for GridPoint {
 
 impl GridPoint {
     /// The position (x, y); `None` exactly where a coordinate is past the limit (OGC 06-103r4, 6.1.4; the limit:
-    /// profile).
+    /// this project's choice).
     pub fn new(x: i32, y: i32) -> Option<GridPoint>
         ensures taken { IsSome result ↔ IsOnGrid (record { x = x; y = y }) }
         ensures value { IfSome result (λ a. a ≡ record { x = x; y = y }) }
@@ -76,7 +76,7 @@ impl Ord for GridPoint {
 
     ghost matches_eq = { Prim.search (comparing, rules) };
 
-    /// The order by x, then by y. (Profile.)
+    /// The order by x, then by y.
     fn cmp(&self, other: &GridPoint) -> Ordering
         ensures order { result ≡ position_order self.now other.now }
         ensures exact { result ≡ compare (point_at self.now) (point_at other.now) }
@@ -103,7 +103,7 @@ impl PartialEq for GridPoint {
 
     ghost laws = { partial_equiv_from_equiv same_position_equiv };
 
-    /// Whether both coordinates are equal. (Profile.)
+    /// Whether both coordinates are equal.
     fn eq(&self, other: &GridPoint) -> bool
         ensures both { result ≡ same_position self.now other.now }
         ensures exact { result ≡ same_point (point_at self.now) (point_at other.now) }

@@ -19,7 +19,7 @@ use std::cmp::Ordering;
 use std::marker::Model;
 
 /// A point of the plane: whole numbers X, Y, W in least form that stand for (X/W, Y/W) (OGC 06-103r4, 6.1.4; rational
-/// coordinates alone, and the ranges: profile). W is from 1 to 16 L L and X and Y are within L W either way, L being the
+/// coordinates alone, and the ranges: this project's choice). W is from 1 to 16 L L and X and Y are within L W either way, L being the
 /// limit of coordinates.
 #[derive(Clone, Copy, Debug)]
 pub struct RatPoint {
@@ -39,7 +39,7 @@ impl Model for RatPoint {
 }
 
 impl RatPoint {
-    /// The point at a position of the grid, with denominator 1. (Profile.)
+    /// The point at a position of the grid, with denominator 1.
     pub fn of_grid(at: GridPoint) -> RatPoint
         ensures { result ≡ point_at at }
     {
@@ -51,7 +51,7 @@ impl RatPoint {
     }
 
     /// The point (x/w, y/w): its triple in least form. It asks that w is from 1 to 16 L L and that x and y are within L w
-    /// either way, L being the limit of coordinates. (Profile.)
+    /// either way, L being the limit of coordinates.
     pub fn reduced(x: i128, y: i128, w: i64) -> RatPoint
         requires in_range { IsInRange (record { X = x; Y = y; W = w }) }
         ensures exact { result ≡ least_form (record { X = x; Y = y; W = w }) }
@@ -67,7 +67,7 @@ impl RatPoint {
     }
 
     /// A point strictly between two points that differ: the sums of the numbers of their triples, in least form. It asks
-    /// that both denominators are at most 8 L L, L being the limit of coordinates. (Profile.)
+    /// that both denominators are at most 8 L L, L being the limit of coordinates.
     pub fn mediant(a: &RatPoint, b: &RatPoint) -> RatPoint
         requires first { a.now.W ≤ℤ pos meeting_limit }
         requires second { b.now.W ≤ℤ pos meeting_limit }
@@ -82,7 +82,7 @@ impl RatPoint {
         )
     }
 
-    /// X, the numerator of the first coordinate. (Profile.)
+    /// X, the numerator of the first coordinate.
     pub fn numerator_x(&self) -> i128
         ensures value { result ≡ self.now.X }
         ensures kept { IsKeptPoint self.now }
@@ -90,7 +90,7 @@ impl RatPoint {
         self.numerator_x
     }
 
-    /// Y, the numerator of the second coordinate. (Profile.)
+    /// Y, the numerator of the second coordinate.
     pub fn numerator_y(&self) -> i128
         ensures value { result ≡ self.now.Y }
         ensures kept { IsKeptPoint self.now }
@@ -98,7 +98,7 @@ impl RatPoint {
         self.numerator_y
     }
 
-    /// W, the denominator of both coordinates. (Profile.)
+    /// W, the denominator of both coordinates.
     pub fn denominator(&self) -> i64
         ensures value { result ≡ self.now.W }
         ensures kept { IsKeptPoint self.now }
@@ -106,28 +106,28 @@ impl RatPoint {
         self.denominator
     }
 
-    /// The first coordinate, X/W. (Profile.)
+    /// The first coordinate, X/W.
     pub fn x(&self) -> Frac
         ensures { result ≡ x_of self.now }
     {
         Frac::new(self.numerator_x, self.denominator)
     }
 
-    /// The second coordinate, Y/W. (Profile.)
+    /// The second coordinate, Y/W.
     pub fn y(&self) -> Frac
         ensures { result ≡ y_of self.now }
     {
         Frac::new(self.numerator_y, self.denominator)
     }
 
-    /// The order of the first coordinates. (Profile.)
+    /// The order of the first coordinates.
     pub fn cmp_x(&self, other: &RatPoint) -> Ordering
         ensures { result ≡ compare_x self.now other.now }
     {
         self.x().cmp(&other.x())
     }
 
-    /// The order of the second coordinates. (Profile.)
+    /// The order of the second coordinates.
     pub fn cmp_y(&self, other: &RatPoint) -> Ordering
         ensures { result ≡ compare_y self.now other.now }
     {
@@ -144,7 +144,7 @@ impl Ord for RatPoint {
 
     ghost matches_eq = { λ p q. refl };
 
-    /// The order by x, then by y. (Profile.)
+    /// The order by x, then by y.
     fn cmp(&self, other: &RatPoint) -> Ordering
         ensures order { result ≡ point_order self.now other.now }
         ensures exact { result ≡ compare self.now other.now }
@@ -173,7 +173,7 @@ impl PartialEq for RatPoint {
 
     ghost laws = { partial_equiv_from_equiv (eq_by_cmp_equiv point_order_total) };
 
-    /// Whether the two are one point. In least form a point has one triple, so the triples tell. (Profile.)
+    /// Whether the two are one point. In least form a point has one triple, so the triples tell.
     fn eq(&self, other: &RatPoint) -> bool
         ensures order { result ≡ eq_by_cmp point_order self.now other.now }
         ensures exact { result ≡ same_point self.now other.now }

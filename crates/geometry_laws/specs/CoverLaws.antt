@@ -9,26 +9,26 @@ use Rattle.geometry_model.specs.Locations.{stands_at, locate}
 use Rattle.geometry_model.specs.Labels.{above, below}
 use Rattle.geometry_laws.specs.PieceLaws.{HasClosedRings}
 
--- a straight line of the plane: the points p at which a X + b Y + c W is 0 (profile)
+-- a straight line of the plane: the points p at which a X + b Y + c W is 0
 pub record Line : Type 0 where
   pub a : ℤ
   pub b : ℤ
   pub c : ℤ
 
--- above 0 on one side of the line, below 0 on the other (profile)
+-- above 0 on one side of the line, below 0 on the other
 abbrev pub value : Line → Point → ℤ
 value l p = l.a *ℤ p.X +ℤ l.b *ℤ p.Y +ℤ l.c *ℤ p.W
 
--- it is a line: not both coefficients are 0 (profile)
+-- it is a line: not both coefficients are 0
 abbrev pub IsLine : Line → Type 0
 IsLine l = (l.a ≢ pos 0) ⊎ (l.b ≢ pos 0)
 
--- finitely many points don't cover a segment (profile)
+-- finitely many points don't cover a segment
 abbrev pub PointsDontCover : Type 0
 PointsDontCover = (cs : List Point) (p q : Point) → All IsPoint cs → IsPoint p → IsPoint q → same_point p q ≡ false
     → (m n : ℕ) × (0 < m + n) × All (λ c. same_point c (weighted m p n q) ≡ false) cs
 
--- finitely many lines don't cover a triangle (profile)
+-- finitely many lines don't cover a triangle
 abbrev pub LinesDontCover : Type 0
 LinesDontCover = (ls : List Line) (p q r : Point) → All IsLine ls → area p q r ≢ pos 0
     → (k m n : ℕ) × (0 < k + m + n) × All (λ l. value l (weighted_three k p m q n r) ≢ pos 0) ls
@@ -54,16 +54,16 @@ pub record FirstAbove (es : List Edge) (x : Point) : Type 0 where
   pub none_between : (e : Edge) → Contains es e → strictly_above e x ≡ true → (z : Point) → IsPoint z → IsStraightOver z x → on e z ≡ true → IsLower z point → ⊥
   pub alike : All (λ e. at_or_above e point ≡ strictly_above e x) es
 
--- no edge is strictly above a point, or there is a first one (profile)
+-- no edge is strictly above a point, or there is a first one
 abbrev pub FirstIsAbove : Type 0
 FirstIsAbove = (es : List Edge) (x : Point) → IsPoint x → All (λ e. strictly_above e x ≡ false) es ⊎ FirstAbove es x
 
--- no upright edge goes through the point, and no listed position stands there (profile)
+-- no upright edge goes through the point, and no listed position stands there
 pub record IsSlantAt (g : Geometry) (p : Point) : Type 0 where
   pub edges : All (λ e. on e p ≡ true → e.start.x ≡ e.end.x → ⊥) (edges g)
   pub positions : All (λ a. stands_at p a ≡ false) (listed g)
 
--- just below and just above such a point there are triangles of points that stand as the sides say (profile)
+-- just below and just above such a point there are triangles of points that stand as the sides say
 abbrev pub SidesHaveTriangles : Type 0
 SidesHaveTriangles = (a b : Geometry) → HasClosedRings a → HasClosedRings b → (s : Point) → IsPoint s → IsSlantAt a s → IsSlantAt b s
     → HasTriangle (common a (below a s) b (below b s)) × HasTriangle (common a (above a s) b (above b s))

@@ -10,7 +10,7 @@ use Rattle.geometry_model.specs.Labels.{above, below, is_upright, edges_of_both}
 use Rattle.geometry_model.specs.Pieces.{Piece, IsPiece}
 use Rattle.geometry_laws.specs.RingLaws.{IsClosed}
 
--- a point strictly within a piece: on its edge, after its lesser end and before its greater (profile)
+-- a point strictly within a piece: on its edge, after its lesser end and before its greater
 pub record Inside (es : List Edge) (ps : List Position) (c : Piece) (h : IsPiece es ps c) (x : Point) : Type 0 where
   pub is_point : IsPoint x
   pub is_on : on h.edge x ≡ true
@@ -21,29 +21,29 @@ pub record Inside (es : List Edge) (ps : List Position) (c : Piece) (h : IsPiece
 abbrev pub HasClosedRings : Geometry → Type 0
 HasClosedRings g = All IsClosed (rings g)
 
--- c is a piece of a and b (profile)
+-- c is a piece of a and b
 abbrev pub IsPieceOf : Geometry → Geometry → Piece → Type 0
 IsPieceOf a b c = IsPiece (edges_of_both a b) (listed a ++ listed b) c
 
--- x is strictly within a piece of a and b (profile)
+-- x is strictly within a piece of a and b
 abbrev pub IsInside : (a b : Geometry) (c : Piece) → IsPieceOf a b c → Point → Type 0
 IsInside a b c h x = Inside (edges_of_both a b) (listed a ++ listed b) c h x
 
--- all points strictly within a piece stand alike in both geometries (profile)
+-- all points strictly within a piece stand alike in both geometries
 abbrev pub LabelsAreConstant : Type 0
 LabelsAreConstant = (a b : Geometry) → HasClosedRings a → HasClosedRings b → (c : Piece) (h : IsPieceOf a b c) → (x y : Point) → IsInside a b c h x → IsInside a b c h y
     → (locate a x ≡ locate a y) × (locate b x ≡ locate b y)
 
--- and their upper and lower sides are labelled alike, where the piece isn't upright (profile)
+-- and their upper and lower sides are labelled alike, where the piece isn't upright
 abbrev pub SidesAreConstant : Type 0
 SidesAreConstant = (a b : Geometry) → HasClosedRings a → HasClosedRings b → (c : Piece) (h : IsPieceOf a b c) → is_upright c ≡ false → (x y : Point) → IsInside a b c h x → IsInside a b c h y
     → ((above a x ≡ above a y) × (above b x ≡ above b y)) × ((below a x ≡ below a y) × (below b x ≡ below b y))
 
--- no edge goes through the point, and no listed position stands there (profile)
+-- no edge goes through the point, and no listed position stands there
 pub record IsOff (g : Geometry) (p : Point) : Type 0 where
   pub edges : All (λ e. on e p ≡ false) (edges g)
   pub positions : All (λ a. stands_at p a ≡ false) (listed g)
 
--- around a point off both geometries there is a triangle of points that stand where it does (profile)
+-- around a point off both geometries there is a triangle of points that stand where it does
 abbrev pub OffHasTriangle : Type 0
 OffHasTriangle = (a b : Geometry) → HasClosedRings a → HasClosedRings b → (p : Point) → IsPoint p → IsOff a p → IsOff b p → HasTriangle (common a (locate a p) b (locate b p))

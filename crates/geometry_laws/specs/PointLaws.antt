@@ -9,74 +9,74 @@ use Rattle.geometry_model.specs.Sides.{side, on}
 use Rattle.geometry_model.specs.Crossings.{spans, strictly_above, at_or_above, odd_above, odd_at_or_above}
 use Rattle.geometry_model.specs.Locations.{locate}
 
--- each point is the same as itself (profile)
+-- each point is the same as itself
 abbrev pub SameIsReflexive : Type 0
 SameIsReflexive = (p : Point) → same_point p p ≡ true
 
--- the order of two points in the test doesn't matter (profile)
+-- the order of two points in the test doesn't matter
 abbrev pub SameIsSymmetric : Type 0
 SameIsSymmetric = (p q : Point) → same_point p q ≡ same_point q p
 
--- two points that are both the same as a third are the same (profile)
+-- two points that are both the same as a third are the same
 abbrev pub SameIsTransitive : Type 0
 SameIsTransitive = (p q r : Point) → IsPoint q → same_point p q ≡ true → same_point q r ≡ true → same_point p r ≡ true
 
--- the other way round (profile)
+-- the other way round
 abbrev pub reversed : Ordering → Ordering
 reversed Less = Greater
 reversed Equal = Equal
 reversed Greater = Less
 
--- two points compared the other way round (profile)
+-- two points compared the other way round
 abbrev pub CompareIsReversed : Type 0
 CompareIsReversed = (p q : Point) → compare q p ≡ reversed (compare p q)
 
--- two points are equal in the order exactly where they are one point (profile)
+-- two points are equal in the order exactly where they are one point
 abbrev pub EqualIsSame : Type 0
 EqualIsSame = (p q : Point) → (compare p q ≡ Equal) ↔ (same_point p q ≡ true)
 
--- a point before one that is before a third is before the third (profile)
+-- a point before one that is before a third is before the third
 abbrev pub LessIsTransitive : Type 0
 LessIsTransitive = (p q r : Point) → IsPoint p → IsPoint q → IsPoint r → compare p q ≡ Less → compare q r ≡ Less → compare p r ≡ Less
 
--- the mediant of two points is a point, after the lesser and before the greater (profile)
+-- the mediant of two points is a point, after the lesser and before the greater
 abbrev pub MediantIsBetween : Type 0
 MediantIsBetween = (p q : Point) → IsPoint p → IsPoint q → compare p q ≡ Less
     → IsPoint (mediant p q) × (compare p (mediant p q) ≡ Less) × (compare (mediant p q) q ≡ Less)
 
--- what is said of a point is said of all triples that stand for it (profile)
+-- what is said of a point is said of all triples that stand for it
 abbrev pub Respects : {A : Type 0} → (Point → A) → Type 0
 Respects f = (p q : Point) → IsPoint p → IsPoint q → same_point p q ≡ true → f p ≡ f q
 
--- the order doesn't depend on the triple (profile)
+-- the order doesn't depend on the triple
 abbrev pub CompareRespects : Type 0
 CompareRespects = (r : Point) → Respects (λ p. compare p r)
 
--- nor does the side of a line (profile)
+-- nor does the side of a line
 abbrev pub SideRespects : Type 0
 SideRespects = (a b : Position) → Respects (λ p. int_cmp (side a b p) (pos 0))
 
--- nor being on an edge (profile)
+-- nor being on an edge
 abbrev pub OnRespects : Type 0
 OnRespects = (e : Edge) → Respects (on e)
 
--- nor what spans the point (profile)
+-- nor what spans the point
 abbrev pub SpansRespects : Type 0
 SpansRespects = (e : Edge) → Respects (spans e)
 
--- nor what is strictly above it (profile)
+-- nor what is strictly above it
 abbrev pub StrictlyAboveRespects : Type 0
 StrictlyAboveRespects = (e : Edge) → Respects (strictly_above e)
 
--- nor what is at or above it (profile)
+-- nor what is at or above it
 abbrev pub AtOrAboveRespects : Type 0
 AtOrAboveRespects = (e : Edge) → Respects (at_or_above e)
 
--- nor the parity of what is strictly above it (profile)
+-- nor the parity of what is strictly above it
 abbrev pub OddAboveRespects : Type 0
 OddAboveRespects = (rs : List (List Position)) → Respects (odd_above rs)
 
--- nor the parity of what is at or above it (profile)
+-- nor the parity of what is at or above it
 abbrev pub OddAtOrAboveRespects : Type 0
 OddAtOrAboveRespects = (rs : List (List Position)) → Respects (odd_at_or_above rs)
 

@@ -12,7 +12,7 @@ abbrev pub IsClosed : List Position → Type 0
 IsClosed [] = Unit {0}
 IsClosed (a ∷ rest) = last_after a rest ≡ a
 
--- no point of the straight stretch from p to q is on the edge (profile)
+-- no point of the straight stretch from p to q is on the edge
 abbrev pub Misses : Point → Point → Edge → Type 0
 Misses p q e = (m n : ℕ) → 0 < m + n → on e (weighted m p n q) ≡ false
 

@@ -2,12 +2,12 @@
 
 ghost use Rattle.geometry_laws.specs.CoverLaws.{PointsDontCover, LinesDontCover, FirstIsAbove, SidesHaveTriangles, SidesAreNear, NearPointsStandSo};
 
-/// Finitely many points don't cover a segment. (Profile.)
+/// Finitely many points don't cover a segment.
 pub fn points_dont_cover()
     ensures { PointsDontCover }
 {}
 
-/// Finitely many lines don't cover a triangle. (Profile.)
+/// Finitely many lines don't cover a triangle.
 pub fn lines_dont_cover()
     ensures { LinesDontCover }
 {}
@@ -17,7 +17,7 @@ pub fn first_is_above()
     ensures { FirstIsAbove }
 {}
 
-/// Just below and just above a point through which no upright edge goes there are triangles of points that stand as the sides say. (Profile.)
+/// Just below and just above a point through which no upright edge goes there are triangles of points that stand as the sides say.
 pub fn sides_have_triangles()
     ensures { SidesHaveTriangles }
 {}

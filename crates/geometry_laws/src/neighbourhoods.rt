@@ -2,18 +2,17 @@
 
 ghost use Rattle.geometry_laws.specs.PieceLaws.{LabelsAreConstant, SidesAreConstant, OffHasTriangle};
 
-/// All points strictly within a piece of two geometries stand alike in both. (Profile.)
+/// All points strictly within a piece of two geometries stand alike in both.
 pub fn labels_are_constant()
     ensures { LabelsAreConstant }
 {}
 
 /// All points strictly within a piece that isn't upright have one label on the upper side and one on the lower.
-/// (Profile.)
 pub fn sides_are_constant()
     ensures { SidesAreConstant }
 {}
 
-/// Around a point off both geometries there is a triangle of points that stand where it does. (Profile.)
+/// Around a point off both geometries there is a triangle of points that stand where it does.
 pub fn off_has_triangle()
     ensures { OffHasTriangle }
 {}

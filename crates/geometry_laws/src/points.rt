@@ -2,77 +2,77 @@
 
 ghost use Rattle.geometry_laws.specs.PointLaws.{SameIsReflexive, SameIsSymmetric, SameIsTransitive, CompareIsReversed, EqualIsSame, LessIsTransitive, MediantIsBetween, CompareRespects, SideRespects, OnRespects, SpansRespects, StrictlyAboveRespects, AtOrAboveRespects, OddAboveRespects, OddAtOrAboveRespects, LocateRespects};
 
-/// Each point is the same as itself. (Profile.)
+/// Each point is the same as itself.
 pub fn same_is_reflexive()
     ensures { SameIsReflexive }
 {}
 
-/// Whether two points are the same doesn't depend on which comes first. (Profile.)
+/// Whether two points are the same doesn't depend on which comes first.
 pub fn same_is_symmetric()
     ensures { SameIsSymmetric }
 {}
 
-/// Two points that are the same as a third are the same; the third has a denominator of at least 1. (Profile.)
+/// Two points that are the same as a third are the same; the third has a denominator of at least 1.
 pub fn same_is_transitive()
     ensures { SameIsTransitive }
 {}
 
-/// Two points compared the other way round: the reversed answer. So the order is total. (Profile.)
+/// Two points compared the other way round: the reversed answer. So the order is total.
 pub fn compare_is_reversed()
     ensures { CompareIsReversed }
 {}
 
-/// Two points are equal in the order exactly where they are one point. (Profile.)
+/// Two points are equal in the order exactly where they are one point.
 pub fn equal_is_same()
     ensures { EqualIsSame }
 {}
 
-/// The order of points is transitive. (Profile.)
+/// The order of points is transitive.
 pub fn less_is_transitive()
     ensures { LessIsTransitive }
 {}
 
-/// The mediant of two different points is a point strictly between them. (Profile.)
+/// The mediant of two different points is a point strictly between them.
 pub fn mediant_is_between()
     ensures { MediantIsBetween }
 {}
 
-/// The order doesn't depend on the triples that stand for the points. (Profile.)
+/// The order doesn't depend on the triples that stand for the points.
 pub fn compare_respects()
     ensures { CompareRespects }
 {}
 
-/// On which side of a line a point lies doesn't depend on its triple. (Profile.)
+/// On which side of a line a point lies doesn't depend on its triple.
 pub fn side_respects()
     ensures { SideRespects }
 {}
 
-/// Whether a point is on an edge doesn't depend on its triple. (Profile.)
+/// Whether a point is on an edge doesn't depend on its triple.
 pub fn on_respects()
     ensures { OnRespects }
 {}
 
-/// Whether an edge spans a point doesn't depend on its triple. (Profile.)
+/// Whether an edge spans a point doesn't depend on its triple.
 pub fn spans_respects()
     ensures { SpansRespects }
 {}
 
-/// Whether an edge is strictly above a point doesn't depend on its triple. (Profile.)
+/// Whether an edge is strictly above a point doesn't depend on its triple.
 pub fn strictly_above_respects()
     ensures { StrictlyAboveRespects }
 {}
 
-/// Whether an edge is at or above a point doesn't depend on its triple. (Profile.)
+/// Whether an edge is at or above a point doesn't depend on its triple.
 pub fn at_or_above_respects()
     ensures { AtOrAboveRespects }
 {}
 
-/// The parity of the edges strictly above a point doesn't depend on its triple. (Profile.)
+/// The parity of the edges strictly above a point doesn't depend on its triple.
 pub fn odd_above_respects()
     ensures { OddAboveRespects }
 {}
 
-/// The parity of the edges at or above a point doesn't depend on its triple. (Profile.)
+/// The parity of the edges at or above a point doesn't depend on its triple.
 pub fn odd_at_or_above_respects()
     ensures { OddAtOrAboveRespects }
 {}

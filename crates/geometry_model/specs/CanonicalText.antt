@@ -1,4 +1,4 @@
--- The canonical text of a geometry (06-103r4, 7.2.2; which of its texts is the canonical one: profile).
+-- The canonical text of a geometry (06-103r4, 7.2.2; which of its texts is the canonical one: this project's choice).
 use Rattle.std.specs.Prelude.{ℕ, List, [], ◌∷◌, ◌++◌, map, codes}
 use Rattle.std.specs.List.{join_with_byte}
 use Rattle.std.specs.Option.{option_to_list}
@@ -10,7 +10,7 @@ use Rattle.geometry_model.specs.Geometries.{Geometry, Point, MultiPoint, LineStr
 abbrev pub position_text : Position → List ℕ
 position_text p = signed_decimal p.x ++ codes " " ++ signed_decimal p.y
 
--- in parentheses, with commas between and no white space (profile)
+-- in parentheses, with commas between and no white space
 abbrev pub listed_text : List (List ℕ) → List ℕ
 listed_text parts = codes "(" ++ join_with_byte 44 parts ++ codes ")"
 
@@ -31,7 +31,7 @@ abbrev pub tagged_text : List ℕ → List (List ℕ) → List ℕ
 tagged_text name [] = name ++ codes " EMPTY"
 tagged_text name (part ∷ more) = name ++ listed_text (part ∷ more)
 
--- the canonical text (profile)
+-- the canonical text
 abbrev pub canonical_text : Geometry → List ℕ
 canonical_text (Point p) = tagged_text (codes "POINT") (map position_text (option_to_list p))
 canonical_text (MultiPoint ps) = tagged_text (codes "MULTIPOINT") (map point_text ps)

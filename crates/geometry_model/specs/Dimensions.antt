@@ -8,7 +8,7 @@ use Rattle.geometry_model.specs.declared.point_sets.Location.TheVariants.{Interi
 use Rattle.geometry_model.specs.declared.point_sets.Dimension.{Dimension}
 use Rattle.geometry_model.specs.declared.point_sets.Dimension.TheVariants.{Empty, Zero, One, Two}
 
--- the point of the hull of two points at the weights m and n (profile)
+-- the point of the hull of two points at the weights m and n
 abbrev pub weighted : ℕ → Point → ℕ → Point → Point
 weighted m p n q = record {
   X = pos m *ℤ p.X +ℤ pos n *ℤ q.X;
@@ -16,7 +16,7 @@ weighted m p n q = record {
   W = pos m *ℤ p.W +ℤ pos n *ℤ q.W;
 }
 
--- the point of the hull of three points at the weights k, m and n (profile)
+-- the point of the hull of three points at the weights k, m and n
 abbrev pub weighted_three : ℕ → Point → ℕ → Point → ℕ → Point → Point
 weighted_three k p m q n r = record {
   X = pos k *ℤ p.X +ℤ pos m *ℤ q.X +ℤ pos n *ℤ r.X;
@@ -24,7 +24,7 @@ weighted_three k p m q n r = record {
   W = pos k *ℤ p.W +ℤ pos m *ℤ q.W +ℤ pos n *ℤ r.W;
 }
 
--- twice the signed area of the triangle of three points, scaled by their W: 0 exactly where they are on one line (profile)
+-- twice the signed area of the triangle of three points, scaled by their W: 0 exactly where they are on one line
 abbrev pub area : Point → Point → Point → ℤ
 area p q r =
     (p.X *ℤ (q.Y *ℤ r.W -ℤ r.Y *ℤ q.W) -ℤ p.Y *ℤ (q.X *ℤ r.W -ℤ r.X *ℤ q.W))
@@ -36,7 +36,7 @@ pub record HasPoint (S : Point → Type 0) : Type 0 where
   pub is_point : IsPoint p
   pub within : S p
 
--- the set holds a segment: all points between two different ones (06-103r4, 6.1.15.2; as all weighted sums: profile)
+-- the set holds a segment: all points between two different ones (06-103r4, 6.1.15.2; as all weighted sums: this project's choice)
 pub record HasSegment (S : Point → Type 0) : Type 0 where
   pub p : Point
   pub q : Point
@@ -45,7 +45,7 @@ pub record HasSegment (S : Point → Type 0) : Type 0 where
   pub differ : same_point p q ≡ false
   pub within : (m n : ℕ) → 0 < m + n → S (weighted m p n q)
 
--- the set holds a triangle: all points between three that aren't on one line (06-103r4, 6.1.15.2; as all weighted sums: profile)
+-- the set holds a triangle: all points between three that aren't on one line (06-103r4, 6.1.15.2; as all weighted sums: this project's choice)
 pub record HasTriangle (S : Point → Type 0) : Type 0 where
   pub p : Point
   pub q : Point
@@ -109,6 +109,6 @@ common a l b k p = part a l p × part b k p
 abbrev pub IsMatrix : Geometry → Geometry → Matrix → Type 0
 IsMatrix a b m = (l k : Location) → HasDimension (common a l b k) (cell m l k)
 
--- the matrix of the two geometries the other way round (profile)
+-- the matrix of the two geometries the other way round
 abbrev pub transposed : Matrix → Matrix
 transposed m = matrix_of (λ l k. cell m k l)

@@ -38,7 +38,7 @@ envelope_of_positions (a ∷ rest) = Some (with_position a (envelope_of_position
 abbrev pub envelope : Geometry → Option Envelope
 envelope g = envelope_of_positions (positions g)
 
--- the rectangles overlap, their edges counted (profile)
+-- the rectangles overlap, their edges counted
 abbrev pub overlap : Envelope → Envelope → Bool
 overlap e f =
     int_le e.least_x f.greatest_x
@@ -46,7 +46,7 @@ overlap e f =
     && int_le e.least_y f.greatest_y
     && int_le f.least_y e.greatest_y
 
--- two envelopes meet: both are absent, or both are there and overlap (profile)
+-- two envelopes meet: both are absent, or both are there and overlap
 abbrev pub meets : Option Envelope → Option Envelope → Bool
 meets None None = true
 meets None (Some f) = false

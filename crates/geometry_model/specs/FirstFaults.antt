@@ -10,35 +10,35 @@ use Rattle.geometry_model.specs.Validity.{is_short, inside, inside_element, Elem
 use Rattle.geometry_model.specs.declared.validity_faults.ValidityFault.{ValidityFault}
 use Rattle.geometry_model.specs.declared.validity_faults.ValidityFault.TheVariants.{TooFewPoints, RingNotClosed, RingNotSimple, RingsMeet, HoleOutside, HolesNested, ElementsMeet, ElementInside}
 
--- one number is above 0 and the other below (profile)
+-- one number is above 0 and the other below
 abbrev pub opposite : ℤ → ℤ → Bool
 opposite x y = (int_lt x (pos 0) && int_lt (pos 0) y) || (int_lt (pos 0) x && int_lt y (pos 0))
 
--- the ends of each edge lie on opposite sides of the other (profile)
+-- the ends of each edge lie on opposite sides of the other
 abbrev pub cross : Edge → Edge → Bool
 cross e f = opposite (side e.start e.end (point_at f.start)) (side e.start e.end (point_at f.end))
     && opposite (side f.start f.end (point_at e.start)) (side f.start f.end (point_at e.end))
 
--- two edges share a point: an end of one is on the other, or they cross (profile)
+-- two edges share a point: an end of one is on the other, or they cross
 abbrev pub share_point : Edge → Edge → Bool
 share_point e f = on e (point_at f.start) || on e (point_at f.end) || on f (point_at e.start) || on f (point_at e.end) || cross e f
 
--- an end other than the position is on the edge (profile)
+-- an end other than the position is on the edge
 abbrev pub other_on : Position → Edge → Position → Bool
 other_on common e q = on e (point_at q) && not (same_position q common)
 
--- two edges with a common end share another point: an end other than it is on both (profile)
+-- two edges with a common end share another point: an end other than it is on both
 abbrev pub share_other : Position → Edge → Edge → Bool
 share_other common e f = other_on common e f.start || other_on common e f.end || other_on common f e.start || other_on common f e.end
 
--- the test of an earlier and a later one of the n edges of a ring, each with its number (profile)
+-- the test of an earlier and a later one of the n edges of a ring, each with its number
 abbrev pub clash : ℕ → ℕ × Edge → ℕ × Edge → Bool
 clash n a b =
     if b.0 == a.0 + 1 then share_other a.1.end a.1 b.1
     else if a.0 == 0 && b.0 + 1 == n then share_other a.1.start a.1 b.1
     else share_point a.1 b.1
 
--- some element and some later one pass the test (profile)
+-- some element and some later one pass the test
 abbrev pub any_pair : {A : Type 0} → (A → A → Bool) → List A → Bool
 any_pair test [] = false
 any_pair test (x ∷ xs) = list_any (test x) xs || any_pair test xs
@@ -60,7 +60,7 @@ abbrev pub is_not_closed : List Position → Bool
 is_not_closed [] = false
 is_not_closed (p ∷ ps) = not (same_position (last_after p ps) p)
 
--- a list passes the test, where there is one (profile)
+-- a list passes the test, where there is one
 abbrev pub test_of : (List Position → Bool) → Option (List Position) → Bool
 test_of test None = false
 test_of test (Some ps) = test ps
@@ -75,7 +75,7 @@ test_of_both test None s = false
 test_of_both test (Some r) None = false
 test_of_both test (Some r) (Some s) = test r s
 
--- the geometry has the fault (profile)
+-- the geometry has the fault
 abbrev pub has_fault : Geometry → ValidityFault → Bool
 has_fault g (TooFewPoints i) = test_of (is_short g) (slice_get (lines g) i)
 has_fault g (RingNotClosed i) = test_of is_not_closed (slice_get (rings g) i)
@@ -87,11 +87,11 @@ has_fault g (HolesNested i j) =
 has_fault g (ElementsMeet i j) = nat_lt i j && test_of_both elements_share (slice_get (elements g) i) (slice_get (elements g) j)
 has_fault g (ElementInside i j) = not (i == j) && test_of_both (λ d e. inside_element e d) (slice_get (elements g) i) (slice_get (elements g) j)
 
--- the numbers from the first up to n (profile)
+-- the numbers from the first up to n
 abbrev pub numbers : ℕ → ℕ → List ℕ
 numbers first n = range_with_len first (n - first)
 
--- the faults of pairs i < j of these numbers, by i, then by j (profile)
+-- the faults of pairs i < j of these numbers, by i, then by j
 abbrev pub of_pairs : (ℕ → ℕ → ValidityFault) → ℕ → ℕ → List ValidityFault
 of_pairs fault first n = flat_map (λ i. map (fault i) (numbers (i + 1) n)) (numbers first n)
 

@@ -14,22 +14,22 @@ use Rattle.geometry_model.specs.declared.relations.Predicate.{Predicate}
 use Rattle.geometry_model.specs.declared.relations.Predicate.TheVariants as predicates
 use Rattle.geometry_model.specs.declared.text_faults.TextFault.{TextFault}
 
--- what a text spells, handed on; none where it spells nothing (profile)
+-- what a text spells, handed on; none where it spells nothing
 abbrev pub with_one : {A : Type 0} → (Geometry → A) → Result Geometry TextFault → Option A
 with_one f (Err e) = None
 with_one f (Ok a) = Some (f a)
 
--- what two texts spell, handed on; none where one spells nothing (profile)
+-- what two texts spell, handed on; none where one spells nothing
 abbrev pub with_both : {A : Type 0} → (Geometry → Geometry → A) → Result Geometry TextFault → Result Geometry TextFault → Option A
 with_both f (Err e) r = None
 with_both f (Ok a) (Err e) = None
 with_both f (Ok a) (Ok b) = Some (f a b)
 
--- the nine characters of the label matrix of two texts (profile)
+-- the nine characters of the label matrix of two texts
 abbrev pub relate : List ℕ → List ℕ → Option (List ℕ)
 relate s t = with_both (λ a b. matrix_text (labelled_matrix a b)) (read_text s) (read_text t)
 
--- where the point (X/W, Y/W) stands in the geometry of a text (profile)
+-- where the point (X/W, Y/W) stands in the geometry of a text
 abbrev pub place : List ℕ → Point → Option Location
 place s p = with_one (λ a. locate a p) (read_text s)
 
@@ -41,19 +41,19 @@ just_below s p = with_one (λ a. below a p) (read_text s)
 abbrev pub just_above : List ℕ → Point → Option Location
 just_above s p = with_one (λ a. above a p) (read_text s)
 
--- whether a predicate holds of two texts, by their label matrix (profile)
+-- whether a predicate holds of two texts, by their label matrix
 abbrev pub tested : Predicate → List ℕ → List ℕ → Option Bool
 tested p s t = with_both (λ a b. holds p (kind a) (kind b) (labelled_matrix a b)) (read_text s) (read_text t)
 
--- whether a pattern's text forces its two geometries' envelopes to meet (profile)
+-- whether a pattern's text forces its two geometries' envelopes to meet
 abbrev pub forces : List ℕ → Option Bool
 forces text = option_map (λ p. forces_meeting (predicates.Relate p)) (pattern_of_text text)
 
--- the cut points of two texts (profile)
+-- the cut points of two texts
 abbrev pub cuts : List ℕ → List ℕ → Option (List Point)
 cuts s t = with_both cuts_of_both (read_text s) (read_text t)
 
--- the pieces of two texts (profile)
+-- the pieces of two texts
 abbrev pub stretches : List ℕ → List ℕ → Option (List Piece)
 stretches s t = with_both (λ a b. pieces (cuts_of_both a b) (edges_of_both a b)) (read_text s) (read_text t)
 
@@ -61,27 +61,27 @@ stretches s t = with_both (λ a b. pieces (cuts_of_both a b) (edges_of_both a b)
 abbrev pub bounds : List ℕ → Option (Option Envelope)
 bounds s = with_one envelope (read_text s)
 
--- whether the envelopes of two texts meet (profile)
+-- whether the envelopes of two texts meet
 abbrev pub bounds_meet : List ℕ → List ℕ → Option Bool
 bounds_meet s t = with_both (λ a b. meets (envelope a) (envelope b)) (read_text s) (read_text t)
 
--- the point (x/w, y/w) (profile)
+-- the point (x/w, y/w)
 abbrev pub point : ℤ → ℤ → ℤ → Point
 point x y w = record { X = x; Y = y; W = w }
 
--- the piece from one point to another (profile)
+-- the piece from one point to another
 abbrev pub from_to : Point → Point → Piece
 from_to p q = record { lesser = p; greater = q }
 
--- a level square of side 4 (profile)
+-- a level square of side 4
 abbrev pub square : List ℕ
 square = codes "POLYGON((0 0,4 0,4 4,0 4,0 0))"
 
--- a square of side 10 with a hole in its middle (profile)
+-- a square of side 10 with a hole in its middle
 abbrev pub frame : List ℕ
 frame = codes "POLYGON((0 0,10 0,10 10,0 10,0 0),(4 4,6 4,6 6,4 6,4 4))"
 
--- a square that stands on a corner (profile)
+-- a square that stands on a corner
 abbrev pub diamond : List ℕ
 diamond = codes "POLYGON((0 2,2 0,4 2,2 4,0 2))"
 

@@ -14,33 +14,33 @@ use Rattle.geometry_model.specs.declared.point_sets.Location.TheVariants.{Interi
 use Rattle.geometry_model.specs.declared.point_sets.Dimension.{Dimension}
 use Rattle.geometry_model.specs.declared.point_sets.Dimension.TheVariants.{Empty, Zero, One, Two}
 
--- a pair of parts, of the first and the second geometry (profile)
+-- a pair of parts, of the first and the second geometry
 pub record Label : Type 0 where
   pub first : Location
   pub second : Location
 
--- the label of a point: where it stands in both geometries (profile)
+-- the label of a point: where it stands in both geometries
 abbrev pub label : Geometry → Geometry → Point → Label
 label a b p = record { first = locate a p; second = locate b p }
 
--- just below a sample an area is where an odd number of its edges are at or above the sample; other kinds are exterior there (profile)
+-- just below a sample an area is where an odd number of its edges are at or above the sample; other kinds are exterior there
 abbrev pub below : Geometry → Point → Location
 below g p = if odd_at_or_above (rings g) p then Interior else Exterior
 
--- just above a sample an area is where an odd number of its edges are strictly above the sample (profile)
+-- just above a sample an area is where an odd number of its edges are strictly above the sample
 abbrev pub above : Geometry → Point → Location
 above g p = if odd_above (rings g) p then Interior else Exterior
 
--- the labels of the two sides of a piece (profile)
+-- the labels of the two sides of a piece
 pub record SideLabels : Type 0 where
   pub lower : Label
   pub upper : Label
 
--- the piece is upright: its ends have one x (profile)
+-- the piece is upright: its ends have one x
 abbrev pub is_upright : Piece → Bool
 is_upright c = int_eq (c.lesser.X *ℤ c.greater.W) (c.greater.X *ℤ c.lesser.W)
 
--- the sides of a piece that isn't upright (profile)
+-- the sides of a piece that isn't upright
 abbrev pub side_labels : Geometry → Geometry → Piece → Option SideLabels
 side_labels a b c =
     if is_upright c then None
@@ -49,13 +49,13 @@ side_labels a b c =
       upper = record { first = above a (sample c); second = above b (sample c) };
     }
 
--- the labels of all cut points, of all pieces at their samples, and of the pieces' sides, in the order of these (profile)
+-- the labels of all cut points, of all pieces at their samples, and of the pieces' sides, in the order of these
 pub record Labels : Type 0 where
   pub of_points : List Label
   pub of_pieces : List Label
   pub of_sides : List (Option SideLabels)
 
--- the labels of these cut points and pieces (profile)
+-- the labels of these cut points and pieces
 abbrev pub labels_of : Geometry → Geometry → List Point → List Piece → Labels
 labels_of a b cuts cs = record {
   of_points = map (label a b) cuts;
@@ -63,38 +63,38 @@ labels_of a b cuts cs = record {
   of_sides = map (side_labels a b) cs;
 }
 
--- the edges of both geometries (profile)
+-- the edges of both geometries
 abbrev pub edges_of_both : Geometry → Geometry → List Edge
 edges_of_both a b = edges a ++ edges b
 
--- their cut points: all positions, all crossings (profile)
+-- their cut points: all positions, all crossings
 abbrev pub cuts_of_both : Geometry → Geometry → List Point
 cuts_of_both a b = cut_points (edges_of_both a b) (listed a ++ listed b)
 
--- the labels of two geometries (profile)
+-- the labels of two geometries
 abbrev pub labels : Geometry → Geometry → Labels
 labels a b = labels_at (cuts_of_both a b)
   where
     labels_at : List Point → Labels
     labels_at cuts = labels_of a b cuts (pieces cuts (edges_of_both a b))
 
--- two parts are one (profile)
+-- two parts are one
 abbrev pub same_location : Location → Location → Bool
 same_location Interior Interior = true
 same_location Boundary Boundary = true
 same_location Exterior Exterior = true
 same_location _ _ = false
 
--- a label is this pair of parts (profile)
+-- a label is this pair of parts
 abbrev pub is_pair : Location → Location → Label → Bool
 is_pair l k x = same_location l x.first && same_location k x.second
 
--- one of the sides is this pair (profile)
+-- one of the sides is this pair
 abbrev pub is_side_pair : Location → Location → Option SideLabels → Bool
 is_side_pair l k None = false
 is_side_pair l k (Some s) = is_pair l k s.lower || is_pair l k s.upper
 
--- the greatest dimension of what has this pair: a side, a piece, a point, nothing (profile)
+-- the greatest dimension of what has this pair: a side, a piece, a point, nothing
 abbrev pub labelled_cell : Labels → Location → Location → Dimension
 labelled_cell x l k =
     if list_any (is_side_pair l k) x.of_sides then Two
@@ -102,10 +102,10 @@ labelled_cell x l k =
     else if list_any (is_pair l k) x.of_points then Zero
     else Empty
 
--- the matrix that labels show; the two exteriors share an area always (profile)
+-- the matrix that labels show; the two exteriors share an area always
 abbrev pub matrix_of_labels : Labels → Matrix
 matrix_of_labels x = record (matrix_of (labelled_cell x)) { exterior_exterior = Two }
 
--- the label matrix of two geometries (profile)
+-- the label matrix of two geometries
 abbrev pub labelled_matrix : Geometry → Geometry → Matrix
 labelled_matrix a b = matrix_of_labels (labels a b)

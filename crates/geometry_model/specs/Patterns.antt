@@ -44,7 +44,7 @@ matches p m =
     && takes p.exterior_boundary m.exterior_boundary
     && takes p.exterior_exterior m.exterior_exterior
 
--- the pattern character that a byte writes, T and F in either case (06-103r4, 6.1.15.2; small letters: profile)
+-- the pattern character that a byte writes, T and F in either case (06-103r4, 6.1.15.2; small letters: this project's choice)
 abbrev pub character_of : ℕ → Option PatternCharacter
 character_of c =
     if c == 84 || c == 116 then Some characters.True

@@ -8,12 +8,12 @@ use Rattle.geometry_model.specs.Geometries.{Edge}
 use Rattle.geometry_model.specs.Sides.{on}
 use Rattle.geometry_model.specs.CutPoints.{IsCut, ascending}
 
--- a straight stretch, its lesser end first (profile)
+-- a straight stretch, its lesser end first
 pub record Piece : Type 0 where
   pub lesser : Point
   pub greater : Point
 
--- two neighbouring cuts on one edge: no cut on it lies strictly between them (profile)
+-- two neighbouring cuts on one edge: no cut on it lies strictly between them
 pub record IsPiece (es : List Edge) (ps : List Position) (c : Piece) : Type 0 where
   pub edge : Edge
   pub among : Contains es edge
@@ -24,24 +24,24 @@ pub record IsPiece (es : List Edge) (ps : List Position) (c : Piece) : Type 0 wh
   pub in_order : compare c.lesser c.greater ≡ Less
   pub neighbours : (p : Point) → IsPoint p → on edge p ≡ true → IsCut es ps p → compare c.lesser p ≡ Less → compare p c.greater ≡ Less → ⊥
 
--- the stretches between neighbours of an ascending list (profile)
+-- the stretches between neighbours of an ascending list
 abbrev pub stretches : List Point → List Piece
 stretches [] = []
 stretches (p ∷ []) = []
 stretches (p ∷ q ∷ rest) = record { lesser = p; greater = q } ∷ stretches (q ∷ rest)
 
--- the pieces of an edge, of ascending cuts (profile)
+-- the pieces of an edge, of ascending cuts
 abbrev pub pieces_of_edge : List Point → Edge → List Piece
 pieces_of_edge cuts e = stretches (filter (on e) cuts)
 
--- the order of pieces: by their lesser ends, then by their greater ends (profile)
+-- the order of pieces: by their lesser ends, then by their greater ends
 abbrev pub compare_pieces : Piece → Piece → Ordering
 compare_pieces c d = ordering_then (compare c.lesser d.lesser) (compare c.greater d.greater)
 
--- the pieces of all edges, ascending, each once (profile)
+-- the pieces of all edges, ascending, each once
 abbrev pub pieces : List Point → List Edge → List Piece
 pieces cuts es = ascending compare_pieces (flat_map (pieces_of_edge cuts) es)
 
--- the point of a piece that stands for all points strictly within it (profile)
+-- the point of a piece that stands for all points strictly within it
 abbrev pub sample : Piece → Point
 sample c = mediant c.lesser c.greater

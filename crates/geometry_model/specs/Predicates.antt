@@ -15,7 +15,7 @@ use Rattle.geometry_model.specs.declared.relations.Predicate.TheVariants as pred
 abbrev pub like : List ℕ → Matrix → Bool
 like text m = option_map_or (λ p. matches p m) (pattern_of_text text) false
 
--- Crosses, by kinds (06-103r4, 6.1.15.3; of the kinds the other way round: profile)
+-- Crosses, by kinds (06-103r4, 6.1.15.3; of the kinds the other way round: this project's choice)
 abbrev pub crosses : Kind → Kind → Matrix → Bool
 crosses kinds.Point kinds.Point m = false
 crosses kinds.Point kinds.Line m = like (codes "T*T******") m
@@ -39,7 +39,7 @@ overlaps kinds.Area kinds.Point m = false
 overlaps kinds.Area kinds.Line m = false
 overlaps kinds.Area kinds.Area m = like (codes "T*T***T**") m
 
--- the predicate holds of two geometries of these kinds with this matrix (06-103r4, 6.1.15.3; the table as a whole: profile)
+-- the predicate holds of two geometries of these kinds with this matrix (06-103r4, 6.1.15.3; the table as a whole: this project's choice)
 abbrev pub holds : Predicate → Kind → Kind → Matrix → Bool
 holds predicates.Equals k l m = like (codes "**F**FFF*") m
 holds predicates.Disjoint k l m = like (codes "FF*FF****") m
@@ -51,7 +51,7 @@ holds predicates.Contains k l m = like (codes "T*F**F***") (transposed m)
 holds predicates.Overlaps k l m = overlaps k l m
 holds (predicates.Relate p) k l m = matches p m
 
--- a character that no empty cell matches (profile)
+-- a character that no empty cell matches
 abbrev pub wants_point : PatternCharacter → Bool
 wants_point characters.True = true
 wants_point characters.False = false
@@ -60,7 +60,7 @@ wants_point characters.Zero = true
 wants_point characters.One = true
 wants_point characters.Two = true
 
--- a pattern that wants a point in both geometries (profile)
+-- a pattern that wants a point in both geometries
 abbrev pub wants_common_point : Pattern → Bool
 wants_common_point p =
     wants_point p.interior_interior
@@ -68,7 +68,7 @@ wants_common_point p =
     || wants_point p.boundary_interior
     || wants_point p.boundary_boundary
 
--- where the predicate holds, the envelopes of the two geometries meet (profile)
+-- where the predicate holds, the envelopes of the two geometries meet
 abbrev pub forces_meeting : Predicate → Bool
 forces_meeting predicates.Equals = true
 forces_meeting predicates.Disjoint = false

@@ -11,70 +11,70 @@ use Rattle.geometry_model.specs.WellKnownText.{coordinate_limit, position_limit,
 use Rattle.geometry_model.specs.declared.text_faults.TextFault.{TextFault}
 use Rattle.geometry_model.specs.declared.text_faults.TextFault.TheVariants.{Syntax, OffGrid, OutOfRange, TooLong}
 
--- what is still to be read, and at which byte of the text it begins (profile)
+-- what is still to be read, and at which byte of the text it begins
 pub record Input : Type 0 where
   pub left : List ℕ
   pub at : ℕ
 
--- a step of reading: what it found and what it left, or a fault (profile)
+-- a step of reading: what it found and what it left, or a fault
 abbrev pub Reader : Type 0 → Type 0
 Reader A = Input → Result (A × Input) TextFault
 
--- the next step behind what was found; a fault stays (profile)
+-- the next step behind what was found; a fault stays
 abbrev pub and_then : {A B : Type 0} → Result (A × Input) TextFault → (A → Reader B) → Result (B × Input) TextFault
 and_then (Ok found) next = next found.0 found.1
 and_then (Err fault) next = Err fault
 
--- one step, and then one that knows what the first found (profile)
+-- one step, and then one that knows what the first found
 infixl 10 ◌>>=◌
 abbrev pub ◌>>=◌ : {A B : Type 0} → Reader A → (A → Reader B) → Reader B
 (step >>= next) i = and_then (step i) next
 
--- one step and then another (profile)
+-- one step and then another
 infixl 10 ◌>>◌
 abbrev pub ◌>>◌ : {A B : Type 0} → Reader A → Reader B → Reader B
 (step >> next) i = and_then (step i) (λ _. next)
 
--- this is found, and nothing is read (profile)
+-- this is found, and nothing is read
 abbrev pub pure : {A : Type 0} → A → Reader A
 pure x i = Ok (x, i)
 
--- behind the next n bytes (profile)
+-- behind the next n bytes
 abbrev pub after : ℕ → Input → Input
 after n i = record { left = drop n i.left; at = i.at + n }
 
--- the next byte passes the test (profile)
+-- the next byte passes the test
 abbrev pub sees : (ℕ → Bool) → Reader Bool
 sees test i = Ok (begins_with test i.left, i)
 
--- the byte where reading stands (profile)
+-- the byte where reading stands
 abbrev pub place : Reader ℕ
 place i = Ok (i.at, i)
 
--- W1 at a byte (profile)
+-- W1 at a byte
 abbrev pub refuse : {A : Type 0} → ℕ → Reader A
 refuse at i = Err (Syntax at)
 
--- W4 (profile)
+-- W4
 abbrev pub too_long : {A : Type 0} → Reader A
 too_long i = Err TooLong
 
--- the bytes from here on that pass the test (profile)
+-- the bytes from here on that pass the test
 abbrev pub run : (ℕ → Bool) → Reader (List ℕ)
 run test i = Ok (take (prefix_len test i.left) i.left, after (prefix_len test i.left) i)
 
--- the byte, where it is the next (profile)
+-- the byte, where it is the next
 abbrev pub eat : ℕ → Reader Bool
 eat c i = Ok (begins_with (λ b. b == c) i.left, if begins_with (λ b. b == c) i.left then after 1 i else i)
 
--- the byte, which has to be the next (profile)
+-- the byte, which has to be the next
 abbrev pub expect : ℕ → Reader Bool
 expect c = do
   at ← place
   found ← eat c
   if found then pure true else refuse at
 
--- white space or none on both sides (profile)
+-- white space or none on both sides
 abbrev pub padded : {A : Type 0} → Reader A → Reader A
 padded step = do
   run is_white
@@ -82,7 +82,7 @@ padded step = do
   run is_white
   pure x
 
--- in parentheses (profile)
+-- in parentheses
 abbrev pub enclosed : {A : Type 0} → Reader A → Reader A
 enclosed step = do
   expect 40
@@ -96,20 +96,20 @@ sign = do
   minus ← eat 45
   if minus then pure true else (eat 43 >> pure false)
 
--- the digits behind a point, or none (profile)
+-- the digits behind a point, or none
 unfoldable pub fraction : Reader (List ℕ)
 fraction = do
   has_point ← eat 46
   if has_point then run is_ascii_digit else pure []
 
--- a number as it is written, and the byte where it begins (profile)
+-- a number as it is written, and the byte where it begins
 pub record FoundNumber : Type 0 where
   pub at : ℕ
   pub minus : Bool
   pub whole : List ℕ
   pub fraction : List ℕ
 
--- the longest number that stands here; W1 where none does (06-103r4, 7.2.2: signed numeric literal; W1: profile)
+-- the longest number that stands here; W1 where none does (06-103r4, 7.2.2: signed numeric literal; W1: this project's choice)
 unfoldable pub numeral : Reader FoundNumber
 numeral = do
   at ← place
@@ -118,20 +118,20 @@ numeral = do
   digits ← fraction
   if length whole + length digits == 0 then refuse at else pure (record { at = at; minus = minus; whole = whole; fraction = digits })
 
--- what it stands for: first W2, then W3 (profile)
+-- what it stands for: first W2, then W3
 unfoldable pub coordinate : FoundNumber → Reader ℤ
 coordinate n i = if is_whole n.fraction
     then (if nat_lt coordinate_limit (digits_value 10 n.whole) then Err (OutOfRange n.at) else Ok (signed n.minus n.whole, i))
     else Err (OffGrid n.at)
 
--- white space, which has to stand here (profile)
+-- white space, which has to stand here
 unfoldable pub space : Reader (List ℕ)
 space = do
   at ← place
   white ← run is_white
   if length white == 0 then refuse at else pure white
 
--- a position where so many may still come; at its first number W4 goes before W2 and W3 (profile)
+-- a position where so many may still come; at its first number W4 goes before W2 and W3
 unfoldable pub position : ℕ → Reader Position
 position room = do
   first ← numeral
@@ -147,7 +147,7 @@ point room = do
   open_comes ← sees (λ c. c == 40)
   if open_comes then enclosed (padded (position room)) else position room
 
--- one or more with commas between, where so many may still come (profile)
+-- one or more with commas between, where so many may still come
 unfoldable pub separated : {A : Type 0} → (ℕ → Reader A) → ℕ → Reader (List A)
 separated item zero = padded (item zero) >>= λ x. pure (x ∷ [])
 separated item (suc room) = do
@@ -159,7 +159,7 @@ separated item (suc room) = do
 unfoldable pub line : ℕ → Reader (List Position)
 line room = enclosed (separated position room)
 
--- elements or rings, where so many parts and so many positions may still come (profile)
+-- elements or rings, where so many parts and so many positions may still come
 unfoldable pub parts : ℕ → ℕ → Reader (List (List Position))
 parts zero room = padded (expect 40 >> too_long)
 parts (suc count) room = do
@@ -172,7 +172,7 @@ unfoldable pub polygon : ℕ → ℕ → Reader (List (List Position))
 polygon count room = enclosed (parts count room)
 
 -- polygons, where so many parts and so many positions may still come: each hands on what is left of both; a polygon has a
--- ring at least, so as many turns as parts are enough (profile)
+-- ring at least, so as many turns as parts are enough
 unfoldable pub polygons : ℕ → ℕ → ℕ → Reader (List (List (List Position)))
 polygons zero count room = padded (polygon count room) >>= λ x. pure (x ∷ [])
 polygons (suc turns) count room = do
@@ -188,28 +188,28 @@ body inner = do
   word ← run is_ascii_alphabetic
   if length word == 0 then enclosed inner else (if str_eq_ignore_ascii_case word (codes "EMPTY") then pure [] else refuse at)
 
--- the positions behind a name (profile)
+-- the positions behind a name
 abbrev pub positions : (ℕ → Reader Position) → Reader (List Position)
 positions item = body (separated item position_limit)
 
--- the elements or rings behind a name (profile)
+-- the elements or rings behind a name
 abbrev pub lists : Reader (List (List Position))
 lists = body (parts part_limit position_limit)
 
--- the polygons behind a name (profile)
+-- the polygons behind a name
 abbrev pub nested_lists : Reader (List (List (List Position)))
 nested_lists = body (polygons part_limit part_limit position_limit)
 
--- the one position of a POINT (profile)
+-- the one position of a POINT
 abbrev pub lone : Reader (List Position)
 lone = body (padded (position position_limit) >>= λ p. pure (p ∷ []))
 
--- the first of the list (profile)
+-- the first of the list
 abbrev pub first : List Position → Option Position
 first [] = None
 first (p ∷ ps) = Some p
 
--- what stands behind a type's name (profile)
+-- what stands behind a type's name
 unfoldable pub typed : ℕ → List ℕ → Reader Geometry
 typed at name =
     if str_eq_ignore_ascii_case name (codes "POINT") then (lone >>= λ ps. pure (Point (first ps)))
@@ -227,7 +227,7 @@ tagged = do
   name ← run is_ascii_alphabetic
   typed at name
 
--- the end of the text, which has to be here (profile)
+-- the end of the text, which has to be here
 abbrev pub end : Reader Bool
 end i = if length i.left == 0 then Ok (true, i) else Err (Syntax i.at)
 
@@ -238,11 +238,11 @@ whole = do
   end
   pure g
 
--- the geometry that was found, or the fault (profile)
+-- the geometry that was found, or the fault
 abbrev pub outcome : Result (Geometry × Input) TextFault → Result Geometry TextFault
 outcome (Ok found) = Ok (geometry_of found.0)
 outcome (Err fault) = Err fault
 
--- the geometry that a text spells, or its first fault (06-103r4, 7.2; which faults there are, and their places: profile)
+-- the geometry that a text spells, or its first fault (06-103r4, 7.2; which faults there are, and their places: this project's choice)
 unfoldable pub read_text : List ℕ → Result Geometry TextFault
 read_text text = outcome (whole (record { left = text; at = 0 }))

@@ -49,7 +49,7 @@ pub record IsNotSimple (ring : List Position) : Type 0 where
   pub second : slice_get (edges_of_line ring) j ≡ Some f
   pub clash : Clash (length (edges_of_line ring)) i j e f
 
--- two rings share a point (06-103r4, 6.1.11.1: no two rings cross; touching at a point is refused too: profile)
+-- two rings share a point (06-103r4, 6.1.11.1: no two rings cross; touching at a point is refused too: this project's choice)
 pub record RingsShare (r s : List Position) : Type 0 where
   pub i : ℕ
   pub j : ℕ

@@ -10,19 +10,19 @@ use Rattle.geometry_model.specs.Points.{Position}
 use Rattle.geometry_model.specs.declared.limits.TheConstants.{COORDINATE_LIMIT}
 use Rattle.geometry_model.specs.Geometries.{Geometry, Point, MultiPoint, LineString, MultiLineString, Polygon, MultiPolygon, joined_rings}
 
--- the greatest size of a coordinate (profile)
+-- the greatest size of a coordinate
 abbrev pub coordinate_limit : ℕ
 coordinate_limit = COORDINATE_LIMIT
 
--- the most positions of a geometry, as they are written (profile)
+-- the most positions of a geometry, as they are written
 abbrev pub position_limit : ℕ
 position_limit = 10000
 
--- the most rings of a polygon or of all polygons of a MULTIPOLYGON, and elements of a MULTILINESTRING (profile)
+-- the most rings of a polygon or of all polygons of a MULTIPOLYGON, and elements of a MULTILINESTRING
 abbrev pub part_limit : ℕ
 part_limit = 1000
 
--- whether a text begins with a byte that passes the test (profile)
+-- whether a text begins with a byte that passes the test
 abbrev pub begins_with : (ℕ → Bool) → List ℕ → Bool
 begins_with test [] = false
 begins_with test (c ∷ rest) = test c
@@ -40,19 +40,19 @@ abbrev pub ◌⨾◌ : Rule → Rule → Rule
 abbrev pub Byte : ℕ → Rule
 Byte c text = text ≡ c ∷ []
 
--- space, tab, line feed, carriage return (profile)
+-- space, tab, line feed, carriage return
 abbrev pub is_white : ℕ → Bool
 is_white c = c == 32 || c == 9 || c == 10 || c == 13
 
--- white space, or none (profile)
+-- white space, or none
 abbrev pub Blank : Rule
 Blank text = list_all is_white text ≡ true
 
--- white space of one byte or more (profile)
+-- white space of one byte or more
 abbrev pub Space : Rule
 Space text = (0 < length text) × Blank text
 
--- the rule's text with white space or none on both sides (profile)
+-- the rule's text with white space or none on both sides
 abbrev pub Padded : Rule → Rule
 Padded A = Blank ⨾ A ⨾ Blank
 
@@ -84,11 +84,11 @@ abbrev pub Fraction : List ℕ → Rule
 Fraction digits text = ((text ≡ []) × (digits ≡ [])) ⊎ (Byte 46 ⨾ Digits digits) text
 
 -- a number as it is written: its sign, and the digits before and behind the point, one at least
--- (06-103r4, 7.2.2: signed numeric literal; without exponents: profile)
+-- (06-103r4, 7.2.2: signed numeric literal; without exponents: this project's choice)
 abbrev pub Numeral : Bool → List ℕ → List ℕ → Rule
 Numeral minus whole fraction text = (Sign minus ⨾ Digits whole ⨾ Fraction fraction) text × (0 < length whole + length fraction)
 
--- the digits behind a point don't count (profile: coordinates are whole)
+-- the digits behind a point don't count (coordinates are whole)
 abbrev pub is_whole : List ℕ → Bool
 is_whole fraction = list_all (λ c. c == 48) fraction
 
@@ -97,7 +97,7 @@ abbrev pub signed : Bool → List ℕ → ℤ
 signed false whole = pos (digits_value 10 whole)
 signed true whole = neg_ℤ (pos (digits_value 10 whole))
 
--- a whole number within the limit (profile)
+-- a whole number within the limit
 abbrev pub Number : ℤ → Rule
 Number z text = (minus : Bool) × (whole fraction : List ℕ) × Numeral minus whole fraction text
     × (is_whole fraction ≡ true) × (digits_value 10 whole ≤ coordinate_limit) × (z ≡ signed minus whole)
@@ -106,7 +106,7 @@ Number z text = (minus : Bool) × (whole fraction : List ℕ) × Numeral minus w
 abbrev pub PositionText : Position → Rule
 PositionText p = Number p.x ⨾ Space ⨾ Number p.y
 
--- a position of a MULTIPOINT, with parentheses or without (06-103r4, 7.2.2: point text; without: profile)
+-- a position of a MULTIPOINT, with parentheses or without (06-103r4, 7.2.2: point text; without: this project's choice)
 abbrev pub PointText : Position → Rule
 PointText p text = PositionText p text ⊎ Enclosed (Padded (PositionText p)) text
 
@@ -137,7 +137,7 @@ TaggedText (MultiPolygon polygons) = Word (codes "MULTIPOLYGON") ⨾ Body Polygo
 abbrev pub Writes : Geometry → Rule
 Writes written = Padded (TaggedText written)
 
--- all positions as they are written, in order (profile)
+-- all positions as they are written, in order
 abbrev pub written_positions : Geometry → List Position
 written_positions (Point p) = option_to_list p
 written_positions (MultiPoint ps) = ps
@@ -146,7 +146,7 @@ written_positions (MultiLineString lines) = flat_map (λ line. line) lines
 written_positions (Polygon rings) = flat_map (λ ring. ring) rings
 written_positions (MultiPolygon polygons) = flat_map (λ ring. ring) (joined_rings polygons)
 
--- the elements of a MULTILINESTRING, the rings of a polygon or of all polygons (profile)
+-- the elements of a MULTILINESTRING, the rings of a polygon or of all polygons
 abbrev pub written_parts : Geometry → List (List Position)
 written_parts (Point p) = []
 written_parts (MultiPoint ps) = []
@@ -155,19 +155,19 @@ written_parts (MultiLineString lines) = lines
 written_parts (Polygon rings) = rings
 written_parts (MultiPolygon polygons) = joined_rings polygons
 
--- no more positions and parts than a geometry may have (profile)
+-- no more positions and parts than a geometry may have
 abbrev pub IsWithinCounts : Geometry → Type 0
 IsWithinCounts written = (length (written_positions written) ≤ position_limit) × (length (written_parts written) ≤ part_limit)
 
--- whether two positions are one (profile)
+-- whether two positions are one
 abbrev pub same_position : Position → Position → Bool
 same_position a b = int_eq a.x b.x && int_eq a.y b.y
 
--- the positions of a line or ring, consecutive equal ones being one (profile)
+-- the positions of a line or ring, consecutive equal ones being one
 abbrev pub without_repeats : List Position → List Position
 without_repeats ps = dedup same_position ps
 
--- the geometry of what is written: each line and ring without repeats; the points of a MULTIPOINT as they are (profile)
+-- the geometry of what is written: each line and ring without repeats; the points of a MULTIPOINT as they are
 abbrev pub geometry_of : Geometry → Geometry
 geometry_of (Point p) = Point p
 geometry_of (MultiPoint ps) = MultiPoint ps
@@ -176,13 +176,13 @@ geometry_of (MultiLineString lines) = MultiLineString (map without_repeats lines
 geometry_of (Polygon rings) = Polygon (map without_repeats rings)
 geometry_of (MultiPolygon polygons) = MultiPolygon (map (map without_repeats) polygons)
 
--- the text spells the geometry (06-103r4, 7.2; numbers, limits and repeats: profile)
+-- the text spells the geometry (06-103r4, 7.2; numbers, limits and repeats: this project's choice)
 pub record Spells (text : List ℕ) (g : Geometry) : Type 0 where
   pub written : Geometry
   pub spelled : Writes written text
   pub counts : IsWithinCounts written
   pub meant : g ≡ geometry_of written
 
--- the text, with some rest behind it, spells some geometry (profile)
+-- the text, with some rest behind it, spells some geometry
 abbrev pub Begins : List ℕ → Type 0
 Begins front = (rest : List ℕ) × (g : Geometry) × Spells (front ++ rest) g

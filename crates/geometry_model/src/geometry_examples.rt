@@ -35,7 +35,7 @@ ghost use Rattle.geometry_model.specs.declared.relations.Predicate.TheVariants.{
   Overlaps,
 };
 
-/// One point by several triples, its least form, the order of points, and a point between two. (Profile.)
+/// One point by several triples, its least form, the order of points, and a point between two.
 pub fn rational_points()
     ensures multiples { same_point (point (pos 6) (pos 2) (pos 5)) (point (pos 12) (pos 4) (pos 10)) ≡ true }
     ensures different { same_point (point (pos 6) (pos 2) (pos 5)) (point (pos 12) (pos 5) (pos 10)) ≡ false }
@@ -82,7 +82,7 @@ pub fn sides_of_edges()
     ensures above_a_line { just_above (codes "LINESTRING(0 0,4 0)") (point (pos 2) (pos 0) (pos 1)) ≡ Some Exterior }
 {}
 
-/// Cut points and pieces of two lines that cross, of two that share a stretch, and of an upright one. (Profile.)
+/// Cut points and pieces of two lines that cross, of two that share a stretch, and of an upright one.
 pub fn cut_points_and_pieces()
     ensures crossing { cuts (codes "LINESTRING(0 0,3 1)") (codes "LINESTRING(0 1,2 0)")
         ≡ Some (point (pos 0) (pos 0) (pos 1) ∷ point (pos 0) (pos 1) (pos 1) ∷ point (pos 6) (pos 2) (pos 5) ∷ point (pos 2) (pos 0) (pos 1) ∷ point (pos 3) (pos 1) (pos 1) ∷ []) }
@@ -132,7 +132,7 @@ pub fn predicates_of_rows()
     ensures points_do_not_touch { tested Touches (codes "POINT(1 1)") (codes "POINT(1 1)") ≡ Some false }
 {}
 
-/// Predicates and patterns that want a common point, so that envelopes meet where they hold. (Profile.)
+/// Predicates and patterns that want a common point, so that envelopes meet where they hold.
 pub fn meeting_is_forced()
     ensures disjoint { forces_meeting Disjoint ≡ false }
     ensures equals { forces_meeting Equals ≡ true }

@@ -3,17 +3,17 @@
 
 ghost use Rattle.geometry_model.specs.LeastFormLaws.{GcdIsGcd, LeastFormIsLeast, LeastFormIsUnique};
 
-/// What Euclid's remainders end with is the greatest common divisor. (Profile.)
+/// What Euclid's remainders end with is the greatest common divisor.
 pub fn gcd_is_greatest()
     ensures { GcdIsGcd }
 {}
 
-/// The least form of a point is a point in least form, and the same point. (Profile.)
+/// The least form of a point is a point in least form, and the same point.
 pub fn least_form_is_least()
     ensures { LeastFormIsLeast }
 {}
 
-/// Two triples in least form that stand for one point are one triple. (Profile.)
+/// Two triples in least form that stand for one point are one triple.
 pub fn least_form_is_unique()
     ensures { LeastFormIsUnique }
 {}

@@ -32,7 +32,7 @@ pub struct Pattern {
     pub exterior_exterior: PatternCharacter,
 }
 
-/// The spatial predicates of two geometries (06-103r4, 6.1.15.3; which matrices each takes is a profile).
+/// The spatial predicates of two geometries (06-103r4, 6.1.15.3; which matrices each takes is this project's).
 #[derive(Clone, Copy, Debug, PartialEq, Eq)]
 pub enum Predicate {
     Equals,

@@ -33,7 +33,7 @@ pub fn texts_of_points()
     ensures empty { read_text (codes " Point\tEmpty\n") ≡ Ok (Point None) }
 {}
 
-/// Consecutive equal positions become one in lines and rings, and stay in a MULTIPOINT. (Profile.)
+/// Consecutive equal positions become one in lines and rings, and stay in a MULTIPOINT.
 pub fn repeated_positions()
     ensures points { read_text (codes "MULTIPOINT(1 1,1 1)") ≡ Ok (MultiPoint (at (pos 1) (pos 1) ∷ at (pos 1) (pos 1) ∷ [])) }
     ensures line { read_text (codes "LINESTRING(0 0,0 0,1 0)") ≡ Ok (LineString (at (pos 0) (pos 0) ∷ at (pos 1) (pos 0) ∷ [])) }
@@ -52,7 +52,7 @@ pub fn texts_of_polygons()
     ensures empty { read_text (codes "MultiPolygon EMPTY") ≡ Ok (MultiPolygon []) }
 {}
 
-/// The first fault of a text, and its byte. (Profile.)
+/// The first fault of a text, and its byte.
 pub fn first_faults()
     ensures nothing { read_text [] ≡ Err (Syntax 0) }
     ensures half_a_word { read_text (codes "POLYGO") ≡ Err (Syntax 0) }
@@ -87,7 +87,7 @@ pub fn first_faults_of_polygons()
 {}
 
 /// The counts of positions and parts, at limits of two: the fault comes at the first number of the position, and
-/// at the parenthesis of the part, before any other fault there. (Profile.)
+/// at the parenthesis of the part, before any other fault there.
 pub fn counted_parts()
     ensures position { separated position 2 (input (codes "1 1,2 2,3.5 3")) ≡ Err TooLong }
     ensures no_number { separated position 2 (input (codes "1 1,2 2,)")) ≡ Err (Syntax 8) }

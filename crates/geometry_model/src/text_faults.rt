@@ -1,6 +1,6 @@
 //! Why a text is no geometry.
 
-/// The first fault of a well-known text, from left to right (06-103r4, 7.2; the cases are a profile). Places are
+/// The first fault of a well-known text, from left to right (06-103r4, 7.2; the cases are this project's). Places are
 /// bytes from 0.
 #[derive(Clone, Copy, Debug, PartialEq, Eq)]
 pub enum TextFault {

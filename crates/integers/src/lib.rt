@@ -3,37 +3,37 @@
 
 ghost use Rattle.integers.specs.Laws.{Distributes, Associates, ProductOfDifferences, LessIsTransitive, AtMostIsTransitive, ZeroProduct, SignIsKept};
 
-/// A product goes over a sum: `a (b + c) = a b + a c`. (Profile.)
+/// A product goes over a sum: `a (b + c) = a b + a c`.
 pub fn product_distributes()
     ensures { Distributes }
 {}
 
-/// Three factors may be grouped either way: `(a b) c = a (b c)`. (Profile.)
+/// Three factors may be grouped either way: `(a b) c = a (b c)`.
 pub fn product_associates()
     ensures { Associates }
 {}
 
-/// The product of two differences, multiplied out. (Profile.)
+/// The product of two differences, multiplied out.
 pub fn product_of_differences()
     ensures { ProductOfDifferences }
 {}
 
-/// A product is 0 only where a factor is. (Profile.)
+/// A product is 0 only where a factor is.
 pub fn zero_product()
     ensures { ZeroProduct }
 {}
 
-/// Of quotients with divisors of at least 1, compared by cross-multiplication, 'less than' is transitive. (Profile.)
+/// Of quotients with divisors of at least 1, compared by cross-multiplication, 'less than' is transitive.
 pub fn less_is_transitive()
     ensures { LessIsTransitive }
 {}
 
-/// Of quotients with divisors of at least 1, compared by cross-multiplication, 'at most' is transitive. (Profile.)
+/// Of quotients with divisors of at least 1, compared by cross-multiplication, 'at most' is transitive.
 pub fn at_most_is_transitive()
     ensures { AtMostIsTransitive }
 {}
 
-/// A number times one of at least 1 has its sign. (Profile.)
+/// A number times one of at least 1 has its sign.
 pub fn sign_is_kept()
     ensures { SignIsKept }
 {}

@@ -7,7 +7,7 @@ use fraction::RatPoint;
 use std::marker::Model;
 
 /// The nodes of some segments and listed positions, and the pieces of the segments between them, which contracts see as
-/// both lists. (Profile.)
+/// both lists.
 #[derive(Debug, Drop)]
 pub struct Noded {
     points: Vec<RatPoint>,
@@ -31,14 +31,14 @@ impl Noded {
         Noded { points, stretches }
     }
 
-    /// Lends the nodes, ascending. (Profile.)
+    /// Lends the nodes, ascending.
     pub fn nodes(&self) -> &[RatPoint]
         ensures { result.now ≡ self.now.nodes }
     {
         self.points.as_slice()
     }
 
-    /// Lends the pieces, ascending, each by its lesser and its greater end. (Profile.)
+    /// Lends the pieces, ascending, each by its lesser and its greater end.
     pub fn pieces(&self) -> &[(RatPoint, RatPoint)]
         ensures { map piece_of result.now ≡ self.now.pieces }
     {

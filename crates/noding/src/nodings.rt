@@ -51,7 +51,7 @@ fn push_stretches(
 /// The nodes of some segments and listed positions, which are the ends of all segments, all listed positions, the points
 /// that two segments not on one line share and both ends of each stretch that two segments share; and the pieces, which
 /// are the stretches of segments between neighbouring nodes on them (OGC 06-103r4, 6.1.15.2: intersection; nodes, pieces
-/// and their order: profile). Both are exact and ascend, each once, and the denominators are at most 8 L L, L being the
+/// and their order: this project's choice). Both are exact and ascend, each once, and the denominators are at most 8 L L, L being the
 /// limit of coordinates. It fails only for want of memory.
 pub fn node(alloc: Global, segments: &[Segment], listed: &[GridPoint]) -> Result<Noded, AllocError>
     ensures exact_nodes { IfOk result (λ noded. noded.nodes ≡ cut_points segments.now listed.now) }

@@ -36,14 +36,14 @@ fn signed_side_rightward(segment: &Segment, p: &RatPoint) -> i128
 }
 
 /// Whether the segment lies strictly above the point: an upward ray from it crosses the segment. Of the segment's ends
-/// the left one counts and the right one doesn't; an upright segment is never crossed. (Profile.)
+/// the left one counts and the right one doesn't; an upright segment is never crossed.
 pub fn crosses_up(segment: &Segment, p: &RatPoint) -> bool
     ensures { result ≡ spec.strictly_above segment.now p.now }
 {
     spans(segment, p) && signed_side_rightward(segment, p) < 0
 }
 
-/// Whether the segment lies above the point or goes through it, the same of its ends counting. (Profile.)
+/// Whether the segment lies above the point or goes through it, the same of its ends counting.
 pub fn at_or_above(segment: &Segment, p: &RatPoint) -> bool
     ensures { result ≡ spec.at_or_above segment.now p.now }
 {

@@ -27,7 +27,7 @@ impl Model for Segment {
 
 impl Segment {
     /// The segment from a to b; `None` exactly where they are the same position (OGC 06-103r4, 6.1.7: Line;
-    /// `None`: profile).
+    /// `None`: this project's choice).
     pub fn new(a: GridPoint, b: GridPoint) -> Option<Segment>
         ensures none { IsNone result ↔ (a ≡ b) }
         ensures ends { IfSome result (λ s. s ≡ record { start = a; end = b }) }

@@ -61,7 +61,7 @@ pub fn side_number(segment: &Segment, at: GridPoint) -> i64
 }
 
 /// On which side of the segment's line p lies, seen from the start to the end: `Greater` on its left, `Less` on its
-/// right, `Equal` on the line. (Profile.)
+/// right, `Equal` on the line.
 pub fn side(segment: &Segment, p: &RatPoint) -> Ordering
     ensures { result ≡ int_cmp (spec.side segment.now.start segment.now.end p.now) (pos 0) }
 {

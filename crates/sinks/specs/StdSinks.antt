@@ -2,10 +2,10 @@
 use Rattle.std.specs.Prelude.{ℕ}
 use Rattle.sinks.specs.declared.standard.StdSink.{StdSink}
 
--- the writer below it (profile)
+-- the writer below it
 abbrev pub writer_under : {W : Type 0} → StdSink W → W
 writer_under s = s.writer
 
--- how often a put or a flush failed (profile)
+-- how often a put or a flush failed
 abbrev pub std_failures : {W : Type 0} → StdSink W → ℕ
 std_failures s = s.failures

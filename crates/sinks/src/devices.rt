@@ -7,7 +7,7 @@ use crate::sink::{Sink, SinkFault};
 use std::alloc::Global;
 use std::io::{self, Error, ErrorKind, Read, Write};
 
-/// A sink over memory that fails at one call of `put`, and takes short pieces at the others. (Profile.)
+/// A sink over memory that fails at one call of `put`, and takes short pieces at the others.
 #[derive(Drop)]
 pub struct StopSink {
     bytes: Vec<u8>,
@@ -22,7 +22,7 @@ impl StopSink {
     ghost use Rattle.std.specs.Prelude.{◌↔◌, ◌-◌, IsTrue};
 
     /// An empty sink that fails at the call of this number, counted from 1 (0: at none), and takes
-    /// at most this many bytes a call. It takes no memory yet. (Profile.)
+    /// at most this many bytes a call. It takes no memory yet.
     pub fn new(alloc: Global, failing_call: u64, greatest_piece: usize) -> StopSink
         requires { 1 ≤ greatest_piece }
         ensures empty { stop_bytes result ≡ [] }
@@ -38,14 +38,14 @@ impl StopSink {
         }
     }
 
-    /// The bytes that it took, in their order. (Profile.)
+    /// The bytes that it took, in their order.
     pub fn bytes(&self) -> &[u8]
         ensures { result.now ≡ stop_bytes self.now }
     {
         self.bytes.as_slice()
     }
 
-    /// How often a put failed. (Profile.)
+    /// How often a put failed.
     pub fn failures(&self) -> u64
         ensures { result ≡ stop_failures self.now }
     {
@@ -95,7 +95,7 @@ impl Sink for StopSink {
     }
 }
 
-/// A reader over bytes of which one read fails, with an error of kind `Other`, and gives none. (Profile.)
+/// A reader over bytes of which one read fails, with an error of kind `Other`, and gives none.
 #[derive(Clone, Copy)]
 pub struct StopReader<'a> {
     rest: &'a [u8],
@@ -106,7 +106,6 @@ impl<'a> StopReader<'a> {
     ghost use Rattle.sinks.specs.StopReaders.{bytes_left, reads_to_failure};
 
     /// A reader over these bytes whose read of this number, counted from 1, fails (0: none does).
-    /// (Profile.)
     pub fn new(bytes: &'a [u8], failing_read: u64) -> StopReader<'a>
         ensures bytes { bytes_left result ≡ bytes.entry.now }
         ensures read { reads_to_failure result ≡ failing_read }
@@ -142,7 +141,7 @@ impl Read for StopReader<'_> {
     }
 }
 
-/// A writer that takes no byte and answers no error. (Profile.)
+/// A writer that takes no byte and answers no error.
 #[derive(Clone, Copy, Debug, Default)]
 pub struct ZeroWriter;
 

@@ -7,14 +7,14 @@ ghost use Rattle.sinks.specs.Sinks.{AppendsFront, CountsFailure};
 
 use thiserror::Error;
 
-/// A sink took nothing of the piece that it was given. (Profile.)
+/// A sink took nothing of the piece that it was given.
 #[derive(Clone, Copy, Debug, PartialEq, Eq, Error)]
 #[error("the sink failed")]
 pub struct SinkFault;
 
 /// Where bytes go. Its meaning is the bytes that it took so far, where they are known (over memory
 /// they are, of standard output never), and the number of its failures so far, which stays at
-/// `u64::MAX` once it is there. (Profile.)
+/// `u64::MAX` once it is there.
 pub trait Sink {
     // The bytes taken so far; None where nobody can tell them.
     ghost taken: { Self → Option (List ℕ) };
@@ -31,7 +31,7 @@ pub trait Sink {
 }
 
 /// Puts the whole text, piece by piece, and stops at the first failed put: a beginning of the text
-/// has been put by then, and one failure more is counted. (Profile.)
+/// has been put by then, and one failure more is counted.
 pub fn put_all<S: Sink>(sink: &mut S, text: &[u8]) -> Result<(), SinkFault>
     ensures ok { OnOk result (Appends (S.taken sink.old) (S.taken sink.new) text.now) }
     ensures front { OnErr result (AppendsFront (S.taken sink.old) (S.taken sink.new) text.now) }
@@ -45,7 +45,7 @@ pub fn put_all<S: Sink>(sink: &mut S, text: &[u8]) -> Result<(), SinkFault>
 }
 
 /// Puts these texts, one after another, and stops at the first failed put: a beginning of them all has been put by
-/// then, and one failure more is counted. (Profile.)
+/// then, and one failure more is counted.
 pub fn put_parts<S: Sink>(sink: &mut S, parts: &[&[u8]]) -> Result<(), SinkFault>
     ensures ok { OnOk result (Appends (S.taken sink.old) (S.taken sink.new) (concat (map (λ p. p.now) parts.now))) }
     ensures front { OnErr result (AppendsFront (S.taken sink.old) (S.taken sink.new) (concat (map (λ p. p.now) parts.now))) }

@@ -6,7 +6,7 @@ use crate::sink::{Sink, SinkFault};
 use std::io::Write;
 
 /// A sink over a writer, as standard output or a buffer before it. An error of the writer is a
-/// failure, and so are 0 bytes of a piece that has any. Nothing is tried twice. (Profile.)
+/// failure, and so are 0 bytes of a piece that has any. Nothing is tried twice.
 #[derive(Drop)]
 pub struct StdSink<W: Write> {
     writer: W,
@@ -19,7 +19,7 @@ impl<W: Write> StdSink<W> {
     ghost use Rattle.sinks.specs.Sinks.{CountsFailure};
     ghost use Rattle.sinks.specs.StdSinks.{writer_under, std_failures};
 
-    /// A sink over this writer, without a failure. It takes no memory. (Profile.)
+    /// A sink over this writer, without a failure. It takes no memory.
     pub fn new(writer: W) -> StdSink<W>
         ensures writer { writer_under result ≡ writer }
         ensures fresh { std_failures result ≡ 0 }
@@ -30,7 +30,7 @@ impl<W: Write> StdSink<W> {
         }
     }
 
-    /// How often a put or a flush failed. (Profile.)
+    /// How often a put or a flush failed.
     pub fn failures(&self) -> u64
         ensures { result ≡ std_failures self.now }
     {
@@ -38,7 +38,7 @@ impl<W: Write> StdSink<W> {
     }
 
     /// Hands on what the writer still holds back. It takes no further byte, and an error of the
-    /// writer is a failure, as of a put. (Profile.)
+    /// writer is a failure, as of a put.
     pub fn flush(&mut self) -> Result<(), SinkFault>
         ensures bytes { Keeps (W.contents (writer_under self.old)) (W.contents (writer_under self.new)) }
         ensures failures { CountsFailure (std_failures self.old) (std_failures self.new) result }

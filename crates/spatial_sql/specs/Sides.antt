@@ -5,7 +5,7 @@ use Rattle.table_model.specs.declared.values.NoGeometry.{NoGeometry}
 use Rattle.spatial_sql.specs.declared.truth.Side.{Side}
 use Rattle.spatial_sql.specs.declared.truth.Side.TheVariants as sides
 
--- the field that a side is (profile)
+-- the field that a side is
 abbrev pub side_value : Side → Value NoGeometry
 side_value sides.Null = values.Null
 side_value (sides.Integer n) = values.Integer n

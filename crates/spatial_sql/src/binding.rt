@@ -153,7 +153,7 @@ fn bound_query(
 /// `UnknownTable` at a table's name, `SameName` at the name of a second reference that has the first's name,
 /// `UnknownColumn` and `AmbiguousColumn` at a column's first byte, `TypeMismatch` at the first byte of a comparison
 /// whose sides are not both INTEGER or both TEXT, NULL being either; or `OutOfMemory`. What it answers is bound to the
-/// definitions of this database: its tables and columns are there, and its types fit. (SQL; the order: profile.)
+/// definitions of this database: its tables and columns are there, and its types fit. (SQL; the order: this project's choice.)
 pub fn bind(alloc: Global, query: &Query<'_>, database: &Database<'_>) -> Result<Bound, QueryFault>
     ensures answer { Gives QueryFault.OutOfMemory (λ bound. bound) result (spec.binding spec.no_geometry database.now.definitions query.now) }
     ensures bound { IfOk result (IsBound no_geometry_fits database.now.definitions) }

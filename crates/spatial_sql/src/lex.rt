@@ -29,7 +29,7 @@ const RESERVED_WORDS: [(&[u8], TokenKind); 14] = [
 ];
 
 #[tactic(auto, unfolding(table_model::specs::Tokens::same_kind))]
-/// Whether two kinds of token are the same. (Profile.)
+/// Whether two kinds of token are the same.
 pub fn same_kind(a: TokenKind, b: TokenKind) -> bool
     ensures value { result ≡ spec.same_kind a b }
     ensures same { result ≡ true → a ≡ b }
@@ -253,7 +253,7 @@ fn cut<'a>(alloc: Global, text: &'a [u8], strings: bool) -> Result<Items<Token<'
 /// The tokens of a text in their order. The last one is Bad, which is the first byte that begins no token or the
 /// first quote of a string that isn't closed, or else End, at the text's length. Strings are tokens where `strings`
 /// says so. Each token's text is the part of the text at its place, a string's after its first quote. It fails only
-/// for want of memory. (Profile.)
+/// for want of memory.
 pub fn lex<'a>(alloc: Global, text: &'a [u8], strings: bool) -> Result<Items<Token<'a>>, AllocError>
     ensures tokens { IfOk result (λ tokens. tokens ≡ spec.tokens strings text.now) }
     ensures slices { IfOk result (λ tokens. AllByRecursion (spec.IsSlice text.now) tokens) }

@@ -22,7 +22,7 @@ use table_model::values::NoGeometry;
 pub use table_model::values::Truth;
 pub use truth::value;
 
-/// A SELECT as it is written. Names and strings are parts of the query's text. (SQL, the query; profile.)
+/// A SELECT as it is written. Names and strings are parts of the query's text. (SQL, the query)
 pub type Query<'a> = table_model::queries::Query<'a, NoGeometry, NoGeometry>;
 
 /// A query whose names have become places of a database. (SQL, the query.)

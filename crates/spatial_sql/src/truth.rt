@@ -163,7 +163,7 @@ fn null_test(operand: &Operand<NoGeometry>, rows: &[Row<'_>]) -> Truth
 
 /// The truth of a condition at rows, one for each reference in the query's order: TEXT is compared by bytes, a
 /// comparison with NULL is unknown, and so is NOT of what is unknown. Each part is evaluated, from left to right. A
-/// place that the rows don't have is NULL. It takes no memory. (SQL's three-valued logic; order of texts: profile.)
+/// place that the rows don't have is NULL. It takes no memory. (SQL's three-valued logic; order of texts: this project's choice.)
 #[cycle(value)]
 pub fn value(cond: &Cond, rows: &[Row<'_>]) -> Truth
     ensures { result ≡ spec.truth labelled_matrix spec.no_argument rows.now cond.now }

@@ -3,7 +3,7 @@ use Rattle.std.specs.Prelude.{◌≡◌, ◌≢◌, ◌↔◌, ◌+◌, ◌++◌
 use Rattle.std.specs.List.{AllPairs, Contains}
 use Rattle.table_model.specs.Loading.{double_key}
 
--- the key of this number, counted from 1, is the first that equals an earlier one (profile)
+-- the key of this number, counted from 1, is the first that equals an earlier one
 pub record IsFirstDouble (keys : List ℤ) (number : ℕ) : Type 0 where
   pub before : List ℤ
   pub key : ℤ
@@ -13,10 +13,10 @@ pub record IsFirstDouble (keys : List ℤ) (number : ℕ) : Type 0 where
   pub is_double : Contains before key
   pub none_is_before : AllPairs (λ a b. a ≢ b) before
 
--- the number that is answered is that of the first double key (profile)
+-- the number that is answered is that of the first double key
 abbrev pub DoubleIsFirst : Type 0
 DoubleIsFirst = (keys : List ℤ) (number : ℕ) → (double_key keys ≡ Some number) ↔ IsFirstDouble keys number
 
--- none is answered exactly where no two keys are equal (profile)
+-- none is answered exactly where no two keys are equal
 abbrev pub NoneIsDouble : Type 0
 NoneIsDouble = (keys : List ℤ) → (double_key keys ≡ None) ↔ AllPairs (λ a b. a ≢ b) keys

@@ -12,7 +12,7 @@ use Rattle.table_model.specs.declared.values.Value.TheVariants as value
 abbrev pub Ascends : {G : Type 0} → ℕ → Table G → Type 0
 Ascends key rows = AllPairs (λ a b. key_of key a <ℤ key_of key b) rows
 
--- these are the typed rows of the records after the header, in their order (profile)
+-- these are the typed rows of the records after the header, in their order
 abbrev pub AreTyped : {T G : Type 0} → GeometryReader T G → TableDef T → List Record → List (Row G) → Type 0
 AreTyped geometry table records typed = rows_of geometry table (unwrap_or (slice_get records 0) []) (drop 1 records) ≡ Ok typed
 
@@ -21,7 +21,7 @@ abbrev pub RowsAscend : (T G : Type 0) → Type 0
 RowsAscend T G = (geometry : GeometryReader T G) (table : TableDef T) (records : List Record) (rows : Table G)
     → load geometry table records ≡ Ok rows → Ascends table.key rows
 
--- they are the typed rows of its records in another order: none is lost, none is added (profile)
+-- they are the typed rows of its records in another order: none is lost, none is added
 abbrev pub RowsArePermuted : (T G : Type 0) → Type 0
 RowsArePermuted T G = (geometry : GeometryReader T G) (table : TableDef T) (records : List Record) (rows : Table G)
     → load geometry table records ≡ Ok rows → (typed : List (Row G)) × AreTyped geometry table records typed × IsPermutation typed rows

@@ -22,26 +22,26 @@ pub record Writing (G C : Type 0) : Type 0 where
   pub dimension : G → ℤ
   pub is_empty : G → Bool
 
--- the name of a column as the schema spells it (profile)
+-- the name of a column as the schema spells it
 abbrev pub name_of : {T : Type 0} → Option (ColumnDef T) → List ℕ
 name_of (Some c) = c.name
 name_of None = []
 
--- the name of a column of a table (profile)
+-- the name of a column of a table
 abbrev pub column_name : {T : Type 0} → List (TableDef T) → ℕ → ℕ → List ℕ
 column_name tables table column = name_of (slice_get (table_columns (slice_get tables table)) column)
 
--- the header of a column of a reference: its name, for two tables after the reference's name and a point (profile)
+-- the header of a column of a reference: its name, for two tables after the reference's name and a point
 abbrev pub reference_header : {T : Type 0} → List (TableDef T) → Bool → Option Reference → ℕ → List ℕ
 reference_header tables alone (Some r) column = cond alone [] (r.name ++ codes ".") ++ column_name tables r.table column
 reference_header tables alone None column = []
 
--- the header of a column (profile)
+-- the header of a column
 abbrev pub column_header : {T : Type 0} → List (TableDef T) → List Reference → ColumnPlace → List ℕ
 column_header tables references place =
     reference_header tables (length references == 1) (slice_get references place.reference) place.column
 
--- the header of an item: a function's is its name, and its column's header in parentheses (profile)
+-- the header of an item: a function's is its name, and its column's header in parentheses
 abbrev pub item_header : {T G C : Type 0} → Writing G C → List (TableDef T) → List Reference → Item C → List ℕ
 item_header writing tables references (i.Column place) = column_header tables references place
 item_header writing tables references (i.AsText c) = codes "ST_AsText(" ++ column_header tables references (writing.place c) ++ codes ")"
@@ -49,32 +49,32 @@ item_header writing tables references (i.Dimension c) = codes "ST_Dimension(" ++
 item_header writing tables references (i.IsEmpty c) = codes "ST_IsEmpty(" ++ column_header tables references (writing.place c) ++ codes ")"
 
 -- the text of a field: nothing for NULL, the shortest decimal text of an integer, the bytes of a text, and
--- the canonical text of a geometry (profile)
+-- the canonical text of a geometry
 abbrev pub field_text : {G C : Type 0} → Writing G C → Value G → List ℕ
 field_text writing v.Null = []
 field_text writing (v.Integer n) = signed_decimal n
 field_text writing (v.Text bytes) = bytes
 field_text writing (v.Geometry g) = writing.text g
 
--- the text of a function of a geometry, and nothing for NULL (profile)
+-- the text of a function of a geometry, and nothing for NULL
 abbrev pub function_text : {G : Type 0} → (G → List ℕ) → Value G → List ℕ
 function_text text v.Null = []
 function_text text (v.Integer n) = []
 function_text text (v.Text bytes) = []
 function_text text (v.Geometry g) = text g
 
--- the text of an item at some rows (profile)
+-- the text of an item at some rows
 abbrev pub item_text : {G C : Type 0} → Writing G C → List (Row G) → Item C → List ℕ
 item_text writing rows (i.Column place) = field_text writing (field_at rows place)
 item_text writing rows (i.AsText c) = function_text writing.text (field_at rows (writing.place c))
 item_text writing rows (i.Dimension c) = function_text (λ g. signed_decimal (writing.dimension g)) (field_at rows (writing.place c))
 item_text writing rows (i.IsEmpty c) = function_text (λ g. cond (writing.is_empty g) (codes "1") (codes "0")) (field_at rows (writing.place c))
 
--- the header record of a query (profile)
+-- the header record of a query
 abbrev pub header : {T G A C : Type 0} → Writing G C → List (TableDef T) → Bound A C → List (List ℕ)
 header writing tables query = map (item_header writing tables query.references) query.items
 
--- the record of some rows (profile)
+-- the record of some rows
 abbrev pub record_of : {G A C : Type 0} → Writing G C → Bound A C → List (Row G) → List (List ℕ)
 record_of writing query rows = map (item_text writing rows) query.items
 

@@ -45,11 +45,11 @@ use Rattle.table_model.specs.declared.conditions.Bound.{Bound}
 
 -- ---- faults: of several the first from left to right is answered
 
--- an answer, or the fault of a query (profile)
+-- an answer, or the fault of a query
 abbrev pub Checked : Type 0 → Type 0
 Checked X = Result X QueryFault
 
--- one step after another, up to the first fault (profile)
+-- one step after another, up to the first fault
 infixl 10 ◌>>=◌
 abbrev pub ◌>>=◌ : {X Y : Type 0} → Checked X → (X → Checked Y) → Checked Y
 Ok x >>= f = f x
@@ -61,7 +61,7 @@ Err e >>= f = Err e
 abbrev pub table_place : {T : Type 0} → List (TableDef T) → List ℕ → Option ℕ
 table_place schema name = position (λ table. same_name table.name name) schema
 
--- the name of a table as the schema spells it (profile)
+-- the name of a table as the schema spells it
 abbrev pub table_name : {T : Type 0} → Option (TableDef T) → List ℕ
 table_name (Some table) = table.name
 table_name None = []
@@ -80,7 +80,7 @@ reference_at schema written None = Err (UnknownTable written.table.at)
 abbrev pub bound_reference : {T : Type 0} → List (TableDef T) → WrittenReference → Checked Reference
 bound_reference schema written = reference_at schema written (table_place schema written.table.text)
 
--- the byte at which the name of a reference stands (profile)
+-- the byte at which the name of a reference stands
 abbrev pub name_start : Name → Option Name → ℕ
 name_start table (Some alias) = alias.at
 name_start table None = table.at
@@ -104,16 +104,16 @@ bound_references schema written second = do
 
 -- ---- columns
 
--- the columns of a table (profile)
+-- the columns of a table
 abbrev pub table_columns : {T : Type 0} → Option (TableDef T) → List (ColumnDef T)
 table_columns (Some table) = table.columns
 table_columns None = []
 
--- the columns of a reference (profile)
+-- the columns of a reference
 abbrev pub columns_of : {T : Type 0} → List (TableDef T) → Reference → List (ColumnDef T)
 columns_of schema reference = table_columns (slice_get schema reference.table)
 
--- the type of a column as that of a part (profile)
+-- the type of a column as that of a part
 abbrev pub type_of : {T : Type 0} → ColumnType T → OperandType
 type_of columns.Integer = types.Integer
 type_of columns.Text = types.Text
@@ -130,19 +130,19 @@ column_named name place [] = None
 column_named name place (column ∷ more) =
     if same_name column.name name then Some (place, type_of column.column_type) else column_named name (place + 1) more
 
--- a column of the reference at a place (profile)
+-- a column of the reference at a place
 abbrev pub found_in : ℕ → Option (ℕ × OperandType) → Option Found
 found_in reference (Some (column, type)) = Some (record { place = record { reference = reference; column = column }; column_type = type })
 found_in reference None = None
 
--- the column that a written one can be of the reference at a place (profile)
+-- the column that a written one can be of the reference at a place
 abbrev pub column_meant : {T : Type 0} → List (TableDef T) → WrittenColumn → ℕ → Reference → Option Found
 column_meant schema written place reference =
     if refers_to written.reference reference.name
     then found_in place (column_named written.name.text 0 (columns_of schema reference))
     else None
 
--- the columns that a written one can be, among those of some references, of which the first has this place (profile)
+-- the columns that a written one can be, among those of some references, of which the first has this place
 abbrev pub columns_meant : {T : Type 0} → List (TableDef T) → WrittenColumn → ℕ → List Reference → List Found
 columns_meant schema written place references = filter_map (λ r. column_meant schema written r.0 r.1) (enumerate_from place references)
 
@@ -159,20 +159,20 @@ bound_column schema references written =
 
 -- ---- conditions
 
--- how geometry arguments are bound: one of a condition (A becomes B), one of the select list (C becomes D), a pattern (profile)
+-- how geometry arguments are bound: one of a condition (A becomes B), one of the select list (C becomes D), a pattern
 pub record GeometryBinding (T A B C D : Type 0) : Type 0 where
   pub argument : List (TableDef T) → List Reference → A → Checked (Typed B)
   pub item_argument : List (TableDef T) → List Reference → C → Checked (Typed D)
   pub pattern : Name → Checked Pattern
 
--- a part of this type, where it is a geometry (profile)
+-- a part of this type, where it is a geometry
 abbrev pub geometry_of_type : {X : Type 0} → ℕ → X → OperandType → Checked X
 geometry_of_type at part types.Geometry = Ok part
 geometry_of_type at part types.Integer = Err (TypeMismatch at)
 geometry_of_type at part types.Text = Err (TypeMismatch at)
 geometry_of_type at part types.Null = Err (TypeMismatch at)
 
--- a part that is a geometry; else there is a fault, at the first byte of its predicate or call (profile)
+-- a part that is a geometry; else there is a fault, at the first byte of its predicate or call
 abbrev pub geometry_only : {X : Type 0} → ℕ → Typed X → Checked X
 geometry_only at typed = geometry_of_type at typed.part typed.part_type
 
@@ -182,7 +182,7 @@ unquoted [] = []
 unquoted (byte ∷ []) = byte ∷ []
 unquoted (byte ∷ next ∷ more) = if byte == 39 && next == 39 then byte ∷ unquoted more else byte ∷ unquoted (next ∷ more)
 
--- a side of a comparison, with its type (profile)
+-- a side of a comparison, with its type
 abbrev pub bound_operand : {T A B C D : Type 0} → GeometryBinding T A B C D → List (TableDef T) → List Reference → WrittenOperand A → Checked (Typed (Operand B))
 bound_operand how schema references (written_operand.Column written) = do
   found ← bound_column schema references written
@@ -199,14 +199,14 @@ bound_operand how schema references (written_operand.Dimension at a) = do
   x ← geometry_only at typed
   Ok (record { part = operands.Dimension x; part_type = types.Integer })
 
--- whether a side of this type may stand where an integer is wanted (profile)
+-- whether a side of this type may stand where an integer is wanted
 abbrev pub fits_integer : OperandType → Bool
 fits_integer types.Integer = true
 fits_integer types.Text = false
 fits_integer types.Geometry = false
 fits_integer types.Null = true
 
--- whether a side of this type may stand where a text is wanted (profile)
+-- whether a side of this type may stand where a text is wanted
 abbrev pub fits_text : OperandType → Bool
 fits_text types.Integer = false
 fits_text types.Text = true
@@ -217,12 +217,12 @@ fits_text types.Null = true
 abbrev pub comparable : OperandType → OperandType → Bool
 comparable a b = fits_integer a && fits_integer b || fits_text a && fits_text b
 
--- a test of types: where it fails there is a fault at this byte (profile)
+-- a test of types: where it fails there is a fault at this byte
 abbrev pub checked_types : {X : Type 0} → Bool → ℕ → X → Checked X
 checked_types true at x = Ok x
 checked_types false at x = Err (TypeMismatch at)
 
--- the predicate that is written, its pattern read (profile)
+-- the predicate that is written, its pattern read
 abbrev pub bound_predicate : (Name → Checked Pattern) → WrittenPredicate → Checked Predicate
 bound_predicate pattern (written_predicate.Named predicate) = Ok predicate
 bound_predicate pattern (written_predicate.Relate written) = do
@@ -317,7 +317,7 @@ bound_item how schema references (written_item.IsEmpty at a) = do
   x ← geometry_only at typed
   Ok (items.IsEmpty x)
 
--- the columns of the reference at a place, in their order (profile)
+-- the columns of the reference at a place, in their order
 abbrev pub items_of : {T D : Type 0} → ℕ → List (ColumnDef T) → List (Item D)
 items_of reference columns = map (λ c. items.Column (record { reference = reference; column = c.0 })) (enumerate_from 0 columns)
 
@@ -365,7 +365,7 @@ statement how schema query = do
     limit = query.limit;
   })
 
--- how geometry arguments are bound where none is served (profile)
+-- how geometry arguments are bound where none is served
 abbrev pub no_geometry : {T : Type 0} → GeometryBinding T NoGeometry NoGeometry NoGeometry NoGeometry
 no_geometry = record {
   argument = λ schema references a. Ok (record { part = a; part_type = types.Geometry });

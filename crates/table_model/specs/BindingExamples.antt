@@ -11,7 +11,7 @@ use Rattle.table_model.specs.declared.queries.WrittenColumn.{WrittenColumn}
 use Rattle.table_model.specs.declared.queries.WrittenOperand.TheVariants as operands
 use Rattle.table_model.specs.declared.values.NoGeometry.{NoGeometry}
 
--- a table t with columns id, the key, pop and name (profile)
+-- a table t with columns id, the key, pop and name
 abbrev pub town_table : TableDef NoGeometry
 town_table = record {
   name = codes "t";
@@ -23,23 +23,23 @@ town_table = record {
   key = 0;
 }
 
--- the schema of this one table (profile)
+-- the schema of this one table
 abbrev pub towns : List (TableDef NoGeometry)
 towns = town_table ∷ []
 
--- a reference of that table by some name (profile)
+-- a reference of that table by some name
 abbrev pub called : List ℕ → Reference
 called name = record { table = 0; name = name }
 
--- a column without reference (profile)
+-- a column without reference
 abbrev pub bare : List ℕ → WrittenColumn
 bare name = record { reference = None; name = record { text = name; at = 7 } }
 
--- a column with a reference (profile)
+-- a column with a reference
 abbrev pub qualified : List ℕ → List ℕ → WrittenColumn
 qualified reference name = record { reference = Some (record { text = reference; at = 7 }); name = record { text = name; at = 9 } }
 
--- a comparison of a column with the text x, at byte 23 (profile)
+-- a comparison of a column with the text x, at byte 23
 abbrev pub compared_with_x : List ℕ → Result (Cond NoGeometry) QueryFault
 compared_with_x name =
     bound_comparison no_geometry towns (called (codes "t") ∷ []) 23 signs.Equal (operands.Column (bare name)) (operands.Text (record { text = codes "x"; at = 29 }))

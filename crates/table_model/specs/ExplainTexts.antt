@@ -8,32 +8,32 @@ use Rattle.table_model.specs.declared.plans.AccessMethod.TheVariants as methods
 use Rattle.table_model.specs.declared.plans.Access.{Access}
 use Rattle.table_model.specs.declared.plans.Plan.{Plan}
 
--- the number of the conjunct at a place: they are numbered from 1 (profile)
+-- the number of the conjunct at a place: they are numbered from 1
 abbrev pub conjunct_number : ℕ → List ℕ
 conjunct_number place = decimal (place + 1)
 
--- a scan, or a probe with the number of its conjunct (profile)
+-- a scan, or a probe with the number of its conjunct
 abbrev pub method_text : AccessMethod → List ℕ
 method_text methods.Scan = codes "scan"
 method_text (methods.Probe k) = codes "probe " ++ conjunct_number k
 
--- the line of an access: whether it is the outer or the inner one, its reference's name, and how its rows are found (profile)
+-- the line of an access: whether it is the outer or the inner one, its reference's name, and how its rows are found
 abbrev pub access_line : List Reference → List ℕ → Access → List ℕ
 access_line references role access =
     role ++ codes " " ++ slice_index_or (map (λ r. r.name) references) access.reference [] ++ codes " " ++ method_text access.method ++ codes "\n"
 
--- the lines of the accesses (profile)
+-- the lines of the accesses
 abbrev pub access_lines : List Reference → List Access → List ℕ
 access_lines references [] = []
 access_lines references (outer ∷ []) = access_line references (codes "outer") outer
 access_lines references (outer ∷ inner ∷ more) = access_line references (codes "outer") outer ++ access_line references (codes "inner") inner
 
--- the numbers of the filters, or a word where there are none (profile)
+-- the numbers of the filters, or a word where there are none
 abbrev pub filters_text : List ℕ → List ℕ
 filters_text [] = codes "none"
 filters_text (place ∷ more) = join_with_byte 32 (map conjunct_number (place ∷ more))
 
--- a line with a word and a text (profile)
+-- a line with a word and a text
 abbrev pub line : List ℕ → List ℕ → List ℕ
 line word text = word ++ codes " " ++ text ++ codes "\n"
 

@@ -1,4 +1,4 @@
--- The line and the status of each fault (profile).
+-- The line and the status of each fault.
 use Rattle.std.specs.Prelude.{ℕ, List, ◌++◌, decimal, codes}
 use Rattle.geometry_model.specs.declared.text_faults.TextFault.TheVariants as w
 use Rattle.geometry_model.specs.declared.validity_faults.ValidityFault.TheVariants as v
@@ -11,11 +11,11 @@ use Rattle.table_model.specs.declared.faults.LoadFault.TheVariants as l
 use Rattle.table_model.specs.declared.faults.QueryFault.{QueryFault}
 use Rattle.table_model.specs.declared.faults.QueryFault.TheVariants as q
 
--- want of memory, in words (profile)
+-- want of memory, in words
 abbrev pub memory_text : List ℕ
 memory_text = codes "out of memory"
 
--- a schema fault: its code, and its byte but for a text that is too long (profile)
+-- a schema fault: its code, and its byte but for a text that is too long
 abbrev pub schema_text : SchemaFault → List ℕ
 schema_text (s.Syntax at) = codes "S1 at " ++ decimal at
 schema_text (s.DoubleName at) = codes "S2 at " ++ decimal at
@@ -25,7 +25,7 @@ schema_text (s.TooMany at) = codes "S5 at " ++ decimal at
 schema_text s.TooLong = codes "S6"
 schema_text s.OutOfMemory = memory_text
 
--- a fault of a geometry: its code, and its byte, or its part or parts; W4 has no place (profile)
+-- a fault of a geometry: its code, and its byte, or its part or parts; W4 has no place
 abbrev pub geometry_text : GeometryFault → List ℕ
 geometry_text (g.Text (w.Syntax at)) = codes "W1 at " ++ decimal at
 geometry_text (g.Text (w.OffGrid at)) = codes "W2 at " ++ decimal at
@@ -40,7 +40,7 @@ geometry_text (g.Invalid (v.HolesNested i j)) = codes "V6 " ++ (decimal i ++ (co
 geometry_text (g.Invalid (v.ElementsMeet i j)) = codes "V7 " ++ (decimal i ++ (codes " " ++ decimal j))
 geometry_text (g.Invalid (v.ElementInside i j)) = codes "V8 " ++ (decimal i ++ (codes " " ++ decimal j))
 
--- a fault of loading: the table's name, the code, and the record of a fault that has one (profile)
+-- a fault of loading: the table's name, the code, and the record of a fault that has one
 abbrev pub load_text : List ℕ → LoadFault → List ℕ
 load_text table l.MissingColumn = table ++ codes " L1"
 load_text table l.DoubleHeader = table ++ codes " L2"
@@ -55,7 +55,7 @@ load_text table l.TooManyRows = table ++ codes " L10"
 load_text table l.ReadFailed = table ++ codes " L11"
 load_text table l.OutOfMemory = memory_text
 
--- a query fault: its code, and its byte but for a text that is too long (profile)
+-- a query fault: its code, and its byte but for a text that is too long
 abbrev pub query_text : QueryFault → List ℕ
 query_text (q.Lex at) = codes "Q1 at " ++ decimal at
 query_text (q.Syntax at) = codes "Q2 at " ++ decimal at
@@ -71,11 +71,11 @@ query_text q.TooLong = codes "Q11"
 query_text (q.NumberTooBig at) = codes "Q12 at " ++ decimal at
 query_text q.OutOfMemory = memory_text
 
--- the line of a text: the program's name before it, a line feed after it (profile)
+-- the line of a text: the program's name before it, a line feed after it
 abbrev pub line_of : List ℕ → List ℕ
 line_of text = codes "sfq: " ++ text ++ codes "\n"
 
--- the status of a schema fault: 3, and 7 for want of memory (profile)
+-- the status of a schema fault: 3, and 7 for want of memory
 abbrev pub schema_status : SchemaFault → ℕ
 schema_status (s.Syntax at) = 3
 schema_status (s.DoubleName at) = 3
@@ -85,7 +85,7 @@ schema_status (s.TooMany at) = 3
 schema_status s.TooLong = 3
 schema_status s.OutOfMemory = 7
 
--- the status of a fault of loading: 4, 6 where reading failed, and 7 for want of memory (profile)
+-- the status of a fault of loading: 4, 6 where reading failed, and 7 for want of memory
 abbrev pub load_status : LoadFault → ℕ
 load_status l.MissingColumn = 4
 load_status l.DoubleHeader = 4
@@ -100,7 +100,7 @@ load_status l.TooManyRows = 4
 load_status l.ReadFailed = 6
 load_status l.OutOfMemory = 7
 
--- the status of a query fault: 5, and 7 for want of memory (profile)
+-- the status of a query fault: 5, and 7 for want of memory
 abbrev pub query_status : QueryFault → ℕ
 query_status (q.Lex at) = 5
 query_status (q.Syntax at) = 5

@@ -44,7 +44,7 @@ pub record IsRow {T G : Type 0} (takes : Takes T G) (table : TableDef T) (row : 
       → IsValueFor takes c.column_type v × (is_required table (place, c) ≡ true → v ≢ value.Null)
 
 -- the rows of a table: at most 100,000, the key of each below those of all later ones (06-104r4, feature tables;
--- profile: the limit)
+-- the limit)
 pub record AreRows {T G : Type 0} (takes : Takes T G) (table : TableDef T) (rows : Table G) : Type 0 where
   pub few : length rows ≤ row_limit
   pub each : All (IsRow takes table) rows
@@ -61,6 +61,6 @@ pub record IsDatabase {T G : Type 0} (takes : Takes T G) (database : Database T 
 abbrev pub TakesValid : Takes ColumnShape Geometry
 TakesValid shape g = (takes_type shape (type_of g) ≡ true) × IsValid g
 
--- where no geometry is served no column takes one (profile)
+-- where no geometry is served no column takes one
 abbrev pub TakesNone : Takes NoGeometry NoGeometry
 TakesNone kind g = elim kind [ ]

@@ -28,7 +28,7 @@ use Rattle.table_model.specs.declared.values.NoGeometry.{NoGeometry}
 use Rattle.table_model.specs.declared.values.Value.{Value}
 use Rattle.table_model.specs.declared.values.Value.TheVariants as values
 
--- what the table's rows are, as records: the header first (profile)
+-- what the table's rows are, as records: the header first
 abbrev pub town_records : List Record
 town_records =
     (codes "id" ∷ codes "pop" ∷ codes "name" ∷ [])
@@ -38,43 +38,43 @@ town_records =
     ∷ (codes "4" ∷ codes "7" ∷ [] ∷ [])
     ∷ []
 
--- no column is of a geometry, so nothing is read (profile)
+-- no column is of a geometry, so nothing is read
 abbrev pub plain_reader : GeometryReader NoGeometry NoGeometry
 plain_reader number kind bytes = elim kind [ ]
 
--- a row of a key, a number and a text (profile)
+-- a row of a key, a number and a text
 abbrev pub town : ℕ → Value NoGeometry → Value NoGeometry → Row NoGeometry
 town id pop name = values.Integer (pos id) ∷ pop ∷ name ∷ []
 
--- the rows (profile)
+-- the rows
 abbrev pub first_town : Row NoGeometry
 first_town = town 1 (values.Integer (pos 8)) (values.Text (codes "a"))
 
--- the second, third and fourth (profile)
+-- the second, third and fourth
 abbrev pub second_town : Row NoGeometry
 second_town = town 2 (values.Integer (pos 9)) (values.Text (codes "b"))
 
--- the one whose number isn't known (profile)
+-- the one whose number isn't known
 abbrev pub third_town : Row NoGeometry
 third_town = town 3 values.Null (values.Text (codes "c"))
 
--- the one without a name (profile)
+-- the one without a name
 abbrev pub fourth_town : Row NoGeometry
 fourth_town = town 4 (values.Integer (pos 7)) values.Null
 
--- the table (profile)
+-- the table
 abbrev pub town_rows : List (Row NoGeometry)
 town_rows = first_town ∷ second_town ∷ third_town ∷ fourth_town ∷ []
 
--- a column as it is written, at a byte (profile)
+-- a column as it is written, at a byte
 abbrev pub written_column : List ℕ → ℕ → WrittenOperand NoGeometry
 written_column name at = written_operands.Column (record { reference = None; name = record { text = name; at = at } })
 
--- a column of the select list as it is written, at a byte (profile)
+-- a column of the select list as it is written, at a byte
 abbrev pub written_item : List ℕ → ℕ → WrittenItem NoGeometry
 written_item name at = written_items.Column (record { reference = None; name = record { text = name; at = at } })
 
--- SELECT id, name FROM t with this WHERE, bound to the table (profile)
+-- SELECT id, name FROM t with this WHERE, bound to the table
 abbrev pub bound_names : WrittenCond NoGeometry → Checked (Bound NoGeometry NoGeometry)
 bound_names condition = binding no_geometry towns (record {
   explain = explains.No;
@@ -86,30 +86,30 @@ bound_names condition = binding no_geometry towns (record {
   limit = None;
 })
 
--- pop > 5 AND NOT name = 'b' (profile)
+-- pop > 5 AND NOT name = 'b'
 abbrev pub many_but_b : WrittenCond NoGeometry
 many_but_b = written_conds.And (
     written_conds.Compare 29 signs.Greater (written_column (codes "pop") 29) (written_operands.Integer (pos 5))
     ∷ written_conds.Not (written_conds.Compare 45 signs.Equal (written_column (codes "name") 45) (written_operands.Text (record { text = codes "b"; at = 52 })))
     ∷ [])
 
--- the place of a column of the one reference (profile)
+-- the place of a column of the one reference
 abbrev pub column_at : ℕ → ColumnPlace
 column_at column = record { reference = 0; column = column }
 
--- a side that is a column (profile)
+-- a side that is a column
 abbrev pub side : ℕ → Operand NoGeometry
 side column = operands.Column (column_at column)
 
--- the condition pop > 5 (profile)
+-- the condition pop > 5
 abbrev pub many : Cond NoGeometry
 many = conds.Compare signs.Greater (side 1) (operands.Integer (pos 5))
 
--- the condition that the name is this (profile)
+-- the condition that the name is this
 abbrev pub name_is : List ℕ → Cond NoGeometry
 name_is name = conds.Compare signs.Equal (side 2) (operands.Text name)
 
--- a query of these columns and conjuncts (profile)
+-- a query of these columns and conjuncts
 abbrev pub query_of_columns : List (Item NoGeometry) → List (Cond NoGeometry) → Bound NoGeometry NoGeometry
 query_of_columns columns conjuncts = record {
   explain = explains.No;
@@ -120,23 +120,23 @@ query_of_columns columns conjuncts = record {
   limit = None;
 }
 
--- SELECT id, name FROM t WHERE pop > 5 AND NOT name = 'b' (profile)
+-- SELECT id, name FROM t WHERE pop > 5 AND NOT name = 'b'
 abbrev pub first_query : Bound NoGeometry NoGeometry
 first_query = query_of_columns (items.Column (column_at 0) ∷ items.Column (column_at 2) ∷ []) (many ∷ conds.Not (name_is (codes "b")) ∷ [])
 
--- SELECT id FROM t WHERE pop > 5 OR name = 'c' (profile)
+-- SELECT id FROM t WHERE pop > 5 OR name = 'c'
 abbrev pub second_query : Bound NoGeometry NoGeometry
 second_query = query_of_columns (items.Column (column_at 0) ∷ []) (conds.Or (many ∷ name_is (codes "c") ∷ []) ∷ [])
 
--- SELECT id FROM t WHERE NOT pop > 7 (profile)
+-- SELECT id FROM t WHERE NOT pop > 7
 abbrev pub third_query : Bound NoGeometry NoGeometry
 third_query = query_of_columns (items.Column (column_at 0) ∷ []) (conds.Not (conds.Compare signs.Greater (side 1) (operands.Integer (pos 7))) ∷ [])
 
--- what a query means over the table (profile)
+-- what a query means over the table
 abbrev pub meant : Bound NoGeometry NoGeometry → List (List (Row NoGeometry))
 meant query = passing_rows (truth labelled_matrix no_argument) (town_rows ∷ []) query
 
--- where no geometry is served, none is written (profile)
+-- where no geometry is served, none is written
 abbrev pub plain_writing : Writing NoGeometry NoGeometry
 plain_writing = record {
   place = λ c. column_at 0;
@@ -145,6 +145,6 @@ plain_writing = record {
   is_empty = λ g. true;
 }
 
--- the records of its answer (profile)
+-- the records of its answer
 abbrev pub answered : Bound NoGeometry NoGeometry → List Record
 answered query = answer_records plain_writing towns query (meant query)

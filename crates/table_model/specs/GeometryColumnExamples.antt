@@ -33,11 +33,11 @@ use Rattle.table_model.specs.declared.values.Value.TheVariants as values
 
 -- ---- tables
 
--- a column without NOT NULL (profile)
+-- a column without NOT NULL
 abbrev pub column : List ℕ → ColumnType ColumnShape → ColumnDef ColumnShape
 column name type = record { name = name; column_type = type; not_null = false }
 
--- the table t of a key, a number and a geometry (profile)
+-- the table t of a key, a number and a geometry
 abbrev pub table_of : ColumnShape → TableDef ColumnShape
 table_of shape = record {
   name = codes "t";
@@ -45,57 +45,57 @@ table_of shape = record {
   key = 0;
 }
 
--- its rows, loaded from the records after the header (profile)
+-- its rows, loaded from the records after the header
 abbrev pub loaded : ColumnShape → List Record → Result (List (Row Geometry)) LoadFault
 loaded shape records = load read_geometry (table_of shape) ((codes "id" ∷ codes "pop" ∷ codes "geom" ∷ []) ∷ records)
 
--- a record of three fields (profile)
+-- a record of three fields
 abbrev pub fields : List ℕ → List ℕ → List ℕ → Record
 fields id pop geom = id ∷ pop ∷ geom ∷ []
 
--- a row with a point, and one without (profile)
+-- a row with a point, and one without
 abbrev pub with_point : ℕ → ℕ → ℤ → ℤ → Row Geometry
 with_point id pop x y = values.Integer (pos id) ∷ values.Integer (pos pop) ∷ values.Geometry (Point (Some (at x y))) ∷ []
 
--- a row without a point (profile)
+-- a row without a point
 abbrev pub without_point : ℕ → ℕ → Row Geometry
 without_point id pop = values.Integer (pos id) ∷ values.Integer (pos pop) ∷ values.Null ∷ []
 
 -- ---- queries, each name with its byte
 
--- a name at a byte (profile)
+-- a name at a byte
 abbrev pub name : List ℕ → ℕ → Name
 name text at = record { text = text; at = at }
 
--- a column without and with its reference (profile)
+-- a column without and with its reference
 abbrev pub bare : List ℕ → ℕ → WrittenColumn
 bare text at = record { reference = None; name = name text at }
 
--- a column with its reference (profile)
+-- a column with its reference
 abbrev pub of : Name → Name → WrittenColumn
 of reference column = record { reference = Some reference; name = column }
 
--- a reference without and with an alias (profile)
+-- a reference without and with an alias
 abbrev pub table : List ℕ → ℕ → WrittenReference
 table text at = record { table = name text at; alias = None }
 
--- a table reference with an alias (profile)
+-- a table reference with an alias
 abbrev pub aliased : Name → Name → WrittenReference
 aliased text alias = record { table = text; alias = Some alias }
 
--- geometry arguments (profile)
+-- geometry arguments
 abbrev pub geometry_column : List ℕ → ℕ → WrittenGeometry
 geometry_column text at = written_geometry.Column (bare text at)
 
--- ST_GeomFromText of a string at a byte (profile)
+-- ST_GeomFromText of a string at a byte
 abbrev pub from_text : List ℕ → ℕ → WrittenGeometry
 from_text text at = written_geometry.FromText (name text at)
 
--- a column as a side of a comparison (profile)
+-- a column as a side of a comparison
 abbrev pub operand_column : List ℕ → ℕ → WrittenOperand WrittenGeometry
 operand_column text at = written_operand.Column (bare text at)
 
--- the tables t and u (profile)
+-- the tables t and u
 abbrev pub tables : List (TableDef ColumnShape)
 tables = table_of None ∷ record {
   name = codes "u";
@@ -103,7 +103,7 @@ tables = table_of None ∷ record {
   key = 0;
 } ∷ []
 
--- what a SELECT is bound to over these tables (profile)
+-- what a SELECT is bound to over these tables
 abbrev pub bound : Selection WrittenColumn → WrittenReference → Option WrittenReference → Option (WrittenCond WrittenGeometry) → Checked (Bound (GeometryArgument Geometry) ColumnPlace)
 bound selection first second condition = binding geometry_binding tables (record {
   explain = explains.No;
@@ -115,21 +115,21 @@ bound selection first second condition = binding geometry_binding tables (record
   limit = None;
 })
 
--- what SELECT id FROM t WHERE is bound to: the condition starts at byte 23 (profile)
+-- what SELECT id FROM t WHERE is bound to: the condition starts at byte 23
 abbrev pub bound_where : WrittenCond WrittenGeometry → Checked (Bound (GeometryArgument Geometry) ColumnPlace)
 bound_where condition = bound (selections.Items (written_item.Column (bare (codes "id") 7) ∷ [])) (table (codes "t") 15) None (Some condition)
 
 -- ---- answers
 
--- a row of t with this geometry field (profile)
+-- a row of t with this geometry field
 abbrev pub shaped : ℕ → Value Geometry → Row Geometry
 shaped id geometry = values.Integer (pos id) ∷ values.Null ∷ geometry ∷ []
 
--- where the geometry column stands (profile)
+-- where the geometry column stands
 abbrev pub geometry_place : ColumnPlace
 geometry_place = record { reference = 0; column = 2 }
 
--- SELECT ST_AsText(geom), ST_Dimension(geom), ST_IsEmpty(geom) FROM t (profile)
+-- SELECT ST_AsText(geom), ST_Dimension(geom), ST_IsEmpty(geom) FROM t
 abbrev pub functions_query : Bound (GeometryArgument Geometry) ColumnPlace
 functions_query = record {
   explain = explains.No;
@@ -140,6 +140,6 @@ functions_query = record {
   limit = None;
 }
 
--- the records of its answer over these rows (profile)
+-- the records of its answer over these rows
 abbrev pub told : List (Row Geometry) → List Record
 told rows = answer_records geometry_writing tables functions_query (map (λ row. row ∷ []) rows)

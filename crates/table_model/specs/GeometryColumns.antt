@@ -56,12 +56,12 @@ takes_type (Some wanted) type = sameb the_type wanted type
 
 -- ---- fields
 
--- the geometry of a record, of the column's type, or the record's fault (profile)
+-- the geometry of a record, of the column's type, or the record's fault
 abbrev pub of_shape : ℕ → ColumnShape → Result Geometry GeometryFault → Result Geometry LoadFault
 of_shape number shape (Err fault) = Err (load_fault.BadGeometry number fault)
 of_shape number shape (Ok g) = if takes_type shape (type_of g) then Ok g else Err (load_fault.WrongType number)
 
--- how a field is read as a geometry: its text first, then its validity, then its type (06-103r4, 7.2; the order: profile)
+-- how a field is read as a geometry: its text first, then its validity, then its type (06-103r4, 7.2; the order: this project's choice)
 abbrev pub read_geometry : GeometryReader ColumnShape Geometry
 read_geometry number shape bytes = of_shape number shape (geometry_in_text bytes)
 
@@ -76,7 +76,7 @@ geometry_writing = record {
 
 -- ---- queries
 
--- the geometry of a string, a literal, or the fault at the string; its bytes are those of the string's value (profile)
+-- the geometry of a string, a literal, or the fault at the string; its bytes are those of the string's value
 abbrev pub literal : ℕ → Result Geometry GeometryFault → Checked (Typed (GeometryArgument Geometry))
 literal at (Ok g) = Ok (record { part = arguments.Literal g; part_type = types.Geometry })
 literal at (Err fault) = Err (query_fault.BadGeometry at fault)
@@ -94,7 +94,7 @@ bound_place schema references written = do
   found ← bound_column schema references written
   Ok (record { part = found.place; part_type = found.column_type })
 
--- the pattern, or Q9 at the byte (profile)
+-- the pattern, or Q9 at the byte
 abbrev pub pattern_or : ℕ → Option Pattern → Checked Pattern
 pattern_or at (Some pattern) = Ok pattern
 pattern_or at None = Err (query_fault.BadPattern at)

@@ -18,62 +18,62 @@ use Rattle.table_model.specs.declared.faults.LoadFault.TheVariants as fault
 use Rattle.table_model.specs.declared.values.Value.{Value}
 use Rattle.table_model.specs.declared.values.Value.TheVariants as value
 
--- a record: its fields, each some bytes (profile: as csv reads them)
+-- a record: its fields, each some bytes (as csv reads them)
 abbrev pub Record : Type 0
 Record = List (List ℕ)
 
--- what reads a geometry: a record's number, a type of geometry and a field's bytes give it or the fault (profile)
+-- what reads a geometry: a record's number, a type of geometry and a field's bytes give it or the fault
 abbrev pub GeometryReader : Type 0 → Type 0 → Type 0
 GeometryReader T G = ℕ → T → List ℕ → Result G LoadFault
 
--- an answer goes on with the next step, a fault stands (profile)
+-- an answer goes on with the next step, a fault stands
 abbrev pub and_then : {A B F : Type 0} → Result A F → (A → Result B F) → Result B F
 and_then (Ok x) next = next x
 and_then (Err f) next = Err f
 
--- a fault, where there is one, goes before an answer (profile)
+-- a fault, where there is one, goes before an answer
 abbrev pub unless : {A F : Type 0} → Option F → Result A F → Result A F
 unless None answer = answer
 unless (Some f) answer = Err f
 
--- all the answers, or the first fault among them (profile)
+-- all the answers, or the first fault among them
 abbrev pub each : {A F : Type 0} → List (Result A F) → Result (List A) F
 each [] = Ok []
 each (answer ∷ answers) = and_then answer (λ x. and_then (each answers) (λ xs. Ok (x ∷ xs)))
 
--- the bytes that are passed over around a number: spaces and tabs (profile)
+-- the bytes that are passed over around a number: spaces and tabs
 abbrev pub is_blank : ℕ → Bool
 is_blank byte = (byte == 32) || (byte == 9)
 
--- a field without the blanks at its front and at its end (profile)
+-- a field without the blanks at its front and at its end
 abbrev pub trimmed : List ℕ → List ℕ
 trimmed bytes = let rest = drop (prefix_len is_blank bytes) bytes in take (length rest - prefix_len is_blank (reverse rest)) rest
 
--- whether a number has 64 bits with its sign (SQL, INTEGER; profile: 64 bits)
+-- whether a number has 64 bits with its sign (SQL, INTEGER; this project: 64 bits)
 abbrev pub fits_64_bits : ℤ → Bool
 fits_64_bits (pos n) = nat_lt n (2 ^ 63)
 fits_64_bits (negsuc n) = nat_lt n (2 ^ 63)
 
--- whether a text is a whole number of 64 bits: a sign or none, and one or more digits (profile)
+-- whether a text is a whole number of 64 bits: a sign or none, and one or more digits
 abbrev pub is_number : List ℕ → Bool
 is_number text =
     let digits = without_leading_sign text in nat_lt 0 (length digits) && (all_ascii_digits digits && fits_64_bits (signed_digits_value 10 text))
 
--- the whole number that a text is (profile)
+-- the whole number that a text is
 abbrev pub number_in : List ℕ → Option ℤ
 number_in text = if is_number text then Some (signed_digits_value 10 text) else None
 
--- the whole number that a field spells, blanks around it passed over (profile)
+-- the whole number that a field spells, blanks around it passed over
 unfoldable pub integer_of : List ℕ → Option ℤ
 integer_of bytes = number_in (trimmed bytes)
 
--- the value of a field that isn't empty (profile)
+-- the value of a field that isn't empty
 abbrev pub filled_value : {T G : Type 0} → GeometryReader T G → ℕ → ColumnType T → List ℕ → Result (Value G) LoadFault
 filled_value geometry number column.Integer bytes = ok_or (option_map value.Integer (integer_of bytes)) (fault.BadInteger number)
 filled_value geometry number column.Text bytes = if is_utf8 bytes then Ok (value.Text bytes) else Err (fault.NotUtf8 number)
 filled_value geometry number (column.Geometry kind) bytes = and_then (geometry number kind bytes) (λ g. Ok (value.Geometry g))
 
--- the value of a field: an empty field is null in every type (profile)
+-- the value of a field: an empty field is null in every type
 unfoldable pub value_of : {T G : Type 0} → GeometryReader T G → ℕ → Bool → ColumnType T → List ℕ → Result (Value G) LoadFault
 value_of geometry number required kind [] = if required then Err (fault.NullNotAllowed number) else Ok value.Null
 value_of geometry number required kind (byte ∷ bytes) = filled_value geometry number kind (byte ∷ bytes)
@@ -82,56 +82,56 @@ value_of geometry number required kind (byte ∷ bytes) = filled_value geometry 
 abbrev pub is_required : {T : Type 0} → TableDef T → ℕ × ColumnDef T → Bool
 is_required table (place, c) = c.not_null || (place == table.key)
 
--- the place of the first field of a header that has this name (profile)
+-- the place of the first field of a header that has this name
 abbrev pub place_in : Record → List ℕ → ℕ
 place_in header name = unwrap_or (position (same_name name) header) 0
 
--- the field of a record that a header calls by this name (profile)
+-- the field of a record that a header calls by this name
 abbrev pub field_under : Record → Record → List ℕ → List ℕ
 field_under header fields name = slice_index_or fields (place_in header name) []
 
--- the value of each column's field in a record, or its fault (profile)
+-- the value of each column's field in a record, or its fault
 abbrev pub values_of : {T G : Type 0} → GeometryReader T G → TableDef T → Record → ℕ → Record → List (Result (Value G) LoadFault)
 values_of geometry table header number fields =
     map (λ c. value_of geometry number (is_required table c) c.1.column_type (field_under header fields c.1.name)) (enumerate_from 0 table.columns)
 
--- the typed row of a record: its fields under the names of the columns, in the order of the columns (profile)
+-- the typed row of a record: its fields under the names of the columns, in the order of the columns
 unfoldable pub row_of : {T G : Type 0} → GeometryReader T G → TableDef T → Record → ℕ → Record → Result (Row G) LoadFault
 row_of geometry table header number fields = each (values_of geometry table header number fields)
 
--- the most rows that a table has (profile)
+-- the most rows that a table has
 abbrev pub row_limit : ℕ
 row_limit = ROW_LIMIT
 
 -- the typed row of the record of this number: the length is tested first, then the number of rows, then the
--- fields (profile)
+-- fields
 unfoldable pub checked_row : {T G : Type 0} → GeometryReader T G → TableDef T → Record → ℕ × Record → Result (Row G) LoadFault
 checked_row geometry table header (number, fields) =
     if not (length fields == length header) then Err (fault.UnequalRecord number)
     else if nat_lt row_limit number then Err fault.TooManyRows
     else row_of geometry table header number fields
 
--- the typed row of each record after the header, or its fault; the records are numbered from 1 (profile)
+-- the typed row of each record after the header, or its fault; the records are numbered from 1
 abbrev pub checked_rows : {T G : Type 0} → GeometryReader T G → TableDef T → Record → List Record → List (Result (Row G) LoadFault)
 checked_rows geometry table header records = map (checked_row geometry table header) (enumerate_from 1 records)
 
--- the typed rows of the records after the header, or the first fault (profile)
+-- the typed rows of the records after the header, or the first fault
 unfoldable pub rows_of : {T G : Type 0} → GeometryReader T G → TableDef T → Record → List Record → Result (List (Row G)) LoadFault
 rows_of geometry table header records = each (checked_rows geometry table header records)
 
--- the fault of a name in a header: no field has it, or more than one (profile)
+-- the fault of a name in a header: no field has it, or more than one
 abbrev pub name_fault : Record → List ℕ → Option LoadFault
 name_fault header name =
     let found = count_by (same_name name) header in
     if found == 0 then Some fault.MissingColumn else if found == 1 then None else Some fault.DoubleHeader
 
--- the first of the faults (profile)
+-- the first of the faults
 abbrev pub first_fault : {F : Type 0} → List (Option F) → Option F
 first_fault [] = None
 first_fault (Some f ∷ more) = Some f
 first_fault (None ∷ more) = first_fault more
 
--- the first fault of the columns' names in a header (profile)
+-- the first fault of the columns' names in a header
 unfoldable pub header_fault : {T : Type 0} → List (ColumnDef T) → Record → Option LoadFault
 header_fault columns header = first_fault (map (λ c. name_fault header c.name) columns)
 
@@ -147,35 +147,35 @@ whole_number (Some (value.Geometry g)) = pos 0
 abbrev pub key_of : {G : Type 0} → ℕ → Row G → ℤ
 key_of key row = whole_number (slice_get row key)
 
--- the number of the first of these keys that an earlier one equals, where this many stand before them (profile)
+-- the number of the first of these keys that an earlier one equals, where this many stand before them
 abbrev pub double_from : List ℤ → ℕ → List ℤ → Option ℕ
 double_from earlier number [] = None
 double_from earlier number (key ∷ keys) =
     if list_any (int_eq key) earlier then Some number else double_from (key ∷ earlier) (number + 1) keys
 
--- the number of the first record whose key an earlier one has, the first record having the number 1 (profile). In plain
+-- the number of the first record whose key an earlier one has, the first record having the number 1. In plain
 -- words: the laws `double_is_first` and `none_is_double` of `table_laws`.
 unfoldable pub double_key : List ℤ → Option ℕ
 double_key keys = double_from [] 1 keys
 
--- a row put before the first row of a greater key (profile)
+-- a row put before the first row of a greater key
 abbrev pub insert_by_key : {G : Type 0} → ℕ → Row G → List (Row G) → List (Row G)
 insert_by_key key row [] = row ∷ []
 insert_by_key key row (other ∷ rows) =
     if int_lt (key_of key row) (key_of key other) then row ∷ other ∷ rows else other ∷ insert_by_key key row rows
 
--- the rows by ascending key (profile). In plain words: the laws `rows_ascend` and `rows_are_permuted` of `table_laws`, by
+-- the rows by ascending key. In plain words: the laws `rows_ascend` and `rows_are_permuted` of `table_laws`, by
 -- which the rows of a table are the typed rows of its records, each key below those of all later rows.
 unfoldable pub by_key : {G : Type 0} → ℕ → List (Row G) → List (Row G)
 by_key key [] = []
 by_key key (row ∷ rows) = insert_by_key key row (by_key key rows)
 
--- the rows by ascending key, where no two have one key (profile)
+-- the rows by ascending key, where no two have one key
 abbrev pub keyed_rows : {G : Type 0} → ℕ → List (Row G) → Result (List (Row G)) LoadFault
 keyed_rows key rows = unless (option_map fault.DoubleKey (double_key (map (key_of key) rows))) (Ok (by_key key rows))
 
 -- the table that records give, or the first fault: columns are looked up in the header, then the records are
--- taken in order, then keys are compared. No header record is a header without fields (profile).
+-- taken in order, then keys are compared. No header record is a header without fields.
 unfoldable pub load : {T G : Type 0} → GeometryReader T G → TableDef T → List Record → Result (List (Row G)) LoadFault
 load geometry table records =
     let header = unwrap_or (slice_get records 0) [] in

@@ -9,85 +9,85 @@ use Rattle.table_model.specs.Tokens.{same_kind}
 
 -- ---- the next token, of those that are left; past the last one nothing can be read
 
--- its kind, Bad where no token is left (profile)
+-- its kind, Bad where no token is left
 unfoldable pub kind : List Token → TokenKind
 kind [] = k.Bad
 kind (t ∷ ts) = t.kind
 
--- its place in the text (profile)
+-- its place in the text
 unfoldable pub place : List Token → ℕ
 place [] = 0
 place (t ∷ ts) = t.at
 
--- its text (profile)
+-- its text
 unfoldable pub spelling : List Token → List ℕ
 spelling [] = []
 spelling (t ∷ ts) = t.text
 
--- those after it (profile)
+-- those after it
 unfoldable pub next : List Token → List Token
 next [] = []
 next (t ∷ ts) = ts
 
--- its text and its place, as a tree has them (profile)
+-- its text and its place, as a tree has them
 abbrev pub written : List Token → Name
 written ts = record { text = spelling ts; at = place ts }
 
--- whether it is of a kind (profile)
+-- whether it is of a kind
 unfoldable pub sees : TokenKind → List Token → Bool
 sees wanted ts = same_kind (kind ts) wanted
 
--- the tokens left after it, where it is of a kind (profile)
+-- the tokens left after it, where it is of a kind
 unfoldable pub after : TokenKind → List Token → List Token
 after wanted ts = if sees wanted ts then next ts else ts
 
 -- ---- readers, with faults of a type F
 
--- what was read with the tokens that are left then, or a fault (profile)
+-- what was read with the tokens that are left then, or a fault
 abbrev pub Outcome : Type 0 → Type 0 → Type 0
 Outcome F A = Result (A × List Token) F
 
--- a reader of some tokens (profile)
+-- a reader of some tokens
 abbrev pub Parser : Type 0 → Type 0 → Type 0
 Parser F A = List Token → Outcome F A
 
--- goes on from what was read; a fault stays (profile)
+-- goes on from what was read; a fault stays
 abbrev pub and_then : {F A B : Type 0} → Outcome F A → (A → Parser F B) → Outcome F B
 and_then (Ok p) f = f p.0 p.1
 and_then (Err e) f = Err e
 
--- one reader, and then another that may depend on what the first read (profile)
+-- one reader, and then another that may depend on what the first read
 infixl 10 ◌>>=◌
 abbrev pub ◌>>=◌ : {F A B : Type 0} → Parser F A → (A → Parser F B) → Parser F B
 p >>= f = λ ts. and_then (p ts) f
 
--- one reader, and then another (profile)
+-- one reader, and then another
 infixl 10 ◌>>◌
 abbrev pub ◌>>◌ : {F A B : Type 0} → Parser F A → Parser F B → Parser F B
 p >> q = p >>= (λ _. q)
 
--- reads nothing (profile)
+-- reads nothing
 abbrev pub pure : {F A : Type 0} → A → Parser F A
 pure a = λ ts. Ok (a, ts)
 
--- a function of what a reader reads (profile)
+-- a function of what a reader reads
 infixr 11 ◌<$>◌
 abbrev pub ◌<$>◌ : {F A B : Type 0} → (A → B) → Parser F A → Parser F B
 f <$> p = p >>= (λ x. pure (f x))
 
--- no rule goes on with the next token: the fault of its place (profile)
+-- no rule goes on with the next token: the fault of its place
 abbrev pub refuse : {F A : Type 0} → (ℕ → F) → Parser F A
 refuse syntax = λ ts. Err (syntax (place ts))
 
--- reads the next token where it is of a kind, and tells whether it is (profile)
+-- reads the next token where it is of a kind, and tells whether it is
 abbrev pub eat : {F : Type 0} → TokenKind → Parser F Bool
 eat wanted = λ ts. Ok (sees wanted ts, after wanted ts)
 
--- reads a token of a kind (profile)
+-- reads a token of a kind
 unfoldable pub expect : {F : Type 0} → (ℕ → F) → TokenKind → Parser F (Unit {0})
 expect syntax wanted = λ ts. if sees wanted ts then Ok (tt, next ts) else Err (syntax (place ts))
 
--- Further parts with a token of a kind between them, after those that were found; the number bounds the parts (profile).
+-- Further parts with a token of a kind between them, after those that were found; the number bounds the parts.
 unfoldable pub parts_from : {F A : Type 0} → (ℕ → F) → TokenKind → Parser F A → ℕ → List A → Parser F (List A)
 parts_from syntax between part zero found = refuse syntax
 parts_from syntax between part (suc n) found = do
@@ -95,7 +95,7 @@ parts_from syntax between part (suc n) found = do
   more ← eat between
   if more then parts_from syntax between part n (found ++ x ∷ []) else pure (found ++ x ∷ [])
 
--- Parts with a token of a kind between them. There are no more parts than tokens (profile).
+-- Parts with a token of a kind between them. There are no more parts than tokens.
 abbrev pub parts : {F A : Type 0} → (ℕ → F) → TokenKind → Parser F A → List A → Parser F (List A)
 parts syntax between part found = λ ts. parts_from syntax between part (length ts) found ts
 
@@ -106,7 +106,7 @@ value_of (Err e) = Err e
 
 -- ---- what a function that reads ensures: the reader's outcome; want of memory may stand in its place
 
--- the call's answer and the tokens left after it are the reader's outcome; want of memory may stand in the place of any (profile)
+-- the call's answer and the tokens left after it are the reader's outcome; want of memory may stand in the place of any
 abbrev pub Reads : {F A : Type 0} → F → Outcome F A → Result A F → List Token → Type 0
 Reads memory outcome (Ok a) new = outcome ≡ Ok (a, new)
 Reads memory outcome (Err e) new = e ≢ memory → outcome ≡ Err e

@@ -13,7 +13,7 @@ use Rattle.table_model.specs.declared.conditions.Bound.{Bound}
 use Rattle.table_model.specs.declared.plans.AccessMethod.TheVariants as methods
 use Rattle.table_model.specs.declared.plans.Plan.{Plan}
 
--- an element is the first of some whose number none of them undercuts (profile)
+-- an element is the first of some whose number none of them undercuts
 pub record IsFirstOfLeast {X : Type 0} (number : X → ℕ) (xs : List X) (x : X) : Type 0 where
   pub before : List X
   pub after : List X
@@ -21,27 +21,27 @@ pub record IsFirstOfLeast {X : Type 0} (number : X → ℕ) (xs : List X) (x : X
   pub earlier_are_more : All (λ y. number x < number y) before
   pub none_is_less : All (λ y. number x ≤ number y) xs
 
--- a bound query with geometries (profile)
+-- a bound query with geometries
 abbrev pub GeometryQuery : Type 0
 GeometryQuery = Bound (GeometryArgument Geometry) ColumnPlace
 
--- the chosen plan is lawful (profile)
+-- the chosen plan is lawful
 abbrev pub ChosenIsLawful : Type 0
 ChosenIsLawful = (tables : List (Table Geometry)) (query : GeometryQuery) (plan : Plan) → chosen tables query ≡ Some plan → IsLawful tables query plan
 
--- no lawful plan costs less (profile)
+-- no lawful plan costs less
 abbrev pub ChosenCostsLeast : Type 0
 ChosenCostsLeast = (tables : List (Table Geometry)) (query : GeometryQuery) (plan other : Plan) → chosen tables query ≡ Some plan → IsLawful tables query other → plan.cost ≤ other.cost
 
--- every lawful plan before the chosen one costs more (profile)
+-- every lawful plan before the chosen one costs more
 abbrev pub ChosenIsFirst : Type 0
 ChosenIsFirst = (tables : List (Table Geometry)) (query : GeometryQuery) (plan : Plan) → chosen tables query ≡ Some plan → IsFirstOfLeast (λ p. p.cost) (lawful_plans tables query) plan
 
--- a lawful plan that is the first of least cost is the chosen one, so there is one alone (profile)
+-- a lawful plan that is the first of least cost is the chosen one, so there is one alone
 abbrev pub FirstIsChosen : Type 0
 FirstIsChosen = (tables : List (Table Geometry)) (query : GeometryQuery) (plan : Plan) → IsFirstOfLeast (λ p. p.cost) (lawful_plans tables query) plan → chosen tables query ≡ Some plan
 
--- over one reference or two a plan is chosen (profile)
+-- over one reference or two a plan is chosen
 abbrev pub SomePlanIsChosen : Type 0
 SomePlanIsChosen = (tables : List (Table Geometry)) (query : GeometryQuery) → 1 ≤ length query.references → length query.references ≤ 2 → IsSome (chosen tables query)
 
@@ -56,7 +56,7 @@ ScanGivesPlaces = (denotes : Rows Geometry → GeometryArgument Geometry → Opt
     → candidates denotes tables query (record { reference = 0; method = methods.Scan } ∷ []) ≡ choices (referenced tables query.references)
 
 -- the filters of every plan are all conjuncts, each once: the place of a conjunct stands once among them, and no other
--- number does (profile)
+-- number does
 abbrev pub FiltersAreConjuncts : Type 0
 FiltersAreConjuncts = (conjuncts : List (Cond (GeometryArgument Geometry))) (place : ℕ)
     → count_by (λ k. k == place) (filters conjuncts) ≡ (if nat_lt place (length conjuncts) then 1 else 0)

@@ -11,24 +11,24 @@ use Rattle.table_model.specs.declared.queries.Selection.TheVariants as selection
 use Rattle.table_model.specs.declared.queries.WrittenColumn.{WrittenColumn}
 use Rattle.table_model.specs.declared.queries.WrittenReference.{WrittenReference}
 
--- what a text reads as where the whole language is served (profile)
+-- what a text reads as where the whole language is served
 abbrev pub read : List ℕ → Result (ServedQuery all_served) QueryFault
 read text = query_of all_served text
 
--- what a text reads as where a SELECT over one table without functions is served (profile)
+-- what a text reads as where a SELECT over one table without functions is served
 abbrev pub read_plain : List ℕ → Result (ServedQuery nothing_served) QueryFault
 read_plain text = query_of nothing_served text
 
--- what a SELECT of all columns of the table t with this condition, from byte 22 on, reads as (profile)
+-- what a SELECT of all columns of the table t with this condition, from byte 22 on, reads as
 abbrev pub read_where : List ℕ → Result (ServedQuery all_served) QueryFault
 read_where condition = read (codes "SELECT * FROM t WHERE " ++ condition)
 
--- the tree of a SELECT over two tables, with its condition of ON, or of one over one table (profile)
+-- the tree of a SELECT over two tables, with its condition of ON, or of one over one table
 abbrev pub joined : Explain → Selection WrittenColumn → WrittenReference → Option WrittenReference → Option (ServedCond true) → Option (ServedCond true) → Result (ServedQuery all_served) QueryFault
 joined told selection first second on condition =
     Ok (record { explain = told; selection = selection; first = first; second = second; on = on; condition = condition; limit = None })
 
--- the tree of a SELECT of all columns of the table t with a condition (profile)
+-- the tree of a SELECT of all columns of the table t with a condition
 abbrev pub all_where : ServedCond true → Result (ServedQuery all_served) QueryFault
 all_where condition = joined explains.No selections.All (table (codes "t") 14) None None (Some condition)
 

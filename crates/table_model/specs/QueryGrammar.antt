@@ -1,5 +1,5 @@
 -- The grammar of queries: a relation for each rule, between a tree and the tokens that are written for it. SELECT over
--- one table or two, after the query expressions of 06-104r4, with its functions (profile). Each part that may be served
+-- one table or two, after the query expressions of 06-104r4, with its functions. Each part that may be served
 -- or not is a parameter.
 use Rattle.std.specs.Prelude.{◌≡◌, ◌≤◌, ◌⊎◌, ℕ, zero, suc, Bool, true, false, ℤ, List, [], ◌∷◌, length, Option, Some, None, Result, Ok, codes}
 use Rattle.std.specs.Str.Parse.{digits_value}
@@ -33,48 +33,48 @@ use Rattle.table_model.specs.Tokens.{tokens, most_bytes}
 
 -- ---- names, columns and operands
 
--- a name is a word that isn't reserved (profile)
+-- a name is a word that isn't reserved
 abbrev pub IsName : Name → Phrase
 IsName name = IsOne (λ t. (t.kind ≡ k.Word) × (name ≡ record { text = t.text; at = t.at }))
 
--- col = name ('.' name)? (profile)
+-- col = name ('.' name)?
 abbrev pub IsColumn : WrittenColumn → Phrase
 IsColumn column ts =
     ((name : Name) × (column ≡ record { reference = None; name = name }) × IsName name ts)
     ⊎ ((reference name : Name) × (column ≡ record { reference = Some reference; name = name }) × (IsName reference ▸ IsToken k.Point ▸ IsName name) ts)
 
--- digits whose number, negated or not, is within 64 bits (profile)
+-- digits whose number, negated or not, is within 64 bits
 abbrev pub IsDigits : Bool → ℤ → Phrase
 IsDigits negative n = IsOne (λ t. (t.kind ≡ k.Integer) × (integer_value negative t.text ≡ Some n))
 
--- ('+' | '-')? integer (profile)
+-- ('+' | '-')? integer
 abbrev pub IsInteger : ℤ → Phrase
 IsInteger n ts = IsDigits false n ts ⊎ (IsToken k.Plus ▸ IsDigits false n) ts ⊎ (IsToken k.Minus ▸ IsDigits true n) ts
 
--- a string's text is what stands between its quotes (profile)
+-- a string's text is what stands between its quotes
 abbrev pub IsString : Name → Phrase
 IsString text = IsOne (λ t. (t.kind ≡ k.Text) × (text ≡ record { text = t.text; at = t.at }))
 
 -- ---- functions
 
--- a function with what stands between its parentheses (profile)
+-- a function with what stands between its parentheses
 abbrev pub IsCall : List ℕ → Phrase → Phrase
 IsCall function P = IsWord function ▸ IsToken k.LeftParenthesis ▸ P ▸ IsToken k.RightParenthesis
 
--- geom = col | 'ST_GeomFromText' '(' string ')' (profile)
+-- geom = col | 'ST_GeomFromText' '(' string ')'
 abbrev pub IsGeometry : WrittenGeometry → Phrase
 IsGeometry geometry ts =
     ((column : WrittenColumn) × (geometry ≡ g.Column column) × IsColumn column ts)
     ⊎ ((text : Name) × (geometry ≡ g.FromText text) × IsCall (codes "ST_GeomFromText") (IsString text) ts)
 
--- 'ST_AsText' '(' geom ')' | 'ST_Dimension' '(' geom ')', where functions are served (profile)
+-- 'ST_AsText' '(' geom ')' | 'ST_Dimension' '(' geom ')', where functions are served
 abbrev pub IsOperandFunction : (functions : Bool) → ServedOperand functions → Phrase
 IsOperandFunction false operand ts = ⊥
 IsOperandFunction true operand ts =
     ((geometry : WrittenGeometry) × (operand ≡ o.AsText (place ts) geometry) × IsCall (codes "ST_AsText") (IsGeometry geometry) ts)
     ⊎ ((geometry : WrittenGeometry) × (operand ≡ o.Dimension (place ts) geometry) × IsCall (codes "ST_Dimension") (IsGeometry geometry) ts)
 
--- operand = col | ('+' | '-')? integer | string | 'NULL' | 'ST_AsText' '(' geom ')' | 'ST_Dimension' '(' geom ')' (profile)
+-- operand = col | ('+' | '-')? integer | string | 'NULL' | 'ST_AsText' '(' geom ')' | 'ST_Dimension' '(' geom ')'
 abbrev pub IsOperand : (functions : Bool) → ServedOperand functions → Phrase
 IsOperand functions operand ts =
     ((column : WrittenColumn) × (operand ≡ o.Column column) × IsColumn column ts)
@@ -85,11 +85,11 @@ IsOperand functions operand ts =
 
 -- ---- predicates
 
--- cmp = '=' | '<>' | '!=' | '<' | '<=' | '>' | '>=' (profile)
+-- cmp = '=' | '<>' | '!=' | '<' | '<=' | '>' | '>='
 abbrev pub IsComparison : Comparison → Phrase
 IsComparison comparison = IsOne (λ t. comparison_of t.kind ≡ Some comparison)
 
--- the name of a predicate of two geometries as a function (06-103r4, 6.1.15.3; the names: profile)
+-- the name of a predicate of two geometries as a function (06-103r4, 6.1.15.3; the names: this project's choice)
 abbrev pub function_of : Predicate → Option (List ℕ)
 function_of p.Equals = Some (codes "ST_Equals")
 function_of p.Disjoint = Some (codes "ST_Disjoint")
@@ -101,12 +101,12 @@ function_of p.Contains = Some (codes "ST_Contains")
 function_of p.Overlaps = Some (codes "ST_Overlaps")
 function_of (p.Relate pattern) = None
 
--- geom ',' geom (profile)
+-- geom ',' geom
 abbrev pub IsPair : WrittenGeometry → WrittenGeometry → Phrase
 IsPair a b = IsGeometry a ▸ IsToken k.Comma ▸ IsGeometry b
 
 -- bool = rel '(' geom ',' geom ')' | 'ST_Relate' '(' geom ',' geom ',' string ')' | 'ST_IsEmpty' '(' geom ')', where
--- functions are served (06-103r4, 6.1.15.3, 6.1.15.2 and 6.1.2.2; profile)
+-- functions are served (06-103r4, 6.1.15.3, 6.1.15.2 and 6.1.2.2)
 abbrev pub IsBool : (functions : Bool) → ServedCond functions → Phrase
 IsBool false x ts = ⊥
 IsBool true x ts =
@@ -116,18 +116,18 @@ IsBool true x ts =
     × IsCall (codes "ST_Relate") (IsGeometry a ▸ IsToken k.Comma ▸ IsGeometry b ▸ IsToken k.Comma ▸ IsString pattern) ts)
     ⊎ ((a : WrittenGeometry) × (x ≡ c.IsEmpty (place ts) a) × IsCall (codes "ST_IsEmpty") (IsGeometry a) ts)
 
--- an integer without a sign, of a value (profile)
+-- an integer without a sign, of a value
 abbrev pub IsNumber : ℕ → Phrase
 IsNumber n = IsOne (λ t. (t.kind ≡ k.Integer) × (digits_value 10 t.text ≡ n))
 
--- ('=' ('1' | '0'))? after a bool: `= 1` means it, `= 0` its NOT (profile)
+-- ('=' ('1' | '0'))? after a bool: `= 1` means it, `= 0` its NOT
 abbrev pub IsTest : {A : Type 0} → WrittenCond A → WrittenCond A → Phrase
 IsTest bool x ts =
     ((x ≡ bool) × (ts ≡ []))
     ⊎ ((x ≡ bool) × (IsToken k.Equal ▸ IsNumber 1) ts)
     ⊎ ((x ≡ c.Not bool) × (IsToken k.Equal ▸ IsNumber 0) ts)
 
--- pred = operand cmp operand | operand 'IS' 'NOT'? 'NULL' | bool ('=' ('1' | '0'))?, for a rule of operands (profile)
+-- pred = operand cmp operand | operand 'IS' 'NOT'? 'NULL' | bool ('=' ('1' | '0'))?, for a rule of operands
 abbrev pub IsPredicateOf : (functions : Bool) → (ServedOperand functions → Phrase) → ServedCond functions → Phrase
 IsPredicateOf functions P x ts =
     ((comparison : Comparison) × (left right : ServedOperand functions) × (x ≡ c.Compare (place ts) comparison left right)
@@ -136,26 +136,26 @@ IsPredicateOf functions P x ts =
     ⊎ ((operand : ServedOperand functions) × (x ≡ c.Not (c.IsNull operand)) × (P operand ▸ IsToken k.Is ▸ IsToken k.Not ▸ IsToken k.Null) ts)
     ⊎ ((bool : ServedCond functions) × (IsBool functions bool ▸ IsTest bool x) ts)
 
--- pred, of operands (profile)
+-- pred, of operands
 abbrev pub IsPredicate : (functions : Bool) → ServedCond functions → Phrase
 IsPredicate functions = IsPredicateOf functions (IsOperand functions)
 
 -- ---- conditions
 
--- one part alone, or two and more with a word between them (profile)
+-- one part alone, or two and more with a word between them
 abbrev pub IsChain : {A : Type 0} → TokenKind → (List (WrittenCond A) → WrittenCond A) → (WrittenCond A → Phrase) → WrittenCond A → Phrase
 IsChain {A} between join P x ts =
     P x ts ⊎ ((first second : WrittenCond A) × (more : List (WrittenCond A)) × (x ≡ join (first ∷ second ∷ more)) × IsParts between P first (second ∷ more) ts)
 
--- conj = neg ('AND' neg)* (profile)
+-- conj = neg ('AND' neg)*
 abbrev pub IsConjunction : {A : Type 0} → (WrittenCond A → Phrase) → WrittenCond A → Phrase
 IsConjunction = IsChain k.And c.And
 
--- cond = conj ('OR' conj)* (profile)
+-- cond = conj ('OR' conj)*
 abbrev pub IsConditionOf : {A : Type 0} → (WrittenCond A → Phrase) → WrittenCond A → Phrase
 IsConditionOf P = IsChain k.Or c.Or (IsConjunction P)
 
--- neg = 'NOT' neg | '(' cond ')' | pred, where so many NOT and parentheses may nest, for a rule of predicates (profile)
+-- neg = 'NOT' neg | '(' cond ')' | pred, where so many NOT and parentheses may nest, for a rule of predicates
 unfoldable pub IsNegationOf : {A : Type 0} → (WrittenCond A → Phrase) → ℕ → WrittenCond A → Phrase
 IsNegationOf P zero x ts = P x ts
 IsNegationOf {A} P (suc levels) x ts =
@@ -163,17 +163,17 @@ IsNegationOf {A} P (suc levels) x ts =
     ⊎ (IsToken k.LeftParenthesis ▸ IsConditionOf (IsNegationOf P levels) x ▸ IsToken k.RightParenthesis) ts
     ⊎ P x ts
 
--- neg, of predicates (profile)
+-- neg, of predicates
 abbrev pub IsNegation : (functions : Bool) → ℕ → ServedCond functions → Phrase
 IsNegation functions = IsNegationOf (IsPredicate functions)
 
--- a condition in which NOT and parentheses nest to 64 levels at most (profile)
+-- a condition in which NOT and parentheses nest to 64 levels at most
 abbrev pub IsCondition : (functions : Bool) → ServedCond functions → Phrase
 IsCondition functions = IsConditionOf (IsNegation functions most_levels)
 
 -- ---- the select list
 
--- 'ST_AsText' '(' col ')' | 'ST_Dimension' '(' col ')' | 'ST_IsEmpty' '(' col ')', where functions are served (profile)
+-- 'ST_AsText' '(' col ')' | 'ST_Dimension' '(' col ')' | 'ST_IsEmpty' '(' col ')', where functions are served
 abbrev pub IsItemFunction : (functions : Bool) → ServedItem functions → Phrase
 IsItemFunction false item ts = ⊥
 IsItemFunction true item ts =
@@ -181,7 +181,7 @@ IsItemFunction true item ts =
     ⊎ ((column : WrittenColumn) × (item ≡ i.Dimension (place ts) column) × IsCall (codes "ST_Dimension") (IsColumn column) ts)
     ⊎ ((column : WrittenColumn) × (item ≡ i.IsEmpty (place ts) column) × IsCall (codes "ST_IsEmpty") (IsColumn column) ts)
 
--- item = col | 'ST_AsText' '(' col ')' | 'ST_Dimension' '(' col ')' | 'ST_IsEmpty' '(' col ')' (profile)
+-- item = col | 'ST_AsText' '(' col ')' | 'ST_Dimension' '(' col ')' | 'ST_IsEmpty' '(' col ')'
 abbrev pub IsItem : (functions : Bool) → ServedItem functions → Phrase
 IsItem functions item ts =
     ((column : WrittenColumn) × (item ≡ i.Column column) × IsColumn column ts)
@@ -197,22 +197,22 @@ IsSelection served selection ts =
 
 -- ---- table references
 
--- ref = name ('AS'? name)? (profile)
+-- ref = name ('AS'? name)?
 abbrev pub IsReference : WrittenReference → Phrase
 IsReference reference ts =
     ((table : Name) × (reference ≡ record { table = table; alias = None }) × IsName table ts)
     ⊎ ((table alias : Name) × (reference ≡ record { table = table; alias = Some alias }) × (IsName table ▸ IsName alias) ts)
     ⊎ ((table alias : Name) × (reference ≡ record { table = table; alias = Some alias }) × (IsName table ▸ IsToken k.As ▸ IsName alias) ts)
 
--- ',' ref | 'CROSS' 'JOIN' ref, a second reference without a condition (profile)
+-- ',' ref | 'CROSS' 'JOIN' ref, a second reference without a condition
 abbrev pub IsCrossed : WrittenReference → Phrase
 IsCrossed reference ts = (IsToken k.Comma ▸ IsReference reference) ts ⊎ (IsToken k.Cross ▸ IsToken k.Join ▸ IsReference reference) ts
 
--- 'INNER'? 'JOIN' ref 'ON' cond (profile)
+-- 'INNER'? 'JOIN' ref 'ON' cond
 abbrev pub IsJoined : (functions : Bool) → WrittenReference → ServedCond functions → Phrase
 IsJoined functions reference on = IsOptional k.Inner ▸ IsToken k.Join ▸ IsReference reference ▸ IsToken k.On ▸ IsCondition functions on
 
--- second? where second = ',' ref | 'CROSS' 'JOIN' ref | 'INNER'? 'JOIN' ref 'ON' cond, where it is served (profile)
+-- second? where second = ',' ref | 'CROSS' 'JOIN' ref | 'INNER'? 'JOIN' ref 'ON' cond, where it is served
 abbrev pub IsSecond : (served : Served) → Option WrittenReference → Option (ServedCond served.functions) → Phrase
 IsSecond served second on ts =
     ((second ≡ None) × (on ≡ None) × (ts ≡ []))
@@ -222,7 +222,7 @@ IsSecond served second on ts =
 
 -- ---- queries
 
--- ('WHERE' cond)? (profile)
+-- ('WHERE' cond)?
 abbrev pub IsWhere : (functions : Bool) → Option (ServedCond functions) → Phrase
 IsWhere functions condition ts =
     ((condition ≡ None) × (ts ≡ []))
@@ -238,7 +238,7 @@ IsLimit served limit ts =
     ((limit ≡ None) × (ts ≡ []))
     ⊎ ((served.limit ≡ true) × (n : ℕ) × (limit ≡ Some n) × (IsToken k.Limit ▸ IsRowCount n) ts)
 
--- ('EXPLAIN' 'ANALYZE'?)?, where they are served; neither word is reserved (profile)
+-- ('EXPLAIN' 'ANALYZE'?)?, where they are served; neither word is reserved
 abbrev pub IsExplain : Served → Explain → Phrase
 IsExplain served told ts =
     ((told ≡ explain.No) × (ts ≡ []))
@@ -253,10 +253,10 @@ IsSelect served query =
     ▸ IsReference query.first ▸ IsSecond served query.second query.on ▸ IsWhere served.functions query.condition
     ▸ IsLimit served query.limit ▸ IsOptional k.Semicolon ▸ IsToken k.End
 
--- A text is a query: it isn't too long, it is made of tokens, and these are written for the tree (profile).
+-- A text is a query: it isn't too long, it is made of tokens, and these are written for the tree.
 unfoldable pub IsQuery : (served : Served) → List ℕ → ServedQuery served → Type 0
 IsQuery served text query = (length text ≤ most_bytes) × (bad_place (tokens true text) ≡ None) × IsSelect served query (tokens true text)
 
--- a reader of a text answers the query that it is, whichever that is; want of memory may stand in its place (profile)
+-- a reader of a text answers the query that it is, whichever that is; want of memory may stand in its place
 abbrev pub AnswersQuery : (served : Served) → List ℕ → Result (ServedQuery served) QueryFault → Type 0
 AnswersQuery served text result = (query : ServedQuery served) → IsQuery served text query → Gives fault.OutOfMemory (λ q. q) result (Ok query)

@@ -1,5 +1,5 @@
 -- Reading of a query: the tree of a text, or the first fault from left to right. SELECT over one table or two, after
--- the query expressions of 06-104r4, with its functions (profile). Each part that may be served or not is a parameter.
+-- the query expressions of 06-104r4, with its functions. Each part that may be served or not is a parameter.
 use Rattle.std.specs.Prelude.{ℕ, zero, suc, ◌^◌, Bool, true, false, not, ◌&&◌, ◌||◌, if◌then◌else◌, ◌==◌, nat_le, nat_lt, ℤ, pos, neg_ℤ, List, [], ◌∷◌, length, Option, Some, None, Result, Ok, Err, codes}
 use Rattle.std.specs.Str.Parse.{digits_value}
 use Rattle.geometry_model.specs.declared.relations.Predicate.{Predicate}
@@ -31,17 +31,17 @@ use Rattle.table_model.specs.Served.{Served, ItemArgument, ServedOperand, Served
 use Rattle.table_model.specs.Texts.{same_name}
 use Rattle.table_model.specs.Tokens.{same_kind, tokens, most_bytes}
 
--- a reader of a part of a query (profile)
+-- a reader of a part of a query
 abbrev pub Reader : Type 0 → Type 0
 Reader = Parser QueryFault
 
 -- ---- names and columns
 
--- A word that isn't reserved. With `(` after it, it is a function and no name (profile).
+-- A word that isn't reserved. With `(` after it, it is a function and no name.
 unfoldable pub name : Reader Name
 name ts = if sees k.Word ts && not (sees k.LeftParenthesis (next ts)) then Ok (written ts, next ts) else Err (fault.Syntax (place ts))
 
--- col = name ('.' name)? (profile)
+-- col = name ('.' name)?
 unfoldable pub column : Reader WrittenColumn
 column = do
   first ← name
@@ -50,20 +50,20 @@ column = do
 
 -- ---- functions
 
--- whether a function of this name, in any ASCII case, is called next: a word that isn't reserved, and `(` (profile)
+-- whether a function of this name, in any ASCII case, is called next: a word that isn't reserved, and `(`
 unfoldable pub calls : List ℕ → List Token → Bool
 calls function ts = sees k.Word ts && sees k.LeftParenthesis (next ts) && same_name (spelling ts) function
 
--- functions by their names, each with the reader of what stands after its name (profile)
+-- functions by their names, each with the reader of what stands after its name
 abbrev pub Functions : Type 0 → Type 0
 Functions A = List (List ℕ × Reader A)
 
--- the rest of a call of the first of some functions that is called next; where none is, what another reader reads (profile)
+-- the rest of a call of the first of some functions that is called next; where none is, what another reader reads
 abbrev pub called_or : {A : Type 0} → Functions A → Reader A → Reader A
 called_or [] other ts = other ts
 called_or (f ∷ more) other ts = if calls f.0 ts then f.1 (next ts) else called_or more other ts
 
--- what stands between parentheses (profile)
+-- what stands between parentheses
 abbrev pub enclosed : {A : Type 0} → Reader A → Reader A
 enclosed inside = do
   expect fault.Syntax k.LeftParenthesis
@@ -71,32 +71,32 @@ enclosed inside = do
   expect fault.Syntax k.RightParenthesis
   pure x
 
--- a string (profile)
+-- a string
 unfoldable pub string : Reader Name
 string ts = if sees k.Text ts then Ok (written ts, next ts) else Err (fault.Syntax (place ts))
 
--- geom = col | 'ST_GeomFromText' '(' string ')' (profile)
+-- geom = col | 'ST_GeomFromText' '(' string ')'
 unfoldable pub geometry : Reader WrittenGeometry
 geometry = called_or ((codes "ST_GeomFromText", enclosed (g.FromText <$> string)) ∷ []) (g.Column <$> column)
 
 -- ---- operands
 
--- the number of digits with a sign, within 64 bits (profile)
+-- the number of digits with a sign, within 64 bits
 abbrev pub integer_value : Bool → List ℕ → Option ℤ
 integer_value true digits = if nat_le (digits_value 10 digits) (2 ^ 63) then Some (neg_ℤ (pos (digits_value 10 digits))) else None
 integer_value false digits = if nat_lt (digits_value 10 digits) (2 ^ 63) then Some (pos (digits_value 10 digits)) else None
 
--- the integer, or Q12 at its first digit (profile)
+-- the integer, or Q12 at its first digit
 abbrev pub integer_or : {A : Type 0} → Option ℤ → ℕ → List Token → Outcome QueryFault (WrittenOperand A)
 integer_or None at rest = Err (fault.NumberTooBig at)
 integer_or (Some n) at rest = Ok (o.Integer n, rest)
 
--- digits, after a minus or not (profile)
+-- digits, after a minus or not
 unfoldable pub integer : {A : Type 0} → Bool → Reader (WrittenOperand A)
 integer negative ts =
     if sees k.Integer ts then integer_or (integer_value negative (spelling ts)) (place ts) (next ts) else Err (fault.Syntax (place ts))
 
--- the functions that are operands, where functions are served; the number is the byte of the name (profile)
+-- the functions that are operands, where functions are served; the number is the byte of the name
 abbrev pub operand_functions : (functions : Bool) → ℕ → Functions (ServedOperand functions)
 operand_functions false at = []
 operand_functions true at =
@@ -104,7 +104,7 @@ operand_functions true at =
     ∷ (codes "ST_Dimension", enclosed (o.Dimension at <$> geometry))
     ∷ []
 
--- operand = col | ('+' | '-')? integer | string | 'NULL' | 'ST_AsText' '(' geom ')' | 'ST_Dimension' '(' geom ')' (profile)
+-- operand = col | ('+' | '-')? integer | string | 'NULL' | 'ST_AsText' '(' geom ')' | 'ST_Dimension' '(' geom ')'
 unfoldable pub operand : (functions : Bool) → Reader (ServedOperand functions)
 operand functions ts =
     if sees k.Null ts then Ok (o.Null, next ts)
@@ -116,7 +116,7 @@ operand functions ts =
 
 -- ---- predicates
 
--- cmp = '=' | '<>' | '!=' | '<' | '<=' | '>' | '>=' (profile)
+-- cmp = '=' | '<>' | '!=' | '<' | '<=' | '>' | '>='
 abbrev pub comparison_of : TokenKind → Option Comparison
 comparison_of k.Equal = Some m.Equal
 comparison_of k.NotEqual = Some m.NotEqual
@@ -126,43 +126,43 @@ comparison_of k.Greater = Some m.Greater
 comparison_of k.GreaterOrEqual = Some m.GreaterOrEqual
 comparison_of _ = None
 
--- the rest of a comparison by its sign; where there is none the token can't stand there (profile)
+-- the rest of a comparison by its sign; where there is none the token can't stand there
 abbrev pub compared_by : (functions : Bool) → ℕ → ServedOperand functions → Option Comparison → Reader (ServedCond functions)
 compared_by functions at left None = refuse fault.Syntax
 compared_by functions at left (Some comparison) = λ ts. (c.Compare at comparison left <$> operand functions) (next ts)
 
--- the rest of a comparison, after its left side (profile)
+-- the rest of a comparison, after its left side
 unfoldable pub compared : (functions : Bool) → ℕ → ServedOperand functions → Reader (ServedCond functions)
 compared functions at left ts = compared_by functions at left (comparison_of (kind ts)) ts
 
--- the rest of IS NULL or IS NOT NULL, after IS (profile)
+-- the rest of IS NULL or IS NOT NULL, after IS
 unfoldable pub null_test : {A : Type 0} → WrittenOperand A → Reader (WrittenCond A)
 null_test left = do
   negated ← eat k.Not
   expect fault.Syntax k.Null
   pure (if negated then c.Not (c.IsNull left) else c.IsNull left)
 
--- operand cmp operand | operand 'IS' 'NOT'? 'NULL' (profile)
+-- operand cmp operand | operand 'IS' 'NOT'? 'NULL'
 unfoldable pub comparison : (functions : Bool) → Reader (ServedCond functions)
 comparison functions = λ ts. (do
   left ← operand functions
   tests ← eat k.Is
   if tests then null_test left else compared functions (place ts) left) ts
 
--- '1' or '0' after a predicate and '=', an integer token of that value: the predicate, or its NOT (profile)
+-- '1' or '0' after a predicate and '=', an integer token of that value: the predicate, or its NOT
 unfoldable pub truth_value : {A : Type 0} → WrittenCond A → Reader (WrittenCond A)
 truth_value x ts =
     if sees k.Integer ts && digits_value 10 (spelling ts) == 1 then Ok (x, next ts)
     else (if sees k.Integer ts && digits_value 10 (spelling ts) == 0 then Ok (c.Not x, next ts)
     else Err (fault.Syntax (place ts)))
 
--- ('=' ('1' | '0'))? after a predicate (profile)
+-- ('=' ('1' | '0'))? after a predicate
 unfoldable pub truth_test : {A : Type 0} → WrittenCond A → Reader (WrittenCond A)
 truth_test x = do
   tested ← eat k.Equal
   if tested then truth_value x else pure x
 
--- the arguments of a predicate, and what it is compared with (profile)
+-- the arguments of a predicate, and what it is compared with
 abbrev pub tested : {A : Type 0} → Reader (WrittenCond A) → Reader (WrittenCond A)
 tested arguments = enclosed arguments >>= truth_test
 
@@ -185,7 +185,7 @@ relates_by at = do
   pure (c.Relates at (w.Relate pattern) a b)
 
 -- The functions that are predicates, where functions are served; the number is the byte of the name (06-103r4, 6.1.15.3
--- and 6.1.2.2; their names: profile).
+-- and 6.1.2.2; their names: this project's choice).
 abbrev pub predicate_functions : (functions : Bool) → ℕ → Functions (ServedCond functions)
 predicate_functions false at = []
 predicate_functions true at =
@@ -201,56 +201,56 @@ predicate_functions true at =
     ∷ (codes "ST_IsEmpty", tested (c.IsEmpty at <$> geometry))
     ∷ []
 
--- pred = operand cmp operand | operand 'IS' 'NOT'? 'NULL' | bool ('=' ('1' | '0'))? (profile)
+-- pred = operand cmp operand | operand 'IS' 'NOT'? 'NULL' | bool ('=' ('1' | '0'))?
 unfoldable pub predicate : (functions : Bool) → Reader (ServedCond functions)
 predicate functions ts = called_or (predicate_functions functions (place ts)) (comparison functions) ts
 
 -- ---- conditions
 
--- the tree of a first part, read with the word after it, and of those that follow (profile)
+-- the tree of a first part, read with the word after it, and of those that follow
 abbrev pub joined : {A : Type 0} → TokenKind → (List (WrittenCond A) → WrittenCond A) → Reader (WrittenCond A) → WrittenCond A → Reader (WrittenCond A)
 joined between join part first = join <$> parts fault.Syntax between part (first ∷ [])
 
--- parts with a word between them make one tree; a part alone is itself (profile)
+-- parts with a word between them make one tree; a part alone is itself
 abbrev pub chain : {A : Type 0} → TokenKind → (List (WrittenCond A) → WrittenCond A) → Reader (WrittenCond A) → Reader (WrittenCond A)
 chain between join part = do
   first ← part
   more ← eat between
   if more then joined between join part first else pure first
 
--- conj = neg ('AND' neg)*, for a reader of neg (profile)
+-- conj = neg ('AND' neg)*, for a reader of neg
 abbrev pub conjunction : {A : Type 0} → Reader (WrittenCond A) → Reader (WrittenCond A)
 conjunction part = chain k.And c.And part
 
--- cond = conj ('OR' conj)* (profile)
+-- cond = conj ('OR' conj)*
 abbrev pub condition_of : {A : Type 0} → Reader (WrittenCond A) → Reader (WrittenCond A)
 condition_of part = chain k.Or c.Or (conjunction part)
 
--- the rest of '(' cond ')' (profile)
+-- the rest of '(' cond ')'
 abbrev pub group : {A : Type 0} → Reader (WrittenCond A) → Reader (WrittenCond A)
 group part = do
   inner ← condition_of part
   expect fault.Syntax k.RightParenthesis
   pure inner
 
--- neg = 'NOT' neg | '(' cond ')' | pred, where so many NOT and parentheses may still nest (profile)
+-- neg = 'NOT' neg | '(' cond ')' | pred, where so many NOT and parentheses may still nest
 unfoldable pub negation : (functions : Bool) → ℕ → Reader (ServedCond functions)
 negation functions zero ts = if sees k.Not ts || sees k.LeftParenthesis ts then Err (fault.TooDeep (place ts)) else predicate functions ts
 negation functions (suc levels) ts =
     if sees k.Not ts then (c.Not <$> negation functions levels) (next ts)
     else (if sees k.LeftParenthesis ts then group (negation functions levels) (next ts) else predicate functions ts)
 
--- how deep conditions may nest (profile)
+-- how deep conditions may nest
 abbrev pub most_levels : ℕ
 most_levels = 64
 
--- cond, of 64 levels at most (profile)
+-- cond, of 64 levels at most
 abbrev pub condition : (functions : Bool) → Reader (ServedCond functions)
 condition functions = condition_of (negation functions most_levels)
 
 -- ---- the select list
 
--- the functions of the select list, where functions are served; the number is the byte of the name (06-103r4, 6.1.2.2; profile)
+-- the functions of the select list, where functions are served; the number is the byte of the name (06-103r4, 6.1.2.2)
 abbrev pub item_functions : (functions : Bool) → ℕ → Functions (ServedItem functions)
 item_functions false at = []
 item_functions true at =
@@ -259,11 +259,11 @@ item_functions true at =
     ∷ (codes "ST_IsEmpty", enclosed (i.IsEmpty at <$> column))
     ∷ []
 
--- item = col | 'ST_AsText' '(' col ')' | 'ST_Dimension' '(' col ')' | 'ST_IsEmpty' '(' col ')' (profile)
+-- item = col | 'ST_AsText' '(' col ')' | 'ST_Dimension' '(' col ')' | 'ST_IsEmpty' '(' col ')'
 unfoldable pub item : (functions : Bool) → Reader (ServedItem functions)
 item functions ts = called_or (item_functions functions (place ts)) (i.Column <$> column) ts
 
--- item (',' item)* (profile)
+-- item (',' item)*
 abbrev pub items : (functions : Bool) → Reader (List (ServedItem functions))
 items functions = parts fault.Syntax k.Comma (item functions) []
 
@@ -284,28 +284,28 @@ selection served ts =
 
 -- ---- table references
 
--- ('AS'? name)? (profile)
+-- ('AS'? name)?
 unfoldable pub alias : Reader (Option Name)
 alias ts =
     if sees k.As ts then (Some <$> name) (next ts)
     else (if sees k.Word ts then (Some <$> name) ts else Ok (None, ts))
 
--- ref = name ('AS'? name)? (profile)
+-- ref = name ('AS'? name)?
 unfoldable pub reference : Reader WrittenReference
 reference = do
   table ← name
   alias ← alias
   pure (record { table = table; alias = alias })
 
--- a second reference and its condition of ON, or neither (profile)
+-- a second reference and its condition of ON, or neither
 abbrev pub Second : Bool → Type 0
 Second functions = Option WrittenReference × Option (ServedCond functions)
 
--- ref, which has no condition (profile)
+-- ref, which has no condition
 unfoldable pub crossed : (functions : Bool) → Reader (Second functions)
 crossed functions = (λ reference. (Some reference, None)) <$> reference
 
--- 'JOIN' ref 'ON' cond (profile)
+-- 'JOIN' ref 'ON' cond
 unfoldable pub joined_on : (functions : Bool) → Reader (Second functions)
 joined_on functions = do
   expect fault.Syntax k.Join
@@ -314,7 +314,7 @@ joined_on functions = do
   x ← condition functions
   pure (Some reference, Some x)
 
--- second? where second = ',' ref | 'CROSS' 'JOIN' ref | 'INNER'? 'JOIN' ref 'ON' cond, where it is served (profile)
+-- second? where second = ',' ref | 'CROSS' 'JOIN' ref | 'INNER'? 'JOIN' ref 'ON' cond, where it is served
 abbrev pub second : (served : Served) → Reader (Second served.functions)
 second served ts =
     if served.second_reference && sees k.Comma ts then crossed served.functions (next ts)
@@ -324,7 +324,7 @@ second served ts =
 
 -- ---- queries
 
--- ('WHERE' cond)? (profile)
+-- ('WHERE' cond)?
 unfoldable pub where_condition : (functions : Bool) → Reader (Option (ServedCond functions))
 where_condition functions = do
   filters ← eat k.Where
@@ -347,15 +347,15 @@ limit_number ts = if sees k.Integer ts then limit_or (limit_value (spelling ts))
 abbrev pub limited : Served → Reader (Option ℕ)
 limited served ts = if served.limit && sees k.Limit ts then limit_number (next ts) else Ok (None, ts)
 
--- Whether this word stands next, in any ASCII case. It isn't reserved; with `(` after it, it is a function (profile).
+-- Whether this word stands next, in any ASCII case. It isn't reserved; with `(` after it, it is a function.
 unfoldable pub says : List ℕ → List Token → Bool
 says word ts = sees k.Word ts && not (sees k.LeftParenthesis (next ts)) && same_name (spelling ts) word
 
--- 'ANALYZE'? after EXPLAIN, where it is served (profile)
+-- 'ANALYZE'? after EXPLAIN, where it is served
 abbrev pub analyzed : Served → Reader Explain
 analyzed served ts = if served.analyze && says (codes "ANALYZE") ts then Ok (explain.Analyze, next ts) else Ok (explain.Plan, ts)
 
--- ('EXPLAIN' 'ANALYZE'?)?, where it is served (profile)
+-- ('EXPLAIN' 'ANALYZE'?)?, where it is served
 abbrev pub explained : Served → Reader Explain
 explained served ts = if served.explain && says (codes "EXPLAIN") ts then analyzed served (next ts) else Ok (explain.No, ts)
 
@@ -375,16 +375,16 @@ query served = do
   expect fault.Syntax k.End
   pure (record { explain = told; selection = selection; first = first; second = second.0; on = second.1; condition = condition; limit = limit })
 
--- the place of the bad token, where there is one (profile)
+-- the place of the bad token, where there is one
 abbrev pub bad_place : List Token → Option ℕ
 bad_place [] = None
 bad_place (t ∷ ts) = if same_kind t.kind k.Bad then Some t.at else bad_place ts
 
--- Q1 at a bad token, and else the query that the tokens are (profile)
+-- Q1 at a bad token, and else the query that the tokens are
 abbrev pub query_by : (served : Served) → Option ℕ → List Token → Result (ServedQuery served) QueryFault
 query_by served (Some at) ts = Err (fault.Lex at)
 query_by served None ts = value_of (query served ts)
 
--- The query that a text is, or its fault: its length first, then its tokens, then its grammar (profile).
+-- The query that a text is, or its fault: its length first, then its tokens, then its grammar.
 unfoldable pub query_of : (served : Served) → List ℕ → Result (ServedQuery served) QueryFault
 query_of served text = if nat_lt most_bytes (length text) then Err fault.TooLong else query_by served (bad_place (tokens true text)) (tokens true text)

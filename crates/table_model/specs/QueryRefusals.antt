@@ -19,31 +19,31 @@ use Rattle.table_model.specs.Phrases.{Phrase, IsToken, ◌▸◌, IsOptional, Ar
 
 -- ---- the grammar with those rules set aside
 
--- ('+' | '-')? integer, of any size (profile)
+-- ('+' | '-')? integer, of any size
 abbrev pub IsAnyInteger : Phrase
 IsAnyInteger ts = IsToken k.Integer ts ⊎ (IsToken k.Plus ▸ IsToken k.Integer) ts ⊎ (IsToken k.Minus ▸ IsToken k.Integer) ts
 
--- an operand, or an integer of any size in its place (profile)
+-- an operand, or an integer of any size in its place
 abbrev pub IsAnyOperand : (functions : Bool) → ServedOperand functions → Phrase
 IsAnyOperand functions operand ts = IsOperand functions operand ts ⊎ IsAnyInteger ts
 
--- neg, of such operands, where NOT and parentheses nest to any number of levels (profile)
+-- neg, of such operands, where NOT and parentheses nest to any number of levels
 abbrev pub IsAnyNegation : (functions : Bool) → ServedCond functions → Phrase
 IsAnyNegation functions x ts = (levels : ℕ) × IsNegationOf (IsPredicateOf functions (IsAnyOperand functions)) levels x ts
 
--- cond, of such parts (profile)
+-- cond, of such parts
 abbrev pub IsAnyCondition : (functions : Bool) → ServedCond functions → Phrase
 IsAnyCondition functions = IsConditionOf (IsAnyNegation functions)
 
 -- ---- fronts of it
 
--- what stands up to the first table reference (profile)
+-- what stands up to the first table reference
 abbrev pub BeforeSecond : Served → Phrase
 BeforeSecond served ts =
     (told : Explain) × (selection : Selection (ItemArgument served.functions)) × (first : WrittenReference)
     × (IsExplain served told ▸ IsToken k.Select ▸ IsSelection served selection ▸ IsToken k.From ▸ IsReference first) ts
 
--- what stands before the condition of ON (profile)
+-- what stands before the condition of ON
 abbrev pub BeforeOn : Served → Phrase
 BeforeOn served ts =
     (served.second_reference ≡ true) × (second : WrittenReference)
@@ -69,20 +69,20 @@ IsAnyWhere functions ts =
 abbrev pub BeforeLimit : Served → Phrase
 BeforeLimit served ts = (served.limit ≡ true) × (ThroughFrom served ▸ IsAnyWhere served.functions ▸ IsToken k.Limit) ts
 
--- the parts of a condition that stand before one more: (conj 'OR')* (neg 'AND')* (profile)
+-- the parts of a condition that stand before one more: (conj 'OR')* (neg 'AND')*
 abbrev pub AreParts : Bool → Phrase
 AreParts functions ts =
     (ors ands : List (ServedCond functions))
     × (AreEnded (IsToken k.Or) (IsConjunction (IsAnyNegation functions)) ors ▸ AreEnded (IsToken k.And) (IsAnyNegation functions) ands) ts
 
--- what stands before a neg at which so many NOT and parentheses are open (profile)
+-- what stands before a neg at which so many NOT and parentheses are open
 unfoldable pub BeforeNegation : Served → ℕ → Phrase
 BeforeNegation served zero ts = ((BeforeOn served ▸ AreParts served.functions) ts) ⊎ ((BeforeWhere served ▸ AreParts served.functions) ts)
 BeforeNegation served (suc opened) ts =
     (BeforeNegation served opened ▸ IsToken k.Not) ts
     ⊎ (BeforeNegation served opened ▸ IsToken k.LeftParenthesis ▸ AreParts served.functions) ts
 
--- what stands before an operand: before a predicate, or between a comparison's left side and its right (profile)
+-- what stands before an operand: before a predicate, or between a comparison's left side and its right
 abbrev pub BeforeOperand : Served → Phrase
 BeforeOperand served ts =
     (opened : ℕ)
@@ -92,7 +92,7 @@ BeforeOperand served ts =
 
 -- ---- the refusals
 
--- too deep: the NOT or the parenthesis that opens the 65th level (profile)
+-- too deep: the NOT or the parenthesis that opens the 65th level
 abbrev pub IsTooDeep : Served → List Token → Token → Type 0
 IsTooDeep served before t = ((t.kind ≡ k.Not) ⊎ (t.kind ≡ k.LeftParenthesis)) × BeforeNegation served most_levels before
 
@@ -105,30 +105,30 @@ IsTooBig served before t =
     ⊎ ((integer_value true t.text ≡ None) × (BeforeOperand served ▸ IsToken k.Minus) before)
     ⊎ ((limit_value t.text ≡ None) × BeforeLimit served before))
 
--- a fault stands at a token, after these tokens; none of the others is one at a token (profile)
+-- a fault stands at a token, after these tokens; none of the others is one at a token
 abbrev pub StandsAt : Served → List Token → Token → QueryFault → Type 0
 StandsAt served before t (fault.TooDeep at) = (at ≡ t.at) × IsTooDeep served before t
 StandsAt served before t (fault.NumberTooBig at) = (at ≡ t.at) × IsTooBig served before t
 StandsAt served before t _ = ⊥
 
--- a fault stands at one of these tokens (profile)
+-- a fault stands at one of these tokens
 abbrev pub StandsIn : Served → List Token → QueryFault → Type 0
 StandsIn served ts f = (before after : List Token) × (t : Token) × (ts ≡ before ++ t ∷ after) × StandsAt served before t f
 
--- whether a fault is one of those at a token: too deep, too big (profile)
+-- whether a fault is one of those at a token: too deep, too big
 abbrev pub is_at_token : QueryFault → Bool
 is_at_token (fault.TooDeep at) = true
 is_at_token (fault.NumberTooBig at) = true
 is_at_token _ = false
 
--- a fault that is one of those at a token stands in the text, which isn't too long and is made of tokens (profile)
+-- a fault that is one of those at a token stands in the text, which isn't too long and is made of tokens
 abbrev pub StandsInQuery : Served → List ℕ → QueryFault → Type 0
 StandsInQuery served text f =
     is_at_token f ≡ true → (length text ≤ most_bytes) × (bad_place (tokens true text) ≡ None) × StandsIn served (tokens true text) f
 
 -- Where a fault stands at a token of a text that isn't too long and is made of tokens, a reader answers one that stands
 -- at that token or before it: so the first that stands is answered, and a query or another fault only where none
--- stands. Want of memory may stand in its place (profile).
+-- stands. Want of memory may stand in its place.
 abbrev pub AnswersFirst : (served : Served) → List ℕ → Result (ServedQuery served) QueryFault → Type 0
 AnswersFirst served text result = (before after : List Token) (t : Token) (g : QueryFault)
     → length text ≤ most_bytes → bad_place (tokens true text) ≡ None → tokens true text ≡ before ++ t ∷ after → StandsAt served before t g

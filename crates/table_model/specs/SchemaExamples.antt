@@ -11,6 +11,6 @@ use Rattle.table_model.specs.declared.faults.SchemaFault.{SchemaFault}
 abbrev pub shown : List ℕ → Result (List (TableDef ColumnShape)) SchemaFault
 shown text = schema_of shape_named text
 
--- a table of a key and a geometry column (profile)
+-- a table of a key and a geometry column
 abbrev pub keyed : List ℕ → ColumnShape → TableDef ColumnShape
 keyed name shape = record { name = name; columns = column (codes "id") columns.Integer ∷ column (codes "geom") (columns.Geometry shape) ∷ []; key = 0 }

@@ -1,5 +1,4 @@
--- The grammar of schemas: a relation for each rule, between a tree and the tokens that are written for it (profile,
--- after SQL's CREATE TABLE). Generic in what names a type of geometry.
+-- The grammar of schemas: a relation for each rule, between a tree and the tokens that are written for it (after SQL's CREATE TABLE). Generic in what names a type of geometry.
 use Rattle.std.specs.Prelude.{◌≡◌, ◌≤◌, ◌⊎◌, ◌+◌, ℕ, Bool, true, false, if◌then◌else◌, List, [], ◌∷◌, map, codes, length, Option, Some, Result, Ok}
 use Rattle.table_model.specs.Definitions.{lawful}
 use Rattle.table_model.specs.Outcomes.{Gives}
@@ -13,46 +12,46 @@ use Rattle.table_model.specs.declared.faults.SchemaFault.TheVariants as fault
 use Rattle.table_model.specs.declared.tokens.TokenKind.TheVariants as k
 use Rattle.table_model.specs.Phrases.{Phrase, IsOne, IsToken, ◌▸◌, IsOptional, IsParts, IsWord}
 
--- a name: a word that isn't reserved (profile)
+-- a name: a word that isn't reserved
 abbrev pub IsNamed : List ℕ → Phrase
 IsNamed name = IsOne (λ t. (t.kind ≡ k.Word) × (name ≡ t.text))
 
--- type = 'INTEGER' | 'INT' | 'BIGINT' | 'TEXT', or the name of a type of geometry (profile)
+-- type = 'INTEGER' | 'INT' | 'BIGINT' | 'TEXT', or the name of a type of geometry
 abbrev pub IsType : {T : Type 0} → (List ℕ → Option T) → ColumnType T → Phrase
 IsType geometry type = IsOne (λ t. (t.kind ≡ k.Word) × (type_named geometry t.text ≡ Some type))
 
--- 'NOT' 'NULL' (profile)
+-- 'NOT' 'NULL'
 abbrev pub IsNotNull : Phrase
 IsNotNull = IsToken k.Not ▸ IsToken k.Null
 
--- 'PRIMARY' 'KEY' (profile)
+-- 'PRIMARY' 'KEY'
 abbrev pub IsPrimaryKey : Phrase
 IsPrimaryKey = IsWord (codes "PRIMARY") ▸ IsWord (codes "KEY")
 
--- a phrase that stands, or nothing (profile)
+-- a phrase that stands, or nothing
 abbrev pub IsMark : Bool → Phrase → Phrase
 IsMark true P = P
 IsMark false P = λ ts. ts ≡ []
 
--- mark*, in either order, each at most once: whether NOT NULL stands, and whether PRIMARY KEY does (profile)
+-- mark*, in either order, each at most once: whether NOT NULL stands, and whether PRIMARY KEY does
 abbrev pub AreMarks : Bool → Bool → Phrase
 AreMarks not_null is_key ts =
     (IsMark not_null IsNotNull ▸ IsMark is_key IsPrimaryKey) ts ⊎ (IsMark is_key IsPrimaryKey ▸ IsMark not_null IsNotNull) ts
 
--- a column, and whether PRIMARY KEY stands on it (profile)
+-- a column, and whether PRIMARY KEY stands on it
 abbrev pub Marked : Type 0 → Type 0
 Marked T = ColumnDef T × Bool
 
--- column = name type mark* (profile)
+-- column = name type mark*
 abbrev pub IsMarked : {T : Type 0} → (List ℕ → Option T) → Marked T → Phrase
 IsMarked geometry column = IsNamed column.0.name ▸ IsType geometry column.0.column_type ▸ AreMarks column.0.not_null column.1
 
--- the places of the columns with PRIMARY KEY, where the first column has this place (profile)
+-- the places of the columns with PRIMARY KEY, where the first column has this place
 abbrev pub key_places : {T : Type 0} → ℕ → List (Marked T) → List ℕ
 key_places place [] = []
 key_places place (column ∷ more) = if column.1 then place ∷ key_places (place + 1) more else key_places (place + 1) more
 
--- table = 'CREATE' 'TABLE' name '(' column (',' column)* ')', one column being the key (profile)
+-- table = 'CREATE' 'TABLE' name '(' column (',' column)* ')', one column being the key
 abbrev pub IsTable : {T : Type 0} → (List ℕ → Option T) → TableDef T → Phrase
 IsTable {T} geometry table ts =
     (first : Marked T) × (more : List (Marked T))
@@ -60,17 +59,17 @@ IsTable {T} geometry table ts =
     × (IsWord (codes "CREATE") ▸ IsWord (codes "TABLE") ▸ IsNamed table.name ▸ IsToken k.LeftParenthesis
     ▸ IsParts k.Comma (IsMarked geometry) first more ▸ IsToken k.RightParenthesis) ts
 
--- schema = (table (';' table)* ';'?)?, and then the text ends (profile)
+-- schema = (table (';' table)* ';'?)?, and then the text ends
 abbrev pub AreTables : {T : Type 0} → (List ℕ → Option T) → List (TableDef T) → Phrase
 AreTables {T} geometry tables ts =
     ((tables ≡ []) × IsToken k.End ts)
     ⊎ ((first : TableDef T) × (more : List (TableDef T)) × (tables ≡ first ∷ more)
     × (IsParts k.Semicolon (IsTable geometry) first more ▸ IsOptional k.Semicolon ▸ IsToken k.End) ts)
 
--- A text is a schema: it isn't too long, its tokens are written for the tables, and these are lawful (profile).
+-- A text is a schema: it isn't too long, its tokens are written for the tables, and these are lawful.
 unfoldable pub IsSchema : {T : Type 0} → (List ℕ → Option T) → List ℕ → List (TableDef T) → Type 0
 IsSchema geometry text tables = (length text ≤ most_bytes) × (lawful tables ≡ true) × AreTables geometry tables (tokens false text)
 
--- a reader of a text answers the tables whose schema it is, whichever those are; want of memory may stand in their place (profile)
+-- a reader of a text answers the tables whose schema it is, whichever those are; want of memory may stand in their place
 abbrev pub AnswersSchema : {T : Type 0} → (List ℕ → Option T) → List ℕ → Result (List (TableDef T)) SchemaFault → Type 0
 AnswersSchema {T} geometry text result = (tables : List (TableDef T)) → IsSchema geometry text tables → Gives fault.OutOfMemory (λ t. t) result (Ok tables)

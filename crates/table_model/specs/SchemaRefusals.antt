@@ -1,6 +1,6 @@
 -- The refusals of a schema at a token, apart from how a schema is read: the tokens up to it, itself among them, are a
 -- front of the grammar in which the rules on the number of tables and columns, on equal names and on the number of keys
--- are set aside (profile, after SQL's CREATE TABLE). Generic in what names a type of geometry.
+-- are set aside (after SQL's CREATE TABLE). Generic in what names a type of geometry.
 use Rattle.std.specs.Prelude.{◌≡◌, ◌≤◌, ◌<◌, ◌⊎◌, ℕ, Bool, true, false, List, [], ◌∷◌, ◌++◌, codes, length, map, Option, Result, Err}
 use Rattle.std.specs.List.{list_any}
 use Rattle.table_model.specs.Definitions.{is_integer}
@@ -19,19 +19,19 @@ use Rattle.table_model.specs.Phrases.{Phrase, IsToken, ◌▸◌, IsParts, AreEn
 
 -- ---- the grammar with those rules set aside
 
--- a table as it is written: its name, and its columns with whether PRIMARY KEY stands on each (profile)
+-- a table as it is written: its name, and its columns with whether PRIMARY KEY stands on each
 abbrev pub Written : Type 0 → Type 0
 Written T = List ℕ × List (Marked T)
 
--- column = name type mark*, PRIMARY KEY standing on INTEGER columns alone (profile)
+-- column = name type mark*, PRIMARY KEY standing on INTEGER columns alone
 abbrev pub IsColumn : {T : Type 0} → (List ℕ → Option T) → Marked T → Phrase
 IsColumn geometry column ts = (column.1 ≡ true → is_integer column.0.column_type ≡ true) × IsMarked geometry column ts
 
--- 'CREATE' 'TABLE', before the name (profile)
+-- 'CREATE' 'TABLE', before the name
 abbrev pub IsCreateTable : Phrase
 IsCreateTable = IsWord (codes "CREATE") ▸ IsWord (codes "TABLE")
 
--- table = 'CREATE' 'TABLE' name '(' column (',' column)* ')' (profile)
+-- table = 'CREATE' 'TABLE' name '(' column (',' column)* ')'
 abbrev pub IsWritten : {T : Type 0} → (List ℕ → Option T) → Written T → Phrase
 IsWritten {T} geometry table ts =
     (first : Marked T) × (more : List (Marked T)) × (table.1 ≡ first ∷ more)
@@ -39,46 +39,46 @@ IsWritten {T} geometry table ts =
 
 -- ---- fronts of it
 
--- what stands before the name of a table, after these tables (profile)
+-- what stands before the name of a table, after these tables
 abbrev pub BeforeTable : {T : Type 0} → (List ℕ → Option T) → List (Written T) → Phrase
 BeforeTable geometry tables = AreEnded (IsToken k.Semicolon) (IsWritten geometry) tables ▸ IsCreateTable
 
--- what stands before the first column of a table of this name (profile)
+-- what stands before the first column of a table of this name
 abbrev pub BeforeColumns : {T : Type 0} → (List ℕ → Option T) → List (Written T) → List ℕ → Phrase
 BeforeColumns geometry tables name = BeforeTable geometry tables ▸ IsNamed name ▸ IsToken k.LeftParenthesis
 
--- what stands before the name of a column, after these columns of the table (profile)
+-- what stands before the name of a column, after these columns of the table
 abbrev pub BeforeColumn : {T : Type 0} → (List ℕ → Option T) → List (Written T) → List ℕ → List (Marked T) → Phrase
 BeforeColumn geometry tables name columns = BeforeColumns geometry tables name ▸ AreEnded (IsToken k.Comma) (IsColumn geometry) columns
 
--- what stands before the marks of a column, or between NOT NULL and PRIMARY (profile)
+-- what stands before the marks of a column, or between NOT NULL and PRIMARY
 abbrev pub BeforeKey : {T : Type 0} → (List ℕ → Option T) → List (Written T) → List ℕ → List (Marked T) → List ℕ → ColumnType T → Bool → Phrase
 BeforeKey geometry tables name columns column type not_null =
     BeforeColumn geometry tables name columns ▸ IsNamed column ▸ IsType geometry type ▸ IsMark not_null IsNotNull
 
--- what stands before the parenthesis that closes a table (profile)
+-- what stands before the parenthesis that closes a table
 abbrev pub BeforeClose : {T : Type 0} → (List ℕ → Option T) → List (Written T) → List ℕ → Marked T → List (Marked T) → Phrase
 BeforeClose geometry tables name first more = BeforeColumns geometry tables name ▸ IsParts k.Comma (IsColumn geometry) first more
 
 -- ---- the refusals
 
--- a token is a name: a word that isn't reserved (profile)
+-- a token is a name: a word that isn't reserved
 abbrev pub IsName : Token → Type 0
 IsName t = t.kind ≡ k.Word
 
--- whether one of these names is that of a token, in any ASCII case (profile)
+-- whether one of these names is that of a token, in any ASCII case
 abbrev pub is_among : Token → List (List ℕ) → Bool
 is_among t names = list_any (λ name. same_name name t.text) names
 
--- whether PRIMARY KEY stands on one of these columns (profile)
+-- whether PRIMARY KEY stands on one of these columns
 abbrev pub has_key : {T : Type 0} → List (Marked T) → Bool
 has_key columns = list_any (λ c. c.1) columns
 
--- the names of columns as they are written (profile)
+-- the names of columns as they are written
 abbrev pub names_of : {T : Type 0} → List (Marked T) → List (List ℕ)
 names_of columns = map (λ c. c.0.name) columns
 
--- too many: the name of the 17th table, or of the 33rd column of a table (profile)
+-- too many: the name of the 17th table, or of the 33rd column of a table
 abbrev pub IsTooMany : {T : Type 0} → (List ℕ → Option T) → List Token → Token → Type 0
 IsTooMany {T} geometry before t =
     IsName t × (tables : List (Written T))
@@ -86,7 +86,7 @@ IsTooMany {T} geometry before t =
     ⊎ ((name : List ℕ) × (columns : List (Marked T)) × (length columns ≡ most_columns) × BeforeColumn geometry tables name columns before))
 
 -- a double name: the second of two equal names of tables, or of two equal names of columns of a table, where there is
--- room for one more (profile)
+-- room for one more
 abbrev pub IsDoubleName : {T : Type 0} → (List ℕ → Option T) → List Token → Token → Type 0
 IsDoubleName {T} geometry before t =
     IsName t × (tables : List (Written T))
@@ -94,7 +94,7 @@ IsDoubleName {T} geometry before t =
     ⊎ ((name : List ℕ) × (columns : List (Marked T)) × (length columns < most_columns) × (is_among t (names_of columns) ≡ true)
     × BeforeColumn geometry tables name columns before))
 
--- two keys: PRIMARY on an INTEGER column of a table of which an earlier column is the key (profile)
+-- two keys: PRIMARY on an INTEGER column of a table of which an earlier column is the key
 abbrev pub IsSecondKey : {T : Type 0} → (List ℕ → Option T) → List Token → Token → Type 0
 IsSecondKey {T} geometry before t =
     (t.kind ≡ k.Word) × (same_name t.text (codes "PRIMARY") ≡ true)
@@ -102,14 +102,14 @@ IsSecondKey {T} geometry before t =
     × (column : List ℕ) × (type : ColumnType T) × (not_null : Bool) × (is_integer type ≡ true)
     × BeforeKey geometry tables name columns column type not_null before
 
--- no key: the parenthesis that closes a table without PRIMARY KEY (profile)
+-- no key: the parenthesis that closes a table without PRIMARY KEY
 abbrev pub IsCloseWithoutKey : {T : Type 0} → (List ℕ → Option T) → List Token → Token → Type 0
 IsCloseWithoutKey {T} geometry before t =
     (t.kind ≡ k.RightParenthesis)
     × (tables : List (Written T)) × (name : List ℕ) × (first : Marked T) × (more : List (Marked T)) × (has_key (first ∷ more) ≡ false)
     × BeforeClose geometry tables name first more before
 
--- a fault stands at a token, after these tokens; none of the others is one at a token (profile)
+-- a fault stands at a token, after these tokens; none of the others is one at a token
 abbrev pub StandsAt : {T : Type 0} → (List ℕ → Option T) → List Token → Token → SchemaFault → Type 0
 StandsAt geometry before t (fault.TooMany at) = (at ≡ t.at) × IsTooMany geometry before t
 StandsAt geometry before t (fault.DoubleName at) = (at ≡ t.at) × IsDoubleName geometry before t
@@ -119,11 +119,11 @@ StandsAt geometry before t (fault.Syntax at) = ⊥
 StandsAt geometry before t fault.TooLong = ⊥
 StandsAt geometry before t fault.OutOfMemory = ⊥
 
--- a fault stands at one of these tokens (profile)
+-- a fault stands at one of these tokens
 abbrev pub StandsIn : {T : Type 0} → (List ℕ → Option T) → List Token → SchemaFault → Type 0
 StandsIn geometry ts f = (before after : List Token) × (t : Token) × (ts ≡ before ++ t ∷ after) × StandsAt geometry before t f
 
--- whether a fault is one of those at a token: too many, a double name, two keys, no key (profile)
+-- whether a fault is one of those at a token: too many, a double name, two keys, no key
 abbrev pub is_at_token : SchemaFault → Bool
 is_at_token (fault.TooMany at) = true
 is_at_token (fault.DoubleName at) = true
@@ -133,13 +133,13 @@ is_at_token (fault.Syntax at) = false
 is_at_token fault.TooLong = false
 is_at_token fault.OutOfMemory = false
 
--- a fault that is one of those at a token stands in the text (profile)
+-- a fault that is one of those at a token stands in the text
 abbrev pub StandsInSchema : {T : Type 0} → (List ℕ → Option T) → List ℕ → SchemaFault → Type 0
 StandsInSchema geometry text f = is_at_token f ≡ true → StandsIn geometry (tokens false text) f
 
 -- Where a fault stands at a token of a text that isn't too long, a reader answers one that stands at that token or
 -- before it: so the first that stands is answered, and tables or another fault only where none stands. Want of memory
--- may stand in its place (profile).
+-- may stand in its place.
 abbrev pub AnswersFirst : {T : Type 0} → (List ℕ → Option T) → List ℕ → Result (List (TableDef T)) SchemaFault → Type 0
 AnswersFirst geometry text result = (before after : List Token) (t : Token) (g : SchemaFault)
     → length text ≤ most_bytes → tokens false text ≡ before ++ t ∷ after → StandsAt geometry before t g

@@ -1,4 +1,4 @@
--- Tokens of schema and query texts, by longest match (profile).
+-- Tokens of schema and query texts, by longest match.
 use Rattle.std.specs.Prelude.{◌≡◌, ℕ, zero, suc, ◌+◌, ◌-◌, Bool, true, false, not, ◌&&◌, ◌||◌, if◌then◌else◌, ◌==◌, List, [], ◌∷◌, length, take, drop, slice_index, Option, Some, None, codes}
 use Rattle.std.specs.Char.{is_ascii_alphabetic, is_ascii_digit}
 use Rattle.std.specs.List.{prefix_len}
@@ -9,56 +9,56 @@ use Rattle.table_model.specs.declared.tokens.TokenKind.{TokenKind}
 use Rattle.table_model.specs.declared.tokens.TokenKind.TheVariants as k
 use Rattle.table_model.specs.Texts.{same_name}
 
--- whether two kinds of token are the same (profile)
+-- whether two kinds of token are the same
 unfoldable pub same_kind : TokenKind → TokenKind → Bool
 same_kind = sameb the_type
 
 -- ---- bytes
 
--- space, tab, line feed or carriage return (profile)
+-- space, tab, line feed or carriage return
 abbrev pub is_blank : ℕ → Bool
 is_blank b = b == 32 || b == 9 || b == 10 || b == 13
 
--- an ASCII letter or `_` (profile)
+-- an ASCII letter or `_`
 abbrev pub begins_word : ℕ → Bool
 begins_word b = is_ascii_alphabetic b || b == 95
 
--- a letter, `_` or a digit (profile)
+-- a letter, `_` or a digit
 abbrev pub continues_word : ℕ → Bool
 continues_word b = begins_word b || is_ascii_digit b
 
--- anything but a line feed (profile)
+-- anything but a line feed
 abbrev pub is_in_line : ℕ → Bool
 is_in_line b = not (b == 10)
 
 -- ---- words
 
--- the reserved words, which are never names (profile)
+-- the reserved words, which are never names
 abbrev pub reserved_words : List (List ℕ × TokenKind)
 reserved_words =
     (codes "SELECT", k.Select) ∷ (codes "FROM", k.From) ∷ (codes "WHERE", k.Where) ∷ (codes "AND", k.And) ∷ (codes "OR", k.Or)
     ∷ (codes "NOT", k.Not) ∷ (codes "IS", k.Is) ∷ (codes "NULL", k.Null) ∷ (codes "JOIN", k.Join) ∷ (codes "INNER", k.Inner)
     ∷ (codes "CROSS", k.Cross) ∷ (codes "ON", k.On) ∷ (codes "AS", k.As) ∷ (codes "LIMIT", k.Limit) ∷ []
 
--- the kind of a word by a list of reserved words, in any ASCII case (profile)
+-- the kind of a word by a list of reserved words, in any ASCII case
 abbrev pub kind_in : List (List ℕ × TokenKind) → List ℕ → TokenKind
 kind_in [] word = k.Word
 kind_in (r ∷ rs) word = if same_name r.0 word then r.1 else kind_in rs word
 
--- the kind of a word: a reserved word has its own (profile)
+-- the kind of a word: a reserved word has its own
 unfoldable pub word_kind : List ℕ → TokenKind
 word_kind = kind_in reserved_words
 
 -- ---- symbols, by their first byte and the one after it, which is 0 at the end of the text
 
--- the kind of a symbol of one byte, Bad where there is none (profile)
+-- the kind of a symbol of one byte, Bad where there is none
 abbrev pub symbol_of_one : ℕ → TokenKind
 symbol_of_one b =
     if b == 40 then k.LeftParenthesis else (if b == 41 then k.RightParenthesis else (if b == 44 then k.Comma else (if b == 46 then k.Point
     else (if b == 59 then k.Semicolon else (if b == 42 then k.Star else (if b == 43 then k.Plus else (if b == 45 then k.Minus
     else (if b == 61 then k.Equal else (if b == 60 then k.Less else (if b == 62 then k.Greater else k.Bad))))))))))
 
--- the kind and the length of the longest symbol (profile)
+-- the kind and the length of the longest symbol
 unfoldable pub symbol : ℕ → ℕ → TokenKind × ℕ
 symbol b next =
     if b == 60 && next == 61 then (k.LessOrEqual, 2) else (if b == 60 && next == 62 then (k.NotEqual, 2)
@@ -68,26 +68,26 @@ symbol b next =
 -- ---- strings
 
 -- The place after the quote that closes a string, for its bytes from a place on; none where it isn't closed. A
--- doubled quote doesn't close. The Bool tells that the byte before is a quote that isn't the second of two (profile).
+-- doubled quote doesn't close. The Bool tells that the byte before is a quote that isn't the second of two.
 abbrev pub closing : ℕ → Bool → List ℕ → Option ℕ
 closing at true [] = Some at
 closing at false [] = None
 closing at true (b ∷ z) = if b == 39 then closing (at + 1) false z else Some at
 closing at false (b ∷ z) = closing (at + 1) (b == 39) z
 
--- a string up to a place, Bad where it isn't closed (profile)
+-- a string up to a place, Bad where it isn't closed
 abbrev pub string_to : Option ℕ → TokenKind × ℕ
 string_to None = (k.Bad, 1)
 string_to (Some end) = (k.Text, end)
 
--- the string whose first quote begins a text (profile)
+-- the string whose first quote begins a text
 abbrev pub string : List ℕ → TokenKind × ℕ
 string z = string_to (closing 1 false (drop 1 z))
 
 -- ---- tokens
 
 -- The kind and the length of what stands at the front of a text that isn't empty: no kind for white space and
--- comments, Bad for a byte that begins no token. Strings are tokens where the Bool says so (profile).
+-- comments, Bad for a byte that begins no token. Strings are tokens where the Bool says so.
 unfoldable pub front : Bool → List ℕ → Option TokenKind × ℕ
 front strings z =
     let b = slice_index z 0 in
@@ -99,16 +99,16 @@ front strings z =
     else (if is_ascii_digit b then (Some k.Integer, prefix_len is_ascii_digit z)
     else (if strings && b == 39 then some (string z) else some (symbol b next)))))
 
--- the text of a token of this kind and length at the front of a text: a string's stands between its quotes (profile)
+-- the text of a token of this kind and length at the front of a text: a string's stands between its quotes
 abbrev pub text_of : TokenKind → ℕ → List ℕ → List ℕ
 text_of kind len z = if same_kind kind k.Text then take (len - 2) (drop 1 z) else take len z
 
--- a token at a place, before those that follow it; none follow a bad one (profile)
+-- a token at a place, before those that follow it; none follow a bad one
 abbrev pub at_front : Option TokenKind → ℕ → ℕ → List ℕ → List Token → List Token
 at_front None len at z more = more
 at_front (Some kind) len at z more = record { kind = kind; text = text_of kind len z; at = at } ∷ (if same_kind kind k.Bad then [] else more)
 
--- the tokens of the bytes from a place on, where the first number counts the bytes that are left of what began before (profile)
+-- the tokens of the bytes from a place on, where the first number counts the bytes that are left of what began before
 abbrev pub tokens_from : Bool → ℕ → ℕ → List ℕ → List Token
 tokens_from strings left at [] = record { kind = k.End; text = []; at = at } ∷ []
 tokens_from strings (suc left) at (b ∷ z) = tokens_from strings left (at + 1) z
@@ -116,7 +116,7 @@ tokens_from strings zero at (b ∷ z) =
     let f = front strings (b ∷ z) in at_front f.0 f.1 at (b ∷ z) (tokens_from strings (f.1 - 1) (at + 1) z)
 
 -- The tokens of a text in their order, with their places. The last one is Bad, a byte that begins no token or the
--- first quote of a string that isn't closed, or else End, at the text's length (profile).
+-- first quote of a string that isn't closed, or else End, at the text's length.
 unfoldable pub tokens : Bool → List ℕ → List Token
 tokens strings text = tokens_from strings 0 0 text
 
@@ -124,10 +124,10 @@ tokens strings text = tokens_from strings 0 0 text
 abbrev pub most_bytes : ℕ
 most_bytes = 65536
 
--- the place where the text of a token begins (profile)
+-- the place where the text of a token begins
 abbrev pub text_place : Token → ℕ
 text_place t = if same_kind t.kind k.Text then t.at + 1 else t.at
 
--- a token's text is the part of the whole text at its place (profile)
+-- a token's text is the part of the whole text at its place
 abbrev pub IsSlice : List ℕ → Token → Type 0
 IsSlice whole t = t.text ≡ take (length t.text) (drop (text_place t) whole)

@@ -54,20 +54,20 @@ all_of parts = fold and_of True parts
 abbrev pub any_of : List Truth → Truth
 any_of parts = fold or_of False parts
 
--- a test that is never unknown (profile)
+-- a test that is never unknown
 abbrev pub truth_of : Bool → Truth
 truth_of true = True
 truth_of false = False
 
--- the rows at which a condition is asked: one for each reference, in the query's order (profile)
+-- the rows at which a condition is asked: one for each reference, in the query's order
 abbrev pub Rows : Type 0 → Type 0
 Rows G = List (List (Value G))
 
--- the field at a place; what isn't there is null (profile)
+-- the field at a place; what isn't there is null
 abbrev pub field_at : {G : Type 0} → Rows G → ColumnPlace → Value G
 field_at rows place = unwrap_or (slice_get (unwrap_or (slice_get rows place.reference) []) place.column) values.Null
 
--- ST_Dimension, by the kind, also of an empty geometry (06-103r4, 6.1.2.2: Dimension; of an empty one: profile)
+-- ST_Dimension, by the kind, also of an empty geometry (06-103r4, 6.1.2.2: Dimension; of an empty one: this project's choice)
 abbrev pub dimension : Kind → ℤ
 dimension kinds.Point = pos 0
 dimension kinds.Line = pos 1
@@ -78,12 +78,12 @@ abbrev pub text_value : {G : Type 0} → Option Geometry → Value G
 text_value (Some g) = values.Text (canonical_text g)
 text_value None = values.Null
 
--- ST_Dimension as a field; null of null (profile)
+-- ST_Dimension as a field; null of null
 abbrev pub dimension_value : {G : Type 0} → Option Geometry → Value G
 dimension_value (Some g) = values.Integer (dimension (kind g))
 dimension_value None = values.Null
 
--- what a side of a comparison is at the rows, where geometry arguments denote what they do (profile)
+-- what a side of a comparison is at the rows, where geometry arguments denote what they do
 abbrev pub operand_value : {A G : Type 0} → (Rows G → A → Option Geometry) → Rows G → Operand A → Value G
 operand_value denotes rows (operands.Column place) = field_at rows place
 operand_value denotes rows (operands.Integer n) = values.Integer n
@@ -92,13 +92,13 @@ operand_value denotes rows operands.Null = values.Null
 operand_value denotes rows (operands.AsText a) = text_value (denotes rows a)
 operand_value denotes rows (operands.Dimension a) = dimension_value (denotes rows a)
 
--- the order of two fields: integers as numbers, texts by bytes; of a null, or of two types, there is none (profile)
+-- the order of two fields: integers as numbers, texts by bytes; of a null, or of two types, there is none
 abbrev pub order_of : {G : Type 0} → Value G → Value G → Option Ordering
 order_of (values.Integer a) (values.Integer b) = Some (int_cmp a b)
 order_of (values.Text a) (values.Text b) = Some (slice_cmp nat_cmp a b)
 order_of a b = None
 
--- the sign of comparison takes the order (profile)
+-- the sign of comparison takes the order
 abbrev pub takes : Comparison → Ordering → Bool
 takes signs.Equal order = is_eq order
 takes signs.NotEqual order = is_ne order
@@ -112,7 +112,7 @@ abbrev pub compared : Comparison → Option Ordering → Truth
 compared sign (Some order) = truth_of (takes sign order)
 compared sign None = Unknown
 
--- IS NULL (profile)
+-- IS NULL
 abbrev pub is_null : {G : Type 0} → Value G → Bool
 is_null values.Null = true
 is_null (values.Integer n) = false
@@ -129,7 +129,7 @@ abbrev pub related : (Geometry → Geometry → Matrix) → Predicate → Option
 related matrix predicate (Some a) (Some b) = truth_of (holds predicate (kind a) (kind b) (matrix a b))
 related matrix predicate a b = Unknown
 
--- the truth of a condition whose parts have these truths (profile)
+-- the truth of a condition whose parts have these truths
 abbrev pub truth_by_parts : {A G : Type 0} → (Geometry → Geometry → Matrix) → (Rows G → A → Option Geometry) → Rows G → Cond-F A Truth → Truth
 truth_by_parts matrix denotes rows (Cond-F.Or parts) = any_of parts
 truth_by_parts matrix denotes rows (Cond-F.And parts) = all_of parts
@@ -143,6 +143,6 @@ truth_by_parts matrix denotes rows (Cond-F.Relates predicate a b) = related matr
 abbrev pub truth : {A G : Type 0} → (Geometry → Geometry → Matrix) → (Rows G → A → Option Geometry) → Rows G → Cond A → Truth
 truth {A = A} matrix denotes rows = fold-Cond A Truth (truth_by_parts matrix denotes rows)
 
--- what a geometry argument denotes where none is served: there is none (profile)
+-- what a geometry argument denotes where none is served: there is none
 abbrev pub no_argument : {G : Type 0} → Rows G → NoGeometry → Option Geometry
 no_argument rows a = None

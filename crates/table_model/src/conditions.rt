@@ -15,7 +15,7 @@ pub enum Comparison {
     GreaterOrEqual,
 }
 
-/// Where a column stands: the place of its reference in the query and its own in the table, both from 0. (Profile.)
+/// Where a column stands: the place of its reference in the query and its own in the table, both from 0.
 #[derive(Clone, Copy, Debug, PartialEq, Eq)]
 pub struct ColumnPlace {
     pub reference: usize,

@@ -4,7 +4,7 @@ use geometry_model::GeometryFault;
 use std::alloc::{AllocError, AllocFailed};
 use thiserror::Error;
 
-/// Why a schema text isn't taken. A number is the byte of the text, from 0. (Profile.)
+/// Why a schema text isn't taken. A number is the byte of the text, from 0.
 #[derive(Clone, Copy, Debug, PartialEq, Eq, Error)]
 pub enum SchemaFault {
     #[error("syntax at {0}")]
@@ -23,7 +23,7 @@ pub enum SchemaFault {
     OutOfMemory,
 }
 
-/// Why a table isn't loaded. A number is that of a record, 1 for the first after the header. (Profile.)
+/// Why a table isn't loaded. A number is that of a record, 1 for the first after the header.
 #[derive(Clone, Copy, Debug, PartialEq, Eq, Error)]
 pub enum LoadFault {
     #[error("a column is missing in the header")]
@@ -52,14 +52,14 @@ pub enum LoadFault {
     OutOfMemory,
 }
 
-/// Why a database isn't loaded: the place of the table in the schema, from 0, and the table's fault. (Profile.)
+/// Why a database isn't loaded: the place of the table in the schema, from 0, and the table's fault.
 #[derive(Clone, Copy, Debug, PartialEq, Eq)]
 pub struct TableFault {
     pub table: usize,
     pub fault: LoadFault,
 }
 
-/// Why a query isn't taken. A number is the byte of the text, from 0. (Profile.)
+/// Why a query isn't taken. A number is the byte of the text, from 0.
 #[derive(Clone, Copy, Debug, PartialEq, Eq, Error)]
 pub enum QueryFault {
     #[error("no token at {0}")]

@@ -2,7 +2,7 @@
 
 use sqlite_items::Items;
 
-/// How the rows of a table reference are found. (Profile.)
+/// How the rows of a table reference are found.
 #[derive(Clone, Copy, Debug, PartialEq, Eq)]
 pub enum AccessMethod {
     /// All rows.
@@ -11,7 +11,7 @@ pub enum AccessMethod {
     Probe(usize),
 }
 
-/// How the rows of one of the query's references are found. (Profile.)
+/// How the rows of one of the query's references are found.
 #[derive(Clone, Copy, Debug, PartialEq, Eq)]
 pub struct Access {
     /// The place of the reference in the query, from 0.
@@ -19,7 +19,7 @@ pub struct Access {
     pub method: AccessMethod,
 }
 
-/// A plan of a query. (Profile.)
+/// A plan of a query.
 #[derive(Debug, Drop)]
 pub struct Plan {
     /// One access for each reference, the outer one first.

@@ -5,7 +5,7 @@ use crate::texts::Slice;
 use geometry_model::Predicate;
 use sqlite_items::{Boxed, Items};
 
-/// A name or a string, and the byte from 0 at which its token starts in the query's text. (Profile.)
+/// A name or a string, and the byte from 0 at which its token starts in the query's text.
 #[derive(Debug, Drop)]
 pub struct Name<'a> {
     pub text: Slice<'a>,
@@ -88,7 +88,7 @@ pub struct WrittenReference<'a> {
     pub alias: Option<Name<'a>>,
 }
 
-/// Whether a query is to be answered, or its plan to be told. (Profile.)
+/// Whether a query is to be answered, or its plan to be told.
 #[derive(Clone, Copy, Debug, PartialEq, Eq)]
 pub enum Explain {
     /// Rows are wanted.

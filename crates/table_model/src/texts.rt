@@ -6,7 +6,7 @@ ghost use Rattle.table_model.specs.Texts as spec;
 use std::alloc::{AllocError, Global};
 use std::marker::Model;
 
-/// A part of a text that lives for `'a`, which contracts see as its bytes. (Profile.)
+/// A part of a text that lives for `'a`, which contracts see as its bytes.
 #[derive(Debug, Drop)]
 pub struct Slice<'a> {
     bytes: &'a [u8],
@@ -24,21 +24,21 @@ impl<'a> Model for Slice<'a> {
 }
 
 impl<'a> Slice<'a> {
-    /// The part that these bytes are. (Profile.)
+    /// The part that these bytes are.
     pub fn new(bytes: &'a [u8]) -> Slice<'a>
         ensures { result ≡ bytes.entry.now }
     {
         Slice { bytes }
     }
 
-    /// Lends the bytes, for as long as the text lives. (Profile.)
+    /// Lends the bytes, for as long as the text lives.
     pub fn bytes(&self) -> &'a [u8]
         ensures { result.now ≡ self.now }
     {
         self.bytes
     }
 
-    /// A second handle of the same part. (Profile.)
+    /// A second handle of the same part.
     pub fn again(&self) -> Slice<'a>
         ensures { result ≡ self.now }
     {
@@ -46,7 +46,7 @@ impl<'a> Slice<'a> {
     }
 }
 
-/// A text of its own, which contracts see as its bytes in UTF-8. (Profile.)
+/// A text of its own, which contracts see as its bytes in UTF-8.
 #[derive(Debug, Drop)]
 pub struct OwnedText {
     text: String,
@@ -64,7 +64,7 @@ impl Model for OwnedText {
 }
 
 impl OwnedText {
-    /// A copy of a text. It fails only for want of memory. (Profile.)
+    /// A copy of a text. It fails only for want of memory.
     pub fn copy_of(alloc: Global, text: &str) -> Result<OwnedText, AllocError>
         ensures { IfOk result (λ t. t ≡ text.now) }
     {
@@ -72,21 +72,21 @@ impl OwnedText {
         Ok(OwnedText { text })
     }
 
-    /// The text that a `String` holds. It takes no memory. (Profile.)
+    /// The text that a `String` holds. It takes no memory.
     pub fn from_string(text: String) -> OwnedText
         ensures { result ≡ string_bytes text }
     {
         OwnedText { text }
     }
 
-    /// Lends the text. (Profile.)
+    /// Lends the text.
     pub fn as_str(&self) -> &str
         ensures { result.now ≡ self.now }
     {
         self.text.as_str()
     }
 
-    /// Lends the bytes of the text. (Profile.)
+    /// Lends the bytes of the text.
     pub fn bytes(&self) -> &[u8]
         ensures { result.now ≡ self.now }
     {
@@ -94,7 +94,7 @@ impl OwnedText {
     }
 }
 
-/// Whether two names are the same, without regard to ASCII case. (Profile.)
+/// Whether two names are the same, without regard to ASCII case.
 pub fn same_name(a: &[u8], b: &[u8]) -> bool
     ensures { result ≡ spec.same_name a.now b.now }
 {

@@ -2,7 +2,7 @@
 
 use crate::texts::Slice;
 
-/// What a token is. A reserved word has a kind of its own. (Profile.)
+/// What a token is. A reserved word has a kind of its own.
 #[derive(Clone, Copy, Debug, PartialEq, Eq)]
 pub enum TokenKind {
     /// A word that isn't reserved.
@@ -46,7 +46,7 @@ pub enum TokenKind {
     End,
 }
 
-/// A token: its kind, its text, and the byte from 0 at which it starts in the whole text. (Profile.)
+/// A token: its kind, its text, and the byte from 0 at which it starts in the whole text.
 #[derive(Debug, Drop)]
 pub struct Token<'a> {
     pub kind: TokenKind,

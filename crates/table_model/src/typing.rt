@@ -12,14 +12,14 @@ pub enum OperandType {
     Null,
 }
 
-/// What the name of a column stands for. (Profile.)
+/// What the name of a column stands for.
 #[derive(Clone, Copy, Debug, PartialEq, Eq)]
 pub struct Found {
     pub place: ColumnPlace,
     pub column_type: OperandType,
 }
 
-/// A part of a query with the type that it has. (Profile.)
+/// A part of a query with the type that it has.
 #[derive(Debug, Drop)]
 pub struct Typed<P> {
     pub part: P,

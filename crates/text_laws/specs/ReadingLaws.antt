@@ -7,27 +7,27 @@ use Rattle.geometry_model.specs.TextReading.{read_text}
 use Rattle.geometry_model.specs.TextRefusals.{IsOffGrid, IsOutOfRange, HasTooManyPositions, HasTooManyParts}
 use Rattle.geometry_model.specs.declared.text_faults.TextFault.TheVariants.{OffGrid, OutOfRange, TooLong}
 
--- what is read is spelled (profile)
+-- what is read is spelled
 abbrev pub ReadIsSpelled : Type 0
 ReadIsSpelled = (text : List ℕ) (g : Geometry) → read_text text ≡ Ok g → Spells text g
 
--- what is spelled is read (profile)
+-- what is spelled is read
 abbrev pub SpelledIsRead : Type 0
 SpelledIsRead = (text : List ℕ) (g : Geometry) → Spells text g → read_text text ≡ Ok g
 
--- one text spells at most one geometry (profile)
+-- one text spells at most one geometry
 abbrev pub SpellsOne : Type 0
 SpellsOne = (text : List ℕ) (g h : Geometry) → Spells text g → Spells text h → g ≡ h
 
--- the canonical text of what a text spells spells it again (profile)
+-- the canonical text of what a text spells spells it again
 abbrev pub CanonicalTextSpells : Type 0
 CanonicalTextSpells = (text : List ℕ) (g : Geometry) → Spells text g → Spells (canonical_text g) g
 
--- the canonical text of what is read is read as the same (profile)
+-- the canonical text of what is read is read as the same
 abbrev pub CanonicalTextIsRead : Type 0
 CanonicalTextIsRead = (text : List ℕ) (g : Geometry) → read_text text ≡ Ok g → read_text (canonical_text g) ≡ Ok g
 
--- where reading answers W2, W3 or W4, that refusal stands (profile)
+-- where reading answers W2, W3 or W4, that refusal stands
 abbrev pub RefusalsStand : Type 0
 RefusalsStand = (text : List ℕ) (at : ℕ)
     → (read_text text ≡ Err (OffGrid at) → IsOffGrid text at)

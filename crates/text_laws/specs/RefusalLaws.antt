@@ -7,18 +7,18 @@ use Rattle.geometry_model.specs.TextRefusals.{IsRefusedAs, IsRefused}
 use Rattle.geometry_model.specs.declared.text_faults.TextFault.{TextFault}
 use Rattle.geometry_model.specs.declared.text_faults.TextFault.TheVariants.{Syntax, TooLong}
 
--- where W2, W3 or W4 stands, reading answers it: so no two of them stand, and none at two bytes (profile)
+-- where W2, W3 or W4 stands, reading answers it: so no two of them stand, and none at two bytes
 abbrev pub RefusalIsAnswered : Type 0
 RefusalIsAnswered = (text : List ℕ) (fault : TextFault) → IsRefusedAs text fault → read_text text ≡ Err fault
 
--- where W1 stands, reading answers it, at some byte (profile)
+-- where W1 stands, reading answers it, at some byte
 abbrev pub SyntaxIsAnswered : Type 0
 SyntaxIsAnswered = (text : List ℕ) (at : ℕ) → IsRefused text (Syntax at) → (byte : ℕ) × (read_text text ≡ Err (Syntax byte))
 
--- the fault that reading answers stands: W1 where the text spells nothing and no other fault stands (profile)
+-- the fault that reading answers stands: W1 where the text spells nothing and no other fault stands
 abbrev pub AnswerStands : Type 0
 AnswerStands = (text : List ℕ) (fault : TextFault) → read_text text ≡ Err fault → IsRefused text fault
 
--- a text of the grammar with more positions or parts than the counts allow is answered W4 (profile)
+-- a text of the grammar with more positions or parts than the counts allow is answered W4
 abbrev pub TooManyIsTooLong : Type 0
 TooManyIsTooLong = (text : List ℕ) (written : Geometry) → Writes written text → ¬ (IsWithinCounts written) → read_text text ≡ Err TooLong

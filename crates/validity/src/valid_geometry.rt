@@ -35,7 +35,7 @@ impl Model for Valid {
 }
 
 impl Valid {
-    /// Lends the geometry. (Profile.)
+    /// Lends the geometry.
     pub fn geometry(&self) -> &Geometry
         ensures same { result.now ≡ self.now }
         ensures valid { IsValid self.now }

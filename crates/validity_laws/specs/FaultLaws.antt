@@ -10,19 +10,19 @@ use Rattle.geometry_model.specs.declared.validity_faults.ValidityFault.TheVarian
 abbrev pub AreClosed : Geometry → Type 0
 AreClosed g = (i : ℕ) → HasFault g (RingNotClosed i) → ⊥
 
--- where each ring is closed, the tests of faults say exactly what the faults say of rational points (profile)
+-- where each ring is closed, the tests of faults say exactly what the faults say of rational points
 abbrev pub FaultIsDecided : Type 0
 FaultIsDecided = (g : Geometry) (fault : ValidityFault) → AreClosed g → (has_fault g fault ≡ true) ↔ HasFault g fault
 
--- the first fault that is found stands (profile)
+-- the first fault that is found stands
 abbrev pub FirstFaultStands : Type 0
 FirstFaultStands = (g : Geometry) (fault : ValidityFault) → validity_fault g ≡ Some fault → HasFault g fault
 
--- none is found exactly where the geometry is valid (profile)
+-- none is found exactly where the geometry is valid
 abbrev pub NoneIsFoundWhereValid : Type 0
 NoneIsFoundWhereValid = (g : Geometry) → (validity_fault g ≡ None) ↔ IsValid g
 
--- the fault stands, at a place in the order of tests before which none stands (profile)
+-- the fault stands, at a place in the order of tests before which none stands
 pub record IsFirst (g : Geometry) (fault : ValidityFault) : Type 0 where
   pub before : List ValidityFault
   pub after : List ValidityFault
@@ -30,11 +30,11 @@ pub record IsFirst (g : Geometry) (fault : ValidityFault) : Type 0 where
   pub stands : HasFault g fault
   pub none_before : (earlier : ValidityFault) → Contains before earlier → HasFault g earlier → ⊥
 
--- the fault that is found is the first that stands (profile)
+-- the fault that is found is the first that stands
 abbrev pub FirstFaultIsFirst : Type 0
 FirstFaultIsFirst = (g : Geometry) (fault : ValidityFault) → validity_fault g ≡ Some fault → IsFirst g fault
 
--- wherever the order of tests is split at the fault that is found, none before it stands (profile)
+-- wherever the order of tests is split at the fault that is found, none before it stands
 abbrev pub NoEarlierFaultStands : Type 0
 NoEarlierFaultStands = (g : Geometry) (fault : ValidityFault) (before after : List ValidityFault) → validity_fault g ≡ Some fault → in_order g ≡ before ++ fault ∷ after
     → (earlier : ValidityFault) → Contains before earlier → HasFault g earlier → ⊥

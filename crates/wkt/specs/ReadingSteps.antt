@@ -13,18 +13,18 @@ use Rattle.wkt.specs.declared.cursor.ByteClass.{ByteClass}
 use Rattle.wkt.specs.declared.cursor.ByteClass.TheVariants as classes
 use Rattle.wkt.specs.declared.wkt_fault.WktFault.{WktFault}
 
--- the test of a class of bytes (profile)
+-- the test of a class of bytes
 abbrev pub of_class : ByteClass → ℕ → Bool
 of_class classes.White = is_white
 of_class classes.Digit = is_ascii_digit
 of_class classes.Letter = is_ascii_alphabetic
 
--- what was read, seen by view, and the input behind it are a reader's; so is the fault (profile)
+-- what was read, seen by view, and the input behind it are a reader's; so is the fault
 abbrev pub ReadsAs : {X A : Type 0} → (X → A) → Result (A × Input) TextFault → Result X TextFault → Input → Type 0
 ReadsAs view outcome (Ok x) after = outcome ≡ Ok (view x, after)
 ReadsAs view outcome (Err fault) after = outcome ≡ Err fault
 
--- the same where memory may run out, which may stand in the place of any answer (profile)
+-- the same where memory may run out, which may stand in the place of any answer
 abbrev pub ReadsInMemory : {X A : Type 0} → (X → A) → Result (A × Input) TextFault → Result X WktFault → Input → Type 0
 ReadsInMemory view outcome (Ok x) after = outcome ≡ Ok (view x, after)
 ReadsInMemory view outcome (Err e) after = (fault : TextFault) → text_fault e ≡ Some fault → outcome ≡ Err fault
@@ -51,6 +51,6 @@ last_of (p ∷ more) = Some (last_after p more)
 abbrev pub line_positions : ℕ → Reader (List Position)
 line_positions room = separated position room >>= λ ps. pure (without_repeats ps)
 
--- the geometry of what is written (profile)
+-- the geometry of what is written
 abbrev pub meant : Reader Geometry → Reader Geometry
 meant step = step >>= λ written. pure (geometry_of written)

@@ -12,11 +12,11 @@ use Rattle.geometry_model.specs.declared.text_faults.TextFault.TheVariants.{Synt
 use Rattle.wkt.specs.declared.wkt_fault.WktFault.{WktFault}
 use Rattle.wkt.specs.declared.wkt_fault.WktFault.TheVariants as faults
 
--- the text behind white space at its front (profile)
+-- the text behind white space at its front
 abbrev pub behind_white : List ℕ → List ℕ
 behind_white text = drop (prefix_len is_white text) text
 
--- the letters at the front of a text (profile)
+-- the letters at the front of a text
 abbrev pub word : List ℕ → List ℕ
 word text = take (prefix_len is_ascii_alphabetic text) text
 
@@ -45,15 +45,15 @@ line_of (MultiLineString ls) = []
 line_of (Polygon rs) = []
 line_of (MultiPolygon es) = []
 
--- the text doesn't name such a type (profile)
+-- the text doesn't name such a type
 abbrev pub IsServed : List ℕ → Type 0
 IsServed text = comes_later (word (behind_white text)) ≡ false
 
--- the geometry that a text spells, or its first fault: the name of a type that is not served yet is W1 at its first byte (06-103r4, 7.2; which faults there are, and their places: profile)
+-- the geometry that a text spells, or its first fault: the name of a type that is not served yet is W1 at its first byte (06-103r4, 7.2; which faults there are, and their places: this project's choice)
 unfoldable pub read_served : List ℕ → Result Geometry TextFault
 read_served text = if comes_later (word (behind_white text)) then Err (Syntax (prefix_len is_white text)) else read_text text
 
--- a text was read as this geometry, or memory ran out (profile)
+-- a text was read as this geometry, or memory ran out
 abbrev pub IsReadAs : Result Geometry WktFault → Geometry → Type 0
 IsReadAs (Ok read) g = read ≡ g
 IsReadAs (Err e) g = e ≡ faults.OutOfMemory

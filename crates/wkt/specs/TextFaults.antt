@@ -5,7 +5,7 @@ use Rattle.geometry_model.specs.declared.text_faults.TextFault.TheVariants as te
 use Rattle.wkt.specs.declared.wkt_fault.WktFault.{WktFault}
 use Rattle.wkt.specs.declared.wkt_fault.WktFault.TheVariants as fault
 
--- the fault of the text; none where memory ran out (profile)
+-- the fault of the text; none where memory ran out
 abbrev pub text_fault : WktFault → Option TextFault
 text_fault (fault.Syntax at) = Some (text.Syntax at)
 text_fault (fault.OffGrid at) = Some (text.OffGrid at)

@@ -15,7 +15,7 @@ use itoa::Buffer;
 
 /// Puts the canonical text of a geometry: the type's name in capitals; ` EMPTY` for an empty one; else the positions
 /// in parentheses, with commas between, no white space but one space between x and y, numbers in shortest decimal
-/// form, and each point of a MULTIPOINT in parentheses (06-103r4, 7.2.2; which of its texts: profile). It takes no
+/// form, and each point of a MULTIPOINT in parentheses (06-103r4, 7.2.2; which of its texts: this project's choice). It takes no
 /// memory. At Err the sink failed, and a beginning of the text has been put.
 pub fn print<S: Sink>(geometry: &Geometry, sink: &mut S) -> Result<(), SinkFault>
     ensures ok { OnOk result (Appends (S.taken sink.old) (S.taken sink.new) (canonical_text geometry.now)) }

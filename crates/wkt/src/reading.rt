@@ -222,7 +222,7 @@ fn whole(alloc: Global, cursor: &mut Cursor<'_>) -> Result<Geometry, WktFault>
 /// Places are bytes from 0. The fault is the first from left to right: `Syntax` at the first byte of what no text can
 /// have there, or at the text's length where it ends too soon; at the first byte of a number `OffGrid` where a digit
 /// behind its point isn't 0, and else `OutOfRange` where it is past the limit; `TooLong` at the first number of the
-/// 10,001st position, before the faults of that number. (Profile.) The name of a type that isn't served yet is
+/// 10,001st position, before the faults of that number. The name of a type that isn't served yet is
 /// `Syntax` at its first byte. `OutOfMemory` may come in the place of any answer.
 pub fn read(alloc: Global, text: &[u8]) -> Result<Geometry, WktFault>
     ensures ok { IfOk result (λ g. read_served text.now ≡ Ok g) }

@@ -8,7 +8,7 @@ use std::alloc::{AllocError, AllocFailed};
 use thiserror::Error;
 
 /// Why a text is read as no geometry. Places are bytes from 0. The fault of the text is the first from left to
-/// right (06-103r4, 7.2; the cases are a profile).
+/// right (06-103r4, 7.2; the cases are this project's).
 #[derive(Clone, Copy, Debug, PartialEq, Eq, Error)]
 pub enum WktFault {
     /// W1: no geometry text can have at this byte what stands there, or the text ends here too soon.
@@ -29,7 +29,7 @@ pub enum WktFault {
 }
 
 impl WktFault {
-    /// The fault of the text; none where memory ran out. (Profile.)
+    /// The fault of the text; none where memory ran out.
     pub fn text_fault(self) -> Option<TextFault>
         ensures { result ≡ text_fault self }
     {
