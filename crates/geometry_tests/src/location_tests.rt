@@ -1,8 +1,8 @@
 //! Where points stand in geometries of points.
 
-use side_labels::{Location, locate};
 use fraction::{GridPoint, RatPoint};
 use geometry_model::Kind;
+use side_labels::{Location, locate};
 use std::test::Fail;
 use validity::{Valid, check};
 use wkt::read;

@@ -31,7 +31,12 @@ fn geometries_show_their_type_and_kind(rt: HostRuntime) -> Result<(), Fail> {
         let geometry = read(rt.alloc(), text.as_bytes())?;
         let listed = geometry.listed().len();
         assert_eq!(rt;
-            (geometry.geometry_type(), geometry.kind(), geometry.is_empty(), listed),
+            (
+                geometry.geometry_type(),
+                geometry.kind(),
+                geometry.is_empty(),
+                listed
+            ),
             shown
         );
     }

@@ -1,9 +1,9 @@
 //! Texts of points: what each spells, or its fault.
 
-use wkt::{MemorySink, WktFault, print, read};
 use geometry_model::GeometryType;
 use std::alloc::Global;
 use std::test::Fail;
+use wkt::{MemorySink, WktFault, print, read};
 
 // A MULTIPOINT with this many positions (0, 0), and then another text.
 fn zeros_and(alloc: Global, count: usize, rest: &[u8]) -> Result<Vec<u8>, Fail> {

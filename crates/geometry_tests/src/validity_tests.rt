@@ -1,9 +1,9 @@
 //! Geometries of points, which have no fault, and the faults that a refusal tells of.
 
-use validity::{CheckFault, check};
 use fraction::GridPoint;
 use geometry_model::{Kind, ValidityFault};
 use std::test::Fail;
+use validity::{CheckFault, check};
 use wkt::read;
 
 #[test]
@@ -36,7 +36,10 @@ fn lines_have_two_positions_or_none(rt: HostRuntime) -> Result<(), Fail> {
     let cases: [(&[u8], &[(i32, i32)]); 4] = [
         (b"LINESTRING EMPTY", &[]),
         (b"LINESTRING(0 0,1 1)", &[(0, 0), (1, 1)]),
-        (b"LINESTRING(0 0,0 0,1 1,1 1,0 0)", &[(0, 0), (1, 1), (0, 0)]),
+        (
+            b"LINESTRING(0 0,0 0,1 1,1 1,0 0)",
+            &[(0, 0), (1, 1), (0, 0)],
+        ),
         (b"linestring(-1 2, 3 4, 5 -6)", &[(-1, 2), (3, 4), (5, -6)]),
     ];
     for (text, places) in cases {

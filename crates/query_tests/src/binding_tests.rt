@@ -1,5 +1,5 @@
-use spatial_sql::{Bound, Cond, Query, QueryFault, Truth, bind, read_query, read_schema, value};
 use feature_table::{Database, Schema};
+use spatial_sql::{Bound, Cond, Query, QueryFault, Truth, bind, read_query, read_schema, value};
 use sqlite_items::Items;
 use std::alloc::Global;
 use std::test::Fail;

@@ -1,5 +1,5 @@
-use spatial_sql::{SchemaFault, read_schema};
 use feature_table::ColumnType;
+use spatial_sql::{SchemaFault, read_schema};
 use std::test::Fail;
 
 /// The first fault of a schema, with its byte.

@@ -28,7 +28,10 @@ fn a_failed_sink_is_told(rt: HostRuntime) -> Result<(), Fail> {
     let mut sink = StopSink::new(rt.alloc(), 1, 8);
     let mut fields = ByteRecord::new(rt.alloc());
     fields.push_field(b"a")?;
-    assert_eq!(rt; writer.put(rt.alloc(), &fields, &mut sink), Err(PutFault::Sink));
+    assert_eq!(rt;
+        writer.put(rt.alloc(), &fields, &mut sink),
+        Err(PutFault::Sink)
+    );
     Ok(())
 }
 

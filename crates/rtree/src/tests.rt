@@ -11,10 +11,7 @@ fn position(x: i32, y: i32) -> Result<GridPoint, Fail> {
 
 // The envelope of two corners.
 fn framed(a: (i32, i32), b: (i32, i32)) -> Result<Option<Envelope>, Fail> {
-    Ok(Envelope::of_positions(&[
-        position(a.0, a.1)?,
-        position(b.0, b.1)?,
-    ]))
+    Ok(Envelope::of_positions(&[position(a.0, a.1)?, position(b.0, b.1)?]))
 }
 
 #[test]

@@ -49,7 +49,7 @@ is_blank byte = (byte == 32) || (byte == 9)
 abbrev pub trimmed : List ℕ → List ℕ
 trimmed bytes = let rest = drop (prefix_len is_blank bytes) bytes in take (length rest - prefix_len is_blank (reverse rest)) rest
 
--- whether a number has 64 bits with its sign (SQL, INTEGER; this project: 64 bits)
+-- whether a number has 64 bits with its sign (SQL, INTEGER; 64 bits are this project's choice)
 abbrev pub fits_64_bits : ℤ → Bool
 fits_64_bits (pos n) = nat_lt n (2 ^ 63)
 fits_64_bits (negsuc n) = nat_lt n (2 ^ 63)

@@ -14,6 +14,5 @@ pub mod wkt_fault;
 pub use geometry::Geometry;
 pub use printing::print;
 pub use reading::read;
-pub use sinks::devices;
-pub use sinks::{MemorySink, Sink, SinkFault, StdSink, put_all, put_parts};
+pub use sinks::{MemorySink, Sink, SinkFault, StdSink, devices, put_all, put_parts};
 pub use wkt_fault::WktFault;

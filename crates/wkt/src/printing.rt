@@ -9,9 +9,9 @@ ghost use Rattle.wkt.specs.Printing.{HoldsText};
 ghost use Rattle.sinks.specs.Sinks.{AppendsFront, CountsFailure};
 
 use crate::geometry::{Geometry, Shape};
-use sinks::{Sink, SinkFault, put_all, put_parts};
 use fraction::GridPoint;
 use itoa::Buffer;
+use sinks::{Sink, SinkFault, put_all, put_parts};
 
 /// Puts the canonical text of a geometry: the type's name in capitals; ` EMPTY` for an empty one; else the positions
 /// in parentheses, with commas between, no white space but one space between x and y, numbers in shortest decimal

@@ -23,7 +23,6 @@ pub returns-clause-polygon : goal.returns-clause-polygon
 unfolding digits
 returns-clause-polygon c = refl
 
-
 pub returns-clause-polygons : goal.returns-clause-polygons
 unfolding digits
 returns-clause-polygons c = refl
