@@ -11,6 +11,9 @@ use wkt::devices::{StopReader, StopSink};
 
 const SCHEMA: &str = "CREATE TABLE t (id INTEGER PRIMARY KEY, pop INTEGER, name TEXT);";
 
+const CHECKED_TABLES: &str =
+    "CREATE TABLE t (id INTEGER PRIMARY KEY, pop INTEGER, name TEXT); CREATE TABLE u (id INTEGER PRIMARY KEY);";
+
 const TABLE: &str = "id,pop,name\n1,8,a\n2,9,b\n3,,c\n4,7,\n";
 
 // The files of a command that reads none.
@@ -80,6 +83,41 @@ fn relate(rt: &HostRuntime, first: &str, second: &str) -> Result<Printed, Fail> 
     let opener = move |path: &str| file_at(path, text, text);
     let status = serve(alloc, &order, opener, &mut out, &mut err);
     Ok(Printed { out, err, status })
+}
+
+// Checks two tables: t as ever, and u with this text.
+fn check_over<'a>(rt: &HostRuntime, other: Option<&'a [u8]>) -> Result<Printed, Fail> {
+    let alloc = rt.alloc();
+    let order = Order::Check {
+        schema: String::from_str(alloc, "s")?,
+        directory: String::from_str(alloc, "d")?,
+    };
+    let mut out = MemorySink::new(alloc);
+    let mut err = MemorySink::new(alloc);
+    let opener = move |path: &str| {
+        if path == "d/u.csv" {
+            return other;
+        }
+        file_at(path, CHECKED_TABLES.as_bytes(), TABLE.as_bytes())
+    };
+    let status = serve(alloc, &order, opener, &mut out, &mut err);
+    Ok(Printed { out, err, status })
+}
+
+#[test]
+fn tables_are_checked(rt: HostRuntime) -> Result<(), Fail> {
+    for (other, out, err, status) in [
+        (Some("id\n7\n"), "t 4\nu 1\n", "", 0),
+        (Some("id\n"), "t 4\nu 0\n", "", 0),
+        (Some("id\nx\n"), "", "sfq: u L5 record 1\n", 4),
+        (None, "", "sfq: u unreadable\n", 6),
+    ] {
+        let printed = check_over(&rt, other.map(|text| text.as_bytes()))?;
+        assert_eq!(rt; printed.out.bytes(), out.as_bytes());
+        assert_eq!(rt; printed.err.bytes(), err.as_bytes());
+        assert_eq!(rt; printed.status, status);
+    }
+    Ok(())
 }
 
 // A query whose condition stands in this many parentheses.
