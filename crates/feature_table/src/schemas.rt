@@ -59,7 +59,7 @@ impl Schema {
     }
 
     /// Lends the definition at a place, which is lawful by itself.
-    pub(crate) fn table(&self, place: usize) -> &TableDef
+    pub fn table(&self, place: usize) -> &TableDef
         requires { place < length self.now }
         ensures value { slice_get self.now place ≡ Some result.now }
         ensures lawful { IsTrue (lawful (result.now ∷ [])) }
