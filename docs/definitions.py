@@ -19,8 +19,8 @@ tables and answers, then plans. This page is made from the specifications by `de
 definition's words are the comment that it has there.
 
 The third column names the clause of OGC 06-103r4 or 06-104r4, or the part of SQL, that a definition comes from; where it names
-none, this project chose. The last names the calls whose contracts speak of the definition; where it names none, no call does
-yet, and the laws alone speak of it. Definitions that only serve to compute another one stand beside it in the specifications
+none, this project chose. The last names the calls whose contracts speak of the definition; where it names none, no public
+call names it itself: a definition below it carries it, or a function within a crate, or the laws alone. Definitions that only serve to compute another one stand beside it in the specifications
 and are left out here, as are the words of worked rows.
 
 The laws of these definitions, and worked rows computed from them, stand on public functions without a body, so that the gate
