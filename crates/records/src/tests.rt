@@ -40,10 +40,13 @@ fn long_texts_are_let_go(rt: HostRuntime) -> Result<(), Fail> {
     let mut writer = RecordWriter::new(rt.alloc());
     let mut sink = MemorySink::new(rt.alloc());
     let mut fields = ByteRecord::new(rt.alloc());
-    fields.push_field(&[b'x'; 1_023])?;
-    for _ in 0..200 {
-        assert_eq!(rt; writer.put(rt.alloc(), &fields, &mut sink), Ok(()));
+    let mut long = Vec::new(rt.alloc());
+    for _ in 0..70_000u32 {
+        long.push(b'x')?;
     }
-    assert_eq!(rt; sink.bytes().len(), 204_800);
+    fields.push_field(long.as_slice())?;
+    assert_eq!(rt; writer.put(rt.alloc(), &fields, &mut sink), Ok(()));
+    assert_eq!(rt; writer.put(rt.alloc(), &fields, &mut sink), Ok(()));
+    assert_eq!(rt; sink.bytes().len(), 140_002);
     Ok(())
 }
