@@ -34,6 +34,7 @@ pub mod GeometryColumns
 pub mod GeometryColumnExamples
 pub mod BoundQueries
 pub mod BindingRules
+pub mod QueryRules
 pub mod FirstRunExamples
 pub mod JoinExamples
 pub mod SchemaRefusals
