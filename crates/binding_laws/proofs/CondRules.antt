@@ -2,7 +2,7 @@
 use Rattle.std.proofs.Common.{◌≡◌, ℕ, List, [], ◌∷◌, map, Ok, Err, IfOk, IfErr, refl, sym, ap, ap₂, subst, ◌∙◌}
 use Rattle.geometry_model.specs.declared.relations.Predicate.TheVariants as predicates
 use Rattle.table_model.specs.Binding.{GeometryBinding, Checked, ◌>>=◌, bound_column, bound_operand, geometry_only, comparable, bound_predicate, bound_comparison, bound_null_test, bound_emptiness, bound_relation, bound_by_parts, bound_cond, unquoted}
-use Rattle.table_model.specs.BindingRules.{GeometryRules, Then, FirstFault, IsColumn, IsRefusedColumn, IsGeometry, IsNoGeometry, IsOperand, IsRefusedOperand, IsCompared, IsRefusedComparison, IsPredicate, IsRefusedPredicate, IsRelated, IsRefusedRelation, IsCond, AreConds, IsRefusedCond, AreRefused}
+use Rattle.table_model.specs.BindingRules.{GeometryRules, Then, FirstFault, IsBoundColumn, IsRefusedColumn, IsGeometryPart, IsNoGeometry, IsBoundOperand, IsRefusedOperand, IsCompared, IsRefusedComparison, IsBoundPredicate, IsRefusedPredicate, IsRelated, IsRefusedRelation, IsCond, AreConds, IsRefusedCond, AreRefused}
 use Rattle.table_model.specs.BindingRules as rule
 use Rattle.table_model.specs.Loading.{and_then, each}
 use Rattle.table_model.specs.declared.conditions.Comparison.{Comparison}
@@ -29,27 +29,27 @@ use Rattle.binding_laws.proofs.WrittenInduction.{by_written}
 -- ---- operands and predicates
 
 operand_agrees : {T A B C D : Type 0} (rules : GeometryRules T A B C D) (how : GeometryBinding T A B C D) → GeometryAgrees rules how → (schema : List (TableDef T)) (references : List Reference) (w : WrittenOperand A)
-    → Agrees (IsOperand rules schema references w) (IsRefusedOperand rules schema references w) (bound_operand how schema references w)
+    → Agrees (IsBoundOperand rules schema references w) (IsRefusedOperand rules schema references w) (bound_operand how schema references w)
 operand_agrees {T = T} rules how agrees schema references (written_operand.Column w) =
-    answered (IsColumn schema references w) (IsRefusedColumn schema references w) (bound_column schema references w) (λ found. record { part = operands.Column found.place; part_type = found.column_type }) (columns_agree T schema references w)
+    answered (IsBoundColumn schema references w) (IsRefusedColumn schema references w) (bound_column schema references w) (λ found. record { part = operands.Column found.place; part_type = found.column_type }) (columns_agree T schema references w)
 operand_agrees rules how agrees schema references (written_operand.Integer n) = pure (record { part = operands.Integer n; part_type = types.Integer })
 operand_agrees rules how agrees schema references (written_operand.Text w) = pure (record { part = operands.Text (unquoted w.text); part_type = types.Text })
 operand_agrees rules how agrees schema references written_operand.Null = pure (record { part = operands.Null; part_type = types.Null })
 operand_agrees rules how agrees schema references (written_operand.AsText at a) =
     sequence (rules.IsArgument schema references a) (rules.IsRefusedArgument schema references a)
-    (λ argument. Then (IsGeometry argument) (λ x typed. typed ≡ record { part = operands.AsText x; part_type = types.Text }))
-    (λ argument. FirstFault (IsGeometry argument) (IsNoGeometry at argument) (λ x fault. ⊥))
+    (λ argument. Then (IsGeometryPart argument) (λ x typed. typed ≡ record { part = operands.AsText x; part_type = types.Text }))
+    (λ argument. FirstFault (IsGeometryPart argument) (IsNoGeometry at argument) (λ x fault. ⊥))
     (how.argument schema references a) (λ argument. geometry_only at argument >>= (λ x. Ok (record { part = operands.AsText x; part_type = types.Text }))) (agrees.argument schema references a)
-    (λ argument is. answered (IsGeometry argument) (IsNoGeometry at argument) (geometry_only at argument) (λ x. record { part = operands.AsText x; part_type = types.Text }) (geometry_agrees at argument))
+    (λ argument is. answered (IsGeometryPart argument) (IsNoGeometry at argument) (geometry_only at argument) (λ x. record { part = operands.AsText x; part_type = types.Text }) (geometry_agrees at argument))
 operand_agrees rules how agrees schema references (written_operand.Dimension at a) =
     sequence (rules.IsArgument schema references a) (rules.IsRefusedArgument schema references a)
-    (λ argument. Then (IsGeometry argument) (λ x typed. typed ≡ record { part = operands.Dimension x; part_type = types.Integer }))
-    (λ argument. FirstFault (IsGeometry argument) (IsNoGeometry at argument) (λ x fault. ⊥))
+    (λ argument. Then (IsGeometryPart argument) (λ x typed. typed ≡ record { part = operands.Dimension x; part_type = types.Integer }))
+    (λ argument. FirstFault (IsGeometryPart argument) (IsNoGeometry at argument) (λ x fault. ⊥))
     (how.argument schema references a) (λ argument. geometry_only at argument >>= (λ x. Ok (record { part = operands.Dimension x; part_type = types.Integer }))) (agrees.argument schema references a)
-    (λ argument is. answered (IsGeometry argument) (IsNoGeometry at argument) (geometry_only at argument) (λ x. record { part = operands.Dimension x; part_type = types.Integer }) (geometry_agrees at argument))
+    (λ argument is. answered (IsGeometryPart argument) (IsNoGeometry at argument) (geometry_only at argument) (λ x. record { part = operands.Dimension x; part_type = types.Integer }) (geometry_agrees at argument))
 
 predicate_agrees : {T A B C D : Type 0} (rules : GeometryRules T A B C D) (how : GeometryBinding T A B C D) → GeometryAgrees rules how → (w : WrittenPredicate)
-    → Agrees (IsPredicate rules w) (IsRefusedPredicate rules w) (bound_predicate how.pattern w)
+    → Agrees (IsBoundPredicate rules w) (IsRefusedPredicate rules w) (bound_predicate how.pattern w)
 predicate_agrees rules how agrees (written_predicate.Named p) = pure p
 predicate_agrees rules how agrees (written_predicate.Relate string) =
     answered (rules.IsPattern string) (rules.IsRefusedPattern string) (how.pattern string) predicates.Relate (agrees.pattern string)
@@ -57,30 +57,30 @@ predicate_agrees rules how agrees (written_predicate.Relate string) =
 comparison_agrees : {T A B C D : Type 0} (rules : GeometryRules T A B C D) (how : GeometryBinding T A B C D) → GeometryAgrees rules how → (schema : List (TableDef T)) (references : List Reference) (at : ℕ) (sign : Comparison) (a b : WrittenOperand A)
     → Agrees (IsCompared rules schema references sign a b) (IsRefusedComparison rules schema references at a b) (bound_comparison how schema references at sign a b)
 comparison_agrees rules how agrees schema references at sign a b =
-    sequence (IsOperand rules schema references a) (IsRefusedOperand rules schema references a) _ _ (bound_operand how schema references a) _ (operand_agrees rules how agrees schema references a)
-    (λ left left_is. sequence (IsOperand rules schema references b) (IsRefusedOperand rules schema references b) _ _ (bound_operand how schema references b) _ (operand_agrees rules how agrees schema references b)
+    sequence (IsBoundOperand rules schema references a) (IsRefusedOperand rules schema references a) _ _ (bound_operand how schema references a) _ (operand_agrees rules how agrees schema references a)
+    (λ left left_is. sequence (IsBoundOperand rules schema references b) (IsRefusedOperand rules schema references b) _ _ (bound_operand how schema references b) _ (operand_agrees rules how agrees schema references b)
     (λ right right_is. types_tested (comparable left.part_type right.part_type) at (conds.Compare sign left.part right.part)))
 
 null_agrees : {T A B C D : Type 0} (rules : GeometryRules T A B C D) (how : GeometryBinding T A B C D) → GeometryAgrees rules how → (schema : List (TableDef T)) (references : List Reference) (a : WrittenOperand A)
-    → Agrees (Then (IsOperand rules schema references a) (λ operand cond. cond ≡ conds.IsNull operand.part)) (FirstFault (IsOperand rules schema references a) (IsRefusedOperand rules schema references a) (λ operand f. ⊥)) (bound_null_test how schema references a)
+    → Agrees (Then (IsBoundOperand rules schema references a) (λ operand cond. cond ≡ conds.IsNull operand.part)) (FirstFault (IsBoundOperand rules schema references a) (IsRefusedOperand rules schema references a) (λ operand f. ⊥)) (bound_null_test how schema references a)
 null_agrees rules how agrees schema references a =
-    answered (IsOperand rules schema references a) (IsRefusedOperand rules schema references a) (bound_operand how schema references a) (λ operand. conds.IsNull operand.part) (operand_agrees rules how agrees schema references a)
+    answered (IsBoundOperand rules schema references a) (IsRefusedOperand rules schema references a) (bound_operand how schema references a) (λ operand. conds.IsNull operand.part) (operand_agrees rules how agrees schema references a)
 
 emptiness_agrees : {T A B C D : Type 0} (rules : GeometryRules T A B C D) (how : GeometryBinding T A B C D) → GeometryAgrees rules how → (schema : List (TableDef T)) (references : List Reference) (at : ℕ) (a : A)
-    → Agrees (Then (rules.IsArgument schema references a) (λ argument. Then (IsGeometry argument) (λ x cond. cond ≡ conds.IsEmpty x)))
-    (FirstFault (rules.IsArgument schema references a) (rules.IsRefusedArgument schema references a) (λ argument. FirstFault (IsGeometry argument) (IsNoGeometry at argument) (λ x f. ⊥))) (bound_emptiness how schema references at a)
+    → Agrees (Then (rules.IsArgument schema references a) (λ argument. Then (IsGeometryPart argument) (λ x cond. cond ≡ conds.IsEmpty x)))
+    (FirstFault (rules.IsArgument schema references a) (rules.IsRefusedArgument schema references a) (λ argument. FirstFault (IsGeometryPart argument) (IsNoGeometry at argument) (λ x f. ⊥))) (bound_emptiness how schema references at a)
 emptiness_agrees rules how agrees schema references at a =
     sequence (rules.IsArgument schema references a) (rules.IsRefusedArgument schema references a) _ _ (how.argument schema references a) _ (agrees.argument schema references a)
-    (λ argument is. answered (IsGeometry argument) (IsNoGeometry at argument) (geometry_only at argument) conds.IsEmpty (geometry_agrees at argument))
+    (λ argument is. answered (IsGeometryPart argument) (IsNoGeometry at argument) (geometry_only at argument) conds.IsEmpty (geometry_agrees at argument))
 
 relation_agrees : {T A B C D : Type 0} (rules : GeometryRules T A B C D) (how : GeometryBinding T A B C D) → GeometryAgrees rules how → (schema : List (TableDef T)) (references : List Reference) (at : ℕ) (w : WrittenPredicate) (a b : A)
     → Agrees (IsRelated rules schema references w a b) (IsRefusedRelation rules schema references at w a b) (bound_relation how schema references at w a b)
 relation_agrees rules how agrees schema references at w a b =
     sequence (rules.IsArgument schema references a) (rules.IsRefusedArgument schema references a) _ _ (how.argument schema references a) _ (agrees.argument schema references a)
     (λ left left_is. sequence (rules.IsArgument schema references b) (rules.IsRefusedArgument schema references b) _ _ (how.argument schema references b) _ (agrees.argument schema references b)
-    (λ right right_is. sequence (IsPredicate rules w) (IsRefusedPredicate rules w) _ _ (bound_predicate how.pattern w) _ (predicate_agrees rules how agrees w)
-    (λ p p_is. sequence (IsGeometry left) (IsNoGeometry at left) _ _ (geometry_only at left) _ (geometry_agrees at left)
-    (λ x x_is. answered (IsGeometry right) (IsNoGeometry at right) (geometry_only at right) (λ y. conds.Relates p x y) (geometry_agrees at right)))))
+    (λ right right_is. sequence (IsBoundPredicate rules w) (IsRefusedPredicate rules w) _ _ (bound_predicate how.pattern w) _ (predicate_agrees rules how agrees w)
+    (λ p p_is. sequence (IsGeometryPart left) (IsNoGeometry at left) _ _ (geometry_only at left) _ (geometry_agrees at left)
+    (λ x x_is. answered (IsGeometryPart right) (IsNoGeometry at right) (geometry_only at right) (λ y. conds.Relates p x y) (geometry_agrees at right)))))
 
 -- ---- conditions: what is answered, the rules say
 

@@ -6,7 +6,7 @@ use Rattle.geometry_model.specs.Patterns.{pattern_of_text}
 use Rattle.geometry_model.specs.declared.geometry_faults.GeometryFault.{GeometryFault}
 use Rattle.geometry_model.specs.declared.relations.Pattern.{Pattern}
 use Rattle.table_model.specs.Binding.{bound_column, unquoted}
-use Rattle.table_model.specs.BindingRules.{IsColumn, IsRefusedColumn, IsGeometryArgument, IsRefusedGeometryArgument, geometry_rules}
+use Rattle.table_model.specs.BindingRules.{IsBoundColumn, IsRefusedColumn, IsGeometryArgument, IsRefusedGeometryArgument, geometry_rules}
 use Rattle.table_model.specs.GeometryColumns.{ColumnShape, bound_argument, literal, pattern_or, geometry_binding}
 use Rattle.table_model.specs.declared.conditions.GeometryArgument.TheVariants as arguments
 use Rattle.table_model.specs.declared.conditions.Reference.{Reference}
@@ -53,13 +53,13 @@ pattern_agrees at None = record {
 argument_agrees : (schema : List (TableDef ColumnShape)) (references : List Reference) (a : WrittenGeometry)
     → Agrees (IsGeometryArgument schema references a) (IsRefusedGeometryArgument schema references a) (bound_argument schema references a)
 argument_agrees schema references (written_geometry.Column w) =
-    answered (IsColumn schema references w) (IsRefusedColumn schema references w) (bound_column schema references w) (λ found. record { part = arguments.Column found.place; part_type = found.column_type }) (columns_agree ColumnShape schema references w)
+    answered (IsBoundColumn schema references w) (IsRefusedColumn schema references w) (bound_column schema references w) (λ found. record { part = arguments.Column found.place; part_type = found.column_type }) (columns_agree ColumnShape schema references w)
 argument_agrees schema references (written_geometry.FromText string) = literal_agrees string.at (geometry_in_text (unquoted string.text))
 
 pub geometry_agrees : GeometryAgrees geometry_rules geometry_binding
 geometry_agrees = record {
   argument = argument_agrees;
-  item_argument = λ schema references w. answered (IsColumn schema references w) (IsRefusedColumn schema references w) (bound_column schema references w) (λ found. record { part = found.place; part_type = found.column_type }) (columns_agree ColumnShape schema references w);
+  item_argument = λ schema references w. answered (IsBoundColumn schema references w) (IsRefusedColumn schema references w) (bound_column schema references w) (λ found. record { part = found.place; part_type = found.column_type }) (columns_agree ColumnShape schema references w);
   pattern = λ string. pattern_agrees string.at (pattern_of_text (unquoted string.text));
 }
 

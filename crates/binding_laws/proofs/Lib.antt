@@ -4,5 +4,9 @@ pub mod WrittenInduction
 pub mod BoundFacts
 pub mod RuleFacts
 pub mod NameFacts
+pub mod FromFacts
+pub mod AllColumnFacts
+pub mod ItemRules
 pub mod CondRules
 pub mod GeometryRuleFacts
+pub mod QueryRuleFacts

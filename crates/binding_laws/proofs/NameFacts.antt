@@ -2,7 +2,7 @@
 use Rattle.std.proofs.Common.{◌≡◌, ◌+◌, inl, inr, ℕ, zero, suc, Bool, true, false, if◌then◌else◌, List, [], ◌∷◌, Option, Some, None, Ok, Err, IfOk, IfErr, refl, sym, ap, subst, ◌∙◌, arith}
 use Rattle.std.specs.List.{cons_option}
 use Rattle.table_model.specs.Binding.{Checked, columns_of, column_named, found_in, refers_to, column_meant, columns_meant, the_one, bound_column, name_start, type_of}
-use Rattle.table_model.specs.BindingRules.{IsNowhere, IsSomewhere, IsTwice, IsFirst, IsOnly, IsColumnNamed, MayBeOf, HasColumn, IsColumn, IsRefusedColumn}
+use Rattle.table_model.specs.BindingRules.{IsNowhere, IsSomewhere, IsTwice, IsFirst, IsOnly, IsColumnNamed, MayBeOf, HasColumn, IsBoundColumn, IsRefusedColumn}
 use Rattle.table_model.specs.Texts.{same_name}
 use Rattle.table_model.specs.declared.conditions.Reference.{Reference}
 use Rattle.table_model.specs.declared.definitions.ColumnDef.{ColumnDef}
@@ -53,7 +53,7 @@ looked name k (column ∷ columns) = at_name (same_name column.name name) refl (
     at_name true is more = (zero, column, start k, (refl, is), refl)
     at_name false is more = further name k column columns (column_named name (k + 1) columns) (λ h. differ (sym is ∙ h)) more
 
-somewhere : {X : Type 0} (P : X → Type 0) (xs : List X) (place : ℕ) (x : X) → IsFirst P xs place x → IsSomewhere P xs
+pub somewhere : {X : Type 0} (P : X → Type 0) (xs : List X) (place : ℕ) (x : X) → IsFirst P xs place x → IsSomewhere P xs
 somewhere P [] place x is = is
 somewhere P (y ∷ ys) zero x is = inl is.1
 somewhere P (y ∷ ys) (suc place) x is = inr (somewhere P ys place x is.1)
@@ -68,7 +68,7 @@ twice_somewhere P [] is = is
 twice_somewhere P (x ∷ xs) (inl is) = inl is.0
 twice_somewhere P (x ∷ xs) (inr is) = inr (twice_somewhere P xs is)
 
-not_nowhere : {X : Type 0} (P : X → Type 0) (xs : List X) → IsSomewhere P xs → IsNowhere P xs → ⊥
+pub not_nowhere : {X : Type 0} (P : X → Type 0) (xs : List X) → IsSomewhere P xs → IsNowhere P xs → ⊥
 not_nowhere P [] is none = is
 not_nowhere P (x ∷ xs) (inl is) none = none.0 is
 not_nowhere P (x ∷ xs) (inr is) none = not_nowhere P xs is none.1
@@ -81,7 +81,7 @@ not_twice P (y ∷ ys) (suc place) x is (inl two) = is.0 two.0
 not_twice P (y ∷ ys) (suc place) x is (inr two) = not_twice P ys place x is.1 two
 
 -- the first is one, and the only one is one
-first_is_one : {X : Type 0} (P : X → Type 0) (xs : List X) (i j : ℕ) (x y : X) → IsFirst P xs i x → IsFirst P xs j y → (i ≡ j) × (x ≡ y)
+pub first_is_one : {X : Type 0} (P : X → Type 0) (xs : List X) (i j : ℕ) (x y : X) → IsFirst P xs i x → IsFirst P xs j y → (i ≡ j) × (x ≡ y)
 first_is_one P [] i j x y is too = absurd is
 first_is_one P (z ∷ zs) zero zero x y is too = (refl, sym is.0 ∙ too.0)
 first_is_one P (z ∷ zs) zero (suc j) x y is too = absurd (too.0 is.1)
@@ -168,7 +168,7 @@ meant schema w k (reference ∷ references) =
 -- ---- agreement
 
 total : {T : Type 0} (schema : List (TableDef T)) (references : List Reference) (w : WrittenColumn) (fs : List Found) → Meant schema w zero references fs
-    → IfOk (the_one (name_start w.name w.reference) fs) (IsColumn schema references w) × IfErr (the_one (name_start w.name w.reference) fs) (IsRefusedColumn schema references w)
+    → IfOk (the_one (name_start w.name w.reference) fs) (IsBoundColumn schema references w) × IfErr (the_one (name_start w.name w.reference) fs) (IsRefusedColumn schema references w)
 unfolding Meant OnlyMeant
 total schema references w [] is = (tt, inl (is, refl))
 total schema references w (f ∷ []) is = ((is.1, is.2, subst (λ n. IsOnly (HasColumn schema w) references n is.1) (end is.0 ∙ sym is.3) is.4, is.5, is.6), tt)
@@ -177,7 +177,7 @@ total schema references w (f ∷ []) is = ((is.1, is.2, subst (λ n. IsOnly (Has
     end n = omega arith
 total schema references w (f ∷ g ∷ fs) is = (tt, inr (is, refl))
 
-same_found : {T : Type 0} (schema : List (TableDef T)) (references : List Reference) (w : WrittenColumn) (f g : Found) → IsColumn schema references w f → IsColumn schema references w g → f ≡ g
+same_found : {T : Type 0} (schema : List (TableDef T)) (references : List Reference) (w : WrittenColumn) (f g : Found) → IsBoundColumn schema references w f → IsBoundColumn schema references w g → f ≡ g
 same_found {T} schema references w f g is too =
     λ i. record { place = record { reference = at.0 i; column = (column_at at.1).0 i }; column_type = (is.4 ∙ ap (λ (c : ColumnDef T). type_of c.column_type) (column_at at.1).1 ∙ sym too.4) i }
   where
@@ -188,7 +188,7 @@ same_found {T} schema references w f g is too =
     column_at e = first_is_one (IsColumnNamed w.name.text) (columns_of schema too.0) f.place.column g.place.column is.1 too.1
         (subst (λ r. IsFirst (IsColumnNamed w.name.text) (columns_of schema r) f.place.column is.1) e is.3) too.3
 
-one_or_refused : {T : Type 0} (schema : List (TableDef T)) (references : List Reference) (w : WrittenColumn) (f : Found) (e : QueryFault) → IsColumn schema references w f → IsRefusedColumn schema references w e → ⊥
+one_or_refused : {T : Type 0} (schema : List (TableDef T)) (references : List Reference) (w : WrittenColumn) (f : Found) (e : QueryFault) → IsBoundColumn schema references w f → IsRefusedColumn schema references w e → ⊥
 one_or_refused schema references w f e is (inl none) = not_nowhere (HasColumn schema w) references (only_somewhere (HasColumn schema w) references f.place.reference is.0 is.2) none.0
 one_or_refused schema references w f e is (inr two) = not_twice (HasColumn schema w) references f.place.reference is.0 is.2 two.0
 
@@ -206,7 +206,7 @@ agreed Is Refused (Err d) none is one either fault = record { stands = tt; refus
 
 pub columns_agree : (T : Type 0) → ColumnsAgree T
 columns_agree T schema references w =
-    agreed (IsColumn schema references w) (IsRefusedColumn schema references w) (bound_column schema references w)
+    agreed (IsBoundColumn schema references w) (IsRefusedColumn schema references w) (bound_column schema references w)
     (total schema references w (columns_meant schema w zero references) (meant schema w zero references)).0
     (total schema references w (columns_meant schema w zero references) (meant schema w zero references)).1
     (same_found schema references w) (one_or_refused schema references w) (same_fault schema references w)

@@ -1,7 +1,7 @@
 -- What is bound, and where a query is refused, agrees with the rules: steps, names and types.
 use Rattle.std.proofs.Common.{◌≡◌, inl, inr, ℕ, Bool, true, false, if◌then◌else◌, Ok, Err, IfOk, IfErr, refl, sym, ap, subst, ◌∙◌}
 use Rattle.table_model.specs.Binding.{Checked, ◌>>=◌, geometry_of_type, geometry_only, checked_types}
-use Rattle.table_model.specs.BindingRules.{Then, FirstFault, IsGeometry, IsNoGeometry}
+use Rattle.table_model.specs.BindingRules.{Then, FirstFault, IsGeometryPart, IsNoGeometry}
 use Rattle.table_model.specs.declared.faults.QueryFault.{QueryFault}
 use Rattle.table_model.specs.declared.faults.QueryFault.TheVariants as faults
 use Rattle.table_model.specs.declared.typing.OperandType.{OperandType}
@@ -9,11 +9,11 @@ use Rattle.table_model.specs.declared.typing.OperandType.TheVariants as types
 use Rattle.table_model.specs.declared.typing.Typed.{Typed}
 use Rattle.binding_laws.specs.RuleLaws.{Agrees}
 
-if_ok : {X : Type 0} (r : Checked X) (P Q : X → Type 0) → ((x : X) → P x → Q x) → IfOk r P → IfOk r Q
+pub if_ok : {X : Type 0} (r : Checked X) (P Q : X → Type 0) → ((x : X) → P x → Q x) → IfOk r P → IfOk r Q
 if_ok (Ok x) P Q to is = to x is
 if_ok (Err e) P Q to is = tt
 
-if_err : {X : Type 0} (r : Checked X) (P Q : QueryFault → Type 0) → ((e : QueryFault) → P e → Q e) → IfErr r P → IfErr r Q
+pub if_err : {X : Type 0} (r : Checked X) (P Q : QueryFault → Type 0) → ((e : QueryFault) → P e → Q e) → IfErr r P → IfErr r Q
 if_err (Ok x) P Q to is = tt
 if_err (Err e) P Q to is = to e is
 
@@ -59,9 +59,9 @@ pub answered : {X Y : Type 0} (First : X → Type 0) (Refused : QueryFault → T
 answered First Refused r v a = sequence First Refused (λ x y. y ≡ v x) (λ x fault. ⊥) r (λ x. Ok (v x)) a (λ x is. pure (v x))
 
 -- a test between a fault and an answer
-pub tested : {X : Type 0} (b : Bool) (e : QueryFault) (v : X) → Agrees (λ x. (b ≡ false) × (x ≡ v)) (λ fault. (b ≡ true) × (fault ≡ e)) (if b then Err e else Ok v)
-tested true e v = record { stands = tt; refused = (refl, refl); answers = λ x is. absurd (differ (sym is.0)); refuses = λ fault is. ap Err (sym is.1) }
-tested false e v = record { stands = (refl, refl); refused = tt; answers = λ x is. ap Ok (sym is.1); refuses = λ fault is. absurd (differ is.0) }
+pub tested : {X : Type 0} (b : Bool) (e : QueryFault) (v : X) → Agrees (λ x. (b ≡ true → ⊥) × (x ≡ v)) (λ fault. (b ≡ true) × (fault ≡ e)) (if b then Err e else Ok v)
+tested true e v = record { stands = tt; refused = (refl, refl); answers = λ x is. absurd (is.0 refl); refuses = λ fault is. ap Err (sym is.1) }
+tested false e v = record { stands = (differ, refl); refused = tt; answers = λ x is. ap Ok (sym is.1); refuses = λ fault is. absurd (differ is.0) }
 
 -- a test of types
 pub types_tested : {X : Type 0} (b : Bool) (at : ℕ) (v : X) → Agrees (λ x. (b ≡ true) × (x ≡ v)) (λ fault. (b ≡ false) × (fault ≡ faults.TypeMismatch at)) (checked_types b at v)
@@ -92,5 +92,5 @@ of_type at part types.Integer = of_other at part types.Integer (λ h. subst IsOt
 of_type at part types.Text = of_other at part types.Text (λ h. subst IsOther h tt) refl
 of_type at part types.Null = of_other at part types.Null (λ h. subst IsOther h tt) refl
 
-pub geometry_agrees : {X : Type 0} (at : ℕ) (typed : Typed X) → Agrees (IsGeometry typed) (IsNoGeometry at typed) (geometry_only at typed)
+pub geometry_agrees : {X : Type 0} (at : ℕ) (typed : Typed X) → Agrees (IsGeometryPart typed) (IsNoGeometry at typed) (geometry_only at typed)
 geometry_agrees at typed = of_type at typed.part typed.part_type

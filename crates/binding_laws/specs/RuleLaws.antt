@@ -1,15 +1,18 @@
 -- The laws of what a query is bound to: the functions of binding answer what the rules say, and the rules say what they answer.
-use Rattle.std.specs.Prelude.{◌≡◌, List, Ok, Err, IfOk, IfErr}
-use Rattle.table_model.specs.Binding.{Checked, GeometryBinding, bound_column, bound_cond}
-use Rattle.table_model.specs.BindingRules.{GeometryRules, IsColumn, IsRefusedColumn, IsCond, IsRefusedCond, geometry_rules}
+use Rattle.std.specs.Prelude.{◌≡◌, List, Option, Ok, Err, IfOk, IfErr}
+use Rattle.table_model.specs.Binding.{Checked, GeometryBinding, binding, bound_column, bound_cond, bound_references, statement}
+use Rattle.table_model.specs.BindingRules.{GeometryRules, IsBoundColumn, IsRefusedColumn, IsCond, IsRefusedCond, geometry_rules}
 use Rattle.table_model.specs.GeometryColumns.{ColumnShape, geometry_binding}
+use Rattle.table_model.specs.QueryRules.{IsBinding, IsFrom, IsRefusedFrom, IsRefusedQuery, IsStatement}
 use Rattle.table_model.specs.declared.conditions.Reference.{Reference}
 use Rattle.table_model.specs.declared.definitions.TableDef.{TableDef}
 use Rattle.table_model.specs.declared.faults.QueryFault.{QueryFault}
 use Rattle.table_model.specs.declared.queries.Name.{Name}
+use Rattle.table_model.specs.declared.queries.Query.{Query}
 use Rattle.table_model.specs.declared.queries.WrittenColumn.{WrittenColumn}
 use Rattle.table_model.specs.declared.queries.WrittenCond.{WrittenCond}
 use Rattle.table_model.specs.declared.queries.WrittenGeometry.{WrittenGeometry}
+use Rattle.table_model.specs.declared.queries.WrittenReference.{WrittenReference}
 
 -- an answer agrees with rules: what is answered they say, and what they say is answered, so that they say one thing at most
 pub record Agrees {X : Type 0} (Is : X → Type 0) (Refused : QueryFault → Type 0) (answer : Checked X) : Type 0 where
@@ -26,12 +29,27 @@ pub record GeometryAgrees {T A B C D : Type 0} (rules : GeometryRules T A B C D)
       → Agrees (rules.IsItemArgument schema references c) (rules.IsRefusedItemArgument schema references c) (how.item_argument schema references c)
   pub pattern : (string : Name) → Agrees (rules.IsPattern string) (rules.IsRefusedPattern string) (how.pattern string)
 
+-- what the tables of FROM are bound to, and where they are refused, is what the rules say (SQL, FROM)
+abbrev pub ReferencesAgree : (T : Type 0) → Type 0
+ReferencesAgree T = (schema : List (TableDef T)) (first : WrittenReference) (second : Option WrittenReference)
+    → Agrees (IsFrom schema first second) (IsRefusedFrom schema first second) (bound_references schema first second)
+
 -- what a column is bound to, and where it is refused, is what the rules say (SQL, column names)
 abbrev pub ColumnsAgree : (T : Type 0) → Type 0
 ColumnsAgree T = (schema : List (TableDef T)) (references : List Reference) (written : WrittenColumn)
-    → Agrees (IsColumn schema references written) (IsRefusedColumn schema references written) (bound_column schema references written)
+    → Agrees (IsBoundColumn schema references written) (IsRefusedColumn schema references written) (bound_column schema references written)
 
 -- what a condition with geometries is bound to, and where it is refused, is what the rules say (06-104r4, 7.2)
 abbrev pub ConditionsAgree : Type 0
 ConditionsAgree = (schema : List (TableDef ColumnShape)) (references : List Reference) (written : WrittenCond WrittenGeometry)
     → Agrees (IsCond geometry_rules schema references written) (IsRefusedCond geometry_rules schema references written) (bound_cond geometry_binding schema references written)
+
+-- what a query with geometries is bound to as it stands, and where it is refused, is what the rules say (06-104r4, 7.2)
+abbrev pub StatementsAgree : Type 0
+StatementsAgree = (schema : List (TableDef ColumnShape)) (query : Query WrittenGeometry WrittenColumn)
+    → Agrees (IsStatement geometry_rules schema query) (IsRefusedQuery geometry_rules schema query) (statement geometry_binding schema query)
+
+-- what it is bound to with its conjuncts, and where it is refused, is what the rules say (06-104r4, 7.2)
+abbrev pub BindingsAgree : Type 0
+BindingsAgree = (schema : List (TableDef ColumnShape)) (query : Query WrittenGeometry WrittenColumn)
+    → Agrees (IsBinding geometry_rules schema query) (IsRefusedQuery geometry_rules schema query) (binding geometry_binding schema query)

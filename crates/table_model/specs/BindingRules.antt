@@ -81,18 +81,18 @@ FirstFault {X} First Refused then_refused fault = Refused fault ⊎ ((x : X) × 
 -- ---- names
 
 -- two names are one, without regard to ASCII case (SQL, names)
-abbrev pub IsName : List ℕ → List ℕ → Type 0
-IsName a b = same_name a b ≡ true
+abbrev pub AreOneName : List ℕ → List ℕ → Type 0
+AreOneName a b = same_name a b ≡ true
 
 -- a column has this name (SQL, names of columns)
 abbrev pub IsColumnNamed : {T : Type 0} → List ℕ → ColumnDef T → Type 0
-IsColumnNamed name column = IsName column.name name
+IsColumnNamed name column = AreOneName column.name name
 
 -- ---- columns
 
 -- a column without a reference may be one of each; with one, one of that reference: an alias hides the table's name (SQL, qualified names)
 abbrev pub MayBeOf : Option Name → Reference → Type 0
-MayBeOf (Some written) reference = IsName written.text reference.name
+MayBeOf (Some written) reference = AreOneName written.text reference.name
 MayBeOf None reference = Unit {0}
 
 -- a reference has a column that is written (SQL, column names)
@@ -100,8 +100,8 @@ abbrev pub HasColumn : {T : Type 0} → List (TableDef T) → WrittenColumn → 
 HasColumn schema written reference = MayBeOf written.reference reference × IsSomewhere (IsColumnNamed written.name.text) (columns_of schema reference)
 
 -- a column is the first of its name of the only reference that has it (SQL, column names)
-abbrev pub IsColumn : {T : Type 0} → List (TableDef T) → List Reference → WrittenColumn → Found → Type 0
-IsColumn {T} schema references written found =
+abbrev pub IsBoundColumn : {T : Type 0} → List (TableDef T) → List Reference → WrittenColumn → Found → Type 0
+IsBoundColumn {T} schema references written found =
     (reference : Reference) × (column : ColumnDef T)
     × IsOnly (HasColumn schema written) references found.place.reference reference
     × IsFirst (IsColumnNamed written.name.text) (columns_of schema reference) found.place.column column
@@ -125,56 +125,56 @@ pub record GeometryRules (T A B C D : Type 0) : Type 1 where
   pub IsRefusedPattern : Name → QueryFault → Type 0
 
 -- an argument, where it is a geometry
-abbrev pub IsGeometry : {X : Type 0} → Typed X → X → Type 0
-IsGeometry typed x = (typed.part_type ≡ types.Geometry) × (x ≡ typed.part)
+abbrev pub IsGeometryPart : {X : Type 0} → Typed X → X → Type 0
+IsGeometryPart typed x = (typed.part_type ≡ types.Geometry) × (x ≡ typed.part)
 
 -- Q7 where it is none, at the first byte of the predicate or call
 abbrev pub IsNoGeometry : {X : Type 0} → ℕ → Typed X → QueryFault → Type 0
 IsNoGeometry at typed fault = (typed.part_type ≡ types.Geometry → ⊥) × (fault ≡ faults.TypeMismatch at)
 
 -- a side of a comparison, with its type (SQL, comparison)
-abbrev pub IsOperand : {T A B C D : Type 0} → GeometryRules T A B C D → List (TableDef T) → List Reference → WrittenOperand A → Typed (Operand B) → Type 0
-IsOperand rules schema references (written_operand.Column written) =
-    Then (IsColumn schema references written) (λ found typed. typed ≡ record { part = operands.Column found.place; part_type = found.column_type })
-IsOperand rules schema references (written_operand.Integer n) = λ typed. typed ≡ record { part = operands.Integer n; part_type = types.Integer }
-IsOperand rules schema references (written_operand.Text written) = λ typed. typed ≡ record { part = operands.Text (unquoted written.text); part_type = types.Text }
-IsOperand rules schema references written_operand.Null = λ typed. typed ≡ record { part = operands.Null; part_type = types.Null }
-IsOperand rules schema references (written_operand.AsText at a) =
-    Then (rules.IsArgument schema references a) (λ argument. Then (IsGeometry argument) (λ x typed. typed ≡ record { part = operands.AsText x; part_type = types.Text }))
-IsOperand rules schema references (written_operand.Dimension at a) =
-    Then (rules.IsArgument schema references a) (λ argument. Then (IsGeometry argument) (λ x typed. typed ≡ record { part = operands.Dimension x; part_type = types.Integer }))
+abbrev pub IsBoundOperand : {T A B C D : Type 0} → GeometryRules T A B C D → List (TableDef T) → List Reference → WrittenOperand A → Typed (Operand B) → Type 0
+IsBoundOperand rules schema references (written_operand.Column written) =
+    Then (IsBoundColumn schema references written) (λ found typed. typed ≡ record { part = operands.Column found.place; part_type = found.column_type })
+IsBoundOperand rules schema references (written_operand.Integer n) = λ typed. typed ≡ record { part = operands.Integer n; part_type = types.Integer }
+IsBoundOperand rules schema references (written_operand.Text written) = λ typed. typed ≡ record { part = operands.Text (unquoted written.text); part_type = types.Text }
+IsBoundOperand rules schema references written_operand.Null = λ typed. typed ≡ record { part = operands.Null; part_type = types.Null }
+IsBoundOperand rules schema references (written_operand.AsText at a) =
+    Then (rules.IsArgument schema references a) (λ argument. Then (IsGeometryPart argument) (λ x typed. typed ≡ record { part = operands.AsText x; part_type = types.Text }))
+IsBoundOperand rules schema references (written_operand.Dimension at a) =
+    Then (rules.IsArgument schema references a) (λ argument. Then (IsGeometryPart argument) (λ x typed. typed ≡ record { part = operands.Dimension x; part_type = types.Integer }))
 
 -- where a side is refused: at its column, at its argument, or as a call of what is no geometry
 abbrev pub IsRefusedOperand : {T A B C D : Type 0} → GeometryRules T A B C D → List (TableDef T) → List Reference → WrittenOperand A → QueryFault → Type 0
 IsRefusedOperand rules schema references (written_operand.Column written) =
-    FirstFault (IsColumn schema references written) (IsRefusedColumn schema references written) (λ found fault. ⊥)
+    FirstFault (IsBoundColumn schema references written) (IsRefusedColumn schema references written) (λ found fault. ⊥)
 IsRefusedOperand rules schema references (written_operand.Integer n) = λ fault. ⊥
 IsRefusedOperand rules schema references (written_operand.Text written) = λ fault. ⊥
 IsRefusedOperand rules schema references written_operand.Null = λ fault. ⊥
 IsRefusedOperand rules schema references (written_operand.AsText at a) =
     FirstFault (rules.IsArgument schema references a) (rules.IsRefusedArgument schema references a)
-    (λ argument. FirstFault (IsGeometry argument) (IsNoGeometry at argument) (λ x fault. ⊥))
+    (λ argument. FirstFault (IsGeometryPart argument) (IsNoGeometry at argument) (λ x fault. ⊥))
 IsRefusedOperand rules schema references (written_operand.Dimension at a) =
     FirstFault (rules.IsArgument schema references a) (rules.IsRefusedArgument schema references a)
-    (λ argument. FirstFault (IsGeometry argument) (IsNoGeometry at argument) (λ x fault. ⊥))
+    (λ argument. FirstFault (IsGeometryPart argument) (IsNoGeometry at argument) (λ x fault. ⊥))
 
 -- a comparison, its sides being both integers or both texts, NULL being either (SQL, comparison)
 abbrev pub IsCompared : {T A B C D : Type 0} → GeometryRules T A B C D → List (TableDef T) → List Reference → Comparison → WrittenOperand A → WrittenOperand A → Cond B → Type 0
 IsCompared rules schema references sign a b =
-    Then (IsOperand rules schema references a) (λ left. Then (IsOperand rules schema references b)
+    Then (IsBoundOperand rules schema references a) (λ left. Then (IsBoundOperand rules schema references b)
     (λ right cond. (comparable left.part_type right.part_type ≡ true) × (cond ≡ conds.Compare sign left.part right.part)))
 
 -- Q7 at a comparison of other types, after the faults of its sides
 abbrev pub IsRefusedComparison : {T A B C D : Type 0} → GeometryRules T A B C D → List (TableDef T) → List Reference → ℕ → WrittenOperand A → WrittenOperand A → QueryFault → Type 0
 IsRefusedComparison rules schema references at a b =
-    FirstFault (IsOperand rules schema references a) (IsRefusedOperand rules schema references a)
-    (λ left. FirstFault (IsOperand rules schema references b) (IsRefusedOperand rules schema references b)
+    FirstFault (IsBoundOperand rules schema references a) (IsRefusedOperand rules schema references a)
+    (λ left. FirstFault (IsBoundOperand rules schema references b) (IsRefusedOperand rules schema references b)
     (λ right fault. (comparable left.part_type right.part_type ≡ false) × (fault ≡ faults.TypeMismatch at)))
 
 -- the predicate that is written, its pattern read
-abbrev pub IsPredicate : {T A B C D : Type 0} → GeometryRules T A B C D → WrittenPredicate → Predicate → Type 0
-IsPredicate rules (written_predicate.Named predicate) = λ bound. bound ≡ predicate
-IsPredicate rules (written_predicate.Relate string) = Then (rules.IsPattern string) (λ pattern bound. bound ≡ predicates.Relate pattern)
+abbrev pub IsBoundPredicate : {T A B C D : Type 0} → GeometryRules T A B C D → WrittenPredicate → Predicate → Type 0
+IsBoundPredicate rules (written_predicate.Named predicate) = λ bound. bound ≡ predicate
+IsBoundPredicate rules (written_predicate.Relate string) = Then (rules.IsPattern string) (λ pattern bound. bound ≡ predicates.Relate pattern)
 
 -- where a pattern is refused
 abbrev pub IsRefusedPredicate : {T A B C D : Type 0} → GeometryRules T A B C D → WrittenPredicate → QueryFault → Type 0
@@ -184,17 +184,17 @@ IsRefusedPredicate rules (written_predicate.Relate string) = FirstFault (rules.I
 -- a predicate of two geometries: its arguments, its pattern, then whether the arguments are geometries (06-103r4, 6.1.15.3)
 abbrev pub IsRelated : {T A B C D : Type 0} → GeometryRules T A B C D → List (TableDef T) → List Reference → WrittenPredicate → A → A → Cond B → Type 0
 IsRelated rules schema references written a b =
-    Then (rules.IsArgument schema references a) (λ left. Then (rules.IsArgument schema references b) (λ right. Then (IsPredicate rules written)
-    (λ predicate. Then (IsGeometry left) (λ x. Then (IsGeometry right) (λ y cond. cond ≡ conds.Relates predicate x y)))))
+    Then (rules.IsArgument schema references a) (λ left. Then (rules.IsArgument schema references b) (λ right. Then (IsBoundPredicate rules written)
+    (λ predicate. Then (IsGeometryPart left) (λ x. Then (IsGeometryPart right) (λ y cond. cond ≡ conds.Relates predicate x y)))))
 
 -- where it is refused, in the same order
 abbrev pub IsRefusedRelation : {T A B C D : Type 0} → GeometryRules T A B C D → List (TableDef T) → List Reference → ℕ → WrittenPredicate → A → A → QueryFault → Type 0
 IsRefusedRelation rules schema references at written a b =
     FirstFault (rules.IsArgument schema references a) (rules.IsRefusedArgument schema references a)
     (λ left. FirstFault (rules.IsArgument schema references b) (rules.IsRefusedArgument schema references b)
-    (λ right. FirstFault (IsPredicate rules written) (IsRefusedPredicate rules written)
-    (λ predicate. FirstFault (IsGeometry left) (IsNoGeometry at left)
-    (λ x. FirstFault (IsGeometry right) (IsNoGeometry at right) (λ y fault. ⊥)))))
+    (λ right. FirstFault (IsBoundPredicate rules written) (IsRefusedPredicate rules written)
+    (λ predicate. FirstFault (IsGeometryPart left) (IsNoGeometry at left)
+    (λ x. FirstFault (IsGeometryPart right) (IsNoGeometry at right) (λ y fault. ⊥)))))
 
 mutual
   -- what a written condition is bound to (SQL, the search condition)
@@ -203,8 +203,8 @@ mutual
     And : (parts : List (WrittenCond A)) (bound : List (Cond B)) → AreConds rules schema references parts bound → IsCond rules schema references (written_cond.And parts) (conds.And bound)
     Not : (part : WrittenCond A) (bound : Cond B) → IsCond rules schema references part bound → IsCond rules schema references (written_cond.Not part) (conds.Not bound)
     Compared : (at : ℕ) (sign : Comparison) (a b : WrittenOperand A) (bound : Cond B) → IsCompared rules schema references sign a b bound → IsCond rules schema references (written_cond.Compare at sign a b) bound
-    Null : (a : WrittenOperand A) (bound : Cond B) → Then (IsOperand rules schema references a) (λ operand cond. cond ≡ conds.IsNull operand.part) bound → IsCond rules schema references (written_cond.IsNull a) bound
-    Empty : (at : ℕ) (a : A) (bound : Cond B) → Then (rules.IsArgument schema references a) (λ argument. Then (IsGeometry argument) (λ x cond. cond ≡ conds.IsEmpty x)) bound → IsCond rules schema references (written_cond.IsEmpty at a) bound
+    Null : (a : WrittenOperand A) (bound : Cond B) → Then (IsBoundOperand rules schema references a) (λ operand cond. cond ≡ conds.IsNull operand.part) bound → IsCond rules schema references (written_cond.IsNull a) bound
+    Empty : (at : ℕ) (a : A) (bound : Cond B) → Then (rules.IsArgument schema references a) (λ argument. Then (IsGeometryPart argument) (λ x cond. cond ≡ conds.IsEmpty x)) bound → IsCond rules schema references (written_cond.IsEmpty at a) bound
     Related : (at : ℕ) (predicate : WrittenPredicate) (a b : A) (bound : Cond B) → IsRelated rules schema references predicate a b bound → IsCond rules schema references (written_cond.Relates at predicate a b) bound
 
   -- what each of some conditions is bound to
@@ -220,8 +220,8 @@ mutual
     InAnd : (parts : List (WrittenCond A)) (fault : QueryFault) → AreRefused rules schema references parts fault → IsRefusedCond rules schema references (written_cond.And parts) fault
     InNot : (part : WrittenCond A) (fault : QueryFault) → IsRefusedCond rules schema references part fault → IsRefusedCond rules schema references (written_cond.Not part) fault
     InComparison : (at : ℕ) (sign : Comparison) (a b : WrittenOperand A) (fault : QueryFault) → IsRefusedComparison rules schema references at a b fault → IsRefusedCond rules schema references (written_cond.Compare at sign a b) fault
-    InNull : (a : WrittenOperand A) (fault : QueryFault) → FirstFault (IsOperand rules schema references a) (IsRefusedOperand rules schema references a) (λ operand f. ⊥) fault → IsRefusedCond rules schema references (written_cond.IsNull a) fault
-    InEmpty : (at : ℕ) (a : A) (fault : QueryFault) → FirstFault (rules.IsArgument schema references a) (rules.IsRefusedArgument schema references a) (λ argument. FirstFault (IsGeometry argument) (IsNoGeometry at argument) (λ x f. ⊥)) fault
+    InNull : (a : WrittenOperand A) (fault : QueryFault) → FirstFault (IsBoundOperand rules schema references a) (IsRefusedOperand rules schema references a) (λ operand f. ⊥) fault → IsRefusedCond rules schema references (written_cond.IsNull a) fault
+    InEmpty : (at : ℕ) (a : A) (fault : QueryFault) → FirstFault (rules.IsArgument schema references a) (rules.IsRefusedArgument schema references a) (λ argument. FirstFault (IsGeometryPart argument) (IsNoGeometry at argument) (λ x f. ⊥)) fault
         → IsRefusedCond rules schema references (written_cond.IsEmpty at a) fault
     InRelation : (at : ℕ) (predicate : WrittenPredicate) (a b : A) (fault : QueryFault) → IsRefusedRelation rules schema references at predicate a b fault → IsRefusedCond rules schema references (written_cond.Relates at predicate a b) fault
 
@@ -236,13 +236,13 @@ mutual
 -- an argument of a condition: a column of any type, whose type is tested afterwards, or ST_GeomFromText of a string that spells a valid geometry (06-104r4, 7.2)
 abbrev pub IsGeometryArgument : List (TableDef ColumnShape) → List Reference → WrittenGeometry → Typed (GeometryArgument Geometry) → Type 0
 IsGeometryArgument schema references (written_geometry.Column written) =
-    Then (IsColumn schema references written) (λ found typed. typed ≡ record { part = arguments.Column found.place; part_type = found.column_type })
+    Then (IsBoundColumn schema references written) (λ found typed. typed ≡ record { part = arguments.Column found.place; part_type = found.column_type })
 IsGeometryArgument schema references (written_geometry.FromText string) =
     λ typed. (g : Geometry) × (geometry_in_text (unquoted string.text) ≡ Ok g) × (typed ≡ record { part = arguments.Literal g; part_type = types.Geometry })
 
 -- Q8 at a string that spells no valid geometry, its bytes being those of the string's value (06-104r4, 7.2)
 abbrev pub IsRefusedGeometryArgument : List (TableDef ColumnShape) → List Reference → WrittenGeometry → QueryFault → Type 0
-IsRefusedGeometryArgument schema references (written_geometry.Column written) = FirstFault (IsColumn schema references written) (IsRefusedColumn schema references written) (λ found fault. ⊥)
+IsRefusedGeometryArgument schema references (written_geometry.Column written) = FirstFault (IsBoundColumn schema references written) (IsRefusedColumn schema references written) (λ found fault. ⊥)
 IsRefusedGeometryArgument schema references (written_geometry.FromText string) =
     λ fault. (reason : GeometryFault) × (geometry_in_text (unquoted string.text) ≡ Err reason) × (fault ≡ faults.BadGeometry string.at reason)
 
@@ -251,8 +251,8 @@ abbrev pub geometry_rules : GeometryRules ColumnShape WrittenGeometry (GeometryA
 geometry_rules = record {
   IsArgument = IsGeometryArgument;
   IsRefusedArgument = IsRefusedGeometryArgument;
-  IsItemArgument = λ schema references written. Then (IsColumn schema references written) (λ found typed. typed ≡ record { part = found.place; part_type = found.column_type });
-  IsRefusedItemArgument = λ schema references written. FirstFault (IsColumn schema references written) (IsRefusedColumn schema references written) (λ found fault. ⊥);
+  IsItemArgument = λ schema references written. Then (IsBoundColumn schema references written) (λ found typed. typed ≡ record { part = found.place; part_type = found.column_type });
+  IsRefusedItemArgument = λ schema references written. FirstFault (IsBoundColumn schema references written) (IsRefusedColumn schema references written) (λ found fault. ⊥);
   IsPattern = λ string pattern. pattern_of_text (unquoted string.text) ≡ Some pattern;
   IsRefusedPattern = λ string fault. (pattern_of_text (unquoted string.text) ≡ None) × (fault ≡ faults.BadPattern string.at);
 }

@@ -1,9 +1,9 @@
 -- What the tables of FROM, the select list and a whole query are bound to, and where they are refused, apart from the
 -- functions that compute it. Of several faults the first is the one: FROM goes first, then the select list, ON and WHERE.
 use Rattle.std.specs.Prelude.{◌≡◌, ◌⊎◌, ◌<◌, ℕ, List, [], ◌∷◌, map, slice_get, Option, Some, None}
-use Rattle.std.specs.List.{AllPairs, AllZip, IsAmong}
+use Rattle.std.specs.List.{AllZip}
 use Rattle.table_model.specs.Binding.{columns_of, counts, name_start}
-use Rattle.table_model.specs.BindingRules.{GeometryRules, FirstFault, IsColumn, IsCond, IsFirst, IsGeometry, IsName, IsNoGeometry, IsNowhere, IsRefusedColumn, IsRefusedCond, Then}
+use Rattle.table_model.specs.BindingRules.{GeometryRules, FirstFault, IsBoundColumn, IsCond, IsFirst, IsGeometryPart, AreOneName, IsNoGeometry, IsNowhere, IsRefusedColumn, IsRefusedCond, IsSomewhere, Then}
 use Rattle.table_model.specs.Statements.{Statement, by_conjuncts}
 use Rattle.table_model.specs.declared.conditions.Bound.{Bound}
 use Rattle.table_model.specs.declared.conditions.ColumnPlace.{ColumnPlace}
@@ -28,7 +28,7 @@ use Rattle.table_model.specs.declared.queries.WrittenReference.{WrittenReference
 
 -- a table has this name (SQL, names of tables)
 abbrev pub IsTableNamed : {T : Type 0} → List ℕ → TableDef T → Type 0
-IsTableNamed name table = IsName table.name name
+IsTableNamed name table = AreOneName table.name name
 
 -- the name of a reference to a table: its alias, else the table's name as the schema spells it (SQL, correlation names)
 abbrev pub alias_or : Option Name → List ℕ → List ℕ
@@ -36,8 +36,8 @@ alias_or (Some alias) name = alias.text
 alias_or None name = name
 
 -- a reference is to the first table of the name that is written (SQL, FROM)
-abbrev pub IsReference : {T : Type 0} → List (TableDef T) → WrittenReference → Reference → Type 0
-IsReference {T} schema written reference =
+abbrev pub IsBoundReference : {T : Type 0} → List (TableDef T) → WrittenReference → Reference → Type 0
+IsBoundReference {T} schema written reference =
     (table : TableDef T) × IsFirst (IsTableNamed written.table.text) schema reference.table table × (reference.name ≡ alias_or written.alias table.name)
 
 -- Q3 where no table has that name, at the name (SQL, FROM)
@@ -46,40 +46,40 @@ IsRefusedReference schema written fault = IsNowhere (IsTableNamed written.table.
 
 -- the references of FROM: one, or two of different names (SQL, FROM and correlation names)
 abbrev pub IsFrom : {T : Type 0} → List (TableDef T) → WrittenReference → Option WrittenReference → List Reference → Type 0
-IsFrom schema written None = Then (IsReference schema written) (λ first references. references ≡ first ∷ [])
+IsFrom schema written None = Then (IsBoundReference schema written) (λ first references. references ≡ first ∷ [])
 IsFrom schema written (Some other) =
-    Then (IsReference schema written) (λ first. Then (IsReference schema other)
-    (λ second references. (IsName first.name second.name → ⊥) × (references ≡ first ∷ second ∷ [])))
+    Then (IsBoundReference schema written) (λ first. Then (IsBoundReference schema other)
+    (λ second references. (AreOneName first.name second.name → ⊥) × (references ≡ first ∷ second ∷ [])))
 
 -- the tables from left to right, and then Q4 where both references have one name, at the second's: its alias where it has one
 abbrev pub IsRefusedFrom : {T : Type 0} → List (TableDef T) → WrittenReference → Option WrittenReference → QueryFault → Type 0
-IsRefusedFrom schema written None = FirstFault (IsReference schema written) (IsRefusedReference schema written) (λ first fault. ⊥)
+IsRefusedFrom schema written None = FirstFault (IsBoundReference schema written) (IsRefusedReference schema written) (λ first fault. ⊥)
 IsRefusedFrom schema written (Some other) =
-    FirstFault (IsReference schema written) (IsRefusedReference schema written)
-    (λ first. FirstFault (IsReference schema other) (IsRefusedReference schema other)
-    (λ second fault. IsName first.name second.name × (fault ≡ faults.SameName (name_start other.table other.alias))))
+    FirstFault (IsBoundReference schema written) (IsRefusedReference schema written)
+    (λ first. FirstFault (IsBoundReference schema other) (IsRefusedReference schema other)
+    (λ second fault. AreOneName first.name second.name × (fault ≡ faults.SameName (name_start other.table other.alias))))
 
 -- ---- the select list
 
 -- an item that is written: a column, or a function of a geometry (SQL, the select list; 06-103r4, 6.1.2.2)
-abbrev pub IsItem : {T A B C D : Type 0} → GeometryRules T A B C D → List (TableDef T) → List Reference → WrittenItem C → Item D → Type 0
-IsItem rules schema references (written_item.Column written) = Then (IsColumn schema references written) (λ found item. item ≡ items.Column found.place)
-IsItem rules schema references (written_item.AsText at a) =
-    Then (rules.IsItemArgument schema references a) (λ argument. Then (IsGeometry argument) (λ x item. item ≡ items.AsText x))
-IsItem rules schema references (written_item.Dimension at a) =
-    Then (rules.IsItemArgument schema references a) (λ argument. Then (IsGeometry argument) (λ x item. item ≡ items.Dimension x))
-IsItem rules schema references (written_item.IsEmpty at a) =
-    Then (rules.IsItemArgument schema references a) (λ argument. Then (IsGeometry argument) (λ x item. item ≡ items.IsEmpty x))
+abbrev pub IsBoundItem : {T A B C D : Type 0} → GeometryRules T A B C D → List (TableDef T) → List Reference → WrittenItem C → Item D → Type 0
+IsBoundItem rules schema references (written_item.Column written) = Then (IsBoundColumn schema references written) (λ found item. item ≡ items.Column found.place)
+IsBoundItem rules schema references (written_item.AsText at a) =
+    Then (rules.IsItemArgument schema references a) (λ argument. Then (IsGeometryPart argument) (λ x item. item ≡ items.AsText x))
+IsBoundItem rules schema references (written_item.Dimension at a) =
+    Then (rules.IsItemArgument schema references a) (λ argument. Then (IsGeometryPart argument) (λ x item. item ≡ items.Dimension x))
+IsBoundItem rules schema references (written_item.IsEmpty at a) =
+    Then (rules.IsItemArgument schema references a) (λ argument. Then (IsGeometryPart argument) (λ x item. item ≡ items.IsEmpty x))
 
 -- a function's argument is refused, or is no geometry: Q7 at the function's first byte
 abbrev pub IsRefusedFunction : {T A B C D : Type 0} → GeometryRules T A B C D → List (TableDef T) → List Reference → ℕ → C → QueryFault → Type 0
 IsRefusedFunction rules schema references at a =
     FirstFault (rules.IsItemArgument schema references a) (rules.IsRefusedItemArgument schema references a)
-    (λ argument. FirstFault (IsGeometry argument) (IsNoGeometry at argument) (λ x fault. ⊥))
+    (λ argument. FirstFault (IsGeometryPart argument) (IsNoGeometry at argument) (λ x fault. ⊥))
 
 -- where an item is refused: at its column, or as a function (SQL, the select list)
 abbrev pub IsRefusedItem : {T A B C D : Type 0} → GeometryRules T A B C D → List (TableDef T) → List Reference → WrittenItem C → QueryFault → Type 0
-IsRefusedItem rules schema references (written_item.Column written) = FirstFault (IsColumn schema references written) (IsRefusedColumn schema references written) (λ found fault. ⊥)
+IsRefusedItem rules schema references (written_item.Column written) = FirstFault (IsBoundColumn schema references written) (IsRefusedColumn schema references written) (λ found fault. ⊥)
 IsRefusedItem rules schema references (written_item.AsText at a) = IsRefusedFunction rules schema references at a
 IsRefusedItem rules schema references (written_item.Dimension at a) = IsRefusedFunction rules schema references at a
 IsRefusedItem rules schema references (written_item.IsEmpty at a) = IsRefusedFunction rules schema references at a
@@ -94,16 +94,25 @@ IsThere {T} schema references place =
 abbrev pub StandsBefore : ColumnPlace → ColumnPlace → Type 0
 StandsBefore a b = (a.reference < b.reference) ⊎ ((a.reference ≡ b.reference) × (a.column < b.column))
 
--- all columns that are there, and no others, each before all later ones (SQL, the asterisk)
+-- a place is among some
+abbrev pub IsListed : List ColumnPlace → ColumnPlace → Type 0
+IsListed places place = IsSomewhere (λ listed. listed ≡ place) places
+
+-- each of some places stands before all that are listed after it
+abbrev pub AreInOrder : List ColumnPlace → Type 0
+AreInOrder [] = Unit {0}
+AreInOrder (first ∷ places) = ((later : ColumnPlace) → IsListed places later → StandsBefore first later) × AreInOrder places
+
+-- all columns that are there, and no others, in order (SQL, the asterisk)
 pub record AreAllColumns {T : Type 0} (schema : List (TableDef T)) (references : List Reference) (places : List ColumnPlace) : Type 0 where
-  pub there : (place : ColumnPlace) → IsAmong places place → IsThere schema references place
-  pub all : (place : ColumnPlace) → IsThere schema references place → IsAmong places place
-  pub in_order : AllPairs StandsBefore places
+  pub there : (place : ColumnPlace) → IsListed places place → IsThere schema references place
+  pub all : (place : ColumnPlace) → IsThere schema references place → IsListed places place
+  pub in_order : AreInOrder places
 
 -- what SELECT lists: all columns, what is written, item by item, or no item where rows are counted (SQL, the select list)
 abbrev pub AreItems : {T A B C D : Type 0} → GeometryRules T A B C D → List (TableDef T) → List Reference → Selection C → List (Item D) → Type 0
 AreItems rules schema references selections.All = Then (AreAllColumns schema references) (λ places listed. listed ≡ map items.Column places)
-AreItems rules schema references (selections.Items written) = AllZip (IsItem rules schema references) written
+AreItems rules schema references (selections.Items written) = AllZip (IsBoundItem rules schema references) written
 AreItems rules schema references selections.Count = λ listed. listed ≡ []
 
 -- a select list is refused at the first of its items that is refused
