@@ -2,8 +2,8 @@
 use Rattle.std.proofs.Common.{◌≡◌, ◌⊎◌, ◌<◌, inl, inr, ◌+◌, ℕ, zero, suc, List, [], ◌∷◌, ◌++◌, map, slice_get, Option, Some, None, Ok, refl, sym, ap, ap₂, subst, ◌∙◌, arith}
 use Rattle.std.specs.List.{enumerate_from, flat_map}
 use Rattle.table_model.specs.Binding.{all_items, columns_of, items_of}
-use Rattle.table_model.specs.BindingRules.{IsSomewhere, Then}
-use Rattle.table_model.specs.QueryRules.{AreAllColumns, AreInOrder, IsListed, IsThere, StandsBefore}
+use Rattle.table_model.specs.BindingRules.{Then}
+use Rattle.table_model.specs.QueryRules.{AreAllColumns, AreInOrder, IsListed, StandsBefore}
 use Rattle.table_model.specs.declared.conditions.ColumnPlace.{ColumnPlace}
 use Rattle.table_model.specs.declared.conditions.Item.{Item}
 use Rattle.table_model.specs.declared.conditions.Item.TheVariants as items
@@ -53,11 +53,13 @@ listed_joined (x ∷ xs) ys v (inr is) = elim (listed_joined xs ys v is) [
 
 in_order_joined : (xs ys : List ColumnPlace) → AreInOrder xs → AreInOrder ys → ((a b : ColumnPlace) → IsListed xs a → IsListed ys b → StandsBefore a b) → AreInOrder (xs ++ ys)
 in_order_joined [] ys are too apart = too
-in_order_joined (x ∷ xs) ys are too apart =
-    (λ later is. elim (listed_joined xs ys later is) [
-      | inl left ↦ are.0 later left
-      | inr right ↦ apart x later (inl refl) right
-    ], in_order_joined xs ys are.1 too (λ a b left right. apart a b (inr left) right))
+in_order_joined (x ∷ xs) ys are too apart = (
+  λ later is. elim (listed_joined xs ys later is) [
+    | inl left ↦ are.0 later left
+    | inr right ↦ apart x later (inl refl) right
+  ],
+  in_order_joined xs ys are.1 too (λ a b left right. apart a b (inr left) right),
+)
 
 -- ---- the columns of one reference
 

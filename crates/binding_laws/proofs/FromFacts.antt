@@ -1,14 +1,13 @@
 -- The references that FROM is bound to agree with the rules.
-use Rattle.std.proofs.Common.{◌≡◌, ◌+◌, ℕ, zero, suc, Bool, true, false, cond, List, [], ◌∷◌, slice_get, Option, Some, None, Ok, Err, IfOk, IfErr, refl, sym, ap, subst, ◌∙◌, arith}
+use Rattle.std.proofs.Common.{◌≡◌, ◌+◌, ℕ, zero, suc, Bool, true, false, cond, List, [], ◌∷◌, slice_get, Option, Some, None, IfOk, IfErr, refl, sym, ap, subst, ◌∙◌, arith}
 use Rattle.std.proofs.lemmas.Iterator.Adapters.{position_from-zero}
 use Rattle.std.specs.List.{position, position_from}
-use Rattle.table_model.specs.Binding.{Checked, ◌>>=◌, bound_reference, bound_references, name_start, reference_at, reference_name, table_name, table_place, with_second}
+use Rattle.table_model.specs.Binding.{bound_reference, bound_references, name_start, reference_at, reference_name, table_name, table_place, with_second}
 use Rattle.table_model.specs.BindingRules.{IsFirst, IsNowhere}
 use Rattle.table_model.specs.QueryRules.{IsBoundReference, IsFrom, IsRefusedFrom, IsRefusedReference, IsTableNamed, alias_or}
 use Rattle.table_model.specs.Texts.{same_name}
 use Rattle.table_model.specs.declared.conditions.Reference.{Reference}
 use Rattle.table_model.specs.declared.definitions.TableDef.{TableDef}
-use Rattle.table_model.specs.declared.faults.QueryFault.{QueryFault}
 use Rattle.table_model.specs.declared.faults.QueryFault.TheVariants as faults
 use Rattle.table_model.specs.declared.queries.Name.{Name}
 use Rattle.table_model.specs.declared.queries.WrittenReference.{WrittenReference}

@@ -1,8 +1,8 @@
 -- The items of a select list agree with the rules.
-use Rattle.std.proofs.Common.{◌≡◌, ℕ, zero, suc, List, [], ◌∷◌, map, Ok, Err, IfOk, IfErr, refl, sym, ap, ap₂, subst, ◌∙◌}
+use Rattle.std.proofs.Common.{◌≡◌, ℕ, zero, suc, List, [], ◌∷◌, map, Ok, Err, IfOk, IfErr, refl, sym, ap, ap₂, subst}
 use Rattle.std.specs.List.{AllZip}
 use Rattle.table_model.specs.Binding.{Checked, GeometryBinding, ◌>>=◌, bound_column, bound_item, bound_items, geometry_only}
-use Rattle.table_model.specs.BindingRules.{FirstFault, GeometryRules, IsBoundColumn, IsFirst, IsGeometryPart, IsNoGeometry, IsRefusedColumn, Then}
+use Rattle.table_model.specs.BindingRules.{GeometryRules, IsBoundColumn, IsFirst, IsGeometryPart, IsNoGeometry, IsRefusedColumn, Then}
 use Rattle.table_model.specs.Loading.{and_then, each}
 use Rattle.table_model.specs.QueryRules.{AreItems, AreRefusedItems, IsBoundItem, IsRefusedFunction, IsRefusedItem}
 use Rattle.table_model.specs.declared.conditions.Item.{Item}

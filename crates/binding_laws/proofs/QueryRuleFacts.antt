@@ -1,5 +1,5 @@
 -- What a whole query is bound to, and where it is refused, agrees with the rules.
-use Rattle.std.proofs.Common.{◌≡◌, inl, inr, List, Option, Some, None, Ok, Err, IfOk, refl, sym, subst}
+use Rattle.std.proofs.Common.{◌≡◌, inl, inr, List, Option, Some, None, Ok, refl, sym, subst}
 use Rattle.table_model.specs.Binding.{Checked, GeometryBinding, ◌>>=◌, bound_cond, bound_items, bound_references, bound_whole, counts, statement}
 use Rattle.table_model.specs.BindingRules.{FirstFault, GeometryRules, IsCond, IsRefusedCond, Then, geometry_rules}
 use Rattle.table_model.specs.GeometryColumns.{geometry_binding}
@@ -64,9 +64,23 @@ of_steps rules schema query s is =
 
 to_steps : {T A B C D : Type 0} (rules : GeometryRules T A B C D) (schema : List (TableDef T)) (query : Query A C) (s : Statement B D) → IsStatement rules schema query s → InSteps rules schema query s
 unfolding InSteps stated
-to_steps rules schema query s is =
-    (s.references, is.references, (s.items, is.items, (s.on, is.on, (s.condition, is.condition,
-    λ i. record { explain = is.explain i; references = s.references; items = s.items; on = s.on; condition = s.condition; counts = is.counts i; limit = is.limit i }))))
+to_steps rules schema query s is = (
+  s.references,
+  is.references,
+  (
+    s.items,
+    is.items,
+    (
+      s.on,
+      is.on,
+      (
+        s.condition,
+        is.condition,
+        λ i. record { explain = is.explain i; references = s.references; items = s.items; on = s.on; condition = s.condition; counts = is.counts i; limit = is.limit i },
+      ),
+    ),
+  ),
+)
 
 statement_agrees : {T A B C D : Type 0} (rules : GeometryRules T A B C D) (how : GeometryBinding T A B C D) → GeometryAgrees rules how → (schema : List (TableDef T)) (query : Query A C)
     → Agrees (IsStatement rules schema query) (IsRefusedQuery rules schema query) (statement how schema query)
