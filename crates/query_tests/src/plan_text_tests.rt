@@ -1,8 +1,7 @@
 //! What is said of plans.
 
-use crate::{analyze, explain};
+use explain::{analyze, explain};
 use sinks::MemorySink;
-use sinks::devices::StopSink;
 use sqlite_items::Items;
 use std::alloc::Global;
 use std::test::Fail;
@@ -53,46 +52,34 @@ fn access(reference: usize, method: AccessMethod) -> Access {
     Access { reference, method }
 }
 
+/// A probe of one table, and a scan of one whose rows are counted.
 #[test]
-fn texts_of_one_reference(rt: HostRuntime) -> Result<(), Fail> {
+fn plans_of_one_reference(rt: HostRuntime) -> Result<(), Fail> {
     let near = query(rt.alloc(), &["big"], false, None)?;
     let probe = plan(rt.alloc(), 14, &[access(0, AccessMethod::Probe(0))], &[0])?;
-    let mut sink = MemorySink::new(rt.alloc());
-    assert_eq!(rt; explain(&near, &probe, &mut sink), Ok(()));
-    assert_eq!(rt;
-        sink.bytes(),
-        b"cost 14\nouter big probe 1\nfilter 1\n".as_slice()
-    );
     let all = query(rt.alloc(), &["big"], true, Some(0))?;
     let scan = plan(rt.alloc(), 100, &[access(0, AccessMethod::Scan)], &[])?;
     let mut sink = MemorySink::new(rt.alloc());
-    assert_eq!(rt; explain(&all, &scan, &mut sink), Ok(()));
-    assert_eq!(rt;
-        sink.bytes(),
-        b"cost 100\nouter big scan\nfilter none\ncount\nlimit 0\n".as_slice()
-    );
+    assert!(rt; explain(&near, &probe, &mut sink).is_ok());
+    assert!(rt; explain(&all, &scan, &mut sink).is_ok());
+    let text =
+        b"cost 14\nouter big probe 1\nfilter 1\ncost 100\nouter big scan\nfilter none\ncount\nlimit 0\n";
+    assert!(rt; sink.bytes() == text.as_slice());
     Ok(())
 }
 
+/// Nested loops over two tables, of which the inner one is probed, and their work.
 #[test]
-fn texts_of_two_references(rt: HostRuntime) -> Result<(), Fail> {
+fn plans_of_two_references(rt: HostRuntime) -> Result<(), Fail> {
     let joined = query(rt.alloc(), &["b", "s"], false, None)?;
-    let nested = plan(
-        rt.alloc(),
-        30,
-        &[
-            access(1, AccessMethod::Scan),
-            access(0, AccessMethod::Probe(0)),
-        ],
-        &[1, 0],
-    )?;
-    let text = b"cost 30\nouter s scan\ninner b probe 1\nfilter 2 1\nwork 8\n".as_slice();
+    let accesses = [
+        access(1, AccessMethod::Scan),
+        access(0, AccessMethod::Probe(0)),
+    ];
+    let nested = plan(rt.alloc(), 30, &accesses, &[1, 0])?;
     let mut sink = MemorySink::new(rt.alloc());
-    assert_eq!(rt; analyze(&joined, &nested, 8, &mut sink), Ok(()));
-    assert_eq!(rt; sink.bytes(), text);
-    let mut stopped = StopSink::new(rt.alloc(), 3, 100);
-    assert!(rt; analyze(&joined, &nested, 8, &mut stopped).is_err());
-    assert!(rt; text.starts_with(stopped.bytes()));
-    assert_eq!(rt; stopped.failures(), 1);
+    assert!(rt; analyze(&joined, &nested, 8, &mut sink).is_ok());
+    let text = b"cost 30\nouter s scan\ninner b probe 1\nfilter 2 1\nwork 8\n";
+    assert!(rt; sink.bytes() == text.as_slice());
     Ok(())
 }

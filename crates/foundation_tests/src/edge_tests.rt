@@ -1,8 +1,8 @@
 //! Worked rings and pairs of edges.
 
-use crate::{is_inside, is_not_closed, is_not_simple, share, share_other, share_point};
 use fraction::GridPoint;
 use orient::Segment;
+use ring_tests::{is_inside, is_not_closed, is_not_simple, share, share_other, share_point};
 use std::test::Fail;
 
 /// The position (x, y).

@@ -1,7 +1,7 @@
 //! Points beside, on and off segments, with values worked out by hand.
 
-use crate::{Segment, at_or_above, crosses_up, on, side, side_number};
 use fraction::{GridPoint, RatPoint};
+use orient::{Segment, at_or_above, crosses_up, on, side, side_number};
 use std::cmp::Ordering;
 use std::test::Fail;
 

@@ -1,7 +1,7 @@
 //! What sinks take, and which of their calls fail.
 
-use crate::devices::{StopReader, StopSink, ZeroWriter};
-use crate::{MemorySink, Sink, SinkFault, StdSink, put_all, put_parts};
+use sinks::devices::{StopReader, StopSink, ZeroWriter};
+use sinks::{MemorySink, Sink, SinkFault, StdSink, put_all, put_parts};
 use std::io::{self, BufWriter, Error, ErrorKind, Read, Write};
 use std::test::Fail;
 
@@ -28,7 +28,7 @@ impl Write for Interrupted {
 fn memory_takes_all(rt: HostRuntime) {
     let mut sink = MemorySink::new(rt.alloc());
     assert!(rt; put_parts(&mut sink, &[b"id,name\n", b"", b"1,a\n"]).is_ok());
-    assert!(rt; sink.bytes() == b"id,name\n1,a\n" && sink.failures() == 0);
+    assert!(rt; sink.bytes() == b"id,name\n1,a\n".as_slice() && sink.failures() == 0);
 }
 
 #[test]
@@ -37,7 +37,7 @@ fn a_writer_gets_the_bytes(rt: HostRuntime) -> Result<(), Fail> {
     let mut sink = StdSink::new(BufWriter::new(rt.alloc(), &mut bytes)?);
     assert!(rt; put_all(&mut sink, b"id\n1\n").is_ok() && sink.flush().is_ok());
     drop(sink);
-    assert!(rt; bytes.as_slice() == b"id\n1\n");
+    assert!(rt; bytes.as_slice() == b"id\n1\n".as_slice());
     Ok(())
 }
 
@@ -64,7 +64,7 @@ fn nothing_is_tried_twice(rt: HostRuntime) {
 fn a_sink_stops_at_its_call(rt: HostRuntime) {
     let mut sink = StopSink::new(rt.alloc(), 5, 1);
     assert!(rt; put_all(&mut sink, b"id,name\n").is_err());
-    assert!(rt; sink.bytes() == b"id,n" && sink.failures() == 1);
+    assert!(rt; sink.bytes() == b"id,n".as_slice() && sink.failures() == 1);
 }
 
 #[test]

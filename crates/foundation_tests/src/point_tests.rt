@@ -1,6 +1,6 @@
 //! Positions, points and fractions worked by hand.
 
-use crate::{GridPoint, RatPoint};
+use fraction::{GridPoint, RatPoint};
 use std::cmp::Ordering;
 
 #[test]
