@@ -8,6 +8,3 @@ mod reading;
 pub use commands::Order;
 pub use misuse::Misuse;
 pub use reading::order;
-
-#[cfg(test)]
-mod tests;

@@ -1,5 +1,7 @@
-//! Tests of the engine: commands over memory, what they print and their status.
+//! Tests of the engine and of the command line: commands over memory, what they print and their status.
 #![tactic(auto)]
 
+#[cfg(test)]
+mod order_tests;
 #[cfg(test)]
 mod tests;

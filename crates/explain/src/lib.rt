@@ -7,6 +7,3 @@ mod lines;
 pub mod plan_text;
 
 pub use plan_text::{analyze, explain};
-
-#[cfg(test)]
-mod tests;

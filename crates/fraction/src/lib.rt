@@ -12,6 +12,3 @@ pub mod rational_points;
 pub use fractions::Frac;
 pub use grid_points::GridPoint;
 pub use rational_points::RatPoint;
-
-#[cfg(test)]
-mod tests;

@@ -9,6 +9,3 @@ pub mod sides;
 pub use crossings::{at_or_above, crosses_up};
 pub use segments::Segment;
 pub use sides::{on, side, side_number};
-
-#[cfg(test)]
-mod tests;

@@ -1,4 +1,1 @@
-pub mod Lexing
-pub mod Counts
-pub mod TokenSlices
 pub mod PredicateNames

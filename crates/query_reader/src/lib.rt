@@ -1,13 +1,16 @@
-//! The reader of the whole query language, in the style of OGC 06-104r4 (Simple Features, part 2): the text of a
-//! query is cut into tokens, which are read into the tree that the grammar gives.
+//! The reader of the whole query language, in the style of OGC 06-104r4 (Simple Features, part 2): the tokens of a
+//! query are read into the tree that the grammar gives.
 #![tactic(auto)]
 
+mod comparisons;
 mod condition;
-pub mod cursor;
-pub mod lex;
+mod items;
+mod numbers;
+mod operands;
+mod predicates;
 mod query;
-#[cfg(test)]
-mod tests;
+mod references;
+mod terminals;
 
 pub use query::read_query;
 pub use table_model::faults::QueryFault;

@@ -2,201 +2,27 @@
 
 ghost use Rattle.std.specs.Prelude.{◌≡◌, IfErr, IfOk, Ok};
 ghost use Rattle.table_model.specs.Outcomes.{Gives};
-ghost use Rattle.table_model.specs.Parsers as steps;
 ghost use Rattle.table_model.specs.Parsers.{Reads};
 ghost use Rattle.table_model.specs.QueryGrammar.{AnswersQuery, IsQuery};
 ghost use Rattle.table_model.specs.QueryReading as spec;
 ghost use Rattle.table_model.specs.QueryRefusals.{AnswersFirst, StandsInQuery};
-ghost use Rattle.query_reader.specs.Predicates as names;
 ghost use Rattle.query_reader.specs.Language.{language};
 
 use crate::Query;
-use crate::condition::{MOST_LEVELS, calls, column, condition, expect, limit_value, name, refuse};
-use crate::cursor::Cursor;
-use crate::lex::{lex, same_kind};
-use sqlite_items::Items;
+use crate::condition::{MOST_LEVELS, WrittenCond, condition};
+use crate::items::selection;
+use crate::numbers::limit_value;
+use crate::references::{reference, second};
+use crate::terminals::{expect, refuse, says};
+use sql_tokens::cursor::Cursor;
+use sql_tokens::lex::{lex, same_kind};
 use std::alloc::Global;
 use table_model::faults::QueryFault;
-use table_model::queries::{Explain, Name, WrittenColumn, WrittenGeometry, WrittenReference};
-use table_model::texts::same_name;
+use table_model::queries::Explain;
 use table_model::tokens::{Token, TokenKind};
-
-type WrittenItem<'a> = table_model::queries::WrittenItem<'a, WrittenColumn<'a>>;
-
-type WrittenCond<'a> = table_model::queries::WrittenCond<'a, WrittenGeometry<'a>>;
-
-type Selection<'a> = table_model::queries::Selection<'a, WrittenColumn<'a>>;
 
 /// How many bytes a schema or a query may have.
 pub const MOST_BYTES: usize = 65536;
-
-/// Reads a call of ST_AsText in the select list, from its name on.
-fn text_item<'a>(tokens: &mut Cursor<'_, 'a>, at: usize) -> Result<WrittenItem<'a>, QueryFault>
-    ensures { Reads QueryFault.OutOfMemory (spec.enclosed (names.text_item at) (steps.next tokens.old)) result tokens.new }
-{
-    tokens.advance();
-    expect(tokens, TokenKind::LeftParenthesis)?;
-    let argument = column(tokens)?;
-    expect(tokens, TokenKind::RightParenthesis)?;
-    Ok(WrittenItem::AsText(at, argument))
-}
-
-/// Reads a call of ST_Dimension in the select list, from its name on.
-fn dimension_item<'a>(tokens: &mut Cursor<'_, 'a>, at: usize) -> Result<WrittenItem<'a>, QueryFault>
-    ensures { Reads QueryFault.OutOfMemory (spec.enclosed (names.dimension_item at) (steps.next tokens.old)) result tokens.new }
-{
-    tokens.advance();
-    expect(tokens, TokenKind::LeftParenthesis)?;
-    let argument = column(tokens)?;
-    expect(tokens, TokenKind::RightParenthesis)?;
-    Ok(WrittenItem::Dimension(at, argument))
-}
-
-/// Reads a call of ST_IsEmpty in the select list, from its name on.
-fn emptiness_item<'a>(tokens: &mut Cursor<'_, 'a>, at: usize) -> Result<WrittenItem<'a>, QueryFault>
-    ensures { Reads QueryFault.OutOfMemory (spec.enclosed (names.empty_item at) (steps.next tokens.old)) result tokens.new }
-{
-    tokens.advance();
-    expect(tokens, TokenKind::LeftParenthesis)?;
-    let argument = column(tokens)?;
-    expect(tokens, TokenKind::RightParenthesis)?;
-    Ok(WrittenItem::IsEmpty(at, argument))
-}
-
-/// Reads a column of the select list.
-fn column_item<'a>(tokens: &mut Cursor<'_, 'a>) -> Result<WrittenItem<'a>, QueryFault>
-    ensures { Reads QueryFault.OutOfMemory (names.column_item tokens.old) result tokens.new }
-{
-    Ok(WrittenItem::Column(column(tokens)?))
-}
-
-/// Reads an item of the select list.
-#[tactic(auto, unfolding(table_model::specs::QueryReading::item))]
-fn item<'a>(tokens: &mut Cursor<'_, 'a>) -> Result<WrittenItem<'a>, QueryFault>
-    ensures { Reads QueryFault.OutOfMemory (spec.item language.functions tokens.old) result tokens.new }
-{
-    let at = tokens.place();
-    if calls(tokens, b"ST_AsText") {
-        text_item(tokens, at)
-    } else if calls(tokens, b"ST_Dimension") {
-        dimension_item(tokens, at)
-    } else if calls(tokens, b"ST_IsEmpty") {
-        emptiness_item(tokens, at)
-    } else {
-        column_item(tokens)
-    }
-}
-
-/// Reads items with commas between them.
-#[tactic(auto, unfolding(table_model::specs::Parsers::parts_from))]
-fn items<'a>(
-    alloc: Global,
-    tokens: &mut Cursor<'_, 'a>,
-) -> Result<Items<WrittenItem<'a>>, QueryFault>
-    ensures { Reads QueryFault.OutOfMemory (spec.items language.functions tokens.old) result tokens.new }
-{
-    let mut items = Items::new(alloc);
-    for _turn in 0..tokens.count() {
-        items.push(item(tokens)?)?;
-        if !tokens.eat(TokenKind::Comma) {
-            return Ok(items);
-        }
-    }
-    Err(refuse(tokens))
-}
-
-/// Reads the rest of COUNT(*), after COUNT.
-fn counted<'a>(tokens: &mut Cursor<'_, 'a>) -> Result<Selection<'a>, QueryFault>
-    ensures { Reads QueryFault.OutOfMemory (spec.enclosed spec.counted tokens.old) result tokens.new }
-{
-    expect(tokens, TokenKind::LeftParenthesis)?;
-    expect(tokens, TokenKind::Star)?;
-    expect(tokens, TokenKind::RightParenthesis)?;
-    Ok(Selection::Count)
-}
-
-/// Reads what SELECT lists.
-#[tactic(auto, unfolding(table_model::specs::QueryReading::selection))]
-fn selection<'a>(alloc: Global, tokens: &mut Cursor<'_, 'a>) -> Result<Selection<'a>, QueryFault>
-    ensures { Reads QueryFault.OutOfMemory (spec.selection language tokens.old) result tokens.new }
-{
-    if tokens.sees(TokenKind::Star) {
-        tokens.advance();
-        Ok(Selection::All)
-    } else if calls(tokens, b"COUNT") {
-        tokens.advance();
-        counted(tokens)
-    } else {
-        Ok(Selection::Items(items(alloc, tokens)?))
-    }
-}
-
-/// Reads an alias, where one stands.
-#[tactic(auto, unfolding(table_model::specs::QueryReading::alias))]
-fn alias<'a>(tokens: &mut Cursor<'_, 'a>) -> Result<Option<Name<'a>>, QueryFault>
-    ensures { Reads QueryFault.OutOfMemory (spec.alias tokens.old) result tokens.new }
-{
-    if tokens.sees(TokenKind::As) {
-        tokens.advance();
-        Ok(Some(name(tokens)?))
-    } else if tokens.sees(TokenKind::Word) {
-        Ok(Some(name(tokens)?))
-    } else {
-        Ok(None)
-    }
-}
-
-/// Reads a table reference.
-#[tactic(auto, unfolding(table_model::specs::QueryReading::reference))]
-fn reference<'a>(tokens: &mut Cursor<'_, 'a>) -> Result<WrittenReference<'a>, QueryFault>
-    ensures { Reads QueryFault.OutOfMemory (spec.reference tokens.old) result tokens.new }
-{
-    let table = name(tokens)?;
-    let alias = alias(tokens)?;
-    Ok(WrittenReference { table, alias })
-}
-
-/// A second table reference and its condition of ON, or neither.
-type Second<'a> = (Option<WrittenReference<'a>>, Option<WrittenCond<'a>>);
-
-/// Reads a second table reference, which has no condition.
-#[tactic(auto, unfolding(table_model::specs::QueryReading::crossed))]
-fn crossed<'a>(tokens: &mut Cursor<'_, 'a>) -> Result<Second<'a>, QueryFault>
-    ensures { Reads QueryFault.OutOfMemory (spec.crossed language.functions tokens.old) result tokens.new }
-{
-    Ok((Some(reference(tokens)?), None))
-}
-
-/// Reads JOIN, a second table reference and its condition.
-#[tactic(auto, unfolding(table_model::specs::QueryReading::joined_on))]
-fn joined_on<'a>(alloc: Global, tokens: &mut Cursor<'_, 'a>) -> Result<Second<'a>, QueryFault>
-    ensures { Reads QueryFault.OutOfMemory (spec.joined_on language.functions tokens.old) result tokens.new }
-{
-    expect(tokens, TokenKind::Join)?;
-    let reference = reference(tokens)?;
-    expect(tokens, TokenKind::On)?;
-    let on = condition(alloc, tokens, MOST_LEVELS)?;
-    Ok((Some(reference), Some(on)))
-}
-
-/// Reads a second table reference and its condition, where they stand.
-fn second<'a>(alloc: Global, tokens: &mut Cursor<'_, 'a>) -> Result<Second<'a>, QueryFault>
-    ensures { Reads QueryFault.OutOfMemory (spec.second language tokens.old) result tokens.new }
-{
-    if tokens.sees(TokenKind::Comma) {
-        tokens.advance();
-        crossed(tokens)
-    } else if tokens.sees(TokenKind::Cross) {
-        tokens.advance();
-        expect(tokens, TokenKind::Join)?;
-        crossed(tokens)
-    } else if tokens.sees(TokenKind::Inner) || tokens.sees(TokenKind::Join) {
-        tokens.eat(TokenKind::Inner);
-        joined_on(alloc, tokens)
-    } else {
-        Ok((None, None))
-    }
-}
 
 /// Reads WHERE and its condition, where they stand.
 #[tactic(auto, unfolding(table_model::specs::QueryReading::where_condition))]
@@ -240,16 +66,6 @@ fn limited(tokens: &mut Cursor<'_, '_>) -> Result<Option<u64>, QueryFault>
     } else {
         Ok(None)
     }
-}
-
-/// Whether this word stands next, in any ASCII case, and is no function.
-#[tactic(auto, unfolding(table_model::specs::QueryReading::says))]
-fn says(tokens: &Cursor<'_, '_>, word: &[u8]) -> bool
-    ensures { result ≡ spec.says word.now tokens.now }
-{
-    tokens.sees(TokenKind::Word)
-        && !tokens.second_sees(TokenKind::LeftParenthesis)
-        && same_name(tokens.spelling(), word)
 }
 
 /// Reads EXPLAIN, and ANALYZE after it, where they stand.

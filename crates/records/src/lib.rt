@@ -6,6 +6,3 @@ pub mod record_writer;
 
 pub use put_fault::PutFault;
 pub use record_writer::RecordWriter;
-
-#[cfg(test)]
-mod tests;

@@ -8,6 +8,3 @@ mod rings;
 
 pub use edges::{share_other, share_point};
 pub use rings::{is_inside, is_not_closed, is_not_simple, share};
-
-#[cfg(test)]
-mod tests;

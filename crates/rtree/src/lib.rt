@@ -11,6 +11,3 @@ pub mod lists;
 pub use envelopes::{Envelope, meets};
 pub use indexes::EnvelopeIndex;
 pub use lists::ListIndex;
-
-#[cfg(test)]
-mod tests;

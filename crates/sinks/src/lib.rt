@@ -10,6 +10,3 @@ pub mod standard;
 pub use memory::MemorySink;
 pub use sink::{Sink, SinkFault, put_all, put_parts};
 pub use standard::StdSink;
-
-#[cfg(test)]
-mod tests;

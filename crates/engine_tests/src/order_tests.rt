@@ -1,0 +1,62 @@
+//! Command lines, with the order or the status that each gives.
+
+use command_line::{Misuse, Order, order};
+use std::alloc::AllocError;
+use std::test::Fail;
+
+// The status of a command line: 1 where it is an order.
+fn status_of(rt: &HostRuntime, words: &[&str]) -> u8 {
+    match order(rt.alloc(), words) {
+        Ok(_) => 1,
+        Err(misuse) => misuse.status(),
+    }
+}
+
+#[test]
+fn run_has_its_three_words(rt: HostRuntime) -> Result<(), Fail> {
+    let words = ["sfq", "run", "--", "schema.sql", "data", "-- c"];
+    let given = order(rt.alloc(), words.as_slice()).ok().ok_or("an order")?;
+    let Order::Run { schema, query, .. } = &given else {
+        return Err(Fail::from("run"));
+    };
+    assert!(rt; schema.as_str() == "schema.sql" && query.as_str() == "-- c");
+    Ok(())
+}
+
+#[test]
+fn relate_has_its_two_words(rt: HostRuntime) -> Result<(), Fail> {
+    let words = ["sfq", "relate", "POINT(1 2)", "MULTIPOINT((1 2),(3 4))"];
+    let given = order(rt.alloc(), words.as_slice()).ok().ok_or("an order")?;
+    let Order::Relate { first, second } = &given else {
+        return Err(Fail::from("relate"));
+    };
+    assert!(rt; first.as_str() == words[2] && second.as_str() == words[3]);
+    Ok(())
+}
+
+/// Help and the version end with 0, mistakes with 2, want of memory with 7.
+#[test]
+fn statuses(rt: HostRuntime) {
+    assert!(rt; status_of(&rt, &["sfq", "--version"]) == 0);
+    assert!(rt; status_of(&rt, &["sfq", "help", "relate"]) == 0);
+    assert!(rt; status_of(&rt, &["sfq"]) == 2);
+    assert!(rt; status_of(&rt, &["sfq", "relate", "POINT(1 1)"]) == 2);
+    assert!(rt; status_of(&rt, &["sfq", "run", "a", "b", "-- c"]) == 2);
+    assert!(rt; Misuse::from(AllocError).status() == 7);
+}
+
+// The text that is shown for a command line that is no order.
+fn shown(rt: &HostRuntime, words: &[&str]) -> Result<String, Fail> {
+    let misuse = order(rt.alloc(), words).err().ok_or("no order")?;
+    misuse.print(rt).ok().ok_or("not printed")?;
+    Ok(misuse.to_string(rt.alloc())?)
+}
+
+/// What is shown names the missing word, and help each word of a command.
+#[test]
+fn texts_tell_what_each_word_is(rt: HostRuntime) -> Result<(), Fail> {
+    assert!(rt; shown(&rt, &["sfq", "run", "a", "b"])?.contains("<QUERY>"));
+    let help = shown(&rt, &["sfq", "run", "--help"])?;
+    assert!(rt; help.contains("<SCHEMA> <DIR> <QUERY>") && help.contains("t.csv for table t"));
+    Ok(())
+}

@@ -1,0 +1,68 @@
+//! Positions, points and fractions worked by hand.
+
+use fraction::{GridPoint, RatPoint};
+use std::cmp::Ordering;
+
+#[test]
+fn a_position_is_within_the_limit(rt: HostRuntime) {
+    for (x, y, taken) in [
+        (10_000_000, -10_000_000, true),
+        (10_000_001, 0, false),
+        (0, -10_000_001, false),
+        (i32::MIN, i32::MAX, false),
+    ] {
+        let kept = match GridPoint::new(x, y) {
+            Some(position) => position.x() == x && position.y() == y,
+            None => false,
+        };
+        assert!(rt; kept == taken);
+    }
+}
+
+// The three numbers of a point.
+fn triple(point: &RatPoint) -> (i128, i128, i64) {
+    (
+        point.numerator_x(),
+        point.numerator_y(),
+        point.denominator(),
+    )
+}
+
+/// A point is kept in least form, and its own position has the denominator 1.
+#[test]
+fn least_forms(rt: HostRuntime) {
+    assert!(rt; triple(&RatPoint::reduced(12, 4, 10)) == (6, 2, 5));
+    let steep = RatPoint::reduced(-20_000_000, -799_999_980_000_000, 1_599_999_920_000_002);
+    assert!(rt; triple(&steep) == (-10_000_000, -399_999_990_000_000, 799_999_960_000_001));
+    if let Some(position) = GridPoint::new(-7, 10_000_000) {
+        assert!(rt; triple(&RatPoint::of_grid(position)) == (-7, 10_000_000, 1));
+        assert!(rt; position.cmp(&position).is_eq());
+    }
+}
+
+// The order of two points by x, by y, and by both.
+fn orders(a: &RatPoint, b: &RatPoint) -> (Ordering, Ordering, Ordering) {
+    (a.cmp_x(b), a.cmp_y(b), a.cmp(b))
+}
+
+/// Points stand by the numbers that they stand for.
+#[test]
+fn points_stand_by_their_numbers(rt: HostRuntime) {
+    let half = RatPoint::reduced(1, 0, 2);
+    let one_high = RatPoint::reduced(2, 4, 4);
+    let most = 15_999_999_999_999_999_999_999;
+    let last = RatPoint::reduced(most, -most, 1_600_000_000_000_000);
+    let corner = RatPoint::reduced(10_000_000, -10_000_000, 1);
+    let (less, equal, greater) = (Ordering::Less, Ordering::Equal, Ordering::Greater);
+    assert!(rt; orders(&one_high, &half) == (equal, greater, greater));
+    assert!(rt; orders(&last, &corner) == (less, greater, less));
+    assert!(rt; one_high.x() == half.x() && one_high.y() > half.y());
+}
+
+/// A mediant lies between: its point is that of the sums of both triples.
+#[test]
+fn a_mediant_lies_between(rt: HostRuntime) {
+    let crossing = RatPoint::reduced(6, 2, 5);
+    let end = RatPoint::reduced(2, 0, 1);
+    assert!(rt; RatPoint::mediant(&crossing, &end) == RatPoint::reduced(4, 1, 3));
+}

@@ -1,0 +1,34 @@
+//! Records put into a sink.
+
+use csv::ByteRecord;
+use records::RecordWriter;
+use sinks::MemorySink;
+use std::alloc::{AllocError, Global};
+use std::test::Fail;
+
+// A record of two fields.
+fn record(alloc: Global, first: &[u8], second: &[u8]) -> Result<ByteRecord, AllocError> {
+    let mut fields = ByteRecord::new(alloc);
+    fields.push_field(first)?;
+    fields.push_field(second)?;
+    Ok(fields)
+}
+
+// A field that is longer than the text that is kept of earlier records.
+fn long_field(alloc: Global) -> Result<Vec<u8>, AllocError> {
+    vec![in alloc; b'x'; 70_000]
+}
+
+/// Fields are quoted where they have to be, also where the text of earlier records has been let go.
+#[test]
+fn records_are_put(rt: HostRuntime) -> Result<(), Fail> {
+    let long = long_field(rt.alloc())?;
+    let first = record(rt.alloc(), long.as_slice(), b"")?;
+    let second = record(rt.alloc(), b"a,b", b"1")?;
+    let mut writer = RecordWriter::new(rt.alloc());
+    let mut sink = MemorySink::new(rt.alloc());
+    assert!(rt; writer.put(rt.alloc(), &first, &mut sink).is_ok());
+    assert!(rt; writer.put(rt.alloc(), &second, &mut sink).is_ok());
+    assert!(rt; sink.bytes().ends_with(b"x,\n\"a,b\",1\n"));
+    Ok(())
+}

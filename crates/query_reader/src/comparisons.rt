@@ -1,0 +1,83 @@
+//! Reads comparisons.
+
+ghost use Rattle.std.specs.Prelude.{◌≡◌};
+ghost use Rattle.table_model.specs.QueryReading as spec;
+ghost use Rattle.table_model.specs.Parsers.{Reads};
+ghost use Rattle.query_reader.specs.Language.{language};
+
+use crate::condition::WrittenCond;
+use crate::operands::{WrittenOperand, operand};
+use crate::terminals::{expect, refuse};
+use sql_tokens::cursor::Cursor;
+use sqlite_items::Boxed;
+use std::alloc::Global;
+use table_model::conditions::Comparison;
+use table_model::faults::QueryFault;
+use table_model::tokens::TokenKind;
+
+fn comparison_of(kind: TokenKind) -> Option<Comparison>
+    ensures { result ≡ spec.comparison_of kind }
+{
+    match kind {
+        TokenKind::Equal => Some(Comparison::Equal),
+        TokenKind::NotEqual => Some(Comparison::NotEqual),
+        TokenKind::Less => Some(Comparison::Less),
+        TokenKind::LessOrEqual => Some(Comparison::LessOrEqual),
+        TokenKind::Greater => Some(Comparison::Greater),
+        TokenKind::GreaterOrEqual => Some(Comparison::GreaterOrEqual),
+        _ => None,
+    }
+}
+
+/// Reads the rest of a comparison, after its left side, which starts at a place.
+#[tactic(auto, unfolding(table_model::specs::QueryReading::compared))]
+fn compared<'a>(
+    tokens: &mut Cursor<'_, 'a>,
+    at: usize,
+    left: WrittenOperand<'a>,
+) -> Result<WrittenCond<'a>, QueryFault>
+    ensures { Reads QueryFault.OutOfMemory (spec.compared language.functions at left.entry tokens.old) result tokens.new }
+{
+    let Some(comparison) = comparison_of(tokens.kind()) else {
+        return Err(refuse(tokens));
+    };
+    tokens.advance();
+    let right = operand(tokens)?;
+    Ok(WrittenCond::Compare(at, comparison, left, right))
+}
+
+/// Reads the rest of IS NULL or IS NOT NULL, after IS.
+#[tactic(auto, unfolding(table_model::specs::QueryReading::null_test))]
+fn null_test<'a>(
+    alloc: Global,
+    tokens: &mut Cursor<'_, 'a>,
+    left: WrittenOperand<'a>,
+) -> Result<WrittenCond<'a>, QueryFault>
+    ensures { Reads QueryFault.OutOfMemory (spec.null_test left.entry tokens.old) result tokens.new }
+{
+    let negated = tokens.eat(TokenKind::Not);
+    expect(tokens, TokenKind::Null)?;
+    let test = WrittenCond::IsNull(left);
+    if negated {
+        Ok(WrittenCond::Not(Boxed::new(alloc, test)?))
+    } else {
+        Ok(test)
+    }
+}
+
+/// Reads a comparison, or IS NULL or IS NOT NULL of an operand.
+#[tactic(auto, unfolding(table_model::specs::QueryReading::comparison))]
+pub(crate) fn comparison<'a>(
+    alloc: Global,
+    tokens: &mut Cursor<'_, 'a>,
+) -> Result<WrittenCond<'a>, QueryFault>
+    ensures { Reads QueryFault.OutOfMemory (spec.comparison language.functions tokens.old) result tokens.new }
+{
+    let at = tokens.place();
+    let left = operand(tokens)?;
+    if tokens.eat(TokenKind::Is) {
+        null_test(alloc, tokens, left)
+    } else {
+        compared(tokens, at, left)
+    }
+}

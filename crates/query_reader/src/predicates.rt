@@ -1,0 +1,203 @@
+//! Reads predicates: calls of the functions that relate geometries, and what they are compared with.
+
+ghost use Rattle.std.specs.Prelude.{◌≡◌};
+ghost use Rattle.table_model.specs.QueryReading as spec;
+ghost use Rattle.table_model.specs.Parsers as steps;
+ghost use Rattle.table_model.specs.Parsers.{Reads};
+ghost use Rattle.query_reader.specs.Predicates as names;
+ghost use Rattle.query_reader.specs.Predicates.{named_predicates, named_in, other_predicate, predicate_by};
+ghost use Rattle.query_reader.specs.Language.{language};
+
+use crate::comparisons::comparison;
+use crate::condition::WrittenCond;
+use crate::numbers::truth_digit;
+use crate::operands::geometry;
+use crate::terminals::{calls, expect, refuse, string};
+use geometry_model::Predicate;
+use sql_tokens::cursor::Cursor;
+use sqlite_items::Boxed;
+use std::alloc::Global;
+use table_model::faults::QueryFault;
+use table_model::queries::WrittenPredicate;
+use table_model::tokens::TokenKind;
+
+/// Reads the 1 or the 0 that a predicate is compared with: 0 negates it.
+#[tactic(auto, unfolding(table_model::specs::QueryReading::truth_value))]
+fn truth_value<'a>(
+    alloc: Global,
+    tokens: &mut Cursor<'_, 'a>,
+    cond: WrittenCond<'a>,
+) -> Result<WrittenCond<'a>, QueryFault>
+    ensures { Reads QueryFault.OutOfMemory (spec.truth_value cond.entry tokens.old) result tokens.new }
+{
+    if !tokens.sees(TokenKind::Integer) {
+        return Err(refuse(tokens));
+    }
+    match truth_digit(tokens.spelling()) {
+        None => Err(refuse(tokens)),
+        Some(holds) => {
+            tokens.advance();
+            if holds {
+                Ok(cond)
+            } else {
+                Ok(WrittenCond::Not(Boxed::new(alloc, cond)?))
+            }
+        }
+    }
+}
+
+/// Reads what a predicate is compared with, where it is compared.
+#[tactic(auto, unfolding(table_model::specs::QueryReading::truth_test))]
+fn truth_test<'a>(
+    alloc: Global,
+    tokens: &mut Cursor<'_, 'a>,
+    cond: WrittenCond<'a>,
+) -> Result<WrittenCond<'a>, QueryFault>
+    ensures { Reads QueryFault.OutOfMemory (spec.truth_test cond.entry tokens.old) result tokens.new }
+{
+    if tokens.eat(TokenKind::Equal) {
+        truth_value(alloc, tokens, cond)
+    } else {
+        Ok(cond)
+    }
+}
+
+/// Reads the arguments of a predicate of two geometries, which starts at a place.
+#[tactic(auto, unfolding(table_model::specs::QueryReading::relates))]
+fn relates<'a>(
+    tokens: &mut Cursor<'_, 'a>,
+    at: usize,
+    predicate: Predicate,
+) -> Result<WrittenCond<'a>, QueryFault>
+    ensures { Reads QueryFault.OutOfMemory (spec.relates at predicate tokens.old) result tokens.new }
+{
+    let a = geometry(tokens)?;
+    expect(tokens, TokenKind::Comma)?;
+    let b = geometry(tokens)?;
+    Ok(WrittenCond::Relates(at, WrittenPredicate::Named(predicate), a, b))
+}
+
+/// Reads the arguments of ST_Relate, which starts at a place.
+#[tactic(auto, unfolding(table_model::specs::QueryReading::relates_by))]
+fn relates_by<'a>(tokens: &mut Cursor<'_, 'a>, at: usize) -> Result<WrittenCond<'a>, QueryFault>
+    ensures { Reads QueryFault.OutOfMemory (spec.relates_by at tokens.old) result tokens.new }
+{
+    let a = geometry(tokens)?;
+    expect(tokens, TokenKind::Comma)?;
+    let b = geometry(tokens)?;
+    expect(tokens, TokenKind::Comma)?;
+    let pattern = string(tokens)?;
+    Ok(WrittenCond::Relates(at, WrittenPredicate::Relate(pattern), a, b))
+}
+
+/// Reads a call of a predicate of two geometries, from its name on, and what it is compared with.
+fn related<'a>(
+    alloc: Global,
+    tokens: &mut Cursor<'_, 'a>,
+    at: usize,
+    predicate: Predicate,
+) -> Result<WrittenCond<'a>, QueryFault>
+    ensures { Reads QueryFault.OutOfMemory (spec.tested (spec.relates at predicate) (steps.next tokens.old)) result tokens.new }
+{
+    tokens.advance();
+    expect(tokens, TokenKind::LeftParenthesis)?;
+    let cond = relates(tokens, at, predicate)?;
+    expect(tokens, TokenKind::RightParenthesis)?;
+    truth_test(alloc, tokens, cond)
+}
+
+/// Reads a call of ST_Relate, from its name on, and what it is compared with.
+fn related_by<'a>(
+    alloc: Global,
+    tokens: &mut Cursor<'_, 'a>,
+    at: usize,
+) -> Result<WrittenCond<'a>, QueryFault>
+    ensures { Reads QueryFault.OutOfMemory (spec.tested (spec.relates_by at) (steps.next tokens.old)) result tokens.new }
+{
+    tokens.advance();
+    expect(tokens, TokenKind::LeftParenthesis)?;
+    let cond = relates_by(tokens, at)?;
+    expect(tokens, TokenKind::RightParenthesis)?;
+    truth_test(alloc, tokens, cond)
+}
+
+/// Reads a call of ST_IsEmpty, from its name on, and what it is compared with.
+fn emptiness<'a>(
+    alloc: Global,
+    tokens: &mut Cursor<'_, 'a>,
+    at: usize,
+) -> Result<WrittenCond<'a>, QueryFault>
+    ensures { Reads QueryFault.OutOfMemory (spec.tested (names.empty_argument at) (steps.next tokens.old)) result tokens.new }
+{
+    tokens.advance();
+    expect(tokens, TokenKind::LeftParenthesis)?;
+    let argument = geometry(tokens)?;
+    expect(tokens, TokenKind::RightParenthesis)?;
+    truth_test(alloc, tokens, WrittenCond::IsEmpty(at, argument))
+}
+
+/// The predicate of two geometries that is called next, by its name.
+fn named_predicate(tokens: &Cursor<'_, '_>) -> Option<Predicate>
+    ensures { result ≡ named_in named_predicates tokens.now }
+{
+    if calls(tokens, b"ST_Equals") {
+        Some(Predicate::Equals)
+    } else if calls(tokens, b"ST_Disjoint") {
+        Some(Predicate::Disjoint)
+    } else if calls(tokens, b"ST_Intersects") {
+        Some(Predicate::Intersects)
+    } else if calls(tokens, b"ST_Touches") {
+        Some(Predicate::Touches)
+    } else if calls(tokens, b"ST_Crosses") {
+        Some(Predicate::Crosses)
+    } else if calls(tokens, b"ST_Within") {
+        Some(Predicate::Within)
+    } else if calls(tokens, b"ST_Contains") {
+        Some(Predicate::Contains)
+    } else if calls(tokens, b"ST_Overlaps") {
+        Some(Predicate::Overlaps)
+    } else {
+        None
+    }
+}
+
+/// Reads ST_Relate, ST_IsEmpty or a comparison.
+fn other_predicate<'a>(
+    alloc: Global,
+    tokens: &mut Cursor<'_, 'a>,
+) -> Result<WrittenCond<'a>, QueryFault>
+    ensures { Reads QueryFault.OutOfMemory (other_predicate tokens.old) result tokens.new }
+{
+    let at = tokens.place();
+    if calls(tokens, b"ST_Relate") {
+        related_by(alloc, tokens, at)
+    } else if calls(tokens, b"ST_IsEmpty") {
+        emptiness(alloc, tokens, at)
+    } else {
+        comparison(alloc, tokens)
+    }
+}
+
+/// Reads a predicate whose name is looked at first.
+fn predicate_by_name<'a>(
+    alloc: Global,
+    tokens: &mut Cursor<'_, 'a>,
+) -> Result<WrittenCond<'a>, QueryFault>
+    ensures { Reads QueryFault.OutOfMemory (predicate_by (named_in named_predicates tokens.old) tokens.old) result tokens.new }
+{
+    let at = tokens.place();
+    match named_predicate(tokens) {
+        Some(predicate) => related(alloc, tokens, at, predicate),
+        None => other_predicate(alloc, tokens),
+    }
+}
+
+/// Reads a predicate.
+pub(crate) fn predicate<'a>(
+    alloc: Global,
+    tokens: &mut Cursor<'_, 'a>,
+) -> Result<WrittenCond<'a>, QueryFault>
+    ensures { Reads QueryFault.OutOfMemory (spec.predicate language.functions tokens.old) result tokens.new }
+{
+    predicate_by_name(alloc, tokens)
+}

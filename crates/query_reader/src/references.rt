@@ -1,0 +1,84 @@
+//! Reads the tables that a query is over.
+
+ghost use Rattle.std.specs.Prelude.{◌≡◌};
+ghost use Rattle.table_model.specs.QueryReading as spec;
+ghost use Rattle.table_model.specs.Parsers.{Reads};
+ghost use Rattle.query_reader.specs.Language.{language};
+
+use crate::condition::{MOST_LEVELS, WrittenCond, condition};
+use crate::terminals::{expect, name};
+use sql_tokens::cursor::Cursor;
+use std::alloc::Global;
+use table_model::faults::QueryFault;
+use table_model::queries::{Name, WrittenReference};
+use table_model::tokens::TokenKind;
+
+/// Reads an alias, where one stands.
+#[tactic(auto, unfolding(table_model::specs::QueryReading::alias))]
+fn alias<'a>(tokens: &mut Cursor<'_, 'a>) -> Result<Option<Name<'a>>, QueryFault>
+    ensures { Reads QueryFault.OutOfMemory (spec.alias tokens.old) result tokens.new }
+{
+    if tokens.sees(TokenKind::As) {
+        tokens.advance();
+        Ok(Some(name(tokens)?))
+    } else if tokens.sees(TokenKind::Word) {
+        Ok(Some(name(tokens)?))
+    } else {
+        Ok(None)
+    }
+}
+
+/// Reads a table reference.
+#[tactic(auto, unfolding(table_model::specs::QueryReading::reference))]
+pub(crate) fn reference<'a>(tokens: &mut Cursor<'_, 'a>) -> Result<WrittenReference<'a>, QueryFault>
+    ensures { Reads QueryFault.OutOfMemory (spec.reference tokens.old) result tokens.new }
+{
+    let table = name(tokens)?;
+    let alias = alias(tokens)?;
+    Ok(WrittenReference { table, alias })
+}
+
+/// A second table reference and its condition of ON, or neither.
+pub(crate) type Second<'a> = (Option<WrittenReference<'a>>, Option<WrittenCond<'a>>);
+
+/// Reads a second table reference, which has no condition.
+#[tactic(auto, unfolding(table_model::specs::QueryReading::crossed))]
+fn crossed<'a>(tokens: &mut Cursor<'_, 'a>) -> Result<Second<'a>, QueryFault>
+    ensures { Reads QueryFault.OutOfMemory (spec.crossed language.functions tokens.old) result tokens.new }
+{
+    Ok((Some(reference(tokens)?), None))
+}
+
+/// Reads JOIN, a second table reference and its condition.
+#[tactic(auto, unfolding(table_model::specs::QueryReading::joined_on))]
+fn joined_on<'a>(alloc: Global, tokens: &mut Cursor<'_, 'a>) -> Result<Second<'a>, QueryFault>
+    ensures { Reads QueryFault.OutOfMemory (spec.joined_on language.functions tokens.old) result tokens.new }
+{
+    expect(tokens, TokenKind::Join)?;
+    let reference = reference(tokens)?;
+    expect(tokens, TokenKind::On)?;
+    let on = condition(alloc, tokens, MOST_LEVELS)?;
+    Ok((Some(reference), Some(on)))
+}
+
+/// Reads a second table reference and its condition, where they stand.
+pub(crate) fn second<'a>(
+    alloc: Global,
+    tokens: &mut Cursor<'_, 'a>,
+) -> Result<Second<'a>, QueryFault>
+    ensures { Reads QueryFault.OutOfMemory (spec.second language tokens.old) result tokens.new }
+{
+    if tokens.sees(TokenKind::Comma) {
+        tokens.advance();
+        crossed(tokens)
+    } else if tokens.sees(TokenKind::Cross) {
+        tokens.advance();
+        expect(tokens, TokenKind::Join)?;
+        crossed(tokens)
+    } else if tokens.sees(TokenKind::Inner) || tokens.sees(TokenKind::Join) {
+        tokens.eat(TokenKind::Inner);
+        joined_on(alloc, tokens)
+    } else {
+        Ok((None, None))
+    }
+}

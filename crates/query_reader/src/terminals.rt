@@ -1,0 +1,101 @@
+//! The small steps of the readers: a token of a kind, a name, a column, a string. Each function ensures the outcome of
+//! the reader of its name in `specs/QueryReading.antt` of `table_model`, which has the grammar, and so in each file here.
+
+ghost use Rattle.std.specs.Prelude.{◌≡◌};
+ghost use Rattle.table_model.specs.QueryReading as spec;
+ghost use Rattle.table_model.specs.Parsers as steps;
+ghost use Rattle.table_model.specs.Parsers.{Reads};
+
+use sql_tokens::cursor::Cursor;
+use table_model::faults::QueryFault;
+use table_model::queries::{Name, WrittenColumn};
+use table_model::texts::same_name;
+use table_model::tokens::TokenKind;
+
+/// The fault at the next token: no rule goes on with it.
+pub(crate) fn refuse(tokens: &Cursor<'_, '_>) -> QueryFault
+    ensures { result ≡ QueryFault.Syntax (steps.place tokens.now) }
+{
+    QueryFault::Syntax(tokens.place())
+}
+
+/// Reads a token of a kind.
+#[tactic(auto, unfolding(table_model::specs::Parsers::expect))]
+pub(crate) fn expect(tokens: &mut Cursor<'_, '_>, wanted: TokenKind) -> Result<(), QueryFault>
+    ensures { Reads QueryFault.OutOfMemory (steps.expect QueryFault.Syntax wanted tokens.old) result tokens.new }
+{
+    if tokens.sees(wanted) {
+        tokens.advance();
+        Ok(())
+    } else {
+        Err(refuse(tokens))
+    }
+}
+
+/// Reads a name: a word that isn't reserved. With `(` after it, it is a function and no name.
+#[tactic(auto, unfolding(table_model::specs::QueryReading::name))]
+pub(crate) fn name<'a>(tokens: &mut Cursor<'_, 'a>) -> Result<Name<'a>, QueryFault>
+    ensures { Reads QueryFault.OutOfMemory (spec.name tokens.old) result tokens.new }
+{
+    if tokens.sees(TokenKind::Word) && !tokens.second_sees(TokenKind::LeftParenthesis) {
+        let name = tokens.written();
+        tokens.advance();
+        Ok(name)
+    } else {
+        Err(refuse(tokens))
+    }
+}
+
+/// Reads a column, with the name of its reference or without.
+#[tactic(auto, unfolding(table_model::specs::QueryReading::column))]
+pub(crate) fn column<'a>(tokens: &mut Cursor<'_, 'a>) -> Result<WrittenColumn<'a>, QueryFault>
+    ensures { Reads QueryFault.OutOfMemory (spec.column tokens.old) result tokens.new }
+{
+    let first = name(tokens)?;
+    if tokens.eat(TokenKind::Point) {
+        let second = name(tokens)?;
+        Ok(WrittenColumn {
+            reference: Some(first),
+            name: second,
+        })
+    } else {
+        Ok(WrittenColumn {
+            reference: None,
+            name: first,
+        })
+    }
+}
+
+/// Reads a string.
+#[tactic(auto, unfolding(table_model::specs::QueryReading::string))]
+pub(crate) fn string<'a>(tokens: &mut Cursor<'_, 'a>) -> Result<Name<'a>, QueryFault>
+    ensures { Reads QueryFault.OutOfMemory (spec.string tokens.old) result tokens.new }
+{
+    if tokens.sees(TokenKind::Text) {
+        let text = tokens.written();
+        tokens.advance();
+        Ok(text)
+    } else {
+        Err(refuse(tokens))
+    }
+}
+
+/// Whether a function of this name, in any ASCII case, is called next.
+#[tactic(auto, unfolding(table_model::specs::QueryReading::calls))]
+pub(crate) fn calls(tokens: &Cursor<'_, '_>, function: &[u8]) -> bool
+    ensures { result ≡ spec.calls function.now tokens.now }
+{
+    tokens.sees(TokenKind::Word)
+        && tokens.second_sees(TokenKind::LeftParenthesis)
+        && same_name(tokens.spelling(), function)
+}
+
+/// Whether this word stands next, in any ASCII case, and is no function.
+#[tactic(auto, unfolding(table_model::specs::QueryReading::says))]
+pub(crate) fn says(tokens: &Cursor<'_, '_>, word: &[u8]) -> bool
+    ensures { result ≡ spec.says word.now tokens.now }
+{
+    tokens.sees(TokenKind::Word)
+        && !tokens.second_sees(TokenKind::LeftParenthesis)
+        && same_name(tokens.spelling(), word)
+}

@@ -1,0 +1,71 @@
+//! The whole query language, with places counted by hand.
+
+use geometry_model::Predicate;
+use query_reader::read_query;
+use std::test::Fail;
+use table_model::faults::QueryFault;
+use table_model::queries::{Explain, WrittenCond, WrittenGeometry, WrittenPredicate};
+
+/// The first fault of a text, with its byte.
+#[test]
+fn texts_are_taken_or_refused(rt: HostRuntime) {
+    for (text, fault) in [
+        ("ANALYZE SELECT id FROM t", Some(QueryFault::Syntax(0))),
+        ("SELECT id FROM t, u, v", Some(QueryFault::Syntax(19))),
+        (
+            "SELECT id FROM t CROSS JOIN u ON a = b",
+            Some(QueryFault::Syntax(30)),
+        ),
+        (
+            "SELECT id FROM big LIMIT 9223372036854775808",
+            Some(QueryFault::NumberTooBig(25)),
+        ),
+        ("SELECT COUNT(*), id FROM t", Some(QueryFault::Syntax(15))),
+        (
+            "SELECT id FROM t WHERE ST_IsEmpty(geom) = 2",
+            Some(QueryFault::Syntax(42)),
+        ),
+        (
+            "SELECT COUNT(*) FROM t WHERE ST_Within(ST_GeomFromText('POINT (1 2)'), geom)",
+            None,
+        ),
+    ] {
+        assert!(rt; read_query(rt.alloc(), text).err() == fault);
+    }
+}
+
+// Where the predicate of a condition of ON starts.
+fn intersects_at(cond: &WrittenCond<'_, WrittenGeometry<'_>>) -> Option<usize> {
+    match cond {
+        WrittenCond::Relates(at, WrittenPredicate::Named(Predicate::Intersects), _, _) => Some(*at),
+        _ => None,
+    }
+}
+
+// Where ST_Relate and its pattern start, as the second part of a conjunction.
+fn relate_at(cond: &WrittenCond<'_, WrittenGeometry<'_>>) -> Option<(usize, usize)> {
+    let WrittenCond::And(parts) = cond else {
+        return None;
+    };
+    match parts.get(1)? {
+        WrittenCond::Relates(at, WrittenPredicate::Relate(pattern), _, _) => {
+            Some((*at, pattern.at))
+        }
+        _ => None,
+    }
+}
+
+/// The tree of a query that has each part, with the bytes at which predicates start.
+#[test]
+fn has_every_part(rt: HostRuntime) -> Result<(), Fail> {
+    let query = read_query(
+        rt.alloc(),
+        "EXPLAIN ANALYZE SELECT b.id, ST_Dimension(b.geom) FROM big b JOIN sq s ON ST_Intersects(b.geom, s.geom) \
+         WHERE ST_Touches(b.geom, s.geom) = 0 AND ST_Relate(b.geom, s.geom, 'T********') LIMIT 2;",
+    )?;
+    let on = query.on.as_ref().ok_or("no ON")?;
+    let condition = query.condition.as_ref().ok_or("no WHERE")?;
+    assert!(rt; query.explain == Explain::Analyze && query.limit == Some(2));
+    assert!(rt; intersects_at(on) == Some(74) && relate_at(condition) == Some((145, 171)));
+    Ok(())
+}
