@@ -18,7 +18,7 @@ use table_model::values::Value;
 
 /// Whether a byte is passed over around a number.
 fn is_blank(byte: u8) -> bool
-    ensures { result ≡ spec.is_blank byte }
+    ensures { result ≡ spec.is_space_or_tab byte }
 {
     byte == b' ' || byte == b'\t'
 }
@@ -26,7 +26,7 @@ fn is_blank(byte: u8) -> bool
 /// How many blanks stand at the front of a text.
 fn blanks_at_front(text: &[u8]) -> usize
     ensures within { result ≤ length text.now }
-    ensures count { result ≡ prefix_len spec.is_blank text.now }
+    ensures count { result ≡ prefix_len spec.is_space_or_tab text.now }
 {
     text.iter().take_while(|byte| is_blank(**byte)).count()
 }
@@ -34,7 +34,7 @@ fn blanks_at_front(text: &[u8]) -> usize
 /// How many blanks stand at the end of a text.
 fn blanks_at_end(text: &[u8]) -> usize
     ensures within { result ≤ length text.now }
-    ensures count { result ≡ prefix_len spec.is_blank (reverse text.now) }
+    ensures count { result ≡ prefix_len spec.is_space_or_tab (reverse text.now) }
 {
     text.iter()
         .rev()

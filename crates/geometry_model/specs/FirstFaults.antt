@@ -25,11 +25,11 @@ share_point e f = on e (point_at f.start) || on e (point_at f.end) || on f (poin
 
 -- an end other than the position is on the edge
 abbrev pub other_on : Position → Edge → Position → Bool
-other_on common e q = on e (point_at q) && not (same_position q common)
+other_on shared_end e q = on e (point_at q) && not (same_position q shared_end)
 
 -- two edges with a common end share another point: an end other than it is on both
 abbrev pub share_other : Position → Edge → Edge → Bool
-share_other common e f = other_on common e f.start || other_on common e f.end || other_on common f e.start || other_on common f e.end
+share_other shared_end e f = other_on shared_end e f.start || other_on shared_end e f.end || other_on shared_end f e.start || other_on shared_end f e.end
 
 -- the test of an earlier and a later one of the n edges of a ring, each with its number
 abbrev pub clash : ℕ → ℕ × Edge → ℕ × Edge → Bool

@@ -42,8 +42,8 @@ abbrev pub just_above : List ℕ → Point → Option Location
 just_above s p = with_one (λ a. above a p) (read_text s)
 
 -- whether a predicate holds of two texts, by their label matrix
-abbrev pub tested : Predicate → List ℕ → List ℕ → Option Bool
-tested p s t = with_both (λ a b. holds p (kind a) (kind b) (labelled_matrix a b)) (read_text s) (read_text t)
+abbrev pub is_held : Predicate → List ℕ → List ℕ → Option Bool
+is_held p s t = with_both (λ a b. holds p (kind a) (kind b) (labelled_matrix a b)) (read_text s) (read_text t)
 
 -- whether a pattern's text forces its two geometries' envelopes to meet
 abbrev pub forces : List ℕ → Option Bool
@@ -54,8 +54,8 @@ abbrev pub cuts : List ℕ → List ℕ → Option (List Point)
 cuts s t = with_both cuts_of_both (read_text s) (read_text t)
 
 -- the pieces of two texts
-abbrev pub stretches : List ℕ → List ℕ → Option (List Piece)
-stretches s t = with_both (λ a b. pieces (cuts_of_both a b) (edges_of_both a b)) (read_text s) (read_text t)
+abbrev pub pieces_of_both : List ℕ → List ℕ → Option (List Piece)
+pieces_of_both s t = with_both (λ a b. pieces (cuts_of_both a b) (edges_of_both a b)) (read_text s) (read_text t)
 
 -- the envelope of a text's geometry, if it has one (06-103r4, 6.1.2.2: Envelope)
 abbrev pub bounds : List ℕ → Option (Option Envelope)

@@ -26,12 +26,12 @@ pub record SharePoint (e f : Edge) : Type 0 where
   pub on_second : on f at ≡ true
 
 -- some point other than the position is on both edges (06-103r4, 6.1.15: intersection of point sets)
-pub record ShareOther (common : Position) (e f : Edge) : Type 0 where
+pub record ShareOther (shared_end : Position) (e f : Edge) : Type 0 where
   pub at : Point
   pub is_point : IsPoint at
   pub on_first : on e at ≡ true
   pub on_second : on f at ≡ true
-  pub other : same_point at (point_at common) ≡ false
+  pub other : same_point at (point_at shared_end) ≡ false
 
 -- edges i < j of the n edges of a ring clash: neighbours share more than their common position, others share a point;
 -- the first and the last edge are neighbours (06-103r4, 6.1.6.1: simple)

@@ -7,10 +7,10 @@ use Rattle.geometry_model.specs.declared.text_faults.TextFault.{TextFault}
 use Rattle.geometry_model.specs.declared.validity_faults.ValidityFault.{ValidityFault}
 
 -- what a text spells is tested; none where it spells nothing
-abbrev pub tested : Result Geometry TextFault → Option (Option ValidityFault)
-tested (Ok g) = Some (validity_fault g)
-tested (Err fault) = None
+abbrev pub fault_in : Result Geometry TextFault → Option (Option ValidityFault)
+fault_in (Ok g) = Some (validity_fault g)
+fault_in (Err fault) = None
 
 -- the first fault of what the text spells
 abbrev pub fault_of : List ℕ → Option (Option ValidityFault)
-fault_of text = tested (read_text text)
+fault_of text = fault_in (read_text text)

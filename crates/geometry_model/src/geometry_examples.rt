@@ -10,10 +10,10 @@ ghost use Rattle.geometry_model.specs.GeometryExamples.{
   place,
   just_below,
   just_above,
-  tested,
+  is_held,
   forces,
   cuts,
-  stretches,
+  pieces_of_both,
   bounds,
   bounds_meet,
   point,
@@ -86,16 +86,16 @@ pub fn sides_of_edges()
 pub fn cut_points_and_pieces()
     ensures crossing { cuts (codes "LINESTRING(0 0,3 1)") (codes "LINESTRING(0 1,2 0)")
         ≡ Some (point (pos 0) (pos 0) (pos 1) ∷ point (pos 0) (pos 1) (pos 1) ∷ point (pos 6) (pos 2) (pos 5) ∷ point (pos 2) (pos 0) (pos 1) ∷ point (pos 3) (pos 1) (pos 1) ∷ []) }
-    ensures four_pieces { stretches (codes "LINESTRING(0 0,3 1)") (codes "LINESTRING(0 1,2 0)")
+    ensures four_pieces { pieces_of_both (codes "LINESTRING(0 0,3 1)") (codes "LINESTRING(0 1,2 0)")
         ≡ Some (from_to (point (pos 0) (pos 0) (pos 1)) (point (pos 6) (pos 2) (pos 5))
         ∷ from_to (point (pos 0) (pos 1) (pos 1)) (point (pos 6) (pos 2) (pos 5))
         ∷ from_to (point (pos 6) (pos 2) (pos 5)) (point (pos 2) (pos 0) (pos 1))
         ∷ from_to (point (pos 6) (pos 2) (pos 5)) (point (pos 3) (pos 1) (pos 1)) ∷ []) }
-    ensures shared_stretch { stretches (codes "LINESTRING(0 0,4 0)") (codes "LINESTRING(6 0,2 0)")
+    ensures shared_stretch { pieces_of_both (codes "LINESTRING(0 0,4 0)") (codes "LINESTRING(6 0,2 0)")
         ≡ Some (from_to (point (pos 0) (pos 0) (pos 1)) (point (pos 2) (pos 0) (pos 1))
         ∷ from_to (point (pos 2) (pos 0) (pos 1)) (point (pos 4) (pos 0) (pos 1))
         ∷ from_to (point (pos 4) (pos 0) (pos 1)) (point (pos 6) (pos 0) (pos 1)) ∷ []) }
-    ensures end_on_an_upright_line { stretches (codes "LINESTRING(0 0,2 0)") (codes "LINESTRING(2 -1,2 1)")
+    ensures end_on_an_upright_line { pieces_of_both (codes "LINESTRING(0 0,2 0)") (codes "LINESTRING(2 -1,2 1)")
         ≡ Some (from_to (point (pos 0) (pos 0) (pos 1)) (point (pos 2) (pos 0) (pos 1))
         ∷ from_to (point (pos 2) (negsuc 0) (pos 1)) (point (pos 2) (pos 0) (pos 1))
         ∷ from_to (point (pos 2) (pos 0) (pos 1)) (point (pos 2) (pos 1) (pos 1)) ∷ []) }
@@ -115,21 +115,21 @@ pub fn pattern_texts()
 
 /// Predicates of worked rows, by their label matrices (06-103r4, 6.1.15.3).
 pub fn predicates_of_rows()
-    ensures empty_geometries_are_equal { tested Equals (codes "POINT EMPTY") (codes "LINESTRING EMPTY") ≡ Some true }
-    ensures empty_areas_are_equal { tested Equals (codes "MULTIPOLYGON EMPTY") (codes "POLYGON EMPTY") ≡ Some true }
-    ensures one_element_is_a_polygon { tested Equals (codes "MULTIPOLYGON(((0 0,4 0,4 4,0 4,0 0)))") square ≡ Some true }
-    ensures two_elements_are_equal { tested Equals (codes "LINESTRING(0 0,2 0)") (codes "MULTILINESTRING((0 0,1 0),(1 0,2 0))") ≡ Some true }
-    ensures corner_touches { tested Touches (codes "LINESTRING(-2 2,2 -2)") square ≡ Some true }
-    ensures corner_does_not_cross { tested Crosses (codes "LINESTRING(-2 2,2 -2)") square ≡ Some false }
-    ensures squares_touch { tested Touches square (codes "POLYGON((4 0,8 0,8 4,4 4,4 0))") ≡ Some true }
-    ensures lines_cross { tested Crosses (codes "LINESTRING(0 0,3 1)") (codes "LINESTRING(0 1,2 0)") ≡ Some true }
-    ensures hole_is_disjoint { tested Disjoint (codes "POINT(5 5)") frame ≡ Some true }
-    ensures hole_does_not_intersect { tested Intersects (codes "POINT(5 5)") frame ≡ Some false }
-    ensures point_is_within { tested Within (codes "POINT(1 1)") square ≡ Some true }
-    ensures square_contains { tested Contains square (codes "POINT(1 1)") ≡ Some true }
-    ensures edge_is_not_within { tested Within (codes "LINESTRING(0 0,4 0)") square ≡ Some false }
-    ensures squares_overlap { tested Overlaps square (codes "POLYGON((2 2,6 2,6 6,2 6,2 2))") ≡ Some true }
-    ensures points_do_not_touch { tested Touches (codes "POINT(1 1)") (codes "POINT(1 1)") ≡ Some false }
+    ensures empty_geometries_are_equal { is_held Equals (codes "POINT EMPTY") (codes "LINESTRING EMPTY") ≡ Some true }
+    ensures empty_areas_are_equal { is_held Equals (codes "MULTIPOLYGON EMPTY") (codes "POLYGON EMPTY") ≡ Some true }
+    ensures one_element_is_a_polygon { is_held Equals (codes "MULTIPOLYGON(((0 0,4 0,4 4,0 4,0 0)))") square ≡ Some true }
+    ensures two_elements_are_equal { is_held Equals (codes "LINESTRING(0 0,2 0)") (codes "MULTILINESTRING((0 0,1 0),(1 0,2 0))") ≡ Some true }
+    ensures corner_touches { is_held Touches (codes "LINESTRING(-2 2,2 -2)") square ≡ Some true }
+    ensures corner_does_not_cross { is_held Crosses (codes "LINESTRING(-2 2,2 -2)") square ≡ Some false }
+    ensures squares_touch { is_held Touches square (codes "POLYGON((4 0,8 0,8 4,4 4,4 0))") ≡ Some true }
+    ensures lines_cross { is_held Crosses (codes "LINESTRING(0 0,3 1)") (codes "LINESTRING(0 1,2 0)") ≡ Some true }
+    ensures hole_is_disjoint { is_held Disjoint (codes "POINT(5 5)") frame ≡ Some true }
+    ensures hole_does_not_intersect { is_held Intersects (codes "POINT(5 5)") frame ≡ Some false }
+    ensures point_is_within { is_held Within (codes "POINT(1 1)") square ≡ Some true }
+    ensures square_contains { is_held Contains square (codes "POINT(1 1)") ≡ Some true }
+    ensures edge_is_not_within { is_held Within (codes "LINESTRING(0 0,4 0)") square ≡ Some false }
+    ensures squares_overlap { is_held Overlaps square (codes "POLYGON((2 2,6 2,6 6,2 6,2 2))") ≡ Some true }
+    ensures points_do_not_touch { is_held Touches (codes "POINT(1 1)") (codes "POINT(1 1)") ≡ Some false }
 {}
 
 /// Predicates and patterns that want a common point, so that envelopes meet where they hold.

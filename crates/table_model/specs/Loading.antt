@@ -42,12 +42,12 @@ each [] = Ok []
 each (answer ∷ answers) = and_then answer (λ x. and_then (each answers) (λ xs. Ok (x ∷ xs)))
 
 -- the bytes that are passed over around a number: spaces and tabs
-abbrev pub is_blank : ℕ → Bool
-is_blank byte = (byte == 32) || (byte == 9)
+abbrev pub is_space_or_tab : ℕ → Bool
+is_space_or_tab byte = (byte == 32) || (byte == 9)
 
 -- a field without the blanks at its front and at its end
 abbrev pub trimmed : List ℕ → List ℕ
-trimmed bytes = let rest = drop (prefix_len is_blank bytes) bytes in take (length rest - prefix_len is_blank (reverse rest)) rest
+trimmed bytes = let rest = drop (prefix_len is_space_or_tab bytes) bytes in take (length rest - prefix_len is_space_or_tab (reverse rest)) rest
 
 -- whether a number has 64 bits with its sign (SQL, INTEGER; 64 bits are this project's choice)
 abbrev pub fits_64_bits : ℤ → Bool

@@ -65,9 +65,9 @@ called_or (f ∷ more) other ts = if calls f.0 ts then f.1 (next ts) else called
 
 -- what stands between parentheses
 abbrev pub enclosed : {A : Type 0} → Reader A → Reader A
-enclosed inside = do
+enclosed reader = do
   expect fault.Syntax k.LeftParenthesis
-  x ← inside
+  x ← reader
   expect fault.Syntax k.RightParenthesis
   pure x
 
@@ -159,8 +159,8 @@ truth_value x ts =
 -- ('=' ('1' | '0'))? after a predicate
 unfoldable pub truth_test : {A : Type 0} → WrittenCond A → Reader (WrittenCond A)
 truth_test x = do
-  tested ← eat k.Equal
-  if tested then truth_value x else pure x
+  compared ← eat k.Equal
+  if compared then truth_value x else pure x
 
 -- the arguments of a predicate, and what it is compared with
 abbrev pub tested : {A : Type 0} → Reader (WrittenCond A) → Reader (WrittenCond A)

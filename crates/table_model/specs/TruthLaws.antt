@@ -19,5 +19,5 @@ ConjunctsAreJoined = (matrix : Geometry → Geometry → Matrix) (denotes : Rows
 
 -- an AND within an AND has the truth of the parts of both in one (SQL's three-valued logic)
 abbrev pub NestedAndsAreOne : Type 0
-NestedAndsAreOne = (matrix : Geometry → Geometry → Matrix) (denotes : Rows Geometry → Argument → Option Geometry) (rows : Rows Geometry) (before inside after : List (Cond Argument))
-    → truth matrix denotes rows (conds.And (before ++ conds.And inside ∷ after)) ≡ truth matrix denotes rows (conds.And (before ++ (inside ++ after)))
+NestedAndsAreOne = (matrix : Geometry → Geometry → Matrix) (denotes : Rows Geometry → Argument → Option Geometry) (rows : Rows Geometry) (before inner after : List (Cond Argument))
+    → truth matrix denotes rows (conds.And (before ++ conds.And inner ∷ after)) ≡ truth matrix denotes rows (conds.And (before ++ (inner ++ after)))

@@ -15,4 +15,4 @@ IsEnd p e = (e.start ≡ p) ⊎ (e.end ≡ p)
 
 -- of two edges with a common end the other test says whether some other rational point is on both
 abbrev pub OtherPointIsDecided : Type 0
-OtherPointIsDecided = (common : Position) (e f : Edge) → IsEnd common e → IsEnd common f → (share_other common e f ≡ true) ↔ ShareOther common e f
+OtherPointIsDecided = (shared_end : Position) (e f : Edge) → IsEnd shared_end e → IsEnd shared_end f → (share_other shared_end e f ≡ true) ↔ ShareOther shared_end e f
