@@ -19,18 +19,11 @@ fn loaded(alloc: Global, schema: &Schema) -> Result<Database<'_>, Fail> {
     Ok(Database::load(alloc, schema, readers)?)
 }
 
-fn bound(alloc: Global, text: &str) -> Result<Bound, Fail> {
+fn bound(alloc: Global, text: &str) -> Result<Result<Bound, QueryFault>, Fail> {
     let schema = read_schema(alloc, SCHEMA)?;
     let database = loaded(alloc, &schema)?;
     let query = read_query(alloc, text)?;
-    Ok(bind(alloc, &query, &database)?)
-}
-
-fn fault_of(alloc: Global, text: &str) -> Result<Option<QueryFault>, Fail> {
-    let schema = read_schema(alloc, SCHEMA)?;
-    let database = loaded(alloc, &schema)?;
-    let query = read_query(alloc, text)?;
-    Ok(bind(alloc, &query, &database).err())
+    Ok(bind(alloc, &query, &database))
 }
 
 /// The first fault of the names and types of a query, with its byte.
@@ -48,7 +41,7 @@ fn faults_of_names(rt: HostRuntime) -> Result<(), Fail> {
             Some(QueryFault::TypeMismatch(23)),
         ),
     ] {
-        assert!(rt; fault_of(rt.alloc(), text)? == wanted);
+        assert!(rt; bound(rt.alloc(), text)?.err() == wanted);
     }
     Ok(())
 }
@@ -70,7 +63,7 @@ fn truths(alloc: Global, cond: &Cond, database: &Database<'_>) -> Result<Vec<Tru
 
 // The truths of the only conjunct of a query at the rows of the table.
 fn truths_of(alloc: Global, text: &str) -> Result<Vec<Truth>, Fail> {
-    let bound = bound(alloc, text)?;
+    let bound = bound(alloc, text)?.ok().ok_or("not bound")?;
     let schema = read_schema(alloc, SCHEMA)?;
     let database = loaded(alloc, &schema)?;
     truths(
@@ -128,7 +121,7 @@ fn first_text(bound: &Bound) -> &[u8] {
 #[test]
 fn parts_of_a_bound_query(rt: HostRuntime) -> Result<(), Fail> {
     let text = "SELECT NAME, x.id FROM T AS X WHERE name = 'it''s' AND (pop = 1 AND id = 2)";
-    let bound = bound(rt.alloc(), text)?;
+    let bound = bound(rt.alloc(), text)?.ok().ok_or("not bound")?;
     assert!(rt; name_of_first(&bound) == b"X".as_slice());
     assert!(rt; column_place(&bound, 0) == Some(2) && column_place(&bound, 1) == Some(0));
     assert!(rt; bound.conjuncts.len() == 3 && first_text(&bound) == b"it's".as_slice());

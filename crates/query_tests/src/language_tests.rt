@@ -1,6 +1,5 @@
 //! The whole query language, with places counted by hand.
 
-use geometry_model::Predicate;
 use query_reader::read_query;
 use std::test::Fail;
 use table_model::faults::QueryFault;
@@ -34,10 +33,10 @@ fn texts_are_taken_or_refused(rt: HostRuntime) {
     }
 }
 
-// Where the predicate of a condition of ON starts.
-fn intersects_at(cond: &WrittenCond<'_, WrittenGeometry<'_>>) -> Option<usize> {
+// Where a predicate starts.
+fn predicate_at(cond: &WrittenCond<'_, WrittenGeometry<'_>>) -> Option<usize> {
     match cond {
-        WrittenCond::Relates(at, WrittenPredicate::Named(Predicate::Intersects), _, _) => Some(*at),
+        WrittenCond::Relates(at, _, _, _) => Some(*at),
         _ => None,
     }
 }
@@ -66,6 +65,6 @@ fn has_every_part(rt: HostRuntime) -> Result<(), Fail> {
     let on = query.on.as_ref().ok_or("no ON")?;
     let condition = query.condition.as_ref().ok_or("no WHERE")?;
     assert!(rt; query.explain == Explain::Analyze && query.limit == Some(2));
-    assert!(rt; intersects_at(on) == Some(74) && relate_at(condition) == Some((145, 171)));
+    assert!(rt; predicate_at(on) == Some(74) && relate_at(condition) == Some((145, 171)));
     Ok(())
 }

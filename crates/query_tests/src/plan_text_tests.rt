@@ -3,40 +3,43 @@
 use explain::{analyze, explain};
 use sinks::MemorySink;
 use sqlite_items::Items;
-use std::alloc::Global;
+use std::alloc::{AllocError, Global};
 use std::test::Fail;
 use table_model::conditions::{Bound, Reference};
 use table_model::plans::{Access, AccessMethod, Plan};
 use table_model::queries::Explain;
 
-fn name(alloc: Global, text: &str) -> Result<Items<u8>, Fail> {
-    let mut bytes = Vec::new(alloc);
-    bytes.extend_from_slice(text.as_bytes())?;
-    Ok(Items::from_vec(bytes))
+fn reference(alloc: Global, text: &str) -> Result<Reference, AllocError> {
+    let mut name = Vec::new(alloc);
+    name.extend_from_slice(text.as_bytes())?;
+    Ok(Reference {
+        table: 0,
+        name: Items::from_vec(name),
+    })
 }
 
 fn query(
     alloc: Global,
-    names: &[&str],
+    references: Vec<Reference>,
     counts: bool,
     limit: Option<u64>,
-) -> Result<Bound<(), ()>, Fail> {
-    let mut references = Vec::new(alloc);
-    for text in names {
-        let name = name(alloc, text)?;
-        references.push(Reference { table: 0, name })?;
-    }
-    Ok(Bound {
+) -> Bound<(), ()> {
+    Bound {
         explain: Explain::Plan,
         references: Items::from_vec(references),
         items: Items::new(alloc),
         conjuncts: Items::new(alloc),
         counts,
         limit,
-    })
+    }
 }
 
-fn plan(alloc: Global, cost: u64, accesses: &[Access], filters: &[usize]) -> Result<Plan, Fail> {
+fn plan(
+    alloc: Global,
+    cost: u64,
+    accesses: &[Access],
+    filters: &[usize],
+) -> Result<Plan, AllocError> {
     let mut made = Vec::new(alloc);
     made.extend_from_slice(accesses)?;
     let mut places = Vec::new(alloc);
@@ -55,9 +58,11 @@ fn access(reference: usize, method: AccessMethod) -> Access {
 /// A probe of one table, and a scan of one whose rows are counted.
 #[test]
 fn plans_of_one_reference(rt: HostRuntime) -> Result<(), Fail> {
-    let near = query(rt.alloc(), &["big"], false, None)?;
+    let big = vec![in rt.alloc(); reference(rt.alloc(), "big")?]?;
+    let near = query(rt.alloc(), big, false, None);
     let probe = plan(rt.alloc(), 14, &[access(0, AccessMethod::Probe(0))], &[0])?;
-    let all = query(rt.alloc(), &["big"], true, Some(0))?;
+    let big = vec![in rt.alloc(); reference(rt.alloc(), "big")?]?;
+    let all = query(rt.alloc(), big, true, Some(0));
     let scan = plan(rt.alloc(), 100, &[access(0, AccessMethod::Scan)], &[])?;
     let mut sink = MemorySink::new(rt.alloc());
     assert!(rt; explain(&near, &probe, &mut sink).is_ok());
@@ -71,7 +76,8 @@ fn plans_of_one_reference(rt: HostRuntime) -> Result<(), Fail> {
 /// Nested loops over two tables, of which the inner one is probed, and their work.
 #[test]
 fn plans_of_two_references(rt: HostRuntime) -> Result<(), Fail> {
-    let joined = query(rt.alloc(), &["b", "s"], false, None)?;
+    let both = vec![in rt.alloc(); reference(rt.alloc(), "b")?, reference(rt.alloc(), "s")?]?;
+    let joined = query(rt.alloc(), both, false, None);
     let accesses = [
         access(1, AccessMethod::Scan),
         access(0, AccessMethod::Probe(0)),
