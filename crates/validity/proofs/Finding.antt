@@ -1,7 +1,7 @@
 -- The first of some faults that stands, number by number.
 use Rattle.std.proofs.Common.{◌≡◌, refl, sym, ap, ◌∙◌, ℕ, zero, suc, ◌+◌, ◌-◌, ◌<◌, ◌≤◌, Bool, true, false, cond, List, [], ◌∷◌, ◌++◌, map, drop, length, Option, Some, None, slice_get, arith}
 use Rattle.std.specs.List.{find, flat_map, range_with_len}
-use Rattle.std.specs.Option.{option_or}
+use Rattle.std.specs.Option.{option_or, is_some}
 use Rattle.std.proofs.lemmas.List.Folds.{find-append}
 use Rattle.geometry_model.specs.FirstFaults.{numbers}
 use Rattle.geometry_model.specs.declared.validity_faults.ValidityFault.{ValidityFault}
@@ -74,3 +74,28 @@ past_all (x ∷ xs) (suc m) h = past_all xs m (omega (arith, h))
 pub none_in_parts : {A : Type 0} (stands : ValidityFault → Bool) (faults : A → List ValidityFault) (parts : List A) (m : ℕ) → length parts ≤ m
     → find stands (flat_map faults (drop m parts)) ≡ None
 none_in_parts stands faults parts m h = ap (λ xs. find stands (flat_map faults xs)) (past_all parts m h)
+
+-- ---- what was found there, or nothing
+some_is : (o : Option ValidityFault) → is_some o ≡ true → (fault : ValidityFault) × (o ≡ Some fault)
+some_is None h = absurd cc
+some_is (Some fault) h = (fault, refl)
+
+none_is : (o : Option ValidityFault) → is_some o ≡ false → o ≡ None
+none_is None h = refl
+none_is (Some fault) h = absurd cc
+
+pub first_among : (stands : ValidityFault → Bool) (faults : ℕ → List ValidityFault) (i n : ℕ) (o : Option ValidityFault) → i < n → o ≡ find stands (faults i) → is_some o ≡ true
+    → find stands (flat_map faults (numbers i n)) ≡ o
+first_among stands faults i n o h e some = let k = some_is o some in found_among stands faults i n k.0 h (sym e ∙ k.1) ∙ sym k.1
+
+pub further_among : (stands : ValidityFault → Bool) (faults : ℕ → List ValidityFault) (i n : ℕ) (o : Option ValidityFault) → i < n → o ≡ find stands (faults i) → is_some o ≡ false
+    → find stands (flat_map faults (numbers i n)) ≡ find stands (flat_map faults (numbers (i + 1) n))
+further_among stands faults i n o h e none = passed_among stands faults i n h (sym e ∙ none_is o none)
+
+pub first_in_part : {A : Type 0} (stands : ValidityFault → Bool) (faults : A → List ValidityFault) (parts : List A) (m : ℕ) (part : A) (o : Option ValidityFault) → slice_get parts m ≡ Some part
+    → o ≡ find stands (faults part) → is_some o ≡ true → find stands (flat_map faults (drop m parts)) ≡ o
+first_in_part stands faults parts m part o is e some = let k = some_is o some in found_in_part stands faults parts m part k.0 is (sym e ∙ k.1) ∙ sym k.1
+
+pub further_in_parts : {A : Type 0} (stands : ValidityFault → Bool) (faults : A → List ValidityFault) (parts : List A) (m : ℕ) (part : A) (o : Option ValidityFault) → slice_get parts m ≡ Some part
+    → o ≡ find stands (faults part) → is_some o ≡ false → find stands (flat_map faults (drop m parts)) ≡ find stands (flat_map faults (drop (m + 1) parts))
+further_in_parts stands faults parts m part o is e none = passed_in_part stands faults parts m part is (sym e ∙ none_is o none)

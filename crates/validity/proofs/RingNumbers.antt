@@ -1,13 +1,14 @@
 -- The rings of a polygon among all rings, by their numbers.
-use Rattle.std.proofs.Common.{◌≡◌, refl, sym, ap, ap₂, subst, ◌∙◌, ℕ, zero, suc, ◌+◌, ◌-◌, ◌<◌, ◌≤◌, Bool, true, false, not, ◌&&◌, ◌||◌, cond, nat_lt, nat_le, List, [], ◌∷◌, ◌++◌, map, length, Option, Some, None, slice_get, arith, append-nil}
+use Rattle.std.proofs.Common.{◌≡◌, refl, sym, ap, ap₂, subst, ◌∙◌, ℕ, zero, suc, ◌+◌, ◌-◌, ◌<◌, ◌≤◌, Bool, true, false, not, ◌&&◌, ◌||◌, cond, nat_lt, nat_le, List, [], ◌∷◌, ◌++◌, map, length, Option, Some, None, slice_get, arith, append-nil, length-append}
 use Rattle.std.specs.List.{list_any}
 use Rattle.geometry_model.specs.Points.{Position}
 use Rattle.geometry_model.specs.Geometries.{Geometry, lines, elements, joined_rings}
 use Rattle.geometry_model.specs.Validity.{Element, elements_from, numbered_elements, inside}
-use Rattle.geometry_model.specs.FirstFaults.{has_fault, ring_of, rings_end, rings_share, test_of_both}
+use Rattle.geometry_model.specs.FirstFaults.{has_fault, ring_of, rings_end, rings_share, elements_share, test_of_both}
 use Rattle.geometry_model.specs.declared.validity_faults.ValidityFault.{ValidityFault}
-use Rattle.geometry_model.specs.declared.validity_faults.ValidityFault.TheVariants.{RingsMeet, HoleOutside, HolesNested}
+use Rattle.geometry_model.specs.declared.validity_faults.ValidityFault.TheVariants.{RingsMeet, HoleOutside, HolesNested, ElementsMeet}
 use Rattle.std.proofs.lemmas.Option.{slice_get_past}
+use Rattle.validity.specs.Outlines.{AreRings}
 
 same_some : {A : Type 0} (x y : A) → Some x ≡ Some y → x ≡ y
 same_some x y h = cc
@@ -89,13 +90,22 @@ joined_are_lines (Geometry.MultiLineString ls) m e is = absurd cc
 joined_are_lines (Geometry.Polygon rs) m e is = append-nil rs
 joined_are_lines (Geometry.MultiPolygon es) m e is = refl
 
--- the numbers of the rings of a polygon
-pub record AreRings (g : Geometry) (first end : ℕ) : Type 0 where
-  pub place : ℕ
-  pub element : Element
-  pub numbered : slice_get (numbered_elements g) place ≡ Some element
-  pub starts : element.first ≡ first
-  pub ends : rings_end element ≡ end
+-- a polygon's rings end among all
+ends_within : (start : ℕ) (polygons : List (List (List Position))) (m : ℕ) (e : Element) → slice_get (elements_from start polygons) m ≡ Some e → rings_end e ≤ start + length (joined_rings polygons)
+ends_within start [] m e is = absurd cc
+ends_within start (x ∷ xs) zero e is = subst (λ (d : Element). rings_end d ≤ start + length (joined_rings (x ∷ xs))) (same_some (record { first = start; rings = x }) e is)
+    (omega (arith, length-append x (joined_rings xs)))
+ends_within start (x ∷ xs) (suc m) e is = omega (arith, ends_within (start + length x) xs m e is, length-append x (joined_rings xs))
+
+-- the numbers of a polygon's rings are numbers of lines
+pub lines_cover : (g : Geometry) (first end : ℕ) → AreRings g first end → end ≤ length (lines g)
+lines_cover g first end are =
+    let all : length (joined_rings (elements g)) ≡ length (lines g) = ap (length {A = List Position}) (joined_are_lines g are.place are.element are.numbered) in
+    omega (arith, ends_within 0 (elements g) are.place are.element are.numbered, all, are.ends)
+
+-- a polygon's first number isn't above the one behind its last
+pub first_below : (g : Geometry) (first end : ℕ) → AreRings g first end → first ≤ end
+first_below g first end are = omega (arith, are.starts, are.ends)
 
 -- a ring of the polygon is the line with its number
 ring_is_line : (g : Geometry) (first end : ℕ) (are : AreRings g first end) (i : ℕ) → first ≤ i → i < end → ring_of are.element i ≡ slice_get (lines g) i
@@ -154,3 +164,7 @@ holes_nested_at g first end i j are low later high =
     ∙ (ap₂ (λ (a b : Bool). a && b && test_of_both nested (ring_of are.element i) (ring_of are.element j)) (lt_yes are.element.first i (omega (arith, low, are.starts))) (lt_yes i j later)
     ∙ ap₂ (λ (r s : Option (List Position)). test_of_both nested r s) (ring_is_line g first end are i (omega (arith, low)) (omega (arith, later, high)))
     (ring_is_line g first end are j (omega (arith, low, later)) high))
+
+-- the rings of two polygons meet
+pub elements_meet_at : (g : Geometry) (i j : ℕ) → i < j → has_fault g (ElementsMeet i j) ≡ test_of_both elements_share (slice_get (elements g) i) (slice_get (elements g) j)
+elements_meet_at g i j later = ap (λ (b : Bool). b && test_of_both elements_share (slice_get (elements g) i) (slice_get (elements g) j)) (lt_yes i j later)

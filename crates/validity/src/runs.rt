@@ -3,7 +3,7 @@
 ghost use Rattle.std.specs.Prelude.{◌≡◌, ◌<◌, ◌++◌, [], ◌∷◌, length, map, slice_get, Some, IfOk, OnOk, All};
 ghost use Rattle.std.specs.List.{flat_map};
 ghost use Rattle.geometry_model.specs.Geometries.{edges_of_line};
-ghost use Rattle.wkt.specs.Cuts.{cut_at, AreEnds};
+ghost use Rattle.wkt.specs.Cuts.{cut_at, AreEnds, start_of};
 ghost use Rattle.validity.specs.ValidGeometries.{HasLength};
 
 use fraction::GridPoint;
@@ -97,9 +97,21 @@ pub(crate) fn part<'a>(segments: &'a [Segment], ends: &[usize], index: usize) ->
     requires within { index < length ends.now }
     ensures { slice_get (cut_at 0 ends.now segments.now) index ≡ Some result.now }
 {
-    let start = if index == 0 { 0 } else { ends[index - 1] };
-    let end = ends[index];
+    let (start, end) = bounds(ends, index);
     &segments[start..end]
+}
+
+/// Where the part of this number begins and ends.
+pub(crate) fn bounds(ends: &[usize], index: usize) -> (usize, usize)
+    requires { index < length ends.now }
+    ensures start { result.0 ≡ start_of 0 ends.now index }
+    ensures end { slice_get ends.now index ≡ Some result.1 }
+{
+    if index == 0 {
+        (0, ends[0])
+    } else {
+        (ends[index - 1], ends[index])
+    }
 }
 
 /// Appends the edges of a line, in order.

@@ -3,10 +3,10 @@ use Rattle.std.proofs.Common.{◌≡◌, ◌∷◌, ◌++◌, drop}
 use Rattle.std.specs.List.{All}
 use Rattle.geometry_model.specs.Geometries.{edges_of_line}
 use Rattle.validity.specs.ValidGeometries.{HasLength}
-use Rattle.validity.proofs.valid_geometry.edges_from.Given as goal
+use Rattle.validity.proofs.runs.push_edges_from.Given as goal
 
 abbrev pub invariant-loop-end : goal.invariant-loop-end
 invariant-loop-end l = record {
-  kept : l.segments.items ++ edges_of_line (l.start ∷ drop l.end-index l.more) ≡ edges_of_line (l.fn.first ∷ l.more);
+  kept : l.segments.items ++ edges_of_line (l.start ∷ drop l.end-index l.more) ≡ l.initial.segments.items ++ edges_of_line (l.fn.first ∷ l.more);
   long : All HasLength (edges_of_line (l.start ∷ drop l.end-index l.more));
 }

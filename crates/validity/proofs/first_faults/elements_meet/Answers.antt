@@ -1,0 +1,16 @@
+use Rattle.std.proofs.Common.{◌≡◌, ◌∙◌, sym, ap, refl, not, ◌+◌, ◌<◌, ◌≤◌, ℕ, length, map, arith, drop}
+use Rattle.std.specs.List.{flat_map}
+use Rattle.geometry_model.specs.Geometries as spec
+use Rattle.geometry_model.specs.Validity.{Element, numbered_elements}
+use Rattle.geometry_model.specs.FirstFaults.{has_fault, numbers, of_pairs, rings_end}
+use Rattle.geometry_model.specs.declared.validity_faults.ValidityFault.TheVariants as validity
+use Rattle.validity.proofs.Finding.{found_here, passed_here, none_left, first_among, further_among, first_in_part, further_in_parts, none_in_parts}
+use Rattle.validity.proofs.RingNumbers.{rings_meet_at, hole_outside_at, holes_nested_at, lines_cover, first_below}
+use Rattle.validity.proofs.OutlineFacts.{numbered_count}
+use Rattle.validity.proofs.first_faults.elements_meet.Goals as goal
+
+pub returns-then-is_some : goal.returns-then-is_some
+returns-then-is_some c = sym (c.loop-element.invariant ∙ first_among (has_fault c.args.outline.now) (λ i. map (validity.ElementsMeet i) (numbers (i + 1) (length (spec.elements c.args.outline.now)))) c.loop-element.element (length (spec.elements c.args.outline.now)) c.element_meets_later-fault.result (omega (arith, c.loop-element-test.true, c.element_count-element-end.ensures, ap (λ g. length (spec.elements g)) c.geometry.ensures)) c.element_meets_later-fault.ensures (sym c.is_some.ensures ∙ c.if-is_some.true))
+
+pub loop-element-preserved : goal.loop-element-preserved
+loop-element-preserved c = c.loop-element.invariant ∙ further_among (has_fault c.args.outline.now) (λ i. map (validity.ElementsMeet i) (numbers (i + 1) (length (spec.elements c.args.outline.now)))) c.loop-element.element (length (spec.elements c.args.outline.now)) c.element_meets_later-fault.result (omega (arith, c.loop-element-test.true, c.element_count-element-end.ensures, ap (λ g. length (spec.elements g)) c.geometry.ensures)) c.element_meets_later-fault.ensures (sym c.is_some.ensures ∙ c.if-is_some.false)
