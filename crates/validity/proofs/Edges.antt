@@ -26,4 +26,3 @@ edge_has_length more i d start end within is long =
     let rest = edges_of_line (end ∷ drop (i + 1) more) in
     let all = subst (λ l. All HasLength (edges_of_line (start ∷ l))) (at_index more i d end within is) long in
     (All-head HasLength edge rest all, All-tail HasLength edge rest all)
-

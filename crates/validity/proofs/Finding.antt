@@ -1,7 +1,7 @@
 -- The first of some faults that stands, number by number.
 use Rattle.std.proofs.Common.{◌≡◌, refl, sym, ap, ◌∙◌, ℕ, zero, suc, ◌+◌, ◌-◌, ◌<◌, ◌≤◌, Bool, true, false, cond, List, [], ◌∷◌, ◌++◌, map, drop, length, Option, Some, None, slice_get, arith}
 use Rattle.std.specs.List.{find, flat_map, range_with_len}
-use Rattle.std.specs.Option.{option_or, is_some}
+use Rattle.std.specs.Option.{option_or, is_some, MatchOption}
 use Rattle.std.proofs.lemmas.List.Folds.{find-append}
 use Rattle.geometry_model.specs.FirstFaults.{numbers}
 use Rattle.geometry_model.specs.declared.validity_faults.ValidityFault.{ValidityFault}
@@ -99,3 +99,9 @@ first_in_part stands faults parts m part o is e some = let k = some_is o some in
 pub further_in_parts : {A : Type 0} (stands : ValidityFault → Bool) (faults : A → List ValidityFault) (parts : List A) (m : ℕ) (part : A) (o : Option ValidityFault) → slice_get parts m ≡ Some part
     → o ≡ find stands (faults part) → is_some o ≡ false → find stands (flat_map faults (drop m parts)) ≡ find stands (flat_map faults (drop (m + 1) parts))
 further_in_parts stands faults parts m part o is e none = passed_in_part stands faults parts m part is (sym e ∙ none_is o none)
+
+-- what is found in the one list, or else in the other
+pub found_or_else : (stands : ValidityFault → Bool) (xs ys : List ValidityFault) (o r : Option ValidityFault) → o ≡ find stands xs → MatchOption o (r ≡ find stands ys) (λ fault. r ≡ Some fault)
+    → r ≡ find stands (xs ++ ys)
+found_or_else stands xs ys None r e h = h ∙ sym (in_front stands xs ys None (sym e))
+found_or_else stands xs ys (Some fault) r e h = h ∙ sym (in_front stands xs ys (Some fault) (sym e))

@@ -6,11 +6,11 @@ use Rattle.std.proofs.lemmas.Grind.{flat_map-append}
 use Rattle.std.proofs.lemmas.List.{map-append, length-map, take_all}
 use Rattle.geometry_model.specs.Points.{Position}
 use Rattle.geometry_model.specs.Geometries.{Geometry, Edge, lines, edges, elements, joined_rings, edges_of_line, edges_of_lines}
-use Rattle.geometry_model.specs.Validity.{Element, elements_from, numbered_elements}
+use Rattle.geometry_model.specs.Validity.{Element, elements_from}
 use Rattle.geometry_model.specs.FirstFaults.{rings_end}
 use Rattle.wkt.specs.Cuts.{cut_at, AreEnds, start_of}
-use Rattle.wkt.proofs.CutFacts.{cut_more, ends_more, cut_count}
-use Rattle.validity.specs.Outlines.{AreRingsOf, IsOutline}
+use Rattle.wkt.proofs.CutFacts.{cut_more, ends_more}
+use Rattle.validity.specs.Outlines.{IsOutline}
 
 -- the edges of all lines, put together
 pub joined_runs : (ls : List (List Position)) → flat_map (λ run. run) (map edges_of_line ls) ≡ edges_of_lines ls

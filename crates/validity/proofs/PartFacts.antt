@@ -1,10 +1,10 @@
 -- The tests of rings and polygons by their edges.
-use Rattle.std.proofs.Common.{◌≡◌, refl, sym, ap, ap₂, ◌∙◌, ℕ, zero, suc, ◌<◌, Bool, not, ◌||◌, length, get_or, List, [], ◌∷◌, map, Option, Some, None, slice_get}
+use Rattle.std.proofs.Common.{◌≡◌, refl, ap₂, ◌∙◌, ℕ, zero, suc, ◌<◌, not, ◌||◌, length, get_or, List, [], ◌∷◌, map, Option, Some, None, slice_get}
 use Rattle.std.proofs.lemmas.Option.{slice_get-get_or}
 use Rattle.geometry_model.specs.Points.{Position}
 use Rattle.geometry_model.specs.Geometries.{Edge, edges_of_line, edges_of_lines}
 use Rattle.geometry_model.specs.Validity.{inside, inside_element}
-use Rattle.geometry_model.specs.FirstFaults.{test_of_both, rings_share, elements_share}
+use Rattle.geometry_model.specs.FirstFaults.{test_of_both, elements_share}
 use Rattle.ring_tests.specs.EdgeRuns.{edges_share, is_odd_above}
 use Rattle.ring_tests.proofs.Runs.{polygons_by_their_edges, inside_by_edges}
 

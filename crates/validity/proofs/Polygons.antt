@@ -4,7 +4,7 @@ use Rattle.std.specs.List.{find, flat_map}
 use Rattle.std.specs.Option.{is_some}
 use Rattle.geometry_model.specs.Geometries.{Geometry, elements}
 use Rattle.geometry_model.specs.Validity.{Element, numbered_elements}
-use Rattle.geometry_model.specs.FirstFaults.{rings_end, of_elements}
+use Rattle.geometry_model.specs.FirstFaults.{rings_end}
 use Rattle.geometry_model.specs.declared.validity_faults.ValidityFault.{ValidityFault}
 use Rattle.validity.specs.Outlines.{AreRingsOf}
 use Rattle.validity.proofs.Finding.{first_in_part, further_in_parts, none_in_parts}

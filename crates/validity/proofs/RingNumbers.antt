@@ -1,11 +1,10 @@
 -- The rings of a polygon among all rings, by their numbers.
-use Rattle.std.proofs.Common.{◌≡◌, refl, sym, ap, ap₂, subst, ◌∙◌, ℕ, zero, suc, ◌+◌, ◌-◌, ◌<◌, ◌≤◌, Bool, true, false, not, ◌&&◌, ◌||◌, cond, nat_lt, nat_le, List, [], ◌∷◌, ◌++◌, map, length, Option, Some, None, slice_get, arith, append-nil, length-append}
+use Rattle.std.proofs.Common.{◌≡◌, refl, sym, ap, ap₂, subst, ◌∙◌, ℕ, zero, suc, ◌+◌, ◌-◌, ◌<◌, ◌≤◌, Bool, true, false, not, ◌&&◌, ◌||◌, cond, nat_lt, nat_le, List, [], ◌∷◌, ◌++◌, length, Option, Some, None, slice_get, arith, append-nil, length-append}
 use Rattle.std.specs.List.{list_any}
 use Rattle.geometry_model.specs.Points.{Position}
 use Rattle.geometry_model.specs.Geometries.{Geometry, lines, elements, joined_rings}
 use Rattle.geometry_model.specs.Validity.{Element, elements_from, numbered_elements, inside}
 use Rattle.geometry_model.specs.FirstFaults.{has_fault, ring_of, rings_end, rings_share, elements_share, test_of_both}
-use Rattle.geometry_model.specs.declared.validity_faults.ValidityFault.{ValidityFault}
 use Rattle.geometry_model.specs.declared.validity_faults.ValidityFault.TheVariants.{RingsMeet, HoleOutside, HolesNested, ElementsMeet}
 use Rattle.std.proofs.lemmas.Option.{slice_get_past}
 use Rattle.validity.specs.Outlines.{AreRings}

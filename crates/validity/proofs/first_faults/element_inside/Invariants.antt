@@ -1,9 +1,8 @@
 -- None before the next stands.
-use Rattle.std.proofs.Common.{◌≡◌, ◌+◌, map, length, drop}
+use Rattle.std.proofs.Common.{◌≡◌, map, length}
 use Rattle.std.specs.List.{find, flat_map}
 use Rattle.geometry_model.specs.Geometries as spec
-use Rattle.geometry_model.specs.Validity.{numbered_elements}
-use Rattle.geometry_model.specs.FirstFaults.{has_fault, numbers, of_pairs, rings_end}
+use Rattle.geometry_model.specs.FirstFaults.{has_fault, numbers}
 use Rattle.geometry_model.specs.declared.validity_faults.ValidityFault.TheVariants as validity
 use Rattle.validity.proofs.first_faults.element_inside.Given as goal
 

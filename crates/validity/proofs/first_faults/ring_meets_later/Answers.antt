@@ -1,12 +1,8 @@
-use Rattle.std.proofs.Common.{◌≡◌, ◌∙◌, sym, ap, refl, not, ◌+◌, ◌<◌, ◌≤◌, ℕ, length, map, arith, drop}
-use Rattle.std.specs.List.{flat_map}
-use Rattle.geometry_model.specs.Geometries as spec
-use Rattle.geometry_model.specs.Validity.{Element, numbered_elements}
-use Rattle.geometry_model.specs.FirstFaults.{has_fault, numbers, of_pairs, rings_end}
+use Rattle.std.proofs.Common.{◌∙◌, sym, arith}
+use Rattle.geometry_model.specs.FirstFaults.{has_fault}
 use Rattle.geometry_model.specs.declared.validity_faults.ValidityFault.TheVariants as validity
-use Rattle.validity.proofs.Finding.{found_here, passed_here, none_left, first_among, further_among, first_in_part, further_in_parts, none_in_parts}
-use Rattle.validity.proofs.RingNumbers.{rings_meet_at, hole_outside_at, holes_nested_at, lines_cover, first_below}
-use Rattle.validity.proofs.OutlineFacts.{numbered_count}
+use Rattle.validity.proofs.Finding.{found_here, passed_here}
+use Rattle.validity.proofs.RingNumbers.{rings_meet_at, lines_cover}
 use Rattle.validity.proofs.first_faults.ring_meets_later.Goals as goal
 
 pub rings_share-requires-clause-first : goal.rings_share-requires-clause-first

@@ -1,8 +1,7 @@
-use Rattle.std.proofs.Common.{◌≡◌, ◌∙◌, ap, ℕ, List, length, map, sym, arith}
+use Rattle.std.proofs.Common.{◌≡◌, ◌∙◌, ap, ℕ, List, length, sym, arith}
 use Rattle.std.specs.List.{flat_map}
 use Rattle.std.proofs.lemmas.List.{length-map}
 use Rattle.geometry_model.specs.Geometries.{Geometry, Edge, elements, edges_of_lines}
-use Rattle.wkt.specs.Cuts.{cut_at}
 use Rattle.wkt.proofs.CutFacts.{cut_count}
 use Rattle.validity.proofs.outlines.Outline.element_edges.Goals as goal
 

@@ -1,7 +1,6 @@
 use Rattle.std.proofs.Common.{◌≡◌, ◌∙◌, sym, ap, Some}
 use Rattle.std.specs.List.{slice_get}
 use Rattle.std.specs.Option.{option_copied}
-use Rattle.geometry_model.specs.Points.{Position}
 use Rattle.geometry_model.specs.Geometries.{lines}
 use Rattle.validity.proofs.PartFacts.{inside_ring_by_edges}
 use Rattle.validity.proofs.outlines.Outline.is_inside_ring.Goals as goal

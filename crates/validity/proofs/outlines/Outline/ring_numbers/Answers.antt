@@ -1,9 +1,8 @@
-use Rattle.std.proofs.Common.{◌≡◌, ◌∙◌, ap, ℕ, length, map, subst, slice_get, Some, sym, arith}
+use Rattle.std.proofs.Common.{◌≡◌, ◌∙◌, ap, ℕ, length, map, sym, arith}
 use Rattle.std.proofs.lemmas.List.{length-map}
 use Rattle.geometry_model.specs.Geometries.{Geometry, elements}
 use Rattle.geometry_model.specs.Validity.{numbered_elements}
 use Rattle.geometry_model.specs.FirstFaults.{rings_end}
-use Rattle.validity.specs.Outlines.{AreRingsOf}
 use Rattle.validity.proofs.OutlineFacts.{numbers_of, numbered_count}
 use Rattle.validity.proofs.outlines.Outline.ring_numbers.Goals as goal
 
