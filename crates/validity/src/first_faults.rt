@@ -1,9 +1,10 @@
 //! The first fault of each kind, in the order of tests.
 
-ghost use Rattle.std.specs.Prelude.{◌≡◌, ◌<◌, ◌+◌, length, map, find};
+ghost use Rattle.std.specs.Prelude.{◌≡◌, ◌<◌, ◌+◌, length, map};
 ghost use Rattle.geometry_model.specs.Geometries as spec;
-ghost use Rattle.geometry_model.specs.Validity.{numbered_elements};
-ghost use Rattle.geometry_model.specs.FirstFaults.{has_fault, numbers, of_pairs, of_every_two, of_elements, rings_end, validity_fault};
+ghost use Rattle.geometry_model.specs.FirstFaults.{numbers, of_pairs, validity_fault};
+ghost use Rattle.validity.specs.FaultOrder.{first_of, of_lines, of_rings, with_later, with_later_elements, of_elements_and};
+ghost use Rattle.validity.specs.FaultOrder.{rings_meeting, holes_outside, nested_holes, of_two_elements, of_other_elements};
 ghost use Rattle.validity.specs.Outlines.{AreRings, IsRing, IsHole};
 
 use crate::outlines::Outline;
@@ -11,7 +12,7 @@ use geometry_model::ValidityFault;
 
 /// The first line or ring that has too few positions.
 fn short_line(outline: &Outline) -> Option<ValidityFault>
-    ensures { result ≡ find (has_fault outline.now) (map ValidityFault.TooFewPoints (numbers 0 (length (spec.lines outline.now)))) }
+    ensures { result ≡ first_of outline.now (of_lines ValidityFault.TooFewPoints outline.now) }
 {
     for line in 0..outline.geometry().lines().len() {
         if outline.is_short(line) {
@@ -23,7 +24,7 @@ fn short_line(outline: &Outline) -> Option<ValidityFault>
 
 /// The first ring that isn't closed.
 fn open_ring(outline: &Outline) -> Option<ValidityFault>
-    ensures { result ≡ find (has_fault outline.now) (map ValidityFault.RingNotClosed (numbers 0 (length (spec.rings outline.now)))) }
+    ensures { result ≡ first_of outline.now (of_rings ValidityFault.RingNotClosed outline.now) }
 {
     for ring in 0..outline.ring_count() {
         if outline.is_open(ring) {
@@ -35,7 +36,7 @@ fn open_ring(outline: &Outline) -> Option<ValidityFault>
 
 /// The first ring that meets or covers itself.
 fn ring_not_simple(outline: &Outline) -> Option<ValidityFault>
-    ensures { result ≡ find (has_fault outline.now) (map ValidityFault.RingNotSimple (numbers 0 (length (spec.rings outline.now)))) }
+    ensures { result ≡ first_of outline.now (of_rings ValidityFault.RingNotSimple outline.now) }
 {
     for ring in 0..outline.ring_count() {
         if outline.meets_itself(ring) {
@@ -48,7 +49,7 @@ fn ring_not_simple(outline: &Outline) -> Option<ValidityFault>
 /// The first of the later rings of its polygon that a ring meets.
 fn ring_meets_later(outline: &Outline, ring: usize, end: usize) -> Option<ValidityFault>
     requires { IsRing outline.now ring end }
-    ensures { result ≡ find (has_fault outline.now) (map (ValidityFault.RingsMeet ring) (numbers (ring + 1) end)) }
+    ensures { result ≡ first_of outline.now (with_later ValidityFault.RingsMeet ring end) }
 {
     for later in ring + 1..end {
         if outline.rings_share(ring, later) {
@@ -61,7 +62,7 @@ fn ring_meets_later(outline: &Outline, ring: usize, end: usize) -> Option<Validi
 /// The first two rings of a polygon that meet.
 fn rings_of_one_meet(outline: &Outline, first: usize, end: usize) -> Option<ValidityFault>
     requires { AreRings outline.now first end }
-    ensures { result ≡ find (has_fault outline.now) (of_pairs ValidityFault.RingsMeet first end) }
+    ensures { result ≡ first_of outline.now (of_pairs ValidityFault.RingsMeet first end) }
 {
     for ring in first..end {
         let fault = ring_meets_later(outline, ring, end);
@@ -74,7 +75,7 @@ fn rings_of_one_meet(outline: &Outline, first: usize, end: usize) -> Option<Vali
 
 /// The first two rings of one polygon that meet, polygon by polygon.
 fn rings_meet(outline: &Outline) -> Option<ValidityFault>
-    ensures { result ≡ find (has_fault outline.now) (of_elements (λ e. of_pairs ValidityFault.RingsMeet e.first (rings_end e)) outline.now) }
+    ensures { result ≡ first_of outline.now (rings_meeting outline.now) }
 {
     for element in 0..outline.geometry().element_count() {
         let (first, end) = outline.ring_numbers(element);
@@ -89,7 +90,7 @@ fn rings_meet(outline: &Outline) -> Option<ValidityFault>
 /// The first hole of a polygon that isn't inside its outer ring.
 fn hole_of_one_outside(outline: &Outline, first: usize, end: usize) -> Option<ValidityFault>
     requires { AreRings outline.now first end }
-    ensures { result ≡ find (has_fault outline.now) (map ValidityFault.HoleOutside (numbers (first + 1) end)) }
+    ensures { result ≡ first_of outline.now (map ValidityFault.HoleOutside (numbers (first + 1) end)) }
 {
     if first == end {
         return None;
@@ -104,7 +105,7 @@ fn hole_of_one_outside(outline: &Outline, first: usize, end: usize) -> Option<Va
 
 /// The first hole that isn't inside the outer ring of its polygon.
 fn hole_outside(outline: &Outline) -> Option<ValidityFault>
-    ensures { result ≡ find (has_fault outline.now) (of_elements (λ e. map ValidityFault.HoleOutside (numbers (e.first + 1) (rings_end e))) outline.now) }
+    ensures { result ≡ first_of outline.now (holes_outside outline.now) }
 {
     for element in 0..outline.geometry().element_count() {
         let (first, end) = outline.ring_numbers(element);
@@ -119,7 +120,7 @@ fn hole_outside(outline: &Outline) -> Option<ValidityFault>
 /// The first of the later holes of its polygon that is inside a hole, or round it.
 fn hole_nested_later(outline: &Outline, hole: usize, end: usize) -> Option<ValidityFault>
     requires { IsHole outline.now hole end }
-    ensures { result ≡ find (has_fault outline.now) (map (ValidityFault.HolesNested hole) (numbers (hole + 1) end)) }
+    ensures { result ≡ first_of outline.now (with_later ValidityFault.HolesNested hole end) }
 {
     for later in hole + 1..end {
         if outline.are_nested(hole, later) {
@@ -132,7 +133,7 @@ fn hole_nested_later(outline: &Outline, hole: usize, end: usize) -> Option<Valid
 /// The first two holes of a polygon of which one is inside the other.
 fn holes_of_one_nested(outline: &Outline, first: usize, end: usize) -> Option<ValidityFault>
     requires { AreRings outline.now first end }
-    ensures { result ≡ find (has_fault outline.now) (of_pairs ValidityFault.HolesNested (first + 1) end) }
+    ensures { result ≡ first_of outline.now (of_pairs ValidityFault.HolesNested (first + 1) end) }
 {
     if first == end {
         return None;
@@ -148,7 +149,7 @@ fn holes_of_one_nested(outline: &Outline, first: usize, end: usize) -> Option<Va
 
 /// The first two holes of one polygon of which one is inside the other, polygon by polygon.
 fn holes_nested(outline: &Outline) -> Option<ValidityFault>
-    ensures { result ≡ find (has_fault outline.now) (of_elements (λ e. of_pairs ValidityFault.HolesNested (e.first + 1) (rings_end e)) outline.now) }
+    ensures { result ≡ first_of outline.now (nested_holes outline.now) }
 {
     for element in 0..outline.geometry().element_count() {
         let (first, end) = outline.ring_numbers(element);
@@ -163,7 +164,7 @@ fn holes_nested(outline: &Outline) -> Option<ValidityFault>
 /// The first of the later polygons that a polygon meets.
 fn element_meets_later(outline: &Outline, element: usize) -> Option<ValidityFault>
     requires { element < length (spec.elements outline.now) }
-    ensures { result ≡ find (has_fault outline.now) (map (ValidityFault.ElementsMeet element) (numbers (element + 1) (length (spec.elements outline.now)))) }
+    ensures { result ≡ first_of outline.now (with_later_elements ValidityFault.ElementsMeet element outline.now) }
 {
     let count = outline.geometry().element_count();
     for later in element + 1..count {
@@ -176,7 +177,7 @@ fn element_meets_later(outline: &Outline, element: usize) -> Option<ValidityFaul
 
 /// The first two polygons whose rings meet.
 fn elements_meet(outline: &Outline) -> Option<ValidityFault>
-    ensures { result ≡ find (has_fault outline.now) (of_pairs ValidityFault.ElementsMeet 0 (length (spec.elements outline.now))) }
+    ensures { result ≡ first_of outline.now (of_two_elements ValidityFault.ElementsMeet outline.now) }
 {
     for element in 0..outline.geometry().element_count() {
         let fault = element_meets_later(outline, element);
@@ -190,7 +191,7 @@ fn elements_meet(outline: &Outline) -> Option<ValidityFault>
 /// The first polygon inside which a polygon is.
 fn element_inside_any(outline: &Outline, element: usize) -> Option<ValidityFault>
     requires { element < length (spec.elements outline.now) }
-    ensures { result ≡ find (has_fault outline.now) (map (ValidityFault.ElementInside element) (numbers 0 (length (spec.elements outline.now)))) }
+    ensures { result ≡ first_of outline.now (of_elements_and ValidityFault.ElementInside element outline.now) }
 {
     for other in 0..outline.geometry().element_count() {
         if outline.is_inside_other(element, other) {
@@ -202,7 +203,7 @@ fn element_inside_any(outline: &Outline, element: usize) -> Option<ValidityFault
 
 /// The first polygon that is inside another, and the first of those.
 fn element_inside(outline: &Outline) -> Option<ValidityFault>
-    ensures { result ≡ find (has_fault outline.now) (of_every_two ValidityFault.ElementInside (length (spec.elements outline.now))) }
+    ensures { result ≡ first_of outline.now (of_other_elements ValidityFault.ElementInside outline.now) }
 {
     for element in 0..outline.geometry().element_count() {
         let fault = element_inside_any(outline, element);

@@ -1,9 +1,10 @@
 //! The tests of the lines, rings and polygons of an outline.
 
-ghost use Rattle.std.specs.Prelude.{◌≡◌, ◌<◌, ◌||◌, not, length, slice_get};
+ghost use Rattle.std.specs.Prelude.{◌≡◌, ◌<◌, ◌||◌, not, length};
 ghost use Rattle.geometry_model.specs.Geometries as spec;
 ghost use Rattle.geometry_model.specs.Validity.{inside, inside_element};
-ghost use Rattle.geometry_model.specs.FirstFaults.{has_fault, test_of_both, rings_share, elements_share};
+ghost use Rattle.geometry_model.specs.FirstFaults.{has_fault, rings_share, elements_share};
+ghost use Rattle.validity.specs.FaultOrder.{two_lines, two_elements};
 ghost use Rattle.validity.specs.Outlines.{too_few};
 
 use crate::outlines::Outline;
@@ -61,7 +62,7 @@ impl Outline {
     pub(crate) fn rings_share(&self, i: usize, j: usize) -> bool
         requires first { i < length (spec.lines self.now) }
         requires second { j < length (spec.lines self.now) }
-        ensures { result ≡ test_of_both rings_share (slice_get (spec.lines self.now) i) (slice_get (spec.lines self.now) j) }
+        ensures { result ≡ two_lines rings_share self.now i j }
     {
         share(self.line_edges(i), self.line_edges(j))
     }
@@ -70,7 +71,7 @@ impl Outline {
     pub(crate) fn is_inside_ring(&self, outer: usize, ring: usize) -> bool
         requires outer { outer < length (spec.lines self.now) }
         requires ring { ring < length (spec.lines self.now) }
-        ensures { result ≡ test_of_both inside (slice_get (spec.lines self.now) outer) (slice_get (spec.lines self.now) ring) }
+        ensures { result ≡ two_lines inside self.now outer ring }
     {
         match self.line(ring).positions().first() {
             Some(at) => is_inside(self.line_edges(outer), *at),
@@ -82,7 +83,7 @@ impl Outline {
     pub(crate) fn is_outside_ring(&self, outer: usize, ring: usize) -> bool
         requires outer { outer < length (spec.lines self.now) }
         requires ring { ring < length (spec.lines self.now) }
-        ensures { result ≡ test_of_both (λ r s. not (inside r s)) (slice_get (spec.lines self.now) outer) (slice_get (spec.lines self.now) ring) }
+        ensures { result ≡ two_lines (λ r s. not (inside r s)) self.now outer ring }
     {
         !self.is_inside_ring(outer, ring)
     }
@@ -91,7 +92,7 @@ impl Outline {
     pub(crate) fn are_nested(&self, i: usize, j: usize) -> bool
         requires first { i < length (spec.lines self.now) }
         requires second { j < length (spec.lines self.now) }
-        ensures { result ≡ test_of_both (λ r s. inside r s || inside s r) (slice_get (spec.lines self.now) i) (slice_get (spec.lines self.now) j) }
+        ensures { result ≡ two_lines (λ r s. inside r s || inside s r) self.now i j }
     {
         let inward = self.is_inside_ring(i, j);
         let outward = self.is_inside_ring(j, i);
@@ -102,7 +103,7 @@ impl Outline {
     pub(crate) fn elements_share(&self, i: usize, j: usize) -> bool
         requires first { i < length (spec.elements self.now) }
         requires second { j < length (spec.elements self.now) }
-        ensures { result ≡ test_of_both elements_share (slice_get (spec.elements self.now) i) (slice_get (spec.elements self.now) j) }
+        ensures { result ≡ two_elements elements_share self.now i j }
     {
         share(self.element_edges(i), self.element_edges(j))
     }
@@ -111,7 +112,7 @@ impl Outline {
     pub(crate) fn is_inside_element(&self, element: usize, other: usize) -> bool
         requires element { element < length (spec.elements self.now) }
         requires other { other < length (spec.elements self.now) }
-        ensures { result ≡ test_of_both (λ d e. inside_element e d) (slice_get (spec.elements self.now) element) (slice_get (spec.elements self.now) other) }
+        ensures { result ≡ two_elements (λ d e. inside_element e d) self.now element other }
     {
         let rings = self.geometry().element(element);
         match rings.first() {
