@@ -3,6 +3,4 @@ pub mod KeptGeometries
 pub mod Printing
 pub mod Shapes
 pub mod ReadingSteps
-pub mod Served
-pub mod ServedSteps
 pub mod TextFaults

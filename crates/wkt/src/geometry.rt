@@ -1,17 +1,16 @@
 //! Geometries, whose facts stand in the type.
 
-ghost use Rattle.std.specs.Prelude.{◌≡◌, ◌≤◌, ◌<◌, IfOk, Some, length, slice_get, vec_len};
+ghost use Rattle.std.specs.Prelude.{◌≡◌, ◌<◌, IfOk, IfErr, Some, length, slice_get};
 ghost use Rattle.geometry_model.specs.Geometries as spec;
-ghost use Rattle.geometry_model.specs.WellKnownText.{position_limit, without_repeats};
-ghost use Rattle.wkt.specs.Served.{IsOfServedType, line_of};
 ghost use Rattle.wkt.specs.KeptGeometries.{IsKept};
 ghost use Rattle.wkt.specs.Shapes.{geometry_in, larger_in};
 
 use crate::line_strings::LineString;
 use crate::polygons::Polygons;
+use crate::wkt_fault::WktFault;
 use fraction::GridPoint;
 use geometry_model::{GeometryType, Kind};
-use std::alloc::{AllocError, Global};
+use std::alloc::Global;
 use std::marker::Model;
 use std::slice;
 
@@ -47,66 +46,32 @@ impl Model for Geometry {
     ghost Value = { spec.Geometry };
 
     ghost use Rattle.wkt.specs.Shapes.{geometry_in};
-    ghost use Rattle.wkt.specs.Served.{IsOfServedType};
     ghost use Rattle.wkt.specs.KeptGeometries.{IsKept};
 
     ghost view = { λ g. geometry_in g.shape };
 
-    ghost invariant = { λ g. IsKept (geometry_in g.shape) × IsOfServedType (geometry_in g.shape) };
+    ghost invariant = { λ g. IsKept (geometry_in g.shape) };
 }
 
 impl Geometry {
-    /// The POINT at a position, or the empty one.
-    pub(crate) fn point(position: Option<GridPoint>) -> Geometry
-        ensures { result ≡ spec.Point position }
-    {
-        Geometry {
-            shape: Shape::Point(position),
-        }
-    }
-
     /// The geometry of this content.
-    pub(crate) fn larger(alloc: Global, content: Larger) -> Result<Geometry, AllocError>
-        requires kept { IsKept (larger_in content) }
-        requires served { IsOfServedType (larger_in content) }
-        ensures { IfOk result (λ g. g ≡ larger_in content) }
+    pub(crate) fn kept(shape: Shape) -> Geometry
+        requires { IsKept (geometry_in shape) }
+        ensures { result ≡ geometry_in shape }
     {
-        Ok(Geometry {
-            shape: Shape::Larger(Box::new(alloc, content)?),
-        })
-    }
-
-    /// The MULTIPOINT of these positions, in their order.
-    pub(crate) fn multi_point(
-        alloc: Global,
-        positions: Vec<GridPoint>,
-    ) -> Result<Geometry, AllocError>
-        requires { vec_len positions ≤ position_limit }
-        ensures { IfOk result (λ g. g ≡ spec.MultiPoint positions.items) }
-    {
-        Geometry::larger(alloc, Larger::MultiPoint(positions))
-    }
-
-    /// The LINESTRING of this line.
-    #[tactic(auto, using(crate::proofs::KeptFacts::line_string_is_kept))]
-    pub(crate) fn line_string(alloc: Global, line: LineString) -> Result<Geometry, AllocError>
-        ensures { IfOk result (λ g. g ≡ spec.LineString line) }
-    {
-        Geometry::larger(alloc, Larger::LineString(line))
+        Geometry { shape }
     }
 
     /// Lends the content.
     pub(crate) fn shape(&self) -> &Shape
-        ensures content { self.now ≡ geometry_in result.now }
-        ensures served { IsOfServedType self.now }
+        ensures { self.now ≡ geometry_in result.now }
     {
         &self.shape
     }
 
     /// Its type (06-103r4, 6.1.2.2: GeometryType).
     pub fn geometry_type(&self) -> GeometryType
-        ensures value { result ≡ spec.type_of self.now }
-        ensures served { IsOfServedType self.now }
+        ensures { result ≡ spec.type_of self.now }
     {
         match &self.shape {
             Shape::Point(_) => GeometryType::Point,
@@ -116,8 +81,7 @@ impl Geometry {
 
     /// Its kind: points, lines or areas, also where it is empty (06-103r4, 6.1.15.3).
     pub fn kind(&self) -> Kind
-        ensures value { result ≡ spec.kind self.now }
-        ensures served { IsOfServedType self.now }
+        ensures { result ≡ spec.kind self.now }
     {
         match self.geometry_type() {
             GeometryType::Point | GeometryType::MultiPoint => Kind::Point,
@@ -181,17 +145,15 @@ impl Geometry {
             Shape::Larger(content) => content.element(index),
         }
     }
+}
 
-    /// Lends the positions of a LINESTRING, from its start to its end; other types have none (06-103r4, 6.1.7).
-    pub fn line(&self) -> &[GridPoint]
-        ensures line { result.now ≡ line_of self.now }
-        ensures served { IsOfServedType self.now }
-        ensures kept { IsKept self.now }
+impl Shape {
+    /// This content behind its pointer.
+    pub(crate) fn larger(alloc: Global, content: Larger) -> Result<Shape, WktFault>
+        ensures ok { IfOk result (λ shape. geometry_in shape ≡ larger_in content) }
+        ensures memory { IfErr result (λ e. e ≡ WktFault.OutOfMemory) }
     {
-        match &self.shape {
-            Shape::Point(_) => &[],
-            Shape::Larger(content) => content.line(),
-        }
+        Ok(Shape::Larger(Box::new(alloc, content)?))
     }
 }
 
@@ -260,16 +222,6 @@ impl Larger {
             Larger::MultiPoint(_) | Larger::LineString(_) | Larger::MultiLineString(_) => {
                 unreachable!("only areas have polygons")
             }
-        }
-    }
-
-    fn line(&self) -> &[GridPoint]
-        ensures { result.now ≡ line_of (larger_in self.now) }
-    {
-        match self {
-            Larger::LineString(line) => line.positions(),
-            Larger::MultiPoint(_) | Larger::MultiLineString(_) => &[],
-            Larger::Polygon(_) | Larger::MultiPolygon(_) => &[],
         }
     }
 }

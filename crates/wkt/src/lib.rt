@@ -6,6 +6,7 @@ mod cursor;
 pub mod geometry;
 pub mod kept_laws;
 pub mod line_strings;
+mod lists;
 mod numbers;
 mod polygons;
 mod positions;

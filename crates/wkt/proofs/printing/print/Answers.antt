@@ -8,4 +8,4 @@ use Rattle.wkt.proofs.printing.print.Goals as goal
 pub returns-clause-spells : goal.returns-clause-spells
 returns-clause-spells g c =
     put-holds c.put_shape.result _ _ c.args.geometry.now
-    (subst (λ h. OnOk c.put_shape.result (Appends (g.S.Sink.taken c.args.sink.now) (g.S.Sink.taken c.put_shape.new.sink) (canonical_text h))) (sym c.shape.ensures.content) c.put_shape.ensures.ok)
+    (subst (λ h. OnOk c.put_shape.result (Appends (g.S.Sink.taken c.args.sink.now) (g.S.Sink.taken c.put_shape.new.sink) (canonical_text h))) (sym c.shape.ensures) c.put_shape.ensures.ok)

@@ -1,48 +1,26 @@
--- The first point with what stands before it, the others, and the parenthesis, one after another.
-use Rattle.std.proofs.Common.{codes, ◌++◌, subst, OnOk}
+use Rattle.std.proofs.Common.{◌∙◌, sym, codes, subst, OnOk, OnErr}
 use Rattle.std.specs.Io.KnownBytes.{Appends}
+use Rattle.geometry_model.specs.CanonicalText.{position_text}
 use Rattle.sinks.specs.Sinks.{AppendsFront}
-use Rattle.sinks.proofs.PartLemmas.{last-put, last-front}
-use Rattle.wkt.proofs.PrintLemmas.{line_first, line_more, line_split, line_empty}
-use Rattle.sinks.proofs.SinkLemmas.{OnErr-holds, AppendsFront-more, AppendsFront-then}
+use Rattle.wkt.proofs.PrintLemmas.{named_list, named_none}
 use Rattle.wkt.proofs.printing.put_line_string.Goals as goal
 
-pub returns-in_err-put_position-in-Some-clause-front : goal.returns-in_err-put_position-in-Some-clause-front
-returns-in_err-put_position-in-Some-clause-front g c =
-    let first = c.in-Some.first.now in
-    let more = c.in-Some.more.now in
-    OnErr-holds c.from_residual.result
-    (subst (λ l. AppendsFront (g.S.Sink.taken c.args.sink.now) (g.S.Sink.taken c.put_position.new.sink) l)
-    (line_split c.args.positions.now first more c.in-Some.ensures.cases.0)
-    (AppendsFront-more _ _ (line_first first) (line_more more ++ codes ")") c.in_err-put_position-in-Some.ensures.front))
-
-pub returns-in_err-put_more-in-Some-clause-front : goal.returns-in_err-put_more-in-Some-clause-front
-returns-in_err-put_more-in-Some-clause-front g c =
-    let first = c.in-Some.first.now in
-    let more = c.in-Some.more.now in
-    OnErr-holds c.from_residual-in_err-put_more-in-Some.result
-    (subst (λ l. AppendsFront (g.S.Sink.taken c.args.sink.now) (g.S.Sink.taken c.put_more.new.sink) l)
-    (line_split c.args.positions.now first more c.in-Some.ensures.cases.0)
-    (AppendsFront-then _ (g.S.Sink.taken c.put_position.new.sink) _ (line_first first) (line_more more ++ codes ")") c.in_ok-put_position-in-Some.ensures.ok
-    (AppendsFront-more _ _ (line_more more) (codes ")") c.in_err-put_more-in-Some.ensures.front)))
-
-pub returns-in_ok-put_more-in-Some-clause-ok : goal.returns-in_ok-put_more-in-Some-clause-ok
-returns-in_ok-put_more-in-Some-clause-ok g c =
-    let first = c.in-Some.first.now in
-    let more = c.in-Some.more.now in
-    last-put c.put_all-in-Some.result _ (g.S.Sink.taken c.put_position.new.sink) (g.S.Sink.taken c.put_more.new.sink) _ (line_first first) (line_more more) (codes ")") _
-    (line_split c.args.positions.now first more c.in-Some.ensures.cases.0)
-    c.in_ok-put_position-in-Some.ensures.ok c.in_ok-put_more-in-Some.ensures.ok c.put_all-in-Some.ensures.ok
-
-pub returns-in_ok-put_more-in-Some-clause-front : goal.returns-in_ok-put_more-in-Some-clause-front
-returns-in_ok-put_more-in-Some-clause-front g c =
-    let first = c.in-Some.first.now in
-    let more = c.in-Some.more.now in
-    last-front c.put_all-in-Some.result _ (g.S.Sink.taken c.put_position.new.sink) (g.S.Sink.taken c.put_more.new.sink) _ (line_first first) (line_more more) (codes ")") _
-    (line_split c.args.positions.now first more c.in-Some.ensures.cases.0)
-    c.in_ok-put_position-in-Some.ensures.ok c.in_ok-put_more-in-Some.ensures.ok c.put_all-in-Some.ensures.front
-
-pub returns-in-None-clause-ok : goal.returns-in-None-clause-ok
-returns-in-None-clause-ok g c =
+pub returns-then-is_empty-clause-ok : goal.returns-then-is_empty-clause-ok
+returns-then-is_empty-clause-ok g c =
     subst (λ l. OnOk c.put_all.result (Appends (g.S.Sink.taken c.args.sink.now) (g.S.Sink.taken c.put_all.new.sink) l))
-    (line_empty c.args.positions.now c.in-None.ensures.cases) c.put_all.ensures.ok
+    (named_none (codes "LINESTRING") position_text c.args.positions.now (sym c.is_empty.ensures ∙ c.if-is_empty.true)) c.put_all.ensures.ok
+
+pub returns-then-is_empty-clause-front : goal.returns-then-is_empty-clause-front
+returns-then-is_empty-clause-front g c =
+    subst (λ l. OnErr c.put_all.result (AppendsFront (g.S.Sink.taken c.args.sink.now) (g.S.Sink.taken c.put_all.new.sink) l))
+    (named_none (codes "LINESTRING") position_text c.args.positions.now (sym c.is_empty.ensures ∙ c.if-is_empty.true)) c.put_all.ensures.front
+
+pub returns-else-is_empty-clause-ok : goal.returns-else-is_empty-clause-ok
+returns-else-is_empty-clause-ok g c =
+    subst (λ l. OnOk c.put_line.result (Appends (g.S.Sink.taken c.args.sink.now) (g.S.Sink.taken c.put_line.new.sink) l))
+    (named_list (codes "LINESTRING") position_text c.args.positions.now (sym c.is_empty.ensures ∙ c.if-is_empty.false)) c.put_line.ensures.ok
+
+pub returns-else-is_empty-clause-front : goal.returns-else-is_empty-clause-front
+returns-else-is_empty-clause-front g c =
+    subst (λ l. OnErr c.put_line.result (AppendsFront (g.S.Sink.taken c.args.sink.now) (g.S.Sink.taken c.put_line.new.sink) l))
+    (named_list (codes "LINESTRING") position_text c.args.positions.now (sym c.is_empty.ensures ∙ c.if-is_empty.false)) c.put_line.ensures.front
