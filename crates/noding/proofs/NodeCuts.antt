@@ -63,6 +63,19 @@ lines_are_one g e f wide h k =
     (equal_yes (side e.start e.end (point_at f.start)) (pos 0) (side_is_area e.start e.end (point_at f.start) ∙ area_on_line g.start g.end (point_at e.start) (point_at e.end) (point_at f.start) wide a.start a.end b.start))
     (equal_yes (side e.start e.end (point_at f.end)) (pos 0) (side_is_area e.start e.end (point_at f.end) ∙ area_on_line g.start g.end (point_at e.start) (point_at e.end) (point_at f.end) wide a.start a.end b.end))
 
+-- an edge is on its own line
+pub its_own_line : (e : Edge) → on_one_line e e ≡ true
+its_own_line e = and_from (int_eq (side e.start e.end (point_at e.start)) (pos 0)) (int_eq (side e.start e.end (point_at e.end)) (pos 0))
+    (equal_yes (side e.start e.end (point_at e.start)) (pos 0) (side_is_area e.start e.end (point_at e.start) ∙ area_at_first (point_at e.start) (point_at e.end)))
+    (equal_yes (side e.start e.end (point_at e.end)) (pos 0) (side_is_area e.start e.end (point_at e.end) ∙ area_at_second (point_at e.start) (point_at e.end)))
+
+-- whether two edges are on one line is the same whichever comes first
+pub one_line_turned : (e f : Edge) → (e.start ≡ e.end → ⊥) → (f.start ≡ f.end → ⊥) → on_one_line e f ≡ on_one_line f e
+one_line_turned e f we wf = both_ways (on_one_line e f) (on_one_line f e) (λ h. lines_are_one e f e we h (its_own_line e)) (λ h. lines_are_one f e f wf h (its_own_line f))
+  where
+    both_ways : (a b : Bool) → (a ≡ true → b ≡ true) → (b ≡ true → a ≡ true) → a ≡ b
+    both_ways a b p q = grind arith
+
 -- ---- a cut on an edge
 pub end_is_on_edge : (e : Edge) (p : Point) → IsPoint p → is_end e p ≡ true → on e p ≡ true
 end_is_on_edge e p hp h = go (or_either (same_point (point_at e.start) p) (same_point (point_at e.end) p) h)
