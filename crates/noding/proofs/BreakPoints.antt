@@ -1,6 +1,7 @@
 -- The break points of an edge, as they are found one edge after the other.
-use Rattle.std.proofs.Common.{◌≡◌, ◌≢◌, ◌⊎◌, inl, inr, ℕ, ◌+◌, ◌<◌, ◌≤◌, Bool, true, false, not, ◌||◌, refl, sym, ap, subst, ◌∙◌, List, [], ◌∷◌, ◌++◌, length, get_or, map, filter, All, Any, Contains, pos, ◌≤ℤ◌, arith}
+use Rattle.std.proofs.Common.{◌≡◌, ◌≢◌, ◌⊎◌, inl, inr, ℕ, ◌+◌, ◌<◌, ◌≤◌, Bool, true, false, not, ◌||◌, refl, sym, ap, subst, ◌∙◌, List, [], ◌∷◌, ◌++◌, length, take, drop, get_or, map, filter, All, Any, Contains, pos, ◌≤ℤ◌, arith}
 use Rattle.std.proofs.lemmas.Int.{ints}
+use Rattle.std.proofs.Math.Seq.{take-append_seam}
 use Rattle.std.proofs.lemmas.List.{get_or_default, get_or-map, length-map}
 use Rattle.std.proofs.lemmas.List.Elements.{All-contains, Contains-append_left, Contains-append_cases}
 use Rattle.geometry_model.specs.Points.{Position, Point, IsPoint, IsLeast, point_at, same_point}
@@ -163,7 +164,7 @@ pair_swept es ps i j e f m before middle after less hj he hf s g k h = record {
 -- ---- the edges that follow have nothing in common with this one
 pub rest_apart : (es : List Edge) (ps : List Position) (i j : ℕ) (breaks : List (List Point))
     → ((b : ℕ) (d : Edge) → j ≤ b → b < length es → (p : Point) → IsPoint p → is_common_cut (get_or es i d) (get_or es b d) p ≡ true → ⊥)
-    → SweptTo es ps i j breaks → SweptTo es ps (i + 1) (i + 2) breaks
+    → SweptTo es ps i j breaks → SweptTo es ps (i + 1) (i + 1 + 1) breaks
 rest_apart es ps i j breaks none h = record {
   same_length = h.same_length;
   wide = h.wide;
@@ -177,7 +178,7 @@ rest_apart es ps i j breaks none h = record {
     in_row a b d q lb p hp c (inl x) = inr (q, x)
     in_row a b d q lb p hp c (inr x) = absurd (none b d x lb p hp (subst (λ n. is_common_cut (get_or es n d) (get_or es b d) p ≡ true) q c))
 
-    before : (a b : ℕ) (d : Edge) → IsTried (i + 1) (i + 2) a b → a < b → b < length es → (p : Point) → IsPoint p → is_common_cut (get_or es a d) (get_or es b d) p ≡ true → IsTried i j a b
+    before : (a b : ℕ) (d : Edge) → IsTried (i + 1) (i + 1 + 1) a b → a < b → b < length es → (p : Point) → IsPoint p → is_common_cut (get_or es a d) (get_or es b d) p ≡ true → IsTried i j a b
     before a b d (inl x) l lb p hp c = go (earlier_or_last a i x)
       where
         go : (a < i) ⊎ (a ≡ i) → IsTried i j a b
@@ -363,3 +364,14 @@ swept_enough es ps i j breaks enough h = record {
   where
     before : (a b : ℕ) → a < b → b < length es → a < i
     before a b l lb = omega (arith, enough)
+
+-- as many elements as there were take the places of all
+pub put_back : {X : Type 0} (n : ℕ) (xs ys : List X) → length ys ≡ n → take n (ys ++ drop (length ys) xs) ≡ ys
+put_back n xs ys e = ap (λ k. take k (ys ++ drop (length ys) xs)) (sym e) ∙ take-append_seam ys (drop (length ys) xs)
+
+-- what a sweep leaves, taken into the list that it was lent of
+pub swept_list : (es : List Edge) (ps : List Position) (items first swept now : List (List Point)) (len : ℕ) → All IsWide es → items ≡ map (own_breaks ps) es → first ≡ items → length first ≡ len → length swept ≡ length es
+    → (SweptTo es ps 0 1 first → SweptTo es ps (length es) (length es + 1) swept) → now ≡ take len (swept ++ drop (length swept) items) → AllSwept es ps now
+swept_list es ps items first swept now len wide made same size swept_size sweeps is =
+    subst (AllSwept es ps) (sym (is ∙ put_back len items swept (swept_size ∙ sym (simp length-map) ∙ sym (ap length (same ∙ made)) ∙ size)))
+    (all_swept es ps (length es + 1) swept (sweeps (swept_by_itself es ps first wide (same ∙ made))))

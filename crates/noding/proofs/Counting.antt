@@ -1,5 +1,5 @@
 -- How many pairs of edges have overlapping ranges of x: counted edge by edge, and in another order.
-use Rattle.std.proofs.Common.{◌≡◌, ℕ, suc, ◌+◌, ◌-◌, ◌^◌, ◌<◌, ◌≤◌, min, Bool, true, false, cond, ◌&&◌, refl, sym, ap, ap₂, ◌∙◌, List, [], ◌∷◌, length, get_or, drop, count_by, length-drop, ℤ, ◌≤ℤ◌, int_le, arith, IsPermutation}
+use Rattle.std.proofs.Common.{◌≡◌, ℕ, zero, suc, ◌+◌, ◌-◌, ◌^◌, ◌<◌, ◌≤◌, min, Bool, true, false, cond, ◌&&◌, refl, sym, ap, ap₂, ◌∙◌, List, [], ◌∷◌, length, get_or, drop, count_by, length-drop, ℤ, ◌≤ℤ◌, int_le, arith, IsPermutation}
 use Rattle.std.specs.List.{sum_by}
 use Rattle.std.proofs.lemmas.Int.{ints}
 use Rattle.std.proofs.Math.Seq.{drop-cons}
@@ -56,7 +56,7 @@ unfolding with_all
 twice [] = refl
 twice (e ∷ es) =
     sum_by-cons (λ x. count_by (x_ranges_overlap x) (e ∷ es)) e es
-    ∙ ap₂ (λ m n. m + n) of_first of_others
+    ∙ ap₂ (λ m n. m + n) of_first (of_others (twice es))
     ∙ put_together (count_by (x_ranges_overlap e) es) (overlapping_pairs es) (length es)
   where
     of_first : count_by (x_ranges_overlap e) (e ∷ es) ≡ 1 + count_by (x_ranges_overlap e) es
@@ -65,10 +65,10 @@ twice (e ∷ es) =
     of_one : (x : Edge) → count_by (x_ranges_overlap x) (e ∷ es) ≡ cond (x_ranges_overlap e x) 1 0 + count_by (x_ranges_overlap x) es
     of_one x = sum_by-cons (λ y. cond (x_ranges_overlap x y) 1 0) e es ∙ ap (λ b. cond b 1 0 + count_by (x_ranges_overlap x) es) (overlap_turned x e)
 
-    of_others : sum_by (λ x. count_by (x_ranges_overlap x) (e ∷ es)) es ≡ count_by (x_ranges_overlap e) es + (overlapping_pairs es + overlapping_pairs es + length es)
-    of_others = sum_is (λ x. count_by (x_ranges_overlap x) (e ∷ es)) (λ x. cond (x_ranges_overlap e x) 1 0 + count_by (x_ranges_overlap x) es) es of_one
+    of_others : with_all es ≡ overlapping_pairs es + overlapping_pairs es + length es → sum_by (λ x. count_by (x_ranges_overlap x) (e ∷ es)) es ≡ count_by (x_ranges_overlap e) es + (overlapping_pairs es + overlapping_pairs es + length es)
+    of_others h = sum_is (λ x. count_by (x_ranges_overlap x) (e ∷ es)) (λ x. cond (x_ranges_overlap e x) 1 0 + count_by (x_ranges_overlap x) es) es of_one
         ∙ sum_of_two (λ x. cond (x_ranges_overlap e x) 1 0) (λ x. count_by (x_ranges_overlap x) es) es
-        ∙ ap (λ n. count_by (x_ranges_overlap e) es + n) (twice es)
+        ∙ ap (λ n. count_by (x_ranges_overlap e) es + n) h
 
     put_together : (m n l : ℕ) → 1 + m + (m + (n + n + l)) ≡ (m + n) + (m + n) + suc l
     put_together m n l = omega arith
@@ -87,12 +87,10 @@ pairs_in_order es fs h = halved (overlapping_pairs fs) (overlapping_pairs es) (l
 
 -- ---- edge by edge
 past_end : {X : Type 0} (xs : List X) (n : ℕ) → length xs ≤ n → drop n xs ≡ []
-past_end [] n h = refl
-past_end (x ∷ xs) n h = go n h
-  where
-    go : (m : ℕ) → length (x ∷ xs) ≤ m → drop m (x ∷ xs) ≡ []
-    go 0 k = absurd (omega (arith, k))
-    go (suc m) k = past_end xs m (omega (arith, k))
+past_end [] zero h = refl
+past_end [] (suc n) h = refl
+past_end (x ∷ xs) zero h = absurd (omega (arith, h))
+past_end (x ∷ xs) (suc n) h = past_end xs n (omega (arith, h))
 
 one_more : (i : ℕ) → i + 1 ≡ suc i
 one_more i = omega arith

@@ -27,11 +27,14 @@ cut_is_point es ps p (AtEnd hp e c h) = hp
 cut_is_point es ps p (Listed hp a c h) = hp
 cut_is_point es ps p (AtCrossing hp e f c d apart he hf) = hp
 
--- a cut of some edges is one of more edges and any positions
+-- a cut of some edges and positions is one of more edges and positions
+pub cut_moved : (es fs : List Edge) (qs ps : List Position) (p : Point) → ((e : Edge) → Contains es e → Contains fs e) → ((a : Position) → Contains qs a → Contains ps a) → IsCut es qs p → IsCut fs ps p
+cut_moved es fs qs ps p more others (AtEnd hp e c h) = AtEnd hp e (more e c) h
+cut_moved es fs qs ps p more others (Listed hp a c h) = Listed hp a (others a c) h
+cut_moved es fs qs ps p more others (AtCrossing hp e f c d apart he hf) = AtCrossing hp e f (more e c) (more f d) apart he hf
+
 pub cut_of_more : (es fs : List Edge) (ps : List Position) (p : Point) → ((e : Edge) → Contains es e → Contains fs e) → IsCut es [] p → IsCut fs ps p
-cut_of_more es fs ps p more (AtEnd hp e c h) = AtEnd hp e (more e c) h
-cut_of_more es fs ps p more (Listed hp a c h) = absurd (omega (arith, c.1))
-cut_of_more es fs ps p more (AtCrossing hp e f c d apart he hf) = AtCrossing hp e f (more e c) (more f d) apart he hf
+cut_of_more es fs ps p more = cut_moved es fs [] ps p more (λ a c. absurd (omega (arith, c.1)))
 
 pub cut_of_both : (es : List Edge) (e f : Edge) (p : Point) → Contains es e → Contains es f → CutOf e f p → IsCut es [] p
 cut_of_both es e f p he hf = cut_of_more (e ∷ f ∷ []) es [] p (λ g c. pick g (among_from_contains (e ∷ f ∷ []) g c))

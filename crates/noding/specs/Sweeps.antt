@@ -50,7 +50,7 @@ SweepsPair es first second before after = (ps : List Position) → SweptTo es ps
 
 -- what is swept up to a place goes on past it
 abbrev pub SweepsOn : List Edge → ℕ → List (List Point) → List (List Point) → Type 0
-SweepsOn es place before after = (ps : List Position) → SweptTo es ps place (place + 1) before → SweptTo es ps (place + 1) (place + 2) after
+SweepsOn es place before after = (ps : List Position) → SweptTo es ps place (place + 1) before → SweptTo es ps (place + 1) (place + 1 + 1) after
 
 -- what is swept from the first place on is swept up to the last
 abbrev pub SweepsAll : List Edge → List (List Point) → List (List Point) → Type 0
