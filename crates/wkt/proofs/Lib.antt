@@ -1,4 +1,5 @@
 pub mod Bodies
+pub mod CutFacts
 pub mod Digits
 pub mod KeptFacts
 pub mod Repeats

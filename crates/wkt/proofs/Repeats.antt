@@ -1,17 +1,16 @@
 -- Positions of a line or ring, read one after another: one that repeats the last is left out.
-use Rattle.std.proofs.Common.{◌≡◌, refl, sym, ap, ap₂, ◌∙◌, subst, ℕ, suc, ◌+◌, ◌≤◌, ℤ, Bool, true, false, cond, if◌then◌else◌, List, [], ◌∷◌, ◌++◌, length, Option, Some, None, Result, Ok, Err, codes, append_assoc, append-nil, length-append, arith}
+use Rattle.std.proofs.Common.{◌≡◌, refl, sym, ap, ap₂, ◌∙◌, subst, ℕ, suc, ◌≤◌, ℤ, Bool, true, false, cond, if◌then◌else◌, List, [], ◌∷◌, ◌++◌, length, Option, Some, None, Result, Ok, Err, codes, append_assoc, append-nil, length-append, arith}
 use Rattle.std.specs.List.{dedup_from}
 use Rattle.std.specs.Str.{str_eq_ignore_ascii_case}
 use Rattle.std.proofs.lemmas.Bool.{and_parts}
 use Rattle.std.proofs.lemmas.Bool.Decides.{Decides-int_eq}
 use Rattle.std.specs.Ordering.{int_eq}
 use Rattle.geometry_model.specs.Points.{Position}
-use Rattle.geometry_model.specs.Geometries.{Geometry, LineString}
+use Rattle.geometry_model.specs.Geometries.{LineString}
 use Rattle.geometry_model.specs.Locations.{last_after}
-use Rattle.geometry_model.specs.TextReading.{Input, Reader, ◌>>=◌, ◌>>◌, and_then, pure, expect, eat, padded, enclosed, position, separated, positions, body, typed}
+use Rattle.geometry_model.specs.TextReading.{Input, Reader, ◌>>=◌, and_then, pure, expect, eat, padded, enclosed, position, separated, positions, body, typed}
 use Rattle.geometry_model.specs.WellKnownText.{Word, same_position, without_repeats, geometry_of, position_limit}
 use Rattle.geometry_model.specs.declared.text_faults.TextFault.{TextFault}
-use Rattle.text_laws.proofs.RoomLists.{then_same}
 use Rattle.text_laws.proofs.TextPrinted.{rest_from, from_rest}
 use Rattle.text_laws.proofs.TextSteps.{word_is}
 use Rattle.text_laws.proofs.TextComplete.{named}

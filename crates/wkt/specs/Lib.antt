@@ -1,3 +1,4 @@
+pub mod Cuts
 pub mod KeptGeometries
 pub mod Printing
 pub mod Shapes

@@ -1,31 +1,44 @@
 //! Geometries, whose facts stand in the type.
 
-ghost use Rattle.std.specs.Prelude.{◌≡◌, ◌≤◌, vec_len};
+ghost use Rattle.std.specs.Prelude.{◌≡◌, ◌≤◌, ◌<◌, IfOk, Some, length, slice_get, vec_len};
 ghost use Rattle.geometry_model.specs.Geometries as spec;
 ghost use Rattle.geometry_model.specs.WellKnownText.{position_limit, without_repeats};
 ghost use Rattle.wkt.specs.Served.{IsOfServedType, line_of};
 ghost use Rattle.wkt.specs.KeptGeometries.{IsKept};
-ghost use Rattle.wkt.specs.Shapes.{geometry_in};
+ghost use Rattle.wkt.specs.Shapes.{geometry_in, larger_in};
 
+use crate::line_strings::LineString;
+use crate::polygons::Polygons;
 use fraction::GridPoint;
 use geometry_model::{GeometryType, Kind};
+use std::alloc::{AllocError, Global};
 use std::marker::Model;
 use std::slice;
 
 /// A geometry, which contracts see as its type and the positions of that type. It has at most 10,000 positions and
 /// 1,000 rings or elements, none of these without positions, and neighbouring positions of a line or ring differ
-/// (06-103r4, 6.1.4 to 6.1.11). Of the types, points and LINESTRINGs are served.
+/// (06-103r4, 6.1.4 to 6.1.14).
 #[derive(Debug, Drop)]
 pub struct Geometry {
     shape: Shape,
 }
 
-/// The content, type by type.
+/// The content: a POINT stands in the value itself, and what may be larger behind one pointer, so that a list of points is
+/// small.
 #[derive(Debug, Drop)]
 pub(crate) enum Shape {
     Point(Option<GridPoint>),
+    Larger(Box<Larger>),
+}
+
+/// The content of the other types.
+#[derive(Debug, Drop)]
+pub(crate) enum Larger {
     MultiPoint(Vec<GridPoint>),
-    LineString(Vec<GridPoint>),
+    LineString(LineString),
+    MultiLineString(Vec<LineString>),
+    Polygon(Vec<LineString>),
+    MultiPolygon(Polygons),
 }
 
 impl Model for Geometry {
@@ -34,11 +47,12 @@ impl Model for Geometry {
     ghost Value = { spec.Geometry };
 
     ghost use Rattle.wkt.specs.Shapes.{geometry_in};
+    ghost use Rattle.wkt.specs.Served.{IsOfServedType};
     ghost use Rattle.wkt.specs.KeptGeometries.{IsKept};
 
     ghost view = { λ g. geometry_in g.shape };
 
-    ghost invariant = { λ g. IsKept (geometry_in g.shape) };
+    ghost invariant = { λ g. IsKept (geometry_in g.shape) × IsOfServedType (geometry_in g.shape) };
 }
 
 impl Geometry {
@@ -51,31 +65,40 @@ impl Geometry {
         }
     }
 
-    /// The MULTIPOINT of these positions, in their order. It takes no memory.
-    pub(crate) fn multi_point(positions: Vec<GridPoint>) -> Geometry
-        requires { vec_len positions ≤ position_limit }
-        ensures { result ≡ spec.MultiPoint positions.items }
+    /// The geometry of this content.
+    pub(crate) fn larger(alloc: Global, content: Larger) -> Result<Geometry, AllocError>
+        requires kept { IsKept (larger_in content) }
+        requires served { IsOfServedType (larger_in content) }
+        ensures { IfOk result (λ g. g ≡ larger_in content) }
     {
-        Geometry {
-            shape: Shape::MultiPoint(positions),
-        }
+        Ok(Geometry {
+            shape: Shape::Larger(Box::new(alloc, content)?),
+        })
     }
 
-    /// The LINESTRING through these positions, in their order, of which no two neighbours are one. It takes no memory.
-    #[tactic(auto, using(crate::proofs::KeptFacts::line_is_kept))]
-    pub(crate) fn line_string(positions: Vec<GridPoint>) -> Geometry
-        requires counted { vec_len positions ≤ position_limit }
-        requires no_repeats { without_repeats positions.items ≡ positions.items }
-        ensures { result ≡ spec.LineString positions.items }
+    /// The MULTIPOINT of these positions, in their order.
+    pub(crate) fn multi_point(
+        alloc: Global,
+        positions: Vec<GridPoint>,
+    ) -> Result<Geometry, AllocError>
+        requires { vec_len positions ≤ position_limit }
+        ensures { IfOk result (λ g. g ≡ spec.MultiPoint positions.items) }
     {
-        Geometry {
-            shape: Shape::LineString(positions),
-        }
+        Geometry::larger(alloc, Larger::MultiPoint(positions))
+    }
+
+    /// The LINESTRING of this line.
+    #[tactic(auto, using(crate::proofs::KeptFacts::line_string_is_kept))]
+    pub(crate) fn line_string(alloc: Global, line: LineString) -> Result<Geometry, AllocError>
+        ensures { IfOk result (λ g. g ≡ spec.LineString line) }
+    {
+        Geometry::larger(alloc, Larger::LineString(line))
     }
 
     /// Lends the content.
     pub(crate) fn shape(&self) -> &Shape
-        ensures { self.now ≡ geometry_in result.now }
+        ensures content { self.now ≡ geometry_in result.now }
+        ensures served { IsOfServedType self.now }
     {
         &self.shape
     }
@@ -87,8 +110,7 @@ impl Geometry {
     {
         match &self.shape {
             Shape::Point(_) => GeometryType::Point,
-            Shape::MultiPoint(_) => GeometryType::MultiPoint,
-            Shape::LineString(_) => GeometryType::LineString,
+            Shape::Larger(content) => content.geometry_type(),
         }
     }
 
@@ -110,7 +132,7 @@ impl Geometry {
     {
         match &self.shape {
             Shape::Point(position) => position.is_none(),
-            Shape::MultiPoint(positions) | Shape::LineString(positions) => positions.is_empty(),
+            Shape::Larger(content) => content.is_empty(),
         }
     }
 
@@ -122,8 +144,41 @@ impl Geometry {
         match &self.shape {
             Shape::Point(None) => &[],
             Shape::Point(Some(position)) => slice::from_ref(position),
-            Shape::MultiPoint(positions) => positions.as_slice(),
-            Shape::LineString(_) => &[],
+            Shape::Larger(content) => content.listed(),
+        }
+    }
+
+    /// Lends its lines or rings, in order: the one of a LINESTRING, the elements of a MULTILINESTRING, the rings of a
+    /// POLYGON, the outer one first, or those of all polygons of a MULTIPOLYGON. Point types have none (06-103r4, 6.1.7,
+    /// 6.1.9, 6.1.11 and 6.1.14).
+    pub fn lines(&self) -> &[LineString]
+        ensures lines { result.now ≡ spec.lines self.now }
+        ensures kept { IsKept self.now }
+    {
+        match &self.shape {
+            Shape::Point(_) => &[],
+            Shape::Larger(content) => content.lines(),
+        }
+    }
+
+    /// How many polygons an area has, a POLYGON one; other types have none (06-103r4, 6.1.11.1 and 6.1.14).
+    pub fn element_count(&self) -> usize
+        ensures { result ≡ length (spec.elements self.now) }
+    {
+        match &self.shape {
+            Shape::Point(_) => 0,
+            Shape::Larger(content) => content.element_count(),
+        }
+    }
+
+    /// Lends the rings of a polygon of an area, by its number from 0, the outer one first (06-103r4, 6.1.11.1 and 6.1.14).
+    pub fn element(&self, index: usize) -> &[LineString]
+        requires { index < length (spec.elements self.now) }
+        ensures { slice_get (spec.elements self.now) index ≡ Some result.now }
+    {
+        match &self.shape {
+            Shape::Point(_) => unreachable!("a point has no polygons"),
+            Shape::Larger(content) => content.element(index),
         }
     }
 
@@ -134,8 +189,87 @@ impl Geometry {
         ensures kept { IsKept self.now }
     {
         match &self.shape {
-            Shape::LineString(positions) => positions.as_slice(),
-            Shape::Point(_) | Shape::MultiPoint(_) => &[],
+            Shape::Point(_) => &[],
+            Shape::Larger(content) => content.line(),
+        }
+    }
+}
+
+impl Larger {
+    fn geometry_type(&self) -> GeometryType
+        ensures { result ≡ spec.type_of (larger_in self.now) }
+    {
+        match self {
+            Larger::MultiPoint(_) => GeometryType::MultiPoint,
+            Larger::LineString(_) => GeometryType::LineString,
+            Larger::MultiLineString(_) => GeometryType::MultiLineString,
+            Larger::Polygon(_) => GeometryType::Polygon,
+            Larger::MultiPolygon(_) => GeometryType::MultiPolygon,
+        }
+    }
+
+    fn is_empty(&self) -> bool
+        ensures { result ≡ spec.is_empty (larger_in self.now) }
+    {
+        match self {
+            Larger::MultiPoint(positions) => positions.is_empty(),
+            Larger::LineString(line) => line.positions().is_empty(),
+            Larger::MultiLineString(lines) | Larger::Polygon(lines) => lines.is_empty(),
+            Larger::MultiPolygon(polygons) => polygons.rings().is_empty(),
+        }
+    }
+
+    fn listed(&self) -> &[GridPoint]
+        ensures { result.now ≡ spec.listed (larger_in self.now) }
+    {
+        match self {
+            Larger::MultiPoint(positions) => positions.as_slice(),
+            Larger::LineString(_) | Larger::MultiLineString(_) => &[],
+            Larger::Polygon(_) | Larger::MultiPolygon(_) => &[],
+        }
+    }
+
+    fn lines(&self) -> &[LineString]
+        ensures { result.now ≡ spec.lines (larger_in self.now) }
+    {
+        match self {
+            Larger::MultiPoint(_) => &[],
+            Larger::LineString(line) => slice::from_ref(line),
+            Larger::MultiLineString(lines) | Larger::Polygon(lines) => lines.as_slice(),
+            Larger::MultiPolygon(polygons) => polygons.rings(),
+        }
+    }
+
+    fn element_count(&self) -> usize
+        ensures { result ≡ length (spec.elements (larger_in self.now)) }
+    {
+        match self {
+            Larger::MultiPoint(_) | Larger::LineString(_) | Larger::MultiLineString(_) => 0,
+            Larger::Polygon(_) => 1,
+            Larger::MultiPolygon(polygons) => polygons.len(),
+        }
+    }
+
+    fn element(&self, index: usize) -> &[LineString]
+        requires { index < length (spec.elements (larger_in self.now)) }
+        ensures { slice_get (spec.elements (larger_in self.now)) index ≡ Some result.now }
+    {
+        match self {
+            Larger::Polygon(rings) => rings.as_slice(),
+            Larger::MultiPolygon(polygons) => polygons.get(index),
+            Larger::MultiPoint(_) | Larger::LineString(_) | Larger::MultiLineString(_) => {
+                unreachable!("only areas have polygons")
+            }
+        }
+    }
+
+    fn line(&self) -> &[GridPoint]
+        ensures { result.now ≡ line_of (larger_in self.now) }
+    {
+        match self {
+            Larger::LineString(line) => line.positions(),
+            Larger::MultiPoint(_) | Larger::MultiLineString(_) => &[],
+            Larger::Polygon(_) | Larger::MultiPolygon(_) => &[],
         }
     }
 }

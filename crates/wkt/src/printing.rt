@@ -6,9 +6,11 @@ ghost use Rattle.std.specs.Option.{option_to_list};
 ghost use Rattle.std.specs.Io.KnownBytes.{Appends};
 ghost use Rattle.geometry_model.specs.CanonicalText.{canonical_text, point_text, position_text, tagged_text};
 ghost use Rattle.wkt.specs.Printing.{HoldsText};
+ghost use Rattle.wkt.specs.Served.{IsOfServedType};
+ghost use Rattle.wkt.specs.Shapes.{geometry_in, larger_in};
 ghost use Rattle.sinks.specs.Sinks.{AppendsFront, CountsFailure};
 
-use crate::geometry::{Geometry, Shape};
+use crate::geometry::{Geometry, Larger, Shape};
 use fraction::GridPoint;
 use itoa::Buffer;
 use sinks::{Sink, SinkFault, put_all, put_parts};
@@ -23,10 +25,35 @@ pub fn print<S: Sink>(geometry: &Geometry, sink: &mut S) -> Result<(), SinkFault
     ensures failures { CountsFailure (S.failures sink.old) (S.failures sink.new) result }
     ensures spells { OnOk result (HoldsText (S.taken sink.old) (S.taken sink.new) geometry.now) }
 {
-    match geometry.shape() {
+    put_shape(sink, geometry.shape())
+}
+
+// Puts the text of a content.
+fn put_shape<S: Sink>(sink: &mut S, shape: &Shape) -> Result<(), SinkFault>
+    requires { IsOfServedType (geometry_in shape.now) }
+    ensures ok { OnOk result (Appends (S.taken sink.old) (S.taken sink.new) (canonical_text (geometry_in shape.now))) }
+    ensures front { OnErr result (AppendsFront (S.taken sink.old) (S.taken sink.new) (canonical_text (geometry_in shape.now))) }
+    ensures failures { CountsFailure (S.failures sink.old) (S.failures sink.new) result }
+{
+    match shape {
         Shape::Point(position) => put_point(sink, *position),
-        Shape::MultiPoint(points) => put_multi_point(sink, points.as_slice()),
-        Shape::LineString(positions) => put_line_string(sink, positions.as_slice()),
+        Shape::Larger(content) => put_larger(sink, content),
+    }
+}
+
+// Puts the text of a content that is no POINT.
+fn put_larger<S: Sink>(sink: &mut S, content: &Larger) -> Result<(), SinkFault>
+    requires { IsOfServedType (larger_in content.now) }
+    ensures ok { OnOk result (Appends (S.taken sink.old) (S.taken sink.new) (canonical_text (larger_in content.now))) }
+    ensures front { OnErr result (AppendsFront (S.taken sink.old) (S.taken sink.new) (canonical_text (larger_in content.now))) }
+    ensures failures { CountsFailure (S.failures sink.old) (S.failures sink.new) result }
+{
+    match content {
+        Larger::MultiPoint(points) => put_multi_point(sink, points.as_slice()),
+        Larger::LineString(line) => put_line_string(sink, line.positions()),
+        Larger::MultiLineString(_) | Larger::Polygon(_) | Larger::MultiPolygon(_) => {
+            unreachable!("no text is read as these yet")
+        }
     }
 }
 

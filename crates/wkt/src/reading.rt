@@ -16,7 +16,7 @@ ghost use Rattle.wkt.specs.TextFaults.{text_fault};
 
 use crate::cursor::{ByteClass, Cursor};
 use crate::positions::{padded_point, padded_position};
-use crate::{Geometry, WktFault};
+use crate::{Geometry, LineString, WktFault};
 use fraction::GridPoint;
 use geometry_model::TextFault;
 use std::alloc::Global;
@@ -181,9 +181,9 @@ fn typed(
     if name.eq_ignore_ascii_case(b"POINT") {
         Ok(Geometry::point(lone(cursor)?))
     } else if name.eq_ignore_ascii_case(b"MULTIPOINT") {
-        Ok(Geometry::multi_point(point_list(alloc, cursor)?))
+        Ok(Geometry::multi_point(alloc, point_list(alloc, cursor)?)?)
     } else if name.eq_ignore_ascii_case(b"LINESTRING") {
-        Ok(Geometry::line_string(line_list(alloc, cursor)?))
+        Ok(Geometry::line_string(alloc, LineString::new(line_list(alloc, cursor)?))?)
     } else {
         Err(WktFault::Syntax(at))
     }

@@ -1,10 +1,9 @@
 -- The positions before this one were read, and those that repeat the one before them left out.
-use Rattle.std.proofs.Common.{◌≡◌, ◌∙◌, ◌-◌, ap, cond, [], ◌∷◌, length, suc, Ok, true, false, sym, rules, arith}
+use Rattle.std.proofs.Common.{◌≡◌, ◌∙◌, ◌-◌, suc, Ok, true, false, sym, rules, arith}
 use Rattle.std.proofs.lemmas.Grind.{common_steps}
 use Rattle.geometry_model.specs.TextReading.{eat, position}
-use Rattle.wkt.specs.ReadingSteps.{repeats}
 use Rattle.wkt.proofs.Bodies.{item_fails}
-use Rattle.wkt.proofs.Repeats.{kept_and_more, kept_last, still_steady, last_now, one_longer}
+use Rattle.wkt.proofs.Repeats.{kept_and_more, kept_last, still_steady, last_now}
 use Rattle.wkt.proofs.reading.line_positions.Goals as goal
 
 pub returns-in_err-position-clause-read : goal.returns-in_err-position-clause-read

@@ -12,8 +12,8 @@ returns-in_err-line_list-clause-read c =
     let is : str_eq_ignore_ascii_case c.args.name.now (codes "LINESTRING") ≡ true = first_of (cc, grind (arith, common_steps)) in
     rw (named_line c.args.at c.args.name.now c.args.cursor.now is) (first_of (search rules, grind (arith, common_steps)))
 
-pub returns-in_ok-line_list-clause-read : goal.returns-in_ok-line_list-clause-read
-returns-in_ok-line_list-clause-read c =
+pub returns-in_ok-line_string-clause-read : goal.returns-in_ok-line_string-clause-read
+returns-in_ok-line_string-clause-read c =
     let is : str_eq_ignore_ascii_case c.args.name.now (codes "LINESTRING") ≡ true = first_of (cc, grind (arith, common_steps)) in
     named_line c.args.at c.args.name.now c.args.cursor.now is
-    ∙ (ap (λ r. and_then r (λ ps. pure (LineString ps))) c.in_ok-line_list.ensures.read ∙ ap (λ g. Ok (g, c.line_list.new.cursor)) (sym c.line_string.ensures))
+    ∙ (ap (λ r. and_then r (λ ps. pure (LineString ps))) c.in_ok-line_list.ensures.read ∙ ap (λ g. Ok (g, c.line_list.new.cursor)) (ap LineString (sym c.new.ensures) ∙ sym c.in_ok-line_string.ensures))
