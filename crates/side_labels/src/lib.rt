@@ -2,9 +2,13 @@
 #![tactic(auto)]
 
 mod crossings;
+pub mod label_lists;
+pub mod labelling;
 pub mod location;
 pub mod sides;
 
 pub use geometry_model::Location;
+pub use label_lists::{Label, Labels, SideLabels};
+pub use labelling::labels;
 pub use location::locate;
 pub use sides::{above, below};
