@@ -1,6 +1,7 @@
 //! Labels: where the nodes, the pieces and their sides of two geometries stand in both.
 
 ghost use Rattle.std.specs.Prelude.{◌≡◌};
+ghost use Rattle.geometry_model.specs.Labels.{same_location};
 
 use geometry_model::Location;
 use std::marker::Model;
@@ -24,6 +25,30 @@ impl Model for Label {
     ghost inverse = { λ l. record { first = l.first; second = l.second } };
 }
 
+impl Label {
+    ghost use Rattle.std.specs.Prelude.{◌≡◌};
+    ghost use Rattle.geometry_model.specs.Labels.{is_pair};
+
+    /// Whether it is this pair of parts, of the first and of the second geometry.
+    pub fn is_pair(&self, first: Location, second: Location) -> bool
+        ensures { result ≡ is_pair first second self.now }
+    {
+        same_location(first, self.first) && same_location(second, self.second)
+    }
+}
+
+/// Whether two parts are one.
+fn same_location(a: Location, b: Location) -> bool
+    ensures { result ≡ same_location a b }
+{
+    match (a, b) {
+        (Location::Interior, Location::Interior)
+        | (Location::Boundary, Location::Boundary)
+        | (Location::Exterior, Location::Exterior) => true,
+        _ => false,
+    }
+}
+
 /// The labels of what lies just below a piece and just above it.
 #[derive(Clone, Copy, Debug, PartialEq, Eq)]
 pub struct SideLabels {
@@ -41,6 +66,18 @@ impl Model for SideLabels {
     ghost view = { λ s. record { lower = s.lower; upper = s.upper } };
 
     ghost inverse = { λ s. record { lower = s.lower; upper = s.upper } };
+}
+
+impl SideLabels {
+    ghost use Rattle.std.specs.Prelude.{◌≡◌, ◌||◌};
+    ghost use Rattle.geometry_model.specs.Labels.{is_pair};
+
+    /// Whether one of the two is this pair of parts, of the first and of the second geometry.
+    pub fn has_pair(&self, first: Location, second: Location) -> bool
+        ensures { result ≡ (is_pair first second self.now.lower || is_pair first second self.now.upper) }
+    {
+        self.lower.is_pair(first, second) || self.upper.is_pair(first, second)
+    }
 }
 
 /// The labels of the nodes of two geometries, of the pieces, each at its sample, and of the two sides of each piece that

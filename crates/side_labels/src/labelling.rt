@@ -1,10 +1,11 @@
 //! The labels of two geometries.
 
-ghost use Rattle.std.specs.Prelude.{◌≡◌, ◌++◌, IfOk, All, map, true};
+ghost use Rattle.std.specs.Prelude.{◌≡◌, ◌++◌, IfOk, OnOk, All, map, true};
 ghost use Rattle.geometry_model.specs.Points.{IsPoint, same_point};
 ghost use Rattle.geometry_model.specs.Geometries.{listed};
 ghost use Rattle.geometry_model.specs.Pieces.{sample};
 ghost use Rattle.geometry_model.specs.Labels as spec;
+ghost use Rattle.geometry_model.specs.Validity.{IsValid};
 ghost use Rattle.noding.specs.Nodings.{piece_of};
 ghost use Rattle.side_labels.specs.Samples.{HasSample};
 
@@ -87,7 +88,9 @@ fn segments_of_both(alloc: Global, first: &Valid, second: &Valid) -> Result<Vec<
 
 /// The listed positions of both geometries.
 fn listed_of_both(alloc: Global, first: &Valid, second: &Valid) -> Result<Vec<GridPoint>, AllocError>
-    ensures { IfOk result (λ positions. positions.items ≡ listed first.now ++ listed second.now) }
+    ensures exact { IfOk result (λ positions. positions.items ≡ listed first.now ++ listed second.now) }
+    ensures first_valid { OnOk result (IsValid first.now) }
+    ensures second_valid { OnOk result (IsValid second.now) }
 {
     let mut positions = Vec::from_slice(alloc, first.geometry().listed())?;
     positions.extend_from_slice(second.geometry().listed())?;
@@ -148,7 +151,9 @@ fn labels_of_sides(
 /// sample, and of the two sides of each piece that isn't upright (OGC 06-103r4, 6.1.15.2; labels: this project's choice). It
 /// fails only for want of memory.
 pub fn labels(alloc: Global, first: &Valid, second: &Valid) -> Result<Labels, AllocError>
-    ensures { IfOk result (λ labels. labels ≡ spec.labels first.now second.now) }
+    ensures exact { IfOk result (λ labels. labels ≡ spec.labels first.now second.now) }
+    ensures first_valid { OnOk result (IsValid first.now) }
+    ensures second_valid { OnOk result (IsValid second.now) }
 {
     let segments = segments_of_both(alloc, first, second)?;
     let listed = listed_of_both(alloc, first, second)?;
