@@ -1,4 +1,1 @@
-pub mod AnyFacts
 pub mod PatternFacts
-pub mod PointMatrixFacts
-pub mod SortedPositions

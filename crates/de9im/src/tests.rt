@@ -34,10 +34,7 @@ fn dimension(byte: u8) -> Dimension {
 fn related(rt: &HostRuntime, first: &str, second: &str, work: &mut Work) -> Result<Matrix, Fail> {
     let first = check(rt.alloc(), read(rt.alloc(), first.as_bytes())?)?;
     let second = check(rt.alloc(), read(rt.alloc(), second.as_bytes())?)?;
-    match (first.kind(), second.kind()) {
-        (Kind::Point, Kind::Point) => Ok(relate(rt.alloc(), &first, &second, work)?),
-        _ => Err(Fail::from("not of points")),
-    }
+    Ok(relate(rt.alloc(), &first, &second, work)?)
 }
 
 #[test]

@@ -1,4 +1,4 @@
-//! Tests of texts, validity and location of geometries.
+//! Tests of texts, validity, location and relations of geometries.
 #![tactic(auto)]
 
 #[cfg(test)]
@@ -7,5 +7,7 @@ mod location_tests;
 mod printing_tests;
 #[cfg(test)]
 mod reading_tests;
+#[cfg(test)]
+mod relation_tests;
 #[cfg(test)]
 mod validity_tests;

@@ -1,19 +1,10 @@
-//! Where points stand in geometries of points.
+//! Where points stand in geometries of points and lines.
 
 use fraction::{GridPoint, RatPoint};
-use geometry_model::Kind;
-use side_labels::{Location, locate};
+use side_labels::{Location, labels, locate};
 use std::test::Fail;
-use validity::{Valid, check};
+use validity::check;
 use wkt::read;
-
-// Where a point stands in a geometry of points.
-fn located(valid: &Valid, p: &RatPoint) -> Result<Location, Fail> {
-    match valid.kind() {
-        Kind::Point => Ok(locate(valid, p)),
-        _ => Err(Fail::from("not of points")),
-    }
-}
 
 #[test]
 fn points_in_listed_points(rt: HostRuntime) -> Result<(), Fail> {
@@ -30,17 +21,59 @@ fn points_in_listed_points(rt: HostRuntime) -> Result<(), Fail> {
     for (text, (x, y), location) in cases {
         let valid = check(rt.alloc(), read(rt.alloc(), text)?)?;
         let p = RatPoint::of_grid(GridPoint::new(x, y).ok_or("past the limit")?);
-        assert_eq!(rt; located(&valid, &p)?, location, "{p:?}");
+        assert_eq!(rt; locate(&valid, &p), location, "{p:?}");
     }
     // The numerators alone are those of the listed position.
     let valid = check(rt.alloc(), read(rt.alloc(), b"POINT(3 1)")?)?;
     assert_eq!(rt;
-        located(&valid, &RatPoint::reduced(3, 1, 2))?,
+        locate(&valid, &RatPoint::reduced(3, 1, 2)),
         Location::Exterior
     );
     assert_eq!(rt;
-        located(&valid, &RatPoint::reduced(6, 2, 2))?,
+        locate(&valid, &RatPoint::reduced(6, 2, 2)),
         Location::Interior
     );
+    Ok(())
+}
+
+#[test]
+fn points_in_lines(rt: HostRuntime) -> Result<(), Fail> {
+    let cases: [(&[u8], (i128, i128, i64), Location); 6] = [
+        (b"LINESTRING(0 0,2 1,4 0)", (0, 0, 1), Location::Boundary),
+        (b"LINESTRING(0 0,2 1,4 0)", (2, 1, 1), Location::Interior),
+        (b"LINESTRING(0 0,2 1,4 0)", (2, 1, 2), Location::Interior),
+        (b"LINESTRING(0 0,2 1,4 0)", (2, 0, 1), Location::Exterior),
+        // A closed line has no boundary.
+        (
+            b"LINESTRING(0 0,2 0,2 2,0 0)",
+            (0, 0, 1),
+            Location::Interior,
+        ),
+        (b"LINESTRING EMPTY", (0, 0, 1), Location::Exterior),
+    ];
+    for (text, (x, y, w), location) in cases {
+        let valid = check(rt.alloc(), read(rt.alloc(), text)?)?;
+        assert_eq!(rt; locate(&valid, &RatPoint::reduced(x, y, w)), location);
+    }
+    Ok(())
+}
+
+#[test]
+fn labels_of_two_lines(rt: HostRuntime) -> Result<(), Fail> {
+    let alloc = rt.alloc();
+    let first = check(alloc, read(alloc, b"LINESTRING(0 0,3 1)")?)?;
+    let second = check(alloc, read(alloc, b"LINESTRING(0 1,2 0)")?)?;
+    let labels = labels(alloc, &first, &second)?;
+    assert_eq!(rt; labels.of_points().len(), 5);
+    assert_eq!(rt; labels.of_pieces().len(), 4);
+    // The crossing is the third node.
+    let crossing = labels.of_points()[2];
+    assert!(rt; crossing.is_pair(Location::Interior, Location::Interior));
+    // Beside a line there is no inside.
+    for sides in labels.of_sides() {
+        let outside =
+            sides.is_some_and(|sides| sides.has_pair(Location::Exterior, Location::Exterior));
+        assert!(rt; outside);
+    }
     Ok(())
 }

@@ -10,6 +10,8 @@ pub mod LeastPositions
 pub mod NodeCuts
 pub mod Ordered
 pub mod BreakPoints
+pub mod Sweeping
+pub mod Counting
 pub mod Neighbours
 pub mod NodeSteps
 pub mod Exact

@@ -27,11 +27,14 @@ cut_is_point es ps p (AtEnd hp e c h) = hp
 cut_is_point es ps p (Listed hp a c h) = hp
 cut_is_point es ps p (AtCrossing hp e f c d apart he hf) = hp
 
--- a cut of some edges is one of more edges and any positions
+-- a cut of some edges and positions is one of more edges and positions
+pub cut_moved : (es fs : List Edge) (qs ps : List Position) (p : Point) → ((e : Edge) → Contains es e → Contains fs e) → ((a : Position) → Contains qs a → Contains ps a) → IsCut es qs p → IsCut fs ps p
+cut_moved es fs qs ps p more others (AtEnd hp e c h) = AtEnd hp e (more e c) h
+cut_moved es fs qs ps p more others (Listed hp a c h) = Listed hp a (others a c) h
+cut_moved es fs qs ps p more others (AtCrossing hp e f c d apart he hf) = AtCrossing hp e f (more e c) (more f d) apart he hf
+
 pub cut_of_more : (es fs : List Edge) (ps : List Position) (p : Point) → ((e : Edge) → Contains es e → Contains fs e) → IsCut es [] p → IsCut fs ps p
-cut_of_more es fs ps p more (AtEnd hp e c h) = AtEnd hp e (more e c) h
-cut_of_more es fs ps p more (Listed hp a c h) = absurd (omega (arith, c.1))
-cut_of_more es fs ps p more (AtCrossing hp e f c d apart he hf) = AtCrossing hp e f (more e c) (more f d) apart he hf
+cut_of_more es fs ps p more = cut_moved es fs [] ps p more (λ a c. absurd (omega (arith, c.1)))
 
 pub cut_of_both : (es : List Edge) (e f : Edge) (p : Point) → Contains es e → Contains es f → CutOf e f p → IsCut es [] p
 cut_of_both es e f p he hf = cut_of_more (e ∷ f ∷ []) es [] p (λ g c. pick g (among_from_contains (e ∷ f ∷ []) g c))
@@ -62,6 +65,19 @@ lines_are_one g e f wide h k =
     and_from (int_eq (side e.start e.end (point_at f.start)) (pos 0)) (int_eq (side e.start e.end (point_at f.end)) (pos 0))
     (equal_yes (side e.start e.end (point_at f.start)) (pos 0) (side_is_area e.start e.end (point_at f.start) ∙ area_on_line g.start g.end (point_at e.start) (point_at e.end) (point_at f.start) wide a.start a.end b.start))
     (equal_yes (side e.start e.end (point_at f.end)) (pos 0) (side_is_area e.start e.end (point_at f.end) ∙ area_on_line g.start g.end (point_at e.start) (point_at e.end) (point_at f.end) wide a.start a.end b.end))
+
+-- an edge is on its own line
+pub its_own_line : (e : Edge) → on_one_line e e ≡ true
+its_own_line e = and_from (int_eq (side e.start e.end (point_at e.start)) (pos 0)) (int_eq (side e.start e.end (point_at e.end)) (pos 0))
+    (equal_yes (side e.start e.end (point_at e.start)) (pos 0) (side_is_area e.start e.end (point_at e.start) ∙ area_at_first (point_at e.start) (point_at e.end)))
+    (equal_yes (side e.start e.end (point_at e.end)) (pos 0) (side_is_area e.start e.end (point_at e.end) ∙ area_at_second (point_at e.start) (point_at e.end)))
+
+-- whether two edges are on one line is the same whichever comes first
+pub one_line_turned : (e f : Edge) → (e.start ≡ e.end → ⊥) → (f.start ≡ f.end → ⊥) → on_one_line e f ≡ on_one_line f e
+one_line_turned e f we wf = both_ways (on_one_line e f) (on_one_line f e) (λ h. lines_are_one e f e we h (its_own_line e)) (λ h. lines_are_one f e f wf h (its_own_line f))
+  where
+    both_ways : (a b : Bool) → (a ≡ true → b ≡ true) → (b ≡ true → a ≡ true) → a ≡ b
+    both_ways a b p q = grind arith
 
 -- ---- a cut on an edge
 pub end_is_on_edge : (e : Edge) (p : Point) → IsPoint p → is_end e p ≡ true → on e p ≡ true

@@ -1,8 +1,10 @@
 -- The nodes and the pieces, as they are found one edge after the other.
-use Rattle.std.proofs.Common.{◌≡◌, ◌⊎◌, inl, inr, ℕ, suc, ◌+◌, ◌<◌, ◌≤◌, true, sym, ap, subst, ◌∙◌, List, [], ◌∷◌, ◌++◌, length, get_or, map, All, AllPairs, Contains, arith}
+use Rattle.std.proofs.Common.{◌≡◌, ◌⊎◌, inl, inr, ℕ, suc, ◌+◌, ◌<◌, ◌≤◌, true, sym, ap, subst, ◌∙◌, List, [], ◌∷◌, ◌++◌, length, get_or, map, All, AllPairs, Contains, IsPermutation, arith}
 use Rattle.std.specs.declared.cmp.Ordering.{Ordering}
 use Rattle.std.specs.declared.cmp.Ordering.TheVariants.{Less}
+use Rattle.std.proofs.lemmas.List.{get_or_default}
 use Rattle.std.proofs.lemmas.List.Elements.{All-contains, Contains-append_left, Contains-append_cases}
+use Rattle.std.proofs.lemmas.List.Sorted.{Contains-permutation, IsPermutation-sym}
 use Rattle.geometry_model.specs.Points.{Position, Point, IsPoint, point_at, same_point, compare}
 use Rattle.geometry_model.specs.Geometries.{Edge}
 use Rattle.geometry_model.specs.Sides.{on}
@@ -17,8 +19,9 @@ use Rattle.cut_laws.proofs.Lists.{Some_of, among_from_contains, contains_from_am
 use Rattle.cut_laws.proofs.Sorted.{Sorted}
 use Rattle.cut_laws.proofs.Stretches.{Neighbours, stretch_is, stretch_found, less_right, less_left}
 use Rattle.noding.specs.Nodings.{same_piece, ListsPoint, ListsPiece, IsNodeTriple, HasNodeTriples, HasPointEnds, ListsCuts, ListsPieces, AreBreaks, PutsPointsInOrder, PutsPiecesInOrder, HoldsNodes, HoldsPieces}
-use Rattle.noding.proofs.NodeCuts.{cut_is_point, end_is_on_edge}
-use Rattle.noding.proofs.BreakPoints.{all_of, any_left, any_right, element_is, earlier_or_last, position_is_triple, point_kept}
+use Rattle.noding.proofs.NodeCuts.{cut_is_point, cut_moved, end_is_on_edge}
+use Rattle.noding.specs.Sweeps.{AllCut}
+use Rattle.noding.proofs.BreakPoints.{some_edge, all_of, any_left, any_right, element_is, earlier_or_last, position_is_triple, point_kept}
 
 -- ---- the nodes of one more edge
 pub nodes_more : (es : List Edge) (ps : List Position) (n : ℕ) (f : Edge) (breaks xs ys : List Point) → n < length es → f ≡ get_or es n f → AreBreaks es ps f breaks → ys ≡ xs ++ breaks
@@ -222,3 +225,68 @@ has_pieces es ps n cs ds all h o = λ c i. first c (some_from_any (λ d. same_pi
     first : (c : Piece) → Some_of (λ d. same_piece d c ≡ true) cs → ListsPiece ds c
     first c s = let k : Contains cs s.found = contains_from_among cs s.found s.among in
         second c s.found (All-contains HasPointEnds cs s.found (pieces_have_points es ps n cs h) k) s.has (some_from_any (λ e. same_piece e s.found ≡ true) ds (o.kept s.found k))
+
+-- ---- the same edges in another order
+pub record SameEdges (es fs : List Edge) : Type 0 where
+  pub there : (e : Edge) → Contains es e → Contains fs e
+  pub back : (e : Edge) → Contains fs e → Contains es e
+
+pub same_edges : (es fs : List Edge) → IsPermutation es fs → SameEdges es fs
+same_edges es fs h = record { there = λ e. Contains-permutation es fs e h; back = λ e. Contains-permutation fs es e (IsPermutation-sym es fs h) }
+
+same_cut : (es fs : List Edge) (ps : List Position) → SameEdges es fs → (p : Point) → IsCut fs ps p → IsCut es ps p
+same_cut es fs ps s p = cut_moved fs es ps ps p s.back (λ a c. c)
+
+cut_there : (es fs : List Edge) (ps : List Position) → SameEdges es fs → (p : Point) → IsCut es ps p → IsCut fs ps p
+cut_there es fs ps s p = cut_moved es fs ps ps p s.there (λ a c. c)
+
+moved_piece : (es fs : List Edge) (ps : List Position) → SameEdges es fs → (c : Piece) → IsPiece es ps c → IsPiece fs ps c
+moved_piece es fs ps s c h = record {
+  edge = h.edge;
+  among = s.there h.edge h.among;
+  lesser_on = h.lesser_on;
+  greater_on = h.greater_on;
+  lesser_is_cut = cut_there es fs ps s c.lesser h.lesser_is_cut;
+  greater_is_cut = cut_there es fs ps s c.greater h.greater_is_cut;
+  in_order = h.in_order;
+  neighbours = λ p hp k cut x y. h.neighbours p hp k (same_cut es fs ps s p cut) x y;
+}
+
+turned : (es fs : List Edge) → SameEdges es fs → SameEdges fs es
+turned es fs s = record { there = s.back; back = s.there }
+
+pub cuts_of_same : (es fs : List Edge) (ps : List Position) (nodes : List Point) → SameEdges es fs → All (IsCut fs ps) nodes → All (IsCut es ps) nodes
+cuts_of_same es fs ps nodes s h = λ k d l. same_cut es fs ps s (get_or nodes k d) (h k d l)
+
+pub lists_cuts_of_same : (es fs : List Edge) (ps : List Position) (nodes : List Point) → SameEdges es fs → ListsCuts fs ps nodes → ListsCuts es ps nodes
+lists_cuts_of_same es fs ps nodes s h = λ p c. h p (cut_there es fs ps s p c)
+
+pub pieces_of_same : (es fs : List Edge) (ps : List Position) (cs : List Piece) → SameEdges es fs → All (IsPiece fs ps) cs → All (IsPiece es ps) cs
+pieces_of_same es fs ps cs s h = λ k d l. moved_piece fs es ps (turned es fs s) (get_or cs k d) (h k d l)
+
+pub lists_pieces_of_same : (es fs : List Edge) (ps : List Position) (cs : List Piece) → SameEdges es fs → ListsPieces fs ps cs → ListsPieces es ps cs
+lists_pieces_of_same es fs ps cs s h = λ c i. h c (moved_piece es fs ps s c i)
+
+-- ---- the break points of one of the edges, from a list that is lent
+pub record Row (es : List Edge) (ps : List Position) (n : ℕ) (points : List Point) : Type 0 where
+  pub edge : Edge
+  pub within : n < length es
+  pub is : edge ≡ get_or es n edge
+  pub breaks : AreBreaks es ps edge points
+
+pub row : (es fs : List Edge) (ps : List Position) (breaks slice : List (List Point)) (item : List Point) (n : ℕ) → fs ≡ es → slice ≡ breaks → AllCut fs ps breaks → n < length slice → item ≡ get_or slice n item → Row es ps n item
+row es fs ps breaks slice item n he hs cut l is = record {
+  edge = get_or es n some_edge;
+  within = within;
+  is = get_or_default es n some_edge (get_or es n some_edge) within;
+  breaks = subst (AreBreaks es ps (get_or es n some_edge)) (sym (is ∙ get_or_default slice n item [] l ∙ ap (λ (bs : List (List Point)). get_or bs n []) hs)) (here.all n some_edge within);
+}
+  where
+    here : AllCut es ps breaks
+    here = subst (λ (gs : List Edge). AllCut gs ps breaks) he cut
+
+    within : n < length es
+    within = omega (arith, l, ap length hs, here.same_length)
+
+pub all_gone : (es fs : List Edge) (ps : List Position) (breaks slice : List (List Point)) (n : ℕ) → fs ≡ es → slice ≡ breaks → AllCut fs ps breaks → length slice ≤ n → length es ≤ n
+all_gone es fs ps breaks slice n he hs cut l = omega (arith, l, ap length hs, ap length he, cut.same_length)

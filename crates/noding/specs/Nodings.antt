@@ -1,5 +1,5 @@
 -- The nodes and pieces of edges and listed positions.
-use Rattle.std.specs.Prelude.{◌≡◌, ◌⊎◌, ℕ, ◌<◌, Bool, true, ◌&&◌, List, [], get_or, Contains, Any, All, AllPairs, pos, ◌≤ℤ◌}
+use Rattle.std.specs.Prelude.{◌≡◌, ℕ, ◌<◌, Bool, true, ◌&&◌, List, [], get_or, Contains, Any, All, AllPairs, pos, ◌≤ℤ◌}
 use Rattle.std.specs.declared.cmp.Ordering.TheVariants.{Less}
 use Rattle.geometry_model.specs.Points.{Position, Point, IsPoint, IsLeast, point_at, same_point, compare}
 use Rattle.geometry_model.specs.Geometries.{Edge}
@@ -7,7 +7,6 @@ use Rattle.geometry_model.specs.Sides.{on}
 use Rattle.geometry_model.specs.CutPoints.{IsCut}
 use Rattle.geometry_model.specs.Pieces.{Piece, IsPiece, compare_pieces}
 use Rattle.fraction.specs.Ranges.{meeting_limit}
-use Rattle.noding.specs.Meetings.{is_common_cut}
 
 -- two stretches have the same ends
 abbrev pub same_piece : Piece → Piece → Bool
@@ -46,10 +45,11 @@ ListsCuts es ps nodes = (p : Point) → IsCut es ps p → ListsPoint nodes p
 abbrev pub ListsPieces : List Edge → List Position → List Piece → Type 0
 ListsPieces es ps pieces = (c : Piece) → IsPiece es ps c → ListsPiece pieces c
 
--- nodes and the stretches between them
+-- nodes and the stretches between them, and how many pairs of edges were tried
 pub record Noding : Type 0 where
   pub nodes : List Point
   pub pieces : List Piece
+  pub tests : ℕ
 
 -- the piece between two points
 abbrev pub piece_of : Point × Point → Piece
@@ -91,12 +91,6 @@ pub record IsBreak (es : List Edge) (ps : List Position) (e : Edge) (p : Point) 
 pub record AllBreaks (es : List Edge) (ps : List Position) (e : Edge) (points : List Point) : Type 0 where
   pub from : (p : Point) → Contains points p → IsBreak es ps e p
   pub found : (p : Point) → on e p ≡ true → IsCut es ps p → ListsPoint points p
-
--- the points before, what an edge has in common with the first of the edges, and nothing but cuts
-pub record HoldsMeetings (es : List Edge) (e : Edge) (count : ℕ) (before after : List Point) : Type 0 where
-  pub kept : (p : Point) → Contains before p → Contains after p
-  pub from : (p : Point) → Contains after p → Contains before p ⊎ IsBreak es [] e p
-  pub found : (k : ℕ) (d : Edge) → k < count → (p : Point) → IsPoint p → is_common_cut e (get_or es k d) p ≡ true → ListsPoint after p
 
 -- the listed positions and the cuts on the first of the edges, and nothing but cuts
 pub record HoldsNodes (es : List Edge) (ps : List Position) (count : ℕ) (points : List Point) : Type 0 where

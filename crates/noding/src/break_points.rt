@@ -1,8 +1,13 @@
 //! Break points as they are kept while a segment is cut.
 
-ghost use Rattle.std.specs.Prelude.{◌≡◌};
+ghost use Rattle.std.specs.Prelude.{◌≡◌, [], ◌∷◌, ◌++◌, OnOk, All};
+ghost use Rattle.geometry_model.specs.Points.{IsPoint};
+ghost use Rattle.noding.specs.Nodings.{PutsPointsInOrder};
 
+use crate::orders::put_in_order;
 use fraction::RatPoint;
+use smallvec::SmallVec;
+use std::alloc::{AllocError, Global};
 use std::marker::Model;
 
 /// A break point. It has a default, which the places of a small vector want before they are taken.
@@ -42,5 +47,54 @@ impl Default for Break {
         Break {
             point: RatPoint::reduced(0, 0, 1),
         }
+    }
+}
+
+/// The break points of one segment, which contracts see as the list of them. Most segments have few.
+#[derive(Drop)]
+pub(crate) struct Breaks {
+    points: SmallVec<Break, 8>,
+}
+
+impl Model for Breaks {
+    ghost use Rattle.std.specs.Prelude.{List};
+    ghost use Rattle.geometry_model.specs.Points.{Point};
+
+    ghost Value = { List Point };
+
+    ghost view = { λ b. b.points.items };
+}
+
+impl Breaks {
+    /// None.
+    pub(crate) fn new(alloc: Global) -> Breaks
+        ensures { result ≡ [] }
+    {
+        Breaks {
+            points: SmallVec::new(alloc),
+        }
+    }
+
+    /// Appends one.
+    pub(crate) fn push(&mut self, point: RatPoint) -> Result<(), AllocError>
+        ensures { OnOk result (self.new ≡ self.old ++ point ∷ []) }
+    {
+        self.points.push(Break::new(point))?;
+        Ok(())
+    }
+
+    /// Puts them in ascending order, each once.
+    pub(crate) fn put_in_order(&mut self)
+        requires { All IsPoint self.old }
+        ensures { PutsPointsInOrder self.old self.new }
+    {
+        put_in_order(&mut self.points);
+    }
+
+    /// Lends them.
+    pub(crate) fn as_slice(&self) -> &[Break]
+        ensures { result.now ≡ self.now }
+    {
+        self.points.as_slice()
     }
 }

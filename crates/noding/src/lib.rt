@@ -5,6 +5,8 @@
 pub mod answers;
 mod break_points;
 mod breaks;
+mod ranges;
+mod sweeps;
 mod crossings;
 pub mod meetings;
 pub mod noded;

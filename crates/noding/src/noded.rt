@@ -7,11 +7,12 @@ use fraction::RatPoint;
 use std::marker::Model;
 
 /// The nodes of some segments and listed positions, and the pieces of the segments between them, which contracts see as
-/// both lists.
+/// both lists, and the number of pairs of segments that were tried.
 #[derive(Debug, Drop)]
 pub struct Noded {
     points: Vec<RatPoint>,
     stretches: Vec<(RatPoint, RatPoint)>,
+    tests: u64,
 }
 
 impl Model for Noded {
@@ -20,15 +21,25 @@ impl Model for Noded {
 
     ghost Value = { Noding };
 
-    ghost view = { λ n. record { nodes = n.points.items; pieces = map piece_of n.stretches.items } };
+    ghost view = { λ n. record { nodes = n.points.items; pieces = map piece_of n.stretches.items; tests = n.tests } };
 }
 
 impl Noded {
-    /// These points and stretches.
-    pub(crate) fn new(points: Vec<RatPoint>, stretches: Vec<(RatPoint, RatPoint)>) -> Noded
-        ensures { result ≡ record { nodes = points.items; pieces = map piece_of stretches.items } }
+    /// These points and stretches, and this many pairs tried.
+    pub(crate) fn new(
+        points: Vec<RatPoint>,
+        stretches: Vec<(RatPoint, RatPoint)>,
+        tests: u64,
+    ) -> Noded
+        ensures nodes { result.nodes ≡ points.items }
+        ensures pieces { result.pieces ≡ map piece_of stretches.items }
+        ensures tests { result.tests ≡ tests }
     {
-        Noded { points, stretches }
+        Noded {
+            points,
+            stretches,
+            tests,
+        }
     }
 
     /// Lends the nodes, ascending.
@@ -43,5 +54,13 @@ impl Noded {
         ensures { map piece_of result.now ≡ self.now.pieces }
     {
         self.stretches.as_slice()
+    }
+
+    /// The number of pairs of segments whose ranges of x overlap, ends counted; it stays at the greatest u64. Other pairs
+    /// aren't tried.
+    pub fn tests(&self) -> u64
+        ensures { result ≡ self.now.tests }
+    {
+        self.tests
     }
 }

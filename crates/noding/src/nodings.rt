@@ -1,15 +1,16 @@
 //! The nodes of segments and listed positions, and the pieces between them.
 
-ghost use Rattle.std.specs.Prelude.{◌≡◌, ◌++◌, IfOk, OnOk, All, map};
+ghost use Rattle.std.specs.Prelude.{◌≡◌, ◌++◌, ◌-◌, ◌^◌, min, IfOk, OnOk, All, map};
 ghost use Rattle.geometry_model.specs.Points.{point_at};
 ghost use Rattle.geometry_model.specs.CutPoints.{IsCut, cut_points};
 ghost use Rattle.geometry_model.specs.Pieces.{IsPiece, stretches, pieces};
 ghost use Rattle.noding.specs.Nodings.{piece_of, AscendingPoints, AscendingPieces, ListsCuts, ListsPieces, IsNodeTriple, HasNodeTriples};
+ghost use Rattle.noding.specs.Ranges.{overlapping_pairs};
 
 use crate::break_points::Break;
-use crate::breaks::breaks_on;
 use crate::noded::Noded;
 use crate::orders::{points_in_order, stretches_in_order};
+use crate::sweeps::{sweep_order, swept_breaks};
 use fraction::{GridPoint, RatPoint};
 use orient::Segment;
 use std::alloc::{AllocError, Global};
@@ -52,8 +53,10 @@ fn push_stretches(
 /// that two segments not on one line share and both ends of each stretch that two segments share; and the pieces, which
 /// are the stretches of segments between neighbouring nodes on them (OGC 06-103r4, 6.1.15.2: intersection; nodes, pieces
 /// and their order: this project's choice). Both are exact and ascend, each once, and the denominators are at most 8 L L, L being the
-/// limit of coordinates. It fails only for want of memory.
+/// limit of coordinates. The segments are swept from left
+/// to right, and only those pairs are tried whose ranges of x overlap. It fails only for want of memory.
 pub fn node(alloc: Global, segments: &[Segment], listed: &[GridPoint]) -> Result<Noded, AllocError>
+    ensures tests { IfOk result (λ noded. noded.tests ≡ min (overlapping_pairs segments.now) (2 ^ 64 - 1)) }
     ensures exact_nodes { IfOk result (λ noded. noded.nodes ≡ cut_points segments.now listed.now) }
     ensures exact_pieces { IfOk result (λ noded. noded.pieces ≡ pieces (cut_points segments.now listed.now) segments.now) }
     ensures nodes { IfOk result (λ noded. All (IsCut segments.now listed.now) noded.nodes) }
@@ -65,12 +68,17 @@ pub fn node(alloc: Global, segments: &[Segment], listed: &[GridPoint]) -> Result
     ensures pieces_ascend { IfOk result (λ noded. AscendingPieces noded.pieces) }
     ensures end_triples { IfOk result (λ noded. All HasNodeTriples noded.pieces) }
 {
+    let order = sweep_order(alloc, segments)?;
+    let swept = swept_breaks(alloc, order.as_slice(), listed)?;
     let mut nodes = points_at(alloc, listed)?;
     let mut pieces = Vec::new(alloc);
-    for segment in segments {
-        let breaks = breaks_on(alloc, segment, segments, listed)?;
+    for breaks in swept.breaks.as_slice() {
         push_points(&mut nodes, breaks.as_slice())?;
         push_stretches(&mut pieces, breaks.as_slice())?;
     }
-    Ok(Noded::new(points_in_order(nodes), stretches_in_order(pieces)))
+    Ok(Noded::new(
+        points_in_order(nodes),
+        stretches_in_order(pieces),
+        swept.tests,
+    ))
 }

@@ -97,7 +97,7 @@ fn noded(alloc: Global, lines: &[(Place, Place)], places: &[Place]) -> Result<No
 fn nodes_of_segments(rt: HostRuntime) -> Result<(), Fail> {
     let alloc = rt.alloc();
     // The segments and listed positions, and the nodes.
-    let cases: [(&[(Place, Place)], &[Place], &[Numbers]); 7] = [
+    let cases: [(&[(Place, Place)], &[Place], &[Numbers]); 8] = [
         (&[], &[], &[]),
         (&[], &[(3, 1), (0, 2), (3, 1)], &[(0, 2, 1), (3, 1, 1)]),
         // Two that cross.
@@ -144,6 +144,12 @@ fn nodes_of_segments(rt: HostRuntime) -> Result<(), Fail> {
                 (2, -1, 1),
             ],
         ),
+        // One that begins at the x at which the other ends.
+        (
+            &[((0, 0), (2, 0)), ((2, -1), (2, 1))],
+            &[],
+            &[(0, 0, 1), (2, -1, 1), (2, 0, 1), (2, 1, 1)],
+        ),
         // The finest crossing.
         (
             &[
@@ -174,7 +180,7 @@ fn nodes_of_segments(rt: HostRuntime) -> Result<(), Fail> {
 fn pieces_of_segments(rt: HostRuntime) -> Result<(), Fail> {
     let alloc = rt.alloc();
     // The segments and listed positions, and the pieces.
-    let cases: [(&[(Place, Place)], &[Place], &[(Numbers, Numbers)]); 5] = [
+    let cases: [(&[(Place, Place)], &[Place], &[(Numbers, Numbers)]); 6] = [
         (&[], &[(3, 1)], &[]),
         // Two that cross.
         (
@@ -185,6 +191,16 @@ fn pieces_of_segments(rt: HostRuntime) -> Result<(), Fail> {
                 ((0, 1, 1), (6, 2, 5)),
                 ((6, 2, 5), (2, 0, 1)),
                 ((6, 2, 5), (3, 1, 1)),
+            ],
+        ),
+        // One that begins at the x at which the other ends.
+        (
+            &[((0, 0), (2, 0)), ((2, -1), (2, 1))],
+            &[],
+            &[
+                ((0, 0, 1), (2, 0, 1)),
+                ((2, -1, 1), (2, 0, 1)),
+                ((2, 0, 1), (2, 1, 1)),
             ],
         ),
         // One that ends on another.
@@ -234,5 +250,24 @@ fn pieces_of_segments(rt: HostRuntime) -> Result<(), Fail> {
             assert_eq!(rt; (numbers(&found.0), numbers(&found.1)), *expected);
         }
     }
+    Ok(())
+}
+
+#[test]
+fn pairs_tried(rt: HostRuntime) -> Result<(), Fail> {
+    let alloc = rt.alloc();
+    let square = [
+        ((0, 0), (4, 0)),
+        ((4, 0), (4, 4)),
+        ((4, 4), (0, 4)),
+        ((0, 4), (0, 0)),
+    ];
+    assert_eq!(rt; noded(alloc, &square, &[])?.tests(), 5);
+    // A thousand that lie apart, from left to right.
+    let mut segments = Vec::new(alloc);
+    for place in 0..1000 {
+        segments.push(segment(((3 * place, 0), (3 * place + 1, 1)))?)?;
+    }
+    assert_eq!(rt; node(alloc, segments.as_slice(), &[])?.tests(), 0);
     Ok(())
 }

@@ -1,7 +1,14 @@
-//! Where points stand in a geometry. Nothing here takes memory.
+//! Where points stand in a geometry, and the labels of the nodes, the pieces and their sides of two geometries.
 #![tactic(auto)]
 
+mod crossings;
+pub mod label_lists;
+pub mod labelling;
 pub mod location;
+pub mod sides;
 
 pub use geometry_model::Location;
+pub use label_lists::{Label, Labels, SideLabels};
+pub use labelling::labels;
 pub use location::locate;
+pub use sides::{above, below};

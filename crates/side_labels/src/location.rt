@@ -2,23 +2,29 @@
 
 ghost use Rattle.std.specs.Prelude.{◌≡◌};
 ghost use Rattle.std.specs.List.{list_any};
-ghost use Rattle.geometry_model.specs.Geometries.{kind};
+ghost use Rattle.geometry_model.specs.Geometries.{edges_of_lines};
 ghost use Rattle.geometry_model.specs.Locations as spec;
+ghost use Rattle.geometry_model.specs.Sides.{on};
 
+use crate::crossings::{is_odd_above, is_odd_end};
 use fraction::{GridPoint, RatPoint};
 use geometry_model::{Kind, Location};
+use orient::{Segment, on};
 use validity::Valid;
+use wkt::LineString;
 
-/// Where a point stands in a geometry of points (06-103r4, 6.1.15.2). Of points the listed ones are the interior, and the boundary
-/// is empty (06-103r4, 6.1.4 and 6.1.5).
+/// Where a point stands in a geometry (06-103r4, 6.1.15.2). Of points the listed ones are the interior, and the boundary
+/// is empty (6.1.4 and 6.1.5). Of lines the boundary is the points at which an odd number of element ends stand, and the
+/// interior is the rest of them (6.1.8.1: the mod 2 rule). Of an area the boundary is its rings, and the interior what is
+/// inside an odd number of them (6.1.11.1 and 6.1.14). It takes no memory.
 pub fn locate(valid: &Valid, p: &RatPoint) -> Location
-    requires { kind valid.now ≡ Kind.Point }
     ensures { result ≡ spec.locate valid.now p.now }
 {
     let geometry = valid.geometry();
-    match geometry.kind() {
+    match valid.kind() {
         Kind::Point => locate_in_points(geometry.listed(), p),
-        Kind::Line | Kind::Area => unreachable!("asked of points alone"),
+        Kind::Line => locate_in_lines(geometry.lines(), valid.segments(), p),
+        Kind::Area => locate_in_rings(geometry.lines(), valid.segments(), p),
     }
 }
 
@@ -33,6 +39,34 @@ fn locate_in_points(listed: &[GridPoint], p: &RatPoint) -> Location
     }
 }
 
+/// Where a point stands in the geometry of these lines, whose edges come along.
+fn locate_in_lines(lines: &[LineString], segments: &[Segment], p: &RatPoint) -> Location
+    requires { segments.now ≡ edges_of_lines lines.now }
+    ensures { result ≡ spec.in_lines lines.now p.now }
+{
+    if is_odd_end(lines, p) {
+        Location::Boundary
+    } else if is_on_some(segments, p) {
+        Location::Interior
+    } else {
+        Location::Exterior
+    }
+}
+
+/// Where a point stands in the area of these rings, whose edges come along.
+fn locate_in_rings(rings: &[LineString], segments: &[Segment], p: &RatPoint) -> Location
+    requires { segments.now ≡ edges_of_lines rings.now }
+    ensures { result ≡ spec.in_rings rings.now p.now }
+{
+    if is_on_some(segments, p) {
+        Location::Boundary
+    } else if is_odd_above(segments, p) {
+        Location::Interior
+    } else {
+        Location::Exterior
+    }
+}
+
 /// Whether the point stands at one of these positions.
 fn is_listed(listed: &[GridPoint], p: &RatPoint) -> bool
     ensures { result ≡ list_any (spec.stands_at p.now) listed.now }
@@ -40,4 +74,11 @@ fn is_listed(listed: &[GridPoint], p: &RatPoint) -> bool
     listed
         .iter()
         .any(|position| RatPoint::of_grid(*position) == *p)
+}
+
+/// Whether the point lies on some of these segments.
+fn is_on_some(segments: &[Segment], p: &RatPoint) -> bool
+    ensures { result ≡ list_any (λ e. on e p.now) segments.now }
+{
+    segments.iter().any(|segment| on(segment, p))
 }

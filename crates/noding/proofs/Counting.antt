@@ -1,0 +1,138 @@
+-- How many pairs of edges have overlapping ranges of x: counted edge by edge, and in another order.
+use Rattle.std.proofs.Common.{◌≡◌, ℕ, zero, suc, ◌+◌, ◌-◌, ◌^◌, ◌<◌, ◌≤◌, min, Bool, true, false, cond, ◌&&◌, refl, sym, ap, ap₂, ◌∙◌, List, [], ◌∷◌, length, get_or, drop, count_by, length-drop, ℤ, ◌≤ℤ◌, int_le, arith, IsPermutation}
+use Rattle.std.specs.List.{sum_by}
+use Rattle.std.proofs.lemmas.Int.{ints}
+use Rattle.std.proofs.Math.Seq.{drop-cons}
+use Rattle.std.proofs.lemmas.List.{get_or-drop}
+use Rattle.std.proofs.lemmas.List.Sums.{sum_by-cons, sum_by-drop_more}
+use Rattle.std.proofs.lemmas.List.Sorted.{sum_by-IsPermutation, length_permutation}
+use Rattle.integers.proofs.Signs.{at_most_yes}
+use Rattle.geometry_model.specs.Geometries.{Edge}
+use Rattle.geometry_laws.proofs.Each.{Each, Among, each_of}
+use Rattle.noding.specs.Ranges.{lesser, greater, overlap, x_ranges_overlap, overlaps_with_first, overlaps_of_first, overlapping_pairs}
+use Rattle.noding.proofs.Sweeping.{lesser_first, greater_first}
+
+-- ---- sums
+sum_is : {X : Type 0} (f g : X → ℕ) (xs : List X) → ((x : X) → f x ≡ g x) → sum_by f xs ≡ sum_by g xs
+sum_is f g [] h = refl
+sum_is f g (x ∷ xs) h = sum_by-cons f x xs ∙ ap₂ (λ m n. m + n) (h x) (sum_is f g xs h) ∙ sym (sum_by-cons g x xs)
+
+sum_of_two : {X : Type 0} (f g : X → ℕ) (xs : List X) → sum_by (λ x. f x + g x) xs ≡ sum_by f xs + sum_by g xs
+sum_of_two f g [] = refl
+sum_of_two f g (x ∷ xs) = sum_by-cons (λ y. f y + g y) x xs ∙ ap (λ n. f x + g x + n) (sum_of_two f g xs) ∙ exchanged (f x) (g x) (sum_by f xs) (sum_by g xs)
+    ∙ sym (ap₂ (λ m n. m + n) (sum_by-cons f x xs) (sum_by-cons g x xs))
+  where
+    exchanged : (a b c d : ℕ) → a + b + (c + d) ≡ a + c + (b + d)
+    exchanged a b c d = omega arith
+
+bit : Bool → ℕ
+bit b = cond b 1 0
+
+count_is_sum : {X : Type 0} (p : X → Bool) (xs : List X) → count_by p xs ≡ sum_by (λ x. cond (p x) 1 0) xs
+count_is_sum p xs = refl
+
+-- ---- the pairs in another order
+and_turned : (a b : Bool) → a && b ≡ b && a
+and_turned true true = refl
+and_turned true false = refl
+and_turned false true = refl
+and_turned false false = refl
+
+overlap_turned : (e f : Edge) → x_ranges_overlap e f ≡ x_ranges_overlap f e
+overlap_turned e f = and_turned (int_le (lesser e.start.x e.end.x) (greater f.start.x f.end.x)) (int_le (lesser f.start.x f.end.x) (greater e.start.x e.end.x))
+
+overlaps_itself : (e : Edge) → x_ranges_overlap e e ≡ true
+overlaps_itself e = ap (λ b. b && b) (at_most_yes (lesser e.start.x e.end.x) (greater e.start.x e.end.x) (chain (lesser e.start.x e.end.x) e.start.x (greater e.start.x e.end.x) (lesser_first e.start.x e.end.x) (greater_first e.start.x e.end.x)))
+  where
+    chain : (x y z : ℤ) → x ≤ℤ y → y ≤ℤ z → x ≤ℤ z
+    chain x y z p q = omega (arith, ints)
+
+-- with each edge of the list, itself among them
+with_all : List Edge → ℕ
+with_all es = sum_by (λ e. count_by (x_ranges_overlap e) es) es
+
+twice : (es : List Edge) → with_all es ≡ overlapping_pairs es + overlapping_pairs es + length es
+unfolding with_all
+twice [] = refl
+twice (e ∷ es) =
+    sum_by-cons (λ x. count_by (x_ranges_overlap x) (e ∷ es)) e es
+    ∙ ap₂ (λ m n. m + n) of_first (of_others (twice es))
+    ∙ put_together (count_by (x_ranges_overlap e) es) (overlapping_pairs es) (length es)
+  where
+    of_first : count_by (x_ranges_overlap e) (e ∷ es) ≡ 1 + count_by (x_ranges_overlap e) es
+    of_first = sum_by-cons (λ x. cond (x_ranges_overlap e x) 1 0) e es ∙ ap (λ b. cond b 1 0 + count_by (x_ranges_overlap e) es) (overlaps_itself e)
+
+    of_one : (x : Edge) → count_by (x_ranges_overlap x) (e ∷ es) ≡ cond (x_ranges_overlap e x) 1 0 + count_by (x_ranges_overlap x) es
+    of_one x = sum_by-cons (λ y. cond (x_ranges_overlap x y) 1 0) e es ∙ ap (λ b. cond b 1 0 + count_by (x_ranges_overlap x) es) (overlap_turned x e)
+
+    of_others : with_all es ≡ overlapping_pairs es + overlapping_pairs es + length es → sum_by (λ x. count_by (x_ranges_overlap x) (e ∷ es)) es ≡ count_by (x_ranges_overlap e) es + (overlapping_pairs es + overlapping_pairs es + length es)
+    of_others h = sum_is (λ x. count_by (x_ranges_overlap x) (e ∷ es)) (λ x. cond (x_ranges_overlap e x) 1 0 + count_by (x_ranges_overlap x) es) es of_one
+        ∙ sum_of_two (λ x. cond (x_ranges_overlap e x) 1 0) (λ x. count_by (x_ranges_overlap x) es) es
+        ∙ ap (λ n. count_by (x_ranges_overlap e) es + n) h
+
+    put_together : (m n l : ℕ) → 1 + m + (m + (n + n + l)) ≡ (m + n) + (m + n) + suc l
+    put_together m n l = omega arith
+
+pub pairs_in_order : (es fs : List Edge) → IsPermutation es fs → overlapping_pairs fs ≡ overlapping_pairs es
+unfolding with_all
+pairs_in_order es fs h = halved (overlapping_pairs fs) (overlapping_pairs es) (length fs) (length es) (length_permutation es fs h)
+    (sym (twice fs) ∙ same ∙ twice es)
+  where
+    halved : (a b n m : ℕ) → n ≡ m → a + a + n ≡ b + b + m → a ≡ b
+    halved a b n m e g = omega arith
+
+    same : with_all fs ≡ with_all es
+    same = sum_is (λ e. count_by (x_ranges_overlap e) fs) (λ e. count_by (x_ranges_overlap e) es) fs (λ e. sum_by-IsPermutation (λ x. cond (x_ranges_overlap e x) 1 0) es fs h)
+        ∙ sum_by-IsPermutation (λ e. count_by (x_ranges_overlap e) es) es fs h
+
+-- ---- edge by edge
+past_end : {X : Type 0} (xs : List X) (n : ℕ) → length xs ≤ n → drop n xs ≡ []
+past_end [] zero h = refl
+past_end [] (suc n) h = refl
+past_end (x ∷ xs) zero h = absurd (omega (arith, h))
+past_end (x ∷ xs) (suc n) h = past_end xs n (omega (arith, h))
+
+one_more : (i : ℕ) → i + 1 ≡ suc i
+one_more i = omega arith
+
+from_place : (es : List Edge) (i : ℕ) (e : Edge) → i < length es → e ≡ get_or es i e → drop i es ≡ e ∷ drop (i + 1) es
+from_place es i e l g = drop-cons es i e l ∙ ap₂ (λ (x : Edge) n. x ∷ drop n es) (sym g) (sym (one_more i))
+
+pub count_begins : (es : List Edge) (i : ℕ) (e : Edge) → i < length es → e ≡ get_or es i e → overlaps_with_first (drop i es) (drop (i + 1) es) ≡ overlaps_of_first (drop i es)
+count_begins es i e l g = ap (λ xs. overlaps_with_first xs (drop (i + 1) es)) (from_place es i e l g) ∙ sym (ap overlaps_of_first (from_place es i e l g))
+
+pub count_goes_on : (es : List Edge) (i j : ℕ) (e f : Edge) → i < length es → e ≡ get_or es i e → j < length es → f ≡ get_or es j f → x_ranges_overlap e f ≡ true
+    → overlaps_with_first (drop i es) (drop j es) ≡ 1 + overlaps_with_first (drop i es) (drop (j + 1) es)
+count_goes_on es i j e f l g k h o =
+    ap (λ xs. overlaps_with_first xs (drop j es)) (from_place es i e l g)
+    ∙ ap (count_by (x_ranges_overlap e)) (from_place es j f k h)
+    ∙ sum_by-cons (λ x. cond (x_ranges_overlap e x) 1 0) f (drop (j + 1) es)
+    ∙ ap (λ b. cond b 1 0 + count_by (x_ranges_overlap e) (drop (j + 1) es)) o
+    ∙ ap (λ xs. 1 + overlaps_with_first xs (drop (j + 1) es)) (sym (from_place es i e l g))
+
+none_counted : (e : Edge) (fs : List Edge) → ((k : ℕ) (d : Edge) → k < length fs → x_ranges_overlap e (get_or fs k d) ≡ false) → count_by (x_ranges_overlap e) fs ≡ 0
+none_counted e [] h = refl
+none_counted e (f ∷ fs) h = sum_by-cons (λ x. cond (x_ranges_overlap e x) 1 0) f fs ∙ ap₂ (λ b n. cond b 1 0 + n) (h 0 f (omega arith)) (none_counted e fs (λ k d l. h (suc k) d (omega (arith, l))))
+
+dropped_at : (es : List Edge) (j k : ℕ) (d : Edge) → get_or (drop j es) k d ≡ get_or es (j + k) d
+dropped_at es j k d = simp get_or-drop
+
+pub count_ends : (es : List Edge) (i j : ℕ) (e : Edge) → i < length es → e ≡ get_or es i e → ((k : ℕ) (d : Edge) → j ≤ k → k < length es → x_ranges_overlap e (get_or es k d) ≡ false) → overlaps_with_first (drop i es) (drop j es) ≡ 0
+count_ends es i j e l g none = ap (λ xs. overlaps_with_first xs (drop j es)) (from_place es i e l g)
+    ∙ none_counted e (drop j es) (λ k d m. ap (x_ranges_overlap e) (dropped_at es j k d) ∙ none (j + k) d (omega arith) (omega (arith, m, length-drop j es)))
+
+pub pairs_go_on : (es : List Edge) (i : ℕ) (e : Edge) → i < length es → e ≡ get_or es i e → overlapping_pairs (drop i es) ≡ overlaps_of_first (drop i es) + overlapping_pairs (drop (i + 1) es)
+pairs_go_on es i e l g = ap overlapping_pairs (from_place es i e l g) ∙ sym (ap (λ xs. overlaps_of_first xs + overlapping_pairs (drop (i + 1) es)) (from_place es i e l g))
+
+pub no_pairs : (es : List Edge) (i : ℕ) → length es ≤ i → overlapping_pairs (drop i es) ≡ 0
+no_pairs es i h = ap overlapping_pairs (past_end es i h)
+
+-- ---- a count that stays at the greatest number
+pub count_step : (m t u c d a : ℕ) → u ≡ min (t + 1) m → c ≡ 1 + d → min (t + c) m ≡ a → min (u + d) m ≡ a
+count_step m t u c d a e f g = grind arith
+
+pub count_over : (m t u c d a : ℕ) → u ≡ min (t + c) m → a ≡ c + d → min (u + d) m ≡ min (t + a) m
+count_over m t u c d a e f = grind arith
+
+pub count_done : (m t c a : ℕ) → t ≤ m → c ≡ 0 → min (t + c) m ≡ a → t ≡ a
+count_done m t c a h e f = grind arith
