@@ -1,0 +1,4 @@
+pub mod EdgeSides
+pub mod RunSums
+pub mod Telling
+pub mod Floors
