@@ -1,6 +1,6 @@
 //! The list of boxes over consecutive edges, and what is asked of it.
 
-ghost use Rattle.std.specs.Prelude.{◌≡◌, ◌≤◌, ◌<◌, length, List, IfOk, OnOk, drop};
+ghost use Rattle.std.specs.Prelude.{◌≡◌, ◌≤◌, ◌<◌, length, List, IfOk, slice_range};
 ghost use Rattle.geometry_model.specs.Geometries.{Edge};
 ghost use Rattle.edge_boxes.specs.Cells.{IsCellOf};
 ghost use Rattle.edge_boxes.specs.EdgeCrossings.{AreCrossings};
@@ -63,6 +63,15 @@ fn covered(boxes: &[EdgeBox], place: usize) -> usize
     }
 }
 
+/// The edges from one place up to another.
+fn run_of(edges: &[Segment], first: usize, end: usize) -> &[Segment]
+    requires ordered { first ≤ end }
+    requires within { end ≤ length edges.now }
+    ensures { result.now ≡ slice_range edges.now first end }
+{
+    &edges[first..end]
+}
+
 /// How the point lies to the edges, from the last box to the first.
 fn crossings_among(boxes: &[EdgeBox], edges: &[Segment], point: &RatPoint) -> Crossings
     requires { AreBoxes boxes.now edges.now }
@@ -70,7 +79,8 @@ fn crossings_among(boxes: &[EdgeBox], edges: &[Segment], point: &RatPoint) -> Cr
 {
     let cell = Cell::of(point);
     let mut place = boxes.len();
-    let mut found = of_edges(&edges[covered(boxes, place)..], point, &cell);
+    let uncovered = run_of(edges, covered(boxes, place), edges.len());
+    let mut found = of_edges(uncovered, point, &cell);
     while place > 0 {
         let (next, own) = step(boxes, edges, place, point, &cell);
         found = own.join(found);
@@ -80,7 +90,13 @@ fn crossings_among(boxes: &[EdgeBox], edges: &[Segment], point: &RatPoint) -> Cr
 }
 
 /// How the point lies to the edges between the place before this one that is looked at next and this one.
-fn step(boxes: &[EdgeBox], edges: &[Segment], place: usize, point: &RatPoint, cell: &Cell) -> (usize, Crossings)
+fn step(
+    boxes: &[EdgeBox],
+    edges: &[Segment],
+    place: usize,
+    point: &RatPoint,
+    cell: &Cell,
+) -> (usize, Crossings)
     requires boxes { AreBoxes boxes.now edges.now }
     requires first { 0 < place }
     requires last { place ≤ length boxes.now }
@@ -91,7 +107,7 @@ fn step(boxes: &[EdgeBox], edges: &[Segment], place: usize, point: &RatPoint, ce
     match told(&last.run, cell) {
         Some(crossings) => (place - 1 - last.size as usize, crossings),
         None if last.size == 0 => {
-            let leaf = &edges[covered(boxes, place - 1)..last.end as usize];
+            let leaf = run_of(edges, covered(boxes, place - 1), last.end as usize);
             (place - 1, of_edges(leaf, point, cell))
         }
         None => (place - 1, none()),

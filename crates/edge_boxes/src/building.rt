@@ -25,9 +25,10 @@ pub(crate) fn boxes_over(alloc: Global, edges: &[Segment]) -> Result<Vec<EdgeBox
     ensures { IfOk result (λ boxes. AreBoxes boxes.items edges.now) }
 {
     let mut boxes = Vec::new(alloc);
-    if edges.len() > FEW_EDGES {
-        push_boxes(&mut boxes, edges)?;
+    if edges.len() <= FEW_EDGES {
+        return Ok(boxes);
     }
+    push_boxes(&mut boxes, edges)?;
     Ok(boxes)
 }
 
