@@ -1,0 +1,30 @@
+-- Boxes at their places, and what stays as the list grows.
+use Rattle.std.proofs.Common.{ℕ, zero, suc, ◌+◌, ◌-◌, ◌<◌, ◌≤◌, ◌≡◌, ◌⊎◌, inl, inr, List, [], ◌∷◌, ◌++◌, length, drop, take, get_or, Option, Some, None, refl, sym, ap, ◌∙◌, subst, arith}
+use Rattle.std.specs.Prelude.{slice_get, slice_range}
+use Rattle.std.proofs.lemmas.Option.{slice_get_read, slice_get_within, slice_get-get_or}
+use Rattle.std.proofs.lemmas.List.{take-append-drop, drop-drop}
+use Rattle.geometry_model.specs.Geometries.{Edge}
+use Rattle.edge_boxes.specs.BoxLists.{end_of, covered, IsRun, IsBoxAt, AreBoxes}
+use Rattle.edge_boxes.specs.declared.boxes.EdgeBox.{EdgeBox}
+
+-- a part of a list and what comes after it
+pub run_then_rest : {X : Type 0} (xs : List X) (first end : ℕ) → first ≤ end → drop first xs ≡ slice_range xs first end ++ drop end xs
+run_then_rest xs first end h =
+    let e : first + (end - first) ≡ end = omega (arith, h) in
+    sym (take-append-drop (end - first) (drop first xs)) ∙ ap (λ l. take (end - first) (drop first xs) ++ l) (drop-drop (end - first) first xs ∙ ap (λ n. drop n xs) e)
+
+-- ---- the box before a place
+pub found_before : (boxes : List EdgeBox) (place : ℕ) (b : EdgeBox) → 0 < place → place ≤ length boxes → b ≡ get_or boxes (place - 1) b → slice_get boxes (place - 1) ≡ Some b
+found_before boxes place b h k is = slice_get_read boxes (length boxes) (place - 1) b refl (omega (arith, h, k)) is
+
+pub covered_before : (boxes : List EdgeBox) (place : ℕ) (b : EdgeBox) → 0 < place → slice_get boxes (place - 1) ≡ Some b → covered boxes place ≡ b.end
+covered_before boxes zero b h e = absurd (omega (arith, h))
+covered_before boxes (suc i) b h e = let less : suc i - 1 ≡ i = omega arith in ap end_of (ap (slice_get boxes) (sym less) ∙ e)
+
+pub covered_within : (boxes : List EdgeBox) (edges : List Edge) (place : ℕ) → AreBoxes boxes edges → place ≤ length boxes → covered boxes place ≤ length edges
+covered_within boxes edges zero are h = omega arith
+covered_within boxes edges (suc i) are h = go (slice_get boxes i) refl
+  where
+    go : (o : Option EdgeBox) → slice_get boxes i ≡ o → end_of o ≤ length edges
+    go None e = omega arith
+    go (Some b) e = (are i b e).run.within

@@ -1,0 +1,111 @@
+-- The floor and the ceiling of a quotient.
+use Rattle.std.proofs.Common.{true, false, ℕ, suc, ◌+◌, ◌*◌, ◌/◌, ◌%◌, ◌<◌, ◌≤◌, ℤ, pos, negsuc, ◌+ℤ◌, ◌-ℤ◌, ◌*ℤ◌, ◌≤ℤ◌, ◌<ℤ◌, int_le, ◌≡◌, ◌⊎◌, inl, inr, refl, sym, ap, ◌∙◌, [], ◌∷◌, arith}
+use borrow.Author.Differences.{ints}
+use Rattle.std.specs.Prelude.{unsigned_abs}
+use Rattle.std.specs.Int.{int_div_euclid}
+use Rattle.std.proofs.Math.Nat.{div-add-mod, mod-lt}
+use mir.Syntax.{w32}
+use mir.Val.{SFits}
+use Rattle.geometry_model.specs.WellKnownText.{coordinate_limit}
+use Rattle.fraction.specs.Ranges.{denominator_limit}
+use Rattle.integers.proofs.Ring.{solve, var, lit, ◌⊕◌, ◌⊖◌, ◌⊗◌}
+use Rattle.integers.proofs.Signs.{plus_plus, at_most_or_less, same_at_most, at_most_yes, at_most_no, at_most_from, not_at_most_from}
+use Rattle.edge_boxes.specs.Cells.{IsFloor, IsCeiling}
+
+weak : (x : ℤ) → pos 0 <ℤ x → pos 0 ≤ℤ x
+weak x h = omega (arith, ints)
+
+-- a floor is what its multiple and the next one tell
+by_multiples : (n w q : ℤ) → pos 0 <ℤ w → (q *ℤ w) ≤ℤ n → n <ℤ (q *ℤ w +ℤ w) → IsFloor n w q
+by_multiples n w q hw low high a = same_at_most (a *ℤ w) n a q (λ h. go h (at_most_or_less a q))
+    (λ h. into (a *ℤ w) (q *ℤ w) ((q -ℤ a) *ℤ w) (solve (q ∷ a ∷ w ∷ []) ((var 0 ⊖ var 1) ⊗ var 2) (var 0 ⊗ var 2 ⊖ var 1 ⊗ var 2) tt) (plus_plus (q -ℤ a) w (gap a q h) (weak w hw)) low)
+  where
+    gap : (a q : ℤ) → a ≤ℤ q → pos 0 ≤ℤ (q -ℤ a)
+    gap a q h = omega (arith, ints)
+
+    into : (s t d : ℤ) → d ≡ t -ℤ s → pos 0 ≤ℤ d → t ≤ℤ n → s ≤ℤ n
+    into s t d e h k = omega (arith, ints)
+
+    beyond : (a q : ℤ) → q <ℤ a → pos 0 ≤ℤ (a -ℤ q -ℤ pos 1)
+    beyond a q h = omega (arith, ints)
+
+    apart : (s t d : ℤ) → d ≡ s -ℤ t -ℤ w → pos 0 ≤ℤ d → s ≤ℤ n → n <ℤ (t +ℤ w) → ⊥
+    apart s t d e h k l = omega (arith, ints)
+
+    go : (a *ℤ w) ≤ℤ n → (a ≤ℤ q) ⊎ (q <ℤ a) → a ≤ℤ q
+    go h (inl l) = l
+    go h (inr l) = absurd (apart (a *ℤ w) (q *ℤ w) ((a -ℤ q -ℤ pos 1) *ℤ w) (solve (a ∷ q ∷ w ∷ []) ((var 0 ⊖ var 1 ⊖ lit (pos 1)) ⊗ var 2) (var 0 ⊗ var 2 ⊖ var 1 ⊗ var 2 ⊖ var 2) tt)
+        (plus_plus (a -ℤ q -ℤ pos 1) w (beyond a q l) (weak w hw)) h high)
+
+pub floor_over_one : (n w q : ℤ) → w ≡ pos 1 → q ≡ n → IsFloor n w q
+floor_over_one n w q e f = rw (e, f) (λ a. ap (λ (z : ℤ). int_le z n) (solve (a ∷ []) (var 0 ⊗ lit (pos 1)) (var 0) tt))
+
+-- ---- the quotient rounded down
+low_pos : (a b : ℕ) → (pos (a / b) *ℤ pos b) ≤ℤ pos a
+low_pos a b = let e : b * (a / b) + a % b ≡ a = div-add-mod a b in omega (arith, ints, e)
+
+high_pos : (a b : ℕ) → 0 < b → pos a <ℤ (pos (a / b) *ℤ pos b +ℤ pos b)
+high_pos a b h = let e : b * (a / b) + a % b ≡ a = div-add-mod a b in let f : a % b < b = mod-lt a h in omega (arith, ints, e, f)
+
+low_neg : (a b : ℕ) → 0 < b → (negsuc (a / b) *ℤ pos b) ≤ℤ negsuc a
+low_neg a b h = let e : b * (a / b) + a % b ≡ a = div-add-mod a b in let f : a % b < b = mod-lt a h in omega (arith, ints, e, f)
+
+high_neg : (a b : ℕ) → negsuc a <ℤ (negsuc (a / b) *ℤ pos b +ℤ pos b)
+high_neg a b = let e : b * (a / b) + a % b ≡ a = div-add-mod a b in omega (arith, ints, e)
+
+above_zero : (b : ℕ) → pos 0 <ℤ pos b → 0 < b
+above_zero b h = omega (arith, ints, h)
+
+pub euclid_floor : (n w : ℤ) → pos 0 <ℤ w → IsFloor n w (int_div_euclid n w)
+euclid_floor (pos a) (pos b) h = by_multiples (pos a) (pos b) (pos (a / b)) h (low_pos a b) (high_pos a b (above_zero b h))
+euclid_floor (negsuc a) (pos b) h = by_multiples (negsuc a) (pos b) (negsuc (a / b)) h (low_neg a b (above_zero b h)) (high_neg a b)
+euclid_floor n (negsuc b) h = absurd (omega (arith, ints, h))
+
+-- ---- the floor of a quotient within the limit of coordinates
+pub floor_short : (n w q : ℤ) → pos 0 <ℤ w → unsigned_abs n ≤ coordinate_limit * unsigned_abs w → IsFloor n w q → unsigned_abs q ≤ coordinate_limit
+floor_short n w q hw h is = both q (from (is (negsuc 9999999)) (least n w hw h)) (upper (is (pos 10000001)) (beyond n w hw h))
+  where
+    least : (n w : ℤ) → pos 0 <ℤ w → unsigned_abs n ≤ coordinate_limit * unsigned_abs w → int_le (negsuc 9999999 *ℤ w) n ≡ true
+    least n w hw h = at_most_yes (negsuc 9999999 *ℤ w) n (omega (arith, ints, hw, h))
+
+    beyond : (n w : ℤ) → pos 0 <ℤ w → unsigned_abs n ≤ coordinate_limit * unsigned_abs w → int_le (pos 10000001 *ℤ w) n ≡ false
+    beyond n w hw h = at_most_no (pos 10000001 *ℤ w) n (omega (arith, ints, hw, h))
+
+    from : int_le (negsuc 9999999 *ℤ w) n ≡ int_le (negsuc 9999999) q → int_le (negsuc 9999999 *ℤ w) n ≡ true → negsuc 9999999 ≤ℤ q
+    from e f = at_most_from (negsuc 9999999) q (sym e ∙ f)
+
+    upper : int_le (pos 10000001 *ℤ w) n ≡ int_le (pos 10000001) q → int_le (pos 10000001 *ℤ w) n ≡ false → q <ℤ pos 10000001
+    upper e f = not_at_most_from (pos 10000001) q (sym e ∙ f)
+
+    both : (q : ℤ) → negsuc 9999999 ≤ℤ q → q <ℤ pos 10000001 → unsigned_abs q ≤ coordinate_limit
+    both q h k = omega (arith, ints, h, k)
+
+pub short_fits : (q : ℤ) → unsigned_abs q ≤ coordinate_limit → SFits w32 q
+short_fits q h = omega (arith, ints, h)
+
+-- ---- ceilings by floors
+pub negative_fits : (q : ℤ) → unsigned_abs q ≤ coordinate_limit → SFits w32 (pos 0 -ℤ q)
+negative_fits q h = omega (arith, ints, h)
+
+pub opposite_bound : (n w : ℤ) → pos 0 <ℤ w → unsigned_abs n ≤ coordinate_limit * unsigned_abs w → w ≤ℤ pos denominator_limit → unsigned_abs n ≤ coordinate_limit * denominator_limit
+opposite_bound n w hw h k = omega (arith, ints, hw, h, k)
+
+pub opposite_within : (n m w : ℤ) → m ≡ pos 0 -ℤ n → unsigned_abs n ≤ coordinate_limit * unsigned_abs w → unsigned_abs m ≤ coordinate_limit * unsigned_abs w
+opposite_within n m w e h = omega (arith, ints, e, h)
+
+pub ceiling_from : (n w m q : ℤ) → m ≡ pos 0 -ℤ n → IsFloor m w q → IsCeiling n w (pos 0 -ℤ q)
+ceiling_from n w m q o is a = turned n (a *ℤ w) m ((pos 0 -ℤ a) *ℤ w) o (solve (a ∷ w ∷ []) ((lit (pos 0) ⊖ var 0) ⊗ var 1) (lit (pos 0) ⊖ var 0 ⊗ var 1) tt)
+    ∙ is (pos 0 -ℤ a) ∙ turned (pos 0 -ℤ a) q a (pos 0 -ℤ q) (twice a) refl
+  where
+    twice : (a : ℤ) → a ≡ pos 0 -ℤ (pos 0 -ℤ a)
+    twice a = omega (arith, ints)
+
+    turned : (s t s' t' : ℤ) → s' ≡ pos 0 -ℤ s → t' ≡ pos 0 -ℤ t → int_le s t ≡ int_le t' s'
+    turned s t s' t' e f = grind (arith, ints)
+
+-- ---- of numbers read where they come from
+pub floor_as : (n w q n' w' q' : ℤ) → n ≡ n' → w ≡ w' → q ≡ q' → IsFloor n w q → IsFloor n' w' q'
+floor_as n w q n' w' q' e f g h = rw (← e, ← f, ← g) h
+
+pub ceiling_as : (n w q n' w' q' : ℤ) → n ≡ n' → w ≡ w' → q ≡ q' → IsCeiling n w q → IsCeiling n' w' q'
+ceiling_as n w q n' w' q' e f g h = rw (← e, ← f, ← g) h

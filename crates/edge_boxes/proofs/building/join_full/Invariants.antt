@@ -1,0 +1,9 @@
+use Rattle.edge_boxes.specs.Builds.{KeepsBoxes}
+use Rattle.edge_boxes.proofs.building.join_full.Given as goal
+
+-- so far the boxes stay those of their edges
+abbrev pub invariant-loop-left : goal.invariant-loop-left
+invariant-loop-left l = KeepsBoxes l.initial.boxes.items l.boxes.items
+
+abbrev pub decreases-loop-left : goal.decreases-loop-left
+decreases-loop-left l = l.left

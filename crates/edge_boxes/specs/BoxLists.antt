@@ -1,0 +1,39 @@
+-- Lists of boxes over consecutive edges. Each box stands behind those of its subtree, which it counts.
+use Rattle.std.specs.Prelude.{◌≡◌, ◌⊎◌, ℕ, zero, suc, ◌-◌, ◌≤◌, List, ◌++◌, length, drop, Option, Some, None, slice_get}
+use Rattle.geometry_model.specs.Geometries.{Edge}
+use Rattle.edge_boxes.specs.Runs.{SumsUp}
+use Rattle.edge_boxes.specs.declared.runs.Run.{Run}
+use Rattle.edge_boxes.specs.declared.boxes.EdgeBox.{EdgeBox}
+use Rattle.edge_boxes.specs.declared.boxes.EdgeBoxes.{EdgeBoxes}
+
+-- where a box's run ends
+abbrev pub end_of : Option EdgeBox → ℕ
+end_of None = 0
+end_of (Some b) = b.end
+
+-- up to which edge the boxes before a place go
+abbrev pub covered : List EdgeBox → ℕ → ℕ
+covered boxes zero = 0
+covered boxes (suc place) = end_of (slice_get boxes place)
+
+-- the edges from one place up to another are summed up by the run
+pub record IsRun (edges : List Edge) (run : Run) (first end : ℕ) : Type 0 where
+  pub own : List Edge
+  pub split : drop first edges ≡ own ++ drop end edges
+  pub sums : SumsUp run own
+  pub ordered : first ≤ end
+  pub within : end ≤ length edges
+
+-- at its place the box stands behind its subtree, with the run of all edges of it
+pub record IsBoxAt (edges : List Edge) (boxes : List EdgeBox) (place : ℕ) (b : EdgeBox) : Type 0 where
+  pub subtree : b.size ≤ place
+  pub run : IsRun edges b.run (covered boxes (place - b.size)) b.end
+  pub last : (b.size ≡ 0) ⊎ (covered boxes place ≡ b.end)
+
+-- each box is one of the edges' runs
+abbrev pub AreBoxes : List EdgeBox → List Edge → Type 0
+AreBoxes boxes edges = (place : ℕ) (b : EdgeBox) → slice_get boxes place ≡ Some b → IsBoxAt edges boxes place b
+
+-- the boxes are those of the edges
+abbrev pub BoxesOf : EdgeBoxes → List Edge → Type 0
+BoxesOf s edges = AreBoxes s.boxes.items edges

@@ -1,0 +1,28 @@
+-- Lists of boxes that grow, whatever edges they are over.
+use Rattle.std.specs.Prelude.{◌≡◌, ◌⊎◌, ℕ, ◌<◌, ◌≤◌, List, length}
+use Rattle.geometry_model.specs.Geometries.{Edge}
+use Rattle.edge_boxes.specs.BoxLists.{AreBoxes, IsBoxAt, IsRun, covered}
+use Rattle.edge_boxes.specs.declared.runs.Run.{Run}
+use Rattle.edge_boxes.specs.declared.boxes.EdgeBox.{EdgeBox}
+
+-- up to which edge all boxes go
+abbrev pub covered_by_all : List EdgeBox → ℕ
+covered_by_all boxes = covered boxes (length boxes)
+
+-- boxes of some edges stay so, and go as far
+abbrev pub KeepsBoxes : List EdgeBox → List EdgeBox → Type 0
+KeepsBoxes old new = (edges : List Edge) → AreBoxes old edges → AreBoxes new edges × (covered_by_all new ≡ covered_by_all old)
+
+-- the next leaf begins where the boxes end, or there are no more
+pub record IsNextFirst (boxes : List EdgeBox) (edges : List Edge) (first next : ℕ) : Type 0 where
+  pub later : first < next
+  pub from : (covered_by_all boxes ≡ next) ⊎ (length edges ≡ next)
+  pub within : next ≤ length edges
+
+-- the box may follow these boxes, and goes as far
+abbrev pub IsNextBox : List EdgeBox → EdgeBox → Type 0
+IsNextBox boxes b = (edges : List Edge) → AreBoxes boxes edges → IsBoxAt edges boxes (length boxes) b × (b.end ≡ covered_by_all boxes)
+
+-- the run sums up the edges of the boxes from a place on
+abbrev pub IsRunFrom : List EdgeBox → Run → ℕ → Type 0
+IsRunFrom boxes run place = (edges : List Edge) → AreBoxes boxes edges → IsRun edges run (covered boxes place) (covered_by_all boxes)

@@ -1,0 +1,6 @@
+pub mod Runs
+pub mod EdgeCrossings
+pub mod Cells
+pub mod BoxLists
+pub mod Walks
+pub mod Builds

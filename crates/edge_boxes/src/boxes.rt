@@ -1,0 +1,115 @@
+//! The list of boxes over consecutive edges, and what is asked of it.
+
+ghost use Rattle.std.specs.Prelude.{◌≡◌, ◌≤◌, ◌<◌, length, List, IfOk, slice_range};
+ghost use Rattle.geometry_model.specs.Geometries.{Edge};
+ghost use Rattle.edge_boxes.specs.Cells.{IsCellOf};
+ghost use Rattle.edge_boxes.specs.EdgeCrossings.{AreCrossings};
+ghost use Rattle.edge_boxes.specs.BoxLists.{AreBoxes, BoxesOf, covered};
+ghost use Rattle.edge_boxes.specs.Walks.{IsStep};
+
+use crate::building::boxes_over;
+use crate::cells::Cell;
+use crate::crossings::{Crossings, none, of_edges, told};
+use crate::runs::Run;
+use fraction::RatPoint;
+use orient::Segment;
+use std::alloc::{AllocError, Global};
+
+/// A box over a run of consecutive edges. It stands behind the boxes of its subtree.
+#[derive(Clone, Copy, Debug)]
+pub(crate) struct EdgeBox {
+    pub(crate) run: Run,
+    /// How many boxes its subtree has, itself not counted; a leaf has none.
+    pub(crate) size: u32,
+    /// The place of the edge after its run.
+    pub(crate) end: u32,
+}
+
+/// A flat list of boxes over consecutive edges, in postorder. It answers about the edges it was built over, which it
+/// doesn't keep.
+#[derive(Drop)]
+pub struct EdgeBoxes {
+    boxes: Vec<EdgeBox>,
+}
+
+impl EdgeBoxes {
+    /// The boxes over some edges, in one pass: leaves of up to 8 edges, other boxes over up to 8 subtrees, none where
+    /// there are 16 edges or fewer. It may fail for want of memory.
+    pub fn build(alloc: Global, edges: &[Segment]) -> Result<EdgeBoxes, AllocError>
+        ensures { IfOk result (λ boxes. BoxesOf boxes edges.now) }
+    {
+        let boxes = boxes_over(alloc, edges)?;
+        Ok(EdgeBoxes { boxes })
+    }
+
+    /// How a point lies to the edges. The boxes are those of the edges.
+    pub fn crossings(&self, edges: &[Segment], point: &RatPoint) -> Crossings
+        requires { BoxesOf self.now edges.now }
+        ensures { AreCrossings result edges.now point.now }
+    {
+        crossings_among(self.boxes.as_slice(), edges, point)
+    }
+}
+
+/// Up to which edge the boxes before a place go.
+fn covered(boxes: &[EdgeBox], place: usize) -> usize
+    requires { place ≤ length boxes.now }
+    ensures { result ≡ covered boxes.now place }
+{
+    if place == 0 {
+        0
+    } else {
+        boxes[place - 1].end as usize
+    }
+}
+
+/// The edges from one place up to another.
+fn run_of(edges: &[Segment], first: usize, end: usize) -> &[Segment]
+    requires ordered { first ≤ end }
+    requires within { end ≤ length edges.now }
+    ensures { result.now ≡ slice_range edges.now first end }
+{
+    &edges[first..end]
+}
+
+/// How the point lies to the edges, from the last box to the first.
+fn crossings_among(boxes: &[EdgeBox], edges: &[Segment], point: &RatPoint) -> Crossings
+    requires { AreBoxes boxes.now edges.now }
+    ensures { AreCrossings result edges.now point.now }
+{
+    let cell = Cell::of(point);
+    let mut place = boxes.len();
+    let uncovered = run_of(edges, covered(boxes, place), edges.len());
+    let mut found = of_edges(uncovered, point, &cell);
+    while place > 0 {
+        let (next, own) = step(boxes, edges, place, point, &cell);
+        found = own.join(found);
+        place = next;
+    }
+    found
+}
+
+/// How the point lies to the edges between the place before this one that is looked at next and this one.
+fn step(
+    boxes: &[EdgeBox],
+    edges: &[Segment],
+    place: usize,
+    point: &RatPoint,
+    cell: &Cell,
+) -> (usize, Crossings)
+    requires boxes { AreBoxes boxes.now edges.now }
+    requires first { 0 < place }
+    requires last { place ≤ length boxes.now }
+    requires cell { IsCellOf cell.now point.now }
+    ensures { IsStep boxes.now edges.now point.now place result.0 result.1 }
+{
+    let last = &boxes[place - 1];
+    match told(&last.run, cell) {
+        Some(crossings) => (place - 1 - last.size as usize, crossings),
+        None if last.size == 0 => {
+            let leaf = run_of(edges, covered(boxes, place - 1), last.end as usize);
+            (place - 1, of_edges(leaf, point, cell))
+        }
+        None => (place - 1, none()),
+    }
+}

@@ -1,0 +1,14 @@
+//! Lists of boxes over consecutive edges: where a point lies to the edges, and which of them are near, without a look at
+//! each. A list of boxes is built in one pass and asked without memory.
+#![tactic(auto)]
+
+pub mod bounds;
+mod boxes;
+mod building;
+mod cells;
+pub mod crossings;
+mod runs;
+
+pub use bounds::Bounds;
+pub use boxes::EdgeBoxes;
+pub use crossings::Crossings;
