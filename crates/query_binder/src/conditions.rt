@@ -75,17 +75,12 @@ fn emptiness(
 }
 
 /// The predicate that is written, its pattern read (06-103r4, 6.1.15).
-fn bound_predicate(
-    alloc: Global,
-    written: &WrittenPredicate<'_>,
-) -> Result<Predicate, QueryFault>
+fn bound_predicate(alloc: Global, written: &WrittenPredicate<'_>) -> Result<Predicate, QueryFault>
     ensures { Binds result (spec.bound_predicate bound_pattern written.now) }
 {
     match written {
         WrittenPredicate::Named(predicate) => Ok(*predicate),
-        WrittenPredicate::Relate(string) => {
-            Ok(Predicate::Relate(bound_pattern(alloc, string)?))
-        }
+        WrittenPredicate::Relate(string) => { Ok(Predicate::Relate(bound_pattern(alloc, string)?)) }
     }
 }
 

@@ -36,11 +36,17 @@ pub fn bound_operand(
         WrittenOperand::Null => (Operand::Null, OperandType::Null),
         WrittenOperand::AsText(at, argument) => {
             let typed = bound_argument(alloc, scope, argument)?;
-            (Operand::AsText(geometry_only(*at, typed)?), OperandType::Text)
+            (
+                Operand::AsText(geometry_only(*at, typed)?),
+                OperandType::Text,
+            )
         }
         WrittenOperand::Dimension(at, argument) => {
             let typed = bound_argument(alloc, scope, argument)?;
-            (Operand::Dimension(geometry_only(*at, typed)?), OperandType::Integer)
+            (
+                Operand::Dimension(geometry_only(*at, typed)?),
+                OperandType::Integer,
+            )
         }
     };
     Ok(Typed { part, part_type })

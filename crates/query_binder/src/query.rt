@@ -69,11 +69,7 @@ fn bound_query(
 /// sides are not both INTEGER or both TEXT, NULL being either; or `OutOfMemory`. What it answers is bound to these
 /// definitions: its tables and columns are there, and its types fit. (SQL; 06-104r4, 7.2; the order: this project's
 /// choice.)
-pub fn bind(
-    alloc: Global,
-    query: &Query<'_>,
-    definitions: &[TableDef],
-) -> Result<Bound, QueryFault>
+pub fn bind(alloc: Global, query: &Query<'_>, definitions: &[TableDef]) -> Result<Bound, QueryFault>
     ensures answer { Binds result (spec.binding geometry_binding definitions.now query.now) }
     ensures bound { IfOk result (IsBound geometry_fits definitions.now) }
 {

@@ -8,7 +8,6 @@ use crate::TableDef;
 use sqlite_items::Items;
 use std::alloc::{AllocError, Global};
 use table_model::conditions::Reference;
-
 use table_model::faults::QueryFault;
 use table_model::queries::{Name, WrittenReference};
 use table_model::texts::same_name;
