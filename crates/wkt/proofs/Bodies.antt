@@ -6,21 +6,18 @@ use Rattle.std.specs.Str.{str_eq_ignore_ascii_case}
 use Rattle.geometry_model.specs.TextReading.{Input, Reader, ◌>>=◌, and_then, pure, refuse, after, eat, enclosed, padded, body, separated}
 use Rattle.geometry_model.specs.WellKnownText.{is_white}
 use Rattle.geometry_model.specs.declared.text_faults.TextFault.{TextFault}
+use Rattle.wkt.specs.ReadingSteps as steps
 use Rattle.wkt.specs.ReadingSteps.{empty_word}
-
--- nothing where EMPTY stands, and otherwise what stands in parentheses
-abbrev pub chosen : {A : Type 0} → Reader (List A) → Bool → Reader (List A)
-chosen inner empty = if empty then pure [] else enclosed inner
 
 choices : {A : Type 0} (inner : Reader (List A)) (at : ℕ) (k : Input) (none empty : Bool)
     → (if none then enclosed inner else (if empty then pure [] else refuse at)) k
-    ≡ and_then ((if none then pure false else (if empty then pure true else refuse at)) k) (chosen inner)
+    ≡ and_then ((if none then pure false else (if empty then pure true else refuse at)) k) (λ empty. if empty then pure [] else enclosed inner)
 choices inner at k true empty = refl
 choices inner at k false true = refl
 choices inner at k false false = refl
 
 -- a body by its word EMPTY
-pub body_by_empty_word : {A : Type 0} (inner : Reader (List A)) (i : Input) → body inner i ≡ and_then (empty_word i) (chosen inner)
+pub body_by_empty_word : {A : Type 0} (inner : Reader (List A)) (i : Input) → body inner i ≡ steps.body inner i
 unfolding body empty_word
 body_by_empty_word inner i =
     let j = after (prefix_len is_white i.left) i in

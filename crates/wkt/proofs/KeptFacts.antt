@@ -8,7 +8,7 @@ use Rattle.geometry_model.specs.Points.{Position}
 use Rattle.geometry_model.specs.Geometries.{Geometry, Point, MultiPoint, LineString, MultiLineString, Polygon, MultiPolygon, joined_rings, Edge, edges, edges_of_line, edges_of_lines}
 use Rattle.geometry_model.specs.WellKnownText.{Separated, LineText, PolygonText, Body, TaggedText, position_limit, written_parts, same_position, without_repeats, geometry_of}
 use Rattle.text_laws.proofs.TextPrinted.{counts_again, rings_kept}
-use Rattle.wkt.specs.KeptGeometries.{IsKept, SpelledIsKept}
+use Rattle.wkt.specs.KeptGeometries.{IsKept, IsKeptLine, SpelledIsKept}
 
 -- neighbours
 
@@ -114,10 +114,18 @@ parts_have_positions (Polygon rs) text t = body_has_positions rs t.1 t.4
 parts_have_positions (MultiPolygon es) text t = polygon_body_has_positions es t.1 t.4
 
 -- a line without repeats is kept
-pub line_is_kept : (ps : List Position) → length ps ≤ position_limit → without_repeats ps ≡ ps → IsKept (LineString ps)
+pub line_is_kept : (ps : List Position) → length ps ≤ position_limit → without_repeats ps ≡ ps → IsKeptLine ps
 line_is_kept ps few steady = record {
-  counts = (few, zero-le);
-  ends_differ = subst (λ l. All Apart (edges_of_lines (l ∷ []))) steady (lines_apart (ps ∷ []));
+  counted = few;
+  no_repeats = steady;
+  ends_differ = subst (λ l. All Apart (edges_of_line l)) steady (line_apart ps);
+}
+
+-- a kept line makes a kept LINESTRING
+pub line_string_is_kept : (ps : List Position) → IsKeptLine ps → IsKept (LineString ps)
+line_string_is_kept ps kept = record {
+  counts = (kept.counted, zero-le);
+  ends_differ = subst (λ l. All Apart (edges_of_lines (l ∷ []))) kept.no_repeats (lines_apart (ps ∷ []));
   parts_have_positions = All-nil HasPositions;
 }
 

@@ -1,6 +1,9 @@
+mod PrintLemmas
 pub mod Bodies
+pub mod CutFacts
 pub mod Digits
 pub mod KeptFacts
+pub mod Names
 pub mod Repeats
-mod PrintLemmas
+pub mod Rooms
 pub mod Wholes

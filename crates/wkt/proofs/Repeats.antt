@@ -1,23 +1,16 @@
 -- Positions of a line or ring, read one after another: one that repeats the last is left out.
-use Rattle.std.proofs.Common.{◌≡◌, refl, sym, ap, ap₂, ◌∙◌, subst, ℕ, suc, ◌+◌, ◌≤◌, ℤ, Bool, true, false, cond, if◌then◌else◌, List, [], ◌∷◌, ◌++◌, length, Option, Some, None, Result, Ok, Err, codes, append_assoc, append-nil, length-append, arith}
+use Rattle.std.proofs.Common.{◌≡◌, refl, sym, ap, ap₂, ◌∙◌, subst, ℕ, suc, ◌+◌, ◌-◌, ◌≤◌, ℤ, Bool, true, false, cond, if◌then◌else◌, List, [], ◌∷◌, ◌++◌, length, Option, Some, None, Result, Ok, Err, append_assoc, append-nil, length-append, arith}
 use Rattle.std.specs.List.{dedup_from}
-use Rattle.std.specs.Str.{str_eq_ignore_ascii_case}
 use Rattle.std.proofs.lemmas.Bool.{and_parts}
 use Rattle.std.proofs.lemmas.Bool.Decides.{Decides-int_eq}
 use Rattle.std.specs.Ordering.{int_eq}
 use Rattle.geometry_model.specs.Points.{Position}
-use Rattle.geometry_model.specs.Geometries.{Geometry, LineString}
 use Rattle.geometry_model.specs.Locations.{last_after}
-use Rattle.geometry_model.specs.TextReading.{Input, Reader, ◌>>=◌, ◌>>◌, and_then, pure, expect, eat, padded, enclosed, position, separated, positions, body, typed}
-use Rattle.geometry_model.specs.WellKnownText.{Word, same_position, without_repeats, geometry_of, position_limit}
+use Rattle.geometry_model.specs.TextReading.{Input, ◌>>=◌, and_then, pure, eat, padded, position, separated}
+use Rattle.geometry_model.specs.WellKnownText.{same_position, without_repeats}
 use Rattle.geometry_model.specs.declared.text_faults.TextFault.{TextFault}
-use Rattle.text_laws.proofs.RoomLists.{then_same}
 use Rattle.text_laws.proofs.TextPrinted.{rest_from, from_rest}
-use Rattle.text_laws.proofs.TextSteps.{word_is}
-use Rattle.text_laws.proofs.TextComplete.{named}
-use Rattle.wkt.specs.ReadingSteps.{empty_word, line_positions, meant, repeats, last_of}
-use Rattle.wkt.specs.ServedSteps.{typed_served}
-use Rattle.wkt.proofs.Bodies.{chosen, body_by_empty_word}
+use Rattle.wkt.specs.ReadingSteps.{repeats, last_of}
 
 -- ---- what is left out
 same_is : (a b : Position) → same_position a b ≡ true → a ≡ b
@@ -99,12 +92,9 @@ one_longer true xs p = omega (arith, length-append xs [])
 one_longer false xs p = omega (arith, length-append xs (p ∷ []))
 
 -- ---- the loop
--- what was kept, and what is read behind it
-abbrev pub behind_kept : List Position → Result (List Position × Input) TextFault → Result (List Position × Input) TextFault
-behind_kept kept r = and_then r (λ more. pure (without_repeats (kept ++ more)))
-
-pub from_nothing : (most : ℕ) (i : Input) → line_positions most i ≡ behind_kept [] (separated position most i)
-from_nothing most i = refl
+-- what was kept, and what is read behind it, with the room that is left
+abbrev pub behind_kept : List Position → ℕ → Result (List Position × Input) TextFault → Result ((List Position × ℕ) × Input) TextFault
+behind_kept kept room r = and_then r (λ more. pure (without_repeats (kept ++ more), room - length more))
 
 -- one item, and what stands behind it
 first_of_list : (room left : ℕ) (i j : Input) (p : Position) → room ≡ suc left → padded (position room) i ≡ Ok (p, j)
@@ -119,85 +109,23 @@ with_more : (last : Option Position) (kept : List Position) (p : Position) (more
 with_more last kept p more is steady =
     ap without_repeats (sym (append_assoc kept (p ∷ []) more)) ∙ (repeats_ahead (kept ++ p ∷ []) more ∙ ap (λ l. without_repeats (l ++ more)) (one_more last kept p is steady))
 
-mapped : (r : Result (List Position × Input) TextFault) (f g : List Position → List Position) → ((more : List Position) → f more ≡ g more)
-    → and_then r (λ more. pure (f more)) ≡ and_then r (λ more. pure (g more))
-mapped (Ok found) f g same = ap (λ l. Ok (l, found.1)) (same found.0)
-mapped (Err fault) f g same = refl
-
-put_ahead : (kept : List Position) (p : Position) (r : Result (List Position × Input) TextFault)
-    → behind_kept kept (and_then r (λ more. pure (p ∷ more))) ≡ and_then r (λ more. pure (without_repeats (kept ++ p ∷ more)))
-put_ahead kept p (Ok found) = refl
-put_ahead kept p (Err fault) = refl
+put_ahead : (last : Option Position) (kept : List Position) (p : Position) (room left : ℕ) → last ≡ last_of kept → without_repeats kept ≡ kept → room ≡ suc left → (r : Result (List Position × Input) TextFault)
+    → behind_kept kept room (and_then r (λ more. pure (p ∷ more))) ≡ behind_kept (kept ++ cond (repeats last p) [] (p ∷ [])) left r
+put_ahead last kept p room left is steady some (Ok found) = ap₂ (λ l n. Ok ((l, n), found.1)) (with_more last kept p found.0 is steady) (omega (arith, some))
+put_ahead last kept p room left is steady some (Err fault) = refl
 
 -- a comma goes on with the position kept, where it is no repeat
 pub kept_and_more : (last : Option Position) (kept : List Position) (room left : ℕ) (i j k : Input) (p : Position) → last ≡ last_of kept → without_repeats kept ≡ kept → room ≡ suc left
     → padded (position room) i ≡ Ok (p, j) → eat 44 j ≡ Ok (true, k)
-    → behind_kept kept (separated position room i) ≡ behind_kept (kept ++ cond (repeats last p) [] (p ∷ [])) (separated position left k)
+    → behind_kept kept room (separated position room i) ≡ behind_kept (kept ++ cond (repeats last p) [] (p ∷ [])) left (separated position left k)
 kept_and_more last kept room left i j k p is steady some read comma =
-    ap (behind_kept kept) (first_of_list room left i j p some read ∙ ap (λ r. and_then r (λ met. if met then (separated position left >>= λ more. pure (p ∷ more)) else pure (p ∷ []))) comma)
-    ∙ (put_ahead kept p (separated position left k) ∙ mapped (separated position left k) _ _ (λ more. with_more last kept p more is steady))
+    ap (behind_kept kept room) (first_of_list room left i j p some read ∙ ap (λ r. and_then r (λ met. if met then (separated position left >>= λ more. pure (p ∷ more)) else pure (p ∷ []))) comma)
+    ∙ put_ahead last kept p room left is steady some (separated position left k)
 
 -- no comma: these are all
 pub kept_last : (last : Option Position) (kept : List Position) (room left : ℕ) (i j k : Input) (p : Position) → last ≡ last_of kept → without_repeats kept ≡ kept → room ≡ suc left
     → padded (position room) i ≡ Ok (p, j) → eat 44 j ≡ Ok (false, k)
-    → behind_kept kept (separated position room i) ≡ Ok (kept ++ cond (repeats last p) [] (p ∷ []), k)
+    → behind_kept kept room (separated position room i) ≡ Ok ((kept ++ cond (repeats last p) [] (p ∷ []), left), k)
 kept_last last kept room left i j k p is steady some read comma =
-    ap (behind_kept kept) (first_of_list room left i j p some read ∙ ap (λ r. and_then r (λ met. if met then (separated position left >>= λ more. pure (p ∷ more)) else pure (p ∷ []))) comma)
-    ∙ ap (λ l. Ok (l, k)) (one_more last kept p is steady)
-
--- ---- behind the name
-enclosed_mapped : {A B : Type 0} (inner : Reader A) (f : A → B) (i : Input) → and_then (enclosed inner i) (λ x. pure (f x)) ≡ enclosed (inner >>= λ x. pure (f x)) i
-enclosed_mapped inner f i = opened (expect 40 i)
-  where
-    closed : (x : _) (r : Result (Bool × Input) TextFault) → and_then (and_then r (λ _. pure x)) (λ y. pure (f y)) ≡ and_then r (λ _. pure (f x))
-    closed x (Ok found) = refl
-    closed x (Err fault) = refl
-
-    inside : (r : Result (_ × Input) TextFault) → and_then (and_then r (λ x. (expect 41 >>= λ _. pure x))) (λ y. pure (f y)) ≡ and_then (and_then r (λ x. pure (f x))) (λ y. (expect 41 >>= λ _. pure y))
-    inside (Ok found) = closed found.0 (expect 41 found.1)
-    inside (Err fault) = refl
-
-    opened : (r : Result (Bool × Input) TextFault) → and_then (and_then r (λ _. (inner >>= λ x. (expect 41 >>= λ _. pure x)))) (λ y. pure (f y))
-        ≡ and_then r (λ _. ((inner >>= λ x. pure (f x)) >>= λ y. (expect 41 >>= λ _. pure y)))
-    opened (Ok found) = inside (inner found.1)
-    opened (Err fault) = refl
-
-chosen_mapped : {A : Type 0} (inner : Reader (List A)) (f : List A → List A) → f [] ≡ [] → (empty : Bool) (i : Input)
-    → and_then (chosen inner empty i) (λ xs. pure (f xs)) ≡ chosen (inner >>= λ xs. pure (f xs)) empty i
-chosen_mapped inner f none true i = ap (λ l. Ok (l, i)) none
-chosen_mapped inner f none false i = enclosed_mapped inner f i
-
-both_chosen : {A : Type 0} (inner : Reader (List A)) (f : List A → List A) → f [] ≡ [] → (r : Result (Bool × Input) TextFault)
-    → and_then (and_then r (chosen inner)) (λ xs. pure (f xs)) ≡ and_then r (chosen (inner >>= λ xs. pure (f xs)))
-both_chosen inner f none (Ok found) = chosen_mapped inner f none found.0 found.1
-both_chosen inner f none (Err fault) = refl
-
--- what is made of a body's items can be made of them inside, where nothing is made of none
-pub body_mapped : {A : Type 0} (inner : Reader (List A)) (f : List A → List A) → f [] ≡ [] → (i : Input)
-    → and_then (body inner i) (λ xs. pure (f xs)) ≡ body (inner >>= λ xs. pure (f xs)) i
-body_mapped inner f none i = ap (λ r. and_then r (λ xs. pure (f xs))) (body_by_empty_word inner i)
-    ∙ (both_chosen inner f none (empty_word i) ∙ sym (body_by_empty_word (inner >>= λ xs. pure (f xs)) i))
-
-turned : (r : Result (List Position × Input) TextFault)
-    → and_then (and_then r (λ ps. pure (LineString ps))) (λ w. pure (geometry_of w)) ≡ and_then (and_then r (λ ps. pure (without_repeats ps))) (λ ps. pure (LineString ps))
-turned (Ok found) = refl
-turned (Err fault) = refl
-
--- a LINESTRING as it is meant
-pub line_meant : (i : Input) → and_then (and_then (positions position i) (λ ps. pure (LineString ps))) (λ w. pure (geometry_of w)) ≡ and_then (body (line_positions position_limit) i) (λ ps. pure (LineString ps))
-line_meant i = turned (positions position i) ∙ ap (λ r. and_then r (λ ps. pure (LineString ps))) (body_mapped (separated position position_limit) without_repeats refl i)
-
--- behind the name LINESTRING
-pub named_line : (at : ℕ) (name : List ℕ) (i : Input) → str_eq_ignore_ascii_case name (codes "LINESTRING") ≡ true
-    → meant (typed_served at name) i ≡ and_then (body (line_positions position_limit) i) (λ ps. pure (LineString ps))
-unfolding typed_served typed
-named_line at name i is = let own = codes "LINESTRING" in let w : Word own name = word_is name own is in
-    rw (
-      named name own (codes "MULTILINESTRING") w,
-      named name own (codes "POLYGON") w,
-      named name own (codes "MULTIPOLYGON") w,
-      named name own (codes "POINT") w,
-      named name own (codes "MULTIPOINT") w,
-      named name own (codes "LINESTRING") w,
-    )
-    (line_meant i)
+    ap (behind_kept kept room) (first_of_list room left i j p some read ∙ ap (λ r. and_then r (λ met. if met then (separated position left >>= λ more. pure (p ∷ more)) else pure (p ∷ []))) comma)
+    ∙ ap₂ (λ l n. Ok ((l, n), k)) (one_more last kept p is steady) (omega (arith, some))

@@ -1,7 +1,14 @@
 -- What is true of each geometry that is kept as a value.
-use Rattle.std.specs.Prelude.{◌≢◌, ◌<◌, ℕ, List, length, All}
-use Rattle.geometry_model.specs.Geometries.{Geometry, edges}
-use Rattle.geometry_model.specs.WellKnownText.{IsWithinCounts, Spells, written_parts}
+use Rattle.std.specs.Prelude.{◌≡◌, ◌≢◌, ◌<◌, ◌≤◌, ℕ, List, length, All}
+use Rattle.geometry_model.specs.Points.{Position}
+use Rattle.geometry_model.specs.Geometries.{Geometry, edges, edges_of_line}
+use Rattle.geometry_model.specs.WellKnownText.{IsWithinCounts, Spells, position_limit, without_repeats, written_parts}
+
+-- no position of a line or ring repeats the one before it, so the ends of each edge differ (06-103r4, 6.1.7; the count and repeats: this project's choice)
+pub record IsKeptLine (line : List Position) : Type 0 where
+  pub counted : length line ≤ position_limit
+  pub no_repeats : without_repeats line ≡ line
+  pub ends_differ : All (λ edge. edge.start ≢ edge.end) (edges_of_line line)
 
 -- within the counts; the ends of each edge differ; each ring and element has positions (06-103r4, 6.1.7 and 6.1.11; the counts and repeats: this project's choice)
 pub record IsKept (g : Geometry) : Type 0 where

@@ -1,7 +1,6 @@
+pub mod Cuts
 pub mod KeptGeometries
 pub mod Printing
 pub mod Shapes
 pub mod ReadingSteps
-pub mod Served
-pub mod ServedSteps
 pub mod TextFaults

@@ -1,17 +1,21 @@
 -- What a function answers that reads well-known text with a cursor.
-use Rattle.std.specs.Prelude.{◌≡◌, ℕ, ◌==◌, Bool, true, false, if◌then◌else◌, length, codes, List, [], ◌∷◌, Option, Some, None, Result, Ok, Err}
+use Rattle.std.specs.Prelude.{◌≡◌, ℕ, ◌-◌, ◌==◌, Bool, true, false, if◌then◌else◌, length, codes, List, [], ◌∷◌, map, Option, Some, None, Result, Ok, Err}
 use Rattle.std.specs.Char.{is_ascii_alphabetic, is_ascii_digit}
+use Rattle.std.specs.List.{flat_map}
 use Rattle.std.specs.Str.{str_eq_ignore_ascii_case}
 use Rattle.geometry_model.specs.Points.{Position}
-use Rattle.geometry_model.specs.Geometries.{Geometry}
+use Rattle.geometry_model.specs.Geometries.{Geometry, Point, MultiPoint, LineString, MultiLineString, Polygon, MultiPolygon, joined_rings}
 use Rattle.geometry_model.specs.Locations.{last_after}
-use Rattle.geometry_model.specs.WellKnownText.{is_white, same_position, without_repeats, geometry_of}
-use Rattle.geometry_model.specs.TextReading.{Input, Reader, ◌>>=◌, ◌>>◌, pure, place, run, refuse, position, separated}
+use Rattle.geometry_model.specs.WellKnownText.{is_white, same_position, without_repeats, geometry_of, position_limit, part_limit}
+use Rattle.geometry_model.specs.TextReading.{Input, Reader, ◌>>=◌, ◌>>◌, pure, place, run, refuse, too_long, expect, padded, enclosed, position, point, separated, parts, first}
+use Rattle.geometry_model.specs.TextReading as spec
 use Rattle.geometry_model.specs.declared.text_faults.TextFault.{TextFault}
 use Rattle.wkt.specs.TextFaults.{text_fault}
 use Rattle.wkt.specs.declared.cursor.ByteClass.{ByteClass}
 use Rattle.wkt.specs.declared.cursor.ByteClass.TheVariants as classes
+use Rattle.wkt.specs.declared.lists.Room.{Room}
 use Rattle.wkt.specs.declared.wkt_fault.WktFault.{WktFault}
+use Rattle.wkt.specs.declared.wkt_fault.WktFault.TheVariants as faults
 
 -- the test of a class of bytes
 abbrev pub of_class : ByteClass → ℕ → Bool
@@ -37,6 +41,10 @@ empty_word = do
   word ← run is_ascii_alphabetic
   if length word == 0 then pure false else (if str_eq_ignore_ascii_case word (codes "EMPTY") then pure true else refuse at)
 
+-- nothing where EMPTY stands, and otherwise what stands in parentheses (06-103r4, 7.2.2: empty set)
+abbrev pub body : {A : Type 0} → Reader (List A) → Reader (List A)
+body inner = empty_word >>= λ empty. if empty then pure [] else enclosed inner
+
 -- a position, and whether it is the one before it, where one is before it
 abbrev pub repeats : Option Position → Position → Bool
 repeats None p = false
@@ -47,10 +55,62 @@ abbrev pub last_of : List Position → Option Position
 last_of [] = None
 last_of (p ∷ more) = Some (last_after p more)
 
--- the positions of a line or ring without repeats, where so many may still come
-abbrev pub line_positions : ℕ → Reader (List Position)
-line_positions room = separated position room >>= λ ps. pure (without_repeats ps)
+-- the positions of a line or ring without repeats, where so many may still come; and how many may come behind it
+abbrev pub line_positions : ℕ → Reader (List Position × ℕ)
+line_positions room = separated position room >>= λ ps. pure (without_repeats ps, room - length ps)
+
+-- the room that these rings leave
+abbrev pub left_of : List (List Position) → Room → Room
+left_of rings room = record { parts = room.parts - length rings; positions = room.positions - length (flat_map (λ ring. ring) rings) }
+
+-- a ring or element, and the room that it leaves; one too many is refused behind its parenthesis
+unfoldable pub ring : Room → Reader (List Position × Room)
+ring room = do
+  expect 40
+  found ← if room.parts == 0 then too_long else line_positions room.positions
+  expect 41
+  pure (found.0, record { parts = room.parts - 1; positions = found.1 })
+
+-- rings or elements, and the room that they leave
+abbrev pub rings : Room → Reader (List (List Position) × Room)
+rings room = parts room.parts room.positions >>= λ ls. pure (map without_repeats ls, left_of ls room)
+
+-- polygons, and the room that they leave
+abbrev pub polygons : Room → Reader (List (List (List Position)) × Room)
+polygons room = spec.polygons room.parts room.parts room.positions >>= λ es. pure (map (map without_repeats) es, left_of (joined_rings es) room)
+
+-- the room of a whole geometry
+abbrev pub whole_room : Room
+whole_room = record { parts = part_limit; positions = position_limit }
+
+-- what was found, without the room that is left
+abbrev pub without_room : {A B : Type 0} → Reader (A × B) → Reader A
+without_room step = step >>= λ found. pure found.0
+
+-- what stands behind the name of each type, with the geometry that is meant (06-103r4, 7.2.2: the tagged texts)
+abbrev pub point_text : Reader Geometry
+point_text = body (padded (position position_limit) >>= λ p. pure (p ∷ [])) >>= λ ps. pure (Point (first ps))
+
+abbrev pub multi_point_text : Reader Geometry
+multi_point_text = body (separated point position_limit) >>= λ ps. pure (MultiPoint ps)
+
+abbrev pub line_string_text : Reader Geometry
+line_string_text = body (without_room (line_positions position_limit)) >>= λ ps. pure (LineString ps)
+
+abbrev pub multi_line_string_text : Reader Geometry
+multi_line_string_text = body (without_room (rings whole_room)) >>= λ ls. pure (MultiLineString ls)
+
+abbrev pub polygon_text : Reader Geometry
+polygon_text = body (without_room (rings whole_room)) >>= λ ls. pure (Polygon ls)
+
+abbrev pub multi_polygon_text : Reader Geometry
+multi_polygon_text = body (without_room (polygons whole_room)) >>= λ es. pure (MultiPolygon es)
 
 -- the geometry of what is written
 abbrev pub meant : Reader Geometry → Reader Geometry
 meant step = step >>= λ written. pure (geometry_of written)
+
+-- a text was read as this geometry, or memory ran out
+abbrev pub IsReadAs : Result Geometry WktFault → Geometry → Type 0
+IsReadAs (Ok read) g = read ≡ g
+IsReadAs (Err e) g = e ≡ faults.OutOfMemory

@@ -5,13 +5,17 @@
 mod cursor;
 pub mod geometry;
 pub mod kept_laws;
+pub mod line_strings;
+mod lists;
 mod numbers;
+mod polygons;
 mod positions;
 pub mod printing;
 mod reading;
 pub mod wkt_fault;
 
 pub use geometry::Geometry;
+pub use line_strings::LineString;
 pub use printing::print;
 pub use reading::read;
 pub use sinks::{MemorySink, Sink, SinkFault, StdSink, devices, put_all, put_parts};

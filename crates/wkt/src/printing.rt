@@ -1,21 +1,24 @@
 //! The canonical text of a geometry, put into a sink.
 
 ghost use Rattle.std.specs.Prelude.{◌≡◌, ◌++◌, codes, map, OnOk, OnErr};
-ghost use Rattle.std.specs.List.{concat};
+ghost use Rattle.std.specs.List.{concat, join_with_byte};
 ghost use Rattle.std.specs.Option.{option_to_list};
 ghost use Rattle.std.specs.Io.KnownBytes.{Appends};
-ghost use Rattle.geometry_model.specs.CanonicalText.{canonical_text, point_text, position_text, tagged_text};
-ghost use Rattle.wkt.specs.Printing.{HoldsText};
+ghost use Rattle.geometry_model.specs.CanonicalText.{canonical_text, line_text, point_text, polygon_text, position_text, tagged_text};
+ghost use Rattle.wkt.specs.Printing.{HoldsText, opening_text};
+ghost use Rattle.wkt.specs.Shapes.{geometry_in, larger_in};
 ghost use Rattle.sinks.specs.Sinks.{AppendsFront, CountsFailure};
 
-use crate::geometry::{Geometry, Shape};
+use crate::geometry::{Geometry, Larger, Shape};
+use crate::line_strings::LineString;
+use crate::polygons::Polygons;
 use fraction::GridPoint;
 use itoa::Buffer;
 use sinks::{Sink, SinkFault, put_all, put_parts};
 
-/// Puts the canonical text of a geometry: the type's name in capitals; ` EMPTY` for an empty one; else the positions
-/// in parentheses, with commas between, no white space but one space between x and y, numbers in shortest decimal
-/// form, and each point of a MULTIPOINT in parentheses (06-103r4, 7.2.2; which of its texts: this project's choice). It takes no
+/// Puts the canonical text of a geometry: the type's name in capitals; ` EMPTY` for an empty one; else the positions,
+/// elements, rings or polygons in parentheses, with commas between, no white space but one space between x and y, numbers in
+/// shortest decimal form, and each point of a MULTIPOINT in parentheses (06-103r4, 7.2.2; which of its texts: this project's choice). It takes no
 /// memory. At Err the sink failed, and a beginning of the text has been put.
 pub fn print<S: Sink>(geometry: &Geometry, sink: &mut S) -> Result<(), SinkFault>
     ensures ok { OnOk result (Appends (S.taken sink.old) (S.taken sink.new) (canonical_text geometry.now)) }
@@ -23,10 +26,33 @@ pub fn print<S: Sink>(geometry: &Geometry, sink: &mut S) -> Result<(), SinkFault
     ensures failures { CountsFailure (S.failures sink.old) (S.failures sink.new) result }
     ensures spells { OnOk result (HoldsText (S.taken sink.old) (S.taken sink.new) geometry.now) }
 {
-    match geometry.shape() {
+    put_shape(sink, geometry.shape())
+}
+
+// Puts the text of a content.
+fn put_shape<S: Sink>(sink: &mut S, shape: &Shape) -> Result<(), SinkFault>
+    ensures ok { OnOk result (Appends (S.taken sink.old) (S.taken sink.new) (canonical_text (geometry_in shape.now))) }
+    ensures front { OnErr result (AppendsFront (S.taken sink.old) (S.taken sink.new) (canonical_text (geometry_in shape.now))) }
+    ensures failures { CountsFailure (S.failures sink.old) (S.failures sink.new) result }
+{
+    match shape {
         Shape::Point(position) => put_point(sink, *position),
-        Shape::MultiPoint(points) => put_multi_point(sink, points.as_slice()),
-        Shape::LineString(positions) => put_line_string(sink, positions.as_slice()),
+        Shape::Larger(content) => put_larger(sink, content),
+    }
+}
+
+// Puts the text of a content that is no POINT.
+fn put_larger<S: Sink>(sink: &mut S, content: &Larger) -> Result<(), SinkFault>
+    ensures ok { OnOk result (Appends (S.taken sink.old) (S.taken sink.new) (canonical_text (larger_in content.now))) }
+    ensures front { OnErr result (AppendsFront (S.taken sink.old) (S.taken sink.new) (canonical_text (larger_in content.now))) }
+    ensures failures { CountsFailure (S.failures sink.old) (S.failures sink.new) result }
+{
+    match content {
+        Larger::MultiPoint(points) => put_multi_point(sink, points.as_slice()),
+        Larger::LineString(line) => put_line_string(sink, line.positions()),
+        Larger::MultiLineString(lines) => put_multi_line_string(sink, lines.as_slice()),
+        Larger::Polygon(rings) => put_polygon(sink, rings.as_slice()),
+        Larger::MultiPolygon(polygons) => put_multi_polygon(sink, polygons),
     }
 }
 
@@ -64,12 +90,139 @@ fn put_line_string<S: Sink>(sink: &mut S, positions: &[GridPoint]) -> Result<(),
     ensures front { OnErr result (AppendsFront (S.taken sink.old) (S.taken sink.new) (tagged_text (codes "LINESTRING") (map position_text positions.now))) }
     ensures failures { CountsFailure (S.failures sink.old) (S.failures sink.new) result }
 {
-    match positions.split_first() {
-        None => put_all(sink, b"LINESTRING EMPTY"),
+    if positions.is_empty() {
+        put_all(sink, b"LINESTRING EMPTY")
+    } else {
+        put_line(sink, b"LINESTRING(", positions)
+    }
+}
+
+// Puts the text of the MULTILINESTRING of these elements.
+fn put_multi_line_string<S: Sink>(sink: &mut S, lines: &[LineString]) -> Result<(), SinkFault>
+    ensures ok { OnOk result (Appends (S.taken sink.old) (S.taken sink.new) (tagged_text (codes "MULTILINESTRING") (map line_text lines.now))) }
+    ensures front { OnErr result (AppendsFront (S.taken sink.old) (S.taken sink.new) (tagged_text (codes "MULTILINESTRING") (map line_text lines.now))) }
+    ensures failures { CountsFailure (S.failures sink.old) (S.failures sink.new) result }
+{
+    if lines.is_empty() {
+        put_all(sink, b"MULTILINESTRING EMPTY")
+    } else {
+        put_lines(sink, b"MULTILINESTRING(", lines)
+    }
+}
+
+// Puts the text of the POLYGON of these rings.
+fn put_polygon<S: Sink>(sink: &mut S, rings: &[LineString]) -> Result<(), SinkFault>
+    ensures ok { OnOk result (Appends (S.taken sink.old) (S.taken sink.new) (tagged_text (codes "POLYGON") (map line_text rings.now))) }
+    ensures front { OnErr result (AppendsFront (S.taken sink.old) (S.taken sink.new) (tagged_text (codes "POLYGON") (map line_text rings.now))) }
+    ensures failures { CountsFailure (S.failures sink.old) (S.failures sink.new) result }
+{
+    if rings.is_empty() {
+        put_all(sink, b"POLYGON EMPTY")
+    } else {
+        put_lines(sink, b"POLYGON(", rings)
+    }
+}
+
+// Puts the text of the MULTIPOLYGON of these polygons.
+fn put_multi_polygon<S: Sink>(sink: &mut S, polygons: &Polygons) -> Result<(), SinkFault>
+    ensures ok { OnOk result (Appends (S.taken sink.old) (S.taken sink.new) (tagged_text (codes "MULTIPOLYGON") (map polygon_text polygons.now))) }
+    ensures front { OnErr result (AppendsFront (S.taken sink.old) (S.taken sink.new) (tagged_text (codes "MULTIPOLYGON") (map polygon_text polygons.now))) }
+    ensures failures { CountsFailure (S.failures sink.old) (S.failures sink.new) result }
+{
+    if polygons.len() == 0 {
+        put_all(sink, b"MULTIPOLYGON EMPTY")
+    } else {
+        put_polygons(sink, b"MULTIPOLYGON(", polygons)
+    }
+}
+
+// Puts a text, these polygons with commas between, and a parenthesis.
+fn put_polygons<'p, S: Sink>(
+    sink: &mut S,
+    before: &'p [u8],
+    polygons: &Polygons,
+) -> Result<(), SinkFault>
+    ensures ok { OnOk result (Appends (S.taken sink.old) (S.taken sink.new) (before.now ++ (join_with_byte 44 (map polygon_text polygons.now) ++ codes ")"))) }
+    ensures front { OnErr result (AppendsFront (S.taken sink.old) (S.taken sink.new) (before.now ++ (join_with_byte 44 (map polygon_text polygons.now) ++ codes ")"))) }
+    ensures failures { CountsFailure (S.failures sink.old) (S.failures sink.new) result }
+{
+    put_all(sink, before)?;
+    put_joined_polygons(sink, polygons)?;
+    put_all(sink, b")")
+}
+
+// Puts these polygons with commas between.
+fn put_joined_polygons<S: Sink>(sink: &mut S, polygons: &Polygons) -> Result<(), SinkFault>
+    ensures ok { OnOk result (Appends (S.taken sink.old) (S.taken sink.new) (join_with_byte 44 (map polygon_text polygons.now))) }
+    ensures front { OnErr result (AppendsFront (S.taken sink.old) (S.taken sink.new) (join_with_byte 44 (map polygon_text polygons.now))) }
+    ensures failures { CountsFailure (S.failures sink.old) (S.failures sink.new) result }
+{
+    for index in 0..polygons.len() {
+        put_lines(sink, opening(index), polygons.get(index))?;
+    }
+    Ok(())
+}
+
+// Puts a text, these lines or rings with commas between, and a parenthesis.
+fn put_lines<'p, S: Sink>(
+    sink: &mut S,
+    before: &'p [u8],
+    lines: &[LineString],
+) -> Result<(), SinkFault>
+    ensures ok { OnOk result (Appends (S.taken sink.old) (S.taken sink.new) (before.now ++ (join_with_byte 44 (map line_text lines.now) ++ codes ")"))) }
+    ensures front { OnErr result (AppendsFront (S.taken sink.old) (S.taken sink.new) (before.now ++ (join_with_byte 44 (map line_text lines.now) ++ codes ")"))) }
+    ensures failures { CountsFailure (S.failures sink.old) (S.failures sink.new) result }
+{
+    put_all(sink, before)?;
+    put_joined_lines(sink, lines)?;
+    put_all(sink, b")")
+}
+
+// Puts these lines or rings with commas between.
+fn put_joined_lines<S: Sink>(sink: &mut S, lines: &[LineString]) -> Result<(), SinkFault>
+    ensures ok { OnOk result (Appends (S.taken sink.old) (S.taken sink.new) (join_with_byte 44 (map line_text lines.now))) }
+    ensures front { OnErr result (AppendsFront (S.taken sink.old) (S.taken sink.new) (join_with_byte 44 (map line_text lines.now))) }
+    ensures failures { CountsFailure (S.failures sink.old) (S.failures sink.new) result }
+{
+    for (index, line) in lines.iter().enumerate() {
+        put_line(sink, opening(index), line.positions())?;
+    }
+    Ok(())
+}
+
+// What stands before a list in parentheses of this number.
+fn opening(index: usize) -> &'static [u8]
+    ensures { result.now ≡ opening_text index }
+{
+    if index == 0 { b"(" } else { b",(" }
+}
+
+// Puts a text, these positions with commas between, and a parenthesis.
+fn put_line<'p, S: Sink>(
+    sink: &mut S,
+    before: &'p [u8],
+    line: &[GridPoint],
+) -> Result<(), SinkFault>
+    ensures ok { OnOk result (Appends (S.taken sink.old) (S.taken sink.new) (before.now ++ (join_with_byte 44 (map position_text line.now) ++ codes ")"))) }
+    ensures front { OnErr result (AppendsFront (S.taken sink.old) (S.taken sink.new) (before.now ++ (join_with_byte 44 (map position_text line.now) ++ codes ")"))) }
+    ensures failures { CountsFailure (S.failures sink.old) (S.failures sink.new) result }
+{
+    put_all(sink, before)?;
+    put_joined_positions(sink, line)?;
+    put_all(sink, b")")
+}
+
+// Puts these positions with commas between.
+fn put_joined_positions<S: Sink>(sink: &mut S, line: &[GridPoint]) -> Result<(), SinkFault>
+    ensures ok { OnOk result (Appends (S.taken sink.old) (S.taken sink.new) (join_with_byte 44 (map position_text line.now))) }
+    ensures front { OnErr result (AppendsFront (S.taken sink.old) (S.taken sink.new) (join_with_byte 44 (map position_text line.now))) }
+    ensures failures { CountsFailure (S.failures sink.old) (S.failures sink.new) result }
+{
+    match line.split_first() {
+        None => Ok(()),
         Some((first, more)) => {
-            put_position(sink, b"LINESTRING(", first, b"")?;
-            put_more(sink, b",", more, b"")?;
-            put_all(sink, b")")
+            put_position(sink, b"", first, b"")?;
+            put_more(sink, b",", more, b"")
         }
     }
 }

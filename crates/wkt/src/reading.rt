@@ -1,28 +1,26 @@
-//! Reads well-known text. Each function ensures the outcome of the reader of its name in `specs/TextReading.antt` of
-//! `geometry_model`.
+//! Reads well-known text. Each function ensures the outcome of the reader of its name in `specs/ReadingSteps.antt`, or in
+//! `specs/TextReading.antt` of `geometry_model`.
 
-ghost use Rattle.std.specs.Prelude.{◌≡◌, ◌≤◌, ◌+◌, ◌++◌, [], ◌∷◌, cond, IfOk, OnOk, IfErr, IfSome, Ok, Err, vec_len};
-ghost use Rattle.std.specs.Option.{option_to_list};
+ghost use Rattle.std.specs.Prelude.{◌≡◌, IfOk, IfErr, IfSome, Ok, Err};
 ghost use Rattle.geometry_model.specs.CanonicalText.{canonical_text};
 ghost use Rattle.geometry_model.specs.Geometries as shapes;
 ghost use Rattle.geometry_model.specs.TextReading as spec;
+ghost use Rattle.geometry_model.specs.TextReading.{read_text};
 ghost use Rattle.geometry_model.specs.TextRefusals.{IsRefused};
-ghost use Rattle.geometry_model.specs.WellKnownText.{position_limit, without_repeats, Spells};
-ghost use Rattle.wkt.specs.ReadingSteps.{ReadsAs, ReadsInMemory, empty_word, meant, repeats};
+ghost use Rattle.geometry_model.specs.WellKnownText.{Spells};
+ghost use Rattle.wkt.specs.ReadingSteps.{ReadsAs, ReadsInMemory, IsReadAs, empty_word, meant};
 ghost use Rattle.wkt.specs.ReadingSteps as steps;
-ghost use Rattle.wkt.specs.Served.{read_served, IsOfServedType, IsServed, IsReadAs};
-ghost use Rattle.wkt.specs.ServedSteps.{typed_served, tagged_served, whole_served};
+ghost use Rattle.wkt.specs.Shapes.{geometry_in};
 ghost use Rattle.wkt.specs.TextFaults.{text_fault};
 
 use crate::cursor::{ByteClass, Cursor};
-use crate::positions::{padded_point, padded_position};
-use crate::{Geometry, WktFault};
-use fraction::GridPoint;
+use crate::geometry::{Larger, Shape};
+use crate::lists::{POSITION_LIMIT, Room, line_positions, points, polygons, rings};
+use crate::polygons::Polygons;
+use crate::positions::padded_position;
+use crate::{Geometry, LineString, WktFault};
 use geometry_model::TextFault;
 use std::alloc::Global;
-
-/// The most positions of a geometry.
-const POSITION_LIMIT: usize = 10_000;
 
 impl From<TextFault> for WktFault {
     ghost use Rattle.std.specs.Prelude.{◌≡◌, Some};
@@ -58,142 +56,118 @@ fn reads_empty(cursor: &mut Cursor<'_>) -> Result<bool, TextFault>
 }
 
 /// Reads the one position of a POINT, or EMPTY.
-fn lone(cursor: &mut Cursor<'_>) -> Result<Option<GridPoint>, TextFault>
-    ensures { ReadsAs option_to_list (spec.lone cursor.old) result cursor.new }
+fn point_text(cursor: &mut Cursor<'_>) -> Result<Shape, TextFault>
+    ensures { ReadsAs geometry_in (steps.point_text cursor.old) result cursor.new }
 {
     if reads_empty(cursor)? {
-        return Ok(None);
+        return Ok(Shape::Point(None));
     }
     cursor.expect(b'(')?;
     let position = padded_position(cursor, POSITION_LIMIT)?;
     cursor.expect(b')')?;
-    Ok(Some(position))
+    Ok(Shape::Point(Some(position)))
 }
 
-/// Reads positions of a MULTIPOINT, one or more with commas between, where so many may still come.
-fn points(alloc: Global, cursor: &mut Cursor<'_>, most: usize) -> Result<Vec<GridPoint>, WktFault>
-    ensures read { ReadsInMemory (λ ps. ps.items) (spec.separated spec.point most cursor.old) result cursor.new }
-    ensures counted { IfOk result (λ ps. vec_len ps ≤ most) }
-{
-    let mut points = Vec::new(alloc);
-    let mut room = most;
-    loop {
-        let point = padded_point(cursor, room)?;
-        points.push(point)?;
-        if !cursor.eat(b',') {
-            return Ok(points);
-        }
-        room -= 1;
-    }
-}
-
-/// Reads the positions behind the name MULTIPOINT, or EMPTY.
-fn point_list(alloc: Global, cursor: &mut Cursor<'_>) -> Result<Vec<GridPoint>, WktFault>
-    ensures read { ReadsInMemory (λ ps. ps.items) (spec.positions spec.point cursor.old) result cursor.new }
-    ensures counted { IfOk result (λ ps. vec_len ps ≤ position_limit) }
+/// Reads the positions of a MULTIPOINT, or EMPTY.
+fn multi_point_text(alloc: Global, cursor: &mut Cursor<'_>) -> Result<Shape, WktFault>
+    ensures { ReadsInMemory geometry_in (steps.multi_point_text cursor.old) result cursor.new }
 {
     if reads_empty(cursor)? {
-        return Ok(Vec::new(alloc));
+        return Shape::larger(alloc, Larger::MultiPoint(Vec::new(alloc)));
     }
     cursor.expect(b'(')?;
     let points = points(alloc, cursor, POSITION_LIMIT)?;
     cursor.expect(b')')?;
-    Ok(points)
+    Shape::larger(alloc, Larger::MultiPoint(points))
 }
 
-/// Whether a position is the one before it, where one is before it.
-fn is_repeat(last: Option<GridPoint>, position: GridPoint) -> bool
-    ensures { result ≡ repeats last position }
+/// Reads the positions of a LINESTRING, or EMPTY.
+fn line_string_text(alloc: Global, cursor: &mut Cursor<'_>) -> Result<Shape, WktFault>
+    ensures { ReadsInMemory geometry_in (steps.line_string_text cursor.old) result cursor.new }
 {
-    match last {
-        None => false,
-        Some(last) => position == last,
+    if reads_empty(cursor)? {
+        let line = LineString::new(Vec::new(alloc));
+        return Shape::larger(alloc, Larger::LineString(line));
     }
+    cursor.expect(b'(')?;
+    let (line, _) = line_positions(alloc, cursor, POSITION_LIMIT)?;
+    cursor.expect(b')')?;
+    Shape::larger(alloc, Larger::LineString(line))
 }
 
-/// Appends a position, unless it repeats the last.
-fn push_new(
-    positions: &mut Vec<GridPoint>,
-    last: Option<GridPoint>,
-    position: GridPoint,
-) -> Result<(), WktFault>
-    ensures pushed { OnOk result (positions.new.items ≡ positions.old.items ++ cond (repeats last position) [] (position ∷ [])) }
-    ensures grown { OnOk result (vec_len positions.new ≤ vec_len positions.old + 1) }
-    ensures memory { IfErr result (λ e. e ≡ WktFault.OutOfMemory) }
-{
-    if !is_repeat(last, position) {
-        positions.push(position)?;
-    }
-    Ok(())
-}
-
-/// Reads positions of a line, one or more with commas between, where so many may still come. One that repeats the one
-/// before it is left out.
-fn line_positions(
-    alloc: Global,
-    cursor: &mut Cursor<'_>,
-    most: usize,
-) -> Result<Vec<GridPoint>, WktFault>
-    ensures read { ReadsInMemory (λ ps. ps.items) (steps.line_positions most cursor.old) result cursor.new }
-    ensures counted { IfOk result (λ ps. vec_len ps ≤ most) }
-    ensures no_repeats { IfOk result (λ ps. without_repeats ps.items ≡ ps.items) }
-{
-    let mut positions = Vec::new(alloc);
-    let mut last = None;
-    let mut room = most;
-    loop {
-        let position = padded_position(cursor, room)?;
-        push_new(&mut positions, last, position)?;
-        if !cursor.eat(b',') {
-            return Ok(positions);
-        }
-        last = Some(position);
-        room -= 1;
-    }
-}
-
-/// Reads the positions behind the name LINESTRING, or EMPTY.
-fn line_list(alloc: Global, cursor: &mut Cursor<'_>) -> Result<Vec<GridPoint>, WktFault>
-    ensures read { ReadsInMemory (λ ps. ps.items) (spec.body (steps.line_positions position_limit) cursor.old) result cursor.new }
-    ensures counted { IfOk result (λ ps. vec_len ps ≤ position_limit) }
-    ensures no_repeats { IfOk result (λ ps. without_repeats ps.items ≡ ps.items) }
+/// Reads the rings of a POLYGON or the elements of a MULTILINESTRING, or EMPTY.
+fn ring_list(alloc: Global, cursor: &mut Cursor<'_>) -> Result<Vec<LineString>, WktFault>
+    ensures { ReadsInMemory (λ ls. ls.items) (steps.body (steps.without_room (steps.rings steps.whole_room)) cursor.old) result cursor.new }
 {
     if reads_empty(cursor)? {
         return Ok(Vec::new(alloc));
     }
     cursor.expect(b'(')?;
-    let positions = line_positions(alloc, cursor, POSITION_LIMIT)?;
+    let (rings, _) = rings(alloc, cursor, Room::whole())?;
     cursor.expect(b')')?;
-    Ok(positions)
+    Ok(rings)
+}
+
+/// Reads the elements of a MULTILINESTRING, or EMPTY.
+fn multi_line_string_text(alloc: Global, cursor: &mut Cursor<'_>) -> Result<Shape, WktFault>
+    ensures { ReadsInMemory geometry_in (steps.multi_line_string_text cursor.old) result cursor.new }
+{
+    let lines = ring_list(alloc, cursor)?;
+    Shape::larger(alloc, Larger::MultiLineString(lines))
+}
+
+/// Reads the rings of a POLYGON, or EMPTY.
+fn polygon_text(alloc: Global, cursor: &mut Cursor<'_>) -> Result<Shape, WktFault>
+    ensures { ReadsInMemory geometry_in (steps.polygon_text cursor.old) result cursor.new }
+{
+    let rings = ring_list(alloc, cursor)?;
+    Shape::larger(alloc, Larger::Polygon(rings))
+}
+
+/// Reads the polygons of a MULTIPOLYGON, or EMPTY.
+fn multi_polygon_text(alloc: Global, cursor: &mut Cursor<'_>) -> Result<Shape, WktFault>
+    ensures { ReadsInMemory geometry_in (steps.multi_polygon_text cursor.old) result cursor.new }
+{
+    if reads_empty(cursor)? {
+        return Shape::larger(alloc, Larger::MultiPolygon(Polygons::new(alloc)));
+    }
+    cursor.expect(b'(')?;
+    let polygons = polygons(alloc, cursor, Room::whole())?;
+    cursor.expect(b')')?;
+    Shape::larger(alloc, Larger::MultiPolygon(polygons))
 }
 
 /// Reads what stands behind a type's name, which stands at a byte.
-#[tactic(auto, unfolding(crate::specs::ServedSteps::typed_served, geometry_model::specs::TextReading::typed))]
+#[tactic(auto, unfolding(geometry_model::specs::TextReading::typed))]
 fn typed(
     alloc: Global,
     cursor: &mut Cursor<'_>,
     at: usize,
     name: &[u8],
-) -> Result<Geometry, WktFault>
-    ensures read { ReadsInMemory (λ g. g) (meant (typed_served at name.now) cursor.old) result cursor.new }
-    ensures served { IfOk result IsOfServedType }
+) -> Result<Shape, WktFault>
+    ensures { ReadsInMemory geometry_in (meant (spec.typed at name.now) cursor.old) result cursor.new }
 {
     if name.eq_ignore_ascii_case(b"POINT") {
-        Ok(Geometry::point(lone(cursor)?))
+        Ok(point_text(cursor)?)
     } else if name.eq_ignore_ascii_case(b"MULTIPOINT") {
-        Ok(Geometry::multi_point(point_list(alloc, cursor)?))
+        multi_point_text(alloc, cursor)
     } else if name.eq_ignore_ascii_case(b"LINESTRING") {
-        Ok(Geometry::line_string(line_list(alloc, cursor)?))
+        line_string_text(alloc, cursor)
+    } else if name.eq_ignore_ascii_case(b"MULTILINESTRING") {
+        multi_line_string_text(alloc, cursor)
+    } else if name.eq_ignore_ascii_case(b"POLYGON") {
+        polygon_text(alloc, cursor)
+    } else if name.eq_ignore_ascii_case(b"MULTIPOLYGON") {
+        multi_polygon_text(alloc, cursor)
     } else {
         Err(WktFault::Syntax(at))
     }
 }
 
 /// Reads a type's name and what stands behind it.
-#[tactic(auto, unfolding(crate::specs::ServedSteps::tagged_served))]
-fn tagged(alloc: Global, cursor: &mut Cursor<'_>) -> Result<Geometry, WktFault>
-    ensures read { ReadsInMemory (λ g. g) (meant tagged_served cursor.old) result cursor.new }
-    ensures served { IfOk result IsOfServedType }
+#[tactic(auto, unfolding(geometry_model::specs::TextReading::tagged))]
+fn tagged(alloc: Global, cursor: &mut Cursor<'_>) -> Result<Shape, WktFault>
+    ensures { ReadsInMemory geometry_in (meant spec.tagged cursor.old) result cursor.new }
 {
     let at = cursor.place();
     let name = cursor.run(ByteClass::Letter);
@@ -201,37 +175,38 @@ fn tagged(alloc: Global, cursor: &mut Cursor<'_>) -> Result<Geometry, WktFault>
 }
 
 /// Reads a whole text.
-fn whole(alloc: Global, cursor: &mut Cursor<'_>) -> Result<Geometry, WktFault>
-    ensures read { ReadsInMemory (λ g. g) (meant whole_served cursor.old) result cursor.new }
-    ensures served { IfOk result IsOfServedType }
+fn whole(alloc: Global, cursor: &mut Cursor<'_>) -> Result<Shape, WktFault>
+    ensures { ReadsInMemory geometry_in (meant spec.whole cursor.old) result cursor.new }
 {
     cursor.run(ByteClass::White);
-    let geometry = tagged(alloc, cursor)?;
+    let shape = tagged(alloc, cursor)?;
     cursor.run(ByteClass::White);
     if cursor.is_at_end() {
-        Ok(geometry)
+        Ok(shape)
     } else {
         Err(WktFault::Syntax(cursor.place()))
     }
 }
 
-/// Reads the text of a geometry (06-103r4, 7.2): a POINT, a MULTIPOINT or a LINESTRING, of whole numbers within the limit either way,
-/// as they may be written with signs, leading zeros and a point with zeros behind it. Words are taken in any ASCII case.
-/// Without a position it is written EMPTY. In a MULTIPOINT each position has parentheses or none.
+/// Reads the text of a geometry (06-103r4, 7.2), of whole numbers within the limit either way, as they may be written with
+/// signs, leading zeros and a point with zeros behind it. Words are taken in any ASCII case. Without a position or part it
+/// is written EMPTY. In a MULTIPOINT each position has parentheses or none. A position of a line or ring that repeats
+/// the one before it is left out.
 ///
 /// Places are bytes from 0. The fault is the first from left to right: `Syntax` at the first byte of what no text can
 /// have there, or at the text's length where it ends too soon; at the first byte of a number `OffGrid` where a digit
 /// behind its point isn't 0, and else `OutOfRange` where it is past the limit; `TooLong` at the first number of the
-/// 10,001st position, before the faults of that number. The name of a type that isn't served yet is
-/// `Syntax` at its first byte. `OutOfMemory` may come in the place of any answer.
+/// 10,001st position, before the faults of that number, and behind the parenthesis of the 1,001st ring or element.
+/// `OutOfMemory` may come in the place of any answer.
 pub fn read(alloc: Global, text: &[u8]) -> Result<Geometry, WktFault>
-    ensures ok { IfOk result (λ g. read_served text.now ≡ Ok g) }
-    ensures fault { IfErr result (λ e. IfSome (text_fault e) (λ fault. read_served text.now ≡ Err fault)) }
+    ensures ok { IfOk result (λ g. read_text text.now ≡ Ok g) }
+    ensures fault { IfErr result (λ e. IfSome (text_fault e) (λ fault. read_text text.now ≡ Err fault)) }
     ensures spelled { IfOk result (λ g. Spells text.now g) }
-    ensures read { IsServed text.now → (g : shapes.Geometry) → Spells text.now g → IsReadAs result g }
-    ensures canonical { IfOk result (λ g. read_served (canonical_text g) ≡ Ok g) }
-    ensures refusal { IsServed text.now → IfErr result (λ e. IfSome (text_fault e) (IsRefused text.now)) }
+    ensures read { (g : shapes.Geometry) → Spells text.now g → IsReadAs result g }
+    ensures canonical { IfOk result (λ g. read_text (canonical_text g) ≡ Ok g) }
+    ensures refusal { IfErr result (λ e. IfSome (text_fault e) (IsRefused text.now)) }
 {
     let mut cursor = Cursor::new(text);
-    whole(alloc, &mut cursor)
+    let shape = whole(alloc, &mut cursor)?;
+    Ok(Geometry::kept(shape))
 }

@@ -3,11 +3,11 @@ use Rattle.geometry_model.specs.TextReading.{separated, position}
 use Rattle.geometry_model.specs.WellKnownText.{without_repeats}
 use Rattle.wkt.specs.ReadingSteps.{line_positions, last_of}
 use Rattle.wkt.proofs.Repeats.{behind_kept}
-use Rattle.wkt.proofs.reading.line_positions.Given as goal
+use Rattle.wkt.proofs.lists.line_positions.Given as goal
 
 abbrev pub invariant-loop-positions : goal.invariant-loop-positions
 invariant-loop-positions l = record {
-  read : line_positions l.most l.fn.cursor ≡ behind_kept l.positions.items (separated position l.room l.cursor);
+  read : line_positions l.most l.fn.cursor ≡ behind_kept l.positions.items l.room (separated position l.room l.cursor);
   steady : without_repeats l.positions.items ≡ l.positions.items;
   latest : l.last ≡ last_of l.positions.items;
   counted : vec_len l.positions + l.room ≤ l.most;
