@@ -1,1 +1,7 @@
-pub mod Lines
+pub mod Edges
+pub mod Faults
+pub mod Finding
+pub mod OutlineFacts
+pub mod PartFacts
+pub mod Polygons
+pub mod RingNumbers

@@ -1,2 +1,4 @@
 pub mod CheckFaults
+pub mod FaultOrder
+pub mod Outlines
 pub mod ValidGeometries

@@ -2,6 +2,10 @@
 #![tactic(auto)]
 
 pub mod check_fault;
+mod first_faults;
+mod outlines;
+mod part_tests;
+mod runs;
 pub mod valid_geometry;
 
 pub use check_fault::CheckFault;

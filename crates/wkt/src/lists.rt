@@ -112,11 +112,7 @@ pub fn line_positions(
 
 /// Reads a ring or element, and tells the room that it leaves. One too many is refused behind its parenthesis.
 #[tactic(auto, unfolding(crate::specs::ReadingSteps::ring))]
-fn ring(
-    alloc: Global,
-    cursor: &mut Cursor<'_>,
-    room: Room,
-) -> Result<(LineString, Room), WktFault>
+fn ring(alloc: Global, cursor: &mut Cursor<'_>, room: Room) -> Result<(LineString, Room), WktFault>
     requires { room.positions ≤ position_limit }
     ensures read { ReadsInMemory (λ found. found) (steps.ring room cursor.old) result cursor.new }
     ensures left { IfOk result (λ found. (found.1.parts + 1 ≡ room.parts) × (found.1.positions ≤ position_limit)) }
@@ -188,11 +184,7 @@ fn padded_polygon(
 }
 
 /// Reads polygons, one or more with commas between.
-pub fn polygons(
-    alloc: Global,
-    cursor: &mut Cursor<'_>,
-    most: Room,
-) -> Result<Polygons, WktFault>
+pub fn polygons(alloc: Global, cursor: &mut Cursor<'_>, most: Room) -> Result<Polygons, WktFault>
     requires { most.positions ≤ position_limit }
     ensures { ReadsInMemory (λ found. found) (steps.without_room (steps.polygons most) cursor.old) result cursor.new }
 {

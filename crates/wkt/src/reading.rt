@@ -139,12 +139,7 @@ fn multi_polygon_text(alloc: Global, cursor: &mut Cursor<'_>) -> Result<Shape, W
 
 /// Reads what stands behind a type's name, which stands at a byte.
 #[tactic(auto, unfolding(geometry_model::specs::TextReading::typed))]
-fn typed(
-    alloc: Global,
-    cursor: &mut Cursor<'_>,
-    at: usize,
-    name: &[u8],
-) -> Result<Shape, WktFault>
+fn typed(alloc: Global, cursor: &mut Cursor<'_>, at: usize, name: &[u8]) -> Result<Shape, WktFault>
     ensures { ReadsInMemory geometry_in (meant (spec.typed at name.now) cursor.old) result cursor.new }
 {
     if name.eq_ignore_ascii_case(b"POINT") {

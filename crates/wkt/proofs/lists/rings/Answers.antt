@@ -1,5 +1,5 @@
 -- The rings before this one were read, and the room that they leave is known.
-use Rattle.std.proofs.Common.{◌≡◌, ◌∙◌, suc, Ok, Err, true, false, rules, arith, ap, sym}
+use Rattle.std.proofs.Common.{◌≡◌, ◌∙◌, suc, Ok, Err, true, false, rules, arith, sym}
 use Rattle.std.proofs.lemmas.Grind.{common_steps}
 use Rattle.geometry_model.specs.TextReading.{eat}
 use Rattle.geometry_model.specs.WellKnownText.{without_repeats}

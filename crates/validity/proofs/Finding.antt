@@ -1,0 +1,107 @@
+-- The first of some faults that stands, number by number.
+use Rattle.std.proofs.Common.{◌≡◌, refl, sym, ap, ◌∙◌, ℕ, zero, suc, ◌+◌, ◌-◌, ◌<◌, ◌≤◌, Bool, true, false, cond, List, [], ◌∷◌, ◌++◌, map, drop, length, Option, Some, None, slice_get, arith}
+use Rattle.std.specs.List.{find, flat_map, range_with_len}
+use Rattle.std.specs.Option.{option_or, is_some, MatchOption}
+use Rattle.std.proofs.lemmas.List.Folds.{find-append}
+use Rattle.geometry_model.specs.FirstFaults.{numbers}
+use Rattle.geometry_model.specs.declared.validity_faults.ValidityFault.{ValidityFault}
+
+-- ---- the numbers that are left
+numbers_go_on : (i n : ℕ) → i < n → numbers i n ≡ i ∷ numbers (i + 1) n
+numbers_go_on i n h = go (n - i) (n - (i + 1)) (omega arith)
+  where
+    go : (k l : ℕ) → k ≡ suc l → range_with_len i k ≡ i ∷ range_with_len (i + 1) l
+    go k l e = ap (range_with_len i) e
+
+numbers_end : (i n : ℕ) → n ≤ i → numbers i n ≡ []
+numbers_end i n h = let e : n - i ≡ 0 = omega arith in ap (range_with_len i) e
+
+-- ---- one fault a number
+pub found_here : (stands : ValidityFault → Bool) (fault : ℕ → ValidityFault) (i n : ℕ) → i < n → stands (fault i) ≡ true → find stands (map fault (numbers i n)) ≡ Some (fault i)
+found_here stands fault i n h e = rw (numbers_go_on i n h, e) refl
+
+pub passed_here : (stands : ValidityFault → Bool) (fault : ℕ → ValidityFault) (i n : ℕ) → i < n → stands (fault i) ≡ false
+    → find stands (map fault (numbers i n)) ≡ find stands (map fault (numbers (i + 1) n))
+passed_here stands fault i n h e = ap (λ ns. find stands (map fault ns)) (numbers_go_on i n h) ∙ ap (λ b. cond b (Some (fault i)) (find stands (map fault (numbers (i + 1) n)))) e
+
+pub none_left : (stands : ValidityFault → Bool) (fault : ℕ → ValidityFault) (i n : ℕ) → n ≤ i → find stands (map fault (numbers i n)) ≡ None
+none_left stands fault i n h = ap (λ ns. find stands (map fault ns)) (numbers_end i n h)
+
+-- ---- some faults a number
+in_front : (stands : ValidityFault → Bool) (xs ys : List ValidityFault) (o : Option ValidityFault) → find stands xs ≡ o → find stands (xs ++ ys) ≡ option_or o (find stands ys)
+in_front stands xs ys o e = find-append stands xs ys ∙ ap (λ f. option_or f (find stands ys)) e
+
+pub found_among : (stands : ValidityFault → Bool) (faults : ℕ → List ValidityFault) (i n : ℕ) (fault : ValidityFault) → i < n → find stands (faults i) ≡ Some fault
+    → find stands (flat_map faults (numbers i n)) ≡ Some fault
+found_among stands faults i n fault h e = ap (λ ns. find stands (flat_map faults ns)) (numbers_go_on i n h) ∙ in_front stands (faults i) (flat_map faults (numbers (i + 1) n)) (Some fault) e
+
+pub passed_among : (stands : ValidityFault → Bool) (faults : ℕ → List ValidityFault) (i n : ℕ) → i < n → find stands (faults i) ≡ None
+    → find stands (flat_map faults (numbers i n)) ≡ find stands (flat_map faults (numbers (i + 1) n))
+passed_among stands faults i n h e = ap (λ ns. find stands (flat_map faults ns)) (numbers_go_on i n h) ∙ in_front stands (faults i) (flat_map faults (numbers (i + 1) n)) None e
+
+pub none_among : (stands : ValidityFault → Bool) (faults : ℕ → List ValidityFault) (i n : ℕ) → n ≤ i → find stands (flat_map faults (numbers i n)) ≡ None
+none_among stands faults i n h = ap (λ ns. find stands (flat_map faults ns)) (numbers_end i n h)
+
+-- ---- some faults a part
+at_place : {A : Type 0} (xs : List A) (m : ℕ) (x : A) → slice_get xs m ≡ Some x → drop m xs ≡ x ∷ drop (m + 1) xs
+at_place xs m x e = go xs m x e ∙ ap (λ k. x ∷ drop k xs) (next m)
+  where
+    next : (k : ℕ) → suc k ≡ k + 1
+    next k = omega arith
+
+    go : {A : Type 0} (xs : List A) (m : ℕ) (x : A) → slice_get xs m ≡ Some x → drop m xs ≡ x ∷ drop (suc m) xs
+    go [] m x e = absurd cc
+    go (y ∷ ys) zero x e = let same : y ≡ x = cc in ap (λ z. z ∷ ys) same
+    go (y ∷ ys) (suc m) x e = go ys m x e
+
+pub found_in_part : {A : Type 0} (stands : ValidityFault → Bool) (faults : A → List ValidityFault) (parts : List A) (m : ℕ) (part : A) (fault : ValidityFault) → slice_get parts m ≡ Some part
+    → find stands (faults part) ≡ Some fault → find stands (flat_map faults (drop m parts)) ≡ Some fault
+found_in_part stands faults parts m part fault is e = ap (λ xs. find stands (flat_map faults xs)) (at_place parts m part is)
+    ∙ in_front stands (faults part) (flat_map faults (drop (m + 1) parts)) (Some fault) e
+
+pub passed_in_part : {A : Type 0} (stands : ValidityFault → Bool) (faults : A → List ValidityFault) (parts : List A) (m : ℕ) (part : A) → slice_get parts m ≡ Some part
+    → find stands (faults part) ≡ None → find stands (flat_map faults (drop m parts)) ≡ find stands (flat_map faults (drop (m + 1) parts))
+passed_in_part stands faults parts m part is e = ap (λ xs. find stands (flat_map faults xs)) (at_place parts m part is)
+    ∙ in_front stands (faults part) (flat_map faults (drop (m + 1) parts)) None e
+
+-- all parts are passed
+past_all : {A : Type 0} (xs : List A) (m : ℕ) → length xs ≤ m → drop m xs ≡ []
+past_all [] zero h = refl
+past_all [] (suc m) h = refl
+past_all (x ∷ xs) zero h = absurd (omega (arith, h))
+past_all (x ∷ xs) (suc m) h = past_all xs m (omega (arith, h))
+
+pub none_in_parts : {A : Type 0} (stands : ValidityFault → Bool) (faults : A → List ValidityFault) (parts : List A) (m : ℕ) → length parts ≤ m
+    → find stands (flat_map faults (drop m parts)) ≡ None
+none_in_parts stands faults parts m h = ap (λ xs. find stands (flat_map faults xs)) (past_all parts m h)
+
+-- ---- what was found there, or nothing
+some_is : (o : Option ValidityFault) → is_some o ≡ true → (fault : ValidityFault) × (o ≡ Some fault)
+some_is None h = absurd cc
+some_is (Some fault) h = (fault, refl)
+
+none_is : (o : Option ValidityFault) → is_some o ≡ false → o ≡ None
+none_is None h = refl
+none_is (Some fault) h = absurd cc
+
+pub first_among : (stands : ValidityFault → Bool) (faults : ℕ → List ValidityFault) (i n : ℕ) (o : Option ValidityFault) → i < n → o ≡ find stands (faults i) → is_some o ≡ true
+    → find stands (flat_map faults (numbers i n)) ≡ o
+first_among stands faults i n o h e some = let k = some_is o some in found_among stands faults i n k.0 h (sym e ∙ k.1) ∙ sym k.1
+
+pub further_among : (stands : ValidityFault → Bool) (faults : ℕ → List ValidityFault) (i n : ℕ) (o : Option ValidityFault) → i < n → o ≡ find stands (faults i) → is_some o ≡ false
+    → find stands (flat_map faults (numbers i n)) ≡ find stands (flat_map faults (numbers (i + 1) n))
+further_among stands faults i n o h e none = passed_among stands faults i n h (sym e ∙ none_is o none)
+
+pub first_in_part : {A : Type 0} (stands : ValidityFault → Bool) (faults : A → List ValidityFault) (parts : List A) (m : ℕ) (part : A) (o : Option ValidityFault) → slice_get parts m ≡ Some part
+    → o ≡ find stands (faults part) → is_some o ≡ true → find stands (flat_map faults (drop m parts)) ≡ o
+first_in_part stands faults parts m part o is e some = let k = some_is o some in found_in_part stands faults parts m part k.0 is (sym e ∙ k.1) ∙ sym k.1
+
+pub further_in_parts : {A : Type 0} (stands : ValidityFault → Bool) (faults : A → List ValidityFault) (parts : List A) (m : ℕ) (part : A) (o : Option ValidityFault) → slice_get parts m ≡ Some part
+    → o ≡ find stands (faults part) → is_some o ≡ false → find stands (flat_map faults (drop m parts)) ≡ find stands (flat_map faults (drop (m + 1) parts))
+further_in_parts stands faults parts m part o is e none = passed_in_part stands faults parts m part is (sym e ∙ none_is o none)
+
+-- what is found in the one list, or else in the other
+pub found_or_else : (stands : ValidityFault → Bool) (xs ys : List ValidityFault) (o r : Option ValidityFault) → o ≡ find stands xs → MatchOption o (r ≡ find stands ys) (λ fault. r ≡ Some fault)
+    → r ≡ find stands (xs ++ ys)
+found_or_else stands xs ys None r e h = h ∙ sym (in_front stands xs ys None (sym e))
+found_or_else stands xs ys (Some fault) r e h = h ∙ sym (in_front stands xs ys (Some fault) (sym e))

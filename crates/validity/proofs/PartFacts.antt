@@ -1,0 +1,52 @@
+-- The tests of rings and polygons by their edges.
+use Rattle.std.proofs.Common.{◌≡◌, refl, ap₂, ◌∙◌, ℕ, zero, suc, ◌<◌, not, ◌||◌, length, get_or, List, [], ◌∷◌, map, Option, Some, None, slice_get}
+use Rattle.std.proofs.lemmas.Option.{slice_get-get_or}
+use Rattle.geometry_model.specs.Points.{Position}
+use Rattle.geometry_model.specs.Geometries.{Edge, edges_of_line, edges_of_lines}
+use Rattle.geometry_model.specs.Validity.{inside, inside_element}
+use Rattle.geometry_model.specs.FirstFaults.{test_of_both, elements_share}
+use Rattle.ring_tests.specs.EdgeRuns.{edges_share, is_odd_above}
+use Rattle.ring_tests.proofs.Runs.{polygons_by_their_edges, inside_by_edges}
+
+-- what stands at a place of a mapped list
+mapped_at : {A B : Type 0} (f : A → B) (xs : List A) (i : ℕ) (y : B) → slice_get (map f xs) i ≡ Some y → (x : A) × (slice_get xs i ≡ Some x) × (f x ≡ y)
+mapped_at f [] i y e = absurd cc
+mapped_at f (x ∷ xs) zero y e = (x, refl, cc)
+mapped_at f (x ∷ xs) (suc i) y e = mapped_at f xs i y e
+
+pub elements_share_by_edges : (es : List (List (List Position))) (i j : ℕ) (r s : List Edge) → slice_get (map edges_of_lines es) i ≡ Some r → slice_get (map edges_of_lines es) j ≡ Some s
+    → test_of_both elements_share (slice_get es i) (slice_get es j) ≡ edges_share r s
+elements_share_by_edges es i j r s e f = let k = mapped_at edges_of_lines es i r e in let l = mapped_at edges_of_lines es j s f in
+    ap₂ (λ (a b : Option (List (List Position))). test_of_both elements_share a b) k.1 l.1 ∙ (polygons_by_their_edges k.0 l.0 ∙ ap₂ edges_share k.2 l.2)
+
+pub inside_ring_by_edges : (rings : List (List Position)) (outer ring : ℕ) (run : List Edge) (r : List Position) (p : Position) → slice_get (map edges_of_line rings) outer ≡ Some run → slice_get rings ring ≡ Some r
+    → slice_get r 0 ≡ Some p → test_of_both inside (slice_get rings outer) (slice_get rings ring) ≡ is_odd_above run p
+inside_ring_by_edges rings outer ring run [] p e f h = absurd cc
+inside_ring_by_edges rings outer ring run (q ∷ qs) p e f h = let k = mapped_at edges_of_line rings outer run e in let same : q ≡ p = cc in
+    ap₂ (λ (a b : Option (List Position)). test_of_both inside a b) k.1 f ∙ ((inside_by_edges q qs k.0 [] []).0 ∙ ap₂ is_odd_above k.2 same)
+
+pub inside_element_by_edges : (es : List (List (List Position))) (element other : ℕ) (run : List Edge) (rings : List (List Position)) (r : List Position) (p : Position)
+    → slice_get (map edges_of_lines es) other ≡ Some run → slice_get es element ≡ Some rings → slice_get rings 0 ≡ Some r → slice_get r 0 ≡ Some p
+    → test_of_both (λ d e. inside_element e d) (slice_get es element) (slice_get es other) ≡ is_odd_above run p
+inside_element_by_edges es element other run [] r p e f h k = absurd cc
+inside_element_by_edges es element other run ([] ∷ holes) r p e f h k = let same : Some [] ≡ Some r = h in absurd cc
+inside_element_by_edges es element other run ((q ∷ qs) ∷ holes) r p e f h k = let l = mapped_at edges_of_lines es other run e in
+    let ring : (q ∷ qs) ≡ r = cc in
+    let same : q ≡ p = cc in
+    ap₂ (λ (a b : Option (List (List Position))). test_of_both (λ d e. inside_element e d) a b) f l.1 ∙ ((inside_by_edges q qs [] holes l.0).1 ∙ ap₂ is_odd_above l.2 same)
+
+-- ---- two tests of two rings
+pub either_inside : (r s : Option (List Position)) → (test_of_both inside r s || test_of_both inside s r) ≡ test_of_both (λ a b. inside a b || inside b a) r s
+either_inside None None = refl
+either_inside None (Some s) = refl
+either_inside (Some r) None = refl
+either_inside (Some r) (Some s) = refl
+
+pub not_inside : (rings : List (List Position)) (outer ring : ℕ) → outer < length rings → ring < length rings
+    → not (test_of_both inside (slice_get rings outer) (slice_get rings ring)) ≡ test_of_both (λ a b. not (inside a b)) (slice_get rings outer) (slice_get rings ring)
+not_inside rings outer ring h k = both (slice_get rings outer) (slice_get rings ring) (get_or rings outer []) (get_or rings ring []) (slice_get-get_or rings outer [] h) (slice_get-get_or rings ring [] k)
+  where
+    both : (r s : Option (List Position)) (a b : List Position) → r ≡ Some a → s ≡ Some b → not (test_of_both inside r s) ≡ test_of_both (λ a b. not (inside a b)) r s
+    both None s a b e f = absurd cc
+    both (Some r) None a b e f = absurd cc
+    both (Some r) (Some s) a b e f = refl

@@ -1,0 +1,11 @@
+use Rattle.std.proofs.Common.{◌∙◌, sym, ◌+◌, map}
+use Rattle.geometry_model.specs.FirstFaults.{has_fault, numbers}
+use Rattle.geometry_model.specs.declared.validity_faults.ValidityFault.TheVariants as validity
+use Rattle.validity.proofs.Finding.{first_among, further_among}
+use Rattle.validity.proofs.first_faults.holes_of_one_nested.Goals as goal
+
+pub returns-then-is_some : goal.returns-then-is_some
+returns-then-is_some c = sym (c.loop-hole.invariant ∙ first_among (has_fault c.args.outline.now) (λ i. map (validity.HolesNested i) (numbers (i + 1) c.args.end)) c.loop-hole.hole c.args.end c.hole_nested_later-fault.result c.loop-hole-test.true c.hole_nested_later-fault.ensures (sym c.is_some.ensures ∙ c.if-is_some.true))
+
+pub loop-hole-preserved : goal.loop-hole-preserved
+loop-hole-preserved c = c.loop-hole.invariant ∙ further_among (has_fault c.args.outline.now) (λ i. map (validity.HolesNested i) (numbers (i + 1) c.args.end)) c.loop-hole.hole c.args.end c.hole_nested_later-fault.result c.loop-hole-test.true c.hole_nested_later-fault.ensures (sym c.is_some.ensures ∙ c.if-is_some.false)
