@@ -19,9 +19,11 @@ use Rattle.table_model.specs.Outcomes.{Gives}
 use Rattle.table_model.specs.Statements.{conjuncts_of}
 use Rattle.table_model.specs.Texts.{same_name}
 use Rattle.table_model.specs.declared.conditions.Bound.{Bound}
+use Rattle.table_model.specs.declared.conditions.ColumnPlace.{ColumnPlace}
 use Rattle.table_model.specs.declared.conditions.Cond.{Cond}
 use Rattle.table_model.specs.declared.conditions.Cond.TheVariants as conds
 use Rattle.table_model.specs.declared.conditions.Cond.TheOpen.{Cond-F}
+use Rattle.table_model.specs.declared.conditions.GeometryArgument.{GeometryArgument}
 use Rattle.table_model.specs.declared.conditions.Item.TheVariants as items
 use Rattle.table_model.specs.declared.conditions.Operand.{Operand}
 use Rattle.table_model.specs.declared.conditions.Reference.{Reference}
@@ -476,3 +478,8 @@ answered (Err e) s P is gives = tt
 pub plain_answer_is_bound : {T : Type 0} (definitions : List (TableDef T)) (query : Query NoGeometry NoGeometry) (r : Checked (Bound NoGeometry NoGeometry))
     → Gives query_fault.OutOfMemory (λ b. b) r (binding no_geometry definitions query) → IfOk r (IsBound no_geometry_fits definitions)
 plain_answer_is_bound {T} definitions query r gives = answered r (binding no_geometry definitions query) (IsBound no_geometry_fits definitions) (plain_queries_are_bound T definitions query) gives
+
+-- the same of a binder of queries with geometries
+pub geometry_answer_is_bound : (definitions : List (TableDef ColumnShape)) (query : Query WrittenGeometry WrittenColumn) (r : Checked (Bound (GeometryArgument Geometry) ColumnPlace))
+    → Gives query_fault.OutOfMemory (λ b. b) r (binding geometry_binding definitions query) → IfOk r (IsBound geometry_fits definitions)
+geometry_answer_is_bound definitions query r gives = answered r (binding geometry_binding definitions query) (IsBound geometry_fits definitions) (geometry_queries_are_bound definitions query) gives

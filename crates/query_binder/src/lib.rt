@@ -1,0 +1,39 @@
+//! Queries in the style of OGC 06-104r4 (Simple Features, part 2), bound to the tables of a schema: names become
+//! places, strings the bytes that they hold, and texts of geometries valid geometries.
+#![tactic(auto)]
+
+mod arguments;
+mod columns;
+mod conditions;
+mod conjuncts;
+mod constants;
+mod items;
+mod operands;
+mod patterns;
+mod query;
+mod references;
+mod scope;
+mod strings;
+#[cfg(test)]
+mod tests;
+
+use geometry_model::GeometryType;
+pub use query::bind;
+use table_model::conditions::{ColumnPlace, GeometryArgument};
+pub use table_model::faults::QueryFault;
+use validity::Valid;
+
+/// The type of a geometry column: one type of geometry, or none for GEOMETRY, which takes them all. (06-104r4, 7.2.)
+pub type ColumnShape = Option<GeometryType>;
+
+/// A table of a schema. (06-104r4, feature tables.)
+pub type TableDef = table_model::definitions::TableDef<ColumnShape>;
+
+/// A geometry argument of a condition: the place of a column, or a valid geometry that was read once. (06-104r4, 7.2.)
+pub type Argument = GeometryArgument<Valid>;
+
+/// A condition over the rows of a bound query. (SQL, the search condition.)
+pub type Cond = table_model::conditions::Cond<Argument>;
+
+/// A query whose names have become places of a schema's tables. (SQL, the query.)
+pub type Bound = table_model::conditions::Bound<Argument, ColumnPlace>;

@@ -1,0 +1,11 @@
+//! Where the names of a query are looked up.
+
+use crate::TableDef;
+use table_model::conditions::Reference;
+
+/// The tables of a schema, and the references of a query to some of them.
+#[derive(Clone, Copy)]
+pub struct Scope<'s> {
+    pub definitions: &'s [TableDef],
+    pub references: &'s [Reference],
+}
