@@ -123,6 +123,7 @@ crossing_is_cut es ps e f a b q h = record {
   is_cut = IsCut.AtCrossing h.is_point e f (contains_from_among es e a) (contains_from_among es f b) h.apart h.on_first h.on_second;
 }
 
+-- what is listed is an end, a listed position or a crossing, and each of them is a cut
 pub cut_is_cut : (es : List Edge) (ps : List Position) (q : Point) → Among q (all_cuts es ps) → IsLeastCut es ps q
 cut_is_cut es ps q a = outer (among_either q (flat_map end_points es ++ map point_at ps) (flat_map (λ e. flat_map (crossings e) es) es) a)
   where
@@ -156,6 +157,7 @@ in_listed es ps q a = among_left q (flat_map end_points es ++ map point_at ps) _
 in_crossings : (es : List Edge) (ps : List Position) (q : Point) → Among q (flat_map (λ e. flat_map (crossings e) es) es) → Among q (all_cuts es ps)
 in_crossings es ps q a = among_right q (flat_map end_points es ++ map point_at ps) _ a
 
+-- each cut is one of the three, so it is listed in least form
 pub cut_found : (es : List Edge) (ps : List Position) (p : Point) → IsPoint p → IsCut es ps p → Some_of (λ q. same_point q p ≡ true) (all_cuts es ps)
 cut_found es ps p hp (IsCut.AtEnd _ e c h) = go (or_either (same_point (point_at e.start) p) (same_point (point_at e.end) p) h)
   where

@@ -106,6 +106,7 @@ any_piece_is es ps c a = go (among_flat_map (pieces_of_edge (cut_points es ps)) 
 pub piece_is : (es : List Edge) (ps : List Position) (c : Piece) → Among c (pieces (cut_points es ps) es) → IsLeastPiece es ps c
 piece_is es ps c a = any_piece_is es ps c (among_ascending compare_pieces (all_pieces es ps) c a)
 
+-- a piece lies on some edge between two of its cuts with none between, so it is a stretch of that edge's cuts
 pub piece_is_listed : (es : List Edge) (ps : List Position) (c : Piece) → IsPoint c.lesser → IsPoint c.greater → IsLeast c.lesser → IsLeast c.greater → IsPiece es ps c → Among c (pieces (cut_points es ps) es)
 piece_is_listed es ps c hl hg ll lg h = go (ascending_among compare_pieces (all_pieces es ps) c
     (flat_map_among (pieces_of_edge (cut_points es ps)) es h.edge c (among_from_contains es h.edge h.among) (edge_has_piece es ps c hl hg ll lg h)))

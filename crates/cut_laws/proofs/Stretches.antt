@@ -49,6 +49,7 @@ stretch_is (p ∷ []) v s c a = absurd a
 stretch_is (p ∷ q ∷ rest) v s c (inl g) = subst (Neighbours (p ∷ q ∷ rest)) (sym g) (first_two p q rest v s)
 stretch_is (p ∷ q ∷ rest) v s c (inr a) = behind_first p (q ∷ rest) c v.0 v.1 s.0 (stretch_is (q ∷ rest) v.1 s.1 c a)
 
+-- between two points of an ascending list with none between them is a stretch between neighbours
 pub stretch_found : (xs : List Point) → Each IsPoint xs → Sorted compare xs → (x y : Point) → Among x xs → Among y xs → compare x y ≡ Less
     → ((z : Point) → Among z xs → compare x z ≡ Less → compare z y ≡ Less → ⊥) → Among (record { lesser = x; greater = y }) (stretches xs)
 stretch_found [] v s x y a b e none = absurd a

@@ -41,6 +41,7 @@ rest_there {X} order irr x y xs ys e s there z a = go (there z (inr a))
     go (inl g) = absurd (irr x (ap (order x) (e ∙ sym g) ∙ each_at (λ w. order x w ≡ Less) xs z s a))
     go (inr b) = b
 
+-- two strictly ascending lists with the same members are one list
 pub same_list : {X : Type 0} (V : X → Type 0) (order : X → X → Ordering) → IsOrder V order → Irreflexive order → (xs ys : List X) → Each V xs → Each V ys
     → Sorted order xs → Sorted order ys → SameMembers xs ys → xs ≡ ys
 same_list V order o irr [] [] v w s t m = refl
@@ -198,6 +199,7 @@ matrix_swapped x y h = λ i. record {
   exterior_exterior = Two;
 }
 
+-- cuts and pieces don't mind the order of the two geometries, and each label is turned, so each cell is
 pub labelled_is_transposed : (a b : Geometry) → labelled_matrix b a ≡ transposed (labelled_matrix a b)
 labelled_is_transposed a b = ap matrix_of_labels (labels_turned a b)
     ∙ matrix_swapped (labels_of b a (cuts_of_both a b) (pieces (cuts_of_both a b) (edges_of_both a b))) (labels a b)

@@ -91,6 +91,7 @@ off_by_clear p n hp hq hr k m l h e c = off_beyond c.line e (weighted_three k p 
     carried : (x y : ℤ) → x ≡ y → pos 0 <ℤ y → pos 0 <ℤ x
     carried x y e h = omega (arith, ints)
 
+-- off finitely many edges each has a line that parts it from the point, and near enough the point no such line is crossed
 pub box : (p : Point) (es : List Edge) → IsPoint p → Each (λ e. on e p ≡ false) es → Corners p es
 box p es hp h = go (both (λ n. 0 < n) (λ n. Each (λ e. Clear p e n) es) (from_one (λ n. 0 < n) (λ n k. k)) (each_eventually (Clear p) es (each_map (λ e. on e p ≡ false) (λ e. Eventually (Clear p e)) es (clear_soon p) h)))
   where
@@ -122,6 +123,7 @@ some_weight : (s t k m l : ℕ) → 0 < s + t → 0 < k + m + l → 0 < (s + t *
 some_weight s zero k m l h g = omega arith
 some_weight s (suc t) k m l h g = omega arith
 
+-- no stretch from the point to a point of the triangle meets an edge, since the triangle lies on one side of each edge's line
 pub misses_within : (p : Point) (es : List Edge) (c : Corners p es) (k m l : ℕ) → 0 < k + m + l → Each (Misses p (weighted_three k p m c.q l c.r)) es
 misses_within p es c k m l h = gather es (λ s t g. subst (λ (z : Point). Each (λ e. on e z ≡ false) es) (sym (weighted_within s k m l t p c.q c.r)) (c.off (s + t * k) (t * m) (t * l) (some_weight s t k m l g h)))
   where

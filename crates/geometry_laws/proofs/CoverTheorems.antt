@@ -28,6 +28,7 @@ pub all_from_each : {X : Type 0} (P : X → Type 0) (xs : List X) → Each P xs 
 all_from_each P [] h = All-nil P
 all_from_each P (x ∷ xs) h = All-cons P x xs h.0 (all_from_each P xs h.1)
 
+-- finitely many points don't cover a segment
 pub points_dont_cover : (cs : List Point) (p q : Point) → All IsPoint cs → IsPoint p → IsPoint q → same_point p q ≡ false → (m n : ℕ) × (0 < m + n) × All (λ c. same_point c (weighted m p n q) ≡ false) cs
 points_dont_cover cs p q h hp hq f = go (avoid_points cs p q hp hq f (each_from_all IsPoint cs h))
   where
@@ -37,6 +38,7 @@ points_dont_cover cs p q h hp hq f = go (avoid_points cs p q hp hq f (each_from_
     go : OffPoints cs p q → (m n : ℕ) × (0 < m + n) × All (λ c. same_point c (weighted m p n q) ≡ false) cs
     go o = (1, o.t, some o.t, all_from_each (λ c. same_point c (weighted 1 p o.t q) ≡ false) cs o.off)
 
+-- finitely many lines don't cover a triangle
 pub lines_dont_cover : (ls : List Line) (p q r : Point) → All IsLine ls → area p q r ≢ pos 0 → (k m n : ℕ) × (0 < k + m + n) × All (λ l. value l (weighted_three k p m q n r) ≢ pos 0) ls
 lines_dont_cover ls p q r h f = go (avoid_lines ls p q r f (each_from_all IsLine ls h))
   where
@@ -58,6 +60,7 @@ straight : (p z x : Point) → IsPoint x → p.X *ℤ x.W ≡ x.X *ℤ p.W → z
 straight p z x hx e f = cancel_zero x.W (right p z) hx (solve (p.X ∷ p.W ∷ z.X ∷ z.W ∷ x.W ∷ []) (var 4 ⊗ (var 2 ⊗ var 1 ⊖ var 0 ⊗ var 3)) ((var 2 ⊗ var 4) ⊗ var 1 ⊖ (var 0 ⊗ var 4) ⊗ var 3) tt
     ∙ ap₂ (λ (s t : ℤ). s *ℤ p.W -ℤ t *ℤ z.W) f e ∙ solve (x.X ∷ p.W ∷ z.W ∷ []) ((var 0 ⊗ var 2) ⊗ var 1 ⊖ (var 0 ⊗ var 1) ⊗ var 2) (lit (pos 0)) tt)
 
+-- above a point there is no edge, or a first one, below which nothing stands
 pub first_is_above : (es : List Edge) (x : Point) → IsPoint x → All (λ e. strictly_above e x ≡ false) es ⊎ FirstAbove es x
 first_is_above es x hx = go (first es x hx)
   where
@@ -89,6 +92,7 @@ slant_marks a b s hs h k = each_append (IsSlant s) (edges_of_both a b) (dots (li
     (each_append (IsSlant s) (edges a) (edges b) (each_from_all (IsSlant s) (edges a) h.edges) (each_from_all (IsSlant s) (edges b) k.edges))
     (slant_dots (listed a ++ listed b) s hs (each_append (λ q. stands_at s q ≡ false) (listed a) (listed b) (each_from_all (λ q. stands_at s q ≡ false) (listed a) h.positions) (each_from_all (λ q. stands_at s q ≡ false) (listed b) k.positions)))
 
+-- just below and just above a point that no upright edge goes through, all points of some triangle stand alike
 pub sides_have_triangles : (a b : Geometry) → HasClosedRings a → HasClosedRings b → (s : Point) → IsPoint s → IsSlantAt a s → IsSlantAt b s
     → HasTriangle (common a (below a s) b (below b s)) × HasTriangle (common a (above a s) b (above b s))
 sides_have_triangles a b ca cb s hs h k = (
@@ -99,5 +103,6 @@ sides_have_triangles a b ca cb s hs h k = (
 pub sides_are_near : (g : Geometry) (s : Point) → IsPoint s → IsSlantAt g s → (k : ℕ) → NearSides g s k
 sides_are_near g s hs h k = near_sides g s hs (slant_marks g g s hs h h) k
 
+-- near enough a point, what stands straight below and above it stands as its sides do
 pub near_points_stand_so : (g : Geometry) (s : Point) → IsPoint s → IsSlantAt g s → AllNearStand g s
 near_points_stand_so g s hs h = all_near_stand g s hs (slant_marks g g s hs h h)

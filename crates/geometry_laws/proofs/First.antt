@@ -38,6 +38,7 @@ high e x h = turned (side_rightward e x) (less_from (side_rightward e x) (pos 0)
     turned : (s : ℤ) → s <ℤ pos 0 → pos 0 <ℤ (pos 0 -ℤ s)
     turned s h = omega (arith, ints)
 
+-- the edges that are above x are compared at x, and the lowest is kept
 pub first : (es : List Edge) (x : Point) → IsPoint x → Each (λ e. strictly_above e x ≡ false) es ⊎ First es x
 first [] x hx = inl tt
 first (e ∷ es) x hx = go (strictly_above e x) refl (first es x hx)
@@ -145,6 +146,7 @@ number d s h k hd hh hk f = go (at_most_or_less (pos 0) s)
     go (inl l) = at_most_no (d *ℤ s +ℤ h *ℤ k) (pos 0) (sum (d *ℤ s) (h *ℤ k) (plus_plus d s (weak d hd) l) (strict_plus_plus h k hh hk)) ∙ sym (less_no s (pos 0) l)
     go (inr l) = at_most_yes (d *ℤ s +ℤ h *ℤ k) (pos 0) (under (d *ℤ s) (h *ℤ k) ((pos 0 -ℤ s) *ℤ d) (solve (d ∷ s ∷ []) ((lit (pos 0) ⊖ var 1) ⊗ var 0) (lit (pos 0) ⊖ var 0 ⊗ var 1) tt) (f l)) ∙ sym (less_yes s (pos 0) l)
 
+-- at the lowest edge's point over x the edges at or above are those strictly above x
 pub label_of_first : (es : List Edge) (x : Point) → IsPoint x → (r : First es x) (g : Edge) → Among g es → at_or_above g (over_point r.edge x) ≡ strictly_above g x
 label_of_first es x hx r g m = go (spans g x) refl
   where

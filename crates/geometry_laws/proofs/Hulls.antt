@@ -151,6 +151,7 @@ single a b x w h e = solve (x ∷ []) (lit (pos 1) ⊗ var 0) (var 0) tt ∙ go 
     go (inl k) = squeeze (a *ℤ w) (b *ℤ w) x equal k.0 k.1
     go (inr k) = squeeze (b *ℤ w) (a *ℤ w) x (sym equal) k.0 k.1 ∙ sym equal
 
+-- a point on an edge divides it, with its distances from the ends as weights
 pub hull_from_on : (e : Edge) (p : Point) → IsPoint p → on e p ≡ true → OnHull e p
 hull_from_on e p hp h = go (is_or_not (e.end.x -ℤ e.start.x)) (is_or_not (e.end.y -ℤ e.start.y))
   where

@@ -100,5 +100,6 @@ on_line a b p f e = record {
     rejoined : (x y : ℤ) → x ≡ (x -ℤ y) +ℤ y
     rejoined x y = omega (arith, ints)
 
+-- where the side is 0 the weights of the ends give the point, and where they give it they cancel in the side
 pub zero_exactly_on_line : (a b : Position) (p : Point) → (a ≡ b → ⊥) → (side a b p ≡ pos 0) ↔ IsOnLine a b p
 zero_exactly_on_line a b p f = (λ e. on_line a b p f e, λ l. zero_on_line a b p l)

@@ -86,6 +86,7 @@ ends_even [] p h = refl
 ends_even (a ∷ []) p h = ap (xor (stands_at p a)) (xor_false (stands_at p a)) ∙ xor_self (stands_at p a)
 ends_even (a ∷ b ∷ rest) p h = ap₂ xor ((h.0).0) (xor_false (stands_at p (last_after b rest)) ∙ last_off a b rest p h)
 
+-- off all edges no end of a line is there, so their number is even and the point isn't boundary
 pub all_ends_even : (ls : List (List Position)) (p : Point) → NoEnd (edges_of_lines ls) p → parity (stands_at p) (flat_map ends ls) ≡ false
 all_ends_even [] p h = refl
 all_ends_even (l ∷ ls) p h = parity_append (stands_at p) (ends l) (flat_map ends ls) ∙ ap₂ xor
@@ -108,6 +109,7 @@ lines_off ls p hp h = ap₂ (λ (s t : Bool). if s then Boundary else if t then 
 rings_off : (rs : List (List Position)) (p : Point) → OffEdges (edges_of_lines rs) p → in_rings rs p ≡ (if odd_above rs p then Interior else Exterior)
 rings_off rs p h = ap (λ (s : Bool). if s then Boundary else if odd_above rs p then Interior else Exterior) (none_passes (λ e. on e p) (edges_of_lines rs) h)
 
+-- off the edges and the listed positions only the parity of the rings above tells interior from exterior
 pub locate_off : (g : Geometry) (p : Point) → IsPoint p → Off g p → locate g p ≡ above g p
 locate_off (Geometry.Point o) p hp h = points_off (option_to_list o) p h.listed_off
 locate_off (Geometry.MultiPoint ps) p hp h = points_off ps p h.listed_off

@@ -39,6 +39,7 @@ side_lifted a b d n p = solve (a.x ∷ a.y ∷ b.x ∷ b.y ∷ p.X ∷ p.Y ∷ p
 abbrev pub IsSlant : Point → Edge → Type 0
 IsSlant p e = on e p ≡ true → e.start.x ≡ e.end.x → ⊥
 
+-- a point on an edge with breadth, moved up or down, leaves it
 pub off_by_breadth : (d : ℤ) (e : Edge) (n : ℕ) (p : Point) → (d ≡ pos 0 → ⊥) → on e p ≡ true → (e.start.x ≡ e.end.x → ⊥) → on e (lifted d n p) ≡ false
 off_by_breadth d e n p hd h f = by_contraries (on e (lifted d n p)) false (λ k. absurd (apart ((on_parts e (lifted d n p) k).on_line))) refl
   where
@@ -69,6 +70,7 @@ off_by_line d e p hp f = go (parted e p f)
         (λ n h. off_beyond c.line e (lifted d n p) (lifted_is_point d n p h.0 hp) c.parts (carried (value c.line (lifted d n p)) (pos n *ℤ value c.line p) (value c.line (record { X = pos 0; Y = d; W = pos 0 })) (value_weighted c.line n p 1 (record { X = pos 0; Y = d; W = pos 0 })) h.1))
         (both (λ n. 0 < n) (λ n. pos 0 <ℤ (pos n *ℤ value c.line p +ℤ value c.line (record { X = pos 0; Y = d; W = pos 0 }))) (from_one (λ n. 0 < n) (λ n k. k)) (grows (value c.line p) (value c.line (record { X = pos 0; Y = d; W = pos 0 })) c.above_at))
 
+-- a point off an edge stays off when it is moved little enough, and one on it leaves it at once
 pub off_soon : (d : ℤ) (e : Edge) (p : Point) → (d ≡ pos 0 → ⊥) → IsPoint p → IsSlant p e → Eventually (λ n. on e (lifted d n p) ≡ false)
 off_soon d e p hd hp s = go (on e p) refl
   where
@@ -173,6 +175,7 @@ rises_number s d hd = go (at_most_or_less (pos 0) s)
     go (inr h) = weaker (λ n. pos 0 <ℤ (pos n *ℤ (pos 0 -ℤ s) +ℤ (pos 0 -ℤ d))) (λ n. int_lt (pos n *ℤ s +ℤ pos 1 *ℤ d) (pos 0) ≡ int_lt s (pos 0))
         (λ n k. less_yes (pos n *ℤ s +ℤ pos 1 *ℤ d) (pos 0) (beyond (pos n *ℤ s) (pos n *ℤ (pos 0 -ℤ s)) d (product_turned (pos n) s) k) ∙ sym (less_yes s (pos 0) h)) (grows (pos 0 -ℤ s) (pos 0 -ℤ d) (turned s h))
 
+-- moved down a little, a point has strictly above it what was at or above it
 pub sinks : (e : Edge) (p : Point) → IsPoint p → Eventually (λ n. strictly_above e (lifted down n p) ≡ at_or_above e p)
 sinks e p hp = go (spans e p) refl
   where
@@ -183,6 +186,7 @@ sinks e p hp = go (spans e p) refl
         (λ n k. ap₂ (λ (x y : Bool). x && y) (spans_lifted down e n p k.0) (ap (λ (z : ℤ). int_lt z (pos 0)) (rightward_lifted down e n p) ∙ k.1))
         (both (λ n. 0 < n) (λ n. int_lt (pos n *ℤ side_rightward e p +ℤ down *ℤ breadth e) (pos 0) ≡ int_le (side_rightward e p) (pos 0)) (from_one (λ n. 0 < n) (λ n k. k)) (sinks_number (side_rightward e p) (breadth e) (breadth_positive e p hp h)))
 
+-- moved up a little, a point has strictly above it what it had
 pub rises : (e : Edge) (p : Point) → IsPoint p → Eventually (λ n. strictly_above e (lifted (pos 1) n p) ≡ strictly_above e p)
 rises e p hp = go (spans e p) refl
   where

@@ -126,6 +126,7 @@ Step p q e = xor (strictly_above e p) (strictly_above e q) ≡ xor (over_positio
 pub position_is_point : (a : Position) → IsPoint (point_at a)
 position_is_point a = omega (arith, ints)
 
+-- along a stretch that an edge misses, its being above changes exactly as its ends are passed
 pub step_by_missing : (p q : Point) (e : Edge) → IsPoint p → IsPoint q → Misses p q e → Step p q e
 step_by_missing p q e hp hq f = ap₂ xor (above_is e p hp) (above_is e q hq) ∙ edge_lemma (point_at e.start) (point_at e.end) p q (position_is_point e.start) (position_is_point e.end) hp hq (misses_no_meeting p q e f)
 
@@ -154,6 +155,7 @@ ring_cancels : (f : Position → Bool) (ring : List Position) → IsClosed ring 
 ring_cancels f [] h = refl
 ring_cancels f (a ∷ rest) h = path f a rest ∙ ap (λ (b : Position). xor (f a) (f b)) h ∙ xor_self (f a)
 
+-- each position of a closed ring ends one edge and begins the next, so what is counted at the ends is even
 pub rings_cancel : (f : Position → Bool) (rings : List (List Position)) → Each IsClosed rings → parity (λ (e : Edge). xor (f e.start) (f e.end)) (edges_of_lines rings) ≡ false
 rings_cancel f [] h = refl
 rings_cancel f (r ∷ rs) h = parity_append (λ (e : Edge). xor (f e.start) (f e.end)) (edges_of_line r) (edges_of_lines rs) ∙ ap₂ xor (ring_cancels f r h.0) (rings_cancel f rs h.1) ∙ xor_self false
@@ -175,5 +177,6 @@ pub each_from_all : {X : Type 0} (P : X → Type 0) (xs : List X) → All P xs �
 each_from_all P [] h = tt
 each_from_all P (x ∷ xs) h = (All-head P x xs h, each_from_all P xs (All-tail P x xs h))
 
+-- so the parity of closed rings above is the same at both ends of a stretch that misses them
 pub parity_is_kept : (rings : List (List Position)) (p q : Point) → IsPoint p → IsPoint q → All IsClosed rings → All (Misses p q) (edges_of_lines rings) → odd_above rings p ≡ odd_above rings q
 parity_is_kept rings p q hp hq h k = parity_by_missing rings p q hp hq (each_from_all IsClosed rings h) (each_from_all (Misses p q) (edges_of_lines rings) k)

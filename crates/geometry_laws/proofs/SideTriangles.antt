@@ -66,6 +66,7 @@ moved_soon least d f g ms es s hd hs h k = go
 some : (m n : ℕ) → m < n → 0 < n
 some m n h = omega arith
 
+-- a little below the point is a point off all edges that stands as below says, and a triangle about that
 pub lower_triangle : (a b : Geometry) → Each IsClosed (rings a) → Each IsClosed (rings b) → (s : Point) → IsPoint s → Each (IsSlant s) (marks a b) → HasTriangle (common a (below a s) b (below b s))
 lower_triangle a b ca cb s hs h = go (moved_soon 0 down strictly_above at_or_above (marks a b) (edges_of_both a b) s not_zero_down hs h (λ e. sinks e s hs))
   where
@@ -74,6 +75,7 @@ lower_triangle a b ca cb s hs h = go (moved_soon 0 down strictly_above at_or_abo
         (below_from a s (lifted down r.0 s) (each_left (λ e. strictly_above e (lifted down r.0 s) ≡ at_or_above e s) (edges a) (edges b) ((r.1).alike)))
         (below_from b s (lifted down r.0 s) (each_right (λ e. strictly_above e (lifted down r.0 s) ≡ at_or_above e s) (edges a) (edges b) ((r.1).alike)))
 
+-- the same a little above it
 pub upper_triangle : (a b : Geometry) → Each IsClosed (rings a) → Each IsClosed (rings b) → (s : Point) → IsPoint s → Each (IsSlant s) (marks a b) → HasTriangle (common a (above a s) b (above b s))
 upper_triangle a b ca cb s hs h = go (moved_soon 0 (pos 1) strictly_above strictly_above (marks a b) (edges_of_both a b) s not_zero_one hs h (λ e. rises e s hs))
   where

@@ -38,6 +38,7 @@ dot_coordinate k m n a x w h e f = same (a *ℤ w) (x *ℤ pos 1) (cancel_zero k
     same : (x y : ℤ) → x -ℤ y ≡ pos 0 → x ≡ y
     same x y e = omega (arith, ints)
 
+-- an edge without length holds its own position alone
 pub dot_stands : (a : Position) (p : Point) → IsPoint p → on (dot a) p ≡ true → stands_at p a ≡ true
 dot_stands a p hp h = go (hull_from_on (dot a) p hp h)
   where

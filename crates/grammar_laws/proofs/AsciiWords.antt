@@ -121,6 +121,7 @@ tokens_from_ascii s (suc left) at (b ∷ z) = tokens_from_ascii s left (at + 1) 
 tokens_from_ascii s zero at (b ∷ z) =
     at_front_ascii (front s (b ∷ z)).0 (front s (b ∷ z)).1 at (b ∷ z) _ (front_ascii s (b ∷ z)) (tokens_from_ascii s ((front s (b ∷ z)).1 - 1) (at + 1) z)
 
+-- a word's bytes are letters, digits and _, and those are ASCII
 pub tokens_ascii : (s : Bool) (text : List ℕ) → AsciiWords (tokens s text)
 unfolding tokens
 tokens_ascii s text = tokens_from_ascii s 0 0 text

@@ -1348,6 +1348,7 @@ from_ends kind e = ends_by EndsItems kind k.From e ((refl, refl), refl)
 abbrev pub IsRest : (served : Served) → ServedQuery served → Phrase
 IsRest served q = IsSecond served q.second q.on ▸ IsWhere served.functions q.condition ▸ IsLimit served q.limit ▸ IsTail
 
+-- each rule is read as far as its phrase goes, by the token that stands behind it
 pub select_complete : (served : Served) (q : ServedQuery served) (ts : List Token) → IsSelect served q ts → query served ts ≡ Ok (q, [])
 select_complete served q ts (a0, b0, e0, told, p) = at_select (one_first _ _ b0 p)
   where

@@ -782,6 +782,7 @@ end_sound : (ts : List Token) → EndsOnce ts → IfRead (expect fault.Syntax k.
 unfolding expect
 end_sound ts once = if_read (sees k.End ts) _ _ _ (λ h. (one k.End ts (λ e. cc) h, ended ts once h)) (λ _. tt)
 
+-- what each reader takes is the phrase of its rule, and the phrases stand one behind the other
 pub query_sound : (served : Served) (ts : List Token) → EndsOnce ts → IfRead (query served ts) (λ q rest. IsSelect served q ts)
 unfolding query
 query_sound served ts once =

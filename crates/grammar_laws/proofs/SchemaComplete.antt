@@ -539,6 +539,7 @@ turns_before between P more x used tail p (t, rest, e) = rw e (turns_suffice bet
 few_tables : (more : ℕ) → suc more ≤ 16 → 0 + suc more ≤ 16
 few_tables more few = omega arith
 
+-- each rule is read as far as its phrase goes, by the token that stands behind it
 pub schema_complete : {T : Type 0} (geometry : List ℕ → Option T) (tables : List (TableDef T)) (ts : List Token) → AreTables geometry tables ts → AsciiWords ts → lawful tables ≡ true
     → schema geometry ts ≡ Ok (tables, [])
 unfolding lawful

@@ -92,6 +92,7 @@ tokens_from_once s (suc left) at (b ∷ z) = tokens_from_once s left (at + 1) z
 tokens_from_once s zero at (b ∷ z) =
     at_front_once (front s (b ∷ z)).0 (front s (b ∷ z)).1 at (b ∷ z) _ (front_other s (b ∷ z)) (tokens_from_once s ((front s (b ∷ z)).1 - 1) (at + 1) z)
 
+-- each token before the last is cut from bytes of the text, and End stands where none are left
 pub tokens_once : (s : Bool) (text : List ℕ) → EndsOnce (tokens s text)
 unfolding tokens
 tokens_once s text = tokens_from_once s 0 0 text

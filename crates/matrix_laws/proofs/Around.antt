@@ -112,6 +112,7 @@ piece_of es ps e a c n = record {
     free : (p : Point) → IsPoint p → compare c.lesser p ≡ Less → compare p c.greater ≡ Less → Standing es ps e p → ⊥
     free p hp x y s = n.none s.cut s.among (less_right c.lesser p s.cut hp s.is_point x (sym (same_symmetric s.cut p) ∙ s.same)) (less_left s.cut p c.greater s.is_point hp s.same y)
 
+-- the nearest cuts on both sides of the point bound the piece
 pub within_piece : (es : List Edge) (ps : List Position) (e : Edge) (x : Point) → Among e es → IsPoint x → on e x ≡ true → (IsCut es ps x → ⊥) → Within es ps x
 unfolding piece_of
 within_piece es ps e x a hx h f = go (compare (point_at e.start) x) refl (compare (point_at e.end) x) refl

@@ -14,5 +14,6 @@ use Rattle.matrix_laws.proofs.Labelled.{labelled_is_matrix}
 pub labels_give_matrix : (a b : Geometry) → IsValid a → IsValid b → IsMatrix a b (labelled_matrix a b)
 labels_give_matrix a b va vb = labelled_is_matrix a b (each_from_all IsClosed (rings a) (valid_rings_are_closed a va)) (each_from_all IsClosed (rings b) (valid_rings_are_closed b vb))
 
+-- a set of points has one dimension, so each cell has one value
 pub given_matrix_is_unique : (matrix other : Geometry → Geometry → Matrix) → GivesMatrix matrix → GivesMatrix other → (a b : Geometry) → IsValid a → IsValid b → matrix a b ≡ other a b
 given_matrix_is_unique matrix other gives also a b va vb = only_matrix a b (matrix a b) (other a b) (gives a b va vb) (also a b va vb)

@@ -97,6 +97,7 @@ fitting definitions references = record {
         let f = and_parts (argument_fits definitions references a) (argument_fits definitions references b) e in
         All-append IsValid (literals_of_argument a) (literals_of_argument b) (argument_valid definitions references a f.0) (argument_valid definitions references b f.1)
 
+-- a literal with a fault fits no place of a condition, so what is bound has none
 pub bound_has_valid : BoundHasValid
 bound_has_valid definitions query bound =
     All-weaker (λ c. cond_fits geometry_fits definitions query.references c ≡ true) (λ c. All IsValid (literals c)) (λ c e. by_parts (FitsValid definitions query.references) (fitting definitions query.references) c e)

@@ -29,5 +29,6 @@ pub closed : (ring : List Position) → (IsNotClosed ring → ⊥) → IsClosed 
 closed [] f = tt
 closed (a ∷ rest) f = same_position (last_after a rest) a f
 
+-- a ring that isn't closed is a fault, and a valid geometry has none
 pub valid_rings_are_closed : (g : Geometry) → IsValid g → HasClosedRings g
 valid_rings_are_closed g v k d h = closed (slice_index_or (rings g) k d) (λ n. v (RingNotClosed k) (slice_index_or (rings g) k d, slice_get-get_or (rings g) k d h, n))

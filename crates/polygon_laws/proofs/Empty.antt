@@ -28,6 +28,7 @@ empty_dimension S Empty h f = refl
 not_exterior : (l k : Location) → l ≡ k → (k ≡ Exterior → ⊥) → l ≢ Exterior
 not_exterior l k e f g = f (sym e ∙ g)
 
+-- where the envelopes don't meet no point is of both, so each cell without an exterior is of the empty set
 pub nothing_common : (a b : Geometry) → HasClosedRings a → HasClosedRings b → meets (envelope a) (envelope b) ≡ false → (m : Matrix) → IsMatrix a b m → (l k : Location) → l ≢ Exterior → k ≢ Exterior → cell m l k ≡ Empty
 nothing_common a b ca cb e m h l k f g = empty_dimension (common a l b k) (cell m l k) (h l k) (λ p. apart p)
   where

@@ -297,5 +297,6 @@ meet_by_point None u p hp h k = absurd (h tt)
 meet_by_point (Some e) None p hp h k = absurd (k tt)
 meet_by_point (Some e) (Some f) p hp h k = overlaps e f p hp h k
 
+-- outside its envelope a point is exterior to a geometry, so a point of both lies in both envelopes
 pub common_point_meets : (a b : Geometry) → HasClosedRings a → HasClosedRings b → (p : Point) → IsPoint p → locate a p ≢ Exterior → locate b p ≢ Exterior → meets (envelope a) (envelope b) ≡ true
 common_point_meets a b ca cb p hp f g = meet_by_point (envelope a) (envelope b) p hp (λ h. f (outside_is_exterior a ca p hp h)) (λ h. g (outside_is_exterior b cb p hp h))

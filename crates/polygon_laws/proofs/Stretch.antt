@@ -40,6 +40,7 @@ not_boundary : (t : Bool) → (if t then Interior else Exterior) ≢ Boundary
 not_boundary true e = absurd (cc)
 not_boundary false e = absurd (cc)
 
+-- along a stretch that misses the edges the parity of the rings above stays, and with it the location
 pub stretch_stays : (g : Geometry) (p q : Point) → Each IsClosed (rings g) → IsPoint p → IsPoint q → Each (Misses p q) (edges g) → Each (PassesBy p q) (listed g)
     → (m n : ℕ) → 0 < m + n → (locate g (weighted m p n q) ≡ locate g p) × (locate g (weighted m p n q) ≢ Boundary)
 stretch_stays g p q c hp hq h k m n l = (there ∙ sym kept ∙ sym here, λ f. not_boundary (odd_above (rings g) (weighted m p n q)) (sym there ∙ f))

@@ -21,6 +21,18 @@ use table_model::faults::QueryFault;
 use table_model::queries::WrittenPredicate;
 use table_model::tokens::TokenKind;
 
+/// The predicates of two geometries with the names of their functions (OGC 06-103r4, 6.1.15.3).
+const NAMED_PREDICATES: [(&[u8], Predicate); 8] = [
+    (b"ST_Equals", Predicate::Equals),
+    (b"ST_Disjoint", Predicate::Disjoint),
+    (b"ST_Intersects", Predicate::Intersects),
+    (b"ST_Touches", Predicate::Touches),
+    (b"ST_Crosses", Predicate::Crosses),
+    (b"ST_Within", Predicate::Within),
+    (b"ST_Contains", Predicate::Contains),
+    (b"ST_Overlaps", Predicate::Overlaps),
+];
+
 /// Reads the 1 or the 0 that a predicate is compared with: 0 negates it.
 #[tactic(auto, unfolding(table_model::specs::QueryReading::truth_value))]
 fn truth_value<'a>(
@@ -140,25 +152,14 @@ fn emptiness<'a>(
 fn named_predicate(tokens: &Cursor<'_, '_>) -> Option<Predicate>
     ensures { result ≡ named_in named_predicates tokens.now }
 {
-    if calls(tokens, b"ST_Equals") {
-        Some(Predicate::Equals)
-    } else if calls(tokens, b"ST_Disjoint") {
-        Some(Predicate::Disjoint)
-    } else if calls(tokens, b"ST_Intersects") {
-        Some(Predicate::Intersects)
-    } else if calls(tokens, b"ST_Touches") {
-        Some(Predicate::Touches)
-    } else if calls(tokens, b"ST_Crosses") {
-        Some(Predicate::Crosses)
-    } else if calls(tokens, b"ST_Within") {
-        Some(Predicate::Within)
-    } else if calls(tokens, b"ST_Contains") {
-        Some(Predicate::Contains)
-    } else if calls(tokens, b"ST_Overlaps") {
-        Some(Predicate::Overlaps)
-    } else {
-        None
+    let mut table: &[(&[u8], Predicate)] = &NAMED_PREDICATES;
+    while let [entry, rest @ ..] = table {
+        if calls(tokens, entry.0) {
+            return Some(entry.1);
+        }
+        table = rest;
     }
+    None
 }
 
 /// Reads ST_Relate, ST_IsEmpty or a comparison.

@@ -136,6 +136,7 @@ all-new : (keys : List ℤ) → Each (λ k. list_any (int_eq k) [] ≡ false) ke
 all-new [] = tt
 all-new (k ∷ keys) = (refl, all-new keys)
 
+-- the search goes over the keys in the order of records and remembers those before, so it stops at the first that repeats one
 pub double_is_first : DoubleIsFirst
 unfolding double_key
 double_is_first keys number = (to, from)

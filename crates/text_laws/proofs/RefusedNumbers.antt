@@ -105,6 +105,7 @@ answered text at minus integer digits h fault bad = go (some_outcome (whole (beg
       place = zero-add (length h.front);
     }) w.0 w.1)
 
+-- what stands before the number can be read, so reading comes to it and stops there
 pub off_grid_is_answered : (text : List ℕ) (at : ℕ) → IsOffGrid text at → read_text text ≡ Err (OffGrid at)
 unfolding coordinate
 off_grid_is_answered text at h = answered text at h.minus h.whole h.fraction h.number (OffGrid at)

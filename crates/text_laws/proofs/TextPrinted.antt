@@ -52,6 +52,7 @@ steady : (k : Position) (xs : List Position) → dedup_from same_position k (res
 steady k [] = refl
 steady k (x ∷ xs) = steadied k x xs (same_position x k) refl (steady k xs) (steady x xs)
 
+-- where no neighbours are equal there is nothing more to leave out
 pub repeats_once : (xs : List Position) → without_repeats (without_repeats xs) ≡ without_repeats xs
 repeats_once [] = refl
 repeats_once (x ∷ xs) = ap without_repeats (from_rest x xs) ∙ (steady x xs ∙ sym (from_rest x xs))
