@@ -1,0 +1,55 @@
+/* The peer of `gauge` for GEOS: the same words, the same input, the same output.
+ *
+ * The first line of standard input is a geometry, each further line a point. The first word says what is done,
+ * the second how often: `read` reads the text, `check` reads and tests it, `locate` reads, tests and prepares it once and
+ * then locates every point. It prints one line: for `read` the number of coordinates, for `check` 1 where the geometry is
+ * valid and else 0, for `locate` how many points are in the interior or on the boundary.
+ */
+#define GEOS_USE_ONLY_R_API
+#include <geos_c.h>
+#include <stdio.h>
+#include <stdlib.h>
+#include <string.h>
+
+static void quiet(const char *message, void *data) { (void)message; (void)data; }
+
+int main(int argc, char **argv) {
+    if (argc != 3) return 2;
+    long times = atol(argv[2]);
+    char *line = NULL;
+    size_t room = 0;
+    if (getline(&line, &room, stdin) < 0) return 6;
+    GEOSContextHandle_t geos = GEOS_init_r();
+    GEOSContext_setErrorMessageHandler_r(geos, quiet, NULL);
+    GEOSContext_setNoticeMessageHandler_r(geos, quiet, NULL);
+    GEOSGeometry **asked = NULL;
+    size_t points = 0, kept = 0;
+    double x, y;
+    while (scanf(" POINT(%lf %lf)", &x, &y) == 2) {
+        if (points == kept) {
+            kept = kept ? 2 * kept : 1024;
+            asked = realloc(asked, kept * sizeof *asked);
+        }
+        asked[points++] = GEOSGeom_createPointFromXY_r(geos, x, y);
+    }
+    GEOSWKTReader *reader = GEOSWKTReader_create_r(geos);
+    long answer = 0;
+    if (strcmp(argv[1], "locate") == 0) {
+        GEOSGeometry *g = GEOSWKTReader_read_r(geos, reader, line);
+        if (g == NULL || GEOSisValid_r(geos, g) != 1) return 5;
+        const GEOSPreparedGeometry *prepared = GEOSPrepare_r(geos, g);
+        for (long k = 0; k < times; k++) {
+            answer = 0;
+            for (size_t i = 0; i < points; i++) answer += GEOSPreparedIntersects_r(geos, prepared, asked[i]) == 1;
+        }
+    } else {
+        for (long k = 0; k < times; k++) {
+            GEOSGeometry *g = GEOSWKTReader_read_r(geos, reader, line);
+            if (g == NULL) return 5;
+            answer = strcmp(argv[1], "check") == 0 ? GEOSisValid_r(geos, g) == 1 : GEOSGetNumCoordinates_r(geos, g);
+            GEOSGeom_destroy_r(geos, g);
+        }
+    }
+    printf("%ld\n", answer);
+    return 0;
+}

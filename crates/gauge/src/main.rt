@@ -1,0 +1,181 @@
+//! The program `gauge`: it does one thing to well-known texts, as often as it is told, so that the measures in bench/ can
+//! time it beside others. Without words it writes the canonical text of a geometry.
+#![tactic(auto)]
+
+ghost use Rattle.std.specs.Prelude.{OnOk};
+ghost use Rattle.gauge.specs.Reprinting.{Reprints};
+
+use fraction::{GridPoint, RatPoint};
+use geometry_model::Location;
+use side_labels::locate;
+use std::alloc::{AllocError, Global};
+use std::env;
+use std::io::{BufWriter, ErrorKind, Read};
+use std::process::ExitCode;
+use validity::{CheckFault, Valid, check};
+use wkt::{Sink, StdSink, WktFault, print, put_all, read};
+
+/// The most bytes that the texts have here: of longer ones a part could spell something else, so none of it is taken.
+const TEXT_BYTES: u64 = 1 << 24;
+
+/// Why a measure ends without an answer; each has its status.
+#[derive(Clone, Copy, Debug, PartialEq, Eq)]
+enum Failure {
+    /// The words of the command line aren't those of a measure.
+    Misuse,
+    /// A text spells no geometry, or none that can be located in.
+    NoGeometry,
+    /// Reading or writing failed, or the texts are too long.
+    Failed,
+    /// Memory ran out.
+    OutOfMemory,
+}
+
+impl From<AllocError> for Failure {
+    fn from(_error: AllocError) -> Failure {
+        Failure::OutOfMemory
+    }
+}
+
+impl From<WktFault> for Failure {
+    fn from(fault: WktFault) -> Failure {
+        match fault {
+            WktFault::OutOfMemory => Failure::OutOfMemory,
+            _ => Failure::NoGeometry,
+        }
+    }
+}
+
+impl From<CheckFault> for Failure {
+    fn from(fault: CheckFault) -> Failure {
+        match fault {
+            CheckFault::OutOfMemory => Failure::OutOfMemory,
+            _ => Failure::NoGeometry,
+        }
+    }
+}
+
+impl Failure {
+    fn status(self) -> u8 {
+        match self {
+            Failure::Misuse => 2,
+            Failure::NoGeometry => 5,
+            Failure::Failed => 6,
+            Failure::OutOfMemory => 7,
+        }
+    }
+}
+
+fn main(rt: HostRuntime) -> ExitCode {
+    match gauge(&rt) {
+        Ok(()) => ExitCode::SUCCESS,
+        Err(failure) => ExitCode::from(failure.status()),
+    }
+}
+
+// Does what the words of the command line say to what stands on standard input, and writes the answer.
+fn gauge(rt: &HostRuntime) -> Result<(), Failure> {
+    let mut words = Vec::new(rt.alloc());
+    for word in env::args(rt).map_err(|_| Failure::Misuse)? {
+        words.push(word).map_err(AllocError::from)?;
+    }
+    let text = read_input(rt)?;
+    let mut out = StdSink::new(BufWriter::new(rt.alloc(), rt.stdout())?);
+    match words.as_slice() {
+        [_] => put_again(rt.alloc(), text.as_bytes(), &mut out)?,
+        [_, word, times] => {
+            let times = times.parse::<u32>().map_err(|_| Failure::Misuse)?;
+            let answer = measured(rt.alloc(), word.as_str(), times, text.as_str())?;
+            put_number(answer, &mut out)?;
+        }
+        _ => return Err(Failure::Misuse),
+    }
+    put_all(&mut out, b"\n").map_err(|_| Failure::Failed)?;
+    out.flush().map_err(|_| Failure::Failed)
+}
+
+// What stands on standard input.
+fn read_input(rt: &HostRuntime) -> Result<String, Failure> {
+    let mut text = String::new(rt.alloc());
+    match rt.stdin().take(TEXT_BYTES + 1).read_to_string(&mut text) {
+        Ok(_) if text.len() as u64 <= TEXT_BYTES => Ok(text),
+        Err(error) if error.kind() == ErrorKind::OutOfMemory => Err(Failure::OutOfMemory),
+        _ => Err(Failure::Failed),
+    }
+}
+
+// Puts the canonical text of the geometry that a text spells.
+fn put_again<S: Sink>(alloc: Global, text: &[u8], sink: &mut S) -> Result<(), Failure>
+    ensures { OnOk result (Reprints text.now (S.taken sink.old) (S.taken sink.new)) }
+{
+    let geometry = read(alloc, text)?;
+    print(&geometry, sink).map_err(|_| Failure::Failed)
+}
+
+// Puts a number's digits.
+fn put_number<S: Sink>(number: usize, sink: &mut S) -> Result<(), Failure> {
+    let mut buffer = itoa::Buffer::new();
+    put_all(sink, buffer.format(number).as_bytes()).map_err(|_| Failure::Failed)
+}
+
+// Does one thing this often, and answers its number: of `read` the positions, of `check` 1 where the geometry is valid, of
+// `locate` how many of the points in the further lines aren't in its exterior.
+fn measured(alloc: Global, word: &str, times: u32, text: &str) -> Result<usize, Failure> {
+    let mut lines = text.lines();
+    let first = lines.next().unwrap_or("").as_bytes();
+    match word {
+        "read" => read_often(alloc, first, times),
+        "check" => check_often(alloc, first, times),
+        "locate" => {
+            let valid = check(alloc, read(alloc, first)?)?;
+            let mut points = Vec::new(alloc);
+            for line in lines {
+                points.push(point(alloc, line.as_bytes())?).map_err(AllocError::from)?;
+            }
+            Ok(locate_often(&valid, points.as_slice(), times))
+        }
+        _ => Err(Failure::Misuse),
+    }
+}
+
+// Reads a text this often; answers how many positions its lines have.
+fn read_often(alloc: Global, text: &[u8], times: u32) -> Result<usize, Failure> {
+    let mut positions = 0;
+    for _ in 0..times {
+        let geometry = read(alloc, text)?;
+        positions = geometry.lines().iter().map(|line| line.positions().len()).sum();
+    }
+    Ok(positions)
+}
+
+// Reads and tests a text this often; answers 1 where the geometry is valid, and else 0.
+fn check_often(alloc: Global, text: &[u8], times: u32) -> Result<usize, Failure> {
+    let mut answer = 0;
+    for _ in 0..times {
+        answer = match check(alloc, read(alloc, text)?) {
+            Ok(_) => 1,
+            Err(CheckFault::OutOfMemory) => return Err(Failure::OutOfMemory),
+            Err(_) => 0,
+        };
+    }
+    Ok(answer)
+}
+
+// The point that a text spells.
+fn point(alloc: Global, text: &[u8]) -> Result<RatPoint, Failure> {
+    let geometry = read(alloc, text)?;
+    let position: &GridPoint = geometry.listed().first().ok_or(Failure::NoGeometry)?;
+    Ok(RatPoint::of_grid(*position))
+}
+
+// Locates each of some points this often; answers how many aren't in the exterior.
+fn locate_often(valid: &Valid, points: &[RatPoint], times: u32) -> usize {
+    let mut inside = 0;
+    for _ in 0..times {
+        inside = points
+            .iter()
+            .filter(|point| locate(valid, point) != Location::Exterior)
+            .count();
+    }
+    inside
+}
