@@ -83,7 +83,9 @@ fn some_label(labels: &[Label], first: Location, second: Location) -> bool
 fn some_side(sides: &[Option<SideLabels>], first: Location, second: Location) -> bool
     ensures { result ≡ list_any (is_side_pair first second) sides.now }
 {
-    sides.iter().any(|labels| is_side_pair(labels, first, second))
+    sides
+        .iter()
+        .any(|labels| is_side_pair(labels, first, second))
 }
 
 // Whether there are sides, and the label of one of them is this pair of parts.

@@ -71,8 +71,10 @@ fn labels_of_two_lines(rt: HostRuntime) -> Result<(), Fail> {
     assert!(rt; crossing.is_pair(Location::Interior, Location::Interior));
     // Beside a line there is no inside.
     for sides in labels.of_sides() {
-        let outside =
-            sides.is_some_and(|sides| sides.has_pair(Location::Exterior, Location::Exterior));
+        let outside = sides.is_some_and(|sides| sides.has_pair(
+            Location::Exterior,
+            Location::Exterior,
+        ));
         assert!(rt; outside);
     }
     Ok(())

@@ -24,21 +24,9 @@ fn turned(text: &[u8; 9]) -> [u8; 9] {
 fn matrices_both_ways(rt: HostRuntime) -> Result<(), Fail> {
     let alloc = rt.alloc();
     for (first, second, text) in [
-        (
-            "LINESTRING(0 0,3 1)",
-            "LINESTRING(0 1,2 0)",
-            b"0F1FF0102",
-        ),
-        (
-            "POINT(0 0)",
-            "LINESTRING(0 0,2 0,2 2,0 0)",
-            b"0FFFFF1F2",
-        ),
-        (
-            "POINT EMPTY",
-            "LINESTRING EMPTY",
-            b"FFFFFFFF2",
-        ),
+        ("LINESTRING(0 0,3 1)", "LINESTRING(0 1,2 0)", b"0F1FF0102"),
+        ("POINT(0 0)", "LINESTRING(0 0,2 0,2 2,0 0)", b"0FFFFF1F2"),
+        ("POINT EMPTY", "LINESTRING EMPTY", b"FFFFFFFF2"),
         (
             "LINESTRING(-100000 -100000,100000 99999)",
             "LINESTRING(-100000 -99999,100000 99998)",
@@ -49,11 +37,7 @@ fn matrices_both_ways(rt: HostRuntime) -> Result<(), Fail> {
             "LINESTRING(-10000000 -9999999,10000000 9999998)",
             b"0F1FF0102",
         ),
-        (
-            "POINT(1 1)",
-            "LINESTRING(0 0,2 2,2 0,0 2)",
-            b"0FFFFF102",
-        ),
+        ("POINT(1 1)", "LINESTRING(0 0,2 2,2 0,0 2)", b"0FFFFF102"),
     ] {
         assert_eq!(rt; related(alloc, first, second)?, *text);
         assert_eq!(rt; related(alloc, second, first)?, turned(text));

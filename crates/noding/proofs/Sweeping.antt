@@ -109,7 +109,7 @@ same_at es n f d l h = h ∙ get_or_default es n f d l
 pub later_apart : (es : List Edge) (e f : Edge) (n : ℕ) → Ascends es → f ≡ get_or es n f → greatest_x e <ℤ least_x f → (k : ℕ) (d : Edge) → n ≤ k → k < length es → x_ranges_overlap e (get_or es k d) ≡ false
 later_apart es e f n up hf past k d nk l = and_no (int_le (least_x e) (greatest_x (get_or es k d))) (int_le (least_x (get_or es k d)) (greatest_x e))
     (at_most_no (least_x (get_or es k d)) (greatest_x e) (less_chain (greatest_x e) (least_x f) (least_x (get_or es k d)) past
-        (subst (λ (g : Edge). least_x g ≤ℤ least_x (get_or es k d)) (sym (same_at es n f d (omega (arith, nk, l)) hf)) (up n k d nk l))))
+    (subst (λ (g : Edge). least_x g ≤ℤ least_x (get_or es k d)) (sym (same_at es n f d (omega (arith, nk, l)) hf)) (up n k d nk l))))
 
 pub none_common : (es : List Edge) (i n : ℕ) (e f : Edge) → i < length es → e ≡ get_or es i e → Ascends es → f ≡ get_or es n f → greatest_x e <ℤ least_x f
     → (b : ℕ) (d : Edge) → n ≤ b → b < length es → (p : Point) → IsPoint p → is_common_cut (get_or es i d) (get_or es b d) p ≡ true → ⊥

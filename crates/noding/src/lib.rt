@@ -5,15 +5,15 @@
 pub mod answers;
 mod break_points;
 mod breaks;
-mod ranges;
-mod sweeps;
 mod crossings;
 pub mod meetings;
 pub mod noded;
 pub mod nodings;
 mod orders;
 mod products;
+mod ranges;
 mod stretches;
+mod sweeps;
 
 pub use answers::Meet;
 pub use meetings::meet;

@@ -1,9 +1,9 @@
 -- The two ends of a line, by their places in it.
-use Rattle.std.proofs.Common.{◌≡◌, ℕ, suc, ◌-◌, ◌<◌, Bool, true, false, refl, sym, ap, ap₂, ◌∙◌, List, [], ◌∷◌, length, get_or, count_by, arith}
+use Rattle.std.proofs.Common.{◌≡◌, ◌-◌, ◌<◌, Bool, true, false, refl, sym, ap, ap₂, ◌∙◌, List, [], ◌∷◌, length, get_or, count_by, arith}
 use Rattle.geometry_model.specs.Points.{Position}
 use Rattle.geometry_model.specs.Locations.{last_after, ends}
 use Rattle.geometry_model.specs.Crossings.{odd, exactly_one}
-use Rattle.geometry_laws.proofs.Each.{parity, odd_count}
+use Rattle.geometry_laws.proofs.Each.{odd_count}
 
 last_is : (a : Position) (rest : List Position) (d : Position) → get_or (a ∷ rest) (length rest) d ≡ last_after a rest
 last_is a [] d = refl

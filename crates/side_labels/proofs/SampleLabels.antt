@@ -2,14 +2,13 @@
 use Rattle.std.proofs.Common.{◌≡◌, ◌<◌, true, false, refl, sym, ap, ap₂, subst, ◌∙◌, List, [], ◌∷◌, ◌++◌, length, get_or, map, All, Bool, Option, Some, None, cond, pos, ℤ, ◌+ℤ◌, ◌<ℤ◌, arith}
 use Rattle.std.proofs.lemmas.Int.{ints}
 use Rattle.std.proofs.lemmas.List.{get_or-map, length-map}
-use Rattle.geometry_model.specs.Points.{Position, Point, IsPoint, same_point, mediant, least_form}
-use Rattle.geometry_model.specs.Geometries.{Geometry, Edge, rings, edges, listed}
-use Rattle.geometry_model.specs.Locations.{locate}
+use Rattle.geometry_model.specs.Points.{Position, Point, IsPoint, same_point, least_form}
+use Rattle.geometry_model.specs.Geometries.{Geometry, Edge, rings, listed}
 use Rattle.geometry_model.specs.CutPoints.{cut_points}
 use Rattle.geometry_model.specs.Pieces.{Piece, IsPiece, sample, pieces}
-use Rattle.geometry_model.specs.Labels.{Label, SideLabels, Labels, label, below, above, is_upright, side_labels, edges_of_both, labels, labels_of}
+use Rattle.geometry_model.specs.Labels.{Label, SideLabels, label, below, above, is_upright, side_labels, edges_of_both, labels, labels_of}
 use Rattle.geometry_model.specs.declared.point_sets.Location.{Location}
-use Rattle.geometry_model.specs.declared.point_sets.Location.TheVariants.{Interior, Boundary, Exterior}
+use Rattle.geometry_model.specs.declared.point_sets.Location.TheVariants.{Interior, Exterior}
 use Rattle.geometry_model.proofs.LeastFormFacts.{least_is_same}
 use Rattle.geometry_laws.proofs.Respect.{locate_respects, odd_above_respects, odd_at_or_above_respects}
 use Rattle.noding.specs.Nodings.{piece_of, HasNodeTriples}

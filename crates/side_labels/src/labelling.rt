@@ -78,7 +78,11 @@ fn side_labels(first: &Valid, second: &Valid, piece: &Piece) -> Option<SideLabel
 }
 
 /// The segments of both geometries.
-fn segments_of_both(alloc: Global, first: &Valid, second: &Valid) -> Result<Vec<Segment>, AllocError>
+fn segments_of_both(
+    alloc: Global,
+    first: &Valid,
+    second: &Valid,
+) -> Result<Vec<Segment>, AllocError>
     ensures { IfOk result (λ segments. segments.items ≡ spec.edges_of_both first.now second.now) }
 {
     let mut segments = Vec::from_slice(alloc, first.segments())?;
@@ -87,7 +91,11 @@ fn segments_of_both(alloc: Global, first: &Valid, second: &Valid) -> Result<Vec<
 }
 
 /// The listed positions of both geometries.
-fn listed_of_both(alloc: Global, first: &Valid, second: &Valid) -> Result<Vec<GridPoint>, AllocError>
+fn listed_of_both(
+    alloc: Global,
+    first: &Valid,
+    second: &Valid,
+) -> Result<Vec<GridPoint>, AllocError>
     ensures exact { IfOk result (λ positions. positions.items ≡ listed first.now ++ listed second.now) }
     ensures first_valid { OnOk result (IsValid first.now) }
     ensures second_valid { OnOk result (IsValid second.now) }

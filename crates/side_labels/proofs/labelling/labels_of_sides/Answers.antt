@@ -1,4 +1,4 @@
-use Rattle.std.proofs.Common.{◌∙◌, sym, ap, ap₂, ◌++◌, ◌∷◌, [], List, Option}
+use Rattle.std.proofs.Common.{◌∙◌, sym, ap, ap₂, ◌++◌, ◌∷◌, [], Option}
 use Rattle.std.proofs.lemmas.List.{map_more}
 use Rattle.geometry_model.specs.Labels.{SideLabels, side_labels}
 use Rattle.noding.specs.Nodings.{piece_of}
