@@ -2,7 +2,7 @@
 
 ghost use Rattle.edge_boxes.specs.BoxLists.{BoxesOf};
 
-use crate::EdgeBoxes;
+use crate::{Bounds, EdgeBoxes};
 use fraction::{GridPoint, RatPoint};
 use orient::Segment;
 use std::alloc::Global;
@@ -60,5 +60,21 @@ fn points_at_a_ring_of_many_edges(rt: HostRuntime) -> Result<(), Fail> {
     assert!(rt; lies(&boxes, edges, (7, 0))? == (true, true, false));
     assert!(rt; lies(&boxes, edges, (-3, 10))? == (false, false, false));
     assert!(rt; lies(&boxes, edges, (30, 5))? == (false, false, false));
+    Ok(())
+}
+
+#[test]
+fn edges_near_an_edge(rt: HostRuntime) -> Result<(), Fail> {
+    let alloc = rt.alloc();
+    let mut ring = Vec::new(alloc);
+    push_lower(&mut ring)?;
+    push_upper(&mut ring)?;
+    let edges = ring.as_slice();
+    let boxes = EdgeBoxes::build(alloc, edges)?;
+    let bounds = Bounds::of(&segment((2, 0), (3, 0))?);
+    let mut found = Vec::new(alloc);
+    boxes.meeting(edges, &bounds, 2, &mut found)?;
+    // The edge itself and the next one; the one before isn't asked for.
+    assert!(rt; found.as_slice() == [2, 3].as_slice());
     Ok(())
 }
