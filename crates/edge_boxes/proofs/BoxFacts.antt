@@ -2,7 +2,8 @@
 use Rattle.std.proofs.Common.{ℕ, zero, suc, ◌+◌, ◌-◌, ◌<◌, ◌≤◌, ◌≡◌, ◌⊎◌, inl, inr, List, [], ◌∷◌, ◌++◌, length, drop, take, get_or, Option, Some, None, refl, sym, ap, ◌∙◌, subst, arith}
 use Rattle.std.specs.Prelude.{slice_get, slice_range}
 use Rattle.std.proofs.lemmas.Option.{slice_get_read, slice_get_within, slice_get-get_or}
-use Rattle.std.proofs.lemmas.List.{take-append-drop, drop-drop}
+use Rattle.std.proofs.lemmas.List.{take-append-drop, drop-drop, length-drop, append-nil, length-append}
+use Rattle.std.proofs.Math.Seq.{drop-length}
 use Rattle.geometry_model.specs.Geometries.{Edge}
 use Rattle.edge_boxes.specs.BoxLists.{end_of, covered, IsRun, IsBoxAt, AreBoxes}
 use Rattle.edge_boxes.specs.declared.boxes.EdgeBox.{EdgeBox}
@@ -28,3 +29,13 @@ covered_within boxes edges (suc i) are h = go (slice_get boxes i) refl
     go : (o : Option EdgeBox) → slice_get boxes i ≡ o → end_of o ≤ length edges
     go None e = omega arith
     go (Some b) e = (are i b e).run.within
+
+-- from a place to the end
+pub rest_is : {X : Type 0} (xs : List X) (first : ℕ) → first ≤ length xs → slice_range xs first (length xs) ≡ drop first xs
+rest_is xs first h = sym (run_then_rest xs first (length xs) h ∙ ap (λ l. slice_range xs first (length xs) ++ l) (drop-length xs) ∙ append-nil (slice_range xs first (length xs)))
+
+-- how many edges a run has
+pub run_counted : {X : Type 0} (xs own : List X) (first end : ℕ) → drop first xs ≡ own ++ drop end xs → first ≤ end → end ≤ length xs → first + length own ≡ end
+run_counted xs own first end split h k =
+    let e : length xs - first ≡ length own + (length xs - end) = sym (length-drop first xs) ∙ ap length split ∙ length-append own (drop end xs) ∙ ap (λ n. length own + n) (length-drop end xs) in
+    omega (arith, e, h, k)

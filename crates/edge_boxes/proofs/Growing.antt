@@ -100,12 +100,14 @@ pub next_box : (boxes : List EdgeBox) (run : Run) (last : EdgeBox) (place size e
     → IsRunFrom boxes run place → IsNextBox boxes (record { run = run; size = size; end = end })
 next_box boxes run last place size end found within size_is end_is from edges are =
     let e : covered_by_all boxes ≡ end = covered_before boxes (length boxes) last (some boxes found) found ∙ sym end_is in
-    let start : place ≡ length boxes - size = omega (arith, within, size_is) in
-    (record {
-      subtree = omega (arith, size_is);
-      run = subst (λ n. IsRun edges run (covered boxes n) end) start (subst (λ n. IsRun edges run (covered boxes place) n) e (from edges are));
-      last = inr e;
-    }, sym e)
+    let start : place ≡ length boxes - size = omega (arith, within, size_is) in (
+      record {
+        subtree = omega (arith, size_is);
+        run = subst (λ n. IsRun edges run (covered boxes n) end) start (subst (λ n. IsRun edges run (covered boxes place) n) e (from edges are));
+        last = inr e;
+      },
+      sym e,
+    )
   where
     some : (xs : List EdgeBox) → slice_get xs (length xs - 1) ≡ Some last → 0 < length xs
     some [] f = absurd (let n : None ≡ Some last = f in cc)

@@ -5,3 +5,4 @@ pub mod Floors
 pub mod BoxFacts
 pub mod Steps
 pub mod Growing
+pub mod Meeting

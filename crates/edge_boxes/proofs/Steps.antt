@@ -1,16 +1,19 @@
 -- The steps of a walk through a list of boxes.
-use Rattle.std.proofs.Common.{ℕ, zero, suc, ◌+◌, ◌-◌, ◌<◌, ◌≤◌, ◌≡◌, ◌⊎◌, inl, inr, List, [], ◌∷◌, ◌++◌, length, drop, get_or, Some, refl, sym, ap, ◌∙◌, subst, arith, false}
+use Rattle.std.proofs.Common.{Bool, true, ◌||◌, take, ap₂, ℕ, zero, suc, ◌+◌, ◌-◌, ◌<◌, ◌≤◌, ◌≡◌, ◌⊎◌, inl, inr, List, [], ◌∷◌, ◌++◌, length, drop, get_or, Some, refl, sym, ap, ◌∙◌, subst, arith, false}
 use Rattle.std.specs.Prelude.{slice_get, slice_range}
+use Rattle.std.proofs.lemmas.List.{take-append-drop}
+use Rattle.std.proofs.lemmas.List.Folds.{list_any-append}
 use Rattle.geometry_model.specs.Points.{Point}
+use Rattle.geometry_model.specs.Sides.{on}
 use Rattle.geometry_model.specs.Geometries.{Edge}
 use Rattle.edge_boxes.specs.BoxLists.{covered, IsBoxAt, AreBoxes}
 use Rattle.edge_boxes.specs.Cells.{IsCellOf}
-use Rattle.edge_boxes.specs.EdgeCrossings.{AreCrossings, IsTold}
+use Rattle.edge_boxes.specs.EdgeCrossings.{AreCrossings, IsTold, on_any}
 use Rattle.edge_boxes.specs.Walks.{IsStep}
 use Rattle.edge_boxes.specs.declared.boxes.EdgeBox.{EdgeBox}
 use Rattle.edge_boxes.specs.declared.cells.Cell.{Cell}
 use Rattle.edge_boxes.specs.declared.crossings.Crossings.{Crossings}
-use Rattle.edge_boxes.proofs.BoxFacts.{run_then_rest, found_before, covered_before}
+use Rattle.edge_boxes.proofs.BoxFacts.{run_then_rest, rest_is, found_before, covered_before}
 use Rattle.edge_boxes.proofs.Telling.{none_found}
 
 pub box_before : (boxes : List EdgeBox) (edges : List Edge) (place : ℕ) (b : EdgeBox) → AreBoxes boxes edges → 0 < place → place ≤ length boxes → b ≡ get_or boxes (place - 1) b → IsBoxAt edges boxes (place - 1) b
@@ -48,6 +51,15 @@ leaf_step boxes edges p place b c are h k is leaf of =
       told = of;
     }
 
+-- before a box that is entered the others go as far
+pub inner_covered : (boxes : List EdgeBox) (edges : List Edge) (place : ℕ) (b : EdgeBox) → AreBoxes boxes edges → 0 < place → place ≤ length boxes → b ≡ get_or boxes (place - 1) b → (b.size ≡ 0 → ⊥)
+    → covered boxes (place - 1) ≡ covered boxes place
+inner_covered boxes edges place b are h k is inner = go (box_before boxes edges place b are h k is).last
+  where
+    go : (b.size ≡ 0) ⊎ (covered boxes (place - 1) ≡ b.end) → covered boxes (place - 1) ≡ covered boxes place
+    go (inl z) = absurd (inner z)
+    go (inr z) = z ∙ sym (covered_before boxes place b h (found_before boxes place b h k is))
+
 -- a box that is entered
 pub inner_step : (boxes : List EdgeBox) (edges : List Edge) (p : Point) (place : ℕ) (b : EdgeBox) (c : Crossings) → AreBoxes boxes edges → 0 < place → place ≤ length boxes → b ≡ get_or boxes (place - 1) b → (b.size ≡ 0 → ⊥)
     → c ≡ record { on = false; odd_above = false; odd_at_or_above = false } → IsStep boxes edges p place (place - 1) c
@@ -55,16 +67,36 @@ inner_step boxes edges p place b c are h k is inner e =
     record {
       earlier = omega (arith, h);
       own = [];
-      split = ap (λ n. drop n edges) (go (box_before boxes edges place b are h k is).last);
+      split = ap (λ n. drop n edges) (inner_covered boxes edges place b are h k is inner);
       told = rw e (none_found [] p tt);
     }
-  where
-    go : (b.size ≡ 0) ⊎ (covered boxes (place - 1) ≡ b.end) → covered boxes (place - 1) ≡ covered boxes place
-    go (inl z) = absurd (inner z)
-    go (inr z) = z ∙ sym (covered_before boxes place b h (found_before boxes place b h k is))
 
 -- what was found, with what a step tells
 pub step_joined : (boxes : List EdgeBox) (edges : List Edge) (p : Point) (place next : ℕ) (own found all : Crossings) → IsStep boxes edges p place next own
     → ((q : Point) (xs ys : List Edge) → AreCrossings own xs q → AreCrossings found ys q → AreCrossings all (xs ++ ys) q)
     → AreCrossings found (drop (covered boxes place) edges) p → AreCrossings all (drop (covered boxes next) edges) p
 step_joined boxes edges p place next own found all s join h = subst (λ l. AreCrossings all l p) (sym s.split) (join p s.own (drop (covered boxes place) edges) s.told h)
+
+-- ---- on an edge
+or_true : (a b : Bool) → b ≡ true → (a || b) ≡ true
+or_true true b e = refl
+or_true false b e = e
+
+-- on one of the edges from a place on
+pub on_from : (edges : List Edge) (n : ℕ) (p : Point) → on_any (drop n edges) p ≡ true → on_any edges p ≡ true
+on_from edges n p e = ap (λ l. on_any l p) (sym (take-append-drop n edges)) ∙ list_any-append (λ s. on s p) (take n edges) (drop n edges) ∙ or_true (on_any (take n edges) p) (on_any (drop n edges) p) e
+
+stepped : (boxes : List EdgeBox) (edges : List Edge) (p : Point) (place next : ℕ) (own : Crossings) (s : IsStep boxes edges p place next own)
+    → on_any (drop (covered boxes next) edges) p ≡ (own.on || on_any (drop (covered boxes place) edges) p)
+stepped boxes edges p place next own s = ap (λ l. on_any l p) s.split ∙ list_any-append (λ f. on f p) s.own (drop (covered boxes place) edges)
+    ∙ ap (λ (b : Bool). b || on_any (drop (covered boxes place) edges) p) (sym s.told.on)
+
+pub on_at_step : (boxes : List EdgeBox) (edges : List Edge) (p : Point) (place next : ℕ) (own : Crossings) → IsStep boxes edges p place next own → own.on ≡ true → on_any edges p ≡ true
+on_at_step boxes edges p place next own s e = on_from edges (covered boxes next) p (stepped boxes edges p place next own s ∙ ap (λ (b : Bool). b || on_any (drop (covered boxes place) edges) p) e)
+
+pub off_at_step : (boxes : List EdgeBox) (edges : List Edge) (p : Point) (place next : ℕ) (own : Crossings) → IsStep boxes edges p place next own → own.on ≡ false → on_any (drop (covered boxes place) edges) p ≡ false
+    → on_any (drop (covered boxes next) edges) p ≡ false
+off_at_step boxes edges p place next own s e f = stepped boxes edges p place next own s ∙ ap₂ (λ (a b : Bool). a || b) e f
+
+pub on_uncovered : (edges : List Edge) (n : ℕ) (p : Point) (run : List Edge) → n ≤ length edges → run ≡ slice_range edges n (length edges) → on_any run p ≡ true → on_any edges p ≡ true
+on_uncovered edges n p run h is e = on_from edges n p (ap (λ l. on_any l p) (sym (is ∙ rest_is edges n h)) ∙ e)

@@ -4,3 +4,4 @@ pub mod Cells
 pub mod BoxLists
 pub mod Walks
 pub mod Builds
+pub mod Meetings

@@ -1,15 +1,18 @@
 //! The list of boxes over consecutive edges, and what is asked of it.
 
-ghost use Rattle.std.specs.Prelude.{◌≡◌, ◌≤◌, ◌<◌, length, List, IfOk, slice_range};
+ghost use Rattle.std.specs.Prelude.{◌≡◌, ◌≤◌, ◌<◌, length, List, IfOk, OnOk, slice_range};
 ghost use Rattle.geometry_model.specs.Geometries.{Edge};
 ghost use Rattle.edge_boxes.specs.Cells.{IsCellOf};
-ghost use Rattle.edge_boxes.specs.EdgeCrossings.{AreCrossings};
+ghost use Rattle.edge_boxes.specs.EdgeCrossings.{AreCrossings, on_any};
 ghost use Rattle.edge_boxes.specs.BoxLists.{AreBoxes, BoxesOf, covered};
+ghost use Rattle.edge_boxes.specs.Meetings.{places_meeting};
 ghost use Rattle.edge_boxes.specs.Walks.{IsStep};
 
+use crate::bounds::Bounds;
 use crate::building::boxes_over;
 use crate::cells::Cell;
 use crate::crossings::{Crossings, none, of_edges, told};
+use crate::meetings::{Asked, push_asked};
 use crate::runs::Run;
 use fraction::RatPoint;
 use orient::Segment;
@@ -49,10 +52,40 @@ impl EdgeBoxes {
     {
         crossings_among(self.boxes.as_slice(), edges, point)
     }
+
+    /// Whether a point lies on one of the edges (OGC 06-103r4, 6.1.7). It stops at the first box whose edges hold it.
+    pub fn holds(&self, edges: &[Segment], point: &RatPoint) -> bool
+        requires { BoxesOf self.now edges.now }
+        ensures { result ≡ on_any edges.now point.now }
+    {
+        is_held_among(self.boxes.as_slice(), edges, point)
+    }
+
+    /// Leaves in the vector the places, from one on, of the edges whose bounds meet these, ascending. It may fail for want
+    /// of memory.
+    pub fn meeting(
+        &self,
+        edges: &[Segment],
+        bounds: &Bounds,
+        from: usize,
+        found: &mut Vec<usize>,
+    ) -> Result<(), AllocError>
+        requires { BoxesOf self.now edges.now }
+        ensures { OnOk result (found.new.items ≡ places_meeting bounds.now from edges.now) }
+    {
+        let asked = Asked {
+            bounds: *bounds,
+            from,
+        };
+        found.clear();
+        push_asked(self.boxes.as_slice(), edges, &asked, found)?;
+        found.reverse();
+        Ok(())
+    }
 }
 
 /// Up to which edge the boxes before a place go.
-fn covered(boxes: &[EdgeBox], place: usize) -> usize
+pub(crate) fn covered(boxes: &[EdgeBox], place: usize) -> usize
     requires { place ≤ length boxes.now }
     ensures { result ≡ covered boxes.now place }
 {
@@ -87,6 +120,27 @@ fn crossings_among(boxes: &[EdgeBox], edges: &[Segment], point: &RatPoint) -> Cr
         place = next;
     }
     found
+}
+
+/// Whether the point lies on one of the edges, from the last box to the first.
+fn is_held_among(boxes: &[EdgeBox], edges: &[Segment], point: &RatPoint) -> bool
+    requires { AreBoxes boxes.now edges.now }
+    ensures { result ≡ on_any edges.now point.now }
+{
+    let cell = Cell::of(point);
+    let mut place = boxes.len();
+    let uncovered = run_of(edges, covered(boxes, place), edges.len());
+    if of_edges(uncovered, point, &cell).on {
+        return true;
+    }
+    while place > 0 {
+        let (next, own) = step(boxes, edges, place, point, &cell);
+        if own.on {
+            return true;
+        }
+        place = next;
+    }
+    false
 }
 
 /// How the point lies to the edges between the place before this one that is looked at next and this one.

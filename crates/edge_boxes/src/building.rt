@@ -15,6 +15,7 @@ const FEW_EDGES: usize = 16;
 
 /// The least number of edges of a leaf, where a ring isn't cut, and the greatest.
 const LEAST_LEAF: usize = 4;
+
 const GREATEST_LEAF: usize = 8;
 
 /// How many subtrees are joined to one.
@@ -95,7 +96,12 @@ fn leaf_box(run: Run, end: usize) -> Option<EdgeBox>
 }
 
 /// Adds a leaf's box.
-fn push_leaf(boxes: &mut Vec<EdgeBox>, edges: &[Segment], first: usize, is_within: bool) -> Result<usize, AllocError>
+fn push_leaf(
+    boxes: &mut Vec<EdgeBox>,
+    edges: &[Segment],
+    first: usize,
+    is_within: bool,
+) -> Result<usize, AllocError>
     requires boxes { AreBoxes boxes.old.items edges.now }
     requires from { covered boxes.old.items (length boxes.old.items) ≡ first }
     requires first { first < length edges.now }

@@ -7,8 +7,12 @@ mod boxes;
 mod building;
 mod cells;
 pub mod crossings;
+mod meetings;
 mod runs;
 
 pub use bounds::Bounds;
 pub use boxes::EdgeBoxes;
 pub use crossings::Crossings;
+
+#[cfg(test)]
+mod tests;

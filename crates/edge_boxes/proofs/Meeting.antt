@@ -1,0 +1,176 @@
+-- The places of edges asked for, found from the last one to the first.
+use Rattle.std.proofs.Common.{ℕ, zero, suc, ◌+◌, ◌-◌, ◌<◌, ◌≤◌, ℤ, int_le, ◌≤ℤ◌, ◌≡◌, Bool, true, false, ◌&&◌, cond, List, [], ◌∷◌, ◌++◌, length, drop, take, get_or, drop-cons, append_assoc, append-nil, reverse, refl, sym, ap, ap₂, ◌∙◌, subst, arith}
+use Rattle.std.specs.Prelude.{slice_get, slice_range, nat_le}
+use Rattle.std.specs.Int.{int_min, int_max}
+use Rattle.std.specs.List.{AllByRecursion}
+use Rattle.std.proofs.lemmas.List.{take-append-drop, length-drop, reverse-append}
+use Rattle.std.proofs.lemmas.Int.{ints, clamps}
+use Rattle.integers.proofs.Signs.{at_most_yes, at_most_from}
+use Rattle.geometry_model.specs.Geometries.{Edge}
+use Rattle.geometry_model.specs.Envelopes.{Envelope, overlap}
+use Rattle.geometry_laws.proofs.Scaling.{and_parts, and_from}
+use Rattle.ring_tests.specs.RunLaws.{box_of}
+use Rattle.edge_boxes.specs.Runs.{LiesIn}
+use Rattle.edge_boxes.specs.BoxLists.{covered, AreBoxes}
+use Rattle.edge_boxes.specs.Meetings.{is_asked, places_asked, IsAskedStep}
+use Rattle.edge_boxes.specs.declared.boxes.EdgeBox.{EdgeBox}
+use Rattle.edge_boxes.proofs.BoxFacts.{rest_is, run_then_rest, run_counted, found_before, covered_before}
+use Rattle.edge_boxes.proofs.Steps.{box_before, leaf_ordered, inner_covered}
+use Rattle.edge_boxes.specs.declared.meetings.Asked.{Asked}
+
+-- ---- two lists, one behind the other
+places_joined : (asked : Asked) (n : ℕ) (xs ys : List Edge) → places_asked asked n (xs ++ ys) ≡ places_asked asked n xs ++ places_asked asked (n + length xs) ys
+places_joined asked n [] ys = let e : n ≡ n + 0 = omega arith in ap (λ m. places_asked asked m ys) e
+places_joined asked n (x ∷ xs) ys =
+    let e : suc n + length xs ≡ n + suc (length xs) = omega arith in
+    go (is_asked asked n x) (places_asked asked (suc n) (xs ++ ys)) (places_asked asked (suc n) xs) (places_asked asked (n + suc (length xs)) ys) (places_joined asked (suc n) xs ys ∙ ap (λ m. places_asked asked (suc n) xs ++ places_asked asked m ys) e)
+  where
+    go : (b : Bool) (whole own rest : List ℕ) → whole ≡ own ++ rest → cond b (n ∷ whole) whole ≡ cond b (n ∷ own) own ++ rest
+    go true whole own rest e = ap (λ l. n ∷ l) e
+    go false whole own rest e = e
+
+-- ---- none asked for
+edge_apart : (b c : Envelope) (e : Edge) → LiesIn b e → overlap b c ≡ false → overlap (box_of e) c ≡ false
+edge_apart b c e l far = go (overlap (box_of e) c) refl
+  where
+    least : (m s t g : ℤ) → m ≤ℤ s → m ≤ℤ t → int_le (int_min s t) g ≡ true → int_le m g ≡ true
+    least m s t g h k f = let r = at_most_from (int_min s t) g f in at_most_yes m g (omega (arith, ints, clamps, h, k, r))
+
+    greatest : (m s t g : ℤ) → s ≤ℤ m → t ≤ℤ m → int_le g (int_max s t) ≡ true → int_le g m ≡ true
+    greatest m s t g h k f = let r = at_most_from g (int_max s t) f in at_most_yes g m (omega (arith, ints, clamps, h, k, r))
+
+    four : (p q r s : Bool) → p ≡ true → q ≡ true → r ≡ true → s ≡ true → p && q && r && s ≡ true
+    four p q r s a b c d = and_from (p && q && r) s (and_from (p && q) r (and_from p q a b) c) d
+
+    meet : overlap (box_of e) c ≡ true → overlap b c ≡ true
+    meet h =
+        let x = box_of e in
+        let last = and_parts (int_le x.least_x c.greatest_x && int_le c.least_x x.greatest_x && int_le x.least_y c.greatest_y) (int_le c.least_y x.greatest_y) h in
+        let third = and_parts (int_le x.least_x c.greatest_x && int_le c.least_x x.greatest_x) (int_le x.least_y c.greatest_y) last.0 in
+        let first = and_parts (int_le x.least_x c.greatest_x) (int_le c.least_x x.greatest_x) third.0 in
+        four _ _ _ _ (least b.least_x e.start.x e.end.x c.greatest_x l.start.left l.end.left first.0) (greatest b.greatest_x e.start.x e.end.x c.least_x l.start.right l.end.right first.1)
+        (least b.least_y e.start.y e.end.y c.greatest_y l.start.low l.end.low third.1) (greatest b.greatest_y e.start.y e.end.y c.least_y l.start.high l.end.high last.1)
+
+    go : (t : Bool) → overlap (box_of e) c ≡ t → overlap (box_of e) c ≡ false
+    go true h = absurd (let y : true ≡ false = sym (meet h) ∙ far in cc)
+    go false h = h
+
+and_none : (a b : Bool) → b ≡ false → a && b ≡ false
+and_none true b e = e
+and_none false b e = refl
+
+pub none_asked : (asked : Asked) (b : Envelope) (n : ℕ) (es : List Edge) → overlap b asked.bounds ≡ false → AllByRecursion (LiesIn b) es → places_asked asked n es ≡ []
+none_asked asked b n [] far h = refl
+none_asked asked b n (e ∷ es) far h =
+    ap (λ (t : Bool). cond t (n ∷ places_asked asked (suc n) es) (places_asked asked (suc n) es)) (and_none (nat_le asked.from n) (overlap (box_of e) asked.bounds) (edge_apart b asked.bounds e h.0 far))
+    ∙ none_asked asked b (suc n) es far h.1
+
+late : (f n : ℕ) → n < f → nat_le f n ≡ false
+late f n h = grind (arith, h)
+
+none_before : (asked : Asked) (n : ℕ) (es : List Edge) → n + length es ≤ asked.from → places_asked asked n es ≡ []
+none_before asked n [] h = refl
+none_before asked n (e ∷ es) h =
+    ap (λ (t : Bool). cond (t && overlap (box_of e) asked.bounds) (n ∷ places_asked asked (suc n) es) (places_asked asked (suc n) es)) (late asked.from n (omega (arith, h)))
+    ∙ none_before asked (suc n) es (omega (arith, h))
+
+-- ---- one edge before
+reversed : (b : Bool) (n : ℕ) (l : List ℕ) → reverse (cond b (n ∷ l) l) ≡ reverse l ++ cond b (n ∷ []) []
+reversed true n l = reverse-append (n ∷ []) l
+reversed false n l = sym (append-nil (reverse l))
+
+edge_before : (edges : List Edge) (at end : ℕ) (e : Edge) → at < end → end ≤ length edges → e ≡ get_or edges at e → slice_range edges at end ≡ e ∷ slice_range edges (suc at) end
+edge_before edges at end e h k is =
+    let less : end - at ≡ suc (end - suc at) = omega (arith, h) in
+    ap (λ n. take n (drop at edges)) less ∙ ap (take (suc (end - suc at))) (drop-cons edges at e (omega (arith, h, k)) ∙ ap (λ x. x ∷ drop (suc at) edges) (sym is))
+
+pub found_before_end : (asked : Asked) (edges : List Edge) (at end : ℕ) (e : Edge) (passes : Bool) (start old new : List ℕ) → 0 < at → at ≤ end → end ≤ length edges → e ≡ get_or edges (at - 1) e
+    → passes ≡ is_asked asked (at - 1) e → new ≡ old ++ cond passes ((at - 1) ∷ []) [] → old ≡ start ++ reverse (places_asked asked at (slice_range edges at end))
+    → new ≡ start ++ reverse (places_asked asked (at - 1) (slice_range edges (at - 1) end))
+found_before_end asked edges zero end e passes start old new p h k is test grew before = absurd (omega (arith, p))
+found_before_end asked edges (suc i) end e passes start old new p h k is test grew before =
+    let less : suc i - 1 ≡ i = omega arith in
+    subst (λ n. e ≡ get_or edges n e → passes ≡ is_asked asked n e → new ≡ old ++ cond passes (n ∷ []) [] → new ≡ start ++ reverse (places_asked asked n (slice_range edges n end))) (sym less)
+    (λ is' test' grew'. grew' ∙ ap₂ (λ l (t : Bool). l ++ cond t (i ∷ []) []) before test'
+    ∙ append_assoc start (reverse (places_asked asked (suc i) (slice_range edges (suc i) end))) (cond (is_asked asked i e) (i ∷ []) [])
+    ∙ ap (λ l. start ++ l) (sym (reversed (is_asked asked i e) i (places_asked asked (suc i) (slice_range edges (suc i) end)))
+    ∙ ap (λ l. reverse (places_asked asked i l)) (sym (edge_before edges i end e (omega (arith, h)) k is')))) is test grew
+
+pub nothing_yet : (asked : Asked) (edges : List Edge) (end : ℕ) (start : List ℕ) → start ≡ start ++ reverse (places_asked asked end (slice_range edges end end))
+nothing_yet asked edges end start =
+    let none : end - end ≡ 0 = omega arith in
+    sym (ap (λ n. start ++ reverse (places_asked asked end (take n (drop end edges)))) none ∙ append-nil start)
+
+-- ---- a whole walk
+pub found_joined : (asked : Asked) (n m : ℕ) (own rest : List Edge) (start old new : List ℕ) → n + length own ≡ m → old ≡ start ++ reverse (places_asked asked m rest) → new ≡ old ++ reverse (places_asked asked n own)
+    → new ≡ start ++ reverse (places_asked asked n (own ++ rest))
+found_joined asked n m own rest start old new count before grew =
+    grew ∙ ap (λ l. l ++ reverse (places_asked asked n own)) before ∙ append_assoc start (reverse (places_asked asked m rest)) (reverse (places_asked asked n own))
+    ∙ ap (λ l. start ++ l) (sym (ap reverse (places_joined asked n own rest ∙ ap (λ k. places_asked asked n own ++ places_asked asked k rest) count) ∙ reverse-append (places_asked asked n own) (places_asked asked m rest)))
+
+-- what comes before the first one asked for adds nothing
+pub rest_found : (asked : Asked) (edges : List Edge) (n : ℕ) → n ≤ asked.from → n ≤ length edges → places_asked asked n (drop n edges) ≡ places_asked asked 0 edges
+rest_found asked edges n h k =
+    let taken : length (take n edges) ≡ n = short edges n k in
+    let counted : 0 + length (take n edges) ≡ n = omega (arith, taken) in
+    sym (ap (places_asked asked 0) (sym (take-append-drop n edges)) ∙ places_joined asked 0 (take n edges) (drop n edges)
+    ∙ ap₂ (λ l m. l ++ places_asked asked m (drop n edges)) (none_before asked 0 (take n edges) (omega (arith, counted, h))) counted)
+  where
+    short : (es : List Edge) (n : ℕ) → n ≤ length es → length (take n es) ≡ n
+    short es zero h = refl
+    short [] (suc n) h = absurd (omega (arith, h))
+    short (e ∷ es) (suc n) h = ap suc (short es n (omega (arith, h)))
+
+-- ---- steps
+pub skip_step : (boxes : List EdgeBox) (edges : List Edge) (asked : Asked) (place : ℕ) (b : EdgeBox) (old : List ℕ) → AreBoxes boxes edges → 0 < place → place ≤ length boxes → b ≡ get_or boxes (place - 1) b
+    → overlap b.run.bounds asked.bounds ≡ false → IsAskedStep boxes edges asked place (place - 1 - b.size) old old
+skip_step boxes edges asked place b old are h k is far =
+    let box = box_before boxes edges place b are h k is in
+    let e = covered_before boxes place b h (found_before boxes place b h k is) in
+    record {
+      earlier = omega (arith, h);
+      own = box.run.own;
+      split = box.run.split ∙ ap (λ n. box.run.own ++ drop n edges) (sym e);
+      count = run_counted edges box.run.own (covered boxes (place - 1 - b.size)) b.end box.run.split box.run.ordered box.run.within ∙ sym e;
+      found = sym (ap (λ l. old ++ reverse l) (none_asked asked b.run.bounds (covered boxes (place - 1 - b.size)) box.run.own far box.run.sums.lies) ∙ append-nil old);
+    }
+
+pub leaf_asked : (boxes : List EdgeBox) (edges : List Edge) (asked : Asked) (place : ℕ) (b : EdgeBox) (old new : List ℕ) → AreBoxes boxes edges → 0 < place → place ≤ length boxes → b ≡ get_or boxes (place - 1) b → b.size ≡ 0
+    → new ≡ old ++ reverse (places_asked asked (covered boxes (place - 1)) (slice_range edges (covered boxes (place - 1)) b.end)) → IsAskedStep boxes edges asked place (place - 1) old new
+leaf_asked boxes edges asked place b old new are h k is leaf grew =
+    let box = box_before boxes edges place b are h k is in
+    let e = covered_before boxes place b h (found_before boxes place b h k is) in
+    let split = run_then_rest edges (covered boxes (place - 1)) b.end (leaf_ordered boxes edges place b are h k is leaf) in
+    record {
+      earlier = omega (arith, h);
+      own = slice_range edges (covered boxes (place - 1)) b.end;
+      split = split ∙ ap (λ n. slice_range edges (covered boxes (place - 1)) b.end ++ drop n edges) (sym e);
+      count = run_counted edges (slice_range edges (covered boxes (place - 1)) b.end) (covered boxes (place - 1)) b.end split (leaf_ordered boxes edges place b are h k is leaf) box.run.within ∙ sym e;
+      found = grew;
+    }
+
+pub inner_asked : (boxes : List EdgeBox) (edges : List Edge) (asked : Asked) (place : ℕ) (b : EdgeBox) (old : List ℕ) → AreBoxes boxes edges → 0 < place → place ≤ length boxes → b ≡ get_or boxes (place - 1) b → (b.size ≡ 0 → ⊥)
+    → IsAskedStep boxes edges asked place (place - 1) old old
+inner_asked boxes edges asked place b old are h k is inner =
+    let same = inner_covered boxes edges place b are h k is inner in
+    record {
+      earlier = omega (arith, h);
+      own = [];
+      split = ap (λ n. drop n edges) same;
+      count = plus_none (covered boxes (place - 1)) ∙ same;
+      found = sym (append-nil old);
+    }
+  where
+    plus_none : (n : ℕ) → n + 0 ≡ n
+    plus_none n = omega arith
+
+pub asked_joined : (boxes : List EdgeBox) (edges : List Edge) (asked : Asked) (place next : ℕ) (start old new : List ℕ) → IsAskedStep boxes edges asked place next old new
+    → old ≡ start ++ reverse (places_asked asked (covered boxes place) (drop (covered boxes place) edges)) → new ≡ start ++ reverse (places_asked asked (covered boxes next) (drop (covered boxes next) edges))
+asked_joined boxes edges asked place next start old new s before =
+    found_joined asked (covered boxes next) (covered boxes place) s.own (drop (covered boxes place) edges) start old new s.count before s.found
+    ∙ ap (λ l. start ++ reverse (places_asked asked (covered boxes next) l)) (sym s.split)
+
+pub asked_uncovered : (asked : Asked) (edges : List Edge) (n m : ℕ) (start new : List ℕ) → n ≡ m → m ≤ length edges → new ≡ start ++ reverse (places_asked asked n (slice_range edges n (length edges)))
+    → new ≡ start ++ reverse (places_asked asked m (drop m edges))
+asked_uncovered asked edges n m start new e h grew =
+    grew ∙ ap (λ k. start ++ reverse (places_asked asked k (slice_range edges k (length edges)))) e ∙ ap (λ l. start ++ reverse (places_asked asked m l)) (rest_is edges m h)

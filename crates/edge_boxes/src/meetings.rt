@@ -1,0 +1,102 @@
+//! Which edges have bounds that meet others.
+
+ghost use Rattle.std.specs.Prelude.{◌≡◌, ◌≤◌, ◌<◌, ◌++◌, ◌∷◌, [], cond, length, reverse, slice_range, OnOk, IfOk};
+ghost use Rattle.edge_boxes.specs.BoxLists.{AreBoxes, covered};
+ghost use Rattle.edge_boxes.specs.Meetings.{is_asked, places_asked, IsAskedStep};
+
+use crate::bounds::Bounds;
+use crate::boxes::{EdgeBox, covered};
+use orient::Segment;
+use std::alloc::AllocError;
+
+/// What is asked for: the edges from a place on whose bounds meet these.
+#[derive(Clone, Copy, Debug)]
+pub(crate) struct Asked {
+    pub(crate) bounds: Bounds,
+    pub(crate) from: usize,
+}
+
+/// Adds the places of the edges that are asked for, from the last one to the first.
+pub(crate) fn push_asked(
+    boxes: &[EdgeBox],
+    edges: &[Segment],
+    asked: &Asked,
+    found: &mut Vec<usize>,
+) -> Result<(), AllocError>
+    requires { AreBoxes boxes.now edges.now }
+    ensures { OnOk result (found.new.items ≡ found.old.items ++ reverse (places_asked asked.now 0 edges.now)) }
+{
+    let mut place = boxes.len();
+    push_run(edges, covered(boxes, place), edges.len(), asked, found)?;
+    while asked.from < covered(boxes, place) {
+        place = push_step(boxes, edges, place, asked, found)?;
+    }
+    Ok(())
+}
+
+/// Adds those between the place before this one that is looked at next and this one.
+fn push_step(
+    boxes: &[EdgeBox],
+    edges: &[Segment],
+    place: usize,
+    asked: &Asked,
+    found: &mut Vec<usize>,
+) -> Result<usize, AllocError>
+    requires boxes { AreBoxes boxes.now edges.now }
+    requires first { 0 < place }
+    requires last { place ≤ length boxes.now }
+    ensures { IfOk result (λ next. IsAskedStep boxes.now edges.now asked.now place next found.old.items found.new.items) }
+{
+    let last = &boxes[place - 1];
+    if !last.run.bounds.overlap(&asked.bounds) {
+        return Ok(place - 1 - last.size as usize);
+    }
+    if last.size == 0 {
+        push_run(
+            edges,
+            covered(boxes, place - 1),
+            last.end as usize,
+            asked,
+            found,
+        )?;
+        return Ok(place - 1);
+    }
+    Ok(place - 1)
+}
+
+/// Adds those of the edges from one place up to another.
+fn push_run(
+    edges: &[Segment],
+    first: usize,
+    end: usize,
+    asked: &Asked,
+    found: &mut Vec<usize>,
+) -> Result<(), AllocError>
+    requires ordered { first ≤ end }
+    requires within { end ≤ length edges.now }
+    ensures { OnOk result (found.new.items ≡ found.old.items ++ reverse (places_asked asked.now first (slice_range edges.now first end))) }
+{
+    let mut at = end;
+    while first < at {
+        at -= 1;
+        push_if(found, is_asked(asked, at, &edges[at]), at)?;
+    }
+    Ok(())
+}
+
+/// Whether an edge is asked for.
+fn is_asked(asked: &Asked, place: usize, edge: &Segment) -> bool
+    ensures { result ≡ is_asked asked.now place edge.now }
+{
+    (asked.from <= place) & Bounds::of(edge).overlap(&asked.bounds)
+}
+
+/// Adds a place where it passes.
+fn push_if(found: &mut Vec<usize>, passes: bool, place: usize) -> Result<(), AllocError>
+    ensures { OnOk result (found.new.items ≡ found.old.items ++ cond passes (place ∷ []) []) }
+{
+    if passes {
+        found.push(place)?;
+    }
+    Ok(())
+}
