@@ -1,6 +1,5 @@
 //! Reads conditions, with NOT, AND, OR and parentheses.
 
-ghost use Rattle.std.specs.Prelude.{◌≡◌};
 ghost use Rattle.table_model.specs.declared.queries.WrittenCond.TheVariants as tree;
 ghost use Rattle.table_model.specs.QueryReading as spec;
 ghost use Rattle.table_model.specs.Parsers.{Reads};

@@ -3,8 +3,7 @@
 ghost use Rattle.std.specs.Prelude.{◌<◌, length};
 
 use feature_table::{
-    ColumnDef, ColumnType, Database, Field, LoadFault, Records, Schema, Table, TableDef,
-    TableFault, lawful,
+    ColumnDef, ColumnType, Field, LoadFault, Records, Schema, Table, TableDef, lawful,
 };
 use sqlite_items::Items;
 use std::alloc::{AllocError, Global};
