@@ -4,11 +4,11 @@ use Rattle.geometry_model.specs.CheckedTexts.{tested}
 use Rattle.geometry_model.specs.Dimensions.{IsMatrix, Matrix}
 use Rattle.geometry_model.specs.Geometries.{Geometry, kind}
 use Rattle.geometry_model.specs.Labels.{labelled_matrix}
+use Rattle.geometry_model.specs.TextReading.{read_text}
 use Rattle.geometry_model.specs.WellKnownText.{Spells}
 use Rattle.geometry_model.specs.declared.geometry_faults.GeometryFault.{GeometryFault}
 use Rattle.geometry_model.specs.declared.shapes.Kind.{Kind}
 use Rattle.geometry_model.specs.declared.shapes.Kind.TheVariants as kinds
-use Rattle.wkt.specs.Served.{read_served}
 use Rattle.engine.specs.declared.failure.Failure.{Failure}
 use Rattle.engine.specs.declared.failure.Failure.TheVariants as f
 use Rattle.engine.specs.declared.failure.GeometryWord.{GeometryWord}
@@ -21,7 +21,7 @@ or_refused word (Err fault) = Err (f.Refused word fault)
 
 -- the valid geometry that a text spells, or the refusal (06-103r4, 7.2 and 6.1)
 abbrev pub geometry_in_word : GeometryWord → List ℕ → Result Geometry Failure
-geometry_in_word word text = or_refused word (tested (read_served text))
+geometry_in_word word text = or_refused word (tested (read_text text))
 
 -- the matrix of two geometries of these kinds: that of others than points isn't served yet
 abbrev pub served_matrix : Kind → Kind → Geometry → Geometry → Result Matrix Failure

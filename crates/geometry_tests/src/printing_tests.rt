@@ -27,6 +27,18 @@ fn geometries_show_their_type_and_kind(rt: HostRuntime) -> Result<(), Fail> {
             "LINESTRING EMPTY",
             (GeometryType::LineString, Kind::Line, true, 0),
         ),
+        (
+            "MULTILINESTRING((0 0,1 1),(2 2,3 3))",
+            (GeometryType::MultiLineString, Kind::Line, false, 0),
+        ),
+        (
+            "POLYGON EMPTY",
+            (GeometryType::Polygon, Kind::Area, true, 0),
+        ),
+        (
+            "MULTIPOLYGON(((0 0,1 0,0 1,0 0)))",
+            (GeometryType::MultiPolygon, Kind::Area, false, 0),
+        ),
     ] {
         let geometry = read(rt.alloc(), text.as_bytes())?;
         let listed = geometry.listed().len();
@@ -39,6 +51,31 @@ fn geometries_show_their_type_and_kind(rt: HostRuntime) -> Result<(), Fail> {
             ),
             shown
         );
+    }
+    Ok(())
+}
+
+#[test]
+fn areas_show_their_rings(rt: HostRuntime) -> Result<(), Fail> {
+    // The text, how many polygons it has, and how many rings all of them.
+    for (text, elements, rings) in [
+        ("LINESTRING(0 0,1 1)", 0, 0),
+        ("POLYGON EMPTY", 1, 0),
+        ("POLYGON((0 0,9 0,0 9,0 0),(1 1,2 1,1 2,1 1))", 1, 2),
+        ("MULTIPOLYGON EMPTY", 0, 0),
+        (
+            "MULTIPOLYGON(((0 0,9 0,0 9,0 0),(1 1,2 1,1 2,1 1)),((9 9,8 9,9 8,9 9)))",
+            2,
+            3,
+        ),
+    ] {
+        let geometry = read(rt.alloc(), text.as_bytes())?;
+        assert_eq!(rt; geometry.element_count(), elements, "{text}");
+        let mut found = 0_usize;
+        for index in 0..geometry.element_count() {
+            found = found.saturating_add(geometry.element(index).len());
+        }
+        assert_eq!(rt; found, rings, "{text}");
     }
     Ok(())
 }
@@ -81,7 +118,7 @@ fn what_is_printed_is_read_as_the_same(rt: HostRuntime) -> Result<(), Fail> {
 
 #[test]
 fn a_failed_put_leaves_a_beginning(rt: HostRuntime) -> Result<(), Fail> {
-    let text = b"MULTIPOINT((1 2),(3 4))";
+    let text = b"MULTIPOLYGON(((0 0)),((1 2,3 4),(5 6)))";
     let geometry = read(rt.alloc(), text)?;
     for place in 0..text.len() {
         let mut sink = StopSink::new(rt.alloc(), 1 + place as u64, 1);

@@ -1,16 +1,21 @@
-//! Texts of points: what each spells, or its fault.
+//! Texts of geometries: what each spells, or its fault.
 
 use geometry_model::GeometryType;
 use std::alloc::Global;
 use std::test::Fail;
 use wkt::{MemorySink, WktFault, print, read};
 
-// A MULTIPOINT with this many positions (0, 0), and then another text.
-fn zeros_and(alloc: Global, count: usize, rest: &[u8]) -> Result<Vec<u8>, Fail> {
-    let mut text = Vec::new(alloc);
-    text.extend_from_slice(b"MULTIPOINT(")?;
+// A text, this many times another one, and then a third.
+fn repeated(
+    alloc: Global,
+    front: &[u8],
+    item: &[u8],
+    count: usize,
+    rest: &[u8],
+) -> Result<Vec<u8>, Fail> {
+    let mut text = Vec::from_slice(alloc, front)?;
     for _turn in 0..count {
-        text.extend_from_slice(b"0 0,")?;
+        text.extend_from_slice(item)?;
     }
     text.extend_from_slice(rest)?;
     Ok(text)
@@ -80,9 +85,11 @@ fn texts_of_lines(rt: HostRuntime) -> Result<(), Fail> {
         );
         assert_eq!(rt; geometry.is_empty(), expected.is_empty(), "{text}");
         assert_eq!(rt; geometry.listed().len(), 0, "{text}");
-        assert_eq!(rt; geometry.line().len(), expected.len(), "{text}");
-        for (position, wanted) in geometry.line().iter().zip(expected) {
-            assert_eq!(rt; (position.x(), position.y()), *wanted, "{text}");
+        for line in geometry.lines() {
+            assert_eq!(rt; line.positions().len(), expected.len(), "{text}");
+            for (position, wanted) in line.positions().iter().zip(expected) {
+                assert_eq!(rt; (position.x(), position.y()), *wanted, "{text}");
+            }
         }
     }
     Ok(())
@@ -109,6 +116,19 @@ fn canonical_texts(rt: HostRuntime) -> Result<(), Fail> {
         ("linestring ( 0 0,0 0, 1 -0.0 )", "LINESTRING(0 0,1 0)"),
         ("LINESTRING(3 3,3 3)", "LINESTRING(3 3)"),
         ("LineString Empty", "LINESTRING EMPTY"),
+        (
+            "multilinestring ( (0 0, 1 1) ,( 5 5,5 5 ) )",
+            "MULTILINESTRING((0 0,1 1),(5 5))",
+        ),
+        (
+            "POLYGON((0 0,4 0,4 0,0 4,0 0),\n(1 1,2 1,1 2,1 1))",
+            "POLYGON((0 0,4 0,0 4,0 0),(1 1,2 1,1 2,1 1))",
+        ),
+        (
+            "MultiPolygon(((0 0,1 0,1 0,0 1,0 0)), ((5 5,6 5,5 6,5 5)))",
+            "MULTIPOLYGON(((0 0,1 0,0 1,0 0)),((5 5,6 5,5 6,5 5)))",
+        ),
+        ("multipolygon empty", "MULTIPOLYGON EMPTY"),
     ] {
         let mut sink = MemorySink::new(rt.alloc());
         print(&read(rt.alloc(), text.as_bytes())?, &mut sink)?;
@@ -127,9 +147,11 @@ fn texts_that_are_refused(rt: HostRuntime) {
         ("LINESTRING((0 0,1 1))", WktFault::Syntax(11)),
         ("LINESTRING(0 0,1 1,)", WktFault::Syntax(19)),
         ("LINESTRING(0 0 1 1)", WktFault::Syntax(15)),
-        (" multilinestring((0 0,1 1))", WktFault::Syntax(1)),
-        ("Polygon EMPTY", WktFault::Syntax(0)),
-        ("MULTIPOLYGON(((0 0,1 0,0 1,0 0)))", WktFault::Syntax(0)),
+        ("MULTILINESTRING()", WktFault::Syntax(16)),
+        ("POLYGON((0 0,1 0,0 1,0 0),)", WktFault::Syntax(26)),
+        ("POLYGON(EMPTY)", WktFault::Syntax(8)),
+        ("MULTIPOLYGON((0 0,1 0,0 1,0 0))", WktFault::Syntax(14)),
+        ("MULTIPOLYGON(((0 0,1.5 0,0 1,0 0)))", WktFault::OffGrid(19)),
         ("pointempty", WktFault::Syntax(0)),
         ("POINT EMPT", WktFault::Syntax(6)),
         ("POINT(1 2", WktFault::Syntax(9)),
@@ -168,7 +190,7 @@ fn texts_that_are_refused(rt: HostRuntime) {
 
 #[test]
 fn counted_positions(rt: HostRuntime) -> Result<(), Fail> {
-    let most = zeros_and(rt.alloc(), 9_999, b"0 0)")?;
+    let most = repeated(rt.alloc(), b"MULTIPOINT(", b"0 0,", 9_999, b"0 0)")?;
     assert_eq!(rt; read(rt.alloc(), most.as_slice())?.listed().len(), 10_000);
     for (rest, fault) in [
         ("0 0)", WktFault::TooLong),
@@ -176,11 +198,37 @@ fn counted_positions(rt: HostRuntime) -> Result<(), Fail> {
         ("(10000001 0))", WktFault::TooLong),
         (")", WktFault::Syntax(40_011)),
     ] {
-        let text = zeros_and(rt.alloc(), 10_000, rest.as_bytes())?;
+        let text = repeated(rt.alloc(), b"MULTIPOINT(", b"0 0,", 10_000, rest.as_bytes())?;
         assert_eq!(rt;
             read(rt.alloc(), text.as_slice()).err(),
             Some(fault),
             "{rest}"
+        );
+    }
+    Ok(())
+}
+
+#[test]
+fn counted_rings(rt: HostRuntime) -> Result<(), Fail> {
+    let most = repeated(rt.alloc(), b"POLYGON(", b"(0 0),", 999, b"(0 0))")?;
+    assert_eq!(rt; read(rt.alloc(), most.as_slice())?.lines().len(), 1_000);
+    for (front, item, count, rest) in [
+        ("POLYGON(", "(0 0),", 1_000, "(0 0))"),
+        ("MULTIPOLYGON(", "((0 0)),", 1_000, "((1.5 0)))"),
+        ("MULTILINESTRING(", "(0 0),", 1_000, "("),
+        ("MULTILINESTRING((0 0),(", "0 0,", 9_999, "1.5 0))"),
+    ] {
+        let text = repeated(
+            rt.alloc(),
+            front.as_bytes(),
+            item.as_bytes(),
+            count,
+            rest.as_bytes(),
+        )?;
+        assert_eq!(rt;
+            read(rt.alloc(), text.as_slice()).err(),
+            Some(WktFault::TooLong),
+            "{front}"
         );
     }
     Ok(())

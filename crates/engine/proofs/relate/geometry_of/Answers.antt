@@ -2,13 +2,13 @@
 use Rattle.std.proofs.Common.{Result, sym, subst}
 use Rattle.geometry_model.specs.CheckedTexts.{tested}
 use Rattle.geometry_model.specs.Geometries.{Geometry}
+use Rattle.geometry_model.specs.TextReading.{read_text}
 use Rattle.geometry_model.specs.declared.text_faults.TextFault.{TextFault}
-use Rattle.wkt.specs.Served.{read_served}
 use Rattle.engine.specs.Relations.{IsFailureOf, or_refused}
 use Rattle.engine.proofs.relate.geometry_of.Goals as goal
 
 pub returns-in-Err-clause-failure : goal.returns-in-Err-clause-failure
-returns-in-Err-clause-failure c = c.text_failure.ensures.failure (read_served c.args.text.now) c.in-Err.ensures.fault
+returns-in-Err-clause-failure c = c.text_failure.ensures.failure (read_text c.args.text.now) c.in-Err.ensures.fault
 
 pub returns-in-Err-check-clause-failure : goal.returns-in-Err-check-clause-failure
 returns-in-Err-check-clause-failure c =
