@@ -32,9 +32,6 @@ type WrittenOperand<'a> = table_model::queries::WrittenOperand<'a, WrittenGeomet
 
 type WrittenCond<'a> = table_model::queries::WrittenCond<'a, WrittenGeometry<'a>>;
 
-/// How deep NOT and parentheses may nest.
-pub const MOST_LEVELS: usize = 64;
-
 /// The least and the greatest magnitude that 64 bits with a sign don't hold are one apart: this one is held below 0.
 const GREATEST_MAGNITUDE: u64 = 1 << 63;
 

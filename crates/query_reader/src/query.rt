@@ -11,24 +11,21 @@ ghost use Rattle.query_reader.specs.Predicates as names;
 ghost use Rattle.query_reader.specs.Language.{language};
 
 use crate::Query;
-use crate::condition::{MOST_LEVELS, calls, column, condition, expect, limit_value, name, refuse};
+use crate::condition::{calls, column, condition, expect, limit_value, name, refuse};
 use crate::cursor::Cursor;
 use crate::lex::{lex, same_kind};
 use sqlite_items::Items;
 use std::alloc::Global;
 use table_model::faults::QueryFault;
-use table_model::queries::{Explain, Name, WrittenColumn, WrittenGeometry, WrittenReference};
+use table_model::queries::{Explain, LEVEL_LIMIT, Name, WrittenColumn, WrittenGeometry, WrittenReference};
 use table_model::texts::same_name;
-use table_model::tokens::{Token, TokenKind};
+use table_model::tokens::{TEXT_LIMIT, Token, TokenKind};
 
 type WrittenItem<'a> = table_model::queries::WrittenItem<'a, WrittenColumn<'a>>;
 
 type WrittenCond<'a> = table_model::queries::WrittenCond<'a, WrittenGeometry<'a>>;
 
 type Selection<'a> = table_model::queries::Selection<'a, WrittenColumn<'a>>;
-
-/// How many bytes a schema or a query may have.
-pub const MOST_BYTES: usize = 65536;
 
 /// Reads a call of ST_AsText in the select list, from its name on.
 fn text_item<'a>(tokens: &mut Cursor<'_, 'a>, at: usize) -> Result<WrittenItem<'a>, QueryFault>
@@ -175,7 +172,7 @@ fn joined_on<'a>(alloc: Global, tokens: &mut Cursor<'_, 'a>) -> Result<Second<'a
     expect(tokens, TokenKind::Join)?;
     let reference = reference(tokens)?;
     expect(tokens, TokenKind::On)?;
-    let on = condition(alloc, tokens, MOST_LEVELS)?;
+    let on = condition(alloc, tokens, LEVEL_LIMIT)?;
     Ok((Some(reference), Some(on)))
 }
 
@@ -207,7 +204,7 @@ fn where_condition<'a>(
     ensures { Reads QueryFault.OutOfMemory (spec.where_condition language.functions tokens.old) result tokens.new }
 {
     if tokens.eat(TokenKind::Where) {
-        Ok(Some(condition(alloc, tokens, MOST_LEVELS)?))
+        Ok(Some(condition(alloc, tokens, LEVEL_LIMIT)?))
     } else {
         Ok(None)
     }
@@ -311,7 +308,7 @@ fn bad_place(tokens: &[Token<'_>]) -> Option<usize>
 fn read<'a>(alloc: Global, text: &'a str) -> Result<Query<'a>, QueryFault>
     ensures { Gives QueryFault.OutOfMemory (λ q. q) result (spec.query_of language text.now) }
 {
-    if text.len() > MOST_BYTES {
+    if text.len() > TEXT_LIMIT {
         return Err(QueryFault::TooLong);
     }
     let tokens = lex(alloc, text.as_bytes(), true)?;

@@ -1,14 +1,16 @@
 -- How geometries are served: all that differs between the whole language and a part of it without geometries. What speaks of
 -- tables, queries and answers takes it as a parameter.
-use Rattle.std.specs.Prelude.{List, map, Option}
+use Rattle.std.specs.Prelude.{ℕ, List, map, Option}
 use Rattle.geometry_model.specs.Geometries.{Geometry}
 use Rattle.table_model.specs.AnswerTexts.{Writing, no_writing}
 use Rattle.table_model.specs.Arguments.{denoted}
 use Rattle.table_model.specs.Binding.{GeometryBinding, no_geometry}
-use Rattle.table_model.specs.GeometryColumns.{ColumnShape, read_geometry, geometry_writing, geometry_binding}
+use Rattle.table_model.specs.BoundQueries.{GeometryFits, geometry_fits, no_geometry_fits}
+use Rattle.table_model.specs.GeometryColumns.{ColumnShape, shape_named, read_geometry, geometry_writing, geometry_binding}
 use Rattle.table_model.specs.Loading.{GeometryReader}
 use Rattle.table_model.specs.Meanings.{Table}
 use Rattle.table_model.specs.Plans.{chosen}
+use Rattle.table_model.specs.SchemaReading.{no_geometry_type}
 use Rattle.table_model.specs.Served.{Served, Argument, ItemArgument, all_served, nothing_served}
 use Rattle.table_model.specs.Truths.{Rows, no_argument}
 use Rattle.table_model.specs.declared.conditions.Bound.{Bound}
@@ -23,13 +25,16 @@ use Rattle.table_model.specs.declared.conditions.Operand.TheVariants as operands
 use Rattle.table_model.specs.declared.plans.Plan.{Plan}
 use Rattle.table_model.specs.declared.values.NoGeometry.{NoGeometry}
 
--- the parts of the query language that are read, how a field is read as a geometry, how the geometry arguments of a query are
--- bound and what they denote at rows, how geometries are written, and which plan is chosen. T names the types of geometry
--- columns, G is a geometry of a row, B a bound argument of a condition and D one of the select list (06-104r4, 7.2)
+-- the parts of the query language that are read; the type of geometry columns that a word of a schema names; how a field is read
+-- as a geometry; how the geometry arguments of a query are bound, whether they fit, and what they denote at rows; how geometries
+-- are written; and which plan is chosen. T names the types of geometry columns, G is a geometry of a row, B a bound argument of a
+-- condition and D one of the select list (06-104r4, 7.2)
 pub record Serving (T G B D : Type 0) : Type 0 where
   pub language : Served
+  pub shape : List ℕ → Option T
   pub reading : GeometryReader T G
   pub binding : GeometryBinding T (Argument language.functions) B (ItemArgument language.functions) D
+  pub fits : GeometryFits T B D
   pub denotes : Rows G → B → Option Geometry
   pub writing : Writing G D
   pub plan : List (Table G) → Bound B D → Option Plan
@@ -38,8 +43,10 @@ pub record Serving (T G B D : Type 0) : Type 0 where
 abbrev pub all_geometries : Serving ColumnShape Geometry (GeometryArgument Geometry) ColumnPlace
 all_geometries = record {
   language = all_served;
+  shape = shape_named;
   reading = read_geometry;
   binding = geometry_binding;
+  fits = geometry_fits;
   denotes = denoted;
   writing = geometry_writing;
   plan = chosen;
@@ -85,8 +92,10 @@ plain_query query = record {
 abbrev pub no_geometries : Serving NoGeometry NoGeometry NoGeometry NoGeometry
 no_geometries = record {
   language = nothing_served;
+  shape = no_geometry_type;
   reading = λ number shape bytes. elim shape [ ];
   binding = no_geometry;
+  fits = no_geometry_fits;
   denotes = no_argument;
   writing = no_writing;
   plan = λ tables query. chosen tables (plain_query query);
