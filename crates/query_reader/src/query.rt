@@ -17,7 +17,9 @@ use crate::lex::{lex, same_kind};
 use sqlite_items::Items;
 use std::alloc::Global;
 use table_model::faults::QueryFault;
-use table_model::queries::{Explain, LEVEL_LIMIT, Name, WrittenColumn, WrittenGeometry, WrittenReference};
+use table_model::queries::{
+    Explain, LEVEL_LIMIT, Name, WrittenColumn, WrittenGeometry, WrittenReference,
+};
 use table_model::texts::same_name;
 use table_model::tokens::{TEXT_LIMIT, Token, TokenKind};
 
