@@ -2,3 +2,4 @@ pub mod TextLemmas
 pub mod ScanLemmas
 pub mod ReaderLemmas
 pub mod RunLemmas
+pub mod PutLemmas

@@ -1,226 +1,306 @@
 -- What the exits of a run say.
-use Rattle.std.proofs.Common.{◌≡◌, ◌≢◌, ◌<◌, inl, inr, ℕ, Bool, true, false, List, ◌++◌, length, map, Option, None, Some, Result, Ok, Err, refl, sym, ◌∙◌, ap, subst}
-use Rattle.std.specs.Prelude.{IsErrAnd, IsOk}
+use Rattle.std.proofs.Common.{◌≡◌, ◌≢◌, ◌<◌, inl, inr, ℕ, Bool, true, false, List, ◌∷◌, [], ◌++◌, codes, length, map, Option, None, Some, Result, Ok, Err, OnOk, OnErr, IfErr, refl, sym, ◌∙◌, ap, subst, append-nil}
+use Rattle.std.specs.Prelude.{IsErrAnd, IsOk, zero, suc, decimal}
 use Rattle.std.specs.List.{concat, filter}
-use Rattle.std.specs.Io.KnownBytes.{Keeps}
+use Rattle.std.specs.Io.KnownBytes.{Appends, Keeps}
+use Rattle.std.proofs.lemmas.List.{length-map}
 use Rattle.std.proofs.lemmas.Simd.{map-map}
-use Rattle.csv.specs.Writing.{row_text, default_writer}
-use Rattle.sinks.specs.Sinks.{AppendsFront}
-use Rattle.table_model.specs.AnswerTexts.{answer_records, header, record_of}
 use Rattle.binding_laws.proofs.Filtering.{bound_of_statement, conjuncts_are_filtered}
-use Rattle.table_model.specs.Binding.{Checked, ◌>>=◌, binding, no_geometry, statement}
-use Rattle.geometry_model.specs.Dimensions.{Matrix}
-use Rattle.geometry_model.specs.Geometries.{Geometry}
-use Rattle.geometry_model.specs.Labels.{labelled_matrix}
-use Rattle.table_model.specs.Databases.{load_tables}
+use Rattle.sinks.specs.Sinks.{AppendsFront}
+use Rattle.table_model.proofs.PlaceFacts.{map_up_to, selected_gives_passing}
+use Rattle.table_model.specs.AnswerTexts.{answer, count_records, header, record_of}
+use Rattle.table_model.specs.Binding.{Checked, ◌>>=◌, binding, bound_condition, bound_items, bound_references, bound_whole, statement}
+use Rattle.table_model.specs.Databases.{Database, load_tables}
 use Rattle.table_model.specs.Loading.{Record}
-use Rattle.table_model.specs.Meanings.{Table, all_true, filtered, is_true, passing_rows, product, referenced, search_condition}
+use Rattle.table_model.specs.Meanings.{Row, Table, all_true, filtered, is_true, passing_rows, product, referenced, search_condition, up_to}
+use Rattle.table_model.specs.Places.{limited, query_rows, selected}
+use Rattle.table_model.specs.QueryReading.{query_of}
+use Rattle.table_model.specs.RunOutcomes.{MatrixOf, Refusal, OfQuery, OfTable, after, answer_text, loaded_outcome, outcome, query_outcome, records_text}
 use Rattle.table_model.specs.Statements.{Statement, by_conjuncts}
-use Rattle.table_model.specs.Truths.{Rows, no_argument, truth, truth_by_parts}
-use Rattle.table_model.specs.declared.values.Truth.{Truth}
-use Rattle.table_model.specs.declared.conditions.Cond.{Cond}
-use Rattle.table_model.specs.declared.conditions.Cond.TheFolds.{fold-Cond}
-use Rattle.table_model.specs.declared.conditions.Cond.TheOpen.{Cond-F}
-use Rattle.table_model.specs.declared.definitions.TableDef.{TableDef}
+use Rattle.table_model.specs.Truths.{Rows, truth}
 use Rattle.table_model.specs.declared.conditions.Bound.{Bound}
+use Rattle.table_model.specs.declared.definitions.TableDef.{TableDef}
+use Rattle.table_model.specs.declared.faults.LoadFault.{LoadFault}
+use Rattle.table_model.specs.declared.faults.LoadFault.TheVariants as load
+use Rattle.table_model.specs.declared.faults.QueryFault.{QueryFault}
+use Rattle.table_model.specs.declared.faults.QueryFault.TheVariants as query
+use Rattle.table_model.specs.declared.faults.TableFault.{TableFault}
+use Rattle.table_model.specs.declared.queries.Explain.{Explain}
+use Rattle.table_model.specs.declared.queries.Explain.TheVariants as explains
 use Rattle.table_model.specs.declared.queries.Query.{Query}
 use Rattle.table_model.specs.declared.values.NoGeometry.{NoGeometry}
 use Rattle.feature_table.specs.Outcomes.{IsFailure, is_of_reading}
-use Rattle.feature_table.specs.GeometryFields.{reading}
 use Rattle.feature_table.specs.Tables.{EarlierLoad}
-use Rattle.table_model.specs.QueryReading.{query_of}
-use Rattle.spatial_sql.specs.Language.{language}
-use Rattle.table_model.specs.declared.faults.LoadFault.{LoadFault}
-use Rattle.table_model.specs.declared.faults.LoadFault.TheVariants as load
-use Rattle.table_model.specs.declared.faults.TableFault.{TableFault}
-use Rattle.table_model.specs.declared.faults.QueryFault.{QueryFault}
-use Rattle.table_model.specs.declared.faults.QueryFault.TheVariants as query
 use Rattle.engine.specs.Faults.{load_wants_memory, memory_or, of_put, of_query, of_table, wants_memory}
-use Rattle.engine.specs.Runs.{IsReached, RefusesTable, Runs, after, answer_text, bound_text, csv_text, none_reached, outcome, pair_text, query_outcome}
-use Rattle.engine.specs.Stage.{no_writing, pair_rows, plain_meaning}
+use Rattle.engine.specs.Pairs.{choice_of, choices_of, pair_rows}
+use Rattle.engine.specs.Runs.{IsOfTables, IsReached, RefusesTable, Runs, bound_text, count_text, none_reached, pair_text, rows_of_pairs, rows_text}
+use Rattle.engine.specs.Serving.{record_text, serving}
 use Rattle.engine.specs.declared.execute.RowPair.{RowPair}
 use Rattle.engine.specs.declared.run_fault.Fault.{Fault}
 use Rattle.engine.specs.declared.run_fault.Fault.TheVariants as faults
 use Rattle.records.specs.declared.put_fault.PutFault.{PutFault}
 use Rattle.records.specs.declared.put_fault.PutFault.TheVariants as put
 
+-- ---- what is served
+
+abbrev pub Definitions : Type 0
+Definitions = List (TableDef NoGeometry)
+
+abbrev pub Served : Type 0
+Served = Database NoGeometry NoGeometry
+
+abbrev pub Written : Type 0
+Written = Query NoGeometry NoGeometry
+
+abbrev pub Stated : Type 0
+Stated = Statement NoGeometry NoGeometry
+
+abbrev pub Joined : Type 0
+Joined = Bound NoGeometry NoGeometry
+
+-- ---- faults
+
 pub keeps-same : (a : Option (List ℕ)) → Keeps a a
 keeps-same None = tt
 keeps-same (Some bytes) = refl
 
 -- memory that ran out before anything was put
-pub memory-none : (A : Type 0) (outcome : Result (List ℕ) Fault) (reached : ℕ → Type 0) (old : Option (List ℕ)) → Runs {A = A} (Err faults.Memory) outcome reached old old
+pub memory-none : (A : Type 0) (outcome : Result (List ℕ) Refusal) (reached : ℕ → Type 0) (old : Option (List ℕ)) → Runs {A = A} (Err faults.Memory) outcome reached old old
 memory-none A outcome reached old = inl (keeps-same old)
 
 no-memory : (e : QueryFault) → wants_memory e ≡ false → e ≢ query.OutOfMemory
 no-memory e other same = let both : wants_memory query.OutOfMemory ≡ false = subst (λ x. wants_memory x ≡ false) same other in cc both
 
 -- a fault of a step on the query, before anything was put: want of memory, or another
-refused-by : (A : Type 0) {X : Type 0} (memory : Bool) (e : QueryFault) (answer : Result X QueryFault) (next : X → Result (List ℕ) Fault) (reached : ℕ → Type 0) (old : Option (List ℕ))
-    → wants_memory e ≡ memory → (e ≢ query.OutOfMemory → answer ≡ Err e) → Runs {A = A} (Err (memory_or memory (faults.Query e))) (after of_query answer next) reached old old
-refused-by A true e answer next reached old is given = memory-none A (after of_query answer next) reached old
+refused-by : (A : Type 0) {X : Type 0} (memory : Bool) (e : QueryFault) (answer : Result X QueryFault) (next : X → Result (List ℕ) Refusal) (reached : ℕ → Type 0) (old : Option (List ℕ))
+    → wants_memory e ≡ memory → (e ≢ query.OutOfMemory → answer ≡ Err e) → Runs {A = A} (Err (memory_or memory (faults.Query e))) (after OfQuery answer next) reached old old
+refused-by A true e answer next reached old is given = memory-none A (after OfQuery answer next) reached old
 refused-by A false e answer next reached old is given =
-    (ap (λ r. after of_query r next) (given (no-memory e is)) ∙ ap (λ b. Err (memory_or b (faults.Query e))) is, keeps-same old)
+    (ap (λ r. after OfQuery r next) (given (no-memory e is)), keeps-same old)
 
-pub query-refused : (A : Type 0) {X : Type 0} (e : QueryFault) (answer : Result X QueryFault) (next : X → Result (List ℕ) Fault) (reached : ℕ → Type 0) (old : Option (List ℕ))
-    → (e ≢ query.OutOfMemory → answer ≡ Err e) → Runs {A = A} (Err (of_query e)) (after of_query answer next) reached old old
+pub query-refused : (A : Type 0) {X : Type 0} (e : QueryFault) (answer : Result X QueryFault) (next : X → Result (List ℕ) Refusal) (reached : ℕ → Type 0) (old : Option (List ℕ))
+    → (e ≢ query.OutOfMemory → answer ≡ Err e) → Runs {A = A} (Err (of_query e)) (after OfQuery answer next) reached old old
 query-refused A e answer next reached old given = refused-by A (wants_memory e) e answer next reached old refl given
 
 -- a fault of putting the answer
-pub put-refused : (A : Type 0) (e : PutFault) (outcome : Result (List ℕ) Fault) (reached : ℕ → Type 0) (text : List ℕ) (old new : Option (List ℕ))
+pub put-refused : (A : Type 0) (e : PutFault) (outcome : Result (List ℕ) Refusal) (reached : ℕ → Type 0) (text : List ℕ) (old new : Option (List ℕ))
     → outcome ≡ Ok text → AppendsFront old new text → Runs {A = A} (Err (of_put e)) outcome reached old new
 put-refused A put.Sink outcome reached text old new is front = (text, is, front)
 put-refused A put.Memory outcome reached text old new is front = inr (text, is, front)
 
 -- a result that is a certain fault
-pub at-fault : {A : Type 0} (r : Result A Fault) (f : Fault) (outcome : Result (List ℕ) Fault) (reached : ℕ → Type 0) (old new : Option (List ℕ))
+pub at-fault : {A : Type 0} (r : Result A Fault) (f : Fault) (outcome : Result (List ℕ) Refusal) (reached : ℕ → Type 0) (old new : Option (List ℕ))
     → IsErrAnd r (λ x. x ≡ f) → Runs {A = A} (Err f) outcome reached old new → Runs r outcome reached old new
 at-fault (Ok a) f outcome reached old new is fact = absurd is
 at-fault {A = A} (Err e) f outcome reached old new is fact = subst (λ x. Runs {A = A} (Err x) outcome reached old new) (sym is) fact
 
--- where no argument is a geometry, every matrix gives one truth
-same-parts : (matrix other : Geometry → Geometry → Matrix) (rows : Rows NoGeometry) (part : Cond-F NoGeometry Truth)
-    → truth_by_parts matrix no_argument rows part ≡ truth_by_parts other no_argument rows part
-same-parts matrix other rows (Cond-F.Or parts) = refl
-same-parts matrix other rows (Cond-F.And parts) = refl
-same-parts matrix other rows (Cond-F.Not part) = refl
-same-parts matrix other rows (Cond-F.Compare sign a b) = refl
-same-parts matrix other rows (Cond-F.IsNull a) = refl
-same-parts matrix other rows (Cond-F.IsEmpty a) = refl
-same-parts matrix other rows (Cond-F.Relates predicate a b) = elim a [ ]
+-- a fault of a step that loads no table tells of none
+pub of-tables : {A : Type 0} (count : ℕ) (r : Result A Fault) (f : Fault) → IsErrAnd r (λ x. x ≡ f) → IsOfTables count f → IfErr r (IsOfTables count)
+of-tables count (Ok a) f is fact = absurd is
+of-tables count (Err e) f is fact = subst (IsOfTables count) (sym is) fact
 
-same-fold : (matrix other : Geometry → Geometry → Matrix) (rows : Rows NoGeometry) → truth_by_parts matrix (no_argument {G = NoGeometry}) rows ≡ truth_by_parts other (no_argument {G = NoGeometry}) rows
-same-fold matrix other rows = λ i part. same-parts matrix other rows part i
+pub query-of-tables : (count : ℕ) (e : QueryFault) → IsOfTables count (of_query e)
+query-of-tables count e = go (wants_memory e)
+  where
+    go : (memory : Bool) → IsOfTables count (memory_or memory (faults.Query e))
+    go true = tt
+    go false = tt
 
-same-truth : (matrix other : Geometry → Geometry → Matrix) (rows : Rows NoGeometry) (cond : Cond NoGeometry) → truth matrix no_argument rows cond ≡ truth other no_argument rows cond
-same-truth matrix other rows cond = ap (λ parts. fold-Cond NoGeometry Truth parts cond) (same-fold matrix other rows)
+pub put-of-tables : (count : ℕ) (e : PutFault) → IsOfTables count (of_put e)
+put-of-tables count put.Sink = tt
+put-of-tables count put.Memory = tt
 
-same-value : (matrix other : Geometry → Geometry → Matrix) → truth matrix (no_argument {G = NoGeometry}) ≡ truth other (no_argument {G = NoGeometry})
-same-value matrix other = λ i rows cond. same-truth matrix other rows cond i
+pub load-of-tables : (count : ℕ) (f : TableFault) → f.table < count → IsOfTables count (of_table f)
+load-of-tables count f within = go (load_wants_memory f.fault)
+  where
+    go : (memory : Bool) → IsOfTables count (memory_or memory (faults.Load f.table f.fault))
+    go true = tt
+    go false = within
+
+-- ---- texts
+
+-- the header and the records of the pairs that are wanted are the records of the answer
+records-text : (database : Served) (bound : Joined) (pairs : List RowPair) (counts : Bool) → bound.counts ≡ counts → counts ≡ false
+    → record_text (header serving.writing database.definitions bound) ++ concat (map (pair_text serving database bound) (up_to bound.limit pairs))
+    ≡ rows_text serving database bound (rows_of_pairs database bound pairs)
+records-text database bound pairs true is no_count = cc no_count
+records-text database bound pairs false is no_count =
+    let rows = pair_rows (referenced database.tables bound.references) in
+    let listed = record_of serving.writing bound in
+    let these : map (pair_text serving database bound) (up_to bound.limit pairs) ≡ map record_text (map listed (up_to bound.limit (map rows pairs))) =
+    sym (map-map (λ r. record_text (listed r)) rows (up_to bound.limit pairs))
+    ∙ ap (map (λ r. record_text (listed r))) (map_up_to rows bound.limit pairs)
+    ∙ sym (map-map record_text listed (up_to bound.limit (map rows pairs))) in
+    ap (λ l. record_text (header serving.writing database.definitions bound) ++ concat l) these ∙ rw is refl
+
+pub listed-text : (database : Served) (bound : Joined) (pairs : List RowPair) → bound.counts ≡ false
+    → record_text (header serving.writing database.definitions bound) ++ concat (map (pair_text serving database bound) (up_to bound.limit pairs))
+    ≡ rows_text serving database bound (rows_of_pairs database bound pairs)
+listed-text database bound pairs is = records-text database bound pairs false is refl
+
+-- the header of COUNT(*) and the record of the number are the records of the answer
+pub counted-text : (database : Served) (bound : Joined) (pairs : List RowPair) → bound.counts ≡ true
+    → count_text bound.limit (length pairs) ≡ rows_text serving database bound (rows_of_pairs database bound pairs)
+counted-text database bound pairs is =
+    ap (count_text bound.limit) (sym (length-map pairs (pair_rows (referenced database.tables bound.references)))) ∙ rw is refl
+
+-- the record of the number, but under LIMIT 0
+pub number-text : (limit : Option ℕ) (count : ℕ) → limit ≢ Some 0 → record_text (codes "COUNT(*)" ∷ []) ++ record_text (decimal count ∷ []) ≡ count_text limit count
+number-text None count other = ap (λ l. record_text (codes "COUNT(*)" ∷ []) ++ l) (sym (append-nil (record_text (decimal count ∷ []))))
+number-text (Some zero) count other = absurd (other refl)
+number-text (Some (suc n)) count other = ap (λ l. record_text (codes "COUNT(*)" ∷ []) ++ l) (sym (append-nil (record_text (decimal count ∷ []))))
+
+-- the rows at the places that a query selects are those that its conjuncts pass
+pub passing-text : (matrix : MatrixOf) (database : Served) (bound : Joined) (pairs : List RowPair)
+    → choices_of pairs ≡ selected (truth matrix serving.denotes) database.tables bound
+    → rows_text serving database bound (rows_of_pairs database bound pairs) ≡ bound_text serving matrix database bound
+passing-text matrix database bound pairs are =
+    ap (rows_text serving database bound)
+    (sym (map-map (query_rows database.tables bound) choice_of pairs)
+    ∙ ap (map (query_rows database.tables bound)) are
+    ∙ selected_gives_passing (truth matrix serving.denotes) database.tables bound)
+
+-- ---- queries
 
 -- what ON and WHERE filter is what the conjuncts pass
-filtered-passing : (matrix : Geometry → Geometry → Matrix) (tables : List (Table NoGeometry)) (stated : Statement NoGeometry NoGeometry)
-    → filtered (truth matrix no_argument) tables stated ≡ plain_meaning tables (by_conjuncts stated)
+filtered-passing : (matrix : MatrixOf) (tables : List (Table NoGeometry)) (stated : Stated)
+    → filtered (truth matrix serving.denotes) tables stated ≡ passing_rows (truth matrix serving.denotes) tables (by_conjuncts stated)
 filtered-passing matrix tables stated =
-    let tests : (λ (rows : Rows NoGeometry). is_true (truth matrix no_argument rows (search_condition stated))) ≡ all_true (truth matrix no_argument) (by_conjuncts stated).conjuncts =
-    λ i rows. sym (conjuncts_are_filtered NoGeometry NoGeometry NoGeometry matrix no_argument rows stated) i in
+    let tests : (λ (rows : Rows NoGeometry). is_true (truth matrix serving.denotes rows (search_condition stated))) ≡ all_true (truth matrix serving.denotes) (by_conjuncts stated).conjuncts =
+    λ i rows. sym (conjuncts_are_filtered NoGeometry NoGeometry NoGeometry matrix serving.denotes rows stated) i in
     ap (λ test. filter test (product (referenced tables stated.references))) tests
-    ∙ ap (λ value. passing_rows value tables (by_conjuncts stated)) (same-value matrix labelled_matrix)
 
-stated-text : (matrix : Geometry → Geometry → Matrix) (definitions : List (TableDef NoGeometry)) (tables : List (Table NoGeometry)) (bound : Bound NoGeometry NoGeometry)
-    (s : Checked (Statement NoGeometry NoGeometry)) → (s >>= (λ stated. Ok (by_conjuncts stated))) ≡ Ok bound
-    → after of_query s (λ q. Ok (answer_text matrix definitions tables q)) ≡ Ok (bound_text definitions tables bound)
-stated-text matrix definitions tables bound (Ok stated) is =
+-- the answer of a query that asks for rows
+asked-text : (matrix : MatrixOf) (database : Served) (stated : Stated) (explain : Explain) → stated.explain ≡ explain → explain ≡ explains.No
+    → answer_text record_text serving matrix database stated ≡ bound_text serving matrix database (by_conjuncts stated)
+asked-text matrix database stated explain is asks =
+    ap (λ e. answer_text record_text serving matrix database (record { explain = e; references = stated.references; items = stated.items; on = stated.on; condition = stated.condition; counts = stated.counts; limit = stated.limit })) (is ∙ asks)
+    ∙ ap (rows_text serving database (by_conjuncts stated)) (filtered-passing matrix database.tables stated)
+
+stated-text : (matrix : MatrixOf) (database : Served) (bound : Joined) (s : Checked Stated) → (s >>= (λ stated. Ok (by_conjuncts stated))) ≡ Ok bound → bound.explain ≡ explains.No
+    → after OfQuery s (λ q. Ok (answer_text record_text serving matrix database q)) ≡ Ok (bound_text serving matrix database bound)
+stated-text matrix database bound (Ok stated) is asks =
     let same : by_conjuncts stated ≡ bound = cc is in
-    ap Ok (ap (λ rows. csv_text (answer_records no_writing definitions (by_conjuncts stated) rows)) (filtered-passing matrix tables stated) ∙ ap (bound_text definitions tables) same)
-stated-text matrix definitions tables bound (Err e) is = cc is
+    ap Ok (asked-text matrix database stated stated.explain refl (ap (λ b. b.explain) same ∙ asks) ∙ ap (bound_text serving matrix database) same)
+stated-text matrix database bound (Err e) is asks = cc is
 
--- the outcome of a query that is bound
-pub bound-outcome : (matrix : Geometry → Geometry → Matrix) (definitions : List (TableDef NoGeometry)) (written : Query NoGeometry NoGeometry) (tables : List (Table NoGeometry))
-    (bound : Bound NoGeometry NoGeometry) → binding no_geometry definitions written ≡ Ok bound → query_outcome matrix definitions written tables ≡ Ok (bound_text definitions tables bound)
-bound-outcome matrix definitions written tables bound is =
-    stated-text matrix definitions tables bound (statement no_geometry definitions written)
-    (sym (bound_of_statement NoGeometry NoGeometry NoGeometry NoGeometry NoGeometry no_geometry definitions written) ∙ is)
+-- the outcome of a query that is bound and asks for rows
+pub bound-outcome : (matrix : MatrixOf) (written : Written) (database : Served) (bound : Joined) → binding serving.binding database.definitions written ≡ Ok bound → bound.explain ≡ explains.No
+    → query_outcome record_text serving matrix written database ≡ Ok (bound_text serving matrix database bound)
+bound-outcome matrix written database bound is asks =
+    stated-text matrix database bound (statement serving.binding database.definitions written)
+    (sym (bound_of_statement NoGeometry NoGeometry NoGeometry NoGeometry NoGeometry serving.binding database.definitions written) ∙ is) asks
+
+-- a step of binding keeps what its rest keeps
+kept-by : {X : Type 0} (r : Checked X) (rest : X → Checked Joined) (bound : Joined) (explain : Explain) → ((x : X) → rest x ≡ Ok bound → bound.explain ≡ explain)
+    → (r >>= rest) ≡ Ok bound → bound.explain ≡ explain
+kept-by (Ok x) rest bound explain keeps is = keeps x is
+kept-by (Err e) rest bound explain keeps is = cc is
+
+ok-same : (r : Checked Joined) (one other : Joined) → r ≡ Ok one → r ≡ Ok other → one ≡ other
+ok-same r one other is also = cc
+
+-- a bound query asks for what was written
+pub binding-asks : (definitions : Definitions) (written : Written) (bound : Joined) → binding serving.binding definitions written ≡ Ok bound → bound.explain ≡ written.explain
+binding-asks definitions written bound is =
+    kept-by (bound_references definitions written.first written.second) _ bound written.explain
+    (λ references. kept-by (bound_items serving.binding definitions references written.selection) _ bound written.explain
+    (λ listed. kept-by (bound_condition serving.binding definitions references written.on) _ bound written.explain
+    (λ joining. kept-by (bound_condition serving.binding definitions references written.condition) _ bound written.explain
+    (λ filtering last. sym (ap (λ b. b.explain) (ok-same _ _ bound refl last)))))) is
 
 same-error : {X : Type 0} (r : Checked X) (one other : QueryFault) → r ≡ Err one → r ≡ Err other → one ≡ other
 same-error r one other is also = cc
 
-stated-fault : (bound : Checked (Bound NoGeometry NoGeometry)) (s : Checked (Statement NoGeometry NoGeometry)) (e : QueryFault) → bound ≡ (s >>= (λ stated. Ok (by_conjuncts stated)))
-    → bound ≡ Err e → s ≡ Err e
+stated-fault : (bound : Checked Joined) (s : Checked Stated) (e : QueryFault) → bound ≡ (s >>= (λ stated. Ok (by_conjuncts stated))) → bound ≡ Err e → s ≡ Err e
 stated-fault bound (Ok stated) e are is = cc
-stated-fault bound (Err other) e are is =
-    ap Err (same-error bound other e are is)
+stated-fault bound (Err other) e are is = ap Err (same-error bound other e are is)
 
 -- a query that isn't bound
-pub unbound-runs : {A : Type 0} (r : Result A Fault) (e : QueryFault) (matrix : Geometry → Geometry → Matrix) (definitions : List (TableDef NoGeometry))
-    (written : Query NoGeometry NoGeometry) (tables : List (Table NoGeometry)) (old : Option (List ℕ)) → IsErrAnd r (λ x. x ≡ of_query e)
-    → (e ≢ query.OutOfMemory → binding no_geometry definitions written ≡ Err e) → Runs r (query_outcome matrix definitions written tables) none_reached old old
-unbound-runs {A = A} r e matrix definitions written tables old is given =
-    at-fault r (of_query e) (query_outcome matrix definitions written tables) none_reached old old is
-    (query-refused A e (statement no_geometry definitions written) (λ q. Ok (answer_text matrix definitions tables q)) none_reached old
-    (λ other. stated-fault (binding no_geometry definitions written) (statement no_geometry definitions written) e
-    (bound_of_statement NoGeometry NoGeometry NoGeometry NoGeometry NoGeometry no_geometry definitions written) (given other)))
+pub unbound-runs : {A : Type 0} (r : Result A Fault) (e : QueryFault) (matrix : MatrixOf) (written : Written) (database : Served) (old : Option (List ℕ)) → IsErrAnd r (λ x. x ≡ of_query e)
+    → (e ≢ query.OutOfMemory → binding serving.binding database.definitions written ≡ Err e) → Runs r (query_outcome record_text serving matrix written database) none_reached old old
+unbound-runs {A = A} r e matrix written database old is given =
+    at-fault r (of_query e) (query_outcome record_text serving matrix written database) none_reached old old is
+    (query-refused A e (statement serving.binding database.definitions written) (λ q. Ok (answer_text record_text serving matrix database q)) none_reached old
+    (λ other. stated-fault (binding serving.binding database.definitions written) (statement serving.binding database.definitions written) e
+    (bound_of_statement NoGeometry NoGeometry NoGeometry NoGeometry NoGeometry serving.binding database.definitions written) (given other)))
 
--- the records of the pairs are the records of the answer
-pub answer-text : (definitions : List (TableDef NoGeometry)) (tables : List (Table NoGeometry)) (bound : Bound NoGeometry NoGeometry) (pairs : List RowPair)
-    → map (pair_rows (referenced tables bound.references)) pairs ≡ plain_meaning tables bound
-    → row_text default_writer (header no_writing definitions bound) ++ concat (map (pair_text (referenced tables bound.references) bound) pairs) ≡ bound_text definitions tables bound
-answer-text definitions tables bound pairs are =
-    let rows = pair_rows (referenced tables bound.references) in
-    ap (λ l. row_text default_writer (header no_writing definitions bound) ++ concat l)
-    (sym (map-map (λ r. row_text default_writer (record_of no_writing bound r)) rows pairs)
-    ∙ ap (λ l. map (λ r. row_text default_writer (record_of no_writing bound r)) l) are
-    ∙ sym (map-map (row_text default_writer) (record_of no_writing bound) (plain_meaning tables bound)))
+-- ---- tables
 
 no-failure : (f : LoadFault) → load_wants_memory f ≡ false → is_of_reading f ≡ false → ¬ (IsFailure f)
 no-failure f other unread (inl same) = let both : is_of_reading load.ReadFailed ≡ false = subst (λ x. is_of_reading x ≡ false) same unread in cc both
 no-failure f other unread (inr same) = let both : load_wants_memory load.OutOfMemory ≡ false = subst (λ x. load_wants_memory x ≡ false) same other in cc both
 
 -- a fault of loading a table, before anything was put: want of memory, failed reading, or another
-table-refused-by : (A : Type 0) {X : Type 0} (memory unread : Bool) (table : ℕ) (f : LoadFault) (answer : Result X TableFault) (next : X → Result (List ℕ) Fault) (reached : ℕ → Type 0)
+table-refused-by : (A : Type 0) {X : Type 0} (memory unread : Bool) (table : ℕ) (f : LoadFault) (answer : Result X TableFault) (next : X → Result (List ℕ) Refusal) (reached : ℕ → Type 0)
     (old : Option (List ℕ)) → load_wants_memory f ≡ memory → is_of_reading f ≡ unread → (¬ (IsFailure f) → answer ≡ Err (record { table = table; fault = f })) → reached table
-    → Runs {A = A} (Err (memory_or memory (faults.Load table f))) (after of_table answer next) reached old old
-table-refused-by A true unread table f answer next reached old is of given there = memory-none A (after of_table answer next) reached old
+    → Runs {A = A} (Err (memory_or memory (faults.Load table f))) (after OfTable answer next) reached old old
+table-refused-by A true unread table f answer next reached old is of given there = memory-none A (after OfTable answer next) reached old
 table-refused-by A false true table f answer next reached old is of given there =
-    (subst (λ b. RefusesTable b (reached table) (after of_table answer next) (faults.Load table f)) (sym of) there, keeps-same old)
+    (subst (λ b. RefusesTable b (reached table) (after OfTable answer next) (record { table = table; fault = f })) (sym of) there, keeps-same old)
 table-refused-by A false false table f answer next reached old is of given there =
-    let same : after of_table answer next ≡ Err (faults.Load table f) =
-    ap (λ r. after of_table r next) (given (no-failure f is of)) ∙ ap (λ b. Err (memory_or b (faults.Load table f))) is in
-    (subst (λ b. RefusesTable b (reached table) (after of_table answer next) (faults.Load table f)) (sym of) same, keeps-same old)
+    let same : after OfTable answer next ≡ Err (OfTable (record { table = table; fault = f })) = ap (λ r. after OfTable r next) (given (no-failure f is of)) in
+    (subst (λ b. RefusesTable b (reached table) (after OfTable answer next) (record { table = table; fault = f })) (sym of) same, keeps-same old)
 
-pub table-refused : {A X : Type 0} (r : Result A Fault) (f : TableFault) (answer : Result X TableFault) (next : X → Result (List ℕ) Fault) (reached : ℕ → Type 0) (old : Option (List ℕ))
-    → IsErrAnd r (λ x. x ≡ of_table f) → (¬ (IsFailure f.fault) → answer ≡ Err f) → reached f.table → Runs r (after of_table answer next) reached old old
+table-refused : {A X : Type 0} (r : Result A Fault) (f : TableFault) (answer : Result X TableFault) (next : X → Result (List ℕ) Refusal) (reached : ℕ → Type 0) (old : Option (List ℕ))
+    → IsErrAnd r (λ x. x ≡ of_table f) → (¬ (IsFailure f.fault) → answer ≡ Err f) → reached f.table → Runs r (after OfTable answer next) reached old old
 table-refused {A = A} r f answer next reached old is given there =
-    at-fault r (of_table f) (after of_table answer next) reached old old is
+    at-fault r (of_table f) (after OfTable answer next) reached old old is
     (table-refused-by A (load_wants_memory f.fault) (is_of_reading f.fault) f.table f.fault answer next reached old refl refl given there)
 
--- the outcome of a run once the query is read, and once the tables are loaded
-pub read-outcome : (matrix : Geometry → Geometry → Matrix) (definitions : List (TableDef NoGeometry)) (records : List (List Record)) (text : List ℕ) (written : Query NoGeometry NoGeometry)
-    → query_of language text ≡ Ok written → outcome matrix definitions records text ≡ after of_table (load_tables reading definitions records) (query_outcome matrix definitions written)
-read-outcome matrix definitions records text written is =
-    ap (λ r. after of_query r (λ q. after of_table (load_tables reading definitions records) (query_outcome matrix definitions q))) is
+-- ---- runs
 
-loaded-outcome : (matrix : Geometry → Geometry → Matrix) (definitions these : List (TableDef NoGeometry)) (records : List (List Record)) (text : List ℕ) (written : Query NoGeometry NoGeometry) (tables : List (Table NoGeometry))
-    → query_of language text ≡ Ok written → load_tables reading definitions records ≡ Ok tables → these ≡ definitions
-    → query_outcome matrix these written tables ≡ outcome matrix definitions records text
-loaded-outcome matrix definitions these records text written tables is loaded same =
-    ap (λ ds. query_outcome matrix ds written tables) same
-    ∙ sym (read-outcome matrix definitions records text written is ∙ ap (λ r. after of_table r (query_outcome matrix definitions written)) loaded)
+-- the outcome of a run once the query is read, and once the tables are loaded
+read-outcome : (matrix : MatrixOf) (definitions : Definitions) (records : List (List Record)) (text : List ℕ) (written : Written)
+    → query_of serving.language text ≡ Ok written → outcome record_text serving matrix definitions records text ≡ loaded_outcome record_text serving matrix definitions records written
+read-outcome matrix definitions records text written is = ap (λ r. after OfQuery r (loaded_outcome record_text serving matrix definitions records)) is
+
+loaded-is : (matrix : MatrixOf) (database : Served) (definitions : Definitions) (records : List (List Record)) (written : Written)
+    → load_tables serving.reading definitions records ≡ Ok database.tables → database.definitions ≡ definitions
+    → query_outcome record_text serving matrix written database ≡ loaded_outcome record_text serving matrix definitions records written
+loaded-is matrix database definitions records written loaded same =
+    ap (λ ds. query_outcome record_text serving matrix written (record { definitions = ds; tables = database.tables })) same
+    ∙ sym (ap (λ r. after OfTable r (λ tables. query_outcome record_text serving matrix written (record { definitions = definitions; tables = tables }))) loaded)
 
 -- a query that isn't read
-pub unread-runs : {A : Type 0} (r : Result A Fault) (e : QueryFault) (matrix : Geometry → Geometry → Matrix) (definitions : List (TableDef NoGeometry)) (records : List (List Record)) (text : List ℕ) (old : Option (List ℕ))
-    → IsErrAnd r (λ x. x ≡ of_query e) → (e ≢ query.OutOfMemory → query_of language text ≡ Err e)
-    → Runs r (outcome matrix definitions records text) (IsReached definitions records text) old old
+pub unread-runs : {A : Type 0} (r : Result A Fault) (e : QueryFault) (matrix : MatrixOf) (definitions : Definitions) (records : List (List Record)) (text : List ℕ) (old : Option (List ℕ))
+    → IsErrAnd r (λ x. x ≡ of_query e) → (e ≢ query.OutOfMemory → query_of serving.language text ≡ Err e)
+    → Runs r (outcome record_text serving matrix definitions records text) (IsReached serving definitions records text) old old
 unread-runs {A = A} r e matrix definitions records text old is given =
-    at-fault r (of_query e) (outcome matrix definitions records text) (IsReached definitions records text) old old is
-    (query-refused A e (query_of language text) (λ q. after of_table (load_tables reading definitions records) (query_outcome matrix definitions q)) (IsReached definitions records text) old given)
+    at-fault r (of_query e) (outcome record_text serving matrix definitions records text) (IsReached serving definitions records text) old old is
+    (query-refused A e (query_of serving.language text) (loaded_outcome record_text serving matrix definitions records) (IsReached serving definitions records text) old given)
 
 -- a table that isn't loaded: the query has been read, and each table before it has loaded
-pub unloaded-runs : {A : Type 0} (r : Result A Fault) (f : TableFault) (matrix : Geometry → Geometry → Matrix) (definitions : List (TableDef NoGeometry)) (records : List (List Record)) (text : List ℕ) (written : Query NoGeometry NoGeometry)
-    (old : Option (List ℕ)) → IsErrAnd r (λ x. x ≡ of_table f) → query_of language text ≡ Ok written → (¬ (IsFailure f.fault) → load_tables reading definitions records ≡ Err f)
-    → f.table < length definitions → EarlierLoad reading definitions records f.table → Runs r (outcome matrix definitions records text) (IsReached definitions records text) old old
+pub unloaded-runs : {A : Type 0} (r : Result A Fault) (f : TableFault) (matrix : MatrixOf) (definitions : Definitions) (records : List (List Record)) (text : List ℕ) (written : Written)
+    (old : Option (List ℕ)) → IsErrAnd r (λ x. x ≡ of_table f) → query_of serving.language text ≡ Ok written → (¬ (IsFailure f.fault) → load_tables serving.reading definitions records ≡ Err f)
+    → f.table < length definitions → EarlierLoad serving.reading definitions records f.table
+    → Runs r (outcome record_text serving matrix definitions records text) (IsReached serving definitions records text) old old
 unloaded-runs r f matrix definitions records text written old is read given within earlier =
-    let accepted : IsOk (query_of language text) = subst (λ x. IsOk x) (sym read) refl in
-    subst (λ o. Runs r o (IsReached definitions records text) old old) (sym (read-outcome matrix definitions records text written read))
-    (table-refused r f (load_tables reading definitions records) (query_outcome matrix definitions written) (IsReached definitions records text) old is given (accepted, within, earlier))
+    let accepted : IsOk (query_of serving.language text) = subst (λ x. IsOk x) (sym read) refl in
+    subst (λ o. Runs r o (IsReached serving definitions records text) old old) (sym (read-outcome matrix definitions records text written read))
+    (table-refused r f (load_tables serving.reading definitions records)
+    (λ tables. query_outcome record_text serving matrix written (record { definitions = definitions; tables = tables })) (IsReached serving definitions records text) old is given (accepted, within, earlier))
 
 -- a table that is refused where none is read may be refused where some are
-refuses-more : (unread : Bool) (reached : Type 0) (outcome : Result (List ℕ) Fault) (fault : Fault) → RefusesTable unread ⊥ outcome fault → RefusesTable unread reached outcome fault
+refuses-more : (unread : Bool) (reached : Type 0) (outcome : Result (List ℕ) Refusal) (fault : TableFault) → RefusesTable unread ⊥ outcome fault → RefusesTable unread reached outcome fault
 refuses-more true reached outcome fault is = absurd is
 refuses-more false reached outcome fault is = is
 
-reaches-more : {A : Type 0} (r : Result A Fault) (outcome : Result (List ℕ) Fault) (reached : ℕ → Type 0) (old new : Option (List ℕ)) → Runs r outcome none_reached old new
+reaches-more : {A : Type 0} (r : Result A Fault) (outcome : Result (List ℕ) Refusal) (reached : ℕ → Type 0) (old new : Option (List ℕ)) → Runs r outcome none_reached old new
     → Runs r outcome reached old new
 reaches-more (Ok a) outcome reached old new fact = fact
 reaches-more (Err (faults.Query f)) outcome reached old new fact = fact
-reaches-more (Err (faults.Load table f)) outcome reached old new fact = (refuses-more (is_of_reading f) (reached table) outcome (faults.Load table f) fact.0, fact.1)
+reaches-more (Err (faults.Load table f)) outcome reached old new fact =
+    (refuses-more (is_of_reading f) (reached table) outcome (record { table = table; fault = f }) fact.0, fact.1)
 reaches-more (Err faults.Sink) outcome reached old new fact = fact
 reaches-more (Err faults.Memory) outcome reached old new fact = fact
 
 -- a run over tables that have loaded is that of the query over them
-pub loaded-runs : {A : Type 0} (r : Result A Fault) (matrix : Geometry → Geometry → Matrix) (definitions these : List (TableDef NoGeometry)) (records : List (List Record)) (text : List ℕ) (written : Query NoGeometry NoGeometry)
-    (tables : List (Table NoGeometry)) (old new : Option (List ℕ)) → query_of language text ≡ Ok written → load_tables reading definitions records ≡ Ok tables → these ≡ definitions
-    → Runs r (query_outcome matrix these written tables) none_reached old new → Runs r (outcome matrix definitions records text) (IsReached definitions records text) old new
-loaded-runs r matrix definitions these records text written tables old new is loaded same fact =
-    reaches-more r (outcome matrix definitions records text) (IsReached definitions records text) old new
-    (subst (λ o. Runs r o none_reached old new) (loaded-outcome matrix definitions these records text written tables is loaded same) fact)
+pub loaded-runs : {A : Type 0} (r : Result A Fault) (matrix : MatrixOf) (database : Served) (definitions : Definitions) (records : List (List Record)) (text : List ℕ) (written : Written)
+    (old new : Option (List ℕ)) → query_of serving.language text ≡ Ok written → load_tables serving.reading definitions records ≡ Ok database.tables → database.definitions ≡ definitions
+    → Runs r (query_outcome record_text serving matrix written database) none_reached old new
+    → Runs r (outcome record_text serving matrix definitions records text) (IsReached serving definitions records text) old new
+loaded-runs r matrix database definitions records text written old new is loaded same fact =
+    reaches-more r (outcome record_text serving matrix definitions records text) (IsReached serving definitions records text) old new
+    (subst (λ o. Runs r o none_reached old new)
+    (loaded-is matrix database definitions records written loaded same ∙ sym (read-outcome matrix definitions records text written is)) fact)

@@ -1,5 +1,8 @@
 pub mod Failures
-pub mod Stage
+pub mod Serving
+pub mod Pairs
+pub mod Puts
 pub mod Runs
 pub mod Faults
 pub mod Relations
+pub mod FirstRun

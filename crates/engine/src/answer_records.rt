@@ -5,7 +5,7 @@ ghost use Rattle.csv.specs.Records.{fields_of, partial_of};
 ghost use Rattle.table_model.specs.AnswerTexts.{column_name, column_header, field_text, header, item_header, item_text, record_of, reference_header};
 ghost use Rattle.table_model.specs.Truths.{field_at};
 ghost use Rattle.feature_table.specs.Cells.{shown};
-ghost use Rattle.engine.specs.Stage.{no_writing};
+ghost use Rattle.engine.specs.Serving.{serving};
 
 use csv::ByteRecord;
 use feature_table::{Field, Row, TableDef};
@@ -21,7 +21,7 @@ pub fn header_record(
     definitions: &[TableDef],
     query: &Bound,
 ) -> Result<ByteRecord, AllocError>
-    ensures { IfOk result (λ r. fields_of r ≡ header no_writing definitions.now query.now) }
+    ensures { IfOk result (λ r. fields_of r ≡ header serving.writing definitions.now query.now) }
 {
     let mut fields = ByteRecord::new(alloc);
     for item in query.items.as_slice() {
@@ -38,7 +38,7 @@ pub fn row_record(
     query: &Bound,
     rows: &[Row<'_>],
 ) -> Result<(), AllocError>
-    ensures { OnOk result (fields_of fields.new ≡ record_of no_writing query.now rows.now) }
+    ensures { OnOk result (fields_of fields.new ≡ record_of serving.writing query.now rows.now) }
 {
     fields.clear();
     for item in query.items.as_slice() {
@@ -54,7 +54,7 @@ fn item_header(
     references: &[Reference],
     item: &Item<NoGeometry>,
 ) -> Result<Vec<u8>, AllocError>
-    ensures { IfOk result (λ text. text.items ≡ item_header no_writing definitions.now references.now item.now) }
+    ensures { IfOk result (λ text. text.items ≡ item_header serving.writing definitions.now references.now item.now) }
 {
     match item {
         Item::Column(place) => column_header(alloc, definitions, references, *place),
@@ -120,7 +120,7 @@ fn push_item(
     rows: &[Row<'_>],
 ) -> Result<(), AllocError>
     requires { partial_of fields.old ≡ [] }
-    ensures fields { OnOk result (fields_of fields.new ≡ fields_of fields.old ++ item_text no_writing rows.now item.now ∷ []) }
+    ensures fields { OnOk result (fields_of fields.new ≡ fields_of fields.old ++ item_text serving.writing rows.now item.now ∷ []) }
     ensures partial { OnOk result (partial_of fields.new ≡ []) }
 {
     match item {
@@ -144,7 +144,7 @@ fn field_at<'a>(rows: &'a [Row<'_>], place: ColumnPlace) -> Field<'a>
 // Adds the text of a field.
 fn push_field(fields: &mut ByteRecord, field: Field<'_>) -> Result<(), AllocError>
     requires { partial_of fields.old ≡ [] }
-    ensures fields { OnOk result (fields_of fields.new ≡ fields_of fields.old ++ field_text no_writing (shown field.entry) ∷ []) }
+    ensures fields { OnOk result (fields_of fields.new ≡ fields_of fields.old ++ field_text serving.writing (shown field.entry) ∷ []) }
     ensures partial { OnOk result (partial_of fields.new ≡ []) }
 {
     match field {

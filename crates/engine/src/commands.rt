@@ -2,6 +2,7 @@
 
 ghost use Rattle.std.specs.Prelude.{◌≡◌, length, IfOk};
 ghost use Rattle.engine.specs.Failures.{failure_status};
+ghost use Rattle.engine.specs.Runs.{IsOfTables};
 
 use crate::failure::{Failure, fault_line, status};
 use crate::relate::relate_texts;
@@ -13,10 +14,11 @@ use itoa::Buffer;
 use spatial_sql::read_schema;
 use std::alloc::{AllocError, Global};
 use std::io::{ErrorKind, Read};
+use table_model::tokens::TEXT_LIMIT;
 use wkt::{Sink, SinkFault, put_parts};
 
 /// How many bytes of a schema's file are read: one more than a schema may have.
-const SCHEMA_BYTES: u64 = 65_537;
+const SCHEMA_BYTES: u64 = TEXT_LIMIT as u64 + 1;
 
 /// Does what the order says: puts the answer on `out` and the line of a failure on `err`, and answers the status.
 /// The opener gives the reader of the file at a path, and None where it can't be opened.
@@ -213,13 +215,12 @@ fn table_path(alloc: Global, directory: &str, name: &str) -> Result<String, Allo
 }
 
 // The failure that a fault of a run is.
-fn run_failure(schema: &Schema, fault: Fault) -> Failure<'_> {
+fn run_failure(schema: &Schema, fault: Fault) -> Failure<'_>
+    requires { IsOfTables (length schema.now) fault }
+{
     match fault {
         Fault::Query(fault) => Failure::Query(fault),
-        Fault::Load(table, fault) => match schema.tables().get(table) {
-            Some(table) => Failure::Load(table.name.as_str(), fault),
-            None => Failure::Load("", fault),
-        },
+        Fault::Load(table, fault) => Failure::Load(schema.table(table).name.as_str(), fault),
         Fault::Sink => Failure::WriteFailed,
         Fault::Memory => Failure::OutOfMemory,
     }

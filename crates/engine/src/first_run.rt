@@ -1,12 +1,11 @@
 //! The answer of the worked run, computed: the bytes that its records are.
 
-ghost use Rattle.std.specs.Prelude.{◌≡◌, [], ◌∷◌, codes};
-ghost use Rattle.table_model.specs.BindingExamples.{towns};
-ghost use Rattle.table_model.specs.FirstRunExamples.{town_rows, first_query, third_query};
-ghost use Rattle.engine.specs.Runs.{bound_text};
+ghost use Rattle.std.specs.Prelude.{◌≡◌, codes};
+ghost use Rattle.table_model.specs.FirstRunExamples.{first_query, third_query};
+ghost use Rattle.engine.specs.FirstRun.{town_text};
 
 /// The text of the answers of two queries over one table: the header, then a record for each row.
 pub fn answer_of_the_first_run()
-    ensures first { bound_text towns (town_rows ∷ []) first_query ≡ codes "id,name\n1,a\n" }
-    ensures third { bound_text towns (town_rows ∷ []) third_query ≡ codes "id\n4\n" }
+    ensures first { town_text first_query ≡ codes "id,name\n1,a\n" }
+    ensures third { town_text third_query ≡ codes "id\n4\n" }
 {}

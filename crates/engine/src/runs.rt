@@ -1,24 +1,26 @@
 //! A run: from a query's text and the tables' texts to the text of the answer.
 
-ghost use Rattle.std.specs.Prelude.{◌≡◌, ◌<◌, ◌++◌, ℕ, List, Some, All, length, map, IfOk, OnOk, OnErr};
+ghost use Rattle.std.specs.Prelude.{◌≡◌, ◌∷◌, [], ℕ, IfErr, List, Some, All, false, length, map, OnOk};
 ghost use Rattle.csv.specs.Records.{fields_of};
 ghost use Rattle.std.specs.List.{concat};
-ghost use Rattle.std.specs.Io.KnownBytes.{Appends};
-ghost use Rattle.csv.specs.Writing.{row_text, default_writer};
-ghost use Rattle.sinks.specs.Sinks.{AppendsFront};
-ghost use Rattle.table_model.specs.AnswerTexts.{header, record_of};
-ghost use Rattle.engine.specs.Runs.{AnswersQuery, RunsOver, count_after, pair_text};
-ghost use Rattle.records.specs.RecordWriters.{CountsPut, IsReady};
+ghost use Rattle.engine.specs.Pairs.{HasReferences, IsPlace, pair_rows};
+ghost use Rattle.engine.specs.Puts.{PutsText};
+ghost use Rattle.engine.specs.Runs.{AnswersQuery, IsOfTables, RunsOver, count_after, count_text, pair_text, rows_of_pairs, rows_text};
+ghost use Rattle.engine.specs.Serving.{record_text, serving};
 ghost use Rattle.feature_table.specs.Tables.{EachRecordsOf, records_in};
+ghost use Rattle.records.specs.RecordWriters.{IsReady};
+ghost use Rattle.table_model.specs.AnswerTexts.{record_of};
 ghost use Rattle.table_model.specs.Loading.{Record};
+ghost use Rattle.table_model.specs.Meanings as meaning;
 ghost use Rattle.table_model.specs.Meanings.{referenced};
-ghost use Rattle.engine.specs.Stage.{HasReferences, IsPlace, no_writing, pair_rows};
+ghost use Rattle.table_model.specs.declared.queries.Explain.TheVariants as explains;
 
 use crate::answer_records::{header_record, row_record};
 use crate::execute::{RowPair, execute};
 use crate::run_fault::Fault;
 use csv::ByteRecord;
 use feature_table::{Database, Schema};
+use itoa::Buffer;
 use records::{PutFault, RecordWriter};
 use spatial_sql::{Bound, Query, bind, read_query};
 use std::alloc::{AllocError, Global};
@@ -38,26 +40,29 @@ pub fn run<R: Read + Drop, S: Sink>(
 ) -> Result<(), Fault>
     requires { length readers.items ≡ length schema.now }
     ensures texts { (texts : List (List ℕ)) → map R.remaining readers.items ≡ map Some texts
-        → RunsOver result schema.now (map records_in texts) query.now (S.taken sink.old) (S.taken sink.new) }
+        → RunsOver serving result schema.now (map records_in texts) query.now (S.taken sink.old) (S.taken sink.new) }
     ensures records { (records : List (List Record)) × EachRecordsOf (map R.remaining readers.items) records
-        × RunsOver result schema.now records query.now (S.taken sink.old) (S.taken sink.new) }
+        × RunsOver serving result schema.now records query.now (S.taken sink.old) (S.taken sink.new) }
     ensures failures { S.failures sink.new ≡ count_after (S.failures sink.old) result }
+    ensures table { IfErr result (IsOfTables (length schema.now)) }
 {
     let query = read_query(alloc, query)?;
     let database = Database::load(alloc, schema, readers)?;
     answer_query(alloc, &query, &database, sink)
 }
 
-/// Answers a query over a database: binds it, and puts the header and the rows. At Ok all of the answer has been
-/// put; nothing where the query isn't bound, and a beginning where the sink failed or memory ran out.
-pub fn answer_query<S: Sink>(
+// Answers a query for rows over a database: binds it, and puts its answer. At Ok all of the answer has been put;
+// nothing where the query isn't bound, and a beginning where the sink failed or memory ran out.
+fn answer_query<S: Sink>(
     alloc: Global,
     query: &Query<'_>,
     database: &Database<'_>,
     sink: &mut S,
 ) -> Result<(), Fault>
-    ensures answer { AnswersQuery result database.now query.now (S.taken sink.old) (S.taken sink.new) }
+    requires { query.now.explain ≡ explains.No }
+    ensures answer { AnswersQuery serving result database.now query.now (S.taken sink.old) (S.taken sink.new) }
     ensures failures { S.failures sink.new ≡ count_after (S.failures sink.old) result }
+    ensures table { (count : ℕ) → IfErr result (IsOfTables count) }
 {
     let bound = bind(alloc, query, database)?;
     let pairs = execute(alloc, database, &bound)?;
@@ -65,7 +70,8 @@ pub fn answer_query<S: Sink>(
     Ok(())
 }
 
-// Puts the header and the record of each pair.
+// Puts the answer of a query that these pairs of rows pass: how many there are under COUNT(*), else the header and the
+// record of each pair, of the first ones alone under LIMIT.
 fn put_answer<S: Sink>(
     alloc: Global,
     database: &Database<'_>,
@@ -75,14 +81,64 @@ fn put_answer<S: Sink>(
 ) -> Result<(), PutFault>
     requires references { HasReferences database.now.definitions query.now.references }
     requires places { All (IsPlace (referenced database.now.tables query.now.references)) pairs.now }
-    ensures ok { OnOk result (Appends (S.taken sink.old) (S.taken sink.new) (row_text default_writer (header no_writing database.now.definitions query.now) ++ concat (map (pair_text (referenced database.now.tables query.now.references) query.now) pairs.now))) }
-    ensures front { OnErr result (AppendsFront (S.taken sink.old) (S.taken sink.new) (row_text default_writer (header no_writing database.now.definitions query.now) ++ concat (map (pair_text (referenced database.now.tables query.now.references) query.now) pairs.now))) }
-    ensures failures { CountsPut (S.failures sink.old) (S.failures sink.new) result }
+    ensures { PutsText result (rows_text serving database.now query.now (rows_of_pairs database.now query.now pairs.now))
+        (S.taken sink.old) (S.taken sink.new) (S.failures sink.old) (S.failures sink.new) }
 {
     let mut writer = RecordWriter::new(alloc);
+    if query.counts {
+        return put_count(alloc, query.limit, pairs.len(), &mut writer, sink);
+    }
     let header = header_record(alloc, database.definitions(), query)?;
     writer.put(alloc, &header, sink)?;
-    put_pairs(alloc, database, query, pairs, &mut writer, sink)
+    let wanted = up_to(query.limit, pairs);
+    put_pairs(alloc, database, query, wanted, &mut writer, sink)
+}
+
+// The first of some pairs, at most so many where there is a limit.
+fn up_to(limit: Option<u64>, pairs: &[RowPair]) -> &[RowPair]
+    ensures { result.now ≡ meaning.up_to limit pairs.now }
+{
+    match limit {
+        Some(most) if most < pairs.len() as u64 => &pairs[..most as usize],
+        _ => pairs,
+    }
+}
+
+// Puts the header of COUNT(*), and the record of the number; under LIMIT 0 there is none.
+fn put_count<S: Sink>(
+    alloc: Global,
+    limit: Option<u64>,
+    count: usize,
+    writer: &mut RecordWriter,
+    sink: &mut S,
+) -> Result<(), PutFault>
+    requires { IsReady writer.old }
+    ensures { PutsText result (count_text limit count)
+        (S.taken sink.old) (S.taken sink.new) (S.failures sink.old) (S.failures sink.new) }
+{
+    put_field(alloc, b"COUNT(*)", writer, sink)?;
+    if limit == Some(0) {
+        return Ok(());
+    }
+    let mut digits = Buffer::new();
+    put_field(alloc, digits.format(count).as_bytes(), writer, sink)
+}
+
+// Puts a record of one field.
+fn put_field<S: Sink>(
+    alloc: Global,
+    field: &[u8],
+    writer: &mut RecordWriter,
+    sink: &mut S,
+) -> Result<(), PutFault>
+    requires { IsReady writer.old }
+    ensures ready { OnOk result (IsReady writer.new) }
+    ensures puts { PutsText result (record_text (field.now ∷ []))
+        (S.taken sink.old) (S.taken sink.new) (S.failures sink.old) (S.failures sink.new) }
+{
+    let mut fields = ByteRecord::new(alloc);
+    fields.push_field(field)?;
+    writer.put(alloc, &fields, sink)
 }
 
 // Puts the record of each pair.
@@ -97,9 +153,8 @@ fn put_pairs<S: Sink>(
     requires writer { IsReady writer.old }
     requires references { HasReferences database.now.definitions query.now.references }
     requires places { All (IsPlace (referenced database.now.tables query.now.references)) pairs.now }
-    ensures ok { OnOk result (Appends (S.taken sink.old) (S.taken sink.new) (concat (map (pair_text (referenced database.now.tables query.now.references) query.now) pairs.now))) }
-    ensures front { OnErr result (AppendsFront (S.taken sink.old) (S.taken sink.new) (concat (map (pair_text (referenced database.now.tables query.now.references) query.now) pairs.now))) }
-    ensures failures { CountsPut (S.failures sink.old) (S.failures sink.new) result }
+    ensures { PutsText result (concat (map (pair_text serving database.now query.now) pairs.now))
+        (S.taken sink.old) (S.taken sink.new) (S.failures sink.old) (S.failures sink.new) }
 {
     let mut fields = ByteRecord::new(alloc);
     for pair in pairs {
@@ -118,24 +173,16 @@ fn pair_record(
 ) -> Result<(), AllocError>
     requires references { HasReferences database.now.definitions query.now.references }
     requires place { IsPlace (referenced database.now.tables query.now.references) pair }
-    ensures { OnOk result (fields_of fields.new ≡ record_of no_writing query.now (pair_rows (referenced database.now.tables query.now.references) pair)) }
+    ensures { OnOk result (fields_of fields.new
+        ≡ record_of serving.writing query.now (pair_rows (referenced database.now.tables query.now.references) pair)) }
 {
-    match (query.references.as_slice(), pair.second) {
-        ([one], _) => row_record(fields, query, &[database.table(one.table).row(pair.first)]),
-        ([first, _], None) => {
-            row_record(
-                fields,
-                query,
-                &[database.table(first.table).row(pair.first)],
-            )
+    let references = query.references.as_slice();
+    let table = database.table(references[0].table);
+    match pair.second {
+        None => row_record(fields, query, &[table.row(pair.first)]),
+        Some(second) => {
+            let other = database.table(references[1].table);
+            row_record(fields, query, &[table.row(pair.first), other.row(second)])
         }
-        ([first, other], Some(second)) => {
-            let rows = [
-                database.table(first.table).row(pair.first),
-                database.table(other.table).row(second),
-            ];
-            row_record(fields, query, &rows)
-        }
-        _ => unreachable!(),
     }
 }

@@ -16,9 +16,6 @@ use table_model::tokens::TokenKind;
 
 pub(crate) type WrittenCond<'a> = table_model::queries::WrittenCond<'a, WrittenGeometry<'a>>;
 
-/// How deep NOT and parentheses may nest.
-pub(crate) const MOST_LEVELS: usize = 64;
-
 /// Reads the rest of a disjunction, after its first part and OR.
 #[cycle(conditions)]
 #[tactic(auto, unfolding(table_model::specs::Parsers::parts_from))]

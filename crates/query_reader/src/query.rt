@@ -9,7 +9,7 @@ ghost use Rattle.table_model.specs.QueryRefusals.{AnswersFirst, StandsInQuery};
 ghost use Rattle.query_reader.specs.Language.{language};
 
 use crate::Query;
-use crate::condition::{MOST_LEVELS, WrittenCond, condition};
+use crate::condition::{WrittenCond, condition};
 use crate::items::selection;
 use crate::numbers::limit_value;
 use crate::references::{reference, second};
@@ -18,11 +18,8 @@ use sql_tokens::cursor::Cursor;
 use sql_tokens::lex::{lex, same_kind};
 use std::alloc::Global;
 use table_model::faults::QueryFault;
-use table_model::queries::Explain;
-use table_model::tokens::{Token, TokenKind};
-
-/// How many bytes a schema or a query may have.
-pub const MOST_BYTES: usize = 65536;
+use table_model::queries::{Explain, LEVEL_LIMIT};
+use table_model::tokens::{TEXT_LIMIT, Token, TokenKind};
 
 /// Reads WHERE and its condition, where they stand.
 #[tactic(auto, unfolding(table_model::specs::QueryReading::where_condition))]
@@ -33,7 +30,7 @@ fn where_condition<'a>(
     ensures { Reads QueryFault.OutOfMemory (spec.where_condition language.functions tokens.old) result tokens.new }
 {
     if tokens.eat(TokenKind::Where) {
-        Ok(Some(condition(alloc, tokens, MOST_LEVELS)?))
+        Ok(Some(condition(alloc, tokens, LEVEL_LIMIT)?))
     } else {
         Ok(None)
     }
@@ -127,7 +124,7 @@ fn bad_place(tokens: &[Token<'_>]) -> Option<usize>
 fn read<'a>(alloc: Global, text: &'a str) -> Result<Query<'a>, QueryFault>
     ensures { Gives QueryFault.OutOfMemory (λ q. q) result (spec.query_of language text.now) }
 {
-    if text.len() > MOST_BYTES {
+    if text.len() > TEXT_LIMIT {
         return Err(QueryFault::TooLong);
     }
     let tokens = lex(alloc, text.as_bytes(), true)?;

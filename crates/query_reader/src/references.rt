@@ -4,12 +4,12 @@ ghost use Rattle.table_model.specs.QueryReading as spec;
 ghost use Rattle.table_model.specs.Parsers.{Reads};
 ghost use Rattle.query_reader.specs.Language.{language};
 
-use crate::condition::{MOST_LEVELS, WrittenCond, condition};
+use crate::condition::{WrittenCond, condition};
 use crate::terminals::{expect, name};
 use sql_tokens::cursor::Cursor;
 use std::alloc::Global;
 use table_model::faults::QueryFault;
-use table_model::queries::{Name, WrittenReference};
+use table_model::queries::{LEVEL_LIMIT, Name, WrittenReference};
 use table_model::tokens::TokenKind;
 
 /// Reads an alias, where one stands.
@@ -56,7 +56,7 @@ fn joined_on<'a>(alloc: Global, tokens: &mut Cursor<'_, 'a>) -> Result<Second<'a
     expect(tokens, TokenKind::Join)?;
     let reference = reference(tokens)?;
     expect(tokens, TokenKind::On)?;
-    let on = condition(alloc, tokens, MOST_LEVELS)?;
+    let on = condition(alloc, tokens, LEVEL_LIMIT)?;
     Ok((Some(reference), Some(on)))
 }
 

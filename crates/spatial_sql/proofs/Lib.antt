@@ -3,3 +3,4 @@ pub mod Counts
 pub mod Outcomes
 pub mod TokenSlices
 pub mod Ascii
+pub mod MatrixLemmas

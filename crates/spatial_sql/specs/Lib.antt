@@ -1,4 +1,4 @@
-pub mod Language
+pub mod Serving
 pub mod Strings
 pub mod Sides
 pub mod Outcomes

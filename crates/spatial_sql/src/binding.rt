@@ -2,9 +2,10 @@
 
 ghost use Rattle.std.specs.Prelude.{◌≡◌, ◌++◌, map, IfOk, OnOk};
 ghost use Rattle.table_model.specs.Binding as spec;
-ghost use Rattle.table_model.specs.BoundQueries.{IsBound, no_geometry_fits};
+ghost use Rattle.table_model.specs.BoundQueries.{IsBound};
 ghost use Rattle.table_model.specs.Loading.{each};
 ghost use Rattle.table_model.specs.Outcomes.{Gives};
+ghost use Rattle.spatial_sql.specs.Serving.{serving};
 
 use crate::columns::{bound_column, columns_of};
 use crate::conjuncts::bound_conjuncts;
@@ -25,7 +26,7 @@ fn bound_item(
     references: &[Reference],
     written: &WrittenItem<'_, NoGeometry>,
 ) -> Result<Item<NoGeometry>, QueryFault>
-    ensures { result ≡ spec.bound_item spec.no_geometry schema.now references.now written.now }
+    ensures { result ≡ spec.bound_item serving.binding schema.now references.now written.now }
 {
     match written {
         WrittenItem::Column(column) => {
@@ -74,7 +75,7 @@ fn listed_items(
     references: &[Reference],
     written: &[WrittenItem<'_, NoGeometry>],
 ) -> Result<Items<Item<NoGeometry>>, QueryFault>
-    ensures { Gives QueryFault.OutOfMemory (λ items. items) result (each (map (spec.bound_item spec.no_geometry schema.now references.now) written.now)) }
+    ensures { Gives QueryFault.OutOfMemory (λ items. items) result (each (map (spec.bound_item serving.binding schema.now references.now) written.now)) }
 {
     let mut items = Items::new(alloc);
     for item in written {
@@ -90,7 +91,7 @@ fn bound_items(
     references: &[Reference],
     selection: &Selection<'_, NoGeometry>,
 ) -> Result<Items<Item<NoGeometry>>, QueryFault>
-    ensures { Gives QueryFault.OutOfMemory (λ items. items) result (spec.bound_items spec.no_geometry schema.now references.now selection.now) }
+    ensures { Gives QueryFault.OutOfMemory (λ items. items) result (spec.bound_items serving.binding schema.now references.now selection.now) }
 {
     match selection {
         Selection::All => Ok(all_items(alloc, schema, references)?),
@@ -116,7 +117,7 @@ fn bound_condition(
     references: &[Reference],
     condition: &Option<WrittenCond<'_, NoGeometry>>,
 ) -> Result<Items<Cond<NoGeometry>>, QueryFault>
-    ensures { Gives QueryFault.OutOfMemory (λ conjuncts. conjuncts) result (spec.bound_condition spec.no_geometry schema.now references.now condition.now) }
+    ensures { Gives QueryFault.OutOfMemory (λ conjuncts. conjuncts) result (spec.bound_condition serving.binding schema.now references.now condition.now) }
 {
     match condition {
         Some(written) => bound_conjuncts(alloc, schema, references, written),
@@ -130,7 +131,7 @@ fn bound_query(
     query: &Query<'_>,
     schema: &[TableDef<NoGeometry>],
 ) -> Result<Bound, QueryFault>
-    ensures { Gives QueryFault.OutOfMemory (λ bound. bound) result (spec.binding spec.no_geometry schema.now query.now) }
+    ensures { Gives QueryFault.OutOfMemory (λ bound. bound) result (spec.binding serving.binding schema.now query.now) }
 {
     let references = bound_references(alloc, schema, &query.first, &query.second)?;
     let items = bound_items(alloc, schema, references.as_slice(), &query.selection)?;
@@ -155,8 +156,8 @@ fn bound_query(
 /// whose sides are not both INTEGER or both TEXT, NULL being either; or `OutOfMemory`. What it answers is bound to the
 /// definitions of this database: its tables and columns are there, and its types fit. (SQL; the order: this project's choice.)
 pub fn bind(alloc: Global, query: &Query<'_>, database: &Database<'_>) -> Result<Bound, QueryFault>
-    ensures answer { Gives QueryFault.OutOfMemory (λ bound. bound) result (spec.binding spec.no_geometry database.now.definitions query.now) }
-    ensures bound { IfOk result (IsBound no_geometry_fits database.now.definitions) }
+    ensures answer { Gives QueryFault.OutOfMemory (λ bound. bound) result (spec.binding serving.binding database.now.definitions query.now) }
+    ensures bound { IfOk result (IsBound serving.fits database.now.definitions) }
 {
     bound_query(alloc, query, database.definitions())
 }

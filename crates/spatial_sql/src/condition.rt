@@ -8,7 +8,7 @@ ghost use Rattle.table_model.specs.declared.queries.WrittenCond.TheVariants as t
 ghost use Rattle.table_model.specs.QueryReading as spec;
 ghost use Rattle.table_model.specs.Parsers as steps;
 ghost use Rattle.table_model.specs.Parsers.{Reads};
-ghost use Rattle.spatial_sql.specs.Language.{language};
+ghost use Rattle.spatial_sql.specs.Serving.{language};
 
 use crate::cursor::Cursor;
 use sqlite_items::{Boxed, Items};
@@ -22,9 +22,6 @@ use table_model::values::NoGeometry;
 type WrittenOperand<'a> = table_model::queries::WrittenOperand<'a, NoGeometry>;
 
 type WrittenCond<'a> = table_model::queries::WrittenCond<'a, NoGeometry>;
-
-/// How deep NOT and parentheses may nest.
-pub const MOST_LEVELS: usize = 64;
 
 /// The least and the greatest magnitude that 64 bits with a sign don't hold are one apart: this one is held below 0.
 const GREATEST_MAGNITUDE: u64 = 1 << 63;

@@ -6,6 +6,7 @@ ghost use Rattle.binding_laws.specs.FilterLaws.{joined_in_order};
 ghost use Rattle.table_model.specs.Binding as spec;
 ghost use Rattle.table_model.specs.Loading.{each};
 ghost use Rattle.table_model.specs.Outcomes.{Gives};
+ghost use Rattle.spatial_sql.specs.Serving.{serving};
 
 use crate::columns::bound_column;
 use sqlite_items::{Boxed, Items};
@@ -52,7 +53,7 @@ fn bound_operand(
     references: &[Reference],
     written: &WrittenOperand<'_, NoGeometry>,
 ) -> Result<Typed<Operand<NoGeometry>>, QueryFault>
-    ensures { Gives QueryFault.OutOfMemory (λ t. t) result (spec.bound_operand spec.no_geometry schema.now references.now written.now) }
+    ensures { Gives QueryFault.OutOfMemory (λ t. t) result (spec.bound_operand serving.binding schema.now references.now written.now) }
 {
     match written {
         WrittenOperand::Column(column) => {
@@ -109,7 +110,7 @@ fn comparison(
     a: &WrittenOperand<'_, NoGeometry>,
     b: &WrittenOperand<'_, NoGeometry>,
 ) -> Result<Cond<NoGeometry>, QueryFault>
-    ensures { Gives QueryFault.OutOfMemory (λ c. c) result (spec.bound_comparison spec.no_geometry schema.now references.now at sign a.now b.now) }
+    ensures { Gives QueryFault.OutOfMemory (λ c. c) result (spec.bound_comparison serving.binding schema.now references.now at sign a.now b.now) }
 {
     let left = bound_operand(alloc, schema, references, a)?;
     let right = bound_operand(alloc, schema, references, b)?;
@@ -126,7 +127,7 @@ fn null_test(
     references: &[Reference],
     written: &WrittenOperand<'_, NoGeometry>,
 ) -> Result<Cond<NoGeometry>, QueryFault>
-    ensures { Gives QueryFault.OutOfMemory (λ c. c) result (spec.bound_null_test spec.no_geometry schema.now references.now written.now) }
+    ensures { Gives QueryFault.OutOfMemory (λ c. c) result (spec.bound_null_test serving.binding schema.now references.now written.now) }
 {
     let operand = bound_operand(alloc, schema, references, written)?;
     Ok(Cond::IsNull(operand.part))
@@ -149,7 +150,7 @@ fn bound_cond(
     references: &[Reference],
     written: &WrittenCond<'_, NoGeometry>,
 ) -> Result<Cond<NoGeometry>, QueryFault>
-    ensures { Gives QueryFault.OutOfMemory (λ c. c) result (spec.bound_cond spec.no_geometry schema.now references.now written.now) }
+    ensures { Gives QueryFault.OutOfMemory (λ c. c) result (spec.bound_cond serving.binding schema.now references.now written.now) }
 {
     match written {
         WrittenCond::Or(parts) => {
@@ -182,7 +183,7 @@ fn bound_parts(
     references: &[Reference],
     parts: &[WrittenCond<'_, NoGeometry>],
 ) -> Result<Items<Cond<NoGeometry>>, QueryFault>
-    ensures { Gives QueryFault.OutOfMemory (λ c. c) result (each (map (spec.bound_cond spec.no_geometry schema.now references.now) parts.now)) }
+    ensures { Gives QueryFault.OutOfMemory (λ c. c) result (each (map (spec.bound_cond serving.binding schema.now references.now) parts.now)) }
 {
     let mut bound = Items::new(alloc);
     for part in parts {
@@ -199,7 +200,7 @@ pub fn bound_conjuncts(
     references: &[Reference],
     written: &WrittenCond<'_, NoGeometry>,
 ) -> Result<Items<Cond<NoGeometry>>, QueryFault>
-    ensures { Gives QueryFault.OutOfMemory (λ c. c) result (spec.bound_conjuncts spec.no_geometry schema.now references.now written.now) }
+    ensures { Gives QueryFault.OutOfMemory (λ c. c) result (spec.bound_conjuncts serving.binding schema.now references.now written.now) }
 {
     match written {
         WrittenCond::And(parts) => joined(alloc, schema, references, parts.as_slice()),
@@ -224,7 +225,7 @@ fn joined(
     references: &[Reference],
     parts: &[WrittenCond<'_, NoGeometry>],
 ) -> Result<Items<Cond<NoGeometry>>, QueryFault>
-    ensures { Gives QueryFault.OutOfMemory (λ c. c) result (joined_in_order (map (spec.bound_conjuncts spec.no_geometry schema.now references.now) parts.now)) }
+    ensures { Gives QueryFault.OutOfMemory (λ c. c) result (joined_in_order (map (spec.bound_conjuncts serving.binding schema.now references.now) parts.now)) }
 {
     let mut bound = Items::new(alloc);
     for part in parts {

@@ -6,6 +6,7 @@ ghost use Rattle.table_model.specs.Definitions.{is_integer};
 ghost use Rattle.table_model.specs.SchemaReading as spec;
 ghost use Rattle.table_model.specs.Parsers as steps;
 ghost use Rattle.table_model.specs.Parsers.{Reads};
+ghost use Rattle.spatial_sql.specs.Serving.{serving};
 
 use crate::cursor::Cursor;
 use feature_table::{ColumnDef, ColumnType, TableDef};
@@ -114,7 +115,7 @@ fn new_name(
 /// The type of this name.
 #[tactic(auto, unfolding(table_model::specs::SchemaReading::type_named))]
 fn type_named(word: &[u8]) -> Option<ColumnType>
-    ensures { result ≡ spec.type_named spec.no_geometry_type word.now }
+    ensures { result ≡ spec.type_named serving.shape word.now }
 {
     if same_name(word, b"INTEGER") || same_name(word, b"INT") || same_name(word, b"BIGINT") {
         Some(ColumnType::Integer)
@@ -128,7 +129,7 @@ fn type_named(word: &[u8]) -> Option<ColumnType>
 /// Reads the type of a column.
 #[tactic(auto, unfolding(table_model::specs::SchemaReading::column_type))]
 fn column_type(tokens: &mut Cursor<'_, '_>) -> Result<ColumnType, SchemaFault>
-    ensures { Reads SchemaFault.OutOfMemory (spec.column_type spec.no_geometry_type tokens.old) result tokens.new }
+    ensures { Reads SchemaFault.OutOfMemory (spec.column_type serving.shape tokens.old) result tokens.new }
 {
     if !tokens.sees(TokenKind::Word) {
         return Err(refuse(tokens));
@@ -223,7 +224,7 @@ fn column(
     columns: &[ColumnDef],
     has_key: bool,
 ) -> Result<(ColumnDef, bool), SchemaFault>
-    ensures { Reads SchemaFault.OutOfMemory (spec.column spec.no_geometry_type columns.now has_key tokens.old) result tokens.new }
+    ensures { Reads SchemaFault.OutOfMemory (spec.column serving.shape columns.now has_key tokens.old) result tokens.new }
 {
     let taken = has_column(columns, tokens.spelling());
     let name = new_name(alloc, tokens, columns.len() >= COLUMN_LIMIT, taken)?;
@@ -250,7 +251,7 @@ fn columns(
     alloc: Global,
     tokens: &mut Cursor<'_, '_>,
 ) -> Result<(Items<ColumnDef>, Option<usize>), SchemaFault>
-    ensures { Reads SchemaFault.OutOfMemory (spec.columns spec.no_geometry_type tokens.old) result tokens.new }
+    ensures { Reads SchemaFault.OutOfMemory (spec.columns serving.shape tokens.old) result tokens.new }
 {
     let mut columns = Items::new(alloc);
     let mut key = None;
@@ -314,7 +315,7 @@ pub fn table(
     tokens: &mut Cursor<'_, '_>,
     tables: &[TableDef],
 ) -> Result<TableDef, SchemaFault>
-    ensures { Reads SchemaFault.OutOfMemory (spec.table spec.no_geometry_type tables.now tokens.old) result tokens.new }
+    ensures { Reads SchemaFault.OutOfMemory (spec.table serving.shape tables.now tokens.old) result tokens.new }
 {
     expect_word(tokens, b"CREATE")?;
     expect_word(tokens, b"TABLE")?;

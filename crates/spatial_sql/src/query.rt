@@ -6,17 +6,17 @@ ghost use Rattle.table_model.specs.Parsers.{Reads};
 ghost use Rattle.table_model.specs.QueryGrammar.{AnswersQuery, IsQuery};
 ghost use Rattle.table_model.specs.QueryReading as spec;
 ghost use Rattle.table_model.specs.QueryRefusals.{AnswersFirst, StandsInQuery};
-ghost use Rattle.spatial_sql.specs.Language.{language};
+ghost use Rattle.spatial_sql.specs.Serving.{language};
 
 use crate::Query;
-use crate::condition::{MOST_LEVELS, column, condition, expect, name, refuse};
+use crate::condition::{column, condition, expect, name, refuse};
 use crate::cursor::Cursor;
 use crate::lex::{lex, same_kind};
 use sqlite_items::Items;
 use std::alloc::Global;
 use table_model::faults::QueryFault;
-use table_model::queries::{Explain, Name, WrittenReference};
-use table_model::tokens::{Token, TokenKind};
+use table_model::queries::{Explain, LEVEL_LIMIT, Name, WrittenReference};
+use table_model::tokens::{TEXT_LIMIT, Token, TokenKind};
 use table_model::values::NoGeometry;
 
 type WrittenItem<'a> = table_model::queries::WrittenItem<'a, NoGeometry>;
@@ -24,9 +24,6 @@ type WrittenItem<'a> = table_model::queries::WrittenItem<'a, NoGeometry>;
 type WrittenCond<'a> = table_model::queries::WrittenCond<'a, NoGeometry>;
 
 type Selection<'a> = table_model::queries::Selection<'a, NoGeometry>;
-
-/// How many bytes a query may have.
-const MOST_BYTES: usize = 65536;
 
 /// Reads an item of the select list.
 #[tactic(auto, unfolding(table_model::specs::QueryReading::item))]
@@ -101,7 +98,7 @@ fn where_condition<'a>(
     ensures { Reads QueryFault.OutOfMemory (spec.where_condition language.functions tokens.old) result tokens.new }
 {
     if tokens.eat(TokenKind::Where) {
-        Ok(Some(condition(alloc, tokens, MOST_LEVELS)?))
+        Ok(Some(condition(alloc, tokens, LEVEL_LIMIT)?))
     } else {
         Ok(None)
     }
@@ -110,7 +107,8 @@ fn where_condition<'a>(
 /// Reads a query, to the end of its tokens.
 #[tactic(auto, unfolding(table_model::specs::QueryReading::query))]
 fn query<'a>(alloc: Global, tokens: &mut Cursor<'_, 'a>) -> Result<Query<'a>, QueryFault>
-    ensures { Reads QueryFault.OutOfMemory (spec.query language tokens.old) result tokens.new }
+    ensures rows { IfOk result (λ q. q.explain ≡ Explain.No) }
+    ensures reads { Reads QueryFault.OutOfMemory (spec.query language tokens.old) result tokens.new }
 {
     expect(tokens, TokenKind::Select)?;
     let selection = selection(alloc, tokens)?;
@@ -145,9 +143,10 @@ fn bad_place(tokens: &[Token<'_>]) -> Option<usize>
 /// Reads the text of a query: its length is looked at first, then its tokens, then its grammar.
 #[tactic(auto, unfolding(table_model::specs::QueryReading::query_of))]
 fn read<'a>(alloc: Global, text: &'a str) -> Result<Query<'a>, QueryFault>
-    ensures { Gives QueryFault.OutOfMemory (λ q. q) result (spec.query_of language text.now) }
+    ensures rows { IfOk result (λ q. q.explain ≡ Explain.No) }
+    ensures exact { Gives QueryFault.OutOfMemory (λ q. q) result (spec.query_of language text.now) }
 {
-    if text.len() > MOST_BYTES {
+    if text.len() > TEXT_LIMIT {
         return Err(QueryFault::TooLong);
     }
     let tokens = lex(alloc, text.as_bytes(), true)?;
@@ -164,13 +163,14 @@ fn read<'a>(alloc: Global, text: &'a str) -> Result<Query<'a>, QueryFault>
 /// Faults carry the byte, from 0, of the first token that can't stand, or the text's length: TooLong past 65,536
 /// bytes; Lex where a byte of the text begins no token, or a string isn't closed; then, whichever is met first,
 /// Syntax, TooDeep at the 65th level of NOT and parentheses, and NumberTooBig at the first digit of a number that
-/// 64 bits don't hold. OutOfMemory may come in the place of any answer.
+/// 64 bits don't hold. OutOfMemory may come in the place of any answer. A query asks for rows: EXPLAIN isn't read.
 pub fn read_query<'a>(alloc: Global, text: &'a str) -> Result<Query<'a>, QueryFault>
     ensures ok { IfOk result (λ q. IsQuery language text.now q) }
     ensures only { AnswersQuery language text.now result }
     ensures first { AnswersFirst language text.now result }
     ensures stands { IfErr result (λ fault. StandsInQuery language text.now fault) }
     ensures exact { Gives QueryFault.OutOfMemory (λ q. q) result (spec.query_of language text.now) }
+    ensures rows { IfOk result (λ q. q.explain ≡ Explain.No) }
 {
     read(alloc, text)
 }

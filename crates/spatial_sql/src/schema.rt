@@ -7,6 +7,7 @@ ghost use Rattle.table_model.specs.SchemaGrammar.{AnswersSchema, IsSchema};
 ghost use Rattle.table_model.specs.SchemaReading as spec;
 ghost use Rattle.table_model.specs.SchemaRefusals.{AnswersFirst, StandsInSchema};
 ghost use Rattle.table_model.specs.declared.values.NoGeometry.{NoGeometry};
+ghost use Rattle.spatial_sql.specs.Serving.{serving};
 
 use crate::cursor::Cursor;
 use crate::definition::{expect, refuse, table};
@@ -14,10 +15,7 @@ use crate::lex::lex;
 use feature_table::{Schema, TableDef};
 use std::alloc::Global;
 use table_model::faults::SchemaFault;
-use table_model::tokens::TokenKind;
-
-/// How many bytes a schema may have.
-const MOST_BYTES: usize = 65536;
+use table_model::tokens::{TEXT_LIMIT, TokenKind};
 
 /// Reads a semicolon, where one stands, and tells whether a table follows it.
 #[tactic(auto, unfolding(table_model::specs::SchemaReading::goes_on))]
@@ -31,7 +29,7 @@ fn goes_on(tokens: &mut Cursor<'_, '_>) -> bool
 /// Reads tables with semicolons between them, and one behind the last or none.
 #[tactic(auto, unfolding(table_model::specs::SchemaReading::tables_from))]
 fn all_tables(alloc: Global, tokens: &mut Cursor<'_, '_>) -> Result<Vec<TableDef>, SchemaFault>
-    ensures { ReadsAs SchemaFault.OutOfMemory (λ v. v.items) (spec.all_tables spec.no_geometry_type tokens.old) result tokens.new }
+    ensures { ReadsAs SchemaFault.OutOfMemory (λ v. v.items) (spec.all_tables serving.shape tokens.old) result tokens.new }
 {
     let mut tables = Vec::new(alloc);
     if tokens.sees(TokenKind::End) {
@@ -50,7 +48,7 @@ fn all_tables(alloc: Global, tokens: &mut Cursor<'_, '_>) -> Result<Vec<TableDef
 /// Reads a schema, to the end of its tokens.
 #[tactic(auto, unfolding(table_model::specs::SchemaReading::schema))]
 fn schema(alloc: Global, tokens: &mut Cursor<'_, '_>) -> Result<Vec<TableDef>, SchemaFault>
-    ensures { ReadsAs SchemaFault.OutOfMemory (λ v. v.items) (spec.schema spec.no_geometry_type tokens.old) result tokens.new }
+    ensures { ReadsAs SchemaFault.OutOfMemory (λ v. v.items) (spec.schema serving.shape tokens.old) result tokens.new }
 {
     let tables = all_tables(alloc, tokens)?;
     expect(tokens, TokenKind::End)?;
@@ -60,9 +58,9 @@ fn schema(alloc: Global, tokens: &mut Cursor<'_, '_>) -> Result<Vec<TableDef>, S
 /// Reads the text of a schema: its length is looked at first, then its grammar.
 #[tactic(auto, unfolding(table_model::specs::SchemaReading::schema_of))]
 fn read(alloc: Global, text: &[u8]) -> Result<Schema, SchemaFault>
-    ensures { Gives SchemaFault.OutOfMemory (λ schema. schema) result (spec.schema_of spec.no_geometry_type text.now) }
+    ensures { Gives SchemaFault.OutOfMemory (λ schema. schema) result (spec.schema_of serving.shape text.now) }
 {
-    if text.len() > MOST_BYTES {
+    if text.len() > TEXT_LIMIT {
         return Err(SchemaFault::TooLong);
     }
     let tokens = lex(alloc, text, false)?;
@@ -78,11 +76,11 @@ fn read(alloc: Global, text: &[u8]) -> Result<Schema, SchemaFault>
 /// names of tables, or of columns of a table; `TwoKeys` at the second PRIMARY of a table; `NoKey` at the closing
 /// parenthesis of a table without key; or `OutOfMemory`. (SQL, CREATE TABLE)
 pub fn read_schema(alloc: Global, text: &[u8]) -> Result<Schema, SchemaFault>
-    ensures ok { IfOk result (λ schema. IsSchema spec.no_geometry_type text.now schema) }
-    ensures only { AnswersSchema spec.no_geometry_type text.now result }
-    ensures first { AnswersFirst spec.no_geometry_type text.now result }
-    ensures stands { IfErr result (λ fault. StandsInSchema {T = NoGeometry} spec.no_geometry_type text.now fault) }
-    ensures exact { Gives SchemaFault.OutOfMemory (λ schema. schema) result (spec.schema_of spec.no_geometry_type text.now) }
+    ensures ok { IfOk result (λ schema. IsSchema serving.shape text.now schema) }
+    ensures only { AnswersSchema serving.shape text.now result }
+    ensures first { AnswersFirst serving.shape text.now result }
+    ensures stands { IfErr result (λ fault. StandsInSchema {T = NoGeometry} serving.shape text.now fault) }
+    ensures exact { Gives SchemaFault.OutOfMemory (λ schema. schema) result (spec.schema_of serving.shape text.now) }
 {
     read(alloc, text)
 }

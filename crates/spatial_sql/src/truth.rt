@@ -3,8 +3,10 @@
 ghost use Rattle.std.specs.Prelude.{◌≡◌, map};
 ghost use Rattle.geometry_model.specs.Labels.{labelled_matrix};
 ghost use Rattle.feature_table.specs.Cells.{shown};
+ghost use Rattle.table_model.specs.RunOutcomes.{ByEveryMatrix};
 ghost use Rattle.spatial_sql.specs.Sides.{side_value};
 ghost use Rattle.table_model.specs.Truths as spec;
+ghost use Rattle.spatial_sql.specs.Serving.{serving};
 
 use crate::Cond;
 use feature_table::{Field, Row};
@@ -81,7 +83,7 @@ fn place_side<'a>(rows: &[Row<'a>], place: ColumnPlace) -> Side<'a>
 
 /// What a side of a comparison is at the rows.
 fn operand_side<'a>(rows: &[Row<'a>], operand: &'a Operand<NoGeometry>) -> Side<'a>
-    ensures { side_value result ≡ spec.operand_value spec.no_argument rows.now operand.entry.now }
+    ensures { side_value result ≡ spec.operand_value serving.denotes rows.now operand.entry.now }
 {
     match operand {
         Operand::Column(place) => place_side(rows, *place),
@@ -148,7 +150,7 @@ fn comparison(
     b: &Operand<NoGeometry>,
     rows: &[Row<'_>],
 ) -> Truth
-    ensures { result ≡ spec.compared sign (spec.order_of (spec.operand_value spec.no_argument rows.now a.now) (spec.operand_value spec.no_argument rows.now b.now)) }
+    ensures { result ≡ spec.compared sign (spec.order_of (spec.operand_value serving.denotes rows.now a.now) (spec.operand_value serving.denotes rows.now b.now)) }
 {
     let order = order_of(&operand_side(rows, a), &operand_side(rows, b));
     compared(sign, order)
@@ -156,17 +158,19 @@ fn comparison(
 
 /// IS NULL of a side at the rows.
 fn null_test(operand: &Operand<NoGeometry>, rows: &[Row<'_>]) -> Truth
-    ensures { result ≡ spec.truth_of (spec.is_null (spec.operand_value spec.no_argument rows.now operand.now)) }
+    ensures { result ≡ spec.truth_of (spec.is_null (spec.operand_value serving.denotes rows.now operand.now)) }
 {
     truth_of(is_null(&operand_side(rows, operand)))
 }
 
 /// The truth of a condition at rows, one for each reference in the query's order: TEXT is compared by bytes, a
 /// comparison with NULL is unknown, and so is NOT of what is unknown. Each part is evaluated, from left to right. A
-/// place that the rows don't have is NULL. It takes no memory. (SQL's three-valued logic; order of texts: this project's choice.)
+/// place that the rows don't have is NULL. It is the truth by the labels, and by every function that gives the matrix of
+/// valid geometries. It takes no memory. (SQL's three-valued logic; order of texts: this project's choice.)
 #[cycle(value)]
 pub fn value(cond: &Cond, rows: &[Row<'_>]) -> Truth
-    ensures { result ≡ spec.truth labelled_matrix spec.no_argument rows.now cond.now }
+    ensures labels { result ≡ spec.truth labelled_matrix serving.denotes rows.now cond.now }
+    ensures every { ByEveryMatrix (λ matrix. result ≡ spec.truth matrix serving.denotes rows.now cond.now) }
 {
     match cond {
         Cond::Or(parts) => any(parts.as_slice(), rows),
@@ -181,7 +185,7 @@ pub fn value(cond: &Cond, rows: &[Row<'_>]) -> Truth
 /// OR of the values of some parts.
 #[cycle(value)]
 fn any(parts: &[Cond], rows: &[Row<'_>]) -> Truth
-    ensures { result ≡ spec.any_of (map (spec.truth labelled_matrix spec.no_argument rows.now) parts.now) }
+    ensures { result ≡ spec.any_of (map (spec.truth labelled_matrix serving.denotes rows.now) parts.now) }
 {
     let mut truth = Truth::False;
     for part in parts {
@@ -193,7 +197,7 @@ fn any(parts: &[Cond], rows: &[Row<'_>]) -> Truth
 /// AND of the values of some parts.
 #[cycle(value)]
 fn all(parts: &[Cond], rows: &[Row<'_>]) -> Truth
-    ensures { result ≡ spec.all_of (map (spec.truth labelled_matrix spec.no_argument rows.now) parts.now) }
+    ensures { result ≡ spec.all_of (map (spec.truth labelled_matrix serving.denotes rows.now) parts.now) }
 {
     let mut truth = Truth::True;
     for part in parts {

@@ -41,3 +41,5 @@ pub mod SchemaRefusals
 pub mod FeatureTables
 pub mod ValidGeometries
 pub mod SchemaExamples
+pub mod Serving
+pub mod RunOutcomes

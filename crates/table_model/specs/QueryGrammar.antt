@@ -167,7 +167,7 @@ IsNegationOf {A} P (suc levels) x ts =
 abbrev pub IsNegation : (functions : Bool) → ℕ → ServedCond functions → Phrase
 IsNegation functions = IsNegationOf (IsPredicate functions)
 
--- a condition in which NOT and parentheses nest to 64 levels at most
+-- a condition in which NOT and parentheses nest to so many levels at most
 abbrev pub IsCondition : (functions : Bool) → ServedCond functions → Phrase
 IsCondition functions = IsConditionOf (IsNegation functions most_levels)
 

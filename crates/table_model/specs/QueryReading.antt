@@ -30,6 +30,7 @@ use Rattle.table_model.specs.Parsers.{Outcome, Parser, kind, place, spelling, ne
 use Rattle.table_model.specs.Served.{Served, ItemArgument, ServedOperand, ServedCond, ServedItem, ServedQuery}
 use Rattle.table_model.specs.Texts.{same_name}
 use Rattle.table_model.specs.Tokens.{same_kind, tokens, most_bytes}
+use Rattle.table_model.specs.declared.queries.TheConstants.{LEVEL_LIMIT}
 
 -- a reader of a part of a query
 abbrev pub Reader : Type 0 → Type 0
@@ -242,9 +243,9 @@ negation functions (suc levels) ts =
 
 -- how deep conditions may nest
 abbrev pub most_levels : ℕ
-most_levels = 64
+most_levels = LEVEL_LIMIT
 
--- cond, of 64 levels at most
+-- cond, of so many levels at most
 abbrev pub condition : (functions : Bool) → Reader (ServedCond functions)
 condition functions = condition_of (negation functions most_levels)
 

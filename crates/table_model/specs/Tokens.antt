@@ -8,6 +8,7 @@ use Rattle.table_model.specs.declared.tokens.Token.{Token}
 use Rattle.table_model.specs.declared.tokens.TokenKind.{TokenKind}
 use Rattle.table_model.specs.declared.tokens.TokenKind.TheVariants as k
 use Rattle.table_model.specs.Texts.{same_name}
+use Rattle.table_model.specs.declared.tokens.TheConstants.{TEXT_LIMIT}
 
 -- whether two kinds of token are the same
 unfoldable pub same_kind : TokenKind → TokenKind → Bool
@@ -122,7 +123,7 @@ tokens strings text = tokens_from strings 0 0 text
 
 -- how many bytes a schema or a query may have
 abbrev pub most_bytes : ℕ
-most_bytes = 65536
+most_bytes = TEXT_LIMIT
 
 -- the place where the text of a token begins
 abbrev pub text_place : Token → ℕ

@@ -5,6 +5,9 @@ use crate::texts::Slice;
 use geometry_model::Predicate;
 use sqlite_items::{Boxed, Items};
 
+/// The most levels to which NOT and parentheses may nest in a condition.
+pub const LEVEL_LIMIT: usize = 64;
+
 /// A name or a string, and the byte from 0 at which its token starts in the query's text.
 #[derive(Debug, Drop)]
 pub struct Name<'a> {

@@ -2,6 +2,9 @@
 
 use crate::texts::Slice;
 
+/// The most bytes that the text of a schema or of a query may have.
+pub const TEXT_LIMIT: usize = 65_536;
+
 /// What a token is. A reserved word has a kind of its own.
 #[derive(Clone, Copy, Debug, PartialEq, Eq)]
 pub enum TokenKind {

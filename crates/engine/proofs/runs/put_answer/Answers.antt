@@ -1,30 +1,49 @@
--- The header's record, or a front of it, is a front of the answer; the pairs' records come after it.
-use Rattle.std.proofs.Common.{ap, subst, ◌∙◌}
-use Rattle.csv.specs.Writing.{row_text, default_writer}
-use Rattle.table_model.specs.AnswerTexts.{header}
-use Rattle.engine.specs.Stage.{no_writing}
+-- The count, or the header and then the pairs' records; a front of the header is a front of the answer.
+use Rattle.std.proofs.Common.{All, ap, subst, sym, ◌≡◌, ◌∙◌, ◌++◌, map, true, false, length, rules}
+use Rattle.std.specs.List.{concat}
 use Rattle.sinks.specs.Sinks.{AppendsFront}
-use Rattle.sinks.proofs.SinkLemmas.{AppendsFront-kept, AppendsFront-more, OnErr-holds}
-use Rattle.engine.proofs.RunLemmas.{keeps-same}
-use Rattle.engine.proofs.TextLemmas.{first-front, first-put}
+use Rattle.std.specs.Io.KnownBytes.{Appends}
+use Rattle.table_model.specs.AnswerTexts.{header}
+use Rattle.table_model.specs.Meanings.{referenced}
+use Rattle.engine.specs.Pairs.{IsPlace}
+use Rattle.engine.specs.Runs.{pair_text}
+use Rattle.engine.specs.Serving.{record_text, serving}
+use Rattle.engine.proofs.PutLemmas.{first-begun, put-none, put-same, put-then}
+use Rattle.engine.proofs.RunLemmas.{counted-text, listed-text}
+use Rattle.engine.proofs.ScanLemmas.{all-wanted}
+use Rattle.records.specs.declared.put_fault.PutFault.TheVariants as put
 use Rattle.engine.proofs.runs.put_answer.Goals as goal
 
-pub returns-in_err-put-clause-front : goal.returns-in_err-put-clause-front
-returns-in_err-put-clause-front g c =
-    OnErr-holds c.from_residual-in_err-put.result
-    (AppendsFront-more _ _ _ _
-    (subst (λ l. AppendsFront (g.S.Sink.taken c.args.sink.now) (g.S.Sink.taken c.put.new.sink) l) (ap (row_text default_writer) (c.in_ok-header.ensures ∙ ap (λ ds. header no_writing ds c.args.query.now) c.definitions.ensures.value)) c.in_err-put.ensures.front))
+pub returns-then-query : goal.returns-then-query
+returns-then-query g c =
+    let counts : c.args.query.now.counts ≡ true = search rules in
+    put-same c.put_count.result _ _ _ _ _ _
+    (counted-text c.args.database.now c.args.query.now c.args.pairs.now counts) c.put_count.ensures
 
-pub returns-clause-front : goal.returns-clause-front
-returns-clause-front g c =
-    first-front c.put_pairs.result _ (g.S.Sink.taken c.put.new.sink) _ _ _ _ (ap (row_text default_writer) (c.in_ok-header.ensures ∙ ap (λ ds. header no_writing ds c.args.query.now) c.definitions.ensures.value))
-    c.in_ok-put.ensures.ok c.put_pairs.ensures.front
+pub returns-in_err-header : goal.returns-in_err-header
+returns-in_err-header g c = put-none c.from_residual.result _ (g.S.Sink.taken c.args.sink.now) (g.S.Sink.failures c.args.sink.now) c.from_residual.ensures.1
 
-pub returns-in_err-header-clause-front : goal.returns-in_err-header-clause-front
-returns-in_err-header-clause-front g c =
-    OnErr-holds c.from_residual.result (AppendsFront-kept _ _ _ (keeps-same (g.S.Sink.taken c.args.sink.now)))
+pub returns-in_err-put : goal.returns-in_err-put
+returns-in_err-put g c =
+    let lists : c.args.query.now.counts ≡ false = search rules in
+    let written = ap record_text (c.in_ok-header.ensures ∙ ap (λ ds. header serving.writing ds c.args.query.now) c.definitions.ensures.value) in
+    put-same c.from_residual-in_err-put.result _ _ _ _ _ _ (listed-text c.args.database.now c.args.query.now c.args.pairs.now lists)
+    (first-begun c.from_residual-in_err-put.result c.in_err-put.field-0.0 (record_text (header serving.writing c.args.database.now.definitions c.args.query.now)) _ _ _ _ _
+    c.from_residual-in_err-put.ensures.1
+    (subst (λ l. AppendsFront (g.S.Sink.taken c.args.sink.now) (g.S.Sink.taken c.put.new.sink) l) written c.in_err-put.ensures.front) c.in_err-put.ensures.failures)
 
-pub returns-clause-ok : goal.returns-clause-ok
-returns-clause-ok g c =
-    first-put c.put_pairs.result _ (g.S.Sink.taken c.put.new.sink) _ _ _ _ (ap (row_text default_writer) (c.in_ok-header.ensures ∙ ap (λ ds. header no_writing ds c.args.query.now) c.definitions.ensures.value))
-    c.in_ok-put.ensures.ok c.put_pairs.ensures.ok
+pub put_pairs-requires-clause-places : goal.put_pairs-requires-clause-places
+put_pairs-requires-clause-places g c =
+    let Place = IsPlace (referenced c.args.database.now.tables c.args.query.now.references) in
+    subst (λ ps. All Place ps) (sym c.up_to-wanted.ensures) (all-wanted Place c.args.query.now.limit c.args.pairs.now c.requires.places)
+
+pub returns : goal.returns
+returns g c =
+    let lists : c.args.query.now.counts ≡ false = search rules in
+    let written = ap record_text (c.in_ok-header.ensures ∙ ap (λ ds. header serving.writing ds c.args.query.now) c.definitions.ensures.value) in
+    let head = record_text (header serving.writing c.args.database.now.definitions c.args.query.now) in
+    put-same c.put_pairs.result _ _ _ _ _ _
+    (ap (λ ps. head ++ concat (map (pair_text serving c.args.database.now c.args.query.now) ps)) c.up_to-wanted.ensures
+    ∙ listed-text c.args.database.now c.args.query.now c.args.pairs.now lists)
+    (put-then c.put_pairs.result head _ (g.S.Sink.taken c.args.sink.now) (g.S.Sink.taken c.put.new.sink) _ (g.S.Sink.failures c.args.sink.now) (g.S.Sink.failures c.put.new.sink) _
+    (subst (λ l. Appends (g.S.Sink.taken c.args.sink.now) (g.S.Sink.taken c.put.new.sink) l) written c.in_ok-put.ensures.ok) c.in_ok-put.ensures.failures c.put_pairs.ensures)

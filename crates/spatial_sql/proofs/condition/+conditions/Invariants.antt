@@ -3,7 +3,7 @@ use Rattle.table_model.specs.declared.faults.QueryFault.TheVariants as fault
 use Rattle.table_model.specs.declared.tokens.TokenKind.TheVariants as k
 use Rattle.table_model.specs.Parsers.{parts_from, parts}
 use Rattle.table_model.specs.QueryReading.{conjunction, negation}
-use Rattle.spatial_sql.specs.Language.{language}
+use Rattle.spatial_sql.specs.Serving.{language}
 use Rattle.spatial_sql.proofs.condition.+conditions.Given as goal
 
 abbrev pub decreases-negation : goal.decreases-negation

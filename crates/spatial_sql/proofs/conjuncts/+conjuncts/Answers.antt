@@ -1,6 +1,6 @@
 -- The conjuncts of an AND are those of its parts; any other condition is one.
 use Rattle.std.proofs.Common.{◌≡◌, ◌⊎◌, inl, inr, ℕ, List, map, Ok, sym, ap, subst, ◌∙◌}
-use Rattle.table_model.specs.Binding.{bound_cond, bound_conjuncts, no_geometry}
+use Rattle.table_model.specs.Binding.{bound_cond, bound_conjuncts}
 use Rattle.table_model.specs.Outcomes.{Gives}
 use Rattle.table_model.specs.declared.conditions.Comparison.{Comparison}
 use Rattle.table_model.specs.declared.conditions.Reference.{Reference}
@@ -13,9 +13,10 @@ use Rattle.table_model.specs.declared.values.NoGeometry.{NoGeometry}
 use Rattle.binding_laws.specs.FilterLaws.{joined_in_order, only}
 use Rattle.binding_laws.proofs.WrittenConjuncts.{by_written_parts}
 use Rattle.spatial_sql.proofs.conjuncts.+conjuncts.Goals as goal
+use Rattle.spatial_sql.specs.Serving.{serving}
 
 abbrev IsAlone : List (TableDef NoGeometry) → List Reference → WrittenCond NoGeometry → Type 0
-IsAlone schema references w = bound_conjuncts no_geometry schema references w ≡ only (bound_cond no_geometry schema references w)
+IsAlone schema references w = bound_conjuncts serving.binding schema references w ≡ only (bound_cond serving.binding schema references w)
 
 -- a condition of one of these kinds is one conjunct
 alone : (schema : List (TableDef NoGeometry)) (references : List Reference) (w : WrittenCond NoGeometry)
@@ -24,17 +25,17 @@ alone : (schema : List (TableDef NoGeometry)) (references : List Reference) (w :
     ⊎ (((at : ℕ) × (sign : Comparison) × (a : WrittenOperand NoGeometry) × (b : WrittenOperand NoGeometry) × (w ≡ written.Compare at sign a b))
     ⊎ ((a : WrittenOperand NoGeometry) × (w ≡ written.IsNull a))))
     → IsAlone schema references w
-alone schema references w (inl o) = subst (IsAlone schema references) (sym o.1) ((by_written_parts no_geometry schema references).or o.0)
-alone schema references w (inr (inl o)) = subst (IsAlone schema references) (sym o.1) ((by_written_parts no_geometry schema references).not o.0)
-alone schema references w (inr (inr (inl o))) = subst (IsAlone schema references) (sym o.4) ((by_written_parts no_geometry schema references).compare o.0 o.1 o.2 o.3)
-alone schema references w (inr (inr (inr o))) = subst (IsAlone schema references) (sym o.1) ((by_written_parts no_geometry schema references).is_null o.0)
+alone schema references w (inl o) = subst (IsAlone schema references) (sym o.1) ((by_written_parts serving.binding schema references).or o.0)
+alone schema references w (inr (inl o)) = subst (IsAlone schema references) (sym o.1) ((by_written_parts serving.binding schema references).not o.0)
+alone schema references w (inr (inr (inl o))) = subst (IsAlone schema references) (sym o.4) ((by_written_parts serving.binding schema references).compare o.0 o.1 o.2 o.3)
+alone schema references w (inr (inr (inr o))) = subst (IsAlone schema references) (sym o.1) ((by_written_parts serving.binding schema references).is_null o.0)
 
 pub bound_conjuncts-returns-in-And : goal.bound_conjuncts-returns-in-And
 bound_conjuncts-returns-in-And t c =
     subst (λ r. Gives fault.OutOfMemory (λ x. x) c.joined.result r)
-    (sym (ap (bound_conjuncts no_geometry c.args.schema.now c.args.references.now) c.in-And.is
-    ∙ (by_written_parts no_geometry c.args.schema.now c.args.references.now).and c.in-And.parts
-    ∙ ap (λ parts. joined_in_order (map (bound_conjuncts no_geometry c.args.schema.now c.args.references.now) parts)) (sym c.as_slice.ensures)))
+    (sym (ap (bound_conjuncts serving.binding c.args.schema.now c.args.references.now) c.in-And.is
+    ∙ (by_written_parts serving.binding c.args.schema.now c.args.references.now).and c.in-And.parts
+    ∙ ap (λ parts. joined_in_order (map (bound_conjuncts serving.binding c.args.schema.now c.args.references.now) parts)) (sym c.as_slice.ensures)))
     c.joined.ensures
 
 pub bound_conjuncts-returns-in_ok-only-in-Or : goal.bound_conjuncts-returns-in_ok-only-in-Or

@@ -4,15 +4,16 @@ use Rattle.table_model.specs.SchemaReading as spec
 use Rattle.table_model.specs.SchemaReading.{columns_from}
 use Rattle.spatial_sql.proofs.Counts.{one_turn}
 use Rattle.spatial_sql.proofs.definition.columns.Goals as goal
+use Rattle.spatial_sql.specs.Serving.{serving}
 
 pub returns-in_err-column : goal.returns-in_err-column
 unfolding columns_from
 returns-in_err-column c =
-    let e = one_turn (λ n. columns_from spec.no_geometry_type n c.loop-turn.columns c.loop-turn.key c.loop-turn.tokens) _ c.loop-turn._turn c.loop-turn-test.true c.loop-turn.invariant in
+    let e = one_turn (λ n. columns_from serving.shape n c.loop-turn.columns c.loop-turn.key c.loop-turn.tokens) _ c.loop-turn._turn c.loop-turn-test.true c.loop-turn.invariant in
     first_of (search rules, grind (arith, common_steps))
 
 pub loop-turn-preserved : goal.loop-turn-preserved
 unfolding columns_from
 loop-turn-preserved c =
-    let e = one_turn (λ n. columns_from spec.no_geometry_type n c.loop-turn.columns c.loop-turn.key c.loop-turn.tokens) _ c.loop-turn._turn c.loop-turn-test.true c.loop-turn.invariant in
+    let e = one_turn (λ n. columns_from serving.shape n c.loop-turn.columns c.loop-turn.key c.loop-turn.tokens) _ c.loop-turn._turn c.loop-turn-test.true c.loop-turn.invariant in
     first_of (search rules, grind (arith, common_steps))

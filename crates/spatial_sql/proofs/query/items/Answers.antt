@@ -4,7 +4,7 @@ use Rattle.table_model.specs.declared.faults.QueryFault.TheVariants as fault
 use Rattle.table_model.specs.declared.tokens.TokenKind.TheVariants as k
 use Rattle.table_model.specs.Parsers.{parts_from}
 use Rattle.table_model.specs.QueryReading.{item}
-use Rattle.spatial_sql.specs.Language.{language}
+use Rattle.spatial_sql.specs.Serving.{language}
 use Rattle.spatial_sql.proofs.Counts.{one_turn}
 use Rattle.spatial_sql.proofs.query.items.Goals as goal
 

@@ -3,7 +3,7 @@ use Rattle.table_model.specs.declared.faults.QueryFault.TheVariants as fault
 use Rattle.table_model.specs.declared.tokens.TokenKind.TheVariants as k
 use Rattle.table_model.specs.Parsers.{parts_from}
 use Rattle.table_model.specs.QueryReading.{item, items}
-use Rattle.spatial_sql.specs.Language.{language}
+use Rattle.spatial_sql.specs.Serving.{language}
 use Rattle.spatial_sql.proofs.query.items.Given as goal
 
 abbrev pub invariant-loop-turn : goal.invariant-loop-turn

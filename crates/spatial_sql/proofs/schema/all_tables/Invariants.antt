@@ -1,7 +1,8 @@
 use Rattle.std.proofs.Common.{◌≡◌, ◌-◌}
 use Rattle.table_model.specs.SchemaReading as spec
 use Rattle.spatial_sql.proofs.schema.all_tables.Given as goal
+use Rattle.spatial_sql.specs.Serving.{serving}
 
 abbrev pub invariant-loop-turn : goal.invariant-loop-turn
 invariant-loop-turn l =
-    spec.all_tables spec.no_geometry_type l.fn.tokens ≡ spec.tables_from spec.no_geometry_type (l._turn-end - l._turn) l.tables.items l.tokens
+    spec.all_tables serving.shape l.fn.tokens ≡ spec.tables_from serving.shape (l._turn-end - l._turn) l.tables.items l.tokens

@@ -10,20 +10,21 @@ use Rattle.table_model.specs.Outcomes.{Gives}
 use Rattle.table_model.specs.SchemaGrammar.{IsSchema}
 use Rattle.table_model.specs.SchemaReading as spec
 use Rattle.spatial_sql.proofs.schema.read_schema.Goals as goal
+use Rattle.spatial_sql.specs.Serving.{serving}
 
-is_schema : (text : List ℕ) (r : Result (List (TableDef NoGeometry)) SchemaFault) → Gives fault.OutOfMemory (λ s. s) r (spec.schema_of spec.no_geometry_type text)
-    → IfOk r (λ s. IsSchema spec.no_geometry_type text s)
-is_schema text (Ok s) e = given_is_schema spec.no_geometry_type text s e
+is_schema : (text : List ℕ) (r : Result (List (TableDef NoGeometry)) SchemaFault) → Gives fault.OutOfMemory (λ s. s) r (spec.schema_of serving.shape text)
+    → IfOk r (λ s. IsSchema serving.shape text s)
+is_schema text (Ok s) e = given_is_schema serving.shape text s e
 is_schema text (Err e) h = tt
 
 pub returns-clause-ok : goal.returns-clause-ok
 returns-clause-ok c = is_schema c.args.text.now c.read.result c.read.ensures
 
 pub returns-clause-only : goal.returns-clause-only
-returns-clause-only c = schema_is_given spec.no_geometry_type c.args.text.now c.read.result c.read.ensures
+returns-clause-only c = schema_is_given serving.shape c.args.text.now c.read.result c.read.ensures
 
 pub returns-clause-stands : goal.returns-clause-stands
-returns-clause-stands c = given_stands spec.no_geometry_type c.args.text.now c.read.result c.read.ensures
+returns-clause-stands c = given_stands serving.shape c.args.text.now c.read.result c.read.ensures
 
 pub returns-clause-first : goal.returns-clause-first
-returns-clause-first c = first_is_given spec.no_geometry_type c.args.text.now c.read.result c.read.ensures
+returns-clause-first c = first_is_given serving.shape c.args.text.now c.read.result c.read.ensures
