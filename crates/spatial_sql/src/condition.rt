@@ -10,7 +10,7 @@ ghost use Rattle.table_model.specs.Parsers as steps;
 ghost use Rattle.table_model.specs.Parsers.{Reads};
 ghost use Rattle.spatial_sql.specs.Serving.{language};
 
-use crate::cursor::Cursor;
+use sql_tokens::cursor::Cursor;
 use sqlite_items::{Boxed, Items};
 use std::alloc::Global;
 use table_model::conditions::Comparison;

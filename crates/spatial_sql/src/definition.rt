@@ -8,8 +8,8 @@ ghost use Rattle.table_model.specs.Parsers as steps;
 ghost use Rattle.table_model.specs.Parsers.{Reads};
 ghost use Rattle.spatial_sql.specs.Serving.{serving};
 
-use crate::cursor::Cursor;
 use feature_table::{ColumnDef, ColumnType, TableDef};
+use sql_tokens::cursor::Cursor;
 use sqlite_items::Items;
 use std::alloc::{AllocError, Global};
 use std::str;

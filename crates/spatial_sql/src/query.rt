@@ -10,8 +10,8 @@ ghost use Rattle.spatial_sql.specs.Serving.{language};
 
 use crate::Query;
 use crate::condition::{column, condition, expect, name, refuse};
-use crate::cursor::Cursor;
-use crate::lex::{lex, same_kind};
+use sql_tokens::cursor::Cursor;
+use sql_tokens::lex::{lex, same_kind};
 use sqlite_items::Items;
 use std::alloc::Global;
 use table_model::faults::QueryFault;

@@ -9,10 +9,10 @@ ghost use Rattle.table_model.specs.SchemaRefusals.{AnswersFirst, StandsInSchema}
 ghost use Rattle.table_model.specs.declared.values.NoGeometry.{NoGeometry};
 ghost use Rattle.spatial_sql.specs.Serving.{serving};
 
-use crate::cursor::Cursor;
 use crate::definition::{expect, refuse, table};
-use crate::lex::lex;
 use feature_table::{Schema, TableDef};
+use sql_tokens::cursor::Cursor;
+use sql_tokens::lex::lex;
 use std::alloc::Global;
 use table_model::faults::SchemaFault;
 use table_model::tokens::{TEXT_LIMIT, TokenKind};

@@ -5,7 +5,7 @@ use Rattle.table_model.specs.declared.tokens.TokenKind.TheVariants as k
 use Rattle.table_model.specs.Parsers.{parts_from}
 use Rattle.table_model.specs.QueryReading.{conjunction, negation}
 use Rattle.spatial_sql.specs.Serving.{language}
-use Rattle.spatial_sql.proofs.Counts.{one_turn, one_level}
+use Rattle.sql_tokens.proofs.Counts.{one_turn, one_level}
 use Rattle.spatial_sql.proofs.condition.+conditions.Goals as goal
 
 pub conjuncts-returns-in_err-negation : goal.conjuncts-returns-in_err-negation

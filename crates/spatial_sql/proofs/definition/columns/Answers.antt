@@ -2,7 +2,7 @@ use Rattle.std.proofs.Common.{rules, arith}
 use Rattle.std.proofs.lemmas.Grind.{common_steps}
 use Rattle.table_model.specs.SchemaReading as spec
 use Rattle.table_model.specs.SchemaReading.{columns_from}
-use Rattle.spatial_sql.proofs.Counts.{one_turn}
+use Rattle.sql_tokens.proofs.Counts.{one_turn}
 use Rattle.spatial_sql.proofs.definition.columns.Goals as goal
 use Rattle.spatial_sql.specs.Serving.{serving}
 

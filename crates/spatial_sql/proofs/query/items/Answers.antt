@@ -5,7 +5,7 @@ use Rattle.table_model.specs.declared.tokens.TokenKind.TheVariants as k
 use Rattle.table_model.specs.Parsers.{parts_from}
 use Rattle.table_model.specs.QueryReading.{item}
 use Rattle.spatial_sql.specs.Serving.{language}
-use Rattle.spatial_sql.proofs.Counts.{one_turn}
+use Rattle.sql_tokens.proofs.Counts.{one_turn}
 use Rattle.spatial_sql.proofs.query.items.Goals as goal
 
 pub returns-in_err-item : goal.returns-in_err-item
