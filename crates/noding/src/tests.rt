@@ -265,8 +265,9 @@ fn pairs_tried(rt: HostRuntime) -> Result<(), Fail> {
     assert_eq!(rt; noded(alloc, &square, &[])?.tests(), 5);
     // A thousand that lie apart, from left to right.
     let mut segments = Vec::new(alloc);
-    for place in 0..1000 {
-        segments.push(segment(((3 * place, 0), (3 * place + 1, 1)))?)?;
+    for place in 0..1000i32 {
+        let x = place.saturating_mul(3);
+        segments.push(segment(((x, 0), (x.saturating_add(1), 1)))?)?;
     }
     assert_eq!(rt; node(alloc, segments.as_slice(), &[])?.tests(), 0);
     Ok(())
