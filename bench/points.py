@@ -7,7 +7,7 @@ the instructions grow from size to size. Growth is allowed up to that of n log n
 It ends with status 1 where a case is past that.
 
 It needs Python's standard library, `valgrind` from the distribution's packages, and the built programs: run
-`./sfq --help` once, and `rt run` once in crates/reprint. It is no test: the gate doesn't run it.
+`./sfq --help` once, and `rt run` once in crates/gauge. It is no test: the gate doesn't run it.
 """
 
 import argparse
@@ -24,7 +24,7 @@ ORDERS = ("shuffled", "ascending", "equal")
 EMPTY = "MULTIPOINT EMPTY"
 ROOT = pathlib.Path(__file__).resolve().parent.parent
 SFQ = ROOT / "crates" / "sfq" / "out" / "sfq"
-REPRINT = ROOT / "crates" / "reprint" / "out" / "reprint"
+GAUGE = ROOT / "crates" / "gauge" / "out" / "gauge"
 
 
 def positions(count, order, span, chance):
@@ -60,11 +60,11 @@ def instructions(command, text):
     sys.exit("valgrind tells no count")
 
 
-def reprint_case(count, order):
+def print_case(count, order):
     """The command that reads and prints, its input, and the output that is wanted."""
     points = positions(count, order, 99_999, random.Random(count))
     printed = "MULTIPOINT(" + ",".join(f"({x} {y})" for x, y in points) + ")\n"
-    return [str(REPRINT)], text_of(points), printed
+    return [str(GAUGE)], text_of(points), printed
 
 
 def relate_case(count, order):
@@ -87,7 +87,7 @@ def main():
     parser = argparse.ArgumentParser(description=__doc__.splitlines()[0])
     parser.add_argument("--repeats", type=int, default=5, help="runs of each command (5)")
     repeats = parser.parse_args().repeats
-    for program, build in ((SFQ, "./sfq --help"), (REPRINT, "rt run in crates/reprint")):
+    for program, build in ((SFQ, "./sfq --help"), (GAUGE, "rt run in crates/gauge")):
         if not program.exists():
             sys.exit(f"{program.name} isn't built: run {build} once")
     if shutil.which("valgrind") is None:
@@ -96,7 +96,7 @@ def main():
     print(f"{'':26} {'positions':>9} {'text KB':>8} {'cpu s':>7} {'M instr':>8} {'growth':>7}  allowed {allowed:.1f}")
     over = False
     for name, case, empty, empty_input in (
-        ("read and print", reprint_case, [str(REPRINT)], EMPTY),
+        ("read and print", print_case, [str(GAUGE)], EMPTY),
         ("relate", relate_case, [str(SFQ), "relate", EMPTY, EMPTY], ""),
     ):
         base = instructions(empty, empty_input)

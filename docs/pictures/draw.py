@@ -21,6 +21,17 @@ PICTURES = {
         "POLYGON((0 0,10 0,10 10,0 10,0 0),(4 4,6 4,6 6,4 6,4 4))",
         "101FF0212",
     ),
+    "elsewhere-1": ("LINESTRING(3 1,0 0)", "MULTILINESTRING((3 0,0 2),(3 1,0 0))", "1FFF0F102"),
+    "elsewhere-2": ("LINESTRING(1 0,5 4,5 -1,0 6)", "LINESTRING(1 0,3 2,5 4,5 -1,0 6)", "1FFF0FFF2"),
+    "elsewhere-3": ("MULTILINESTRING((6 5,3 2),(-5 5,5 3))", "LINESTRING(6 5,4 3)", "101F00FF2"),
+    "elsewhere-4": (
+        "LINESTRING(0 1,-1 0,-1 1,1 0,0 1)",
+        "MULTILINESTRING((0 1,1 -1,-1 -1,1 0),(-1 1,1 0,-1 0))",
+        "101FFF1F2",
+    ),
+    "elsewhere-5": ("LINESTRING(1 0,0 1,-1 0,1 1,1 0)", "POLYGON((1 1,-1 0,0 -1,1 1))", "111FFF212"),
+    "elsewhere-6": ("MULTILINESTRING((17 24,-30 -56),(8 26,-23 -148))", "POLYGON((3 0,7 8,-6 0,3 0))", "101FF0212"),
+    "elsewhere-7": ("POLYGON((1 -1,0 -1,3 3,1 -1))", "LINESTRING(2 1,1 0,3 2)", "1F2F01102"),
 }
 
 
@@ -55,19 +66,21 @@ class Sheet:
         return 2 * MARGIN + (self.top - self.bottom) * self.unit
 
     def grid(self):
+        if self.unit < 8:
+            return
         for x in range(self.left, self.right + 1):
             for y in range(self.bottom, self.top + 1):
                 cx, cy = self.at((x, y))
                 self.lines.append(f'<circle cx="{cx}" cy="{cy}" r="1.2" fill="#999"/>')
 
-    def geometry(self, text, colour):
+    def geometry(self, text, colour, width):
         path = ""
         for positions in parts(text):
             spots = [self.at(p) for p in positions]
             path += "M" + " L".join(f"{x} {y}" for x, y in spots) + (" Z " if text.startswith(("POLYGON", "MULTIPOLYGON")) else " ")
         fill = colour if text.startswith(("POLYGON", "MULTIPOLYGON")) else "none"
         self.lines.append(
-            f'<path d="{path.strip()}" fill="{fill}" fill-opacity="0.22" fill-rule="evenodd" stroke="{colour}" stroke-width="2.5"/>'
+            f'<path d="{path.strip()}" fill="{fill}" fill-opacity="0.22" fill-rule="evenodd" stroke="{colour}" stroke-width="{width}"/>'
         )
 
     def matrix(self, text, left, top):
@@ -91,8 +104,8 @@ def label(x, y, text, colour):
 def draw(name, first, second, matrix):
     sheet = Sheet([p for text in (first, second) for positions in parts(text) for p in positions])
     sheet.grid()
-    sheet.geometry(second, SECOND)
-    sheet.geometry(first, FIRST)
+    sheet.geometry(second, SECOND, 6)
+    sheet.geometry(first, FIRST, 2.5)
     left = sheet.width()
     height = max(sheet.height(), 4 * CELL + 2 * MARGIN)
     sheet.matrix(matrix, left, (height - 4 * CELL) / 2)

@@ -80,7 +80,8 @@ fn gauge(rt: &HostRuntime) -> Result<(), Failure> {
         words.push(word).map_err(AllocError::from)?;
     }
     let text = read_input(rt)?;
-    let mut out = StdSink::new(BufWriter::new(rt.alloc(), rt.stdout())?);
+    let buffer = BufWriter::new(rt.alloc(), rt.stdout()).map_err(|_| Failure::OutOfMemory)?;
+    let mut out = StdSink::new(buffer);
     match words.as_slice() {
         [_] => put_again(rt.alloc(), text.as_bytes(), &mut out)?,
         [_, word, times] => {
