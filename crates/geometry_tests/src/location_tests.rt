@@ -67,9 +67,8 @@ fn labels_of_two_lines(rt: HostRuntime) -> Result<(), Fail> {
     assert_eq!(rt; labels.of_points().len(), 5);
     assert_eq!(rt; labels.of_pieces().len(), 4);
     // The crossing is the third node.
-    for crossing in labels.of_points().get(2) {
-        assert!(rt; crossing.is_pair(Location::Interior, Location::Interior));
-    }
+    let crossing = labels.of_points()[2];
+    assert!(rt; crossing.is_pair(Location::Interior, Location::Interior));
     // Beside a line there is no inside.
     for sides in labels.of_sides() {
         let outside = sides.is_some_and(|sides| sides.has_pair(
