@@ -2,6 +2,8 @@
 #![tactic(auto)]
 
 #[cfg(test)]
+mod area_validity_tests;
+#[cfg(test)]
 mod location_tests;
 #[cfg(test)]
 mod printing_tests;

@@ -2,10 +2,10 @@
 use Rattle.std.proofs.Common.{◌≡◌, sym, subst, Some, None}
 use Rattle.std.specs.Option.{MatchOption}
 use Rattle.geometry_model.specs.Geometries.{Geometry}
-use Rattle.geometry_model.specs.Validity.{IsValid}
+use Rattle.geometry_model.specs.Validity.{HasFault, IsValid}
 use Rattle.geometry_model.specs.FirstFaults.{validity_fault}
 use Rattle.geometry_model.specs.declared.validity_faults.ValidityFault.{ValidityFault}
-use Rattle.validity.specs.CheckFaults.{fault_in, IsFirstFaultOf}
+use Rattle.validity.specs.CheckFaults.{fault_in, IsFirstFaultOf, IsStandingFaultOf}
 use Rattle.validity.specs.declared.check_fault.CheckFault.{CheckFault}
 use Rattle.validity_laws.specs.FaultLaws.{IsFirst}
 use Rattle.validity_laws.proofs.FirstPlace.{first_fault_is_first}
@@ -17,3 +17,7 @@ no_fault_valid g none = (none_is_found_where_valid g).0 none
 -- the fault that is found is the first that stands
 pub first_stands : (g : Geometry) (refusal : CheckFault) (fault : ValidityFault) → fault_in refusal ≡ Some fault → validity_fault g ≡ Some fault → IsFirstFaultOf g refusal
 first_stands g refusal fault tells found = subst (λ o. MatchOption o (Unit {0}) (λ f. IsFirst g f)) (sym tells) (first_fault_is_first g fault found)
+
+-- and it stands
+pub found_stands : (g : Geometry) (refusal : CheckFault) (fault : ValidityFault) → fault_in refusal ≡ Some fault → validity_fault g ≡ Some fault → IsStandingFaultOf g refusal
+found_stands g refusal fault tells found = subst (λ o. MatchOption o (Unit {0}) (λ f. HasFault g f)) (sym tells) (first_fault_is_first g fault found).stands

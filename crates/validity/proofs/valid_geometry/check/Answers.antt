@@ -1,8 +1,12 @@
 use Rattle.std.proofs.Common.{sym, ap, ◌∙◌}
 use Rattle.geometry_model.specs.FirstFaults.{validity_fault}
-use Rattle.validity.proofs.Faults.{first_stands}
+use Rattle.validity.proofs.Faults.{first_stands, found_stands}
 use Rattle.validity.proofs.valid_geometry.check.Goals as goal
 
 pub returns-in-Some-clause-first : goal.returns-in-Some-clause-first
 returns-in-Some-clause-first c = first_stands c.args.geometry c.of-in-Some.result c.in-Some.fault c.of-in-Some.ensures
+    (ap validity_fault (sym c.in_ok-outline.ensures) ∙ (sym c.first_fault.ensures ∙ c.in-Some.is))
+
+pub returns-in-Some-clause-stands : goal.returns-in-Some-clause-stands
+returns-in-Some-clause-stands c = found_stands c.args.geometry c.of-in-Some.result c.in-Some.fault c.of-in-Some.ensures
     (ap validity_fault (sym c.in_ok-outline.ensures) ∙ (sym c.first_fault.ensures ∙ c.in-Some.is))
