@@ -5,3 +5,4 @@ pub mod BoxLists
 pub mod Walks
 pub mod Builds
 pub mod Meetings
+pub mod LineCrossings

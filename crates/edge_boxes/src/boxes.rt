@@ -30,7 +30,7 @@ pub(crate) struct EdgeBox {
 
 /// A flat list of boxes over consecutive edges, in postorder. It answers about the edges it was built over, which it
 /// doesn't keep.
-#[derive(Drop)]
+#[derive(Debug, Drop)]
 pub struct EdgeBoxes {
     boxes: Vec<EdgeBox>,
 }

@@ -7,6 +7,7 @@ mod boxes;
 mod building;
 mod cells;
 pub mod crossings;
+pub mod laws;
 mod meetings;
 mod runs;
 

@@ -1,11 +1,10 @@
-//! Parities: of the ends of lines that stand at a point, and of the edges above it.
+//! The parity of the ends of lines that stand at a point.
 
 ghost use Rattle.std.specs.Prelude.{◌≡◌, flat_map, count_by};
-ghost use Rattle.geometry_model.specs.Crossings.{odd, strictly_above, at_or_above};
+ghost use Rattle.geometry_model.specs.Crossings.{odd};
 ghost use Rattle.geometry_model.specs.Locations as spec;
 
 use fraction::{GridPoint, RatPoint};
-use orient::{Segment, at_or_above, crosses_up};
 use wkt::LineString;
 
 /// Whether the point stands at the position.
@@ -32,28 +31,6 @@ pub(crate) fn is_odd_end(lines: &[LineString], p: &RatPoint) -> bool
     let mut is_odd = false;
     for line in lines {
         is_odd = is_odd != is_odd_end_of(line.positions(), p);
-    }
-    is_odd
-}
-
-/// Whether an odd number of the segments are strictly above the point.
-pub(crate) fn is_odd_above(segments: &[Segment], p: &RatPoint) -> bool
-    ensures { result ≡ odd (count_by (λ e. strictly_above e p.now) segments.now) }
-{
-    let mut is_odd = false;
-    for segment in segments {
-        is_odd = is_odd != crosses_up(segment, p);
-    }
-    is_odd
-}
-
-/// Whether an odd number of the segments are at the point or above it.
-pub(crate) fn is_odd_at_or_above(segments: &[Segment], p: &RatPoint) -> bool
-    ensures { result ≡ odd (count_by (λ e. at_or_above e p.now) segments.now) }
-{
-    let mut is_odd = false;
-    for segment in segments {
-        is_odd = is_odd != at_or_above(segment, p);
     }
     is_odd
 }

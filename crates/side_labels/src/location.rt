@@ -4,12 +4,13 @@ ghost use Rattle.std.specs.Prelude.{◌≡◌};
 ghost use Rattle.std.specs.List.{list_any};
 ghost use Rattle.geometry_model.specs.Geometries.{edges_of_lines};
 ghost use Rattle.geometry_model.specs.Locations as spec;
-ghost use Rattle.geometry_model.specs.Sides.{on};
+ghost use Rattle.edge_boxes.specs.BoxLists.{BoxesOf};
 
-use crate::crossings::{is_odd_above, is_odd_end};
+use crate::crossings::is_odd_end;
+use edge_boxes::EdgeBoxes;
 use fraction::{GridPoint, RatPoint};
 use geometry_model::{Kind, Location};
-use orient::{Segment, on};
+use orient::Segment;
 use validity::Valid;
 use wkt::LineString;
 
@@ -23,8 +24,8 @@ pub fn locate(valid: &Valid, p: &RatPoint) -> Location
     let geometry = valid.geometry();
     match valid.kind() {
         Kind::Point => locate_in_points(geometry.listed(), p),
-        Kind::Line => locate_in_lines(geometry.lines(), valid.segments(), p),
-        Kind::Area => locate_in_rings(geometry.lines(), valid.segments(), p),
+        Kind::Line => locate_in_lines(geometry.lines(), valid.segments(), valid.boxes(), p),
+        Kind::Area => locate_in_rings(geometry.lines(), valid.segments(), valid.boxes(), p),
     }
 }
 
@@ -39,28 +40,41 @@ fn locate_in_points(listed: &[GridPoint], p: &RatPoint) -> Location
     }
 }
 
-/// Where a point stands in the geometry of these lines, whose edges come along.
-fn locate_in_lines(lines: &[LineString], segments: &[Segment], p: &RatPoint) -> Location
-    requires { segments.now ≡ edges_of_lines lines.now }
+/// Where a point stands in the geometry of these lines, whose edges and the boxes over those come along.
+fn locate_in_lines(
+    lines: &[LineString],
+    segments: &[Segment],
+    boxes: &EdgeBoxes,
+    p: &RatPoint,
+) -> Location
+    requires edges { segments.now ≡ edges_of_lines lines.now }
+    requires boxes { BoxesOf boxes.now segments.now }
     ensures { result ≡ spec.in_lines lines.now p.now }
 {
     if is_odd_end(lines, p) {
         Location::Boundary
-    } else if is_on_some(segments, p) {
+    } else if boxes.holds(segments, p) {
         Location::Interior
     } else {
         Location::Exterior
     }
 }
 
-/// Where a point stands in the area of these rings, whose edges come along.
-fn locate_in_rings(rings: &[LineString], segments: &[Segment], p: &RatPoint) -> Location
-    requires { segments.now ≡ edges_of_lines rings.now }
+/// Where a point stands in the area of these rings, whose edges and the boxes over those come along.
+fn locate_in_rings(
+    rings: &[LineString],
+    segments: &[Segment],
+    boxes: &EdgeBoxes,
+    p: &RatPoint,
+) -> Location
+    requires edges { segments.now ≡ edges_of_lines rings.now }
+    requires boxes { BoxesOf boxes.now segments.now }
     ensures { result ≡ spec.in_rings rings.now p.now }
 {
-    if is_on_some(segments, p) {
+    let found = boxes.crossings(segments, p);
+    if found.on {
         Location::Boundary
-    } else if is_odd_above(segments, p) {
+    } else if found.odd_above {
         Location::Interior
     } else {
         Location::Exterior
@@ -74,11 +88,4 @@ fn is_listed(listed: &[GridPoint], p: &RatPoint) -> bool
     listed
         .iter()
         .any(|position| RatPoint::of_grid(*position) == *p)
-}
-
-/// Whether the point lies on some of these segments.
-fn is_on_some(segments: &[Segment], p: &RatPoint) -> bool
-    ensures { result ≡ list_any (λ e. on e p.now) segments.now }
-{
-    segments.iter().any(|segment| on(segment, p))
 }

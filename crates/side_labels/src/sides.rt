@@ -1,9 +1,11 @@
 //! Where the two sides of a piece stand in a geometry, asked at a point within it.
 
 ghost use Rattle.std.specs.Prelude.{◌≡◌, if◌then◌else◌};
+ghost use Rattle.geometry_model.specs.Geometries.{edges};
 ghost use Rattle.geometry_model.specs.Labels as spec;
+ghost use Rattle.edge_boxes.specs.EdgeCrossings.{AreCrossings};
 
-use crate::crossings::{is_odd_above, is_odd_at_or_above};
+use edge_boxes::Crossings;
 use fraction::RatPoint;
 use geometry_model::{Kind, Location};
 use validity::Valid;
@@ -15,7 +17,7 @@ pub fn below(valid: &Valid, p: &RatPoint) -> Location
     ensures { result ≡ spec.below valid.now p.now }
 {
     match valid.kind() {
-        Kind::Area => if_inside(is_odd_at_or_above(valid.segments(), p)),
+        Kind::Area => if_inside(crossings(valid, p).odd_at_or_above),
         Kind::Point | Kind::Line => Location::Exterior,
     }
 }
@@ -26,9 +28,16 @@ pub fn above(valid: &Valid, p: &RatPoint) -> Location
     ensures { result ≡ spec.above valid.now p.now }
 {
     match valid.kind() {
-        Kind::Area => if_inside(is_odd_above(valid.segments(), p)),
+        Kind::Area => if_inside(crossings(valid, p).odd_above),
         Kind::Point | Kind::Line => Location::Exterior,
     }
+}
+
+/// How the point lies to the edges of a geometry.
+fn crossings(valid: &Valid, p: &RatPoint) -> Crossings
+    ensures { AreCrossings result (edges valid.now) p.now }
+{
+    valid.boxes().crossings(valid.segments(), p)
 }
 
 /// The interior where the point is inside, else the exterior.

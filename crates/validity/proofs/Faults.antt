@@ -5,7 +5,7 @@ use Rattle.geometry_model.specs.Geometries.{Geometry}
 use Rattle.geometry_model.specs.Validity.{HasFault, IsValid}
 use Rattle.geometry_model.specs.FirstFaults.{validity_fault}
 use Rattle.geometry_model.specs.declared.validity_faults.ValidityFault.{ValidityFault}
-use Rattle.validity.specs.CheckFaults.{fault_in, IsFirstFaultOf, IsStandingFaultOf}
+use Rattle.validity.specs.CheckFaults.{fault_in, IsFaultOf, IsFirstFaultOf, IsStandingFaultOf}
 use Rattle.validity.specs.declared.check_fault.CheckFault.{CheckFault}
 use Rattle.validity_laws.specs.FaultLaws.{IsFirst}
 use Rattle.validity_laws.proofs.FirstPlace.{first_fault_is_first}
@@ -21,3 +21,7 @@ first_stands g refusal fault tells found = subst (λ o. MatchOption o (Unit {0})
 -- and it stands
 pub found_stands : (g : Geometry) (refusal : CheckFault) (fault : ValidityFault) → fault_in refusal ≡ Some fault → validity_fault g ≡ Some fault → IsStandingFaultOf g refusal
 found_stands g refusal fault tells found = subst (λ o. MatchOption o (Unit {0}) (λ f. HasFault g f)) (sym tells) (first_fault_is_first g fault found).stands
+
+-- the refusal is of the fault that is found
+pub found_is_told : (g : Geometry) (refusal : CheckFault) (fault : ValidityFault) → fault_in refusal ≡ Some fault → validity_fault g ≡ Some fault → IsFaultOf g refusal
+found_is_told g refusal fault tells found = subst (λ o. MatchOption o (Unit {0}) (λ f. validity_fault g ≡ Some f)) (sym tells) found

@@ -1,7 +1,15 @@
--- What is true of each edge that is kept.
+-- What is true of each edge that is kept, and of what is kept of a valid geometry.
 use Rattle.std.specs.Prelude.{◌≢◌}
-use Rattle.geometry_model.specs.Geometries.{Edge}
+use Rattle.geometry_model.specs.Geometries.{Geometry, Edge, edges}
+use Rattle.geometry_model.specs.Validity.{IsValid}
+use Rattle.edge_boxes.specs.BoxLists.{BoxesOf}
+use Rattle.edge_boxes.specs.declared.boxes.EdgeBoxes.{EdgeBoxes}
 
 -- the ends of an edge differ (06-103r4, 6.1.7: Line)
 abbrev pub HasLength : Edge → Type 0
 HasLength edge = edge.start ≢ edge.end
+
+-- the geometry has no fault, and the boxes are those of its edges (06-103r4, 6.1.7 and 6.1.11)
+pub record IsKept (g : Geometry) (boxes : EdgeBoxes) : Type 0 where
+  pub valid : IsValid g
+  pub over_edges : BoxesOf boxes (edges g)

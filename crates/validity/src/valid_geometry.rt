@@ -4,11 +4,13 @@ ghost use Rattle.std.specs.Prelude.{◌≡◌, IfOk, OnOk, IfErr, None};
 ghost use Rattle.geometry_model.specs.Geometries as spec;
 ghost use Rattle.geometry_model.specs.Validity.{IsValid};
 ghost use Rattle.geometry_model.specs.FirstFaults.{validity_fault};
+ghost use Rattle.edge_boxes.specs.BoxLists.{BoxesOf};
 ghost use Rattle.validity.specs.CheckFaults.{IsFaultOf, IsStandingFaultOf, IsFirstFaultOf};
 
 use crate::check_fault::CheckFault;
 use crate::first_faults::first_fault;
 use crate::outlines::Outline;
+use edge_boxes::EdgeBoxes;
 use geometry_model::Kind;
 use orient::Segment;
 use std::alloc::Global;
@@ -19,17 +21,19 @@ use wkt::Geometry;
 #[derive(Debug, Drop)]
 pub struct Valid {
     outline: Outline,
+    /// The boxes over its edges.
+    boxes: EdgeBoxes,
 }
 
 impl Model for Valid {
     ghost use Rattle.geometry_model.specs.Geometries as spec;
-    ghost use Rattle.geometry_model.specs.Validity.{IsValid};
+    ghost use Rattle.validity.specs.ValidGeometries.{IsKept};
 
     ghost Value = { spec.Geometry };
 
     ghost view = { λ v. v.outline };
 
-    ghost invariant = { λ v. IsValid v.outline };
+    ghost invariant = { λ v. IsKept v.outline v.boxes };
 }
 
 impl Valid {
@@ -61,6 +65,13 @@ impl Valid {
     {
         self.outline.segments()
     }
+
+    /// Lends the list of boxes over its edges.
+    pub fn boxes(&self) -> &EdgeBoxes
+        ensures { BoxesOf result.now (spec.edges self.now) }
+    {
+        &self.boxes
+    }
 }
 
 /// Takes a geometry as valid where it has no fault, and otherwise answers its first fault: the faults are tested in
@@ -76,8 +87,9 @@ pub fn check(alloc: Global, geometry: Geometry) -> Result<Valid, CheckFault>
     ensures first { IfErr result (IsFirstFaultOf geometry) }
 {
     let outline = Outline::of(alloc, geometry)?;
+    let boxes = EdgeBoxes::build(alloc, outline.segments())?;
     match first_fault(&outline) {
         Some(fault) => Err(CheckFault::of(fault)),
-        None => Ok(Valid { outline }),
+        None => Ok(Valid { outline, boxes }),
     }
 }

@@ -1,6 +1,7 @@
 use Rattle.std.proofs.Common.{sym, ap, ◌∙◌}
 use Rattle.geometry_model.specs.FirstFaults.{validity_fault}
-use Rattle.validity.proofs.Faults.{first_stands, found_stands}
+use Rattle.validity.proofs.Faults.{first_stands, found_is_told, found_stands}
+use Rattle.validity.proofs.Kept.{is_kept}
 use Rattle.validity.proofs.valid_geometry.check.Goals as goal
 
 pub returns-in-Some-clause-first : goal.returns-in-Some-clause-first
@@ -10,3 +11,10 @@ returns-in-Some-clause-first c = first_stands c.args.geometry c.of-in-Some.resul
 pub returns-in-Some-clause-stands : goal.returns-in-Some-clause-stands
 returns-in-Some-clause-stands c = found_stands c.args.geometry c.of-in-Some.result c.in-Some.fault c.of-in-Some.ensures
     (ap validity_fault (sym c.in_ok-outline.ensures) ∙ (sym c.first_fault.ensures ∙ c.in-Some.is))
+
+pub returns-in-Some-clause-fault : goal.returns-in-Some-clause-fault
+returns-in-Some-clause-fault c = found_is_told c.args.geometry c.of-in-Some.result c.in-Some.fault c.of-in-Some.ensures
+    (ap validity_fault (sym c.in_ok-outline.ensures) ∙ (sym c.first_fault.ensures ∙ c.in-Some.is))
+
+pub invariant_of-result : goal.invariant_of-result
+invariant_of-result c = is_kept c.in_ok-outline.outline c.segments.result.now c.in_ok-boxes.boxes c.segments.ensures c.in_ok-boxes.ensures (sym c.first_fault.ensures ∙ c.in-None.is)
