@@ -5,6 +5,8 @@ ghost use Rattle.geometry_model.specs.Geometries as spec;
 ghost use Rattle.geometry_model.specs.Validity.{IsValid};
 ghost use Rattle.geometry_model.specs.FirstFaults.{validity_fault};
 ghost use Rattle.validity.specs.CheckFaults.{IsFaultOf, IsStandingFaultOf, IsFirstFaultOf};
+ghost use Rattle.validity.specs.PolygonPromises.{HolesAreCutOut, HolesAreInside, InteriorByElements, ElementsAreApart};
+ghost use Rattle.validity.specs.PolygonPromises.{StretchesStay, OutsideIsExterior, RingsPart, RingsHaveSides};
 
 use crate::check_fault::CheckFault;
 use crate::first_faults::first_fault;
@@ -71,6 +73,14 @@ pub fn check(alloc: Global, geometry: Geometry) -> Result<Valid, CheckFault>
     ensures same { IfOk result (λ valid. valid ≡ geometry) }
     ensures valid { OnOk result (IsValid geometry) }
     ensures faultless { OnOk result (validity_fault geometry ≡ None) }
+    ensures holes { OnOk result (HolesAreCutOut geometry) }
+    ensures nested { OnOk result (HolesAreInside geometry) }
+    ensures elements { OnOk result (InteriorByElements geometry) }
+    ensures apart { OnOk result (ElementsAreApart geometry) }
+    ensures stretches { OnOk result (StretchesStay geometry) }
+    ensures outside { OnOk result (OutsideIsExterior geometry) }
+    ensures parted { OnOk result (RingsPart geometry) }
+    ensures sides { OnOk result (RingsHaveSides geometry) }
     ensures fault { IfErr result (IsFaultOf geometry) }
     ensures stands { IfErr result (IsStandingFaultOf geometry) }
     ensures first { IfErr result (IsFirstFaultOf geometry) }
