@@ -15,8 +15,8 @@ pub no_fault_valid : (g : Geometry) → validity_fault g ≡ None → IsValid g
 no_fault_valid g none = (none_is_found_where_valid g).0 none
 
 -- the same where nothing was found in an equal geometry
-pub none_found_valid : (g h : Geometry) (found : Option ValidityFault) → h ≡ g → found ≡ validity_fault h → found ≡ None → IsValid g
-none_found_valid g h found same is none = no_fault_valid g (ap validity_fault (sym same) ∙ (sym is ∙ none))
+pub none_found_valid : {g h : Geometry} {found : Option ValidityFault} → h ≡ g → found ≡ validity_fault h → found ≡ None → IsValid g
+none_found_valid {g} same is none = no_fault_valid g (ap validity_fault (sym same) ∙ (sym is ∙ none))
 
 -- the fault that is found is the first that stands
 pub first_stands : (g : Geometry) (refusal : CheckFault) (fault : ValidityFault) → fault_in refusal ≡ Some fault → validity_fault g ≡ Some fault → IsFirstFaultOf g refusal

@@ -67,7 +67,8 @@ impl Valid {
 
 /// Takes a geometry as valid where it has no fault, and otherwise answers its first fault: the faults are tested in
 /// their order, V1 to V8, and within one the least numbers first (06-103r4, 6.1.7, 6.1.11.1 and 6.1.14; the order is
-/// this project's). Points need no test. It may fail for want of memory too.
+/// this project's). Points need no test. It may fail for want of memory too. Of a geometry that is taken the interior
+/// is what its elements' outer rings hold less the holes, and the rings part it from the exterior (06-103r4, 6.1.11.1).
 #[tactic(auto, using(crate::proofs::Faults::no_fault_valid))]
 pub fn check(alloc: Global, geometry: Geometry) -> Result<Valid, CheckFault>
     ensures same { IfOk result (λ valid. valid ≡ geometry) }
