@@ -58,14 +58,14 @@ numbered rs first (d ∷ es) (inr a) = go (numbered rs (first + length d) es a)
     }
 
 -- ---- a polygon alone
-only : {X : Type 0} (x y : X) → Among x (y ∷ []) → x ≡ y
+pub only : {X : Type 0} (x y : X) → Among x (y ∷ []) → x ≡ y
 only x y (inl e) = e
 only x y (inr a) = absurd a
 
 rings_of : (e : Element) (rs : List (List Position)) → Contains (elements_from 0 (rs ∷ [])) e → e.rings ≡ rs
 rings_of e rs c = ap (λ (d : Element). d.rings) (only e (element_at 0 rs) (among_from_contains (element_at 0 rs ∷ []) e c))
 
-no_pair : {X : Type 0} (x d e : X) (i j : ℕ) → (i ≡ j → ⊥) → slice_get (x ∷ []) i ≡ Some d → slice_get (x ∷ []) j ≡ Some e → ⊥
+pub no_pair : {X : Type 0} (x d e : X) (i j : ℕ) → (i ≡ j → ⊥) → slice_get (x ∷ []) i ≡ Some d → slice_get (x ∷ []) j ≡ Some e → ⊥
 no_pair x d e zero zero n g h = n refl
 no_pair x d e (suc i) j n g h = absurd (cc)
 no_pair x d e zero (suc j) n g h = absurd (cc)

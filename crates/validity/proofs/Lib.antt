@@ -4,5 +4,6 @@ pub mod Finding
 pub mod Kept
 pub mod OutlineFacts
 pub mod PartFacts
+pub mod PolygonPromises
 pub mod Polygons
 pub mod RingNumbers

@@ -1,4 +1,5 @@
 pub mod CheckFaults
 pub mod FaultOrder
 pub mod Outlines
+pub mod PolygonPromises
 pub mod ValidGeometries

@@ -6,6 +6,8 @@ ghost use Rattle.geometry_model.specs.Validity.{IsValid};
 ghost use Rattle.geometry_model.specs.FirstFaults.{validity_fault};
 ghost use Rattle.edge_boxes.specs.BoxLists.{BoxesOf};
 ghost use Rattle.validity.specs.CheckFaults.{IsFaultOf, IsStandingFaultOf, IsFirstFaultOf};
+ghost use Rattle.validity.specs.PolygonPromises.{HolesAreCutOut, HolesAreInside, InteriorByElements, ElementsAreApart};
+ghost use Rattle.validity.specs.PolygonPromises.{StretchesStay, OutsideIsExterior, RingsPart, RingsHaveSides};
 
 use crate::check_fault::CheckFault;
 use crate::first_faults::first_fault;
@@ -76,12 +78,21 @@ impl Valid {
 
 /// Takes a geometry as valid where it has no fault, and otherwise answers its first fault: the faults are tested in
 /// their order, V1 to V8, and within one the least numbers first (06-103r4, 6.1.7, 6.1.11.1 and 6.1.14; the order is
-/// this project's). Points need no test. It may fail for want of memory too.
+/// this project's). Points need no test. It may fail for want of memory too. Of a geometry that is taken the interior
+/// is what its elements' outer rings hold less the holes, and the rings part it from the exterior (06-103r4, 6.1.11.1).
 #[tactic(auto, using(crate::proofs::Faults::no_fault_valid))]
 pub fn check(alloc: Global, geometry: Geometry) -> Result<Valid, CheckFault>
     ensures same { IfOk result (λ valid. valid ≡ geometry) }
     ensures valid { OnOk result (IsValid geometry) }
     ensures faultless { OnOk result (validity_fault geometry ≡ None) }
+    ensures holes { OnOk result (HolesAreCutOut geometry) }
+    ensures nested { OnOk result (HolesAreInside geometry) }
+    ensures elements { OnOk result (InteriorByElements geometry) }
+    ensures apart { OnOk result (ElementsAreApart geometry) }
+    ensures stretches { OnOk result (StretchesStay geometry) }
+    ensures outside { OnOk result (OutsideIsExterior geometry) }
+    ensures parted { OnOk result (RingsPart geometry) }
+    ensures sides { OnOk result (RingsHaveSides geometry) }
     ensures fault { IfErr result (IsFaultOf geometry) }
     ensures stands { IfErr result (IsStandingFaultOf geometry) }
     ensures first { IfErr result (IsFirstFaultOf geometry) }
