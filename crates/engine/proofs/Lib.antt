@@ -3,3 +3,4 @@ pub mod ScanLemmas
 pub mod ReaderLemmas
 pub mod RunLemmas
 pub mod PutLemmas
+pub mod RelationLemmas

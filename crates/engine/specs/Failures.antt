@@ -21,7 +21,6 @@ failure_text (f.Load table fault) = load_text table.now fault
 failure_text (f.TableUnreadable table) = table.now ++ codes " unreadable"
 failure_text (f.Query fault) = query_text fault
 failure_text (f.Refused word fault) = word_text word ++ (codes " " ++ geometry_text fault)
-failure_text (f.NotServed word) = word_text word ++ codes " not served yet"
 failure_text f.WriteFailed = codes "write failed"
 failure_text f.OutOfMemory = memory_text
 
@@ -37,7 +36,6 @@ failure_status (f.Load table fault) = load_status fault
 failure_status (f.TableUnreadable table) = 6
 failure_status (f.Query fault) = query_status fault
 failure_status (f.Refused word fault) = 5
-failure_status (f.NotServed word) = 5
 failure_status f.WriteFailed = 6
 failure_status f.OutOfMemory = 7
 

@@ -2,13 +2,11 @@
 use Rattle.std.specs.Prelude.{◌≡◌, ◌⊎◌, ℕ, List, Option, Some, None, Result, Ok, Err}
 use Rattle.geometry_model.specs.CheckedTexts.{tested}
 use Rattle.geometry_model.specs.Dimensions.{IsMatrix, Matrix}
-use Rattle.geometry_model.specs.Geometries.{Geometry, kind}
-use Rattle.geometry_model.specs.Labels.{labelled_matrix}
+use Rattle.geometry_model.specs.Geometries.{Geometry}
 use Rattle.geometry_model.specs.TextReading.{read_text}
 use Rattle.geometry_model.specs.WellKnownText.{Spells}
 use Rattle.geometry_model.specs.declared.geometry_faults.GeometryFault.{GeometryFault}
-use Rattle.geometry_model.specs.declared.shapes.Kind.{Kind}
-use Rattle.geometry_model.specs.declared.shapes.Kind.TheVariants as kinds
+use Rattle.table_model.specs.RunOutcomes.{MatrixOf}
 use Rattle.engine.specs.declared.failure.Failure.{Failure}
 use Rattle.engine.specs.declared.failure.Failure.TheVariants as f
 use Rattle.engine.specs.declared.failure.GeometryWord.{GeometryWord}
@@ -23,24 +21,16 @@ or_refused word (Err fault) = Err (f.Refused word fault)
 abbrev pub geometry_in_word : GeometryWord → List ℕ → Result Geometry Failure
 geometry_in_word word text = or_refused word (tested (read_text text))
 
--- the matrix of two geometries of these kinds: that of others than points isn't served yet
-abbrev pub served_matrix : Kind → Kind → Geometry → Geometry → Result Matrix Failure
-served_matrix kinds.Point kinds.Point a b = Ok (labelled_matrix a b)
-served_matrix kinds.Point kinds.Line a b = Err (f.NotServed Second)
-served_matrix kinds.Point kinds.Area a b = Err (f.NotServed Second)
-served_matrix kinds.Line _ a b = Err (f.NotServed First)
-served_matrix kinds.Area _ a b = Err (f.NotServed First)
-
 -- a step after another; a failure stays
 abbrev pub and_then : {A B : Type 0} → Result A Failure → (A → Result B Failure) → Result B Failure
 and_then (Ok a) step = step a
 and_then (Err failure) step = Err failure
 
--- the matrix of the geometries that two texts spell, or the first failure: the first text is read and tested before the
--- second, and both before a kind is refused (06-103r4, 6.1.15.2; the order: this project's choice)
-abbrev pub relation : List ℕ → List ℕ → Result Matrix Failure
-relation first second =
-    and_then (geometry_in_word First first) (λ a. and_then (geometry_in_word Second second) (λ b. served_matrix (kind a) (kind b) a b))
+-- the matrix that a function gives of the geometries that two texts spell, or the first refusal: the first text is read and
+-- tested before the second (06-103r4, 6.1.15.2; the order: this project's choice)
+abbrev pub relation : MatrixOf → List ℕ → List ℕ → Result Matrix Failure
+relation matrix first second =
+    and_then (geometry_in_word First first) (λ a. and_then (geometry_in_word Second second) (λ b. Ok (matrix a b)))
 
 -- the texts spell two geometries whose DE-9IM matrix this is, over their interiors, boundaries and exteriors as sets of
 -- points (06-103r4, 6.1.15.2 and 7.2)

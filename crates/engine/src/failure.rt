@@ -34,8 +34,6 @@ pub enum Failure<'a> {
     Query(QueryFault),
     /// The text of this geometry spells none, or one that isn't valid.
     Refused(GeometryWord, GeometryFault),
-    /// This geometry is of a kind whose matrix isn't served yet.
-    NotServed(GeometryWord),
     /// The answer can't be written.
     WriteFailed,
     /// Memory ran out.
@@ -103,7 +101,7 @@ pub fn status(failure: &Failure<'_>) -> u8
         | Failure::WriteFailed => 6,
         Failure::Schema(_) => 3,
         Failure::Load(_, _) => 4,
-        Failure::Query(_) | Failure::Refused(_, _) | Failure::NotServed(_) => 5,
+        Failure::Query(_) | Failure::Refused(_, _) => 5,
     }
 }
 
@@ -231,7 +229,6 @@ fn failure_words<'a>(failure: &Failure<'a>) -> Words<'a>
         Failure::TableUnreadable(table) => Words::plain(table, " unreadable"),
         Failure::Query(fault) => query_words(fault),
         Failure::Refused(word, fault) => refused_words(word, fault),
-        Failure::NotServed(word) => unserved_words(word),
         Failure::WriteFailed => Words::plain("", "write failed"),
         Failure::OutOfMemory => Words::plain("", "out of memory"),
     }
@@ -243,15 +240,6 @@ fn refused_words<'a>(word: GeometryWord, fault: GeometryFault) -> Words<'a>
     match word {
         GeometryWord::First => Words::of_fault("first", fault),
         GeometryWord::Second => Words::of_fault("second", fault),
-    }
-}
-
-fn unserved_words<'a>(word: GeometryWord) -> Words<'a>
-    ensures { words_text result ≡ word_text word ++ codes " not served yet" }
-{
-    match word {
-        GeometryWord::First => Words::plain("first", " not served yet"),
-        GeometryWord::Second => Words::plain("second", " not served yet"),
     }
 }
 

@@ -3,28 +3,31 @@
 ghost use Rattle.std.specs.Prelude.{◌≡◌, Result, Ok, Err, IfOk, IfErr, IfSome, option_map};
 ghost use Rattle.geometry_model.specs.CheckedTexts.{tested};
 ghost use Rattle.geometry_model.specs.Dimensions.{IsMatrix};
-ghost use Rattle.geometry_model.specs.Geometries.{Geometry, kind};
+ghost use Rattle.geometry_model.specs.Geometries.{Geometry};
+ghost use Rattle.geometry_model.specs.Validity.{IsValid};
 ghost use Rattle.geometry_model.specs.WellKnownText.{Spells};
 ghost use Rattle.geometry_model.specs.declared.geometry_faults.GeometryFault.TheVariants as g;
 ghost use Rattle.geometry_model.specs.declared.text_faults.TextFault.{TextFault};
 ghost use Rattle.validity.specs.CheckFaults.{IsFaultOf, fault_in};
 ghost use Rattle.wkt.specs.TextFaults.{text_fault};
-ghost use Rattle.engine.specs.Relations.{IsFailureOf, RelatesTexts, geometry_in_word, or_refused, refused_or_memory, relation, served_matrix};
+ghost use Rattle.table_model.specs.RunOutcomes.{ByEveryMatrix, MatrixOf};
+ghost use Rattle.engine.specs.Relations.{IsFailureOf, RelatesTexts, geometry_in_word, or_refused, refused_or_memory, relation};
+ghost use Rattle.engine.specs.declared.failure.Failure.TheVariants as f;
 
 use crate::failure::{Failure, GeometryWord};
 use de9im::{Matrix, Work, relate};
-use geometry_model::{GeometryFault, Kind};
+use geometry_model::GeometryFault;
 use std::alloc::Global;
 use validity::{CheckFault, Valid, check};
 use wkt::{WktFault, read};
 
-/// The DE-9IM matrix of the geometries that two texts spell. The first text is read and checked before the second, and
-/// both before a geometry is refused that isn't of points, whose matrix isn't served yet. It fails for want of memory
-/// too. (06-103r4, 6.1.15.2; the order is this project's.)
+/// The DE-9IM matrix of the valid geometries that two texts spell, of any types. Where a text spells none, or one that
+/// isn't valid, it is refused: the first text is read and checked before the second. It fails for want of memory too.
+/// (06-103r4, 6.1.15.2; the order is this project's.)
 pub fn relate_texts(alloc: Global, first: &[u8], second: &[u8]) -> Result<Matrix, Failure<'static>>
-    ensures ok { IfOk result (λ m. relation first.now second.now ≡ Ok m) }
+    ensures ok { ByEveryMatrix (λ matrix. IfOk result (λ m. relation matrix first.now second.now ≡ Ok m)) }
     ensures point_sets { IfOk result (RelatesTexts first.now second.now) }
-    ensures failure { IfErr result (IsFailureOf (relation first.now second.now)) }
+    ensures failure { (matrix : MatrixOf) → IfErr result (IsFailureOf (relation matrix first.now second.now)) }
 {
     let first = geometry_of(alloc, GeometryWord::First, first)?;
     let second = geometry_of(alloc, GeometryWord::Second, second)?;
@@ -35,6 +38,7 @@ pub fn relate_texts(alloc: Global, first: &[u8], second: &[u8]) -> Result<Matrix
 fn geometry_of(alloc: Global, word: GeometryWord, text: &[u8]) -> Result<Valid, Failure<'static>>
     ensures ok { IfOk result (λ g. geometry_in_word word text.now ≡ Ok g) }
     ensures spelled { IfOk result (λ g. Spells text.now g) }
+    ensures valid { IfOk result IsValid }
     ensures failure { IfErr result (IsFailureOf (geometry_in_word word text.now)) }
 {
     let geometry = match read(alloc, text) {
@@ -70,18 +74,11 @@ fn validity_failure(word: GeometryWord, fault: CheckFault) -> Failure<'static>
     }
 }
 
-// The matrix of two geometries, where they are of points.
+// The matrix of two geometries.
 fn matrix_of(alloc: Global, first: &Valid, second: &Valid) -> Result<Matrix, Failure<'static>>
-    ensures ok { IfOk result (λ m. served_matrix (kind first.now) (kind second.now) first.now second.now ≡ Ok m) }
-    ensures point_sets { IfOk result (λ m. IsMatrix first.now second.now m) }
-    ensures failure { IfErr result (IsFailureOf (served_matrix (kind first.now) (kind second.now) first.now second.now)) }
+    ensures point_sets { IfOk result (IsMatrix first.now second.now) }
+    ensures failure { IfErr result (λ failure. failure ≡ f.OutOfMemory) }
 {
-    if first.kind() != Kind::Point {
-        return Err(Failure::NotServed(GeometryWord::First));
-    }
-    if second.kind() != Kind::Point {
-        return Err(Failure::NotServed(GeometryWord::Second));
-    }
     match relate(alloc, first, second, &mut Work::new()) {
         Ok(matrix) => Ok(matrix),
         Err(_) => Err(Failure::OutOfMemory),

@@ -248,6 +248,16 @@ fn geometries_are_related(rt: HostRuntime) -> Result<(), Fail> {
         ("POINT EMPTY", "multipoint empty", "FFFFFFFF2\n"),
         ("POINT(1.0 2)", "POINT(0 0)", "FF0FFF0F2\n"),
         ("POINT(1. .0)", "POINT(0 0)", "FF0FFF0F2\n"),
+        (
+            "LINESTRING(0 0,3 1)",
+            "LINESTRING(0 1,2 0)",
+            "0F1FF0102\n",
+        ),
+        (
+            "POLYGON((0 0,4 0,4 4,0 4,0 0))",
+            "POLYGON((4 0,8 0,8 4,4 4,4 0))",
+            "FF2F11212\n",
+        ),
     ] {
         let run = relate(&rt, first, second)?;
         assert!(rt; run.is(matrix, "", 0));
@@ -264,10 +274,11 @@ fn geometries_are_refused(rt: HostRuntime) -> Result<(), Fail> {
         ("LINESTRING(3 3,3 3)", "POINT(0 0)", "sfq: first V1 0\n"),
         ("LINESTRING(0 0,1 1)", "POINT(0 0", "sfq: second W1 at 9\n"),
         (
-            "POINT(0 0)",
-            "LINESTRING EMPTY",
-            "sfq: second not served yet\n",
+            "POLYGON((0 0,4 0,4 4,0 4,0 0),(0 2,1 1,1 3,0 2))",
+            "POINT(1.5 2)",
+            "sfq: first V4 0 1\n",
         ),
+        ("POINT(0 0)", "POINT(10000001 0)", "sfq: second W3 at 6\n"),
     ] {
         let run = relate(&rt, first, second)?;
         assert!(rt; run.is("", line, 5));

@@ -92,3 +92,50 @@ fn matrices_that_are_told_otherwise_elsewhere(rt: HostRuntime) -> Result<(), Fai
     assert_eq!(rt; first_wrong(rt.alloc(), ELSEWHERE)?, None);
     Ok(())
 }
+
+/// Crossings at points off the grid, on or beside other segments: a rounded crossing gives other matrices.
+#[test]
+fn crossings_are_exact(rt: HostRuntime) -> Result<(), Fail> {
+    let alloc = rt.alloc();
+    for (first, second, text) in [
+        (
+            "LINESTRING(3 1,0 0)",
+            "MULTILINESTRING((3 0,0 2),(3 1,0 0))",
+            b"1FFF0F102",
+        ),
+        (
+            "LINESTRING(1 0,5 4,5 -1,0 6)",
+            "LINESTRING(1 0,3 2,5 4,5 -1,0 6)",
+            b"1FFF0FFF2",
+        ),
+        (
+            "MULTILINESTRING((6 5,3 2),(-5 5,5 3))",
+            "LINESTRING(6 5,4 3)",
+            b"101F00FF2",
+        ),
+        (
+            "LINESTRING(0 1,-1 0,-1 1,1 0,0 1)",
+            "MULTILINESTRING((0 1,1 -1,-1 -1,1 0),(-1 1,1 0,-1 0))",
+            b"101FFF1F2",
+        ),
+        (
+            "LINESTRING(1 0,0 1,-1 0,1 1,1 0)",
+            "POLYGON((1 1,-1 0,0 -1,1 1))",
+            b"111FFF212",
+        ),
+        (
+            "MULTILINESTRING((17 24,-30 -56),(8 26,-23 -148))",
+            "POLYGON((3 0,7 8,-6 0,3 0))",
+            b"101FF0212",
+        ),
+        (
+            "POLYGON((1 -1,0 -1,3 3,1 -1))",
+            "LINESTRING(2 1,1 0,3 2)",
+            b"1F2F01102",
+        ),
+    ] {
+        assert_eq!(rt; related(alloc, first, second)?, *text);
+        assert_eq!(rt; related(alloc, second, first)?, turned(text));
+    }
+    Ok(())
+}
