@@ -22,9 +22,19 @@ impl Model for Bounds {
 
     ghost Value = { Envelope };
 
-    ghost view = { λ b. record { least_x = b.least_x; greatest_x = b.greatest_x; least_y = b.least_y; greatest_y = b.greatest_y } };
+    ghost view = { λ b. record {
+      least_x = b.least_x;
+      greatest_x = b.greatest_x;
+      least_y = b.least_y;
+      greatest_y = b.greatest_y;
+    } };
 
-    ghost inverse = { λ b. record { least_x = b.least_x; greatest_x = b.greatest_x; least_y = b.least_y; greatest_y = b.greatest_y } };
+    ghost inverse = { λ b. record {
+      least_x = b.least_x;
+      greatest_x = b.greatest_x;
+      least_y = b.least_y;
+      greatest_y = b.greatest_y;
+    } };
 }
 
 impl Bounds {
@@ -62,7 +72,12 @@ impl Bounds {
 
 /// The bounds of two positions.
 fn of_ends(sx: i32, sy: i32, tx: i32, ty: i32) -> Bounds
-    ensures { result ≡ record { least_x = int_min sx tx; greatest_x = int_max sx tx; least_y = int_min sy ty; greatest_y = int_max sy ty } }
+    ensures { result ≡ record {
+      least_x = int_min sx tx;
+      greatest_x = int_max sx tx;
+      least_y = int_min sy ty;
+      greatest_y = int_max sy ty;
+    } }
 {
     Bounds {
         least_x: sx.min(tx),

@@ -36,7 +36,8 @@ const NONE: Crossings = Crossings {
 impl Crossings {
     /// How a point lies to two lists of edges, one behind the other.
     pub(crate) fn join(self, later: Crossings) -> Crossings
-        ensures { (p : Point) (xs ys : List Edge) → AreCrossings self xs p → AreCrossings later ys p → AreCrossings result (xs ++ ys) p }
+        ensures { (p : Point) (xs ys : List Edge) → AreCrossings self xs p → AreCrossings later ys p
+            → AreCrossings result (xs ++ ys) p }
     {
         Crossings {
             on: self.on | later.on,

@@ -24,7 +24,8 @@ pub(crate) fn push_asked(
     found: &mut Vec<usize>,
 ) -> Result<(), AllocError>
     requires { AreBoxes boxes.now edges.now }
-    ensures { OnOk result (found.new.items ≡ found.old.items ++ reverse (places_asked asked.now 0 edges.now)) }
+    ensures { OnOk result
+        (found.new.items ≡ found.old.items ++ reverse (places_asked asked.now 0 edges.now)) }
 {
     let mut place = boxes.len();
     push_run(edges, covered(boxes, place), edges.len(), asked, found)?;
@@ -45,7 +46,8 @@ fn push_step(
     requires boxes { AreBoxes boxes.now edges.now }
     requires first { 0 < place }
     requires last { place ≤ length boxes.now }
-    ensures { IfOk result (λ next. IsAskedStep boxes.now edges.now asked.now place next found.old.items found.new.items) }
+    ensures { IfOk result
+        (λ next. IsAskedStep boxes.now edges.now asked.now place next found.old.items found.new.items) }
 {
     let last = &boxes[place - 1];
     if !last.run.bounds.overlap(&asked.bounds) {
@@ -74,7 +76,8 @@ fn push_run(
 ) -> Result<(), AllocError>
     requires ordered { first ≤ end }
     requires within { end ≤ length edges.now }
-    ensures { OnOk result (found.new.items ≡ found.old.items ++ reverse (places_asked asked.now first (slice_range edges.now first end))) }
+    ensures { OnOk result (found.new.items
+        ≡ found.old.items ++ reverse (places_asked asked.now first (slice_range edges.now first end))) }
 {
     let mut at = end;
     while first < at {

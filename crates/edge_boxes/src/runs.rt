@@ -35,7 +35,8 @@ fn ends_of(edge: &Segment) -> Ends
 
 /// The ends of two runs, one behind the other: a chain where the one goes on from the other, or is closed.
 fn join_ends(first: Ends, second: Ends) -> Ends
-    ensures { (xs ys : List Edge) → SumsUpEnds first xs → SumsUpEnds second ys → SumsUpEnds result (xs ++ ys) }
+    ensures { (xs ys : List Edge) → SumsUpEnds first xs → SumsUpEnds second ys
+        → SumsUpEnds result (xs ++ ys) }
 {
     let both = first.is_chain & second.is_chain;
     if first.last_x == second.first_x {

@@ -35,8 +35,10 @@ fn put_line<'l, S: Sink>(
     method: &'l [u8],
     number: &'l str,
 ) -> Result<(), SinkFault>
-    ensures ok { OnOk result (Appends (S.taken sink.old) (S.taken sink.new) (role.now ++ codes " " ++ name.now ++ codes " " ++ (method.now ++ number.now) ++ codes "\n")) }
-    ensures front { OnErr result (AppendsFront (S.taken sink.old) (S.taken sink.new) (role.now ++ codes " " ++ name.now ++ codes " " ++ (method.now ++ number.now) ++ codes "\n")) }
+    ensures ok { OnOk result (Appends (S.taken sink.old) (S.taken sink.new)
+        (role.now ++ codes " " ++ name.now ++ codes " " ++ (method.now ++ number.now) ++ codes "\n")) }
+    ensures front { OnErr result (AppendsFront (S.taken sink.old) (S.taken sink.new)
+        (role.now ++ codes " " ++ name.now ++ codes " " ++ (method.now ++ number.now) ++ codes "\n")) }
     ensures failures { CountsFailure (S.failures sink.old) (S.failures sink.new) result }
 {
     let parts = [role, b" ", name, b" ", method, number.as_bytes(), b"\n"];
@@ -50,8 +52,10 @@ fn put_access<S: Sink>(
     role: &[u8],
     access: Access,
 ) -> Result<(), SinkFault>
-    ensures ok { OnOk result (Appends (S.taken sink.old) (S.taken sink.new) (access_line references.now role.now access)) }
-    ensures front { OnErr result (AppendsFront (S.taken sink.old) (S.taken sink.new) (access_line references.now role.now access)) }
+    ensures ok { OnOk result
+        (Appends (S.taken sink.old) (S.taken sink.new) (access_line references.now role.now access)) }
+    ensures front { OnErr result
+        (AppendsFront (S.taken sink.old) (S.taken sink.new) (access_line references.now role.now access)) }
     ensures failures { CountsFailure (S.failures sink.old) (S.failures sink.new) result }
 {
     let name = name_at(references, access.reference);
@@ -70,8 +74,10 @@ pub(crate) fn put_accesses<S: Sink>(
     references: &[Reference],
     accesses: &[Access],
 ) -> Result<(), SinkFault>
-    ensures ok { OnOk result (Appends (S.taken sink.old) (S.taken sink.new) (access_lines references.now accesses.now)) }
-    ensures front { OnErr result (AppendsFront (S.taken sink.old) (S.taken sink.new) (access_lines references.now accesses.now)) }
+    ensures ok { OnOk result
+        (Appends (S.taken sink.old) (S.taken sink.new) (access_lines references.now accesses.now)) }
+    ensures front { OnErr result
+        (AppendsFront (S.taken sink.old) (S.taken sink.new) (access_lines references.now accesses.now)) }
     ensures failures { CountsFailure (S.failures sink.old) (S.failures sink.new) result }
 {
     if accesses.is_empty() {

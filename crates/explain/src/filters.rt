@@ -12,8 +12,10 @@ use sinks::{Sink, SinkFault, put_all, put_parts};
 
 // Puts a space and the number of the conjunct at a place.
 fn put_place<S: Sink>(sink: &mut S, place: usize) -> Result<(), SinkFault>
-    ensures ok { OnOk result (Appends (S.taken sink.old) (S.taken sink.new) (codes " " ++ conjunct_number place)) }
-    ensures front { OnErr result (AppendsFront (S.taken sink.old) (S.taken sink.new) (codes " " ++ conjunct_number place)) }
+    ensures ok { OnOk result
+        (Appends (S.taken sink.old) (S.taken sink.new) (codes " " ++ conjunct_number place)) }
+    ensures front { OnErr result
+        (AppendsFront (S.taken sink.old) (S.taken sink.new) (codes " " ++ conjunct_number place)) }
     ensures failures { CountsFailure (S.failures sink.old) (S.failures sink.new) result }
 {
     let mut number = Buffer::new();
@@ -23,7 +25,8 @@ fn put_place<S: Sink>(sink: &mut S, place: usize) -> Result<(), SinkFault>
 // Puts a space and a number.
 fn put_number<'l, S: Sink>(sink: &mut S, number: &'l str) -> Result<(), SinkFault>
     ensures ok { OnOk result (Appends (S.taken sink.old) (S.taken sink.new) (codes " " ++ number.now)) }
-    ensures front { OnErr result (AppendsFront (S.taken sink.old) (S.taken sink.new) (codes " " ++ number.now)) }
+    ensures front { OnErr result
+        (AppendsFront (S.taken sink.old) (S.taken sink.new) (codes " " ++ number.now)) }
     ensures failures { CountsFailure (S.failures sink.old) (S.failures sink.new) result }
 {
     let parts = [b" ", number.as_bytes()];
@@ -32,8 +35,10 @@ fn put_number<'l, S: Sink>(sink: &mut S, number: &'l str) -> Result<(), SinkFaul
 
 // Puts the numbers of the conjuncts at these places, with a space before each.
 fn put_places<S: Sink>(sink: &mut S, places: &[usize]) -> Result<(), SinkFault>
-    ensures ok { OnOk result (Appends (S.taken sink.old) (S.taken sink.new) (concat (map (λ k. codes " " ++ conjunct_number k) places.now))) }
-    ensures front { OnErr result (AppendsFront (S.taken sink.old) (S.taken sink.new) (concat (map (λ k. codes " " ++ conjunct_number k) places.now))) }
+    ensures ok { OnOk result (Appends (S.taken sink.old) (S.taken sink.new)
+        (concat (map (λ k. codes " " ++ conjunct_number k) places.now))) }
+    ensures front { OnErr result (AppendsFront (S.taken sink.old) (S.taken sink.new)
+        (concat (map (λ k. codes " " ++ conjunct_number k) places.now))) }
     ensures failures { CountsFailure (S.failures sink.old) (S.failures sink.new) result }
 {
     for place in places {
@@ -44,8 +49,10 @@ fn put_places<S: Sink>(sink: &mut S, places: &[usize]) -> Result<(), SinkFault>
 
 // Puts the line of the filters.
 pub(crate) fn put_filters<S: Sink>(sink: &mut S, filters: &[usize]) -> Result<(), SinkFault>
-    ensures ok { OnOk result (Appends (S.taken sink.old) (S.taken sink.new) (line (codes "filter") (filters_text filters.now))) }
-    ensures front { OnErr result (AppendsFront (S.taken sink.old) (S.taken sink.new) (line (codes "filter") (filters_text filters.now))) }
+    ensures ok { OnOk result
+        (Appends (S.taken sink.old) (S.taken sink.new) (line (codes "filter") (filters_text filters.now))) }
+    ensures front { OnErr result (AppendsFront (S.taken sink.old) (S.taken sink.new)
+        (line (codes "filter") (filters_text filters.now))) }
     ensures failures { CountsFailure (S.failures sink.old) (S.failures sink.new) result }
 {
     if filters.is_empty() {

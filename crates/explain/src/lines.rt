@@ -10,8 +10,10 @@ use sinks::{Sink, SinkFault, put_all, put_parts};
 
 // Puts the line of a word and a number.
 pub(crate) fn put_number<S: Sink>(sink: &mut S, word: &[u8], number: u64) -> Result<(), SinkFault>
-    ensures ok { OnOk result (Appends (S.taken sink.old) (S.taken sink.new) (line word.now (decimal number))) }
-    ensures front { OnErr result (AppendsFront (S.taken sink.old) (S.taken sink.new) (line word.now (decimal number))) }
+    ensures ok { OnOk result
+        (Appends (S.taken sink.old) (S.taken sink.new) (line word.now (decimal number))) }
+    ensures front { OnErr result
+        (AppendsFront (S.taken sink.old) (S.taken sink.new) (line word.now (decimal number))) }
     ensures failures { CountsFailure (S.failures sink.old) (S.failures sink.new) result }
 {
     let mut digits = Buffer::new();
@@ -21,7 +23,8 @@ pub(crate) fn put_number<S: Sink>(sink: &mut S, word: &[u8], number: u64) -> Res
 // Puts the line of a word and a text.
 fn put_line<'l, S: Sink>(sink: &mut S, word: &'l [u8], text: &'l str) -> Result<(), SinkFault>
     ensures ok { OnOk result (Appends (S.taken sink.old) (S.taken sink.new) (line word.now text.now)) }
-    ensures front { OnErr result (AppendsFront (S.taken sink.old) (S.taken sink.new) (line word.now text.now)) }
+    ensures front { OnErr result
+        (AppendsFront (S.taken sink.old) (S.taken sink.new) (line word.now text.now)) }
     ensures failures { CountsFailure (S.failures sink.old) (S.failures sink.new) result }
 {
     let parts = [word, b" ", text.as_bytes(), b"\n"];

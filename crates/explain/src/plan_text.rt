@@ -20,8 +20,10 @@ pub fn explain<S: Sink, A, C>(
     plan: &Plan,
     sink: &mut S,
 ) -> Result<(), SinkFault>
-    ensures ok { OnOk result (Appends (S.taken sink.old) (S.taken sink.new) (explain_text query.now plan.now)) }
-    ensures front { OnErr result (AppendsFront (S.taken sink.old) (S.taken sink.new) (explain_text query.now plan.now)) }
+    ensures ok { OnOk result
+        (Appends (S.taken sink.old) (S.taken sink.new) (explain_text query.now plan.now)) }
+    ensures front { OnErr result
+        (AppendsFront (S.taken sink.old) (S.taken sink.new) (explain_text query.now plan.now)) }
     ensures failures { CountsFailure (S.failures sink.old) (S.failures sink.new) result }
 {
     put_number(sink, b"cost", plan.cost)?;
@@ -39,8 +41,10 @@ pub fn analyze<S: Sink, A, C>(
     work: u64,
     sink: &mut S,
 ) -> Result<(), SinkFault>
-    ensures ok { OnOk result (Appends (S.taken sink.old) (S.taken sink.new) (analyze_text query.now plan.now work)) }
-    ensures front { OnErr result (AppendsFront (S.taken sink.old) (S.taken sink.new) (analyze_text query.now plan.now work)) }
+    ensures ok { OnOk result
+        (Appends (S.taken sink.old) (S.taken sink.new) (analyze_text query.now plan.now work)) }
+    ensures front { OnErr result
+        (AppendsFront (S.taken sink.old) (S.taken sink.new) (analyze_text query.now plan.now work)) }
     ensures failures { CountsFailure (S.failures sink.old) (S.failures sink.new) result }
 {
     explain(query, plan, sink)?;
@@ -53,8 +57,10 @@ fn put_plan_accesses<S: Sink, A, C>(
     query: &Bound<A, C>,
     plan: &Plan,
 ) -> Result<(), SinkFault>
-    ensures ok { OnOk result (Appends (S.taken sink.old) (S.taken sink.new) (access_lines query.now.references plan.now.accesses)) }
-    ensures front { OnErr result (AppendsFront (S.taken sink.old) (S.taken sink.new) (access_lines query.now.references plan.now.accesses)) }
+    ensures ok { OnOk result (Appends (S.taken sink.old) (S.taken sink.new)
+        (access_lines query.now.references plan.now.accesses)) }
+    ensures front { OnErr result (AppendsFront (S.taken sink.old) (S.taken sink.new)
+        (access_lines query.now.references plan.now.accesses)) }
     ensures failures { CountsFailure (S.failures sink.old) (S.failures sink.new) result }
 {
     put_accesses(sink, query.references.as_slice(), plan.accesses.as_slice())
@@ -62,8 +68,10 @@ fn put_plan_accesses<S: Sink, A, C>(
 
 // Puts the line of a plan's filters.
 fn put_plan_filters<S: Sink>(sink: &mut S, plan: &Plan) -> Result<(), SinkFault>
-    ensures ok { OnOk result (Appends (S.taken sink.old) (S.taken sink.new) (line (codes "filter") (filters_text plan.now.filters))) }
-    ensures front { OnErr result (AppendsFront (S.taken sink.old) (S.taken sink.new) (line (codes "filter") (filters_text plan.now.filters))) }
+    ensures ok { OnOk result (Appends (S.taken sink.old) (S.taken sink.new)
+        (line (codes "filter") (filters_text plan.now.filters))) }
+    ensures front { OnErr result (AppendsFront (S.taken sink.old) (S.taken sink.new)
+        (line (codes "filter") (filters_text plan.now.filters))) }
     ensures failures { CountsFailure (S.failures sink.old) (S.failures sink.new) result }
 {
     put_filters(sink, plan.filters.as_slice())

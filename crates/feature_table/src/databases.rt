@@ -17,8 +17,8 @@ use std::io::Read;
 use std::marker::Model;
 use table_model::faults::{LoadFault, TableFault};
 
-/// The tables of a schema, which it borrows: lawful definitions, and for each the rows of its table. (06-104r4, feature
-/// tables.)
+/// The tables of a schema, which it borrows: lawful definitions, and for each the rows of its table.
+/// (06-104r4, feature tables.)
 #[derive(Drop)]
 pub struct Database<'s> {
     schema: &'s Schema,
@@ -34,7 +34,8 @@ impl<'s> Model for Database<'s> {
 
     ghost view = { λ d. record { definitions = d.schema.now; tables = d.tables.items } };
 
-    ghost invariant = { λ d. IsDatabase takes (record { definitions = d.schema.now; tables = d.tables.items }) };
+    ghost invariant = { λ d.
+        IsDatabase takes (record { definitions = d.schema.now; tables = d.tables.items }) };
 }
 
 /// Loads the table at a place of a schema, and tells of that place with a fault.
@@ -47,9 +48,12 @@ fn load_table<R: Read + Drop>(
     requires { place < length schema.now }
     ensures place { IfErr result (λ f. f.table ≡ place) }
     ensures loads { (text : List ℕ) (d : Definition ShapeValue) → R.remaining reader ≡ Some text
-        → LoadsTable (λ t. t) result (at_table place (table_in reading (slice_index_or schema.now place d) text)) }
-    ensures records { (d : Definition ShapeValue) → (records : List Record) × AreRecordsOf (R.remaining reader) records
-        × LoadsTable (λ t. t) result (at_table place (load reading (slice_index_or schema.now place d) records)) }
+        → LoadsTable (λ t. t) result
+        (at_table place (table_in reading (slice_index_or schema.now place d) text)) }
+    ensures records { (d : Definition ShapeValue)
+        → (records : List Record) × AreRecordsOf (R.remaining reader) records
+        × LoadsTable (λ t. t) result
+        (at_table place (load reading (slice_index_or schema.now place d) records)) }
 {
     match Table::load(alloc, schema.table(place), reader) {
         Ok(table) => Ok(table),
@@ -61,10 +65,11 @@ fn load_table<R: Read + Drop>(
 }
 
 impl<'s> Database<'s> {
-    /// Loads the tables of a schema in its order, each from the CSV text of one reader. The answer is the first
-    /// fault where there is one, with its table: `Table::load` says which. So also a fault of reading is that of the
-    /// first table whose reading failed: each table before it has loaded. Whatever the readers are, there are records of
-    /// which this is the answer, and at Ok the tables are those of a database. (06-104r4, feature tables.)
+    /// Loads the tables of a schema in its order, each from the CSV text of one reader. The answer is the
+    /// first fault where there is one, with its table: `Table::load` says which. So also a fault of reading
+    /// is that of the first table whose reading failed: each table before it has loaded. Whatever the readers
+    /// are, there are records of which this is the answer, and at Ok the tables are those of a database.
+    /// (06-104r4, feature tables.)
     pub fn load<R: Read + Drop>(
         alloc: Global,
         schema: &'s Schema,
@@ -76,7 +81,8 @@ impl<'s> Database<'s> {
             → LoadsTable (λ d. d.tables) result (tables_in reading schema.entry.now texts) }
         ensures earlier { (texts : List (List ℕ)) → map R.remaining readers.items ≡ map Some texts
             → IfErr result (λ f. EarlierLoad reading schema.entry.now (map records_in texts) f.table) }
-        ensures records { AreOfRecords reading schema.entry.now (map R.remaining readers.items) (λ d. d.tables) result }
+        ensures records { AreOfRecords reading schema.entry.now (map R.remaining readers.items)
+            (λ d. d.tables) result }
         ensures database { IfOk result (IsDatabase takes) }
         ensures table { IfErr result (λ f. f.table < length schema.entry.now) }
     {
@@ -95,8 +101,8 @@ impl<'s> Database<'s> {
         Ok(Database { schema, tables })
     }
 
-    /// Lends the definitions of the tables, in the order of the schema. With its tables they are a database. (06-104r4,
-    /// feature tables.)
+    /// Lends the definitions of the tables, in the order of the schema. With its tables they are a database.
+    /// (06-104r4, feature tables.)
     pub fn definitions(&self) -> &'s [TableDef]
         ensures value { result.now ≡ self.now.definitions }
         ensures database { IsDatabase takes self.now }

@@ -86,7 +86,8 @@ pub(crate) fn value_of(
     field: &[u8],
 ) -> Result<Value<Geometry>, LoadFault>
     ensures not_reading { IfErr result (λ f. is_of_reading f ≡ false) }
-    ensures value { Gives fault.OutOfMemory (λ v. v) result (spec.value_of reading number required column_type.now field.now) }
+    ensures value { Gives fault.OutOfMemory (λ v. v) result
+        (spec.value_of reading number required column_type.now field.now) }
 {
     if field.is_empty() {
         if required {

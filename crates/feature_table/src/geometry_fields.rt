@@ -1,5 +1,5 @@
-//! What stands in a geometry column: the one module that says what the type of such a column is and what a geometry is. None
-//! is served yet, so no field is read as one.
+//! What stands in a geometry column: the one module that says what the type of such a column is and what a
+//! geometry is. None is served yet, so no field is read as one.
 
 use table_model::values::NoGeometry;
 

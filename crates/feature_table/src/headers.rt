@@ -34,7 +34,8 @@ pub(crate) fn field_at(record: &ByteRecord, place: usize) -> &[u8]
 fn place_of(header: &ByteRecord, name: &[u8]) -> Result<usize, LoadFault>
     ensures not_reading { IfErr result (λ f. is_of_reading f ≡ false) }
     ensures place { MatchResult result
-        (λ place. (spec.name_fault (fields_of header.now) name.now ≡ None) × (place ≡ spec.place_in (fields_of header.now) name.now))
+        (λ place. (spec.name_fault (fields_of header.now) name.now ≡ None)
+        × (place ≡ spec.place_in (fields_of header.now) name.now))
         (λ f. spec.name_fault (fields_of header.now) name.now ≡ Some f) }
 {
     let mut found = None;
@@ -56,9 +57,11 @@ pub(crate) fn layout_of(
     header: &ByteRecord,
 ) -> Result<Layout, LoadFault>
     ensures size { IfOk result (λ layout. vec_len layout.places ≡ length columns.now) }
-    ensures ok { IfOk result (λ layout. (spec.header_fault columns.now (fields_of header.now) ≡ None) × IsLayout columns.now (fields_of header.now) layout) }
+    ensures ok { IfOk result (λ layout. (spec.header_fault columns.now (fields_of header.now) ≡ None)
+        × IsLayout columns.now (fields_of header.now) layout) }
     ensures not_reading { IfErr result (λ f. is_of_reading f ≡ false) }
-    ensures fault { IfErr result (λ f. f ≢ fault.OutOfMemory → spec.header_fault columns.now (fields_of header.now) ≡ Some f) }
+    ensures fault { IfErr result
+        (λ f. f ≢ fault.OutOfMemory → spec.header_fault columns.now (fields_of header.now) ≡ Some f) }
 {
     let mut places = Vec::with_capacity(alloc, columns.len())?;
     for column in columns {

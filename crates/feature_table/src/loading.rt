@@ -36,9 +36,11 @@ fn next_row<R: Read + Drop>(
     ensures asked { asked records.new ≡ asked records.old + 1 }
     ensures read_failed { IfErr result (λ f. is_of_reading f ≡ true → read_failed records.new ≡ true) }
     ensures ready { OnOk result (IsReady records.new) }
-    ensures takes { (header : spec.Record) (rest : List spec.Record) → IsLayout table.now.columns header layout.now → Gives R.remaining records.old rest
+    ensures takes { (header : spec.Record) (rest : List spec.Record)
+        → IsLayout table.now.columns header layout.now → Gives R.remaining records.old rest
         → TakesRow R.remaining records.new reading table.now header number rest result }
-    ensures record { (header : spec.Record) → IsLayout table.now.columns header layout.now → IsOfRecord reading table.now header number result }
+    ensures record { (header : spec.Record) → IsLayout table.now.columns header layout.now
+        → IsOfRecord reading table.now header number result }
 {
     let found = next_record(records, record)?;
     if !found {
@@ -48,7 +50,8 @@ fn next_row<R: Read + Drop>(
     Ok(Some(row))
 }
 
-/// Reads the records after the header, each of which is a row. The record after the last that is allowed has a fault.
+/// Reads the records after the header, each of which is a row. The record after the last that is allowed has
+/// a fault.
 pub(crate) fn read_rows<R: Read + Drop>(
     alloc: Global,
     table: &TableDef,
@@ -60,11 +63,15 @@ pub(crate) fn read_rows<R: Read + Drop>(
     requires header { asked records.old ≡ 1 }
     ensures taken { asked records.new ≤ record_limit }
     ensures read_failed { IfErr result (λ f. is_of_reading f ≡ true → read_failed records.new ≡ true) }
-    ensures loads { (header : spec.Record) (rest : List spec.Record) → IsLayout table.now.columns header layout.now → Gives R.remaining records.old rest
+    ensures loads { (header : spec.Record) (rest : List spec.Record)
+        → IsLayout table.now.columns header layout.now → Gives R.remaining records.old rest
         → Loads (λ rows. rows.items) result (spec.rows_of reading table.now header rest) }
-    ensures records { (header : spec.Record) → IsLayout table.now.columns header layout.now → RowsOfRecords reading table.now header (λ rows. rows.items) result }
-    ensures before { (header : spec.Record) (rest : List spec.Record) → IsLayout table.now.columns header layout.now → Gives R.remaining records.old rest
-        → IfErr result (λ f. is_of_reading f ≡ true → IsOk (spec.each (take (asked records.new - 2) (spec.checked_rows reading table.now header rest)))) }
+    ensures records { (header : spec.Record) → IsLayout table.now.columns header layout.now
+        → RowsOfRecords reading table.now header (λ rows. rows.items) result }
+    ensures before { (header : spec.Record) (rest : List spec.Record)
+        → IsLayout table.now.columns header layout.now → Gives R.remaining records.old rest
+        → IfErr result (λ f. is_of_reading f ≡ true
+        → IsOk (spec.each (take (asked records.new - 2) (spec.checked_rows reading table.now header rest)))) }
 {
     let mut rows = Vec::new(alloc);
     let mut record = ByteRecord::new(alloc);

@@ -15,8 +15,8 @@ use std::alloc::Global;
 use std::io::Read;
 use table_model::faults::LoadFault;
 
-/// The records of a table's CSV text, the header among them, taken one by one. No more than 100,002 are asked for:
-/// the header, as many as a table may have rows, and one that tells of more.
+/// The records of a table's CSV text, the header among them, taken one by one. No more than 100,002 are asked
+/// for: the header, as many as a table may have rows, and one that tells of more.
 #[derive(Drop)]
 pub struct Records<R> {
     reader: Reader<R>,
@@ -29,7 +29,8 @@ pub struct Records<R> {
 /// A reader of records: no header is set apart, and records may differ in length.
 fn record_reader<R: Read + Drop>(alloc: Global, reader: R) -> Reader<R>
     ensures steady { IsSteady result }
-    ensures gives { (text : List ℕ) → R.remaining reader ≡ Some text → StillGives R.remaining result (records_in text) }
+    ensures gives { (text : List ℕ) → R.remaining reader ≡ Some text
+        → StillGives R.remaining result (records_in text) }
 {
     ReaderBuilder::new()
         .has_headers(false)
@@ -43,7 +44,8 @@ impl<R: Read + Drop> Records<R> {
         ensures ready { IsReady result }
         ensures none { asked result ≡ 0 }
         ensures fresh { read_failed result ≡ false }
-        ensures gives { (text : List ℕ) → R.remaining reader ≡ Some text → Gives R.remaining result (records_in text) }
+        ensures gives { (text : List ℕ) → R.remaining reader ≡ Some text
+            → Gives R.remaining result (records_in text) }
     {
         Records {
             reader: record_reader(alloc, reader),
@@ -66,8 +68,8 @@ impl<R: Read + Drop> Records<R> {
         self.read_failed
     }
 
-    /// Asks `csv` for the next record, and says whether there is one. An error is that of `csv`; it is one of reading
-    /// or tells that memory ran out, and no record is asked for after it.
+    /// Asks `csv` for the next record, and says whether there is one. An error is that of `csv`; it is one of
+    /// reading or tells that memory ran out, and no record is asked for after it.
     pub fn read(&mut self, record: &mut ByteRecord) -> Result<bool, Error>
         requires ready { IsReady self.old }
         requires limit { asked self.old < record_limit }

@@ -70,8 +70,10 @@ fn row_of(
 ) -> Result<Items<Value<Geometry>>, LoadFault>
     requires { length places.now ≡ length table.now.columns }
     ensures not_reading { IfErr result (λ f. is_of_reading f ≡ false) }
-    ensures row { (header : spec.Record) → places.now ≡ map (λ c. spec.place_in header c.name) table.now.columns
-        → Gives fault.OutOfMemory (λ row. row) result (spec.row_of reading table.now header number (fields_of record.now)) }
+    ensures row { (header : spec.Record)
+        → places.now ≡ map (λ c. spec.place_in header c.name) table.now.columns
+        → Gives fault.OutOfMemory (λ row. row) result
+        (spec.row_of reading table.now header number (fields_of record.now)) }
 {
     let mut values = Vec::with_capacity(alloc, places.len())?;
     for place in 0..places.len() {
@@ -91,7 +93,8 @@ pub(crate) fn checked_row(
     requires { vec_len layout.now.places ≡ length table.now.columns }
     ensures not_reading { IfErr result (λ f. is_of_reading f ≡ false) }
     ensures row { (header : spec.Record) → IsLayout table.now.columns header layout.now
-        → Gives fault.OutOfMemory (λ row. row) result (spec.checked_row reading table.now header (number, fields_of record.now)) }
+        → Gives fault.OutOfMemory (λ row. row) result
+        (spec.checked_row reading table.now header (number, fields_of record.now)) }
 {
     if record.len() != layout.width {
         return Err(LoadFault::UnequalRecord(number));

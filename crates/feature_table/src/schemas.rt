@@ -145,9 +145,9 @@ fn are_lawful(tables: &[TableDef]) -> bool
     tables.iter().all(is_lawful_table)
 }
 
-/// Whether a list of table definitions is lawful: at most 16 tables of at most 32 columns, names of tables and
-/// names of columns that differ without regard to ASCII case, and of each table a key, which is an INTEGER
-/// column. The empty list is lawful. It takes no memory. (06-104r4, feature tables, of the key)
+/// Whether a list of table definitions is lawful: at most 16 tables of at most 32 columns, names of tables
+/// and names of columns that differ without regard to ASCII case, and of each table a key, which is an
+/// INTEGER column. The empty list is lawful. It takes no memory. (06-104r4, feature tables, of the key)
 #[tactic(auto, unfolding(table_model::specs::Definitions::lawful))]
 pub fn lawful(tables: &[TableDef]) -> bool
     ensures { result ≡ lawful tables.now }

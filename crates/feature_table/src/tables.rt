@@ -58,7 +58,8 @@ impl<'a> Row<'a> {
     }
 }
 
-/// A table: the rows of a lawful definition, by ascending key. Contracts see it as that list. (06-104r4, feature tables.)
+/// A table: the rows of a lawful definition, by ascending key. Contracts see it as that list. (06-104r4,
+/// feature tables.)
 #[derive(Drop)]
 pub struct Table {
     rows: Vec<Items<Value<Geometry>>>,
@@ -77,18 +78,20 @@ impl Model for Table {
 }
 
 impl Table {
-    /// Loads the table of a definition, which is lawful by itself, from the CSV text that a reader gives. The answer
-    /// is the first fault where there is one: of the header, then of the records in order, then a repeated key. A
-    /// fault of reading is answered where it comes. Whatever the reader is, there are records of which this is the
-    /// answer, and at Ok the rows are those of a table of this definition. It is `Table::load_from` over the records of
-    /// the reader, so at most 100,002 of them are read, the header among them. (06-104r4, feature tables.)
+    /// Loads the table of a definition, which is lawful by itself, from the CSV text that a reader gives. The
+    /// answer is the first fault where there is one: of the header, then of the records in order, then a
+    /// repeated key. A fault of reading is answered where it comes. Whatever the reader is, there are records
+    /// of which this is the answer, and at Ok the rows are those of a table of this definition. It is
+    /// `Table::load_from` over the records of the reader, so at most 100,002 of them are read, the header
+    /// among them. (06-104r4, feature tables.)
     pub fn load<R: Read + Drop>(
         alloc: Global,
         table: &TableDef,
         reader: R,
     ) -> Result<Table, LoadFault>
         requires { IsTrue (lawful (table.now ∷ [])) }
-        ensures loads { (text : List ℕ) → R.remaining reader ≡ Some text → Loads (λ t. t) result (table_in reading table.now text) }
+        ensures loads { (text : List ℕ) → R.remaining reader ≡ Some text
+            → Loads (λ t. t) result (table_in reading table.now text) }
         ensures records { IsOfRecords reading table.now (R.remaining reader) (λ t. t) result }
         ensures rows { IfOk result (AreRows takes table.now) }
     {
@@ -96,9 +99,10 @@ impl Table {
         Table::load_from(alloc, table, &mut records)
     }
 
-    /// Loads the table of a definition, which is lawful by itself, from records of which none was asked for yet. The
-    /// answer is that of `Table::load`. It asks for at most 100,002 records, the header among them, and answers that
-    /// reading failed only where `csv` answered an error of reading, and where no record before that one has a fault.
+    /// Loads the table of a definition, which is lawful by itself, from records of which none was asked for
+    /// yet. The answer is that of `Table::load`. It asks for at most 100,002 records, the header among them,
+    /// and answers that reading failed only where `csv` answered an error of reading, and where no record
+    /// before that one has a fault.
     pub fn load_from<R: Read + Drop>(
         alloc: Global,
         table: &TableDef,
@@ -109,10 +113,12 @@ impl Table {
         requires none { asked records.old ≡ 0 }
         ensures taken { asked records.new ≤ record_limit }
         ensures read_failed { IfErr result (λ f. is_of_reading f ≡ true → read_failed records.new ≡ true) }
-        ensures loads { (all : List spec.Record) → Gives R.remaining records.old all → Loads (λ t. t) result (spec.load reading table.now all) }
+        ensures loads { (all : List spec.Record) → Gives R.remaining records.old all
+            → Loads (λ t. t) result (spec.load reading table.now all) }
         ensures records { IsOfSomeRecords reading table.now (λ t. t) result }
         ensures before { (all : List spec.Record) → Gives R.remaining records.old all
-            → IfErr result (λ f. is_of_reading f ≡ true → NoFaultBefore reading table.now all (asked records.new - 1)) }
+            → IfErr result
+            (λ f. is_of_reading f ≡ true → NoFaultBefore reading table.now all (asked records.new - 1)) }
         ensures rows { IfOk result (AreRows takes table.now) }
     {
         let mut header = ByteRecord::new(alloc);
@@ -127,8 +133,8 @@ impl Table {
         Ok(Table { rows })
     }
 
-    /// How many rows there are. They are the rows of a table: at most 100,000, strictly ascending by key, each value one for
-    /// its column. (06-104r4, feature tables.)
+    /// How many rows there are. They are the rows of a table: at most 100,000, strictly ascending by key,
+    /// each value one for its column. (06-104r4, feature tables.)
     pub fn rows(&self) -> usize
         ensures count { result ≡ length self.now }
         ensures table { IsTable takes self.now }

@@ -17,7 +17,8 @@ fn greatest_common_divisor(a: u64, b: u64) -> u64
     last
 }
 
-/// The greatest number that divides a number of any size and one of at least 1. After one remainder all numbers are short.
+/// The greatest number that divides a number of any size and one of at least 1. After one remainder all
+/// numbers are short.
 fn divisor_with(long: u128, short: u64) -> u64
     requires { 0 < short }
     ensures { result ≡ gcd long short }

@@ -13,8 +13,8 @@ ghost use Rattle.fraction.specs.OrderLaws.{fraction_order_total};
 use std::cmp::Ordering;
 use std::marker::Model;
 
-/// One coordinate of a rational point, in grid steps: a quotient of two whole numbers, the second at least 1. It needn't
-/// be in least form, and 1/2 equals 2/4. Its numbers are in the ranges of a point's.
+/// One coordinate of a rational point, in grid steps: a quotient of two whole numbers, the second at least 1.
+/// It needn't be in least form, and 1/2 equals 2/4. Its numbers are in the ranges of a point's.
 #[derive(Clone, Copy, Debug)]
 pub struct Frac {
     numerator: i128,
@@ -26,7 +26,8 @@ impl Model for Frac {
 
     ghost view = { λ f. record { numerator = f.numerator; denominator = f.denominator } };
 
-    ghost invariant = { λ f. IsFractionInRange (record { numerator = f.numerator; denominator = f.denominator }) };
+    ghost invariant = { λ f.
+        IsFractionInRange (record { numerator = f.numerator; denominator = f.denominator }) };
 
     ghost inverse = { λ f. record { numerator = f.numerator; denominator = f.denominator } };
 }
@@ -76,7 +77,8 @@ impl Ord for Frac {
 impl PartialOrd for Frac {
     ghost partial_cmp = { as_partial_cmp fraction_order };
 
-    ghost laws = { partial_order_from_agreeing_total fraction_order fraction_order_total (λ f g. refl) (λ f g. refl) };
+    ghost laws = { partial_order_from_agreeing_total fraction_order
+        fraction_order_total (λ f g. refl) (λ f g. refl) };
 
     fn partial_cmp(&self, other: &Frac) -> Option<Ordering>
         ensures order { result ≡ Some (fraction_order self.now other.now) }

@@ -17,8 +17,8 @@ use std::marker::Model;
 /// The greatest coordinate of a position, and the negative of the least.
 pub const COORDINATE_LIMIT: i32 = geometry_model::COORDINATE_LIMIT as i32;
 
-/// A position of the grid: two whole coordinates, each within `COORDINATE_LIMIT` either way (OGC 06-103r4, 6.1.4; whole
-/// numbers and the limit: this project's choice).
+/// A position of the grid: two whole coordinates, each within `COORDINATE_LIMIT` either way (OGC 06-103r4,
+/// 6.1.4; whole numbers and the limit: this project's choice).
 #[derive(Clone, Copy, Debug)]
 pub struct GridPoint {
     x: i32,
@@ -36,8 +36,8 @@ impl Model for GridPoint {
 }
 
 impl GridPoint {
-    /// The position (x, y); `None` exactly where a coordinate is past the limit (OGC 06-103r4, 6.1.4; the limit:
-    /// this project's choice).
+    /// The position (x, y); `None` exactly where a coordinate is past the limit (OGC 06-103r4, 6.1.4; the
+    /// limit: this project's choice).
     pub fn new(x: i32, y: i32) -> Option<GridPoint>
         ensures taken { IsSome result ↔ IsOnGrid (record { x = x; y = y }) }
         ensures value { IfSome result (λ a. a ≡ record { x = x; y = y }) }
@@ -88,7 +88,8 @@ impl Ord for GridPoint {
 impl PartialOrd for GridPoint {
     ghost partial_cmp = { as_partial_cmp position_order };
 
-    ghost laws = { partial_order_from_own_ties (Prim.search (comparing, rules)) (Prim.search (comparing, rules)) };
+    ghost laws = { partial_order_from_own_ties (Prim.search (comparing, rules))
+        (Prim.search (comparing, rules)) };
 
     fn partial_cmp(&self, other: &GridPoint) -> Option<Ordering>
         ensures order { result ≡ Some (position_order self.now other.now) }

@@ -18,9 +18,9 @@ use crate::grid_points::GridPoint;
 use std::cmp::Ordering;
 use std::marker::Model;
 
-/// A point of the plane: whole numbers X, Y, W in least form that stand for (X/W, Y/W) (OGC 06-103r4, 6.1.4; rational
-/// coordinates alone, and the ranges: this project's choice). W is from 1 to 16 L L and X and Y are within L W either way, L being the
-/// limit of coordinates.
+/// A point of the plane: whole numbers X, Y, W in least form that stand for (X/W, Y/W) (OGC 06-103r4, 6.1.4;
+/// rational coordinates alone, and the ranges: this project's choice). W is from 1 to 16 L L and X and Y are
+/// within L W either way, L being the limit of coordinates.
 #[derive(Clone, Copy, Debug)]
 pub struct RatPoint {
     numerator_x: i128,
@@ -33,7 +33,8 @@ impl Model for RatPoint {
 
     ghost view = { λ p. record { X = p.numerator_x; Y = p.numerator_y; W = p.denominator } };
 
-    ghost invariant = { λ p. IsKeptPoint (record { X = p.numerator_x; Y = p.numerator_y; W = p.denominator }) };
+    ghost invariant = { λ p.
+        IsKeptPoint (record { X = p.numerator_x; Y = p.numerator_y; W = p.denominator }) };
 
     ghost inverse = { λ p. record { numerator_x = p.X; numerator_y = p.Y; denominator = p.W } };
 }
@@ -50,8 +51,8 @@ impl RatPoint {
         }
     }
 
-    /// The point (x/w, y/w): its triple in least form. It asks that w is from 1 to 16 L L and that x and y are within L w
-    /// either way, L being the limit of coordinates.
+    /// The point (x/w, y/w): its triple in least form. It asks that w is from 1 to 16 L L and that x and y
+    /// are within L w either way, L being the limit of coordinates.
     pub fn reduced(x: i128, y: i128, w: i64) -> RatPoint
         requires in_range { IsInRange (record { X = x; Y = y; W = w }) }
         ensures exact { result ≡ least_form (record { X = x; Y = y; W = w }) }
@@ -66,8 +67,8 @@ impl RatPoint {
         }
     }
 
-    /// A point strictly between two points that differ: the sums of the numbers of their triples, in least form. It asks
-    /// that both denominators are at most 8 L L, L being the limit of coordinates.
+    /// A point strictly between two points that differ: the sums of the numbers of their triples, in least
+    /// form. It asks that both denominators are at most 8 L L, L being the limit of coordinates.
     pub fn mediant(a: &RatPoint, b: &RatPoint) -> RatPoint
         requires first { a.now.W ≤ℤ pos meeting_limit }
         requires second { b.now.W ≤ℤ pos meeting_limit }
@@ -158,7 +159,8 @@ impl Ord for RatPoint {
 impl PartialOrd for RatPoint {
     ghost partial_cmp = { as_partial_cmp point_order };
 
-    ghost laws = { partial_order_from_agreeing_total point_order point_order_total (λ p q. refl) (λ p q. refl) };
+    ghost laws = { partial_order_from_agreeing_total point_order
+        point_order_total (λ p q. refl) (λ p q. refl) };
 
     fn partial_cmp(&self, other: &RatPoint) -> Option<Ordering>
         ensures order { result ≡ Some (point_order self.now other.now) }

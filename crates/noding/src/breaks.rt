@@ -18,7 +18,8 @@ fn push_listed(
     segment: &Segment,
     listed: &[GridPoint],
 ) -> Result<(), AllocError>
-    ensures { OnOk result (breaks.new ≡ breaks.old ++ filter (spec.on segment.now) (map point_at listed.now)) }
+    ensures { OnOk result
+        (breaks.new ≡ breaks.old ++ filter (spec.on segment.now) (map point_at listed.now)) }
 {
     for position in listed {
         let point = RatPoint::of_grid(*position);

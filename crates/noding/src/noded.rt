@@ -21,7 +21,8 @@ impl Model for Noded {
 
     ghost Value = { Noding };
 
-    ghost view = { λ n. record { nodes = n.points.items; pieces = map piece_of n.stretches.items; tests = n.tests } };
+    ghost view = { λ n.
+        record { nodes = n.points.items; pieces = map piece_of n.stretches.items; tests = n.tests } };
 }
 
 impl Noded {

@@ -41,7 +41,8 @@ fn push_stretches(
     pieces: &mut Vec<(RatPoint, RatPoint)>,
     breaks: &[Break],
 ) -> Result<(), AllocError>
-    ensures { OnOk result (map piece_of pieces.new.items ≡ map piece_of pieces.old.items ++ stretches breaks.now) }
+    ensures { OnOk result
+        (map piece_of pieces.new.items ≡ map piece_of pieces.old.items ++ stretches breaks.now) }
 {
     for place in 1..breaks.len() {
         pieces.push((breaks[place - 1].point(), breaks[place].point()))?;
@@ -58,7 +59,8 @@ fn push_stretches(
 pub fn node(alloc: Global, segments: &[Segment], listed: &[GridPoint]) -> Result<Noded, AllocError>
     ensures tests { IfOk result (λ noded. noded.tests ≡ min (overlapping_pairs segments.now) (2 ^ 64 - 1)) }
     ensures exact_nodes { IfOk result (λ noded. noded.nodes ≡ cut_points segments.now listed.now) }
-    ensures exact_pieces { IfOk result (λ noded. noded.pieces ≡ pieces (cut_points segments.now listed.now) segments.now) }
+    ensures exact_pieces { IfOk result
+        (λ noded. noded.pieces ≡ pieces (cut_points segments.now listed.now) segments.now) }
     ensures nodes { IfOk result (λ noded. All (IsCut segments.now listed.now) noded.nodes) }
     ensures nodes_found { IfOk result (λ noded. ListsCuts segments.now listed.now noded.nodes) }
     ensures nodes_ascend { IfOk result (λ noded. AscendingPoints noded.nodes) }

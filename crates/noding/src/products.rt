@@ -28,7 +28,8 @@ pub(crate) fn point_between(a: GridPoint, m: i64, b: GridPoint, n: i64) -> RatPo
     requires second_weight { pos 0 ≤ℤ n }
     requires some { pos 0 <ℤ (m +ℤ n) }
     requires limit { (m +ℤ n) ≤ℤ pos meeting_limit }
-    ensures same { IsTrue (same_point result (record { X = m *ℤ a.x +ℤ n *ℤ b.x; Y = m *ℤ a.y +ℤ n *ℤ b.y; W = m +ℤ n })) }
+    ensures same { IsTrue
+        (same_point result (record { X = m *ℤ a.x +ℤ n *ℤ b.x; Y = m *ℤ a.y +ℤ n *ℤ b.y; W = m +ℤ n })) }
     ensures positive { pos 0 <ℤ result.W }
     ensures limit { result.W ≤ℤ pos meeting_limit }
     ensures least { IsLeast result }

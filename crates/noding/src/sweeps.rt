@@ -100,7 +100,8 @@ fn try_following(
     requires count { tests.old ≤ 2 ^ 64 - 1 }
     ensures lengths { OnOk result (length breaks.new ≡ length order.now) }
     ensures swept { OnOk result (SweepsOn order.now place breaks.old breaks.new) }
-    ensures counted { OnOk result (tests.new ≡ min (tests.old + overlaps_of_first (drop place order.now)) (2 ^ 64 - 1)) }
+    ensures counted { OnOk result
+        (tests.new ≡ min (tests.old + overlaps_of_first (drop place order.now)) (2 ^ 64 - 1)) }
 {
     let segment = &order[place];
     let end = greatest_x(segment);

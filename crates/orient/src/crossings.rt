@@ -1,4 +1,5 @@
-//! Which segments lie above a point, on an upward ray from it: each covers its left end and not its right one.
+//! Which segments lie above a point, on an upward ray from it: each covers its left end and not its right
+//! one.
 
 ghost use Rattle.std.specs.Prelude.{◌≡◌};
 ghost use Rattle.geometry_model.specs.Crossings as spec;
@@ -35,8 +36,8 @@ fn signed_side_rightward(segment: &Segment, p: &RatPoint) -> i128
     }
 }
 
-/// Whether the segment lies strictly above the point: an upward ray from it crosses the segment. Of the segment's ends
-/// the left one counts and the right one doesn't; an upright segment is never crossed.
+/// Whether the segment lies strictly above the point: an upward ray from it crosses the segment. Of the
+/// segment's ends the left one counts and the right one doesn't; an upright segment is never crossed.
 pub fn crosses_up(segment: &Segment, p: &RatPoint) -> bool
     ensures { result ≡ spec.strictly_above segment.now p.now }
 {

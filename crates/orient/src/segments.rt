@@ -5,7 +5,8 @@ ghost use Rattle.std.specs.Prelude.{◌≡◌, ◌≢◌, ◌↔◌, IsNone, IfS
 use fraction::GridPoint;
 use std::marker::Model;
 
-/// A straight line between two different positions of the grid, from its start to its end (OGC 06-103r4, 6.1.7: Line).
+/// A straight line between two different positions of the grid, from its start to its end (OGC 06-103r4,
+/// 6.1.7: Line).
 #[derive(Clone, Copy, Debug)]
 pub struct Segment {
     start: GridPoint,

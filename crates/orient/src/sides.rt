@@ -36,7 +36,8 @@ fn side_of_point(from: GridPoint, to: GridPoint, p: &RatPoint) -> i128
     vector_product(dx, dy, ex, ey)
 }
 
-/// The number whose sign is the side of p, seen from `from` to `to`. At a position of the grid short numbers do.
+/// The number whose sign is the side of p, seen from `from` to `to`. At a position of the grid short numbers
+/// do.
 pub(crate) fn signed_side(from: GridPoint, to: GridPoint, p: &RatPoint) -> i128
     ensures { result ≡ spec.side from to p.now }
 {
@@ -60,8 +61,8 @@ pub fn side_number(segment: &Segment, at: GridPoint) -> i64
     side_of_position(segment.start(), segment.end(), at.x(), at.y())
 }
 
-/// On which side of the segment's line p lies, seen from the start to the end: `Greater` on its left, `Less` on its
-/// right, `Equal` on the line.
+/// On which side of the segment's line p lies, seen from the start to the end: `Greater` on its left, `Less`
+/// on its right, `Equal` on the line.
 pub fn side(segment: &Segment, p: &RatPoint) -> Ordering
     ensures { result ≡ int_cmp (spec.side segment.now.start segment.now.end p.now) (pos 0) }
 {
@@ -86,7 +87,8 @@ fn is_between(s: i32, t: i32, n: i128, w: i64) -> bool
 
 /// Whether p lies within the segment's ends in both coordinates.
 fn is_within_ends(segment: &Segment, p: &RatPoint) -> bool
-    ensures { result ≡ (spec.between segment.now.start.x segment.now.end.x p.now.X p.now.W && spec.between segment.now.start.y segment.now.end.y p.now.Y p.now.W) }
+    ensures { result ≡ (spec.between segment.now.start.x segment.now.end.x p.now.X p.now.W
+        && spec.between segment.now.start.y segment.now.end.y p.now.Y p.now.W) }
 {
     let start = segment.start();
     let end = segment.end();

@@ -24,7 +24,8 @@ fn is_in_box(sx: i32, sy: i32, tx: i32, ty: i32, x: i32, y: i32) -> bool
 
 /// Whether a position lies within the segment's ends in both coordinates.
 fn is_within_ends(segment: &Segment, at: GridPoint) -> bool
-    ensures { result ≡ (between segment.now.start.x segment.now.end.x at.x (pos 1) && between segment.now.start.y segment.now.end.y at.y (pos 1)) }
+    ensures { result ≡ (between segment.now.start.x segment.now.end.x at.x (pos 1)
+        && between segment.now.start.y segment.now.end.y at.y (pos 1)) }
 {
     let start = segment.start();
     let end = segment.end();
@@ -52,7 +53,8 @@ fn touch(e: &Segment, f: &Segment, start: i64, end: i64, back_start: i64, back_e
     requires end { end ≡ spec_side e.now.start e.now.end (point_at f.now.end) }
     requires back_start { back_start ≡ spec_side f.now.start f.now.end (point_at e.now.start) }
     requires back_end { back_end ≡ spec_side f.now.start f.now.end (point_at e.now.end) }
-    ensures { result ≡ (on e.now (point_at f.now.start) || on e.now (point_at f.now.end) || on f.now (point_at e.now.start) || on f.now (point_at e.now.end)) }
+    ensures { result ≡ (on e.now (point_at f.now.start) || on e.now (point_at f.now.end)
+        || on f.now (point_at e.now.start) || on f.now (point_at e.now.end)) }
 {
     is_on(e, f.start(), start)
         || is_on(e, f.end(), end)
@@ -67,8 +69,8 @@ fn cross(start: i64, end: i64, back_start: i64, back_end: i64) -> bool
     are_opposite(start, end) && are_opposite(back_start, back_end)
 }
 
-/// Whether two edges share a point (06-103r4, 6.1.15: intersection of point sets). An end of one is on the other, or they
-/// cross.
+/// Whether two edges share a point (06-103r4, 6.1.15: intersection of point sets). An end of one is on the
+/// other, or they cross.
 pub fn share_point(e: &Segment, f: &Segment) -> bool
     ensures { result ≡ spec.share_point e.now f.now }
 {
@@ -86,8 +88,8 @@ fn other_on(common: GridPoint, segment: &Segment, at: GridPoint) -> bool
     is_on(segment, at, side_number(segment, at)) && at != common
 }
 
-/// Whether two edges with a common end share another point too (06-103r4, 6.1.6.1: simple). An end other than the common one
-/// is on both.
+/// Whether two edges with a common end share another point too (06-103r4, 6.1.6.1: simple). An end other than
+/// the common one is on both.
 pub fn share_other(common: GridPoint, e: &Segment, f: &Segment) -> bool
     ensures { result ≡ spec.share_other common e.now f.now }
 {

@@ -1,5 +1,5 @@
-//! What the tests of runs of edges say of rings and polygons. Nothing here runs: each function has an empty body, and its
-//! contract is a law.
+//! What the tests of runs of edges say of rings and polygons. Nothing here runs: each function has an empty
+//! body, and its contract is a law.
 
 ghost use Rattle.ring_tests.specs.RunLaws.{
   RingsByTheirEdges,

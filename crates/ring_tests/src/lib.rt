@@ -1,5 +1,6 @@
-//! Tests of the rings of areas: whether two edges share a point, whether a ring meets itself or another, whether a position
-//! is inside. They go over slices of edges, so one polygon, one ring or a part of it is tested alike. Nothing here takes memory.
+//! Tests of the rings of areas: whether two edges share a point, whether a ring meets itself or another,
+//! whether a position is inside. They go over slices of edges, so one polygon, one ring or a part of it is
+//! tested alike. Nothing here takes memory.
 #![tactic(auto)]
 
 mod edges;

@@ -19,11 +19,21 @@ pub struct Envelope {
 impl Model for Envelope {
     ghost Value = { Rectangle };
 
-    ghost view = { λ e. record { least_x = e.least_x; greatest_x = e.greatest_x; least_y = e.least_y; greatest_y = e.greatest_y } };
+    ghost view = { λ e. record {
+      least_x = e.least_x;
+      greatest_x = e.greatest_x;
+      least_y = e.least_y;
+      greatest_y = e.greatest_y;
+    } };
 
     ghost invariant = { λ e. (e.least_x ≤ℤ e.greatest_x) × (e.least_y ≤ℤ e.greatest_y) };
 
-    ghost inverse = { λ e. record { least_x = e.least_x; greatest_x = e.greatest_x; least_y = e.least_y; greatest_y = e.greatest_y } };
+    ghost inverse = { λ e. record {
+      least_x = e.least_x;
+      greatest_x = e.greatest_x;
+      least_y = e.least_y;
+      greatest_y = e.greatest_y;
+    } };
 }
 
 impl Envelope {
@@ -75,7 +85,8 @@ impl Envelope {
 fn bounded(least_x: i32, greatest_x: i32, least_y: i32, greatest_y: i32) -> Envelope
     requires across { least_x ≤ℤ greatest_x }
     requires up { least_y ≤ℤ greatest_y }
-    ensures { result ≡ record { least_x = least_x; greatest_x = greatest_x; least_y = least_y; greatest_y = greatest_y } }
+    ensures { result
+        ≡ record { least_x = least_x; greatest_x = greatest_x; least_y = least_y; greatest_y = greatest_y } }
 {
     Envelope {
         least_x,

@@ -1,7 +1,7 @@
 //! Envelopes, and indexes that find the envelopes that meet one asked for.
 //!
-//! An index stands for a list of optional envelopes by position. An absent envelope is that of an empty geometry: it
-//! meets only an absent one.
+//! An index stands for a list of optional envelopes by position. An absent envelope is that of an empty
+//! geometry: it meets only an absent one.
 #![tactic(auto)]
 
 pub mod envelopes;

@@ -79,7 +79,8 @@ impl Sink for StopSink {
     fn put(&mut self, piece: &[u8]) -> Result<usize, SinkFault>
         ensures at_most { IfOk result (λ n. n ≤ length piece.now) }
         ensures some { IfOk result (λ n. piece.now ≢ [] → 1 ≤ n) }
-        ensures bytes { WriteAppends (Some (stop_bytes self.old)) (Some (stop_bytes self.new)) result piece.now }
+        ensures bytes { WriteAppends (Some (stop_bytes self.old))
+            (Some (stop_bytes self.new)) result piece.now }
         ensures failures { CountsFailure (stop_failures self.old) (stop_failures self.new) result }
         ensures stops { calls_to_failure self.old ≡ 1 → IsErr result }
         ensures call { calls_to_failure self.new ≡ calls_to_failure self.old - 1 }
@@ -127,7 +128,8 @@ impl Read for StopReader<'_> {
 
     fn read(&mut self, buffer: &mut [u8]) -> io::Result<usize>
         ensures bound { ReadsAtMost result buffer.new }
-        ensures bytes { ReadConsumes (Some (bytes_left self.old)) (Some (bytes_left self.new)) result buffer.new }
+        ensures bytes { ReadConsumes (Some (bytes_left self.old))
+            (Some (bytes_left self.new)) result buffer.new }
         ensures stops { IsErr result ↔ (reads_to_failure self.old ≡ 1) }
         ensures other { IfErr result (λ e. error_kind e ≡ ErrorKind.Other) }
         ensures read { reads_to_failure self.new ≡ reads_to_failure self.old - 1 }

@@ -1,5 +1,5 @@
-//! Sinks: where the text of an answer goes, piece by piece. Over memory, over a writer, and the devices that fail on
-//! purpose, for tests.
+//! Sinks: where the text of an answer goes, piece by piece. Over memory, over a writer, and the devices that
+//! fail on purpose, for tests.
 #![tactic(auto)]
 
 pub mod devices;

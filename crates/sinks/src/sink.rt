@@ -44,11 +44,13 @@ pub fn put_all<S: Sink>(sink: &mut S, text: &[u8]) -> Result<(), SinkFault>
     Ok(())
 }
 
-/// Puts these texts, one after another, and stops at the first failed put: a beginning of them all has been put by
-/// then, and one failure more is counted.
+/// Puts these texts, one after another, and stops at the first failed put: a beginning of them all has been
+/// put by then, and one failure more is counted.
 pub fn put_parts<S: Sink>(sink: &mut S, parts: &[&[u8]]) -> Result<(), SinkFault>
-    ensures ok { OnOk result (Appends (S.taken sink.old) (S.taken sink.new) (concat (map (λ p. p.now) parts.now))) }
-    ensures front { OnErr result (AppendsFront (S.taken sink.old) (S.taken sink.new) (concat (map (λ p. p.now) parts.now))) }
+    ensures ok { OnOk result
+        (Appends (S.taken sink.old) (S.taken sink.new) (concat (map (λ p. p.now) parts.now))) }
+    ensures front { OnErr result
+        (AppendsFront (S.taken sink.old) (S.taken sink.new) (concat (map (λ p. p.now) parts.now))) }
     ensures failures { CountsFailure (S.failures sink.old) (S.failures sink.new) result }
 {
     for part in parts {

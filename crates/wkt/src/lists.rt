@@ -75,7 +75,8 @@ fn push_new(
     last: Option<GridPoint>,
     position: GridPoint,
 ) -> Result<(), WktFault>
-    ensures pushed { OnOk result (positions.new.items ≡ positions.old.items ++ cond (repeats last position) [] (position ∷ [])) }
+    ensures pushed { OnOk result
+        (positions.new.items ≡ positions.old.items ++ cond (repeats last position) [] (position ∷ [])) }
     ensures grown { OnOk result (vec_len positions.new ≤ vec_len positions.old + 1) }
     ensures memory { IfErr result (λ e. e ≡ WktFault.OutOfMemory) }
 {
@@ -115,7 +116,8 @@ pub fn line_positions(
 fn ring(alloc: Global, cursor: &mut Cursor<'_>, room: Room) -> Result<(LineString, Room), WktFault>
     requires { room.positions ≤ position_limit }
     ensures read { ReadsInMemory (λ found. found) (steps.ring room cursor.old) result cursor.new }
-    ensures left { IfOk result (λ found. (found.1.parts + 1 ≡ room.parts) × (found.1.positions ≤ position_limit)) }
+    ensures left { IfOk result
+        (λ found. (found.1.parts + 1 ≡ room.parts) × (found.1.positions ≤ position_limit)) }
 {
     cursor.expect(b'(')?;
     if room.parts == 0 {
@@ -134,8 +136,10 @@ fn padded_ring(
     room: Room,
 ) -> Result<(LineString, Room), WktFault>
     requires { room.positions ≤ position_limit }
-    ensures read { ReadsInMemory (λ found. found) (spec.padded (steps.ring room) cursor.old) result cursor.new }
-    ensures left { IfOk result (λ found. (found.1.parts + 1 ≡ room.parts) × (found.1.positions ≤ position_limit)) }
+    ensures read { ReadsInMemory (λ found. found)
+        (spec.padded (steps.ring room) cursor.old) result cursor.new }
+    ensures left { IfOk result
+        (λ found. (found.1.parts + 1 ≡ room.parts) × (found.1.positions ≤ position_limit)) }
 {
     cursor.run(ByteClass::White);
     let found = ring(alloc, cursor, room)?;
@@ -150,8 +154,10 @@ pub fn rings(
     most: Room,
 ) -> Result<(Vec<LineString>, Room), WktFault>
     requires { most.positions ≤ position_limit }
-    ensures read { ReadsInMemory (λ found. (found.0.items, found.1)) (steps.rings most cursor.old) result cursor.new }
-    ensures left { IfOk result (λ found. (found.1.parts < most.parts) × (found.1.positions ≤ position_limit)) }
+    ensures read { ReadsInMemory (λ found. (found.0.items, found.1))
+        (steps.rings most cursor.old) result cursor.new }
+    ensures left { IfOk result
+        (λ found. (found.1.parts < most.parts) × (found.1.positions ≤ position_limit)) }
 {
     let mut rings = Vec::new(alloc);
     let mut room = most;
@@ -172,8 +178,10 @@ fn padded_polygon(
     room: Room,
 ) -> Result<(Vec<LineString>, Room), WktFault>
     requires { room.positions ≤ position_limit }
-    ensures read { ReadsInMemory (λ found. (found.0.items, found.1)) (spec.padded (spec.enclosed (steps.rings room)) cursor.old) result cursor.new }
-    ensures left { IfOk result (λ found. (found.1.parts < room.parts) × (found.1.positions ≤ position_limit)) }
+    ensures read { ReadsInMemory (λ found. (found.0.items, found.1))
+        (spec.padded (spec.enclosed (steps.rings room)) cursor.old) result cursor.new }
+    ensures left { IfOk result
+        (λ found. (found.1.parts < room.parts) × (found.1.positions ≤ position_limit)) }
 {
     cursor.run(ByteClass::White);
     cursor.expect(b'(')?;
@@ -186,7 +194,8 @@ fn padded_polygon(
 /// Reads polygons, one or more with commas between.
 pub fn polygons(alloc: Global, cursor: &mut Cursor<'_>, most: Room) -> Result<Polygons, WktFault>
     requires { most.positions ≤ position_limit }
-    ensures { ReadsInMemory (λ found. found) (steps.without_room (steps.polygons most) cursor.old) result cursor.new }
+    ensures { ReadsInMemory (λ found. found)
+        (steps.without_room (steps.polygons most) cursor.old) result cursor.new }
 {
     let mut polygons = Polygons::new(alloc);
     let mut room = most;

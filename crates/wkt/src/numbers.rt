@@ -35,7 +35,8 @@ impl<'a> Model for Number<'a> {
 
     ghost Value = { FoundNumber };
 
-    ghost view = { λ n. record { at = n.at; minus = n.minus; whole = n.whole.now; fraction = n.fraction.now } };
+    ghost view = { λ n.
+        record { at = n.at; minus = n.minus; whole = n.whole.now; fraction = n.fraction.now } };
 
     ghost invariant = { λ n. list_all is_ascii_digit n.whole.now ≡ true };
 }
@@ -97,7 +98,8 @@ fn are_zeros(digits: &[u8]) -> bool
 /// The number of decimal digits, where it isn't past the limit of coordinates. Leading zeros don't count.
 fn magnitude(digits: &[u8]) -> Option<u32>
     requires { list_all is_ascii_digit digits.now ≡ true }
-    ensures { MatchOption result (coordinate_limit < digits_value 10 digits.now) (λ n. (n ≡ digits_value 10 digits.now) × (n ≤ coordinate_limit)) }
+    ensures { MatchOption result (coordinate_limit < digits_value 10 digits.now)
+        (λ n. (n ≡ digits_value 10 digits.now) × (n ≤ coordinate_limit)) }
 {
     let mut value = 0;
     for byte in digits {

@@ -22,7 +22,8 @@ use sinks::{Sink, SinkFault, put_all, put_parts};
 /// memory. At Err the sink failed, and a beginning of the text has been put.
 pub fn print<S: Sink>(geometry: &Geometry, sink: &mut S) -> Result<(), SinkFault>
     ensures ok { OnOk result (Appends (S.taken sink.old) (S.taken sink.new) (canonical_text geometry.now)) }
-    ensures front { OnErr result (AppendsFront (S.taken sink.old) (S.taken sink.new) (canonical_text geometry.now)) }
+    ensures front { OnErr result
+        (AppendsFront (S.taken sink.old) (S.taken sink.new) (canonical_text geometry.now)) }
     ensures failures { CountsFailure (S.failures sink.old) (S.failures sink.new) result }
     ensures spells { OnOk result (HoldsText (S.taken sink.old) (S.taken sink.new) geometry.now) }
 {
@@ -31,8 +32,10 @@ pub fn print<S: Sink>(geometry: &Geometry, sink: &mut S) -> Result<(), SinkFault
 
 // Puts the text of a content.
 fn put_shape<S: Sink>(sink: &mut S, shape: &Shape) -> Result<(), SinkFault>
-    ensures ok { OnOk result (Appends (S.taken sink.old) (S.taken sink.new) (canonical_text (geometry_in shape.now))) }
-    ensures front { OnErr result (AppendsFront (S.taken sink.old) (S.taken sink.new) (canonical_text (geometry_in shape.now))) }
+    ensures ok { OnOk result
+        (Appends (S.taken sink.old) (S.taken sink.new) (canonical_text (geometry_in shape.now))) }
+    ensures front { OnErr result
+        (AppendsFront (S.taken sink.old) (S.taken sink.new) (canonical_text (geometry_in shape.now))) }
     ensures failures { CountsFailure (S.failures sink.old) (S.failures sink.new) result }
 {
     match shape {
@@ -43,8 +46,10 @@ fn put_shape<S: Sink>(sink: &mut S, shape: &Shape) -> Result<(), SinkFault>
 
 // Puts the text of a content that is no POINT.
 fn put_larger<S: Sink>(sink: &mut S, content: &Larger) -> Result<(), SinkFault>
-    ensures ok { OnOk result (Appends (S.taken sink.old) (S.taken sink.new) (canonical_text (larger_in content.now))) }
-    ensures front { OnErr result (AppendsFront (S.taken sink.old) (S.taken sink.new) (canonical_text (larger_in content.now))) }
+    ensures ok { OnOk result
+        (Appends (S.taken sink.old) (S.taken sink.new) (canonical_text (larger_in content.now))) }
+    ensures front { OnErr result
+        (AppendsFront (S.taken sink.old) (S.taken sink.new) (canonical_text (larger_in content.now))) }
     ensures failures { CountsFailure (S.failures sink.old) (S.failures sink.new) result }
 {
     match content {
@@ -58,8 +63,10 @@ fn put_larger<S: Sink>(sink: &mut S, content: &Larger) -> Result<(), SinkFault>
 
 // Puts the text of the POINT at a position, or of the empty one.
 fn put_point<S: Sink>(sink: &mut S, position: Option<GridPoint>) -> Result<(), SinkFault>
-    ensures ok { OnOk result (Appends (S.taken sink.old) (S.taken sink.new) (tagged_text (codes "POINT") (map position_text (option_to_list position)))) }
-    ensures front { OnErr result (AppendsFront (S.taken sink.old) (S.taken sink.new) (tagged_text (codes "POINT") (map position_text (option_to_list position)))) }
+    ensures ok { OnOk result (Appends (S.taken sink.old) (S.taken sink.new)
+        (tagged_text (codes "POINT") (map position_text (option_to_list position)))) }
+    ensures front { OnErr result (AppendsFront (S.taken sink.old) (S.taken sink.new)
+        (tagged_text (codes "POINT") (map position_text (option_to_list position)))) }
     ensures failures { CountsFailure (S.failures sink.old) (S.failures sink.new) result }
 {
     match position {
@@ -70,8 +77,10 @@ fn put_point<S: Sink>(sink: &mut S, position: Option<GridPoint>) -> Result<(), S
 
 // Puts the text of the MULTIPOINT of these points.
 fn put_multi_point<S: Sink>(sink: &mut S, points: &[GridPoint]) -> Result<(), SinkFault>
-    ensures ok { OnOk result (Appends (S.taken sink.old) (S.taken sink.new) (tagged_text (codes "MULTIPOINT") (map point_text points.now))) }
-    ensures front { OnErr result (AppendsFront (S.taken sink.old) (S.taken sink.new) (tagged_text (codes "MULTIPOINT") (map point_text points.now))) }
+    ensures ok { OnOk result (Appends (S.taken sink.old) (S.taken sink.new)
+        (tagged_text (codes "MULTIPOINT") (map point_text points.now))) }
+    ensures front { OnErr result (AppendsFront (S.taken sink.old) (S.taken sink.new)
+        (tagged_text (codes "MULTIPOINT") (map point_text points.now))) }
     ensures failures { CountsFailure (S.failures sink.old) (S.failures sink.new) result }
 {
     match points.split_first() {
@@ -86,8 +95,10 @@ fn put_multi_point<S: Sink>(sink: &mut S, points: &[GridPoint]) -> Result<(), Si
 
 // Puts the text of the LINESTRING through these positions.
 fn put_line_string<S: Sink>(sink: &mut S, positions: &[GridPoint]) -> Result<(), SinkFault>
-    ensures ok { OnOk result (Appends (S.taken sink.old) (S.taken sink.new) (tagged_text (codes "LINESTRING") (map position_text positions.now))) }
-    ensures front { OnErr result (AppendsFront (S.taken sink.old) (S.taken sink.new) (tagged_text (codes "LINESTRING") (map position_text positions.now))) }
+    ensures ok { OnOk result (Appends (S.taken sink.old) (S.taken sink.new)
+        (tagged_text (codes "LINESTRING") (map position_text positions.now))) }
+    ensures front { OnErr result (AppendsFront (S.taken sink.old) (S.taken sink.new)
+        (tagged_text (codes "LINESTRING") (map position_text positions.now))) }
     ensures failures { CountsFailure (S.failures sink.old) (S.failures sink.new) result }
 {
     if positions.is_empty() {
@@ -99,8 +110,10 @@ fn put_line_string<S: Sink>(sink: &mut S, positions: &[GridPoint]) -> Result<(),
 
 // Puts the text of the MULTILINESTRING of these elements.
 fn put_multi_line_string<S: Sink>(sink: &mut S, lines: &[LineString]) -> Result<(), SinkFault>
-    ensures ok { OnOk result (Appends (S.taken sink.old) (S.taken sink.new) (tagged_text (codes "MULTILINESTRING") (map line_text lines.now))) }
-    ensures front { OnErr result (AppendsFront (S.taken sink.old) (S.taken sink.new) (tagged_text (codes "MULTILINESTRING") (map line_text lines.now))) }
+    ensures ok { OnOk result (Appends (S.taken sink.old) (S.taken sink.new)
+        (tagged_text (codes "MULTILINESTRING") (map line_text lines.now))) }
+    ensures front { OnErr result (AppendsFront (S.taken sink.old) (S.taken sink.new)
+        (tagged_text (codes "MULTILINESTRING") (map line_text lines.now))) }
     ensures failures { CountsFailure (S.failures sink.old) (S.failures sink.new) result }
 {
     if lines.is_empty() {
@@ -112,8 +125,10 @@ fn put_multi_line_string<S: Sink>(sink: &mut S, lines: &[LineString]) -> Result<
 
 // Puts the text of the POLYGON of these rings.
 fn put_polygon<S: Sink>(sink: &mut S, rings: &[LineString]) -> Result<(), SinkFault>
-    ensures ok { OnOk result (Appends (S.taken sink.old) (S.taken sink.new) (tagged_text (codes "POLYGON") (map line_text rings.now))) }
-    ensures front { OnErr result (AppendsFront (S.taken sink.old) (S.taken sink.new) (tagged_text (codes "POLYGON") (map line_text rings.now))) }
+    ensures ok { OnOk result (Appends (S.taken sink.old) (S.taken sink.new)
+        (tagged_text (codes "POLYGON") (map line_text rings.now))) }
+    ensures front { OnErr result (AppendsFront (S.taken sink.old) (S.taken sink.new)
+        (tagged_text (codes "POLYGON") (map line_text rings.now))) }
     ensures failures { CountsFailure (S.failures sink.old) (S.failures sink.new) result }
 {
     if rings.is_empty() {
@@ -125,8 +140,10 @@ fn put_polygon<S: Sink>(sink: &mut S, rings: &[LineString]) -> Result<(), SinkFa
 
 // Puts the text of the MULTIPOLYGON of these polygons.
 fn put_multi_polygon<S: Sink>(sink: &mut S, polygons: &Polygons) -> Result<(), SinkFault>
-    ensures ok { OnOk result (Appends (S.taken sink.old) (S.taken sink.new) (tagged_text (codes "MULTIPOLYGON") (map polygon_text polygons.now))) }
-    ensures front { OnErr result (AppendsFront (S.taken sink.old) (S.taken sink.new) (tagged_text (codes "MULTIPOLYGON") (map polygon_text polygons.now))) }
+    ensures ok { OnOk result (Appends (S.taken sink.old) (S.taken sink.new)
+        (tagged_text (codes "MULTIPOLYGON") (map polygon_text polygons.now))) }
+    ensures front { OnErr result (AppendsFront (S.taken sink.old) (S.taken sink.new)
+        (tagged_text (codes "MULTIPOLYGON") (map polygon_text polygons.now))) }
     ensures failures { CountsFailure (S.failures sink.old) (S.failures sink.new) result }
 {
     if polygons.len() == 0 {
@@ -142,8 +159,10 @@ fn put_polygons<'p, S: Sink>(
     before: &'p [u8],
     polygons: &Polygons,
 ) -> Result<(), SinkFault>
-    ensures ok { OnOk result (Appends (S.taken sink.old) (S.taken sink.new) (before.now ++ (join_with_byte 44 (map polygon_text polygons.now) ++ codes ")"))) }
-    ensures front { OnErr result (AppendsFront (S.taken sink.old) (S.taken sink.new) (before.now ++ (join_with_byte 44 (map polygon_text polygons.now) ++ codes ")"))) }
+    ensures ok { OnOk result (Appends (S.taken sink.old) (S.taken sink.new)
+        (before.now ++ (join_with_byte 44 (map polygon_text polygons.now) ++ codes ")"))) }
+    ensures front { OnErr result (AppendsFront (S.taken sink.old) (S.taken sink.new)
+        (before.now ++ (join_with_byte 44 (map polygon_text polygons.now) ++ codes ")"))) }
     ensures failures { CountsFailure (S.failures sink.old) (S.failures sink.new) result }
 {
     put_all(sink, before)?;
@@ -153,8 +172,10 @@ fn put_polygons<'p, S: Sink>(
 
 // Puts these polygons with commas between.
 fn put_joined_polygons<S: Sink>(sink: &mut S, polygons: &Polygons) -> Result<(), SinkFault>
-    ensures ok { OnOk result (Appends (S.taken sink.old) (S.taken sink.new) (join_with_byte 44 (map polygon_text polygons.now))) }
-    ensures front { OnErr result (AppendsFront (S.taken sink.old) (S.taken sink.new) (join_with_byte 44 (map polygon_text polygons.now))) }
+    ensures ok { OnOk result
+        (Appends (S.taken sink.old) (S.taken sink.new) (join_with_byte 44 (map polygon_text polygons.now))) }
+    ensures front { OnErr result (AppendsFront (S.taken sink.old) (S.taken sink.new)
+        (join_with_byte 44 (map polygon_text polygons.now))) }
     ensures failures { CountsFailure (S.failures sink.old) (S.failures sink.new) result }
 {
     for index in 0..polygons.len() {
@@ -169,8 +190,10 @@ fn put_lines<'p, S: Sink>(
     before: &'p [u8],
     lines: &[LineString],
 ) -> Result<(), SinkFault>
-    ensures ok { OnOk result (Appends (S.taken sink.old) (S.taken sink.new) (before.now ++ (join_with_byte 44 (map line_text lines.now) ++ codes ")"))) }
-    ensures front { OnErr result (AppendsFront (S.taken sink.old) (S.taken sink.new) (before.now ++ (join_with_byte 44 (map line_text lines.now) ++ codes ")"))) }
+    ensures ok { OnOk result (Appends (S.taken sink.old) (S.taken sink.new)
+        (before.now ++ (join_with_byte 44 (map line_text lines.now) ++ codes ")"))) }
+    ensures front { OnErr result (AppendsFront (S.taken sink.old) (S.taken sink.new)
+        (before.now ++ (join_with_byte 44 (map line_text lines.now) ++ codes ")"))) }
     ensures failures { CountsFailure (S.failures sink.old) (S.failures sink.new) result }
 {
     put_all(sink, before)?;
@@ -180,8 +203,10 @@ fn put_lines<'p, S: Sink>(
 
 // Puts these lines or rings with commas between.
 fn put_joined_lines<S: Sink>(sink: &mut S, lines: &[LineString]) -> Result<(), SinkFault>
-    ensures ok { OnOk result (Appends (S.taken sink.old) (S.taken sink.new) (join_with_byte 44 (map line_text lines.now))) }
-    ensures front { OnErr result (AppendsFront (S.taken sink.old) (S.taken sink.new) (join_with_byte 44 (map line_text lines.now))) }
+    ensures ok { OnOk result
+        (Appends (S.taken sink.old) (S.taken sink.new) (join_with_byte 44 (map line_text lines.now))) }
+    ensures front { OnErr result
+        (AppendsFront (S.taken sink.old) (S.taken sink.new) (join_with_byte 44 (map line_text lines.now))) }
     ensures failures { CountsFailure (S.failures sink.old) (S.failures sink.new) result }
 {
     for (index, line) in lines.iter().enumerate() {
@@ -203,8 +228,10 @@ fn put_line<'p, S: Sink>(
     before: &'p [u8],
     line: &[GridPoint],
 ) -> Result<(), SinkFault>
-    ensures ok { OnOk result (Appends (S.taken sink.old) (S.taken sink.new) (before.now ++ (join_with_byte 44 (map position_text line.now) ++ codes ")"))) }
-    ensures front { OnErr result (AppendsFront (S.taken sink.old) (S.taken sink.new) (before.now ++ (join_with_byte 44 (map position_text line.now) ++ codes ")"))) }
+    ensures ok { OnOk result (Appends (S.taken sink.old) (S.taken sink.new)
+        (before.now ++ (join_with_byte 44 (map position_text line.now) ++ codes ")"))) }
+    ensures front { OnErr result (AppendsFront (S.taken sink.old) (S.taken sink.new)
+        (before.now ++ (join_with_byte 44 (map position_text line.now) ++ codes ")"))) }
     ensures failures { CountsFailure (S.failures sink.old) (S.failures sink.new) result }
 {
     put_all(sink, before)?;
@@ -214,8 +241,10 @@ fn put_line<'p, S: Sink>(
 
 // Puts these positions with commas between.
 fn put_joined_positions<S: Sink>(sink: &mut S, line: &[GridPoint]) -> Result<(), SinkFault>
-    ensures ok { OnOk result (Appends (S.taken sink.old) (S.taken sink.new) (join_with_byte 44 (map position_text line.now))) }
-    ensures front { OnErr result (AppendsFront (S.taken sink.old) (S.taken sink.new) (join_with_byte 44 (map position_text line.now))) }
+    ensures ok { OnOk result
+        (Appends (S.taken sink.old) (S.taken sink.new) (join_with_byte 44 (map position_text line.now))) }
+    ensures front { OnErr result (AppendsFront (S.taken sink.old) (S.taken sink.new)
+        (join_with_byte 44 (map position_text line.now))) }
     ensures failures { CountsFailure (S.failures sink.old) (S.failures sink.new) result }
 {
     match line.split_first() {
@@ -234,8 +263,10 @@ fn put_more<'p, S: Sink>(
     positions: &[GridPoint],
     behind: &'p [u8],
 ) -> Result<(), SinkFault>
-    ensures ok { OnOk result (Appends (S.taken sink.old) (S.taken sink.new) (concat (map (λ p. before.now ++ position_text p ++ behind.now) positions.now))) }
-    ensures front { OnErr result (AppendsFront (S.taken sink.old) (S.taken sink.new) (concat (map (λ p. before.now ++ position_text p ++ behind.now) positions.now))) }
+    ensures ok { OnOk result (Appends (S.taken sink.old) (S.taken sink.new)
+        (concat (map (λ p. before.now ++ position_text p ++ behind.now) positions.now))) }
+    ensures front { OnErr result (AppendsFront (S.taken sink.old) (S.taken sink.new)
+        (concat (map (λ p. before.now ++ position_text p ++ behind.now) positions.now))) }
     ensures failures { CountsFailure (S.failures sink.old) (S.failures sink.new) result }
 {
     for point in positions {
@@ -251,8 +282,10 @@ fn put_position<'p, S: Sink>(
     position: &GridPoint,
     behind: &'p [u8],
 ) -> Result<(), SinkFault>
-    ensures ok { OnOk result (Appends (S.taken sink.old) (S.taken sink.new) (before.now ++ position_text position.now ++ behind.now)) }
-    ensures front { OnErr result (AppendsFront (S.taken sink.old) (S.taken sink.new) (before.now ++ position_text position.now ++ behind.now)) }
+    ensures ok { OnOk result (Appends (S.taken sink.old) (S.taken sink.new)
+        (before.now ++ position_text position.now ++ behind.now)) }
+    ensures front { OnErr result (AppendsFront (S.taken sink.old) (S.taken sink.new)
+        (before.now ++ position_text position.now ++ behind.now)) }
     ensures failures { CountsFailure (S.failures sink.old) (S.failures sink.new) result }
 {
     let mut x = Buffer::new();
@@ -270,8 +303,10 @@ fn put_numbers<'p, S: Sink>(
     y: &'p str,
     behind: &'p [u8],
 ) -> Result<(), SinkFault>
-    ensures ok { OnOk result (Appends (S.taken sink.old) (S.taken sink.new) (before.now ++ (x.now ++ codes " " ++ y.now) ++ behind.now)) }
-    ensures front { OnErr result (AppendsFront (S.taken sink.old) (S.taken sink.new) (before.now ++ (x.now ++ codes " " ++ y.now) ++ behind.now)) }
+    ensures ok { OnOk result (Appends (S.taken sink.old) (S.taken sink.new)
+        (before.now ++ (x.now ++ codes " " ++ y.now) ++ behind.now)) }
+    ensures front { OnErr result (AppendsFront (S.taken sink.old) (S.taken sink.new)
+        (before.now ++ (x.now ++ codes " " ++ y.now) ++ behind.now)) }
     ensures failures { CountsFailure (S.failures sink.old) (S.failures sink.new) result }
 {
     let parts = [before, x.as_bytes(), b" ", y.as_bytes(), behind];

@@ -97,7 +97,8 @@ fn line_string_text(alloc: Global, cursor: &mut Cursor<'_>) -> Result<Shape, Wkt
 
 /// Reads the rings of a POLYGON or the elements of a MULTILINESTRING, or EMPTY.
 fn ring_list(alloc: Global, cursor: &mut Cursor<'_>) -> Result<Vec<LineString>, WktFault>
-    ensures { ReadsInMemory (λ ls. ls.items) (steps.body (steps.without_room (steps.rings steps.whole_room)) cursor.old) result cursor.new }
+    ensures { ReadsInMemory (λ ls. ls.items)
+        (steps.body (steps.without_room (steps.rings steps.whole_room)) cursor.old) result cursor.new }
 {
     if reads_empty(cursor)? {
         return Ok(Vec::new(alloc));
