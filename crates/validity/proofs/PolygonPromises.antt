@@ -1,13 +1,12 @@
 -- Of a valid geometry: its interior, boundary and exterior stand by its rings.
-use Rattle.std.proofs.Common.{◌≡◌, ◌≢◌, ◌⊎◌, inl, inr, ◌↔◌, refl, sym, subst, ◌∙◌, ℕ, zero, suc, ◌+◌, ◌<◌, arith, List, [], ◌∷◌, Contains, Some, None, slice_get}
-use Rattle.geometry_model.specs.Points.{Position, Point, IsPoint}
-use Rattle.geometry_model.specs.Geometries.{Geometry, Polygon, MultiPolygon, edges, edges_of_line, elements, kind, listed, rings}
+use Rattle.std.proofs.Common.{◌≡◌, ◌≢◌, ◌⊎◌, inl, inr, refl, subst, ◌∙◌, ℕ, ◌+◌, ◌<◌, arith, List, [], ◌∷◌, Contains, Some, None, slice_get}
+use Rattle.geometry_model.specs.Points.{Position}
+use Rattle.geometry_model.specs.Geometries.{Geometry, Polygon, edges, edges_of_line, elements, listed, rings}
 use Rattle.geometry_model.specs.Dimensions.{weighted}
 use Rattle.geometry_model.specs.Locations.{locate}
 use Rattle.geometry_model.specs.Validity.{IsValid}
 use Rattle.geometry_model.specs.declared.point_sets.Location.{Location}
 use Rattle.geometry_model.specs.declared.point_sets.Location.TheVariants.{Interior, Boundary, Exterior}
-use Rattle.geometry_model.specs.declared.shapes.Kind.TheVariants.{Area}
 use Rattle.geometry_laws.specs.RingLaws.{IsClosed, Misses}
 use Rattle.geometry_laws.proofs.Cuts.{among_from_contains, contains_of_among}
 use Rattle.geometry_laws.proofs.RingParity.{each_from_all}
@@ -20,7 +19,7 @@ use Rattle.polygon_laws.proofs.Outside.{outside_is_exterior}
 use Rattle.polygon_laws.proofs.Parting.{rings_part, sides_of_a_ring}
 use Rattle.polygon_laws.proofs.Places.{place_from_contains}
 use Rattle.polygon_laws.proofs.Stretch.{stretch_stays}
-use Rattle.validity.specs.PolygonPromises.{HolesAreCutOut, HolesAreInside, InteriorByElements, ElementsAreApart, LiesIn, StretchesStay, OutsideIsExterior, IsWithinSlantOfRing, RingsPart, RingsHaveSides}
+use Rattle.validity.specs.PolygonPromises.{HolesAreCutOut, HolesAreInside, InteriorByElements, ElementsAreApart, LiesIn, StretchesStay, OutsideIsExterior, RingsPart, RingsHaveSides}
 
 element_valid : (g : Geometry) → IsValid g → (rs : List (List Position)) → Contains (elements g) rs → IsValid (Polygon rs)
 element_valid g v rs c = element_is_valid g v rs (among_from_contains (elements g) rs c)

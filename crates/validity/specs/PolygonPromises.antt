@@ -9,7 +9,7 @@ use Rattle.geometry_model.specs.Envelopes.{envelope}
 use Rattle.geometry_model.specs.Labels.{below, above}
 use Rattle.geometry_model.specs.Locations.{stands_at, locate}
 use Rattle.geometry_model.specs.declared.point_sets.Location.{Location}
-use Rattle.geometry_model.specs.declared.point_sets.Location.TheVariants.{Interior, Boundary, Exterior}
+use Rattle.geometry_model.specs.declared.point_sets.Location.TheVariants.{Interior, Exterior}
 use Rattle.geometry_model.specs.declared.shapes.Kind.TheVariants.{Area}
 use Rattle.geometry_laws.specs.RingLaws.{Misses}
 use Rattle.geometry_laws.specs.CoverLaws.{NearSides, AllNearStand}
