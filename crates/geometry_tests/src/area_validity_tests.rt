@@ -112,7 +112,10 @@ fn the_first_fault_alone_is_told(rt: HostRuntime) -> Result<(), Fail> {
         ),
     ];
     for (text, fault) in cases {
-        assert_eq!(rt; check(rt.alloc(), read(rt.alloc(), text)?).err(), Some(fault));
+        assert_eq!(rt;
+            check(rt.alloc(), read(rt.alloc(), text)?).err(),
+            Some(fault)
+        );
     }
     Ok(())
 }
