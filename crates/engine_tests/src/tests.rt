@@ -248,11 +248,7 @@ fn geometries_are_related(rt: HostRuntime) -> Result<(), Fail> {
         ("POINT EMPTY", "multipoint empty", "FFFFFFFF2\n"),
         ("POINT(1.0 2)", "POINT(0 0)", "FF0FFF0F2\n"),
         ("POINT(1. .0)", "POINT(0 0)", "FF0FFF0F2\n"),
-        (
-            "LINESTRING(0 0,3 1)",
-            "LINESTRING(0 1,2 0)",
-            "0F1FF0102\n",
-        ),
+        ("LINESTRING(0 0,3 1)", "LINESTRING(0 1,2 0)", "0F1FF0102\n"),
         (
             "POLYGON((0 0,4 0,4 4,0 4,0 0))",
             "POLYGON((4 0,8 0,8 4,4 4,4 0))",
