@@ -15,8 +15,9 @@ use std::alloc::{AllocError, Global};
 /// How many bytes of records that were put are kept at most, before they are let go.
 const KEPT_BYTES: usize = 65_536;
 
-/// Makes the text of each record in memory and puts it. A `csv` writer has a buffer of its own, which costs more to set
-/// up than a record to write, so one is kept from record to record, and with it the last records' text, up to 64 KiB.
+/// Makes the text of each record in memory and puts it. A `csv` writer has a buffer of its own, which costs
+/// more to set up than a record to write, so one is kept from record to record, and with it the last records'
+/// text, up to 64 KiB.
 #[derive(Drop)]
 pub struct RecordWriter {
     pub(crate) writer: Writer<Vec<u8>>,
@@ -32,8 +33,9 @@ impl RecordWriter {
         }
     }
 
-    /// Puts the text of a record, ended by a line feed: all of it at Ok, and a beginning of it where the sink fails or
-    /// memory runs out. At Ok it is ready for the next record, which needs as many fields as this one.
+    /// Puts the text of a record, ended by a line feed: all of it at Ok, and a beginning of it where the sink
+    /// fails or memory runs out. At Ok it is ready for the next record, which needs as many fields as this
+    /// one.
     pub fn put<S: Sink>(
         &mut self,
         alloc: Global,
@@ -42,8 +44,10 @@ impl RecordWriter {
     ) -> Result<(), PutFault>
         requires { IsReady self.old }
         ensures ready { OnOk result (IsReady self.new) }
-        ensures ok { OnOk result (Appends (S.taken sink.old) (S.taken sink.new) (row_text default_writer (fields_of fields.now))) }
-        ensures front { OnErr result (AppendsFront (S.taken sink.old) (S.taken sink.new) (row_text default_writer (fields_of fields.now))) }
+        ensures ok { OnOk result
+            (Appends (S.taken sink.old) (S.taken sink.new) (row_text default_writer (fields_of fields.now))) }
+        ensures front { OnErr result (AppendsFront (S.taken sink.old) (S.taken sink.new)
+            (row_text default_writer (fields_of fields.now))) }
         ensures failures { CountsPut (S.failures sink.old) (S.failures sink.new) result }
     {
         self.let_go(alloc);
@@ -74,7 +78,8 @@ impl RecordWriter {
     fn write(&mut self, fields: &ByteRecord) -> Result<(), AllocError>
         requires { IsReady self.old }
         ensures ready { OnOk result (IsReady self.new) }
-        ensures added { OnOk result (text_kept self.new ≡ text_kept self.old ++ row_text default_writer (fields_of fields.now)) }
+        ensures added { OnOk result
+            (text_kept self.new ≡ text_kept self.old ++ row_text default_writer (fields_of fields.now)) }
     {
         if self.writer.write_byte_record(fields).is_err() || self.writer.flush().is_err() {
             return Err(AllocError);
