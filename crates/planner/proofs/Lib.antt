@@ -1,0 +1,3 @@
+pub mod AccessLists
+pub mod LeastStep
+pub mod Counts
