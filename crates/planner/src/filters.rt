@@ -14,7 +14,8 @@ fn left_after<A>(condition: &Cond<A>, predicates: usize) -> Option<usize>
     ensures { result ≡ left_after (spec.predicate_count condition.now) predicates }
 {
     match condition {
-        Cond::Or(parts) | Cond::And(parts) => left_after_all(parts.as_slice(), predicates),
+        Cond::Or(parts) => left_after_all(parts.as_slice(), predicates),
+        Cond::And(parts) => left_after_all(parts.as_slice(), predicates),
         Cond::Not(part) => left_after(part.get(), predicates),
         Cond::Compare(_, _, _) | Cond::IsNull(_) | Cond::IsEmpty(_) => Some(predicates),
         Cond::Relates(_, _, _) => predicates.checked_sub(1),

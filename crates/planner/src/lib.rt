@@ -3,8 +3,11 @@
 #![tactic(auto)]
 
 mod accesses;
+pub mod choosing;
 mod costs;
 mod driving;
 mod filters;
 mod least;
+
+pub use choosing::choose;
 
