@@ -10,4 +10,3 @@ mod filters;
 mod least;
 
 pub use choosing::choose;
-
