@@ -1,6 +1,6 @@
 -- The first of least number among one element more.
 use Rattle.std.specs.Prelude.{◌≡◌, refl, ℕ, ◌<◌, ◌≤◌, Bool, true, false, cond, nat_le, List, [], ◌∷◌, ◌++◌, ◌+◌, length, take, get_or, All, Option, Some, None, IsSome}
-use Rattle.std.proofs.Common.{arith, ap, ◌∙◌, sym}
+use Rattle.std.proofs.Common.{arith, ap, ◌∙◌}
 use Rattle.std.proofs.lemmas.List.{append_assoc, take_more}
 use Rattle.std.proofs.lemmas.List.Elements.{All-nil, All-cons, All-append, All-weaker}
 use Rattle.table_model.specs.Plans.{first_of_least}

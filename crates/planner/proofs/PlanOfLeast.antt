@@ -5,7 +5,6 @@ use Rattle.table_model.specs.Plans.{plan_of, cost, lawful_accesses, first_of_lea
 use Rattle.table_model.specs.declared.conditions.Cond.{Cond}
 use Rattle.table_model.specs.declared.conditions.GeometryArgument.{GeometryArgument}
 use Rattle.table_model.specs.declared.conditions.Reference.{Reference}
-use Rattle.table_model.specs.declared.plans.Access.{Access}
 use Rattle.planner.proofs.LeastMap.{least_map}
 use Rattle.planner.specs.Nestings.{accesses_in}
 use Rattle.planner.specs.declared.accesses.Nesting.{Nesting}

@@ -1,4 +1,4 @@
-use Rattle.std.proofs.Common.{◌≡◌, ◌+◌, ap, ◌∙◌, sym, drop, sum_by, option_and_then}
+use Rattle.std.proofs.Common.{◌+◌, ap, ◌∙◌, sym, drop, sum_by, option_and_then}
 use Rattle.planner.specs.Nestings.{left_after}
 use Rattle.table_model.specs.Plans as spec
 use Rattle.planner.proofs.Counts.{count_or, count_and, left_after_next}

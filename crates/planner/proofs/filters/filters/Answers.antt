@@ -1,4 +1,4 @@
-use Rattle.std.proofs.Common.{◌≡◌, ◌++◌, ◌==◌, ap, ◌∙◌, sym}
+use Rattle.std.proofs.Common.{◌++◌, ◌==◌, ap, ◌∙◌, sym}
 use Rattle.table_model.specs.Plans as spec
 use Rattle.planner.proofs.Counts.{one_more_count}
 use Rattle.planner.proofs.filters.filters.Goals as goal
