@@ -1,0 +1,45 @@
+-- Numbers of predicates.
+use Rattle.std.specs.Prelude.{◌≡◌, refl, ℕ, ◌+◌, ◌-◌, ◌<◌, Bool, true, false, cond, nat_le, List, [], ◌∷◌, ◌++◌, map, sum_by, length, get_or, drop, Some, None, option_and_then}
+use Rattle.std.proofs.Common.{arith, ap, ◌∙◌, sym}
+use Rattle.std.specs.List.{flat_map, fold, range_with_len}
+use Rattle.std.proofs.lemmas.List.{append-nil, drop_more, map-id}
+use Rattle.std.proofs.lemmas.List.Concat.{flat_map-append}
+use Rattle.std.proofs.lemmas.List.FromFn.{map-range_with_len_more}
+use Rattle.std.proofs.lemmas.List.Sums.{sum_by-cons}
+use Rattle.table_model.proofs.CondFolds.{fold-Or, fold-And}
+use Rattle.table_model.specs.Plans.{predicate_count, predicates_by_parts}
+use Rattle.table_model.specs.declared.conditions.Cond.{Cond}
+use Rattle.table_model.specs.declared.conditions.Cond.TheVariants as conds
+use Rattle.planner.specs.Nestings.{left_after}
+
+pub left_after_sum : (a b n : ℕ) → left_after (a + b) n ≡ option_and_then (left_after b) (left_after a n)
+left_after_sum a b n = go (nat_le a n) refl
+  where
+    go : (t : Bool) → nat_le a n ≡ t → cond (nat_le (a + b) n) (Some (n - (a + b))) None ≡ option_and_then (left_after b) (cond t (Some (n - a)) None)
+    go true e = grind arith
+    go false e = grind arith
+
+gathered : {X : Type 0} (f : X → ℕ) (xs : List X) (n : ℕ) → fold (λ a x. a + x) n (map f xs) ≡ fold (λ a x. a + f x) n xs
+gathered f [] n = refl
+gathered f (x ∷ xs) n = gathered f xs (n + f x)
+
+pub count_or : {A : Type 0} (parts : List (Cond A)) → predicate_count (conds.Or parts) ≡ sum_by predicate_count parts
+count_or {A = A} parts = fold-Or A ℕ predicates_by_parts parts ∙ gathered predicate_count parts 0
+
+pub count_and : {A : Type 0} (parts : List (Cond A)) → predicate_count (conds.And parts) ≡ sum_by predicate_count parts
+count_and {A = A} parts = fold-And A ℕ predicates_by_parts parts ∙ gathered predicate_count parts 0
+
+-- one condition more
+pub left_after_next : {A : Type 0} (xs : List (Cond A)) (i n : ℕ) (x : Cond A) → i < length xs → x ≡ get_or xs i x
+    → left_after (sum_by predicate_count (drop i xs)) n ≡ option_and_then (left_after (sum_by predicate_count (drop (i + 1) xs))) (left_after (predicate_count x) n)
+left_after_next xs i n x l e =
+    ap (λ t. left_after (sum_by predicate_count t) n) (drop_more xs i x l ∙ ap (λ y. y ∷ drop (i + 1) xs) (sym e))
+    ∙ ap (λ t. left_after t n) (sum_by-cons predicate_count x (drop (i + 1) xs))
+    ∙ left_after_sum (predicate_count x) (sum_by predicate_count (drop (i + 1) xs)) n
+
+-- one number more
+pub one_more_count : {X : Type 0} (f : ℕ → List X) (n : ℕ) → flat_map f (range_with_len 0 (n + 1)) ≡ flat_map f (range_with_len 0 n) ++ f n
+one_more_count f n =
+    ap (flat_map f) (sym (map-id (range_with_len 0 (n + 1))) ∙ map-range_with_len_more (λ x. x) 0 n n (omega arith) ∙ ap (λ t. t ++ n ∷ []) (map-id (range_with_len 0 n)))
+    ∙ flat_map-append f (range_with_len 0 n) (n ∷ [])
+    ∙ ap (λ t. flat_map f (range_with_len 0 n) ++ t) (append-nil (f n))

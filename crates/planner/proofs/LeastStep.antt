@@ -1,0 +1,60 @@
+-- The first of least number among one element more.
+use Rattle.std.specs.Prelude.{◌≡◌, refl, ℕ, ◌<◌, ◌≤◌, Bool, true, false, cond, nat_le, List, [], ◌∷◌, ◌++◌, ◌+◌, length, take, get_or, All, Option, Some, None, IsSome}
+use Rattle.std.proofs.Common.{arith, ap, ◌∙◌}
+use Rattle.std.proofs.lemmas.List.{append_assoc, take_more}
+use Rattle.std.proofs.lemmas.List.Elements.{All-nil, All-cons, All-append, All-weaker}
+use Rattle.table_model.specs.Plans.{first_of_least}
+use Rattle.table_model.specs.PlanLaws.{IsFirstOfLeast}
+use Rattle.table_model.proofs.LeastFacts.{first_is_first, first_is_found, first_is_there}
+use Rattle.planner.specs.Nestings.{cheaper}
+
+stays : {X : Type 0} (number : X → ℕ) (xs : List X) (x y : X) → IsFirstOfLeast number xs x → number x ≤ number y → IsFirstOfLeast number (xs ++ y ∷ []) x
+stays number xs x y f l = record {
+  before = f.before;
+  after = f.after ++ y ∷ [];
+  parted = ap (λ zs. zs ++ y ∷ []) f.parted ∙ append_assoc f.before (x ∷ f.after) (y ∷ []);
+  earlier_are_more = f.earlier_are_more;
+  none_is_less = All-append (λ z. number x ≤ number z) xs (y ∷ []) f.none_is_less (All-cons (λ z. number x ≤ number z) y [] l (All-nil _));
+}
+
+takes_over : {X : Type 0} (number : X → ℕ) (xs : List X) (y : X) → All (λ z. number y < number z) xs → IsFirstOfLeast number (xs ++ y ∷ []) y
+takes_over number xs y l = record {
+  before = xs;
+  after = [];
+  parted = refl;
+  earlier_are_more = l;
+  none_is_less = All-append (λ z. number y ≤ number z) xs (y ∷ []) (All-weaker (λ z. number y < number z) (λ z. number y ≤ number z) (λ z m. omega (arith, m)) xs l)
+      (All-cons (λ z. number y ≤ number z) y [] (omega arith) (All-nil _));
+}
+
+is_less : (a b : ℕ) → nat_le a b ≡ false → b < a
+is_less a b e = grind arith
+
+is_at_most : (a b : ℕ) → nat_le a b ≡ true → a ≤ b
+is_at_most a b e = grind arith
+
+-- of one element more the first of least number is the cheaper one
+pub one_more : {X : Type 0} (number : X → ℕ) (xs : List X) (y : X) → first_of_least number (xs ++ y ∷ []) ≡ Some (cheaper number (first_of_least number xs) y)
+one_more {X = X} number xs y = go (first_of_least number xs) refl
+  where
+    pick : (x : X) → first_of_least number xs ≡ Some x → (b : Bool) → nat_le (number x) (number y) ≡ b → first_of_least number (xs ++ y ∷ []) ≡ Some (cond b x y)
+    pick x is true l = first_is_found number (xs ++ y ∷ []) x (stays number xs x y (first_is_first number xs x is) (is_at_most (number x) (number y) l))
+    pick x is false l =
+        let less : number y < number x = is_less (number x) (number y) l in
+        first_is_found number (xs ++ y ∷ []) y
+        (takes_over number xs y (All-weaker (λ z. number x ≤ number z) (λ z. number y < number z) (λ z m. omega (arith, m, less)) xs (first_is_first number xs x is).none_is_less))
+
+    nothing : (zs : List X) → first_of_least number zs ≡ None → first_of_least number (zs ++ y ∷ []) ≡ Some y
+    nothing [] is = first_is_found number (y ∷ []) y (takes_over number [] y (All-nil _))
+    nothing (z ∷ zs) is =
+        let some : IsSome (first_of_least number (z ∷ zs)) = first_is_there number z zs in
+        cc
+
+    go : (o : Option X) → first_of_least number xs ≡ o → first_of_least number (xs ++ y ∷ []) ≡ Some (cheaper number o y)
+    go None is = nothing xs is
+    go (Some x) is = pick x is (nat_le (number x) (number y)) refl
+
+-- the same of the first elements of a list
+pub one_more_taken : {X : Type 0} (number : X → ℕ) (xs : List X) (i : ℕ) (d : X) → i < length xs
+    → first_of_least number (take (i + 1) xs) ≡ Some (cheaper number (first_of_least number (take i xs)) (get_or xs i d))
+one_more_taken number xs i d l = ap (first_of_least number) (take_more xs i d l) ∙ one_more number (take i xs) (get_or xs i d)

@@ -1,0 +1,5 @@
+pub mod AccessLists
+pub mod LeastStep
+pub mod Counts
+pub mod LeastMap
+pub mod PlanOfLeast

@@ -1,0 +1,65 @@
+//! The plan that is chosen.
+
+ghost use Rattle.std.specs.Prelude.{◌≡◌, IfOk};
+ghost use Rattle.planner.specs.Nestings.{accesses_in, chosen_for};
+ghost use Rattle.table_model.specs.Plans as spec;
+
+use crate::accesses::{Nesting, lawful_nestings};
+use crate::costs::cost;
+use crate::filters::filters;
+use crate::least::first_of_least;
+use sqlite_items::Items;
+use std::alloc::{AllocError, Global};
+use table_model::conditions::{Bound, Cond, GeometryArgument};
+use table_model::plans::{Access, Plan};
+
+// The accesses of a nesting as a list, the outer one first.
+fn listed(alloc: Global, nesting: Nesting) -> Result<Items<Access>, AllocError>
+    ensures { IfOk result (λ accesses. accesses ≡ accesses_in nesting) }
+{
+    let mut accesses = Items::new(alloc);
+    accesses.push(nesting.outer)?;
+    match nesting.inner {
+        Some(inner) => {
+            accesses.push(inner)?;
+            Ok(accesses)
+        }
+        None => Ok(accesses),
+    }
+}
+
+// The plan that has these accesses.
+fn plan_of<A>(
+    alloc: Global,
+    rows: &[u32],
+    conjuncts: &[Cond<A>],
+    nesting: Nesting,
+) -> Result<Plan, AllocError>
+    ensures { IfOk result (λ plan. plan ≡ spec.plan_of rows.now conjuncts.now (accesses_in nesting)) }
+{
+    let accesses = listed(alloc, nesting)?;
+    let filters = filters(alloc, conjuncts)?;
+    Ok(Plan {
+        accesses,
+        filters,
+        cost: cost(rows, nesting),
+    })
+}
+
+/// The chosen plan of a bound query, where `rows` holds the number of rows of each reference's table, in the query's
+/// order: the first lawful plan whose cost no lawful plan undercuts. None where the query has no reference or more
+/// than two, since no plan is lawful for it. It fails only for want of memory.
+pub fn choose<G, C>(
+    alloc: Global,
+    query: &Bound<GeometryArgument<G>, C>,
+    rows: &[u32],
+) -> Result<Option<Plan>, AllocError>
+    ensures { IfOk result (λ plan. plan ≡ chosen_for rows.now query.now) }
+{
+    let conjuncts = query.conjuncts.as_slice();
+    let nestings = lawful_nestings(alloc, query.references.as_slice(), conjuncts)?;
+    match first_of_least(rows, nestings.as_slice()) {
+        Some(nesting) => Ok(Some(plan_of(alloc, rows, conjuncts, nesting)?)),
+        None => Ok(None),
+    }
+}

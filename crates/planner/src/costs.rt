@@ -1,0 +1,54 @@
+//! What plans cost, counted in rows.
+
+ghost use Rattle.std.specs.Prelude.{◌≡◌, ◌<◌, ◌^◌, slice_index_or};
+ghost use Rattle.planner.specs.Nestings.{accesses_in};
+ghost use Rattle.table_model.specs.Plans as spec;
+
+use crate::accesses::Nesting;
+use table_model::plans::{Access, AccessMethod};
+
+// The number of rows of a reference.
+fn row_count(rows: &[u32], reference: usize) -> u64
+    ensures count { result ≡ slice_index_or rows.now reference 0 }
+    ensures fits { result < 2 ^ 32 }
+{
+    match rows.get(reference) {
+        Some(count) => *count as u64,
+        None => 0,
+    }
+}
+
+// What an access costs: a scan the rows of its table, a probe a tenth of them and a constant.
+fn access_cost(rows: &[u32], access: Access) -> u64
+    ensures cost { result ≡ spec.access_cost (slice_index_or rows.now access.reference 0) access.method }
+    ensures fits { result < 2 ^ 32 }
+{
+    let count = row_count(rows, access.reference);
+    match access.method {
+        AccessMethod::Scan => count,
+        AccessMethod::Probe(_) => 4 + count / 10,
+    }
+}
+
+// How many rows an access is expected to give.
+fn expected_rows(rows: &[u32], access: Access) -> u64
+    ensures expected { result ≡ spec.expected_rows (slice_index_or rows.now access.reference 0) access.method }
+    ensures fits { result < 2 ^ 32 }
+{
+    let count = row_count(rows, access.reference);
+    match access.method {
+        AccessMethod::Scan => count,
+        AccessMethod::Probe(_) => 1 + count / 10,
+    }
+}
+
+// What a nesting of accesses costs: the inner access is made for each row that is expected of the outer one.
+pub(crate) fn cost(rows: &[u32], nesting: Nesting) -> u64
+    ensures { result ≡ spec.cost rows.now (accesses_in nesting) }
+{
+    let outer = access_cost(rows, nesting.outer);
+    match nesting.inner {
+        Some(inner) => outer + expected_rows(rows, nesting.outer) * access_cost(rows, inner),
+        None => outer,
+    }
+}
