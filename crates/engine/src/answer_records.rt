@@ -54,7 +54,8 @@ fn item_header(
     references: &[Reference],
     item: &Item<NoGeometry>,
 ) -> Result<Vec<u8>, AllocError>
-    ensures { IfOk result (λ text. text.items ≡ item_header serving.writing definitions.now references.now item.now) }
+    ensures { IfOk result
+        (λ text. text.items ≡ item_header serving.writing definitions.now references.now item.now) }
 {
     match item {
         Item::Column(place) => column_header(alloc, definitions, references, *place),
@@ -88,7 +89,8 @@ fn reference_header(
     reference: &Reference,
     column: usize,
 ) -> Result<Vec<u8>, AllocError>
-    ensures { IfOk result (λ text. text.items ≡ reference_header definitions.now alone (Some reference.now) column) }
+    ensures { IfOk result
+        (λ text. text.items ≡ reference_header definitions.now alone (Some reference.now) column) }
 {
     let name = column_name(definitions, reference.table, column);
     if alone {
@@ -120,7 +122,8 @@ fn push_item(
     rows: &[Row<'_>],
 ) -> Result<(), AllocError>
     requires { partial_of fields.old ≡ [] }
-    ensures fields { OnOk result (fields_of fields.new ≡ fields_of fields.old ++ item_text serving.writing rows.now item.now ∷ []) }
+    ensures fields { OnOk result
+        (fields_of fields.new ≡ fields_of fields.old ++ item_text serving.writing rows.now item.now ∷ []) }
     ensures partial { OnOk result (partial_of fields.new ≡ []) }
 {
     match item {
@@ -144,7 +147,8 @@ fn field_at<'a>(rows: &'a [Row<'_>], place: ColumnPlace) -> Field<'a>
 // Adds the text of a field.
 fn push_field(fields: &mut ByteRecord, field: Field<'_>) -> Result<(), AllocError>
     requires { partial_of fields.old ≡ [] }
-    ensures fields { OnOk result (fields_of fields.new ≡ fields_of fields.old ++ field_text serving.writing (shown field.entry) ∷ []) }
+    ensures fields { OnOk result
+        (fields_of fields.new ≡ fields_of fields.old ++ field_text serving.writing (shown field.entry) ∷ []) }
     ensures partial { OnOk result (partial_of fields.new ≡ []) }
 {
     match field {

@@ -40,7 +40,8 @@ pub fn run<R: Read + Drop, S: Sink>(
 ) -> Result<(), Fault>
     requires { length readers.items ≡ length schema.now }
     ensures texts { (texts : List (List ℕ)) → map R.remaining readers.items ≡ map Some texts
-        → RunsOver serving result schema.now (map records_in texts) query.now (S.taken sink.old) (S.taken sink.new) }
+        → RunsOver serving result schema.now (map records_in texts) query.now
+        (S.taken sink.old) (S.taken sink.new) }
     ensures records { (records : List (List Record)) × EachRecordsOf (map R.remaining readers.items) records
         × RunsOver serving result schema.now records query.now (S.taken sink.old) (S.taken sink.new) }
     ensures failures { S.failures sink.new ≡ count_after (S.failures sink.old) result }
@@ -60,7 +61,8 @@ fn answer_query<S: Sink>(
     sink: &mut S,
 ) -> Result<(), Fault>
     requires { query.now.explain ≡ explains.No }
-    ensures answer { AnswersQuery serving result database.now query.now (S.taken sink.old) (S.taken sink.new) }
+    ensures answer { AnswersQuery serving result database.now query.now
+        (S.taken sink.old) (S.taken sink.new) }
     ensures failures { S.failures sink.new ≡ count_after (S.failures sink.old) result }
     ensures table { (count : ℕ) → IfErr result (IsOfTables count) }
 {
@@ -81,7 +83,8 @@ fn put_answer<S: Sink>(
 ) -> Result<(), PutFault>
     requires references { HasReferences database.now.definitions query.now.references }
     requires places { All (IsPlace (referenced database.now.tables query.now.references)) pairs.now }
-    ensures { PutsText result (rows_text serving database.now query.now (rows_of_pairs database.now query.now pairs.now))
+    ensures { PutsText result
+        (rows_text serving database.now query.now (rows_of_pairs database.now query.now pairs.now))
         (S.taken sink.old) (S.taken sink.new) (S.failures sink.old) (S.failures sink.new) }
 {
     let mut writer = RecordWriter::new(alloc);
@@ -174,7 +177,8 @@ fn pair_record(
     requires references { HasReferences database.now.definitions query.now.references }
     requires place { IsPlace (referenced database.now.tables query.now.references) pair }
     ensures { OnOk result (fields_of fields.new
-        ≡ record_of serving.writing query.now (pair_rows (referenced database.now.tables query.now.references) pair)) }
+        ≡ record_of serving.writing query.now
+        (pair_rows (referenced database.now.tables query.now.references) pair)) }
 {
     let references = query.references.as_slice();
     let table = database.table(references[0].table);

@@ -36,7 +36,8 @@ fn compared<'a>(
     at: usize,
     left: WrittenOperand<'a>,
 ) -> Result<WrittenCond<'a>, QueryFault>
-    ensures { Reads QueryFault.OutOfMemory (spec.compared language.functions at left.entry tokens.old) result tokens.new }
+    ensures { Reads QueryFault.OutOfMemory
+        (spec.compared language.functions at left.entry tokens.old) result tokens.new }
 {
     let Some(comparison) = comparison_of(tokens.kind()) else {
         return Err(refuse(tokens));

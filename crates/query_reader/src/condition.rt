@@ -25,7 +25,9 @@ fn disjuncts<'a>(
     levels: usize,
     first: WrittenCond<'a>,
 ) -> Result<WrittenCond<'a>, QueryFault>
-    ensures { Reads QueryFault.OutOfMemory (spec.joined TokenKind.Or tree.Or (spec.conjunction (spec.negation language.functions levels)) first.entry tokens.old) result tokens.new }
+    ensures { Reads QueryFault.OutOfMemory
+        (spec.joined TokenKind.Or tree.Or (spec.conjunction (spec.negation language.functions levels))
+        first.entry tokens.old) result tokens.new }
 {
     let mut parts = Items::new(alloc);
     parts.push(first)?;
@@ -45,7 +47,8 @@ pub(crate) fn condition<'a>(
     tokens: &mut Cursor<'_, 'a>,
     levels: usize,
 ) -> Result<WrittenCond<'a>, QueryFault>
-    ensures { Reads QueryFault.OutOfMemory (spec.condition_of (spec.negation language.functions levels) tokens.old) result tokens.new }
+    ensures { Reads QueryFault.OutOfMemory
+        (spec.condition_of (spec.negation language.functions levels) tokens.old) result tokens.new }
 {
     let first = conjunction(alloc, tokens, levels)?;
     if tokens.eat(TokenKind::Or) {
@@ -64,7 +67,8 @@ fn conjuncts<'a>(
     levels: usize,
     first: WrittenCond<'a>,
 ) -> Result<WrittenCond<'a>, QueryFault>
-    ensures { Reads QueryFault.OutOfMemory (spec.joined TokenKind.And tree.And (spec.negation language.functions levels) first.entry tokens.old) result tokens.new }
+    ensures { Reads QueryFault.OutOfMemory (spec.joined TokenKind.And tree.And
+        (spec.negation language.functions levels) first.entry tokens.old) result tokens.new }
 {
     let mut parts = Items::new(alloc);
     parts.push(first)?;
@@ -84,7 +88,8 @@ fn conjunction<'a>(
     tokens: &mut Cursor<'_, 'a>,
     levels: usize,
 ) -> Result<WrittenCond<'a>, QueryFault>
-    ensures { Reads QueryFault.OutOfMemory (spec.conjunction (spec.negation language.functions levels) tokens.old) result tokens.new }
+    ensures { Reads QueryFault.OutOfMemory
+        (spec.conjunction (spec.negation language.functions levels) tokens.old) result tokens.new }
 {
     let first = negation(alloc, tokens, levels)?;
     if tokens.eat(TokenKind::And) {
@@ -101,7 +106,8 @@ fn group<'a>(
     tokens: &mut Cursor<'_, 'a>,
     levels: usize,
 ) -> Result<WrittenCond<'a>, QueryFault>
-    ensures { Reads QueryFault.OutOfMemory (spec.group (spec.negation language.functions levels) tokens.old) result tokens.new }
+    ensures { Reads QueryFault.OutOfMemory
+        (spec.group (spec.negation language.functions levels) tokens.old) result tokens.new }
 {
     let inner = condition(alloc, tokens, levels)?;
     expect(tokens, TokenKind::RightParenthesis)?;
@@ -116,7 +122,8 @@ fn negation<'a>(
     tokens: &mut Cursor<'_, 'a>,
     levels: usize,
 ) -> Result<WrittenCond<'a>, QueryFault>
-    ensures { Reads QueryFault.OutOfMemory (spec.negation language.functions levels tokens.old) result tokens.new }
+    ensures { Reads QueryFault.OutOfMemory
+        (spec.negation language.functions levels tokens.old) result tokens.new }
 {
     if levels == 0 {
         if tokens.sees(TokenKind::Not) || tokens.sees(TokenKind::LeftParenthesis) {

@@ -20,7 +20,8 @@ type Selection<'a> = table_model::queries::Selection<'a, WrittenColumn<'a>>;
 
 /// Reads a call of ST_AsText in the select list, from its name on.
 fn text_item<'a>(tokens: &mut Cursor<'_, 'a>, at: usize) -> Result<WrittenItem<'a>, QueryFault>
-    ensures { Reads QueryFault.OutOfMemory (spec.enclosed (names.text_item at) (steps.next tokens.old)) result tokens.new }
+    ensures { Reads QueryFault.OutOfMemory
+        (spec.enclosed (names.text_item at) (steps.next tokens.old)) result tokens.new }
 {
     tokens.advance();
     expect(tokens, TokenKind::LeftParenthesis)?;
@@ -31,7 +32,8 @@ fn text_item<'a>(tokens: &mut Cursor<'_, 'a>, at: usize) -> Result<WrittenItem<'
 
 /// Reads a call of ST_Dimension in the select list, from its name on.
 fn dimension_item<'a>(tokens: &mut Cursor<'_, 'a>, at: usize) -> Result<WrittenItem<'a>, QueryFault>
-    ensures { Reads QueryFault.OutOfMemory (spec.enclosed (names.dimension_item at) (steps.next tokens.old)) result tokens.new }
+    ensures { Reads QueryFault.OutOfMemory
+        (spec.enclosed (names.dimension_item at) (steps.next tokens.old)) result tokens.new }
 {
     tokens.advance();
     expect(tokens, TokenKind::LeftParenthesis)?;
@@ -42,7 +44,8 @@ fn dimension_item<'a>(tokens: &mut Cursor<'_, 'a>, at: usize) -> Result<WrittenI
 
 /// Reads a call of ST_IsEmpty in the select list, from its name on.
 fn emptiness_item<'a>(tokens: &mut Cursor<'_, 'a>, at: usize) -> Result<WrittenItem<'a>, QueryFault>
-    ensures { Reads QueryFault.OutOfMemory (spec.enclosed (names.empty_item at) (steps.next tokens.old)) result tokens.new }
+    ensures { Reads QueryFault.OutOfMemory
+        (spec.enclosed (names.empty_item at) (steps.next tokens.old)) result tokens.new }
 {
     tokens.advance();
     expect(tokens, TokenKind::LeftParenthesis)?;

@@ -1,5 +1,5 @@
-//! The reader of the whole query language, in the style of OGC 06-104r4 (Simple Features, part 2): the tokens of a
-//! query are read into the tree that the grammar gives.
+//! The reader of the whole query language, in the style of OGC 06-104r4 (Simple Features, part 2): the tokens
+//! of a query are read into the tree that the grammar gives.
 #![tactic(auto)]
 
 mod comparisons;

@@ -5,7 +5,8 @@ ghost use Rattle.std.specs.Char as chars;
 ghost use Rattle.std.specs.Str.Parse.{digits_value};
 ghost use Rattle.table_model.specs.QueryReading as spec;
 
-/// The least and the greatest magnitude that 64 bits with a sign don't hold are one apart: this one is held below 0.
+/// The least and the greatest magnitude that 64 bits with a sign don't hold are one apart: this one is held
+/// below 0.
 const GREATEST_MAGNITUDE: u64 = 1 << 63;
 
 /// The value of a digit; any other byte counts for more than 9.
@@ -22,7 +23,8 @@ fn digit_value(byte: u8) -> u64
 /// The number of decimal digits, where it isn't past a limit.
 fn magnitude(digits: &[u8], limit: u64) -> Option<u64>
     requires { (36 ≤ limit) × (limit ≤ 2 ^ 63) }
-    ensures { MatchOption result (limit < digits_value 10 digits.now) (λ n. (n ≡ digits_value 10 digits.now) × (n ≤ limit)) }
+    ensures { MatchOption result (limit < digits_value 10 digits.now)
+        (λ n. (n ≡ digits_value 10 digits.now) × (n ≤ limit)) }
 {
     let mut value: u64 = 0;
     for byte in digits {
@@ -61,7 +63,8 @@ pub(crate) fn limit_value(digits: &[u8]) -> Option<u64>
 
 /// Which truth the digits after a predicate and `=` stand for, where their number is 1 or 0.
 pub(crate) fn truth_digit(digits: &[u8]) -> Option<bool>
-    ensures { result ≡ (if digits_value 10 digits.now == 1 then Some true else (if digits_value 10 digits.now == 0 then Some false else None)) }
+    ensures { result ≡ (if digits_value 10 digits.now == 1 then Some true
+        else (if digits_value 10 digits.now == 0 then Some false else None)) }
 {
     let value = magnitude(digits, 36)?;
     if value == 1 {

@@ -57,7 +57,8 @@ fn text_operand<'a>(
     tokens: &mut Cursor<'_, 'a>,
     at: usize,
 ) -> Result<WrittenOperand<'a>, QueryFault>
-    ensures { Reads QueryFault.OutOfMemory (spec.enclosed (names.text_argument at) (steps.next tokens.old)) result tokens.new }
+    ensures { Reads QueryFault.OutOfMemory
+        (spec.enclosed (names.text_argument at) (steps.next tokens.old)) result tokens.new }
 {
     tokens.advance();
     expect(tokens, TokenKind::LeftParenthesis)?;
@@ -71,7 +72,8 @@ fn dimension_operand<'a>(
     tokens: &mut Cursor<'_, 'a>,
     at: usize,
 ) -> Result<WrittenOperand<'a>, QueryFault>
-    ensures { Reads QueryFault.OutOfMemory (spec.enclosed (names.dimension_argument at) (steps.next tokens.old)) result tokens.new }
+    ensures { Reads QueryFault.OutOfMemory
+        (spec.enclosed (names.dimension_argument at) (steps.next tokens.old)) result tokens.new }
 {
     tokens.advance();
     expect(tokens, TokenKind::LeftParenthesis)?;

@@ -109,7 +109,8 @@ fn related<'a>(
     at: usize,
     predicate: Predicate,
 ) -> Result<WrittenCond<'a>, QueryFault>
-    ensures { Reads QueryFault.OutOfMemory (spec.tested (spec.relates at predicate) (steps.next tokens.old)) result tokens.new }
+    ensures { Reads QueryFault.OutOfMemory
+        (spec.tested (spec.relates at predicate) (steps.next tokens.old)) result tokens.new }
 {
     tokens.advance();
     expect(tokens, TokenKind::LeftParenthesis)?;
@@ -124,7 +125,8 @@ fn related_by<'a>(
     tokens: &mut Cursor<'_, 'a>,
     at: usize,
 ) -> Result<WrittenCond<'a>, QueryFault>
-    ensures { Reads QueryFault.OutOfMemory (spec.tested (spec.relates_by at) (steps.next tokens.old)) result tokens.new }
+    ensures { Reads QueryFault.OutOfMemory
+        (spec.tested (spec.relates_by at) (steps.next tokens.old)) result tokens.new }
 {
     tokens.advance();
     expect(tokens, TokenKind::LeftParenthesis)?;
@@ -139,7 +141,8 @@ fn emptiness<'a>(
     tokens: &mut Cursor<'_, 'a>,
     at: usize,
 ) -> Result<WrittenCond<'a>, QueryFault>
-    ensures { Reads QueryFault.OutOfMemory (spec.tested (names.empty_argument at) (steps.next tokens.old)) result tokens.new }
+    ensures { Reads QueryFault.OutOfMemory
+        (spec.tested (names.empty_argument at) (steps.next tokens.old)) result tokens.new }
 {
     tokens.advance();
     expect(tokens, TokenKind::LeftParenthesis)?;
@@ -184,7 +187,8 @@ fn predicate_by_name<'a>(
     alloc: Global,
     tokens: &mut Cursor<'_, 'a>,
 ) -> Result<WrittenCond<'a>, QueryFault>
-    ensures { Reads QueryFault.OutOfMemory (predicate_by (named_in named_predicates tokens.old) tokens.old) result tokens.new }
+    ensures { Reads QueryFault.OutOfMemory
+        (predicate_by (named_in named_predicates tokens.old) tokens.old) result tokens.new }
 {
     let at = tokens.place();
     match named_predicate(tokens) {

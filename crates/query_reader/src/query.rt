@@ -27,7 +27,8 @@ fn where_condition<'a>(
     alloc: Global,
     tokens: &mut Cursor<'_, 'a>,
 ) -> Result<Option<WrittenCond<'a>>, QueryFault>
-    ensures { Reads QueryFault.OutOfMemory (spec.where_condition language.functions tokens.old) result tokens.new }
+    ensures { Reads QueryFault.OutOfMemory
+        (spec.where_condition language.functions tokens.old) result tokens.new }
 {
     if tokens.eat(TokenKind::Where) {
         Ok(Some(condition(alloc, tokens, LEVEL_LIMIT)?))
@@ -135,14 +136,14 @@ fn read<'a>(alloc: Global, text: &'a str) -> Result<Query<'a>, QueryFault>
     query(alloc, &mut cursor)
 }
 
-/// Reads the text of a query, a SELECT over one table or two. The tree is the one that the grammar gives: EXPLAIN and
-/// ANALYZE, `*` or columns and functions of columns or `COUNT(*)`, a table reference, a second one with its
-/// condition, a condition of WHERE, LIMIT, and `;` at the end or not.
+/// Reads the text of a query, a SELECT over one table or two. The tree is the one that the grammar gives:
+/// EXPLAIN and ANALYZE, `*` or columns and functions of columns or `COUNT(*)`, a table reference, a second
+/// one with its condition, a condition of WHERE, LIMIT, and `;` at the end or not.
 ///
-/// Faults carry the byte, from 0, of the first token that can't stand, or the text's length: TooLong past 65,536
-/// bytes; Lex where a byte of the text begins no token, or a string isn't closed; then, whichever is met first,
-/// Syntax, TooDeep at the 65th level of NOT and parentheses, and NumberTooBig at the first digit of a number that
-/// 64 bits don't hold. OutOfMemory may come in the place of any answer.
+/// Faults carry the byte, from 0, of the first token that can't stand, or the text's length: TooLong past
+/// 65,536 bytes; Lex where a byte of the text begins no token, or a string isn't closed; then, whichever is
+/// met first, Syntax, TooDeep at the 65th level of NOT and parentheses, and NumberTooBig at the first digit
+/// of a number that 64 bits don't hold. OutOfMemory may come in the place of any answer.
 pub fn read_query<'a>(alloc: Global, text: &'a str) -> Result<Query<'a>, QueryFault>
     ensures ok { IfOk result (λ q. IsQuery language text.now q) }
     ensures only { AnswersQuery language text.now result }

@@ -1,5 +1,6 @@
-//! The small steps of the readers: a token of a kind, a name, a column, a string. Each function ensures the outcome of
-//! the reader of its name in `specs/QueryReading.antt` of `table_model`, which has the grammar, and so in each file here.
+//! The small steps of the readers: a token of a kind, a name, a column, a string. Each function ensures the
+//! outcome of the reader of its name in `specs/QueryReading.antt` of `table_model`, which has the grammar,
+//! and so in each file here.
 
 ghost use Rattle.std.specs.Prelude.{◌≡◌};
 ghost use Rattle.table_model.specs.QueryReading as spec;
@@ -22,7 +23,8 @@ pub(crate) fn refuse(tokens: &Cursor<'_, '_>) -> QueryFault
 /// Reads a token of a kind.
 #[tactic(auto, unfolding(table_model::specs::Parsers::expect))]
 pub(crate) fn expect(tokens: &mut Cursor<'_, '_>, wanted: TokenKind) -> Result<(), QueryFault>
-    ensures { Reads QueryFault.OutOfMemory (steps.expect QueryFault.Syntax wanted tokens.old) result tokens.new }
+    ensures { Reads QueryFault.OutOfMemory
+        (steps.expect QueryFault.Syntax wanted tokens.old) result tokens.new }
 {
     if tokens.sees(wanted) {
         tokens.advance();

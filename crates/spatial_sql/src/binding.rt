@@ -75,7 +75,8 @@ fn listed_items(
     references: &[Reference],
     written: &[WrittenItem<'_, NoGeometry>],
 ) -> Result<Items<Item<NoGeometry>>, QueryFault>
-    ensures { Gives QueryFault.OutOfMemory (λ items. items) result (each (map (spec.bound_item serving.binding schema.now references.now) written.now)) }
+    ensures { Gives QueryFault.OutOfMemory (λ items. items) result
+        (each (map (spec.bound_item serving.binding schema.now references.now) written.now)) }
 {
     let mut items = Items::new(alloc);
     for item in written {
@@ -91,7 +92,8 @@ fn bound_items(
     references: &[Reference],
     selection: &Selection<'_, NoGeometry>,
 ) -> Result<Items<Item<NoGeometry>>, QueryFault>
-    ensures { Gives QueryFault.OutOfMemory (λ items. items) result (spec.bound_items serving.binding schema.now references.now selection.now) }
+    ensures { Gives QueryFault.OutOfMemory (λ items. items) result
+        (spec.bound_items serving.binding schema.now references.now selection.now) }
 {
     match selection {
         Selection::All => Ok(all_items(alloc, schema, references)?),
@@ -117,7 +119,8 @@ fn bound_condition(
     references: &[Reference],
     condition: &Option<WrittenCond<'_, NoGeometry>>,
 ) -> Result<Items<Cond<NoGeometry>>, QueryFault>
-    ensures { Gives QueryFault.OutOfMemory (λ conjuncts. conjuncts) result (spec.bound_condition serving.binding schema.now references.now condition.now) }
+    ensures { Gives QueryFault.OutOfMemory (λ conjuncts. conjuncts) result
+        (spec.bound_condition serving.binding schema.now references.now condition.now) }
 {
     match condition {
         Some(written) => bound_conjuncts(alloc, schema, references, written),
@@ -131,7 +134,8 @@ fn bound_query(
     query: &Query<'_>,
     schema: &[TableDef<NoGeometry>],
 ) -> Result<Bound, QueryFault>
-    ensures { Gives QueryFault.OutOfMemory (λ bound. bound) result (spec.binding serving.binding schema.now query.now) }
+    ensures { Gives QueryFault.OutOfMemory (λ bound. bound) result
+        (spec.binding serving.binding schema.now query.now) }
 {
     let references = bound_references(alloc, schema, &query.first, &query.second)?;
     let items = bound_items(alloc, schema, references.as_slice(), &query.selection)?;
@@ -156,7 +160,8 @@ fn bound_query(
 /// whose sides are not both INTEGER or both TEXT, NULL being either; or `OutOfMemory`. What it answers is bound to the
 /// definitions of this database: its tables and columns are there, and its types fit. (SQL; the order: this project's choice.)
 pub fn bind(alloc: Global, query: &Query<'_>, database: &Database<'_>) -> Result<Bound, QueryFault>
-    ensures answer { Gives QueryFault.OutOfMemory (λ bound. bound) result (spec.binding serving.binding database.now.definitions query.now) }
+    ensures answer { Gives QueryFault.OutOfMemory (λ bound. bound) result
+        (spec.binding serving.binding database.now.definitions query.now) }
     ensures bound { IfOk result (IsBound serving.fits database.now.definitions) }
 {
     bound_query(alloc, query, database.definitions())

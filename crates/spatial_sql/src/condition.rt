@@ -36,7 +36,8 @@ pub fn refuse(tokens: &Cursor<'_, '_>) -> QueryFault
 /// Reads a token of a kind.
 #[tactic(auto, unfolding(table_model::specs::Parsers::expect))]
 pub fn expect(tokens: &mut Cursor<'_, '_>, wanted: TokenKind) -> Result<(), QueryFault>
-    ensures { Reads QueryFault.OutOfMemory (steps.expect QueryFault.Syntax wanted tokens.old) result tokens.new }
+    ensures { Reads QueryFault.OutOfMemory
+        (steps.expect QueryFault.Syntax wanted tokens.old) result tokens.new }
 {
     if tokens.sees(wanted) {
         tokens.advance();
@@ -94,7 +95,8 @@ fn digit_value(byte: u8) -> u64
 /// The number of decimal digits, where it isn't past a limit.
 fn magnitude(digits: &[u8], limit: u64) -> Option<u64>
     requires { (36 ≤ limit) × (limit ≤ 2 ^ 63) }
-    ensures { MatchOption result (limit < digits_value 10 digits.now) (λ n. (n ≡ digits_value 10 digits.now) × (n ≤ limit)) }
+    ensures { MatchOption result (limit < digits_value 10 digits.now)
+        (λ n. (n ≡ digits_value 10 digits.now) × (n ≤ limit)) }
 {
     let mut value: u64 = 0;
     for byte in digits {
@@ -190,7 +192,8 @@ fn compared<'a>(
     at: usize,
     left: WrittenOperand<'a>,
 ) -> Result<WrittenCond<'a>, QueryFault>
-    ensures { Reads QueryFault.OutOfMemory (spec.compared language.functions at left.entry tokens.old) result tokens.new }
+    ensures { Reads QueryFault.OutOfMemory
+        (spec.compared language.functions at left.entry tokens.old) result tokens.new }
 {
     let Some(comparison) = comparison_of(tokens.kind()) else {
         return Err(refuse(tokens));
@@ -242,7 +245,9 @@ fn disjuncts<'a>(
     levels: usize,
     first: WrittenCond<'a>,
 ) -> Result<WrittenCond<'a>, QueryFault>
-    ensures { Reads QueryFault.OutOfMemory (spec.joined TokenKind.Or tree.Or (spec.conjunction (spec.negation language.functions levels)) first.entry tokens.old) result tokens.new }
+    ensures { Reads QueryFault.OutOfMemory
+        (spec.joined TokenKind.Or tree.Or (spec.conjunction (spec.negation language.functions levels))
+        first.entry tokens.old) result tokens.new }
 {
     let mut parts = Items::new(alloc);
     parts.push(first)?;
@@ -262,7 +267,8 @@ pub fn condition<'a>(
     tokens: &mut Cursor<'_, 'a>,
     levels: usize,
 ) -> Result<WrittenCond<'a>, QueryFault>
-    ensures { Reads QueryFault.OutOfMemory (spec.condition_of (spec.negation language.functions levels) tokens.old) result tokens.new }
+    ensures { Reads QueryFault.OutOfMemory
+        (spec.condition_of (spec.negation language.functions levels) tokens.old) result tokens.new }
 {
     let first = conjunction(alloc, tokens, levels)?;
     if tokens.eat(TokenKind::Or) {
@@ -281,7 +287,8 @@ fn conjuncts<'a>(
     levels: usize,
     first: WrittenCond<'a>,
 ) -> Result<WrittenCond<'a>, QueryFault>
-    ensures { Reads QueryFault.OutOfMemory (spec.joined TokenKind.And tree.And (spec.negation language.functions levels) first.entry tokens.old) result tokens.new }
+    ensures { Reads QueryFault.OutOfMemory (spec.joined TokenKind.And tree.And
+        (spec.negation language.functions levels) first.entry tokens.old) result tokens.new }
 {
     let mut parts = Items::new(alloc);
     parts.push(first)?;
@@ -301,7 +308,8 @@ fn conjunction<'a>(
     tokens: &mut Cursor<'_, 'a>,
     levels: usize,
 ) -> Result<WrittenCond<'a>, QueryFault>
-    ensures { Reads QueryFault.OutOfMemory (spec.conjunction (spec.negation language.functions levels) tokens.old) result tokens.new }
+    ensures { Reads QueryFault.OutOfMemory
+        (spec.conjunction (spec.negation language.functions levels) tokens.old) result tokens.new }
 {
     let first = negation(alloc, tokens, levels)?;
     if tokens.eat(TokenKind::And) {
@@ -318,7 +326,8 @@ fn group<'a>(
     tokens: &mut Cursor<'_, 'a>,
     levels: usize,
 ) -> Result<WrittenCond<'a>, QueryFault>
-    ensures { Reads QueryFault.OutOfMemory (spec.group (spec.negation language.functions levels) tokens.old) result tokens.new }
+    ensures { Reads QueryFault.OutOfMemory
+        (spec.group (spec.negation language.functions levels) tokens.old) result tokens.new }
 {
     let inner = condition(alloc, tokens, levels)?;
     expect(tokens, TokenKind::RightParenthesis)?;
@@ -333,7 +342,8 @@ fn negation<'a>(
     tokens: &mut Cursor<'_, 'a>,
     levels: usize,
 ) -> Result<WrittenCond<'a>, QueryFault>
-    ensures { Reads QueryFault.OutOfMemory (spec.negation language.functions levels tokens.old) result tokens.new }
+    ensures { Reads QueryFault.OutOfMemory
+        (spec.negation language.functions levels tokens.old) result tokens.new }
 {
     if levels == 0 {
         if tokens.sees(TokenKind::Not) || tokens.sees(TokenKind::LeftParenthesis) {

@@ -53,7 +53,8 @@ fn bound_operand(
     references: &[Reference],
     written: &WrittenOperand<'_, NoGeometry>,
 ) -> Result<Typed<Operand<NoGeometry>>, QueryFault>
-    ensures { Gives QueryFault.OutOfMemory (λ t. t) result (spec.bound_operand serving.binding schema.now references.now written.now) }
+    ensures { Gives QueryFault.OutOfMemory (λ t. t) result
+        (spec.bound_operand serving.binding schema.now references.now written.now) }
 {
     match written {
         WrittenOperand::Column(column) => {
@@ -110,7 +111,8 @@ fn comparison(
     a: &WrittenOperand<'_, NoGeometry>,
     b: &WrittenOperand<'_, NoGeometry>,
 ) -> Result<Cond<NoGeometry>, QueryFault>
-    ensures { Gives QueryFault.OutOfMemory (λ c. c) result (spec.bound_comparison serving.binding schema.now references.now at sign a.now b.now) }
+    ensures { Gives QueryFault.OutOfMemory (λ c. c) result
+        (spec.bound_comparison serving.binding schema.now references.now at sign a.now b.now) }
 {
     let left = bound_operand(alloc, schema, references, a)?;
     let right = bound_operand(alloc, schema, references, b)?;
@@ -127,7 +129,8 @@ fn null_test(
     references: &[Reference],
     written: &WrittenOperand<'_, NoGeometry>,
 ) -> Result<Cond<NoGeometry>, QueryFault>
-    ensures { Gives QueryFault.OutOfMemory (λ c. c) result (spec.bound_null_test serving.binding schema.now references.now written.now) }
+    ensures { Gives QueryFault.OutOfMemory (λ c. c) result
+        (spec.bound_null_test serving.binding schema.now references.now written.now) }
 {
     let operand = bound_operand(alloc, schema, references, written)?;
     Ok(Cond::IsNull(operand.part))
@@ -150,7 +153,8 @@ fn bound_cond(
     references: &[Reference],
     written: &WrittenCond<'_, NoGeometry>,
 ) -> Result<Cond<NoGeometry>, QueryFault>
-    ensures { Gives QueryFault.OutOfMemory (λ c. c) result (spec.bound_cond serving.binding schema.now references.now written.now) }
+    ensures { Gives QueryFault.OutOfMemory (λ c. c) result
+        (spec.bound_cond serving.binding schema.now references.now written.now) }
 {
     match written {
         WrittenCond::Or(parts) => {
@@ -183,7 +187,8 @@ fn bound_parts(
     references: &[Reference],
     parts: &[WrittenCond<'_, NoGeometry>],
 ) -> Result<Items<Cond<NoGeometry>>, QueryFault>
-    ensures { Gives QueryFault.OutOfMemory (λ c. c) result (each (map (spec.bound_cond serving.binding schema.now references.now) parts.now)) }
+    ensures { Gives QueryFault.OutOfMemory (λ c. c) result
+        (each (map (spec.bound_cond serving.binding schema.now references.now) parts.now)) }
 {
     let mut bound = Items::new(alloc);
     for part in parts {
@@ -200,7 +205,8 @@ pub fn bound_conjuncts(
     references: &[Reference],
     written: &WrittenCond<'_, NoGeometry>,
 ) -> Result<Items<Cond<NoGeometry>>, QueryFault>
-    ensures { Gives QueryFault.OutOfMemory (λ c. c) result (spec.bound_conjuncts serving.binding schema.now references.now written.now) }
+    ensures { Gives QueryFault.OutOfMemory (λ c. c) result
+        (spec.bound_conjuncts serving.binding schema.now references.now written.now) }
 {
     match written {
         WrittenCond::And(parts) => joined(alloc, schema, references, parts.as_slice()),
@@ -225,7 +231,8 @@ fn joined(
     references: &[Reference],
     parts: &[WrittenCond<'_, NoGeometry>],
 ) -> Result<Items<Cond<NoGeometry>>, QueryFault>
-    ensures { Gives QueryFault.OutOfMemory (λ c. c) result (joined_in_order (map (spec.bound_conjuncts serving.binding schema.now references.now) parts.now)) }
+    ensures { Gives QueryFault.OutOfMemory (λ c. c) result
+        (joined_in_order (map (spec.bound_conjuncts serving.binding schema.now references.now) parts.now)) }
 {
     let mut bound = Items::new(alloc);
     for part in parts {

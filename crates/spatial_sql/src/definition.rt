@@ -28,7 +28,8 @@ pub fn refuse(tokens: &Cursor<'_, '_>) -> SchemaFault
 /// Reads a token of a kind.
 #[tactic(auto, unfolding(table_model::specs::Parsers::expect))]
 pub fn expect(tokens: &mut Cursor<'_, '_>, wanted: TokenKind) -> Result<(), SchemaFault>
-    ensures { Reads SchemaFault.OutOfMemory (steps.expect SchemaFault.Syntax wanted tokens.old) result tokens.new }
+    ensures { Reads SchemaFault.OutOfMemory
+        (steps.expect SchemaFault.Syntax wanted tokens.old) result tokens.new }
 {
     if tokens.sees(wanted) {
         tokens.advance();
@@ -172,7 +173,8 @@ fn key_mark(
     has_key: bool,
     column_type: &ColumnType,
 ) -> Result<bool, SchemaFault>
-    ensures reads { Reads SchemaFault.OutOfMemory (spec.key_mark has_key column_type.now tokens.old) result tokens.new }
+    ensures reads { Reads SchemaFault.OutOfMemory
+        (spec.key_mark has_key column_type.now tokens.old) result tokens.new }
     ensures integer { result ≡ Ok true → is_integer column_type.now ≡ true }
 {
     if !sees_word(tokens, b"PRIMARY") {
@@ -196,7 +198,8 @@ fn marks(
     has_key: bool,
     column_type: &ColumnType,
 ) -> Result<(bool, bool), SchemaFault>
-    ensures { Reads SchemaFault.OutOfMemory (spec.marks has_key column_type.now tokens.old) result tokens.new }
+    ensures { Reads SchemaFault.OutOfMemory
+        (spec.marks has_key column_type.now tokens.old) result tokens.new }
 {
     let before = null_mark(tokens)?;
     let is_key = key_mark(tokens, has_key, column_type)?;
@@ -224,7 +227,8 @@ fn column(
     columns: &[ColumnDef],
     has_key: bool,
 ) -> Result<(ColumnDef, bool), SchemaFault>
-    ensures { Reads SchemaFault.OutOfMemory (spec.column serving.shape columns.now has_key tokens.old) result tokens.new }
+    ensures { Reads SchemaFault.OutOfMemory
+        (spec.column serving.shape columns.now has_key tokens.old) result tokens.new }
 {
     let taken = has_column(columns, tokens.spelling());
     let name = new_name(alloc, tokens, columns.len() >= COLUMN_LIMIT, taken)?;
@@ -315,7 +319,8 @@ pub fn table(
     tokens: &mut Cursor<'_, '_>,
     tables: &[TableDef],
 ) -> Result<TableDef, SchemaFault>
-    ensures { Reads SchemaFault.OutOfMemory (spec.table serving.shape tables.now tokens.old) result tokens.new }
+    ensures { Reads SchemaFault.OutOfMemory
+        (spec.table serving.shape tables.now tokens.old) result tokens.new }
 {
     expect_word(tokens, b"CREATE")?;
     expect_word(tokens, b"TABLE")?;

@@ -95,7 +95,8 @@ fn where_condition<'a>(
     alloc: Global,
     tokens: &mut Cursor<'_, 'a>,
 ) -> Result<Option<WrittenCond<'a>>, QueryFault>
-    ensures { Reads QueryFault.OutOfMemory (spec.where_condition language.functions tokens.old) result tokens.new }
+    ensures { Reads QueryFault.OutOfMemory
+        (spec.where_condition language.functions tokens.old) result tokens.new }
 {
     if tokens.eat(TokenKind::Where) {
         Ok(Some(condition(alloc, tokens, LEVEL_LIMIT)?))

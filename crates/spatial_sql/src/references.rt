@@ -69,7 +69,8 @@ pub fn bound_references(
     first: &WrittenReference<'_>,
     second: &Option<WrittenReference<'_>>,
 ) -> Result<Items<Reference>, QueryFault>
-    ensures { Gives QueryFault.OutOfMemory (λ r. r) result (spec.bound_references schema.now first.now second.now) }
+    ensures { Gives QueryFault.OutOfMemory (λ r. r) result
+        (spec.bound_references schema.now first.now second.now) }
 {
     let reference = bound_reference(alloc, schema, first)?;
     let mut references = Items::new(alloc);

@@ -29,7 +29,8 @@ fn goes_on(tokens: &mut Cursor<'_, '_>) -> bool
 /// Reads tables with semicolons between them, and one behind the last or none.
 #[tactic(auto, unfolding(table_model::specs::SchemaReading::tables_from))]
 fn all_tables(alloc: Global, tokens: &mut Cursor<'_, '_>) -> Result<Vec<TableDef>, SchemaFault>
-    ensures { ReadsAs SchemaFault.OutOfMemory (λ v. v.items) (spec.all_tables serving.shape tokens.old) result tokens.new }
+    ensures { ReadsAs SchemaFault.OutOfMemory (λ v. v.items)
+        (spec.all_tables serving.shape tokens.old) result tokens.new }
 {
     let mut tables = Vec::new(alloc);
     if tokens.sees(TokenKind::End) {
@@ -48,7 +49,8 @@ fn all_tables(alloc: Global, tokens: &mut Cursor<'_, '_>) -> Result<Vec<TableDef
 /// Reads a schema, to the end of its tokens.
 #[tactic(auto, unfolding(table_model::specs::SchemaReading::schema))]
 fn schema(alloc: Global, tokens: &mut Cursor<'_, '_>) -> Result<Vec<TableDef>, SchemaFault>
-    ensures { ReadsAs SchemaFault.OutOfMemory (λ v. v.items) (spec.schema serving.shape tokens.old) result tokens.new }
+    ensures { ReadsAs SchemaFault.OutOfMemory (λ v. v.items)
+        (spec.schema serving.shape tokens.old) result tokens.new }
 {
     let tables = all_tables(alloc, tokens)?;
     expect(tokens, TokenKind::End)?;
@@ -58,7 +60,8 @@ fn schema(alloc: Global, tokens: &mut Cursor<'_, '_>) -> Result<Vec<TableDef>, S
 /// Reads the text of a schema: its length is looked at first, then its grammar.
 #[tactic(auto, unfolding(table_model::specs::SchemaReading::schema_of))]
 fn read(alloc: Global, text: &[u8]) -> Result<Schema, SchemaFault>
-    ensures { Gives SchemaFault.OutOfMemory (λ schema. schema) result (spec.schema_of serving.shape text.now) }
+    ensures { Gives SchemaFault.OutOfMemory (λ schema. schema) result
+        (spec.schema_of serving.shape text.now) }
 {
     if text.len() > TEXT_LIMIT {
         return Err(SchemaFault::TooLong);
@@ -80,7 +83,8 @@ pub fn read_schema(alloc: Global, text: &[u8]) -> Result<Schema, SchemaFault>
     ensures only { AnswersSchema serving.shape text.now result }
     ensures first { AnswersFirst serving.shape text.now result }
     ensures stands { IfErr result (λ fault. StandsInSchema {T = NoGeometry} serving.shape text.now fault) }
-    ensures exact { Gives SchemaFault.OutOfMemory (λ schema. schema) result (spec.schema_of serving.shape text.now) }
+    ensures exact { Gives SchemaFault.OutOfMemory (λ schema. schema) result
+        (spec.schema_of serving.shape text.now) }
 {
     read(alloc, text)
 }

@@ -150,7 +150,8 @@ fn comparison(
     b: &Operand<NoGeometry>,
     rows: &[Row<'_>],
 ) -> Truth
-    ensures { result ≡ spec.compared sign (spec.order_of (spec.operand_value serving.denotes rows.now a.now) (spec.operand_value serving.denotes rows.now b.now)) }
+    ensures { result ≡ spec.compared sign (spec.order_of (spec.operand_value serving.denotes rows.now a.now)
+        (spec.operand_value serving.denotes rows.now b.now)) }
 {
     let order = order_of(&operand_side(rows, a), &operand_side(rows, b));
     compared(sign, order)
@@ -158,7 +159,8 @@ fn comparison(
 
 /// IS NULL of a side at the rows.
 fn null_test(operand: &Operand<NoGeometry>, rows: &[Row<'_>]) -> Truth
-    ensures { result ≡ spec.truth_of (spec.is_null (spec.operand_value serving.denotes rows.now operand.now)) }
+    ensures { result
+        ≡ spec.truth_of (spec.is_null (spec.operand_value serving.denotes rows.now operand.now)) }
 {
     truth_of(is_null(&operand_side(rows, operand)))
 }
