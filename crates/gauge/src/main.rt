@@ -131,7 +131,9 @@ fn measured(alloc: Global, word: &str, times: u32, text: &str) -> Result<usize, 
             let valid = check(alloc, read(alloc, first)?)?;
             let mut points = Vec::new(alloc);
             for line in lines {
-                points.push(point(alloc, line.as_bytes())?).map_err(AllocError::from)?;
+                points
+                    .push(point(alloc, line.as_bytes())?)
+                    .map_err(AllocError::from)?;
             }
             Ok(locate_often(&valid, points.as_slice(), times))
         }
@@ -144,7 +146,11 @@ fn read_often(alloc: Global, text: &[u8], times: u32) -> Result<usize, Failure> 
     let mut positions = 0;
     for _ in 0..times {
         let geometry = read(alloc, text)?;
-        positions = geometry.lines().iter().map(|line| line.positions().len()).sum();
+        positions = geometry
+            .lines()
+            .iter()
+            .map(|line| line.positions().len())
+            .sum();
     }
     Ok(positions)
 }
