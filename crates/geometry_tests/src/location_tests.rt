@@ -38,22 +38,62 @@ fn points_in_listed_points(rt: HostRuntime) -> Result<(), Fail> {
 
 #[test]
 fn points_in_lines(rt: HostRuntime) -> Result<(), Fail> {
-    let cases: [(&[u8], (i128, i128, i64), Location); 6] = [
-        (b"LINESTRING(0 0,2 1,4 0)", (0, 0, 1), Location::Boundary),
-        (b"LINESTRING(0 0,2 1,4 0)", (2, 1, 1), Location::Interior),
-        (b"LINESTRING(0 0,2 1,4 0)", (2, 1, 2), Location::Interior),
-        (b"LINESTRING(0 0,2 1,4 0)", (2, 0, 1), Location::Exterior),
+    let cases: [(&[u8], (i32, i32), Location); 7] = [
+        (b"LINESTRING(0 0,2 1,4 0)", (0, 0), Location::Boundary),
+        (b"LINESTRING(0 0,2 1,4 0)", (2, 1), Location::Interior),
+        (b"LINESTRING(0 0,2 1,4 0)", (2, 0), Location::Exterior),
         // A closed line has no boundary.
+        (b"LINESTRING(0 0,2 0,2 2,0 0)", (0, 0), Location::Interior),
+        (b"LINESTRING EMPTY", (0, 0), Location::Exterior),
+        // Two ends at one point cancel, three don't.
         (
-            b"LINESTRING(0 0,2 0,2 2,0 0)",
-            (0, 0, 1),
+            b"MULTILINESTRING((0 0,2 0),(2 0,4 0))",
+            (2, 0),
             Location::Interior,
         ),
-        (b"LINESTRING EMPTY", (0, 0, 1), Location::Exterior),
+        (
+            b"MULTILINESTRING((0 0,2 0),(2 0,4 0),(2 0,2 2))",
+            (2, 0),
+            Location::Boundary,
+        ),
     ];
-    for (text, (x, y, w), location) in cases {
+    for (text, (x, y), location) in cases {
         let valid = check(rt.alloc(), read(rt.alloc(), text)?)?;
-        assert_eq!(rt; locate(&valid, &RatPoint::reduced(x, y, w)), location);
+        let p = RatPoint::of_grid(GridPoint::new(x, y).ok_or("past the limit")?);
+        assert_eq!(rt; locate(&valid, &p), location, "{p:?}");
+    }
+    let valid = check(rt.alloc(), read(rt.alloc(), b"LINESTRING(0 0,2 1,4 0)")?)?;
+    assert_eq!(rt;
+        locate(&valid, &RatPoint::reduced(2, 1, 2)),
+        Location::Interior
+    );
+    Ok(())
+}
+
+#[test]
+fn points_in_areas(rt: HostRuntime) -> Result<(), Fail> {
+    let diamond: &[u8] = b"POLYGON((0 2,2 0,4 2,2 4,0 2))";
+    let holed: &[u8] = b"POLYGON((0 0,10 0,10 10,0 10,0 0),(4 4,6 4,6 6,4 6,4 4))";
+    let squares: &[u8] = b"MULTIPOLYGON(((0 0,4 0,4 4,0 4,0 0)),((6 0,8 0,8 4,6 4,6 0)))";
+    let island: &[u8] =
+        b"MULTIPOLYGON(((0 0,9 0,9 9,0 9,0 0),(2 2,8 2,8 8,2 8,2 2)),((4 4,6 4,6 6,4 6,4 4)))";
+    let cases: [(&[u8], (i32, i32), Location); 10] = [
+        // Straight above it stands a position of the ring.
+        (diamond, (2, 1), Location::Interior),
+        (diamond, (2, 2), Location::Interior),
+        (diamond, (4, 2), Location::Boundary),
+        (holed, (5, 5), Location::Exterior),
+        (holed, (4, 5), Location::Boundary),
+        (holed, (2, 5), Location::Interior),
+        (squares, (5, 2), Location::Exterior),
+        (squares, (7, 2), Location::Interior),
+        (island, (3, 3), Location::Exterior),
+        (island, (5, 5), Location::Interior),
+    ];
+    for (text, (x, y), location) in cases {
+        let valid = check(rt.alloc(), read(rt.alloc(), text)?)?;
+        let p = RatPoint::of_grid(GridPoint::new(x, y).ok_or("past the limit")?);
+        assert_eq!(rt; locate(&valid, &p), location, "{p:?}");
     }
     Ok(())
 }
