@@ -2,7 +2,7 @@
  *
  * The first line of standard input is a geometry, each further line a point. The first word says what is done,
  * the second how often: `read` reads the text, `check` reads and tests it, `locate` reads, tests and prepares it once and
- * then locates every point. It prints one line: for `read` the number of coordinates, for `check` 1 where the geometry is
+ * then locates every point. It prints one line: for `read` the number of geometries in it, for `check` 1 where the geometry is
  * valid and else 0, for `locate` how many points are in the interior or on the boundary.
  */
 #define GEOS_USE_ONLY_R_API
@@ -46,7 +46,7 @@ int main(int argc, char **argv) {
         for (long k = 0; k < times; k++) {
             GEOSGeometry *g = GEOSWKTReader_read_r(geos, reader, line);
             if (g == NULL) return 5;
-            answer = strcmp(argv[1], "check") == 0 ? GEOSisValid_r(geos, g) == 1 : GEOSGetNumCoordinates_r(geos, g);
+            answer = strcmp(argv[1], "check") == 0 ? GEOSisValid_r(geos, g) == 1 : GEOSGetNumGeometries_r(geos, g);
             GEOSGeom_destroy_r(geos, g);
         }
     }

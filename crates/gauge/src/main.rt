@@ -119,7 +119,7 @@ fn put_number<S: Sink>(number: usize, sink: &mut S) -> Result<(), Failure> {
     put_all(sink, buffer.format(number).as_bytes()).map_err(|_| Failure::Failed)
 }
 
-// Does one thing this often, and answers its number: of `read` the positions, of `check` 1 where the geometry is valid, of
+// Does one thing this often, and answers its number: of `read` its lines or rings, of `check` 1 where the geometry is valid, of
 // `locate` how many of the points in the further lines aren't in its exterior.
 fn measured(alloc: Global, word: &str, times: u32, text: &str) -> Result<usize, Failure> {
     let mut lines = text.lines();
@@ -141,18 +141,13 @@ fn measured(alloc: Global, word: &str, times: u32, text: &str) -> Result<usize, 
     }
 }
 
-// Reads a text this often; answers how many positions its lines have.
+// Reads a text this often; answers how many lines or rings it has.
 fn read_often(alloc: Global, text: &[u8], times: u32) -> Result<usize, Failure> {
-    let mut positions = 0;
+    let mut lines = 0;
     for _ in 0..times {
-        let geometry = read(alloc, text)?;
-        positions = geometry
-            .lines()
-            .iter()
-            .map(|line| line.positions().len())
-            .sum();
+        lines = read(alloc, text)?.lines().len();
     }
-    Ok(positions)
+    Ok(lines)
 }
 
 // Reads and tests a text this often; answers 1 where the geometry is valid, and else 0.
