@@ -2,7 +2,7 @@
 -- those of a database.
 use Rattle.std.proofs.Common.{◌≡◌, List, Ok, length, true}
 use Rattle.feature_table.specs.GeometryFields.{GeometryValue, ShapeValue, reading, takes}
-use Rattle.table_laws.proofs.TableFacts.{ReadsTaken, loads_database, loads_rows}
+use Rattle.table_laws.proofs.ReadGeometries.{loaded_are_rows, loaded_is_database}
 use Rattle.table_model.specs.Databases.{load_tables}
 use Rattle.table_model.specs.Definitions.{lawful}
 use Rattle.table_model.specs.FeatureTables.{AreRows, IsDatabase}
@@ -10,13 +10,10 @@ use Rattle.table_model.specs.Loading.{Record, load}
 use Rattle.table_model.specs.Meanings.{Table}
 use Rattle.table_model.specs.declared.definitions.TableDef.{TableDef}
 
-read_is_taken : ReadsTaken takes reading
-read_is_taken number shape bytes g e = elim shape [ ]
-
 pub table_rows : (table : TableDef ShapeValue) (records : List Record) (rows : Table GeometryValue) → load reading table records ≡ Ok rows → AreRows takes table rows
-table_rows = loads_rows takes reading read_is_taken
+table_rows = loaded_are_rows
 
 pub tables_database : (definitions : List (TableDef ShapeValue)) (records : List (List Record)) (tables : List (Table GeometryValue)) → lawful definitions ≡ true
     → length records ≡ length definitions → load_tables reading definitions records ≡ Ok tables
     → IsDatabase takes (record { definitions = definitions; tables = tables })
-tables_database = loads_database takes reading read_is_taken
+tables_database = loaded_is_database

@@ -8,7 +8,7 @@ ghost use Rattle.table_model.specs.Loading as spec;
 ghost use Rattle.table_model.specs.Outcomes.{Gives};
 ghost use Rattle.table_model.specs.declared.faults.LoadFault.TheVariants as fault;
 
-use crate::geometry_fields::Geometry;
+use crate::geometry_fields::{Geometry, geometry_of};
 use crate::schemas::ColumnType;
 use std::alloc::Global;
 use std::str;
@@ -104,6 +104,8 @@ pub(crate) fn value_of(
             Ok(text) => Ok(Value::Text(OwnedText::copy_of(alloc, text)?)),
             Err(_) => Err(LoadFault::NotUtf8(number)),
         },
-        ColumnType::Geometry(shape) => match *shape {},
+        ColumnType::Geometry(shape) => {
+            Ok(Value::Geometry(geometry_of(alloc, number, *shape, field)?))
+        }
     }
 }

@@ -8,7 +8,6 @@ ghost use Rattle.table_model.specs.GeometryColumns as geometries;
 
 use crate::Argument;
 use crate::columns::bound_column;
-use crate::constants::constant;
 use crate::scope::Scope;
 use crate::strings::unquoted;
 use std::alloc::Global;
@@ -16,6 +15,7 @@ use table_model::conditions::{ColumnPlace, GeometryArgument};
 use table_model::faults::QueryFault;
 use table_model::queries::{Name, WrittenColumn, WrittenGeometry};
 use table_model::typing::{OperandType, Typed};
+use validity::read_valid;
 
 /// A part, where it is a geometry; else `TypeMismatch` at the first byte of its predicate or call.
 pub fn geometry_only<P: Drop>(at: usize, typed: Typed<P>) -> Result<P, QueryFault>
@@ -35,7 +35,7 @@ fn literal(alloc: Global, string: &Name<'_>) -> Result<Typed<Argument>, QueryFau
     ensures { Binds result (geometries.literal string.now.at (geometry_in_text (spec.unquoted string.now.text))) }
 {
     let bytes = unquoted(alloc, string.text.bytes())?;
-    match constant(alloc, bytes.as_slice())? {
+    match read_valid(alloc, bytes.as_slice())? {
         Ok(valid) => Ok(Typed {
             part: GeometryArgument::Literal(valid),
             part_type: OperandType::Geometry,

@@ -6,7 +6,6 @@ mod arguments;
 mod columns;
 mod conditions;
 mod conjuncts;
-mod constants;
 mod items;
 mod operands;
 mod patterns;

@@ -1,3 +1,4 @@
+pub mod CheckedTexts
 pub mod Edges
 pub mod Faults
 pub mod Finding

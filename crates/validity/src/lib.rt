@@ -2,6 +2,7 @@
 #![tactic(auto)]
 
 pub mod check_fault;
+pub mod checked_texts;
 mod first_faults;
 mod outlines;
 mod part_tests;
@@ -9,4 +10,5 @@ mod runs;
 pub mod valid_geometry;
 
 pub use check_fault::CheckFault;
+pub use checked_texts::read_valid;
 pub use valid_geometry::{Valid, check};

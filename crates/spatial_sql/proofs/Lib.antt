@@ -1,3 +1,0 @@
-pub mod Outcomes
-pub mod Ascii
-pub mod MatrixLemmas

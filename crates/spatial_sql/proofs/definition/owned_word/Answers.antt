@@ -1,5 +1,0 @@
-use Rattle.spatial_sql.proofs.Ascii.{IsUtf8-from_is_ascii}
-use Rattle.spatial_sql.proofs.definition.owned_word.Goals as goal
-
-pub unreachable-requires : goal.unreachable-requires
-unreachable-requires c = c.in-Err.ensures.cases.0 (IsUtf8-from_is_ascii _ c.requires)

@@ -1,4 +1,0 @@
-pub mod Serving
-pub mod Strings
-pub mod Sides
-pub mod Outcomes

@@ -1,0 +1,8 @@
+//! The truth of conditions at rows, in SQL's three-valued logic, with the spatial predicates of OGC 06-104r4 (Simple
+//! Features, part 2).
+#![tactic(auto)]
+
+mod conditions;
+
+pub use conditions::value;
+pub use table_model::values::Truth;
