@@ -6,3 +6,4 @@ pub mod Records
 pub mod Outcomes
 pub mod RowReading
 pub mod Tables
+pub mod Indexes

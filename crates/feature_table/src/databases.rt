@@ -12,6 +12,7 @@ ghost use Rattle.table_model.specs.declared.definitions.TableDef.{TableDef as De
 
 use crate::schemas::{Schema, TableDef};
 use crate::tables::Table;
+use rtree::EnvelopeIndex;
 use std::alloc::Global;
 use std::io::Read;
 use std::marker::Model;
@@ -20,12 +21,12 @@ use table_model::faults::{LoadFault, TableFault};
 /// The tables of a schema, which it borrows: lawful definitions, and for each the rows of its table.
 /// (06-104r4, feature tables.)
 #[derive(Drop)]
-pub struct Database<'s> {
+pub struct Database<'s, I: EnvelopeIndex> {
     schema: &'s Schema,
-    tables: Vec<Table>,
+    tables: Vec<Table<I>>,
 }
 
-impl<'s> Model for Database<'s> {
+impl<'s, I: EnvelopeIndex> Model for Database<'s, I> {
     ghost use Rattle.feature_table.specs.GeometryFields.{GeometryValue, ShapeValue, takes};
     ghost use Rattle.table_model.specs.Databases.{Database};
     ghost use Rattle.table_model.specs.FeatureTables.{IsDatabase};
@@ -39,12 +40,12 @@ impl<'s> Model for Database<'s> {
 }
 
 /// Loads the table at a place of a schema, and tells of that place with a fault.
-fn load_table<R: Read + Drop>(
+fn load_table<I: EnvelopeIndex + Drop, R: Read + Drop>(
     alloc: Global,
     schema: &Schema,
     place: usize,
     reader: R,
-) -> Result<Table, TableFault>
+) -> Result<Table<I>, TableFault>
     requires { place < length schema.now }
     ensures place { IfErr result (λ f. f.table ≡ place) }
     ensures loads { (text : List ℕ) (d : Definition ShapeValue) → R.remaining reader ≡ Some text
@@ -64,7 +65,7 @@ fn load_table<R: Read + Drop>(
     }
 }
 
-impl<'s> Database<'s> {
+impl<'s, I: EnvelopeIndex + Drop> Database<'s, I> {
     /// Loads the tables of a schema in its order, each from the CSV text of one reader. The answer is the
     /// first fault where there is one, with its table: `Table::load` says which. So also a fault of reading
     /// is that of the first table whose reading failed: each table before it has loaded. Whatever the readers
@@ -74,7 +75,7 @@ impl<'s> Database<'s> {
         alloc: Global,
         schema: &'s Schema,
         readers: Vec<R>,
-    ) -> Result<Database<'s>, TableFault>
+    ) -> Result<Database<'s, I>, TableFault>
         requires { length readers.items ≡ length schema.now }
         ensures schema { IfOk result (λ d. d.definitions ≡ schema.entry.now) }
         ensures loads { (texts : List (List ℕ)) → map R.remaining readers.items ≡ map Some texts
@@ -111,7 +112,7 @@ impl<'s> Database<'s> {
     }
 
     /// Lends the table at a place of the schema.
-    pub fn table(&self, i: usize) -> &Table
+    pub fn table(&self, i: usize) -> &Table<I>
         requires { i < length self.now.definitions }
         ensures { slice_get self.now.tables i ≡ Some result.now }
     {

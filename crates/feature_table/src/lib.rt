@@ -7,6 +7,7 @@ pub mod databases;
 mod fields;
 pub mod geometry_fields;
 mod headers;
+mod indexes;
 mod keys;
 mod loading;
 pub mod records;

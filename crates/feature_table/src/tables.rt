@@ -5,6 +5,7 @@ ghost use Rattle.feature_table.specs.Cells.{shown};
 ghost use Rattle.feature_table.specs.Outcomes.{Loads, is_of_reading};
 ghost use Rattle.feature_table.specs.Records.{Gives, IsReady, asked, read_failed, record_limit};
 ghost use Rattle.feature_table.specs.GeometryFields.{reading, takes};
+ghost use Rattle.feature_table.specs.Indexes.{column_envelopes};
 ghost use Rattle.feature_table.specs.Tables.{IsOfRecords, IsOfSomeRecords, IsTable, NoFaultBefore, table_in};
 ghost use Rattle.table_model.specs.Definitions.{lawful};
 ghost use Rattle.table_model.specs.FeatureTables.{AreRows};
@@ -13,11 +14,13 @@ ghost use Rattle.table_model.specs.Loading as spec;
 use crate::cells::{Field, field_of};
 use crate::geometry_fields::Geometry;
 use crate::headers::layout_of;
+use crate::indexes::Indexes;
 use crate::keys::order_by_key;
 use crate::loading::read_rows;
 use crate::records::{Records, next_record};
 use crate::schemas::TableDef;
 use csv::ByteRecord;
+use rtree::EnvelopeIndex;
 use sqlite_items::Items;
 use std::alloc::Global;
 use std::io::Read;
@@ -58,26 +61,29 @@ impl<'a> Row<'a> {
     }
 }
 
-/// A table: the rows of a lawful definition, by ascending key. Contracts see it as that list. (06-104r4,
-/// feature tables.)
+/// A table: the rows of a lawful definition, by ascending key, with an index of each geometry column. Contracts see it
+/// as the list of its rows. (06-104r4, feature tables.)
 #[derive(Drop)]
-pub struct Table {
+pub struct Table<I: EnvelopeIndex> {
     rows: Vec<Items<Value<Geometry>>>,
+    indexes: Indexes<I>,
 }
 
-impl Model for Table {
+impl<I: EnvelopeIndex> Model for Table<I> {
     ghost use Rattle.table_model.specs.Meanings as plain;
     ghost use Rattle.feature_table.specs.GeometryFields.{GeometryValue, takes};
+    ghost use Rattle.feature_table.specs.Indexes.{AreIndexes};
     ghost use Rattle.feature_table.specs.Tables.{IsTable};
 
     ghost Value = { plain.Table GeometryValue };
 
     ghost view = { λ t. t.rows.items };
 
-    ghost invariant = { λ t. IsTable takes t.rows.items };
+    ghost invariant = { λ t.
+        IsTable takes t.rows.items × AreIndexes I.indexed t.rows.items t.indexes.own.items t.indexes.bare };
 }
 
-impl Table {
+impl<I: EnvelopeIndex + Drop> Table<I> {
     /// Loads the table of a definition, which is lawful by itself, from the CSV text that a reader gives. The
     /// answer is the first fault where there is one: of the header, then of the records in order, then a
     /// repeated key. A fault of reading is answered where it comes. Whatever the reader is, there are records
@@ -88,7 +94,7 @@ impl Table {
         alloc: Global,
         table: &TableDef,
         reader: R,
-    ) -> Result<Table, LoadFault>
+    ) -> Result<Table<I>, LoadFault>
         requires { IsTrue (lawful (table.now ∷ [])) }
         ensures loads { (text : List ℕ) → R.remaining reader ≡ Some text
             → Loads (λ t. t) result (table_in reading table.now text) }
@@ -107,7 +113,7 @@ impl Table {
         alloc: Global,
         table: &TableDef,
         records: &mut Records<R>,
-    ) -> Result<Table, LoadFault>
+    ) -> Result<Table<I>, LoadFault>
         requires lawful { IsTrue (lawful (table.now ∷ [])) }
         requires ready { IsReady records.old }
         requires none { asked records.old ≡ 0 }
@@ -130,7 +136,8 @@ impl Table {
         let layout = layout_of(alloc, table.columns.as_slice(), &header)?;
         let mut rows = read_rows(alloc, table, &layout, records)?;
         order_by_key(alloc, &mut rows, table.key)?;
-        Ok(Table { rows })
+        let indexes = Indexes::build(alloc, table, rows.as_slice())?;
+        Ok(Table { rows, indexes })
     }
 
     /// How many rows there are. They are the rows of a table: at most 100,000, strictly ascending by key,
@@ -150,5 +157,13 @@ impl Table {
         Row {
             values: &self.rows[i],
         }
+    }
+
+    /// Lends the index of a column: it lists the envelope of the column's geometry in each row. That of NULL, as that of
+    /// an empty geometry, is absent, and so is each in a column that holds no geometries. (06-103r4, 6.1.2.2: Envelope.)
+    pub fn index(&self, column: usize) -> &I
+        ensures { I.indexed result.now ≡ column_envelopes column self.now }
+    {
+        self.indexes.get(column)
     }
 }

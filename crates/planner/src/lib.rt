@@ -8,5 +8,7 @@ mod costs;
 mod driving;
 mod filters;
 mod least;
+pub mod plans;
 
-pub use choosing::choose;
+pub use choosing::choose_by_counts;
+pub use plans::choose;

@@ -9,6 +9,7 @@ ghost use Rattle.table_model.specs.Outcomes.{Gives};
 use feature_table::Database;
 use query_binder::Bound;
 use query_reader::Query;
+use rtree::EnvelopeIndex;
 use std::alloc::Global;
 use table_model::faults::QueryFault;
 
@@ -17,7 +18,11 @@ use table_model::faults::QueryFault;
 /// with its byte, and their order are those of `query_binder::bind` over the definitions of the database. What it
 /// answers is bound to them: its tables and columns are there, and its types fit. (SQL; 06-104r4, 7.2; the order: this
 /// project's choice.)
-pub fn bind(alloc: Global, query: &Query<'_>, database: &Database<'_>) -> Result<Bound, QueryFault>
+pub fn bind<I: EnvelopeIndex + Drop>(
+    alloc: Global,
+    query: &Query<'_>,
+    database: &Database<'_, I>,
+) -> Result<Bound, QueryFault>
     ensures answer { Gives QueryFault.OutOfMemory (λ bound. bound) result
         (spec.binding geometry_binding database.now.definitions query.now) }
     ensures bound { IfOk result (IsBound geometry_fits database.now.definitions) }

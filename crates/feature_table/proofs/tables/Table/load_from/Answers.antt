@@ -1,10 +1,12 @@
-use Rattle.std.proofs.Common.{◌-◌, arith, inl, [], ◌∙◌, ◌≡◌, ◌∷◌, ap, inr}
+use Rattle.std.proofs.Common.{◌-◌, arith, inl, [], ◌∙◌, ◌≡◌, ◌∷◌, ap, inr, refl, subst, sym}
 use Rattle.std.proofs.lemmas.Result.{err_from_is_err_and}
 use Rattle.csv.specs.Records.{fields_of}
 use Rattle.feature_table.proofs.LoadLemmas.{header_fails, no_header, rows_fail, rows_pass}
 use Rattle.feature_table.proofs.GeometryFieldLemmas.{table_rows}
 use Rattle.feature_table.specs.Records.{asked}
-use Rattle.feature_table.specs.GeometryFields.{reading}
+use Rattle.feature_table.specs.GeometryFields.{reading, takes}
+use Rattle.feature_table.specs.Indexes.{AreIndexes}
+use Rattle.table_model.specs.FeatureTables.{AreRows}
 use Rattle.table_model.specs.Loading.{load}
 use Rattle.feature_table.proofs.tables.Table.load_from.Goals as goal
 
@@ -106,17 +108,38 @@ returns-clause-rows g c =
     let some = c.in_ok-rows.ensures.records header layout.1 in
     table_rows table (header ∷ some.0) _ (rows_pass reading table header some.0 c.in_ok-rows.rows.items layout.0 some.1 ∙ c.in_ok-order_by_key.ensures.ok)
 
+pub build-requires : goal.build-requires
+build-requires g c =
+    let table = c.args.table.now in
+    let header = fields_of c.next_record.new.record in
+    let layout = rw c.as_slice.ensures at c.in_ok-layout.ensures.ok in
+    let some = c.in_ok-rows.ensures.records header layout.1 in
+    subst (AreRows takes table) (sym c.as_slice-2.ensures.value)
+    (table_rows table (header ∷ some.0) c.order_by_key.new.rows.items (rows_pass reading table header some.0 c.in_ok-rows.rows.items layout.0 some.1 ∙ c.in_ok-order_by_key.ensures.ok))
+
 pub invariant_of-result : goal.invariant_of-result
 invariant_of-result g c =
     let table = c.args.table.now in
     let header = fields_of c.next_record.new.record in
     let layout = rw c.as_slice.ensures at c.in_ok-layout.ensures.ok in
-    let some = c.in_ok-rows.ensures.records header layout.1 in
-    record {
-      definition = table;
-      is_lawful = c.requires.lawful;
-      are_rows = table_rows table (header ∷ some.0) _ (rows_pass reading table header some.0 c.in_ok-rows.rows.items layout.0 some.1 ∙ c.in_ok-order_by_key.ensures.ok);
-    }
+    let some = c.in_ok-rows.ensures.records header layout.1 in (
+      record {
+        definition = table;
+        is_lawful = c.requires.lawful;
+        are_rows = table_rows table (header ∷ some.0) _ (rows_pass reading table header some.0 c.in_ok-rows.rows.items layout.0 some.1 ∙ c.in_ok-order_by_key.ensures.ok);
+      },
+      subst (λ rows. AreIndexes g.I.EnvelopeIndex.indexed rows c.in_ok-indexes.indexes.own.items c.in_ok-indexes.indexes.bare) c.as_slice-2.ensures.value c.in_ok-indexes.ensures,
+    )
+
+pub returns-in_err-indexes-clause-loads : goal.returns-in_err-indexes-clause-loads
+returns-in_err-indexes-clause-loads g c all gives =
+    let p = err_from_is_err_and c.from_residual-in_err-indexes.result c.from_residual-in_err-indexes.ensures.1 in
+    rw (p.1, p.2) (λ other. absurd (other (inr refl)))
+
+pub returns-in_err-indexes-clause-records : goal.returns-in_err-indexes-clause-records
+returns-in_err-indexes-clause-records g c =
+    let p = err_from_is_err_and c.from_residual-in_err-indexes.result c.from_residual-in_err-indexes.ensures.1 in
+    rw (p.1, p.2) ([], λ other. absurd (other (inr refl)))
 
 pub returns-in_err-found-clause-before : goal.returns-in_err-found-clause-before
 returns-in_err-found-clause-before g c all gives =

@@ -2,7 +2,7 @@ use Rattle.std.proofs.Common.{ap, ap₂, ◌∙◌, sym, Some, option_map}
 use Rattle.table_model.specs.Plans as spec
 use Rattle.planner.specs.Nestings.{accesses_in}
 use Rattle.planner.proofs.PlanOfLeast.{plan_of_least}
-use Rattle.planner.proofs.choosing.choose.Goals as goal
+use Rattle.planner.proofs.choosing.choose_by_counts.Goals as goal
 
 pub returns-in-Some : goal.returns-in-Some
 returns-in-Some g c =
