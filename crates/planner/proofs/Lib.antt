@@ -1,4 +1,5 @@
 pub mod AccessLists
+pub mod RowCounts
 pub mod LeastStep
 pub mod Counts
 pub mod LeastMap
