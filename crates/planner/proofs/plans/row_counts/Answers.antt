@@ -11,7 +11,7 @@ pub loop-reference-preserved : goal.loop-reference-preserved
 loop-reference-preserved g c =
     c.in_ok-push.ensures.items
     ∙ ap (λ n. c.loop-reference.counts.items ++ n ∷ []) c.row_count.ensures
-    ∙ ap (λ ns. ns ++ _ ∷ []) c.loop-reference.invariant
+    ∙ ap (λ ns. ns ++ length c.table.result.now ∷ []) c.loop-reference.invariant
     ∙ sym (one_more_count c.args.database.now.tables c.args.references.now c.loop-reference.reference-index c.reference-item.result c.table.result.now c.loop-reference-test.true c.reference-item.is c.table.ensures)
 
 pub returns : goal.returns
