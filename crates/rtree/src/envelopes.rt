@@ -143,7 +143,7 @@ fn envelope_at(a: GridPoint) -> Envelope
 }
 
 // The envelope of a position and of what follows it.
-fn with_position(a: GridPoint, rest: Option<Envelope>) -> Envelope
+pub(crate) fn with_position(a: GridPoint, rest: Option<Envelope>) -> Envelope
     ensures { result ≡ with_position a rest }
 {
     let one = envelope_at(a);

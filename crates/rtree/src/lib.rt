@@ -5,6 +5,7 @@
 #![tactic(auto)]
 
 pub mod envelopes;
+mod geometries;
 pub mod indexes;
 pub mod lists;
 
