@@ -12,3 +12,4 @@ pub mod KeyLemmas
 pub mod OrderLemmas
 pub mod ReaderRecords
 pub mod DatabaseLemmas
+pub mod IndexLemmas

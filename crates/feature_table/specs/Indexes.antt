@@ -1,9 +1,12 @@
 -- What the index of a column lists.
-use Rattle.std.specs.Prelude.{◌≡◌, ℕ, List, map, None, Option, Some, option_and_then, slice_get, unwrap_or}
+use Rattle.std.specs.Prelude.{◌≡◌, ⊤, ℕ, List, map, None, Option, Some, option_and_then, slice_get, unwrap_or}
 use Rattle.geometry_model.specs.Envelopes.{Envelope, envelope}
 use Rattle.geometry_model.specs.Geometries.{Geometry}
 use Rattle.table_model.specs.Arguments.{geometry_in}
 use Rattle.table_model.specs.Meanings.{Row, Table}
+use Rattle.table_model.specs.GeometryColumns.{ColumnShape}
+use Rattle.table_model.specs.declared.definitions.ColumnType.{ColumnType}
+use Rattle.table_model.specs.declared.definitions.ColumnType.TheVariants as column
 use Rattle.table_model.specs.declared.values.Value.{Value}
 use Rattle.table_model.specs.declared.values.Value.TheVariants as values
 
@@ -19,7 +22,17 @@ field_in column row = unwrap_or (slice_get row column) values.Null
 abbrev pub column_envelopes : ℕ → Table Geometry → List (Option Envelope)
 column_envelopes column rows = map (λ row. field_envelope (field_in column row)) rows
 
+-- an absent envelope for each row
+abbrev pub absent : Row Geometry → Option Envelope
+absent row = None
+
 -- of each column an index is kept that lists its envelopes: its own, or the one of columns without geometries
 pub record AreIndexes {I : Type 0} (indexed : I → List (Option Envelope)) (rows : Table Geometry) (own : List (Option I)) (bare : I) : Type 0 where
   pub of_own : (column : ℕ) (index : I) → slice_get own column ≡ Some (Some index) → indexed index ≡ column_envelopes column rows
   pub of_others : (column : ℕ) → unwrap_or (slice_get own column) None ≡ None → indexed bare ≡ column_envelopes column rows
+
+-- a column of this type holds no geometry
+abbrev pub HoldsNone : ColumnType ColumnShape → Type 0
+HoldsNone column.Integer = ⊤
+HoldsNone column.Text = ⊤
+HoldsNone (column.Geometry shape) = ⊥
