@@ -13,8 +13,6 @@ mod query;
 mod references;
 mod scope;
 mod strings;
-#[cfg(test)]
-mod tests;
 
 use geometry_model::GeometryType;
 pub use query::bind;

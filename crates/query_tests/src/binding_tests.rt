@@ -1,16 +1,20 @@
 //! Names and conditions over a table, and the truth of conditions at its rows.
 
+use de9im::Work;
 use feature_table::{Database, Schema};
+use rtree::ListIndex;
 use spatial_sql::{Bound, Cond, QueryFault, Truth, bind, read_query, read_schema, value};
 use std::alloc::Global;
 use std::test::Fail;
 use table_model::conditions::{Item, Operand};
 
-const SCHEMA: &[u8] = b"CREATE TABLE t (id INTEGER PRIMARY KEY, pop INTEGER, name TEXT);";
+const SCHEMA: &[u8] =
+    b"CREATE TABLE t (id INTEGER PRIMARY KEY, pop INTEGER, name TEXT, geom GEOMETRY);";
 
-const ROWS: &[u8] = b"id,pop,name\n1,8,a\n2,9,b\n3,,c\n4,7,\n";
+const ROWS: &[u8] =
+    b"id,pop,name,geom\n1,8,a,POINT(1 1)\n2,9,b,\n3,,c,POINT(9 9)\n4,7,,POINT EMPTY\n";
 
-fn loaded(alloc: Global, schema: &Schema) -> Result<Database<'_>, Fail> {
+fn loaded(alloc: Global, schema: &Schema) -> Result<Database<'_, ListIndex>, Fail> {
     if schema.tables().len() != 1 {
         return Err(Fail::from("not one table"));
     }
@@ -46,8 +50,13 @@ fn faults_of_names(rt: HostRuntime) -> Result<(), Fail> {
     Ok(())
 }
 
-// The truths of a condition at the rows of the only table.
-fn truths(alloc: Global, cond: &Cond, database: &Database<'_>) -> Result<Vec<Truth>, Fail> {
+// The truths of a condition at the rows of the only table; how many matrices were computed is added to the work.
+fn truths(
+    alloc: Global,
+    cond: &Cond,
+    database: &Database<'_, ListIndex>,
+    work: &mut Work,
+) -> Result<Vec<Truth>, Fail> {
     let mut truths = Vec::new(alloc);
     if database.definitions().is_empty() {
         return Ok(truths);
@@ -56,13 +65,13 @@ fn truths(alloc: Global, cond: &Cond, database: &Database<'_>) -> Result<Vec<Tru
     for place in 0..table.rows() {
         let mut rows = Vec::new(alloc);
         rows.push(table.row(place))?;
-        truths.push(value(cond, rows.as_slice()))?;
+        truths.push(value(alloc, cond, rows.as_slice(), work)?)?;
     }
     Ok(truths)
 }
 
 // The truths of the only conjunct of a query at the rows of the table.
-fn truths_of(alloc: Global, text: &str) -> Result<Vec<Truth>, Fail> {
+fn truths_of(alloc: Global, text: &str, work: &mut Work) -> Result<Vec<Truth>, Fail> {
     let bound = bound(alloc, text)?.ok().ok_or("not bound")?;
     let schema = read_schema(alloc, SCHEMA)?;
     let database = loaded(alloc, &schema)?;
@@ -70,6 +79,7 @@ fn truths_of(alloc: Global, text: &str) -> Result<Vec<Truth>, Fail> {
         alloc,
         bound.conjuncts.get(0).ok_or("no conjunct")?,
         &database,
+        work,
     )
 }
 
@@ -90,8 +100,48 @@ fn truths_at_rows(rt: HostRuntime) -> Result<(), Fail> {
         ("SELECT id FROM t WHERE 8 <> pop", [no, yes, unknown, yes]),
         ("SELECT id FROM t WHERE name < 'aa'", [yes, no, no, unknown]),
     ] {
-        let truths = truths_of(rt.alloc(), text)?;
+        let truths = truths_of(rt.alloc(), text, &mut Work::new())?;
         assert!(rt; truths.as_slice() == wanted.as_slice());
+    }
+    Ok(())
+}
+
+/// The truth of a spatial condition at each row: a point inside, none, one outside, an empty one; and how many matrices
+/// it takes.
+#[test]
+fn spatial_truths_at_rows(rt: HostRuntime) -> Result<(), Fail> {
+    let (yes, no, unknown) = (Truth::True, Truth::False, Truth::Unknown);
+    for (text, wanted, count) in [
+        (
+            "SELECT id FROM t WHERE ST_Within(geom, ST_GeomFromText('POLYGON((0 0,4 0,4 4,0 4,0 0))'))",
+            [yes, unknown, no, no],
+            3,
+        ),
+        (
+            "SELECT id FROM t WHERE NOT ST_Within(geom, ST_GeomFromText('POLYGON((0 0,4 0,4 4,0 4,0 0))')) OR geom IS NULL",
+            [no, yes, yes, yes],
+            3,
+        ),
+        (
+            "SELECT id FROM t WHERE ST_Disjoint(geom, ST_GeomFromText('POLYGON((0 0,4 0,4 4,0 4,0 0))')) = 0",
+            [yes, unknown, no, no],
+            3,
+        ),
+        ("SELECT id FROM t WHERE ST_IsEmpty(geom)", [no, unknown, no, yes], 0),
+        (
+            "SELECT id FROM t WHERE ST_AsText(geom) = 'POINT(1 1)'",
+            [yes, unknown, no, no],
+            0,
+        ),
+        (
+            "SELECT id FROM t WHERE ST_Dimension(geom) = 0",
+            [yes, unknown, yes, yes],
+            0,
+        ),
+    ] {
+        let mut work = Work::new();
+        let truths = truths_of(rt.alloc(), text, &mut work)?;
+        assert!(rt; truths.as_slice() == wanted.as_slice() && work.count() == count);
     }
     Ok(())
 }

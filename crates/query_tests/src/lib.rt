@@ -4,6 +4,8 @@
 #[cfg(test)]
 mod binding_tests;
 #[cfg(test)]
+mod bound_query_tests;
+#[cfg(test)]
 mod language_tests;
 #[cfg(test)]
 mod loading_tests;

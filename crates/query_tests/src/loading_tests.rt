@@ -5,6 +5,9 @@ ghost use Rattle.std.specs.Prelude.{◌<◌, length};
 use feature_table::{
     ColumnDef, ColumnType, Field, LoadFault, Records, Schema, Table, TableDef, lawful,
 };
+use fraction::GridPoint;
+use geometry_model::{GeometryFault, GeometryType, TextFault, ValidityFault};
+use rtree::{Envelope, EnvelopeIndex, ListIndex};
 use sqlite_items::Items;
 use std::alloc::{AllocError, Global};
 use std::io::{self, Read};
@@ -43,7 +46,7 @@ fn schema(alloc: Global) -> Result<Schema, Fail> {
 }
 
 /// The number in the first column of a row.
-fn key_at(table: &Table, i: usize) -> Option<i64>
+fn key_at(table: &Table<ListIndex>, i: usize) -> Option<i64>
     requires { i < length table.now }
 {
     let row = table.row(i);
@@ -61,7 +64,7 @@ fn first_run_loads(rt: HostRuntime) -> Result<(), Fail> {
     let schema = schema(rt.alloc())?;
     assert!(rt; !schema.tables().is_empty());
     let text = b"id,pop,name\n1,8,a\n2,9,b\n3,,c\n4,7,\n".as_slice();
-    let table = Table::load(rt.alloc(), schema.table(0), text)
+    let table = Table::<ListIndex>::load(rt.alloc(), schema.table(0), text)
         .ok()
         .ok_or("not loaded")?;
     let mut keys = Vec::new(rt.alloc());
@@ -90,8 +93,72 @@ fn each_fault(rt: HostRuntime) -> Result<(), Fail> {
         ),
     ];
     for (text, want) in cases {
-        assert!(rt; Table::load(rt.alloc(), schema.table(0), text).err() == want);
+        assert!(rt; Table::<ListIndex>::load(rt.alloc(), schema.table(0), text).err() == want);
     }
+    Ok(())
+}
+
+/// A schema of a table of a key and of polygons.
+fn shapes(alloc: Global) -> Result<Schema, Fail> {
+    let columns = vec![in alloc;
+        column(alloc, "id", ColumnType::Integer)?,
+        column(alloc, "geom", ColumnType::Geometry(Some(GeometryType::Polygon)))?,
+    ]?;
+    let tables = vec![in alloc;
+        TableDef {
+            name: OwnedText::copy_of(alloc, "t")?,
+            columns: Items::from_vec(columns),
+            key: 0,
+        },
+    ]?;
+    if !lawful(&tables) {
+        return Err(Fail::from("unlawful"));
+    }
+    Ok(Schema::of(tables))
+}
+
+/// The faults of geometries: of the text, of validity, then of the type.
+#[test]
+fn each_fault_of_a_geometry(rt: HostRuntime) -> Result<(), Fail> {
+    let schema = shapes(rt.alloc())?;
+    assert!(rt; !schema.tables().is_empty());
+    let off_grid = GeometryFault::Text(TextFault::OffGrid(6));
+    let not_simple = GeometryFault::Invalid(ValidityFault::RingNotSimple(0));
+    let cases: [(&[u8], Option<LoadFault>); 4] = [
+        (
+            b"id,geom\n1,POINT(1.5 2)\n",
+            Some(LoadFault::BadGeometry(1, off_grid)),
+        ),
+        (
+            b"id,geom\n1,\n2,\"POLYGON((0 0,4 4,4 0,0 4,0 0))\"\n",
+            Some(LoadFault::BadGeometry(2, not_simple)),
+        ),
+        (b"id,geom\n1,POINT(1 2)\n", Some(LoadFault::WrongType(1))),
+        (b"id,geom\n1,\n2,POLYGON EMPTY\n", None),
+    ];
+    for (text, want) in cases {
+        assert!(rt; Table::<ListIndex>::load(rt.alloc(), schema.table(0), text).err() == want);
+    }
+    Ok(())
+}
+
+/// The index of a column of geometries lists the envelope of each row, and that of another one none.
+#[test]
+fn columns_are_indexed(rt: HostRuntime) -> Result<(), Fail> {
+    let schema = shapes(rt.alloc())?;
+    assert!(rt; !schema.tables().is_empty());
+    let text = b"id,geom\n1,\n2,\"POLYGON((0 0,4 0,4 4,0 0))\"\n3,POLYGON EMPTY\n".as_slice();
+    let table = Table::<ListIndex>::load(rt.alloc(), schema.table(0), text)
+        .ok()
+        .ok_or("not loaded")?;
+    let mut found = Vec::new(rt.alloc());
+    table.index(1).search(None, &mut found)?;
+    assert!(rt; found.as_slice() == [0, 2].as_slice());
+    let touching = Envelope::of_positions(&[GridPoint::new(4, 4).ok_or("past the limit")?]);
+    table.index(1).search(touching, &mut found)?;
+    assert!(rt; found.as_slice() == [1].as_slice());
+    table.index(0).search(touching, &mut found)?;
+    assert!(rt; found.is_empty());
     Ok(())
 }
 
@@ -110,7 +177,7 @@ fn failed_read_is_told(rt: HostRuntime) -> Result<(), Fail> {
     let schema = schema(rt.alloc())?;
     assert!(rt; !schema.tables().is_empty());
     let mut records = Records::new(rt.alloc(), Broken);
-    let fault = Table::load_from(rt.alloc(), schema.table(0), &mut records).err();
+    let fault = Table::<ListIndex>::load_from(rt.alloc(), schema.table(0), &mut records).err();
     assert!(rt; fault == Some(LoadFault::ReadFailed));
     assert!(rt; records.read_failed() && records.asked() == 1);
     Ok(())

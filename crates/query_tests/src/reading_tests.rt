@@ -3,8 +3,7 @@
 use spatial_sql::read_query;
 use std::test::Fail;
 use table_model::faults::QueryFault;
-use table_model::queries::WrittenCond;
-use table_model::values::NoGeometry;
+use table_model::queries::{WrittenCond, WrittenGeometry};
 
 /// The first fault of a text, with its byte.
 #[test]
@@ -34,7 +33,7 @@ fn texts_are_taken_or_refused(rt: HostRuntime) {
 }
 
 // Where the comparison starts that is the first part of a conjunction.
-fn compared_at(cond: &WrittenCond<'_, NoGeometry>) -> Option<usize> {
+fn compared_at(cond: &WrittenCond<'_, WrittenGeometry<'_>>) -> Option<usize> {
     let WrittenCond::And(parts) = cond else {
         return None;
     };

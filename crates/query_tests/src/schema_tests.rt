@@ -15,6 +15,14 @@ fn faults_of_schemas(rt: HostRuntime) {
         ),
         ("CREATE TABLE t (id REAL)", Some(SchemaFault::Syntax(19))),
         (
+            "CREATE TABLE t (a INT PRIMARY KEY, g geometry, b POINT, c MultiPoint, d linestring, e MULTILINESTRING, f POLYGON, h MULTIPOLYGON NOT NULL)",
+            None,
+        ),
+        (
+            "CREATE TABLE t (g POINT PRIMARY KEY)",
+            Some(SchemaFault::Syntax(22)),
+        ),
+        (
             "CREATE TABLE t (a TEXT PRIMARY KEY)",
             Some(SchemaFault::Syntax(23)),
         ),

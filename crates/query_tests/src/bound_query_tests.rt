@@ -1,6 +1,6 @@
 //! What binding means for whole queries, with places counted by hand.
 
-use crate::{Bound, ColumnShape, QueryFault, TableDef, bind};
+use query_binder::{Bound, ColumnShape, QueryFault, TableDef, bind};
 use geometry_model::{GeometryFault, Predicate, TextFault, ValidityFault};
 use query_reader::read_query;
 use sqlite_items::Items;
