@@ -20,7 +20,7 @@ fn faults_of_schemas(rt: HostRuntime) {
         ),
         (
             "CREATE TABLE t (g POINT PRIMARY KEY)",
-            Some(SchemaFault::Syntax(22)),
+            Some(SchemaFault::Syntax(24)),
         ),
         (
             "CREATE TABLE t (a TEXT PRIMARY KEY)",
