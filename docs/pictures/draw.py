@@ -1,10 +1,12 @@
 #!/usr/bin/env python3
-"""Draws the pictures of the documents: two geometries on the grid, and beside them their DE-9IM matrix.
+"""Draws the pictures of the documents: two geometries on the grid, and beside them their DE-9IM matrix; and the map of
+the land register of examples/parcels, from its CSV files.
 
-Run it in this folder without arguments. It writes one SVG for each entry of PICTURES, the same bytes each time. The
-matrices are those of the worked rows; the script computes none.
+Run it in this folder without arguments. It writes one SVG for each entry of PICTURES, and parcels.svg, the same bytes
+each time. The matrices are those of the worked rows; the script computes none.
 """
 
+import csv
 import re
 
 UNIT = 44
@@ -119,5 +121,84 @@ def draw(name, first, second, matrix):
         )
 
 
+REGISTER = "../../examples/parcels"
+MAP_UNIT = 30
+# How each table of the register is drawn: fill, stroke, width of the stroke.
+STYLES = {
+    "parcel": ("#9db87a", "#4c6b2f", 1.5),
+    "building": ("#b5573c", "#7a2f1b", 1.2),
+    "water": ("none", "#3f86c6", 3),
+    "path": ("none", "#8a6d3b", 2),
+    "well": ("#1f3f8a", "#fff", 1),
+}
+CLAIM = "109"
+# Where the number of a parcel stands, in tenths of a step; the others have theirs in the middle of their positions.
+NUMBERS = {
+    "101": (8, 34),
+    "102": (95, 5),
+    "104": (11, 71),
+    "105": (28, 114),
+    "106": (127, 64),
+    "107": (128, 104),
+    "108": (175, 55),
+    "109": (72, 60),
+    "110": (168, 107),
+}
+
+
+def rows_of(table):
+    """The rows of a table that have a geometry with positions, by key."""
+    with open(f"{REGISTER}/{table}.csv", newline="", encoding="utf-8") as file:
+        rows = [row for row in csv.DictReader(file) if parts(row["geom"])]
+    return sorted(rows, key=lambda row: int(row["id"]))
+
+
+def shape(sheet, table, row):
+    """The element that draws a row."""
+    fill, stroke, width = STYLES[table]
+    lists = [[sheet.at(p) for p in positions] for positions in parts(row["geom"])]
+    if table == "well":
+        (x, y), = lists[0]
+        return f'<circle cx="{x}" cy="{y}" r="4" fill="{fill}" stroke="{stroke}" stroke-width="{width}"/>'
+    is_area = fill != "none"
+    path = " ".join("M" + " L".join(f"{x} {y}" for x, y in spots) + (" Z" if is_area else "") for spots in lists)
+    dashes = ' stroke-dasharray="6 4"' if table == "parcel" and row["id"] == CLAIM else ""
+    if dashes:
+        fill = "none"
+    return (
+        f'<path d="{path}" fill="{fill}" fill-opacity="{0.35 if table == "parcel" else 0.8}" fill-rule="evenodd" '
+        f'stroke="{stroke}" stroke-width="{width}"{dashes}/>'
+    )
+
+
+def number(sheet, row):
+    """The number of a parcel."""
+    listed = [p for positions in parts(row["geom"]) for p in positions[:-1]]
+    middle = sum(x for x, _ in listed) * 10 / len(listed), sum(y for _, y in listed) * 10 / len(listed)
+    x, y = NUMBERS.get(row["id"], middle)
+    cx, cy = MARGIN + (x / 10 - sheet.left) * sheet.unit, MARGIN + (sheet.top - y / 10) * sheet.unit
+    return label(cx, cy, row["id"], "#2c3f1a").replace('font-size="18"', 'font-size="12"')
+
+
+def draw_register():
+    tables = {table: rows_of(table) for table in STYLES}
+    sheet = Sheet([p for rows in tables.values() for row in rows for positions in parts(row["geom"]) for p in positions])
+    sheet.unit = MAP_UNIT
+    sheet.grid()
+    for table, rows in tables.items():
+        sheet.lines += [shape(sheet, table, row) for row in rows]
+    # The Glebe has the outline of the Churchyard, so one number stands for both.
+    sheet.lines += [number(sheet, row) for row in tables["parcel"] if row["id"] != "113"]
+    width, height = sheet.width(), sheet.height()
+    body = "\n".join(sheet.lines)
+    with open("parcels.svg", "w", encoding="utf-8") as file:
+        file.write(
+            f'<svg xmlns="http://www.w3.org/2000/svg" viewBox="0 0 {width:g} {height:g}" width="{width:g}" height="{height:g}">\n'
+            "<title>The land register of examples/parcels</title>\n"
+            f'<rect width="100%" height="100%" fill="#fff"/>\n{body}\n</svg>\n'
+        )
+
+
 for picture, rows in PICTURES.items():
     draw(picture, *rows)
+draw_register()

@@ -1,24 +1,40 @@
--- The land register of a small town: its parcels, who owns them, and what is built on them.
-
-CREATE TABLE parcel (
-  id      INTEGER PRIMARY KEY,
-  street  TEXT NOT NULL,
-  number  INTEGER,            -- of the house, where the parcel has one
-  purpose TEXT NOT NULL,
-  area    INTEGER NOT NULL,   -- in square metres
-  owner   INTEGER             -- an id of owner; none: nobody is registered
-);
+-- The land register of a small town: its parcels and who owns them, and what stands, runs and lies on them.
+-- The grid's unit is ten metres.
 
 CREATE TABLE owner (
   id    INTEGER PRIMARY KEY,
   name  TEXT NOT NULL,
-  since INTEGER               -- the year of the first entry
+  since INTEGER                      -- the year of the first entry
+);
+
+CREATE TABLE parcel (
+  id    INTEGER PRIMARY KEY,
+  name  TEXT NOT NULL,
+  owner INTEGER,                     -- an id of owner; none: nobody is registered
+  geom  GEOMETRY                     -- a POLYGON or a MULTIPOLYGON; none: never surveyed
 );
 
 CREATE TABLE building (
-  id       INTEGER PRIMARY KEY,
-  parcel   INTEGER NOT NULL,
-  storeys  INTEGER,
-  built    INTEGER,           -- the year; none: unknown
-  heritage TEXT               -- the grade, where it is listed
+  id      INTEGER PRIMARY KEY,
+  purpose TEXT NOT NULL,
+  built   INTEGER,                   -- the year; none: unknown
+  geom    POLYGON NOT NULL
+);
+
+CREATE TABLE water (
+  id   INTEGER PRIMARY KEY,
+  name TEXT NOT NULL,
+  geom MULTILINESTRING NOT NULL
+);
+
+CREATE TABLE path (
+  id   INTEGER PRIMARY KEY,
+  name TEXT NOT NULL,
+  geom LINESTRING NOT NULL
+);
+
+CREATE TABLE well (
+  id   INTEGER PRIMARY KEY,
+  name TEXT NOT NULL,
+  geom POINT                         -- none: nobody knows where it was
 );

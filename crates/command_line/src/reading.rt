@@ -154,6 +154,13 @@ fn directory_word<'a>(alloc: Global) -> Arg<'a>
     )
 }
 
+// What the help of `run` shows of a query.
+const EXAMPLES: &str = "\
+Examples of a QUERY:
+  SELECT name FROM parcel WHERE ST_Touches(geom, ST_GeomFromText('POINT(4 4)'))
+  SELECT b.id, p.name FROM building b JOIN parcel p ON ST_Within(b.geom, p.geom)
+  EXPLAIN ANALYZE SELECT COUNT(*) FROM parcel WHERE geom IS NULL";
+
 // `run SCHEMA DIR QUERY`
 fn run_command<'a>(alloc: Global) -> Result<Command<'a>, AllocError>
     ensures { IfOk result (λ c. app_of c ≡ run) }
@@ -164,7 +171,8 @@ fn run_command<'a>(alloc: Global) -> Result<Command<'a>, AllocError>
         "QUERY",
         "The SELECT (after -- where it begins with a -)",
     );
-    let run = Command::new(alloc, "run").about("Writes the rows that a SELECT means, as CSV");
+    let about = "Writes the rows that a SELECT means, as CSV";
+    let run = Command::new(alloc, "run").about(about).after_help(EXAMPLES);
     run.arg(schema_word(alloc))?
         .arg(directory_word(alloc))?
         .arg(query)

@@ -4,4 +4,6 @@
 #[cfg(test)]
 mod order_tests;
 #[cfg(test)]
+mod parcels_tests;
+#[cfg(test)]
 mod tests;

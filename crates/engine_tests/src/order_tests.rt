@@ -24,6 +24,17 @@ fn run_has_its_three_words(rt: HostRuntime) -> Result<(), Fail> {
 }
 
 #[test]
+fn check_has_its_two_words(rt: HostRuntime) -> Result<(), Fail> {
+    let words = ["sfq", "check", "schema.sql", "data"];
+    let given = order(rt.alloc(), words.as_slice()).ok().ok_or("an order")?;
+    let Order::Check { schema, directory } = &given else {
+        return Err(Fail::from("check"));
+    };
+    assert!(rt; schema.as_str() == words[2] && directory.as_str() == words[3]);
+    Ok(())
+}
+
+#[test]
 fn relate_has_its_two_words(rt: HostRuntime) -> Result<(), Fail> {
     let words = ["sfq", "relate", "POINT(1 2)", "MULTIPOINT((1 2),(3 4))"];
     let given = order(rt.alloc(), words.as_slice()).ok().ok_or("an order")?;
@@ -42,6 +53,9 @@ fn statuses(rt: HostRuntime) {
     assert!(rt; status_of(&rt, &["sfq"]) == 2);
     assert!(rt; status_of(&rt, &["sfq", "relate", "POINT(1 1)"]) == 2);
     assert!(rt; status_of(&rt, &["sfq", "run", "a", "b", "-- c"]) == 2);
+    assert!(rt; status_of(&rt, &["sfq", "check", "--help"]) == 0);
+    assert!(rt; status_of(&rt, &["sfq", "check", "a"]) == 2);
+    assert!(rt; status_of(&rt, &["sfq", "check", "a", "b", "c"]) == 2);
     assert!(rt; Misuse::from(AllocError).status() == 7);
 }
 
@@ -52,11 +66,19 @@ fn shown(rt: &HostRuntime, words: &[&str]) -> Result<String, Fail> {
     Ok(misuse.to_string(rt.alloc())?)
 }
 
-/// What is shown names the missing word, and help each word of a command.
+/// What is shown names the missing word, and help each word of a command; that of `run` shows a spatial query.
 #[test]
 fn texts_tell_what_each_word_is(rt: HostRuntime) -> Result<(), Fail> {
     assert!(rt; shown(&rt, &["sfq", "run", "a", "b"])?.contains("<QUERY>"));
     let help = shown(&rt, &["sfq", "run", "--help"])?;
     assert!(rt; help.contains("<SCHEMA> <DIR> <QUERY>") && help.contains("t.csv for table t"));
+    assert!(rt;
+        help.contains(
+            "\n  SELECT name FROM parcel WHERE ST_Touches(geom, ST_GeomFromText('POINT(4 4)'))\n"
+        )
+    );
+    assert!(rt; shown(&rt, &["sfq", "check", "a"])?.contains("<DIR>"));
+    let help = shown(&rt, &["sfq", "check", "--help"])?;
+    assert!(rt; help.contains("<SCHEMA> <DIR>\n") && help.contains("how many rows each has"));
     Ok(())
 }

@@ -1,0 +1,86 @@
+#!/usr/bin/env python3
+"""Measures `sfq run` over points and a constant polygon beside `sqlite3` with SpatiaLite, and beside GEOS.
+
+For 1,000, 10,000 and 100,000 points and a polygon of 5, 100 and 2,000 positions it has the points within the polygon
+found by `sfq run`, by `sqlite3` with SpatiaLite importing the same CSV into memory, and by a C program over GEOS that
+reads the same CSV (`geos_tables.c`, the polygon prepared). Each run is one process: start, load, answer. It compares
+the answers, and prints wall time, processor time and peak memory of each, the ratio to each peer, and the growth from
+size to size. Times are the least of several runs. The peers don't test the points' or the polygon's validity.
+
+It needs Python's standard library, the built program (run ./sfq once), and from the distribution's packages `gcc`,
+`libgeos-dev`, `sqlite3` and `libsqlite3-mod-spatialite`. It is no test: the gate doesn't run it.
+"""
+
+import argparse
+import math
+import pathlib
+import random
+import tempfile
+
+from compare import PROGRAM
+from peers import build_geos, compare_runs, is_ready, spatialite_command
+
+SIZES = (1_000, 10_000, 100_000)
+POSITIONS = (5, 100, 2_000)
+SPAN = 1_000_000
+SCHEMA = "CREATE TABLE pt (id INTEGER PRIMARY KEY, geom POINT);"
+
+
+def window(positions):
+    """The text of a star of this many positions, the closing one counted, or of a square where they are five."""
+    chance = random.Random(positions)
+    corners = []
+    for k in range(positions - 1):
+        angle = 2 * math.pi * k / (positions - 1) + math.pi / 4
+        distance = SPAN // 2 if positions == 5 else SPAN * (0.4 + 0.4 * chance.random())
+        corners.append(f"{round(distance * math.cos(angle))} {round(distance * math.sin(angle))}")
+    return "POLYGON((" + ",".join(corners + corners[:1]) + "))"
+
+
+def make_points(folder, rows):
+    """Writes the schema and pt.csv, its rows in a shuffled order; answers the size of pt.csv in bytes."""
+    chance = random.Random(rows)
+    keys = list(range(1, rows + 1))
+    chance.shuffle(keys)
+    lines = ["id,geom"]
+    for key in keys:
+        lines.append(f"{key},POINT({chance.randint(-SPAN, SPAN)} {chance.randint(-SPAN, SPAN)})")
+    (folder / "schema.sql").write_text(SCHEMA)
+    table = folder / "pt.csv"
+    table.write_text("\n".join(lines) + "\n")
+    return table.stat().st_size
+
+
+def commands(folder, geos, text):
+    """The command of each program."""
+    (folder / "window").write_text(text + "\n")
+    condition = f"ST_Within(geom, ST_GeomFromText('{text}'))"
+    spatial = f"SELECT id FROM pt WHERE ST_Within(ST_GeomFromText(geom), ST_GeomFromText('{text}')) ORDER BY id;"
+    return {
+        "sfq": [str(PROGRAM), "run", "schema.sql", ".", f"SELECT id FROM pt WHERE {condition}"],
+        "spatialite": spatialite_command(["pt"], spatial),
+        "geos": [str(geos), "window", "within", "pt.csv", "window"],
+    }
+
+
+def main():
+    parser = argparse.ArgumentParser(description=__doc__.splitlines()[0])
+    parser.add_argument("--repeats", type=int, default=3, help="runs of each command (3)")
+    parser.add_argument("--peers", action="store_true", help="measure the peers alone")
+    options = parser.parse_args()
+    is_ready(options.peers)
+    with tempfile.TemporaryDirectory() as name:
+        geos = build_geos(pathlib.Path(name))
+        for positions in POSITIONS:
+            before = None
+            for rows in SIZES:
+                folder = pathlib.Path(name) / f"{positions}-{rows}"
+                folder.mkdir()
+                size = make_points(folder, rows)
+                runs = commands(folder, geos, window(positions))
+                label = f"{rows} points, {positions} positions"
+                before = compare_runs(label, size, runs, folder, options, before)
+
+
+if __name__ == "__main__":
+    main()
