@@ -1,6 +1,6 @@
 -- How what is found grows by one envelope asked.
 use Rattle.std.proofs.Common.{◌≡◌, ◌+◌, ◌<◌, length, get_or, ℕ, zero, suc, Bool, true, false, cond, List, [], ◌∷◌, ◌++◌, map, take, Option, Some, None, refl, sym, ◌∙◌, ap, append_assoc, add-one, arith}
-use Rattle.std.specs.Prelude.{slice_get, filter, filter_map, option_map}
+use Rattle.std.specs.Prelude.{slice_get, filter, filter_map}
 use Rattle.std.specs.List.{enumerate_from}
 use Rattle.std.proofs.lemmas.List.{map-append, take_more}
 use Rattle.std.specs.Option.{option_to_list}

@@ -1,18 +1,17 @@
 -- Groups of eight, and the levels that they make.
-use Rattle.std.proofs.Common.{◌≡◌, ◌∙◌, ◌<◌, ◌≤◌, ◌+◌, ◌-◌, ◌*◌, ◌/◌, ◌%◌, min, ℕ, zero, suc, Bool, true, false, cond, List, [], ◌∷◌, ◌++◌, map, length, take, drop, get_or, Option, Some, None, ap, refl, sym, arith, append_assoc, leb, ⊎_elim}
+use Rattle.std.proofs.Common.{◌≡◌, ◌∙◌, ◌<◌, ◌≤◌, ◌+◌, ◌-◌, ◌*◌, min, ℕ, zero, suc, Bool, true, false, cond, List, [], ◌∷◌, ◌++◌, map, length, take, drop, Option, Some, ap, refl, sym, arith, append_assoc, leb, ⊎_elim}
 use Rattle.std.proofs.lemmas.Bool.Decides.{leb_tells}
 use Rattle.std.specs.Prelude.{flat_map}
 use Rattle.std.specs.Int.{div_ceil}
 use Rattle.std.specs.List.{range_with_len}
 use borrow.Author.Tests.{leb-false, leb-true}
-use Rattle.std.proofs.lemmas.Grind.{flat_map-append}
 use Rattle.std.proofs.lemmas.List.{length-drop, length-map, drop-map, map-append, take-map, take_all}
 use Rattle.std.proofs.lemmas.Simd.{map-map}
 use Rattle.geometry_model.specs.Envelopes.{Envelope}
-use Rattle.std.proofs.lemmas.List.FromFn.{length-map-range_with_len, get_or-map-range_with_len, map-range_with_len_more}
+use Rattle.std.proofs.lemmas.List.FromFn.{length-map-range_with_len, map-range_with_len_more}
 use mathlib.Core.Path.{fun_ext}
 use Rattle.rtree.specs.Packing.{Entry, eights, nodes_over, levels_up, levels_of, joined_all, around}
-use Rattle.rtree.specs.Trees.{KeepPacking, singles, groups_at}
+use Rattle.rtree.specs.Trees.{KeepPacking, singles}
 use Rattle.rtree.proofs.JoinLemmas.{joined_nodes}
 
 pub length-eights : {X : Type 0} (xs : List X) → length (eights xs) ≡ div_ceil (length xs) 8

@@ -2,16 +2,16 @@
 use Rattle.std.proofs.Common.{◌≡◌, ◌∙◌, ◌<◌, ◌≤◌, ◌+◌, ◌-◌, ◌*◌, min, ℕ, zero, suc, ℤ, ◌≤ℤ◌, int_le, Bool, true, false, cond, ◌&&◌, List, [], ◌∷◌, ◌++◌, map, length, take, drop, get_or, Option, Some, None, ap, refl, sym, subst, arith, append_assoc, append-nil}
 use Rattle.std.specs.Prelude.{filter, flat_map}
 use Rattle.std.specs.Int.{div_ceil, int_min, int_max}
-use Rattle.std.specs.List.{range_with_len, zip}
+use Rattle.std.specs.List.{zip}
 use Rattle.std.proofs.lemmas.Grind.{flat_map-append}
 use Rattle.std.proofs.lemmas.Int.{ints, clamps}
-use Rattle.std.proofs.lemmas.List.{drop_all, get_or-drop, get_or-take, get_or_default, length-drop, length-map, length-take-le, map-append, take-map, take_more}
+use Rattle.std.proofs.lemmas.List.{get_or-drop, get_or-take, get_or_default, length-drop, length-map, length-take-le, map-append, take_more}
 use Rattle.std.proofs.lemmas.List.Elements.{filter-append}
 use Rattle.std.proofs.lemmas.List.FromFn.{get_or-map-range_with_len}
 use Rattle.std.proofs.lemmas.Slice.Zip.{get_or-zip, length-zip}
 use Rattle.integers.proofs.Signs.{at_most_from, at_most_yes}
 use Rattle.geometry_model.specs.Envelopes.{Envelope, joined, overlap}
-use Rattle.rtree.specs.Packing.{Entry, around, eights, joined_all, nodes_over, with_envelope}
+use Rattle.rtree.specs.Packing.{Entry, around, eights, nodes_over, with_envelope}
 use Rattle.rtree.specs.Trees.{AreLevels, entries_of, found_below, groups_at, level_at, places_found, singles}
 use Rattle.rtree.proofs.GroupLemmas.{group_is, length-eights, same_length}
 

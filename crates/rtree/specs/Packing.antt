@@ -1,5 +1,5 @@
 -- How the envelopes of a list are packed into a tree: their order, and the groups of neighbours that are its nodes.
-use Rattle.std.specs.Prelude.{ℕ, zero, suc, ◌*◌, ℤ, ◌+ℤ◌, Bool, cond, List, [], ◌∷◌, map, filter, filter_map, take, drop, length, nat_le, Option, Some, None, option_map, count_by, flat_map}
+use Rattle.std.specs.Prelude.{ℕ, zero, suc, ◌*◌, ℤ, ◌+ℤ◌, Bool, cond, List, [], ◌∷◌, map, filter_map, take, drop, length, nat_le, Option, Some, None, option_map, count_by, flat_map}
 use Rattle.std.specs.Int.{div_ceil}
 use Rattle.std.specs.List.{enumerate_from, range_with_len}
 use Rattle.std.specs.Ordering.{ordering_then, int_cmp, nat_cmp, is_lt}

@@ -54,6 +54,26 @@ pub(crate) fn put_in_order(entries: &mut Vec<(usize, Envelope)>)
     entries.sort_unstable_by_key(|entry| packing_key(entry));
 }
 
+/// The positions of entries.
+pub(crate) fn places_of(
+    alloc: Global,
+    entries: &[(usize, Envelope)],
+) -> Result<Vec<usize>, AllocError>
+    ensures { IfOk result (λ places. places.items ≡ map (λ e. e.0) entries.now) }
+{
+    entries.iter().map(|entry| entry.0).collect(alloc)
+}
+
+/// The envelopes of entries.
+pub(crate) fn envelopes_of(
+    alloc: Global,
+    entries: &[(usize, Envelope)],
+) -> Result<Vec<Envelope>, AllocError>
+    ensures { IfOk result (λ envelopes. envelopes.items ≡ map (λ e. e.1) entries.now) }
+{
+    entries.iter().map(|entry| entry.1).collect(alloc)
+}
+
 // By what an entry is ordered: by twice the middle of its x, of its y, and by its position.
 fn packing_key(entry: &(usize, Envelope)) -> (i64, i64, usize)
     ensures { result ≡ packing_key entry.now }

@@ -1,14 +1,15 @@
 //! The packed tree: envelopes near one another stand together below one node.
 
-ghost use Rattle.std.specs.Prelude.{◌≡◌, ◌++◌, ◌≤◌, ◌-◌, length, map, count_by, List, Option, Some, OnOk};
+ghost use Rattle.std.specs.Prelude.{◌≡◌, ◌++◌, ◌≤◌, ◌-◌, [], length, map, count_by, List, Option, Some, OnOk};
 ghost use Rattle.std.specs.Vec.{vec_items};
 ghost use Rattle.geometry_model.specs.Envelopes.{Envelope as Rectangle, meets};
+ghost use Rattle.rtree.specs.Found.{meeting_places};
 ghost use Rattle.rtree.specs.Packing.{opened};
 ghost use Rattle.rtree.specs.Trees.{AreLevels, IsPacked, found_below, level_at, unpacked};
 
 use crate::envelopes::{Envelope, meets, overlap};
 use crate::indexes::EnvelopeIndex;
-use crate::packing::{NODE_SIZE, levels_over, push_apart, put_in_order};
+use crate::packing::{NODE_SIZE, envelopes_of, levels_over, places_of, push_apart, put_in_order};
 use std::alloc::{AllocError, Global};
 use std::marker::Model;
 
@@ -31,7 +32,7 @@ impl Model for RTree {
     ghost view = { λ t. unpacked t.absent.items t.places.items (map vec_items t.levels.items) };
 
     ghost invariant = { λ t. IsPacked t.absent.items t.places.items (map vec_items t.levels.items)
-      (unpacked t.absent.items t.places.items (map vec_items t.levels.items)) };
+        (unpacked t.absent.items t.places.items (map vec_items t.levels.items)) };
 }
 
 impl RTree {
@@ -44,6 +45,22 @@ impl RTree {
             opened += met(self.levels[height].as_slice(), &asked);
         }
         opened
+    }
+
+    // Puts the positions of the envelopes that meet the one asked for, ascending, in an empty vector.
+    fn push_meeting(&self, asked: &Envelope, found: &mut Vec<usize>) -> Result<(), AllocError>
+        requires { found.old.items ≡ [] }
+        ensures { OnOk result (found.new.items ≡ meeting_places self.now (Some asked.now)) }
+    {
+        push_below(
+            self.levels.as_slice(),
+            self.places.as_slice(),
+            0,
+            asked,
+            found,
+        )?;
+        found.sort_unstable();
+        Ok(())
     }
 }
 
@@ -65,9 +82,8 @@ impl EnvelopeIndex for RTree {
         let mut entries = Vec::new(alloc);
         push_apart(envelopes, &mut absent, &mut entries)?;
         put_in_order(&mut entries);
-        let places = entries.iter().map(|entry| entry.0).collect(alloc)?;
-        let envelopes = entries.iter().map(|entry| entry.1).collect(alloc)?;
-        let levels = levels_over(alloc, envelopes)?;
+        let places = places_of(alloc, entries.as_slice())?;
+        let levels = levels_over(alloc, envelopes_of(alloc, entries.as_slice())?)?;
         Ok(RTree {
             absent,
             places,
@@ -79,14 +95,10 @@ impl EnvelopeIndex for RTree {
         found.clear();
         let searched = match asked {
             None => found.extend_from_slice(self.absent.as_slice()),
-            Some(envelope) => {
-                push_below(self.levels.as_slice(), self.places.as_slice(), 0, &envelope, found)
-            }
+            Some(envelope) => self.push_meeting(&envelope, found),
         };
         if searched.is_err() {
             found.clear();
-        } else {
-            found.sort_unstable();
         }
         searched
     }

@@ -1,4 +1,4 @@
-use Rattle.std.proofs.Common.{◌≡◌, ◌≤◌, Some, length, take}
+use Rattle.std.proofs.Common.{◌≡◌, Some, take}
 use Rattle.rtree.specs.Packing.{joined_all}
 use Rattle.rtree.proofs.packing.around.Given as goal
 

@@ -1,4 +1,3 @@
-use Rattle.std.proofs.Common.{rules}
 use Rattle.rtree.proofs.GroupLemmas.{level_more}
 use Rattle.rtree.proofs.packing.level_over.Goals as goal
 

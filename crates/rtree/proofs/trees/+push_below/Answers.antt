@@ -1,4 +1,4 @@
-use Rattle.std.proofs.Common.{◌≡◌, ◌∙◌, ◌<◌, ◌≤◌, ◌+◌, ◌-◌, ◌*◌, ◌++◌, ◌∷◌, [], ℕ, false, true, length, map, take, drop, get_or, ap, sym, subst, append-nil, arith, rules}
+use Rattle.std.proofs.Common.{◌≡◌, ◌∙◌, ◌<◌, ◌≤◌, ◌-◌, ◌*◌, ◌++◌, [], length, map, take, drop, get_or, ap, sym, subst, append-nil, arith}
 use Rattle.std.specs.Prelude.{flat_map}
 use Rattle.std.specs.Vec.{vec_items}
 use Rattle.std.proofs.lemmas.List.{take-map, length-map, length-take-le}
@@ -19,11 +19,14 @@ push_below-requires t c =
     let high : top < length levels = omega (arith, size, c.requires.levels.some) in
     let first = inner_first c.args.places.now levels top c.loop-node.node c.requires.levels up high inside in
     let counted = length-map (take top vs) vec_items in
-    let less : length (take top vs) < t = let low = length-take-le top vs (omega arith) in omega (arith, low, c.decreases) in
-    (less,
-      (subst (AreLevels c.args.places.now) (take-map vec_items top vs) (levels_below c.args.places.now levels top c.requires.levels up (omega (arith, size))),
+    let less : length (take top vs) < t = let low = length-take-le top vs (omega arith) in omega (arith, low, c.decreases) in (
+      less,
+      (
+        subst (AreLevels c.args.places.now) (take-map vec_items top vs) (levels_below c.args.places.now levels top c.requires.levels up (omega (arith, size))),
         subst (λ ls. 8 * c.loop-node.node ≤ length (level_at ls (length (take top vs) - 1))) (take-map vec_items top vs)
-        (subst (λ n. 8 * c.loop-node.node ≤ length (level_at (take top levels) (n - 1))) (ap length (take-map vec_items top vs) ∙ counted) first)))
+            (subst (λ n. 8 * c.loop-node.node ≤ length (level_at (take top levels) (n - 1))) (ap length (take-map vec_items top vs) ∙ counted) first),
+      ),
+    )
 
 pub loop-node-preserved : goal.loop-node-preserved
 loop-node-preserved t c =
@@ -42,7 +45,7 @@ loop-node-preserved t c =
     let there : e ≡ get_or (level_at levels top) node e = c.index-level-node.is ∙ ap (λ l. get_or l node e) here in
     let groups = groups_at (entries_of places levels) top in
     let grew : c.if-overlap.found.items ≡ c.loop-node.found.items ++ places_found asked (get_or groups node []) = elim c.if-overlap.branch [
-      then-overlap+then-top-eq0+in_ok-push w ↦ ap (λ v. v.items) w.found-is ∙ w.in_ok-push.ensures.items
+      | then-overlap+then-top-eq0+in_ok-push w ↦ ap (λ v. v.items) w.found-is ∙ w.in_ok-push.ensures.items
           ∙ ap (λ l. c.loop-node.found.items ++ l) (found_single places levels top node e asked r (omega (arith, w.if-top-eq0.true)) inside there (sym c.overlap.ensures ∙ w.if-overlap.true))
       | then-overlap+else-top-eq0+in_ok-push_below w ↦ ap (λ v. v.items) w.found-is ∙ w.in_ok-push_below.ensures
           ∙ ap (λ ls. c.loop-node.found.items ++ found_below places ls (8 * node) asked) (sym (take-map vec_items top vs))
