@@ -43,7 +43,7 @@ pub none_among : (stands : ValidityFault → Bool) (faults : ℕ → List Validi
 none_among stands faults i n h = ap (λ ns. find stands (flat_map faults ns)) (numbers_end i n h)
 
 -- ---- some faults a part
-at_place : {A : Type 0} (xs : List A) (m : ℕ) (x : A) → slice_get xs m ≡ Some x → drop m xs ≡ x ∷ drop (m + 1) xs
+pub at_place : {A : Type 0} (xs : List A) (m : ℕ) (x : A) → slice_get xs m ≡ Some x → drop m xs ≡ x ∷ drop (m + 1) xs
 at_place xs m x e = go xs m x e ∙ ap (λ k. x ∷ drop k xs) (next m)
   where
     next : (k : ℕ) → suc k ≡ k + 1
@@ -65,7 +65,7 @@ passed_in_part stands faults parts m part is e = ap (λ xs. find stands (flat_ma
     ∙ in_front stands (faults part) (flat_map faults (drop (m + 1) parts)) None e
 
 -- all parts are passed
-past_all : {A : Type 0} (xs : List A) (m : ℕ) → length xs ≤ m → drop m xs ≡ []
+pub past_all : {A : Type 0} (xs : List A) (m : ℕ) → length xs ≤ m → drop m xs ≡ []
 past_all [] zero h = refl
 past_all [] (suc m) h = refl
 past_all (x ∷ xs) zero h = absurd (omega (arith, h))

@@ -2,6 +2,7 @@ pub mod Edges
 pub mod Faults
 pub mod Finding
 pub mod Kept
+pub mod Near
 pub mod OutlineFacts
 pub mod PartFacts
 pub mod PolygonPromises

@@ -1,5 +1,6 @@
 pub mod CheckFaults
 pub mod FaultOrder
+pub mod NearEdges
 pub mod Outlines
 pub mod PolygonPromises
 pub mod ValidGeometries

@@ -3,6 +3,7 @@
 
 pub mod check_fault;
 mod first_faults;
+mod near_edges;
 mod outlines;
 mod part_tests;
 mod runs;
