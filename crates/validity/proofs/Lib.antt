@@ -1,4 +1,5 @@
 pub mod Edges
+pub mod Envelopes
 pub mod Faults
 pub mod Finding
 pub mod Kept

@@ -4,6 +4,7 @@
 pub mod check_fault;
 mod first_faults;
 mod near_edges;
+mod neighbours;
 mod outlines;
 mod part_tests;
 mod runs;

@@ -3,12 +3,13 @@
 ghost use Rattle.std.specs.Prelude.{◌≡◌, ◌+◌, ◌<◌, length, slice_get, Some, IfOk};
 ghost use Rattle.std.specs.List.{list_any};
 ghost use Rattle.geometry_model.specs.FirstFaults as spec;
-ghost use Rattle.ring_tests.specs.EdgeRuns.{edges_share, edges_clash, clashes_after};
+ghost use Rattle.ring_tests.specs.EdgeRuns.{edges_share, edges_clash, clashes_after, is_odd_above};
 ghost use Rattle.ring_tests.specs.RunLaws.{box_of};
 ghost use Rattle.edge_boxes.specs.BoxLists.{BoxesOf};
 ghost use Rattle.edge_boxes.specs.Meetings.{places_meeting};
 
 use edge_boxes::{Bounds, EdgeBoxes};
+use fraction::{GridPoint, RatPoint};
 use orient::Segment;
 use ring_tests::{clash, share_point};
 use std::alloc::{AllocError, Global};
@@ -109,4 +110,13 @@ pub(crate) fn share(
         }
     }
     Ok(false)
+}
+
+/// Whether an odd number of the edges lie strictly above a position: of a ring's edges, whether it is inside (06-103r4,
+/// 6.1.11.1). The boxes are those of the edges.
+pub(crate) fn is_inside(edges: &[Segment], boxes: &EdgeBoxes, at: GridPoint) -> bool
+    requires { BoxesOf boxes.now edges.now }
+    ensures { result ≡ is_odd_above edges.now at }
+{
+    boxes.crossings(edges, &RatPoint::of_grid(at)).odd_above
 }
