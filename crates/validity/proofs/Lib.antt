@@ -4,6 +4,7 @@ pub mod Faults
 pub mod Finding
 pub mod Kept
 pub mod Near
+pub mod NearNumbers
 pub mod OutlineFacts
 pub mod PartFacts
 pub mod PolygonPromises

@@ -183,7 +183,7 @@ none_left test bounds from edges near k is past =
     ap (list_any test) (past_all (numbered_meeting bounds from edges) k (omega (arith, ap (length {A = ℕ}) same, length-map (numbered_meeting bounds from edges) (λ (p : ℕ × Edge). p.0), past)))
 
 -- ---- edges that clash or share a point are near each other
-turned : (a b : Envelope) → overlap a b ≡ true → overlap b a ≡ true
+pub turned : (a b : Envelope) → overlap a b ≡ true → overlap b a ≡ true
 turned a b h = go (int_le a.least_x b.greatest_x) (int_le b.least_x a.greatest_x) (int_le a.least_y b.greatest_y) (int_le b.least_y a.greatest_y) h
   where
     go : (p q r s : Bool) → p && q && r && s ≡ true → q && p && s && r ≡ true

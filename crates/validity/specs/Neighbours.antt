@@ -1,8 +1,10 @@
 -- Which rings or polygons are near one: those whose envelopes meet its own.
-use Rattle.std.specs.Prelude.{ℕ, List, map, flat_map, get_or, Option, Some, None}
+use Rattle.std.specs.Prelude.{ℕ, Bool, ◌&&◌, nat_le, nat_lt, cond, List, [], ◌∷◌, map, flat_map, get_or, Option, Some, None}
 use Rattle.geometry_model.specs.Points.{Position}
 use Rattle.geometry_model.specs.Geometries.{Geometry, rings, elements}
 use Rattle.geometry_model.specs.Envelopes.{Envelope, envelope_of_positions, joined}
+use Rattle.geometry_model.specs.FirstFaults.{has_fault}
+use Rattle.geometry_model.specs.declared.validity_faults.ValidityFault.{ValidityFault}
 use Rattle.rtree.specs.Found.{meeting_places}
 
 -- the numbers of those whose envelopes meet that of the one with this number
@@ -26,3 +28,8 @@ element_envelope rings = envelope_of_positions (flat_map (λ ring. ring) rings)
 -- the envelopes of an area's polygons, by their numbers (06-103r4, 6.1.2.2: Envelope)
 abbrev pub element_envelopes : Geometry → List (Option Envelope)
 element_envelopes g = map element_envelope (elements g)
+
+-- of the faults of these numbers, those from one on and before another, the first that stands
+abbrev pub first_near : Geometry → (ℕ → ValidityFault) → ℕ → ℕ → List ℕ → Option ValidityFault
+first_near g fault from end [] = None
+first_near g fault from end (number ∷ rest) = cond (nat_le from number && nat_lt number end && has_fault g (fault number)) (Some (fault number)) (first_near g fault from end rest)

@@ -1,12 +1,12 @@
-use Rattle.std.proofs.Common.{◌∙◌, sym, ap, ◌<◌, length, arith}
-use Rattle.geometry_model.specs.Geometries as spec
-use Rattle.geometry_model.specs.Geometries.{Geometry}
-use Rattle.geometry_model.specs.FirstFaults.{has_fault}
+use Rattle.std.proofs.Common.{◌∙◌, sym, ap, length}
+use Rattle.geometry_model.specs.Geometries.{elements}
 use Rattle.geometry_model.specs.declared.validity_faults.ValidityFault.TheVariants as validity
-use Rattle.validity.proofs.Finding.{passed_here}
-use Rattle.validity.proofs.first_faults.element_inside_any.Goals as goal
+use Rattle.validity.specs.Neighbours.{first_near, element_envelopes}
+use Rattle.validity.proofs.NearNumbers.{near_found, insides_near, elements_cover}
+use Rattle.validity.proofs.first_faults.element_inside_near.Goals as goal
 
-pub loop-other-preserved : goal.loop-other-preserved
-loop-other-preserved c =
-    let within : c.loop-other.other < length (spec.elements c.args.outline.now) = omega (arith, c.loop-other-test.true, c.element_count-other-end.ensures, ap (λ (g : Geometry). length (spec.elements g)) c.geometry.ensures) in
-    c.loop-other.invariant ∙ passed_here (has_fault c.args.outline.now) (validity.ElementInside c.args.element) c.loop-other.other (length (spec.elements c.args.outline.now)) within (sym c.is_inside_other.ensures ∙ c.if-is_inside_other.false)
+pub loop-other-init : goal.loop-other-init
+loop-other-init c =
+    near_found c.args.outline.now (validity.ElementInside c.args.element) 0 (length (elements c.args.outline.now)) _ (element_envelopes c.args.outline.now)
+    (elements_cover c.args.outline.now) (insides_near c.args.outline.now c.args.element c.requires.closed c.requires.element)
+    ∙ ap (first_near c.args.outline.now (validity.ElementInside c.args.element) 0 (length (elements c.args.outline.now))) (sym c.requires.near)
