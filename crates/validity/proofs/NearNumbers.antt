@@ -191,7 +191,7 @@ rings_near g first end ring closed are low high j o h is later before stands =
     let own = there (rings g) ring (omega (arith, s.0, later)) in
     let r = closed_at (rings g) ring own.0 closed own.1 in
     let share = both_there rings_share (slice_get (lines g) ring) (slice_get (lines g) j) own.0 m.0 (ap (λ l. slice_get l ring) (sym same) ∙ own.1) (ap (λ l. slice_get l j) (sym same) ∙ m.1)
-        (sym (rings_meet_at g first end ring j are low (omega (arith, later)) before) ∙ stands) in
+    (sym (rings_meet_at g first end ring j are low (omega (arith, later)) before) ∙ stands) in
     ap₂ meets (sym m.2) (asked_envelope envelope_of_positions (rings g) ring own.0 own.1) ∙ sharing_rings_meet own.0 m.0 r.1 s.1 share
 
 one_of_two : (a b : Bool) → a || b ≡ true → (a ≡ true) ⊎ (b ≡ true)
@@ -206,7 +206,7 @@ holes_near g first end hole closed are low high j o h is later before stands =
     let own = there (rings g) hole (omega (arith, s.0, later)) in
     let r = closed_at (rings g) hole own.0 closed own.1 in
     let nested = both_there (λ a b. inside a b || inside b a) (slice_get (lines g) hole) (slice_get (lines g) j) own.0 m.0 (ap (λ l. slice_get l hole) (sym same) ∙ own.1) (ap (λ l. slice_get l j) (sym same) ∙ m.1)
-        (sym (holes_nested_at g first end hole j are low (omega (arith, later)) before) ∙ stands) in
+    (sym (holes_nested_at g first end hole j are low (omega (arith, later)) before) ∙ stands) in
     ap₂ meets (sym m.2) (asked_envelope envelope_of_positions (rings g) hole own.0 own.1) ∙ either_way own.0 m.0 r.1 s.1 (one_of_two (inside own.0 m.0) (inside m.0 own.0) nested)
   where
     either_way : (r s : List Position) → IsClosed r → IsClosed s → (inside r s ≡ true) ⊎ (inside s r ≡ true) → meets (envelope_of_positions s) (envelope_of_positions r) ≡ true
@@ -244,7 +244,7 @@ insides_near g element closed there_is j o h is later before stands =
     let m = mapped_at element_envelope (elements g) j o (ap (slice_get (element_envelopes g)) (sym (no_zero j)) ∙ is) in
     let own = there (elements g) element there_is in
     let within = both_there (λ d e. inside_element e d) (slice_get (elements g) element) (slice_get (elements g) j) own.0 m.0 own.1 m.1
-        (second_of (not (element == j)) (test_of_both (λ d e. inside_element e d) (slice_get (elements g) element) (slice_get (elements g) j)) stands) in
+    (second_of (not (element == j)) (test_of_both (λ d e. inside_element e d) (slice_get (elements g) element) (slice_get (elements g) j)) stands) in
     ap₂ meets (sym m.2) (asked_envelope element_envelope (elements g) element own.0 own.1)
     ∙ inside_meet own.0 m.0 (element_closed g j m.0 closed m.1) within
 

@@ -157,7 +157,12 @@ fn hole_outside(alloc: Global, outline: &Outline) -> Result<Option<ValidityFault
 }
 
 /// The first of the later holes of its polygon that is inside a hole, or round it; all such are among those near it.
-fn hole_nested_near(outline: &Outline, hole: usize, end: usize, near: &[usize]) -> Option<ValidityFault>
+fn hole_nested_near(
+    outline: &Outline,
+    hole: usize,
+    end: usize,
+    near: &[usize],
+) -> Option<ValidityFault>
     requires closed { HasClosedRings outline.now }
     requires hole { IsHole outline.now hole end }
     requires near { near.now ≡ near_one (ring_envelopes outline.now) hole }
@@ -235,7 +240,10 @@ fn element_meets_near(
     let mut found = Vec::new(alloc);
     let count = outline.geometry().element_count();
     for later in near {
-        if element < *later && *later < count && outline.elements_share(element, &boxes, *later, &mut found)? {
+        if element < *later
+            && *later < count
+            && outline.elements_share(element, &boxes, *later, &mut found)?
+        {
             return Ok(Some(ValidityFault::ElementsMeet(element, *later)));
         }
     }
@@ -323,7 +331,7 @@ fn fault_of_elements(alloc: Global, outline: &Outline) -> Result<Option<Validity
     requires { HasClosedRings outline.now }
     ensures { IfOk result (λ fault. fault ≡ first_of outline.now
         (of_two_elements ValidityFault.ElementsMeet outline.now
-            ++ of_other_elements ValidityFault.ElementInside outline.now)) }
+        ++ of_other_elements ValidityFault.ElementInside outline.now)) }
 {
     let elements = Neighbours::of_elements(alloc, outline)?;
     let meeting = elements_meet(alloc, outline, &elements)?;
@@ -334,7 +342,10 @@ fn fault_of_elements(alloc: Global, outline: &Outline) -> Result<Option<Validity
 }
 
 /// The first fault of a geometry in the order of tests: V1 to V8, and within one the least numbers first.
-pub(crate) fn first_fault(alloc: Global, outline: &Outline) -> Result<Option<ValidityFault>, AllocError>
+pub(crate) fn first_fault(
+    alloc: Global,
+    outline: &Outline,
+) -> Result<Option<ValidityFault>, AllocError>
     ensures { IfOk result (λ fault. fault ≡ validity_fault outline.now) }
 {
     let malformed = short_line(outline).or_else(|| open_ring(outline));

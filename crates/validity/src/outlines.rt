@@ -132,7 +132,11 @@ impl Outline {
     }
 
     /// The boxes over the edges of one of its polygons.
-    pub(crate) fn element_boxes(&self, alloc: Global, element: usize) -> Result<EdgeBoxes, AllocError>
+    pub(crate) fn element_boxes(
+        &self,
+        alloc: Global,
+        element: usize,
+    ) -> Result<EdgeBoxes, AllocError>
         requires { element < length (spec.elements self.now) }
         ensures { IfOk result (λ boxes. AreElementBoxes boxes self.now element) }
     {

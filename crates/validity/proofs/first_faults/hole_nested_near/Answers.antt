@@ -28,8 +28,8 @@ returns-then-are_nested c = sym (c.loop-later.invariant ∙ found_near c.args.ou
 
 pub loop-later-preserved : goal.loop-later-preserved
 loop-later-preserved c = c.loop-later.invariant ∙ (elim c.else-hole-later.branch [
-    else-hole-later-via-then-hole-later+then-later-end+else-are_nested w ↦ passed_near c.args.outline.now (validity.HolesNested c.args.hole) (c.args.hole + 1) c.args.end c.args.near.now c.loop-later.later-index _ 0 c.loop-later-test.true refl
-        (holes_nested_at c.args.outline.now c.requires.hole.first c.args.end c.args.hole _ c.requires.hole.are c.requires.hole.after w.if-hole-later.true w.if-later-end.true ∙ (sym w.are_nested.ensures ∙ w.if-are_nested.false))
+  | else-hole-later-via-then-hole-later+then-later-end+else-are_nested w ↦ passed_near c.args.outline.now (validity.HolesNested c.args.hole) (c.args.hole + 1) c.args.end c.args.near.now c.loop-later.later-index _ 0 c.loop-later-test.true refl
+      (holes_nested_at c.args.outline.now c.requires.hole.first c.args.end c.args.hole _ c.requires.hole.are c.requires.hole.after w.if-hole-later.true w.if-later-end.true ∙ (sym w.are_nested.ensures ∙ w.if-are_nested.false))
   | else-hole-later-via-then-hole-later+else-later-end w ↦ passed_late c.args.outline.now (validity.HolesNested c.args.hole) (c.args.hole + 1) c.args.end c.args.near.now c.loop-later.later-index _ 0 c.loop-later-test.true refl w.if-later-end.false
   | else-hole-later-via-else-hole-later w ↦ passed_early c.args.outline.now (validity.HolesNested c.args.hole) (c.args.hole + 1) c.args.end c.args.near.now c.loop-later.later-index _ 0 c.loop-later-test.true refl (omega (arith, w.if-hole-later.false))
-  ])
+])

@@ -31,8 +31,8 @@ returns-then-branch c = sym (c.loop-later.invariant ∙ found_near c.args.outlin
 
 pub loop-later-preserved : goal.loop-later-preserved
 loop-later-preserved c = c.loop-later.invariant ∙ (elim c.else-ring-later.branch [
-    else-ring-later-via-then-ring-later+then-later-end+in_ok-rings_share+else-branch w ↦ passed_near c.args.outline.now (validity.RingsMeet c.args.ring) (c.args.ring + 1) c.args.end c.args.near.now c.loop-later.later-index _ 0 c.loop-later-test.true refl
-        (rings_meet_at c.args.outline.now c.requires.ring.first c.args.end c.args.ring _ c.requires.ring.are c.requires.ring.from w.if-ring-later.true w.if-later-end.true ∙ (sym w.in_ok-rings_share.ensures ∙ w.if-branch.false))
+  | else-ring-later-via-then-ring-later+then-later-end+in_ok-rings_share+else-branch w ↦ passed_near c.args.outline.now (validity.RingsMeet c.args.ring) (c.args.ring + 1) c.args.end c.args.near.now c.loop-later.later-index _ 0 c.loop-later-test.true refl
+      (rings_meet_at c.args.outline.now c.requires.ring.first c.args.end c.args.ring _ c.requires.ring.are c.requires.ring.from w.if-ring-later.true w.if-later-end.true ∙ (sym w.in_ok-rings_share.ensures ∙ w.if-branch.false))
   | else-ring-later-via-then-ring-later+else-later-end w ↦ passed_late c.args.outline.now (validity.RingsMeet c.args.ring) (c.args.ring + 1) c.args.end c.args.near.now c.loop-later.later-index _ 0 c.loop-later-test.true refl w.if-later-end.false
   | else-ring-later-via-else-ring-later w ↦ passed_early c.args.outline.now (validity.RingsMeet c.args.ring) (c.args.ring + 1) c.args.end c.args.near.now c.loop-later.later-index _ 0 c.loop-later-test.true refl (omega (arith, w.if-ring-later.false))
-  ])
+])
