@@ -1,8 +1,9 @@
 //! Envelopes and what an index finds, with values worked out by hand.
 
 use fraction::GridPoint;
-use rtree::{Envelope, EnvelopeIndex, ListIndex, meets};
+use rtree::{Envelope, EnvelopeIndex, ListIndex, RTree, meets};
 use std::alloc::{AllocError, Global};
+use std::process::Abort;
 use std::test::Fail;
 
 fn position(x: i32, y: i32) -> Result<GridPoint, Fail> {
@@ -46,17 +47,54 @@ fn found<I: EnvelopeIndex + Drop>(
     Ok(places)
 }
 
-/// A search finds the envelopes that meet, and an absent one meets the absent ones alone.
-#[test]
-fn the_list_finds(rt: HostRuntime) -> Result<(), Fail> {
+// A search finds the envelopes that meet, an edge in common among them, and an absent one meets the absent ones alone.
+fn finds<I: EnvelopeIndex + Drop>(rt: &(impl Abort + AllocGlobal)) -> Result<(), Fail> {
     let square = framed((0, 0), (4, 4))?;
     let apart = framed((9, 9), (9, 9))?;
     let edge = framed((4, 0), (9, 1))?;
     let envelopes = [apart, edge, None, square, None];
-    let of_square = found::<ListIndex>(rt.alloc(), &envelopes, square)?;
-    let of_none = found::<ListIndex>(rt.alloc(), &envelopes, None)?;
+    let of_square = found::<I>(rt.alloc(), &envelopes, square)?;
+    let of_none = found::<I>(rt.alloc(), &envelopes, None)?;
+    let of_nothing = found::<I>(rt.alloc(), &[], square)?;
     assert!(rt;
         of_square.as_slice() == [1, 3].as_slice() && of_none.as_slice() == [2, 4].as_slice()
     );
+    assert!(rt; of_nothing.is_empty());
+    Ok(())
+}
+
+#[test]
+fn the_list_finds(rt: HostRuntime) -> Result<(), Fail> {
+    finds::<ListIndex>(&rt)
+}
+
+#[test]
+fn the_tree_finds(rt: HostRuntime) -> Result<(), Fail> {
+    finds::<RTree>(&rt)
+}
+
+// The envelopes of so many positions on a line, the last one first, and an absent one behind them.
+fn on_a_line(alloc: Global, count: i32) -> Result<Vec<Option<Envelope>>, Fail> {
+    let mut envelopes = Vec::new(alloc);
+    for k in 0..count {
+        envelopes.push(Envelope::of_positions(&[position(count - k, 1)?]))?;
+    }
+    envelopes.push(None)?;
+    Ok(envelopes)
+}
+
+/// Of 100 positions in 13 leaves, two nodes over them and a root, a small square opens one of each, and another meets none.
+#[test]
+fn opened_nodes(rt: HostRuntime) -> Result<(), Fail> {
+    let envelopes = on_a_line(rt.alloc(), 100)?;
+    let tree = RTree::build(rt.alloc(), envelopes.as_slice())?;
+    assert!(rt; tree.opened(framed((0, 0), (4, 4))?) == 3);
+    assert!(rt; tree.opened(framed((500, 500), (500, 500))?) == 0);
+    assert!(rt; tree.opened(framed((8, 1), (9, 1))?) == 4);
+    assert!(rt; tree.opened(framed((0, 0), (100, 9))?) == 16);
+    assert!(rt; tree.opened(None) == 0);
+    let mut places = Vec::new(rt.alloc());
+    tree.search(framed((0, 0), (4, 4))?, &mut places)?;
+    assert!(rt; places.as_slice() == [96, 97, 98, 99].as_slice());
     Ok(())
 }

@@ -1,11 +1,13 @@
 -- How what is found grows by one envelope asked.
-use Rattle.std.proofs.Common.{◌≡◌, ◌+◌, ◌<◌, length, get_or, ℕ, zero, suc, Bool, true, false, cond, List, [], ◌∷◌, ◌++◌, map, take, Option, Some, refl, sym, ◌∙◌, ap, append_assoc, add-one, arith}
-use Rattle.std.specs.Prelude.{slice_get, filter}
+use Rattle.std.proofs.Common.{◌≡◌, ◌+◌, ◌<◌, length, get_or, ℕ, zero, suc, Bool, true, false, cond, List, [], ◌∷◌, ◌++◌, map, take, Option, Some, None, refl, sym, ◌∙◌, ap, append_assoc, add-one, arith}
+use Rattle.std.specs.Prelude.{slice_get, filter, filter_map}
 use Rattle.std.specs.List.{enumerate_from}
-use Rattle.std.proofs.lemmas.List.{map-append}
-use Rattle.std.proofs.lemmas.List.Elements.{filter-append}
+use Rattle.std.proofs.lemmas.List.{map-append, take_more}
+use Rattle.std.specs.Option.{option_to_list}
+use Rattle.std.proofs.lemmas.List.Elements.{filter-append, filter_map-append}
 use Rattle.geometry_model.specs.Envelopes.{Envelope, meets}
 use Rattle.rtree.specs.Found.{placed_meets, meeting_places}
+use Rattle.rtree.specs.Packing.{Entry, entry_at, present}
 
 -- one more element, with its number
 counted_more : {X : Type 0} (from : ℕ) (xs : List X) (i : ℕ) (x : X) → slice_get xs i ≡ Some x
@@ -45,3 +47,23 @@ pub at_place : {X : Type 0} (xs : List X) (i : ℕ) (x : X) → i < length xs �
 at_place [] i x within is = absurd (omega arith)
 at_place (y ∷ xs) zero x within is = ap Some (sym is)
 at_place (y ∷ xs) (suc i) x within is = let more : i < length xs = omega arith in at_place xs i x more is
+
+-- the entry of one envelope more
+present_more : (es : List (Option Envelope)) (i : ℕ) (e : Option Envelope) → slice_get es i ≡ Some e → present (take (i + 1) es) ≡ present (take i es) ++ option_to_list (entry_at (i, e))
+present_more es i e found =
+    ap (filter_map entry_at) (counted es i e found) ∙ filter_map-append entry_at (enumerate_from 0 (take i es)) ((i, e) ∷ [])
+    ∙ ap (λ l. present (take i es) ++ l) (alone e)
+  where
+    alone : (o : Option Envelope) → filter_map entry_at ((i, o) ∷ []) ≡ option_to_list (entry_at (i, o))
+    alone None = refl
+    alone (Some f) = refl
+
+pub entries_more : (es : List (Option Envelope)) (i : ℕ) (e : Option Envelope) (start old new : List Entry) → slice_get es i ≡ Some e
+    → new ≡ old ++ option_to_list (entry_at (i, e)) → old ≡ start ++ present (take i es) → new ≡ start ++ present (take (i + 1) es)
+entries_more es i e start old new found grew before =
+    grew ∙ ap (λ l. l ++ option_to_list (entry_at (i, e))) before ∙ append_assoc start (present (take i es)) (option_to_list (entry_at (i, e)))
+    ∙ ap (λ l. start ++ l) (sym (present_more es i e found))
+
+-- the elements before one and this one
+pub taken : {X : Type 0} (xs : List X) (i : ℕ) (x : X) → i < length xs → x ≡ get_or xs i x → take (i + 1) xs ≡ take i xs ++ x ∷ []
+taken xs i x within is = take_more xs i x within ∙ ap (λ z. take i xs ++ z ∷ []) (sym is)

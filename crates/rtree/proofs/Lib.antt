@@ -1,2 +1,8 @@
 pub mod EnvelopeLemmas
 pub mod FoundLemmas
+pub mod GroupLemmas
+pub mod JoinLemmas
+pub mod OrderLemmas
+pub mod TreeLemmas
+pub mod UnpackLemmas
+pub mod WalkLemmas

@@ -1,2 +1,4 @@
 pub mod Found
 pub mod ListIndexes
+pub mod Packing
+pub mod Trees

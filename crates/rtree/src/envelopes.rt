@@ -108,8 +108,8 @@ pub fn joined(one: Envelope, other: Envelope) -> Envelope
     )
 }
 
-// Whether the rectangles overlap, their edges counted.
-fn overlap(one: Envelope, other: Envelope) -> bool
+/// Whether the rectangles overlap, their edges counted.
+pub(crate) fn overlap(one: Envelope, other: Envelope) -> bool
     ensures { result ≡ overlap one other }
 {
     let right = one.least_x() <= other.greatest_x();

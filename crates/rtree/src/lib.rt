@@ -7,7 +7,10 @@
 pub mod envelopes;
 pub mod indexes;
 pub mod lists;
+mod packing;
+pub mod trees;
 
 pub use envelopes::{Envelope, meets};
 pub use indexes::EnvelopeIndex;
 pub use lists::ListIndex;
+pub use trees::RTree;

@@ -1,0 +1,53 @@
+-- Envelopes joined in one order or another.
+use Rattle.std.proofs.Common.{◌≡◌, ◌∙◌, ℤ, List, [], ◌∷◌, ◌++◌, map, Option, Some, None, ap, refl, sym, arith}
+use Rattle.std.specs.Prelude.{flat_map}
+use Rattle.std.specs.Int.{int_min, int_max}
+use Rattle.std.proofs.lemmas.Int.{ints}
+use Rattle.std.proofs.lemmas.List.{map-append}
+use Rattle.geometry_model.specs.Envelopes.{Envelope, joined}
+use Rattle.rtree.specs.Packing.{Entry, with_envelope, joined_all, around}
+
+min_assoc : (a b c : ℤ) → int_min (int_min a b) c ≡ int_min a (int_min b c)
+min_assoc a b c = grind (arith, ints)
+
+max_assoc : (a b c : ℤ) → int_max (int_max a b) c ≡ int_max a (int_max b c)
+max_assoc a b c = grind (arith, ints)
+
+pub joined_assoc : (e f g : Envelope) → joined (joined e f) g ≡ joined e (joined f g)
+joined_assoc e f g =
+    let first = min_assoc e.least_x f.least_x g.least_x in
+    let second = max_assoc e.greatest_x f.greatest_x g.greatest_x in
+    let third = min_assoc e.least_y f.least_y g.least_y in
+    let fourth = max_assoc e.greatest_y f.greatest_y g.greatest_y in
+    rw (first, second, third, fourth) refl
+
+-- both of what may be there
+abbrev pub both : Option Envelope → Option Envelope → Option Envelope
+both None r = r
+both (Some e) r = Some (with_envelope e r)
+
+both_later : (e : Envelope) (a b : Option Envelope) → Some (with_envelope e (both a b)) ≡ both (Some (with_envelope e a)) b
+both_later e None b = refl
+both_later e (Some f) None = refl
+both_later e (Some f) (Some g) = ap Some (sym (joined_assoc e f g))
+
+pub joined-append : (es fs : List Envelope) → joined_all (es ++ fs) ≡ both (joined_all es) (joined_all fs)
+joined-append [] fs = refl
+joined-append (e ∷ es) fs = ap (λ r. Some (with_envelope e r)) (joined-append es fs) ∙ both_later e (joined_all es) (joined_all fs)
+
+pub around-append : (es fs : List Entry) → around (es ++ fs) ≡ both (around es) (around fs)
+around-append es fs = ap joined_all (map-append (λ e. e.1) es fs) ∙ joined-append (map (λ e. e.1) es) (map (λ e. e.1) fs)
+
+-- one envelope more
+pub joined_more : (es : List Envelope) (all e : Envelope) → Some all ≡ joined_all es → Some (joined all e) ≡ joined_all (es ++ e ∷ [])
+joined_more es all e h = ap (λ r. both r (Some e)) h ∙ sym (joined-append es (e ∷ []))
+
+-- the envelopes of some nodes joined are that of all below them
+pub joined_nodes : (es : List Envelope) (nodes : List (List Entry)) → map Some es ≡ map around nodes → joined_all es ≡ around (flat_map (λ node. node) nodes)
+joined_nodes [] [] h = refl
+joined_nodes [] (node ∷ nodes) h = cc
+joined_nodes (e ∷ es) [] h = cc
+joined_nodes (e ∷ es) (node ∷ nodes) h =
+    let here : Some e ≡ around node = cc in
+    let rest : map Some es ≡ map around nodes = cc in
+    ap (λ r. Some (with_envelope e r)) (joined_nodes es nodes rest) ∙ ap (λ r. both r (around (flat_map (λ n. n) nodes))) here ∙ sym (around-append node (flat_map (λ n. n) nodes))

@@ -1,0 +1,234 @@
+-- A tree stands for the list that it was packed from, and finds what meets in it.
+use Rattle.std.proofs.Common.{◌≡◌, ◌∙◌, ◌<◌, ◌+◌, ◌==◌, ℕ, zero, suc, Bool, true, false, cond, List, [], ◌∷◌, map, length, get_or, Option, Some, None, ap, refl, sym, subst, arith, IsPermutation}
+use borrow.Author.Tests.{eqb-true, eqb-false}
+use Rattle.std.specs.Prelude.{IsSortedBy, filter, filter_map, slice_get, sum_by}
+use Rattle.std.specs.List.{AllByRecursion, enumerate_from, range_with_len, zip}
+use Rattle.std.specs.Ordering.{is_lt, nat_cmp}
+use Rattle.std.proofs.lemmas.List.{length-map}
+use Rattle.std.proofs.lemmas.List.Elements.{All-from_recursion, recursion_from_All}
+use Rattle.std.proofs.lemmas.List.FromFn.{fill_by_all}
+use Rattle.std.proofs.lemmas.List.Sorted.{All-permutation, sum_by-IsPermutation}
+use Rattle.std.proofs.lemmas.List.Sums.{sum_by-cons}
+use Rattle.geometry_model.specs.Envelopes.{Envelope, overlap}
+use Rattle.rtree.specs.Found.{meeting_places, placed_meets}
+use Rattle.rtree.specs.Packing.{Entry, around, comes_before, entry_at, in_order, present, with_entry}
+use Rattle.rtree.specs.Trees.{IsPacked, KeepPacking, entries_of, envelope_at, level_at, places_found, singles, unpacked}
+use Rattle.rtree.proofs.OrderLemmas.{Ascends, all-in_order, ascends-in_order, ascends-sorted, entry_order, number_order, numbers_apart, only-order, same_place, sum-in_order}
+
+-- ---- the entries of a list
+
+-- an entry is in its place
+abbrev Stands : List (Option Envelope) → Entry → Type 0
+Stands es e = slice_get es e.0 ≡ Some (Some e.1)
+
+present-from : (es rest : List (Option Envelope)) (n : ℕ) → ((i : ℕ) → slice_get rest i ≡ slice_get es (n + i)) → AllByRecursion (Stands es) (filter_map entry_at (enumerate_from n rest))
+present-from es [] n same = tt
+present-from es (None ∷ rest) n same = present-from es rest (n + 1) (λ i. let m : n + suc i ≡ n + 1 + i = omega arith in same (suc i) ∙ ap (slice_get es) m)
+present-from es (Some e ∷ rest) n same = (
+  (let m : n + 0 ≡ n = omega arith in ap (slice_get es) (sym m) ∙ sym (same 0)),
+  present-from es rest (n + 1) (λ i. let m : n + suc i ≡ n + 1 + i = omega arith in same (suc i) ∙ ap (slice_get es) m),
+)
+
+all_stand : (es : List (Option Envelope)) → AllByRecursion (Stands es) (present es)
+all_stand es = present-from es es 0 (λ i. let m : i ≡ 0 + i = omega arith in ap (slice_get es) m)
+
+same_entry : (es : List (Option Envelope)) (a b : Entry) → Stands es a → Stands es b → comes_before a b ≡ false → comes_before b a ≡ false → a ≡ b
+same_entry es a b p q h k =
+    let place : a.0 ≡ b.0 = same_place a b h k in
+    let both : Some (Some a.1) ≡ Some (Some b.1) = sym p ∙ ap (slice_get es) place ∙ q in
+    let envelope : a.1 ≡ b.1 = cc in
+    ap (λ n. (n, a.1)) place ∙ ap (λ e. (b.0, e)) envelope
+
+-- entries that were put in order are the entries in order
+pub ordered_is : (es : List (Option Envelope)) (ordered : List Entry) → IsPermutation (present es) ordered → IsSortedBy comes_before ordered → ordered ≡ in_order (present es)
+ordered_is es ordered moved up =
+    only-order comes_before entry_order (Stands es) (same_entry es) ordered (in_order (present es)) (ascends-sorted comes_before entry_order ordered up) (ascends-in_order (present es))
+    (recursion_from_All (Stands es) ordered (All-permutation (Stands es) (present es) ordered moved (All-from_recursion (Stands es) (present es) (all_stand es))))
+    (all-in_order (Stands es) (present es) (all_stand es))
+    (λ f. sum_by-IsPermutation f (present es) ordered moved ∙ sym (sum-in_order f (present es)))
+
+-- ---- what is found
+
+found-present : (asked : Envelope) (ps : List (ℕ × Option Envelope)) → places_found asked (filter_map entry_at ps) ≡ map (λ p. p.0) (filter (placed_meets (Some asked)) ps)
+found-present asked [] = refl
+found-present asked ((n, None) ∷ ps) = found-present asked ps
+found-present asked ((n, Some e) ∷ ps) = go (overlap e asked) (found-present asked ps)
+  where
+    go : (b : Bool) → places_found asked (filter_map entry_at ps) ≡ map (λ p. p.0) (filter (placed_meets (Some asked)) ps)
+        → map (λ (p : Entry). p.0) (cond b ((n, e) ∷ filter (λ (p : Entry). overlap p.1 asked) (filter_map entry_at ps)) (filter (λ (p : Entry). overlap p.1 asked) (filter_map entry_at ps)))
+        ≡ map (λ (p : ℕ × Option Envelope). p.0) (cond b ((n, Some e) ∷ filter (placed_meets (Some asked)) ps) (filter (placed_meets (Some asked)) ps))
+    go true more = ap (λ l. n ∷ l) more
+    go false more = more
+
+sum-found : (asked : Envelope) (f : ℕ → ℕ) (es : List Entry) → sum_by f (places_found asked es) ≡ sum_by (λ e. cond (overlap e.1 asked) (f e.0) 0) es
+sum-found asked f [] = refl
+sum-found asked f (e ∷ es) = go (overlap e.1 asked) refl (sum-found asked f es)
+  where
+    part : Entry → ℕ
+    part e = cond (overlap e.1 asked) (f e.0) 0
+
+    go : (b : Bool) → overlap e.1 asked ≡ b → sum_by f (places_found asked es) ≡ sum_by part es
+        → sum_by f (map (λ (p : Entry). p.0) (cond b (e ∷ filter (λ (p : Entry). overlap p.1 asked) es) (filter (λ (p : Entry). overlap p.1 asked) es))) ≡ sum_by part (e ∷ es)
+    go true h more =
+        let left = sum_by-cons f e.0 (places_found asked es) in
+        let right = sum_by-cons part e es in
+        let head : part e ≡ f e.0 = ap (λ b. cond b (f e.0) 0) h in
+        omega (arith, left, right, head, more)
+    go false h more =
+        let right = sum_by-cons part e es in
+        let head : part e ≡ 0 = ap (λ b. cond b (f e.0) 0) h in
+        omega (arith, right, head, more)
+
+above : (h : ℕ × Option Envelope → Bool) (n m : ℕ) (es : List (Option Envelope)) → n < m → AllByRecursion (λ k. is_lt (nat_cmp k n) ≡ false) (map (λ p. p.0) (filter h (enumerate_from m es)))
+above h n m [] less = tt
+above h n m (e ∷ es) less = go (h (m, e)) (above h n (m + 1) es (omega arith))
+  where
+    later : is_lt (nat_cmp m n) ≡ false
+    later = number_order.one_way n m (grind arith)
+
+    go : (b : Bool) → AllByRecursion (λ k. is_lt (nat_cmp k n) ≡ false) (map (λ (p : ℕ × Option Envelope). p.0) (filter h (enumerate_from (m + 1) es)))
+        → AllByRecursion (λ k. is_lt (nat_cmp k n) ≡ false) (map (λ (p : ℕ × Option Envelope). p.0) (cond b ((m, e) ∷ filter h (enumerate_from (m + 1) es)) (filter h (enumerate_from (m + 1) es))))
+    go true more = (later, more)
+    go false more = more
+
+ascends-found : (h : ℕ × Option Envelope → Bool) (n : ℕ) (es : List (Option Envelope)) → Ascends (λ (a b : ℕ). is_lt (nat_cmp a b)) (map (λ p. p.0) (filter h (enumerate_from n es)))
+ascends-found h n [] = tt
+ascends-found h n (e ∷ es) = go (h (n, e)) (ascends-found h (n + 1) es)
+  where
+    go : (b : Bool) → Ascends (λ (a b : ℕ). is_lt (nat_cmp a b)) (map (λ (p : ℕ × Option Envelope). p.0) (filter h (enumerate_from (n + 1) es)))
+        → Ascends (λ (a b : ℕ). is_lt (nat_cmp a b)) (map (λ (p : ℕ × Option Envelope). p.0) (cond b ((n, e) ∷ filter h (enumerate_from (n + 1) es)) (filter h (enumerate_from (n + 1) es))))
+    go true more = (above h n (n + 1) es (omega arith), more)
+    go false more = more
+
+all_numbers : (ns : List ℕ) → AllByRecursion (λ n. Unit {0}) ns
+all_numbers [] = tt
+all_numbers (n ∷ ns) = (tt, all_numbers ns)
+
+-- the positions found among the entries in order, ascending, are those that meet
+pub found_is : (es : List (Option Envelope)) (asked : Envelope) (found : List ℕ) → IsPermutation (places_found asked (in_order (present es))) found
+    → IsSortedBy (λ (a b : ℕ). is_lt (nat_cmp a b)) found → found ≡ meeting_places es (Some asked)
+found_is es asked found moved up =
+    only-order (λ (a b : ℕ). is_lt (nat_cmp a b)) number_order (λ n. Unit {0}) (λ a b p q h k. numbers_apart a b h k) found (meeting_places es (Some asked))
+    (ascends-sorted (λ (a b : ℕ). is_lt (nat_cmp a b)) number_order found up) (ascends-found (placed_meets (Some asked)) 0 es) (all_numbers found) (all_numbers (meeting_places es (Some asked)))
+    (λ f. sum_by-IsPermutation f (places_found asked (in_order (present es))) found moved ∙ sum-found asked f (in_order (present es))
+    ∙ sum-in_order (λ e. cond (overlap e.1 asked) (f e.0) 0) (present es) ∙ sym (sum-found asked f (present es)) ∙ ap (sum_by f) (found-present asked (enumerate_from 0 es)))
+
+-- ---- the list that is kept
+
+envelope-with_entry : (e : Entry) (zs : List Entry) (place : ℕ) → envelope_at zs e.0 ≡ None → envelope_at (with_entry e zs) place ≡ envelope_at (e ∷ zs) place
+envelope-with_entry e [] place none = refl
+envelope-with_entry e (z ∷ zs) place none = go (comes_before e z) (z.0 == e.0) refl none (envelope-with_entry e zs place)
+  where
+    swapped : (p q : Bool) → z.0 == place ≡ p → e.0 == place ≡ q → z.0 == e.0 ≡ false
+        → ◌≡◌ {A = Option Envelope} (cond p (Some z.1) (cond q (Some e.1) (envelope_at zs place))) (cond q (Some e.1) (cond p (Some z.1) (envelope_at zs place)))
+    swapped true true a b far =
+        let one = eqb-true z.0 place a in let other = eqb-true e.0 place b in let apart = eqb-false z.0 e.0 far in
+        absurd (apart (one ∙ sym other))
+    swapped true false a b far = refl
+    swapped false true a b far = refl
+    swapped false false a b far = refl
+
+    go : (b d : Bool) → z.0 == e.0 ≡ d → ◌≡◌ {A = Option Envelope} (cond d (Some z.1) (envelope_at zs e.0)) None
+        → (envelope_at zs e.0 ≡ None → envelope_at (with_entry e zs) place ≡ envelope_at (e ∷ zs) place)
+        → envelope_at (cond b (e ∷ z ∷ zs) (z ∷ with_entry e zs)) place ≡ envelope_at (e ∷ z ∷ zs) place
+    go true d same gone more = refl
+    go false true same gone more = cc
+    go false false same gone more =
+        ap (λ r. cond (z.0 == place) (Some z.1) r) (more gone) ∙ swapped (z.0 == place) (e.0 == place) refl refl same
+
+-- no envelope stands before the first
+none_before : (n place : ℕ) (es : List (Option Envelope)) → place < n → envelope_at (filter_map entry_at (enumerate_from n es)) place ≡ None
+none_before n place [] less = refl
+none_before n place (None ∷ es) less = none_before (n + 1) place es (omega arith)
+none_before n place (Some e ∷ es) less = ap (λ b. cond b (Some e) (envelope_at (filter_map entry_at (enumerate_from (n + 1) es)) place)) apart ∙ none_before (n + 1) place es (omega arith)
+  where
+    apart : n == place ≡ false
+    apart = grind (arith, less)
+
+envelope-in_order : (n : ℕ) (es : List (Option Envelope)) (place : ℕ)
+    → envelope_at (in_order (filter_map entry_at (enumerate_from n es))) place ≡ envelope_at (filter_map entry_at (enumerate_from n es)) place
+envelope-in_order n [] place = refl
+envelope-in_order n (None ∷ es) place = envelope-in_order (n + 1) es place
+envelope-in_order n (Some e ∷ es) place =
+    envelope-with_entry (n, e) (in_order (filter_map entry_at (enumerate_from (n + 1) es))) place
+    (envelope-in_order (n + 1) es n ∙ none_before (n + 1) n es (omega arith))
+    ∙ ap (λ r. cond (n == place) (Some e) r) (envelope-in_order (n + 1) es place)
+
+envelope-present : (n : ℕ) (es : List (Option Envelope)) (i place : ℕ) → n + i ≡ place → i < length es → envelope_at (filter_map entry_at (enumerate_from n es)) place ≡ get_or es i None
+envelope-present n [] i place at within = absurd (omega arith)
+envelope-present n (None ∷ es) zero place at within = none_before (n + 1) place es (omega arith)
+envelope-present n (None ∷ es) (suc i) place at within = envelope-present (n + 1) es i place (omega arith) (omega arith)
+envelope-present n (Some e ∷ es) zero place at within = ap (λ b. cond b (Some e) (envelope_at (filter_map entry_at (enumerate_from (n + 1) es)) place)) here
+  where
+    here : n == place ≡ true
+    here = let m : n ≡ place = omega arith in grind (arith, m)
+envelope-present n (Some e ∷ es) (suc i) place at within =
+    ap (λ b. cond b (Some e) (envelope_at (filter_map entry_at (enumerate_from (n + 1) es)) place)) apart ∙ envelope-present (n + 1) es i place (omega arith) (omega arith)
+  where
+    apart : n == place ≡ false
+    apart = let m : n < place = omega arith in grind (arith, m)
+
+-- each position is that of an absent envelope or of one that is there
+both_counted : (n : ℕ) (es : List (Option Envelope))
+    → length (map (λ p. p.0) (filter (placed_meets None) (enumerate_from n es))) + length (filter_map entry_at (enumerate_from n es)) ≡ length es
+both_counted n [] = refl
+both_counted n (None ∷ es) = let more = both_counted (n + 1) es in omega (arith, more)
+both_counted n (Some e ∷ es) = let more = both_counted (n + 1) es in omega (arith, more)
+
+length-with_entry : (e : Entry) (zs : List Entry) → length (with_entry e zs) ≡ suc (length zs)
+length-with_entry e [] = refl
+length-with_entry e (z ∷ zs) = go (comes_before e z) (length-with_entry e zs)
+  where
+    go : (b : Bool) → length (with_entry e zs) ≡ suc (length zs) → length (cond b (e ∷ z ∷ zs) (z ∷ with_entry e zs)) ≡ suc (suc (length zs))
+    go true more = refl
+    go false more = ap suc more
+
+length-in_order : (es : List Entry) → length (in_order es) ≡ length es
+length-in_order [] = refl
+length-in_order (e ∷ es) = length-with_entry e (in_order es) ∙ ap suc (length-in_order es)
+
+zipped : (es : List Entry) → zip (map (λ e. e.0) es) (map (λ e. e.1) es) ≡ es
+zipped [] = refl
+zipped (e ∷ es) = ap (λ l. e ∷ l) (zipped es)
+
+-- the lowest level keeps the envelopes of the entries
+pub lowest_is : (entries : List Entry) (levels : List (List Envelope)) → KeepPacking entries levels → level_at levels 0 ≡ map (λ e. e.1) entries
+lowest_is entries [] h = cc
+lowest_is entries (level ∷ levels) h = let first : map Some level ≡ map around (singles entries) = cc in each entries level first
+  where
+    each : (es : List Entry) (l : List Envelope) → map Some l ≡ map around (singles es) → l ≡ map (λ e. e.1) es
+    each [] [] h = refl
+    each [] (x ∷ l) h = cc
+    each (e ∷ es) [] h = cc
+    each (e ∷ es) (x ∷ l) h =
+        let head : x ≡ e.1 = cc in
+        let rest : map Some l ≡ map around (singles es) = cc in
+        ap (λ z. z ∷ l) head ∙ ap (λ z. e.1 ∷ z) (each es l rest)
+
+pub entries_are : (absent places : List ℕ) (levels : List (List Envelope)) (es : List (Option Envelope)) → IsPacked absent places levels es
+    → entries_of places levels ≡ in_order (present es)
+entries_are absent places levels es p =
+    ap (λ l. zip places l) (lowest_is (in_order (present es)) levels p.packing) ∙ ap (λ l. zip l (map (λ e. e.1) (in_order (present es)))) p.other_places ∙ zipped (in_order (present es))
+
+pub unpacked_is : (absent places : List ℕ) (levels : List (List Envelope)) (es : List (Option Envelope)) → IsPacked absent places levels es → unpacked absent places levels ≡ es
+unpacked_is absent places levels es p =
+    let entries = in_order (present es) in
+    let count : length absent + length places ≡ length es =
+    let a = ap length p.absent_places in
+    let b = ap length p.other_places ∙ length-map entries (λ e. e.0) ∙ length-in_order (present es) in
+    let both = both_counted 0 es in
+    omega (arith, a, b, both) in
+    let each : (k : ℕ) → k < length es → get_or es k None ≡ envelope_at entries k = λ k within.
+    sym (envelope-in_order 0 es k ∙ envelope-present 0 es k k (omega arith) within) in
+    ap (λ e. map (envelope_at e) (range_with_len 0 (length absent + length places))) (entries_are absent places levels es p)
+    ∙ ap (λ n. map (envelope_at entries) (range_with_len 0 n)) count
+    ∙ sym (fill_by_all (envelope_at entries) es (length es) None refl each)
+
+-- what was packed from a list keeps it
+pub is_packed : (absent places : List ℕ) (levels : List (List Envelope)) (ordered : List Entry) (es : List (Option Envelope)) → absent ≡ meeting_places es None
+    → ordered ≡ in_order (present es) → places ≡ map (λ e. e.0) ordered → KeepPacking ordered levels → IsPacked absent places levels es
+is_packed absent places levels ordered es none is others packing = record {
+  absent_places = none;
+  other_places = others ∙ ap (map (λ e. e.0)) is;
+  packing = subst (λ entries. KeepPacking entries levels) is packing;
+}
