@@ -6,7 +6,7 @@ ghost use Rattle.validity.specs.Neighbours.{near_one, either_envelope, ring_enve
 
 use crate::outlines::Outline;
 use rtree::envelopes::joined;
-use rtree::{Envelope, EnvelopeIndex, ListIndex};
+use rtree::{Envelope, EnvelopeIndex, RTree};
 use std::alloc::{AllocError, Global};
 use std::marker::Model;
 use wkt::LineString;
@@ -15,19 +15,18 @@ use wkt::LineString;
 #[derive(Drop)]
 pub(crate) struct Neighbours {
     envelopes: Vec<Option<Envelope>>,
-    index: ListIndex,
+    index: RTree,
 }
 
 impl Model for Neighbours {
     ghost use Rattle.std.specs.Prelude.{◌≡◌, List, Option};
     ghost use Rattle.geometry_model.specs.Envelopes.{Envelope as Rectangle};
-    ghost use Rattle.rtree.specs.ListIndexes.{listed};
 
     ghost Value = { List (Option Rectangle) };
 
     ghost view = { λ n. n.envelopes.items };
 
-    ghost invariant = { λ n. listed n.index ≡ n.envelopes.items };
+    ghost invariant = { λ n. n.index ≡ n.envelopes.items };
 }
 
 impl Neighbours {
@@ -57,7 +56,7 @@ impl Neighbours {
     fn of(alloc: Global, envelopes: Vec<Option<Envelope>>) -> Result<Neighbours, AllocError>
         ensures { IfOk result (λ neighbours. neighbours ≡ envelopes.items) }
     {
-        let index = ListIndex::build(alloc, envelopes.as_slice())?;
+        let index = RTree::build(alloc, envelopes.as_slice())?;
         Ok(Neighbours { envelopes, index })
     }
 
