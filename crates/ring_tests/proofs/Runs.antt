@@ -21,7 +21,7 @@ any_same : {A : Type 0} (f g : A → Bool) (xs : List A) → ((x : A) → f x �
 any_same f g [] h = refl
 any_same f g (x ∷ xs) h = ap₂ (λ (a b : Bool). a || b) (h x) (any_same f g xs h)
 
-any_none : {A : Type 0} (xs : List A) → list_any (λ (x : A). false) xs ≡ false
+pub any_none : {A : Type 0} (xs : List A) → list_any (λ (x : A). false) xs ≡ false
 any_none [] = refl
 any_none (x ∷ xs) = any_none xs
 
@@ -31,7 +31,7 @@ any_join f [] ys = refl
 any_join f (x ∷ xs) ys = ap (λ (b : Bool). f x || b) (any_join f xs ys) ∙ or_joins (f x) (list_any f xs) (list_any f ys)
 
 -- of two tests of one list
-any_either : {A : Type 0} (f g : A → Bool) (xs : List A) → list_any (λ x. f x || g x) xs ≡ (list_any f xs || list_any g xs)
+pub any_either : {A : Type 0} (f g : A → Bool) (xs : List A) → list_any (λ x. f x || g x) xs ≡ (list_any f xs || list_any g xs)
 any_either f g [] = refl
 any_either f g (x ∷ xs) = ap (λ (b : Bool). (f x || g x) || b) (any_either f g xs) ∙ or_crosses (f x) (g x) (list_any f xs) (list_any g xs)
 

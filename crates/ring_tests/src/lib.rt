@@ -8,4 +8,4 @@ pub mod laws;
 mod rings;
 
 pub use edges::{share_other, share_point};
-pub use rings::{is_inside, is_not_closed, is_not_simple, share};
+pub use rings::{clash, is_inside, is_not_closed, is_not_simple, share};

@@ -45,7 +45,7 @@ pub fn is_not_closed(ring: &[GridPoint]) -> bool
 
 /// Whether the i-th and the j-th of the edges of a ring clash, j being later: neighbours share more than
 /// their common position, others a point.
-fn clash(count: usize, i: usize, e: &Segment, j: usize, f: &Segment) -> bool
+pub fn clash(count: usize, i: usize, e: &Segment, j: usize, f: &Segment) -> bool
     requires earlier { i < j }
     requires later { j < count }
     ensures { result ≡ spec.clash count (i, e.now) (j, f.now) }

@@ -6,7 +6,8 @@ use Rattle.geometry_model.specs.Points.{Position}
 use Rattle.geometry_model.specs.Geometries.{Edge, edges_of_line}
 use Rattle.validity.specs.ValidGeometries.{HasLength}
 
-at_index : (more : List Position) (i : ℕ) (d end : Position) → i < length more → end ≡ get_or more i d → drop i more ≡ end ∷ drop (i + 1) more
+-- what is left from a place on
+pub at_index : {A : Type 0} (more : List A) (i : ℕ) (d end : A) → i < length more → end ≡ get_or more i d → drop i more ≡ end ∷ drop (i + 1) more
 at_index more i d end within is =
     drop-cons more i d within ∙ (ap (λ x. x ∷ drop (suc i) more) (sym is) ∙ ap (λ n. end ∷ drop n more) (add_one i))
   where

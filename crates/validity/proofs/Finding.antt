@@ -1,5 +1,5 @@
 -- The first of some faults that stands, number by number.
-use Rattle.std.proofs.Common.{◌≡◌, refl, sym, ap, ◌∙◌, ℕ, zero, suc, ◌+◌, ◌-◌, ◌<◌, ◌≤◌, Bool, true, false, cond, List, [], ◌∷◌, ◌++◌, map, drop, length, Option, Some, None, slice_get, arith}
+use Rattle.std.proofs.Common.{◌≡◌, refl, sym, ap, ◌∙◌, append_assoc, ℕ, zero, suc, ◌+◌, ◌-◌, ◌<◌, ◌≤◌, Bool, true, false, cond, List, [], ◌∷◌, ◌++◌, map, drop, length, Option, Some, None, slice_get, arith}
 use Rattle.std.specs.List.{find, flat_map, range_with_len}
 use Rattle.std.specs.Option.{option_or, is_some, MatchOption}
 use Rattle.std.proofs.lemmas.List.Folds.{find-append}
@@ -43,7 +43,7 @@ pub none_among : (stands : ValidityFault → Bool) (faults : ℕ → List Validi
 none_among stands faults i n h = ap (λ ns. find stands (flat_map faults ns)) (numbers_end i n h)
 
 -- ---- some faults a part
-at_place : {A : Type 0} (xs : List A) (m : ℕ) (x : A) → slice_get xs m ≡ Some x → drop m xs ≡ x ∷ drop (m + 1) xs
+pub at_place : {A : Type 0} (xs : List A) (m : ℕ) (x : A) → slice_get xs m ≡ Some x → drop m xs ≡ x ∷ drop (m + 1) xs
 at_place xs m x e = go xs m x e ∙ ap (λ k. x ∷ drop k xs) (next m)
   where
     next : (k : ℕ) → suc k ≡ k + 1
@@ -65,7 +65,7 @@ passed_in_part stands faults parts m part is e = ap (λ xs. find stands (flat_ma
     ∙ in_front stands (faults part) (flat_map faults (drop (m + 1) parts)) None e
 
 -- all parts are passed
-past_all : {A : Type 0} (xs : List A) (m : ℕ) → length xs ≤ m → drop m xs ≡ []
+pub past_all : {A : Type 0} (xs : List A) (m : ℕ) → length xs ≤ m → drop m xs ≡ []
 past_all [] zero h = refl
 past_all [] (suc m) h = refl
 past_all (x ∷ xs) zero h = absurd (omega (arith, h))
@@ -76,11 +76,11 @@ pub none_in_parts : {A : Type 0} (stands : ValidityFault → Bool) (faults : A �
 none_in_parts stands faults parts m h = ap (λ xs. find stands (flat_map faults xs)) (past_all parts m h)
 
 -- ---- what was found there, or nothing
-some_is : (o : Option ValidityFault) → is_some o ≡ true → (fault : ValidityFault) × (o ≡ Some fault)
+pub some_is : (o : Option ValidityFault) → is_some o ≡ true → (fault : ValidityFault) × (o ≡ Some fault)
 some_is None h = absurd cc
 some_is (Some fault) h = (fault, refl)
 
-none_is : (o : Option ValidityFault) → is_some o ≡ false → o ≡ None
+pub none_is : (o : Option ValidityFault) → is_some o ≡ false → o ≡ None
 none_is None h = refl
 none_is (Some fault) h = absurd cc
 
@@ -105,3 +105,21 @@ pub found_or_else : (stands : ValidityFault → Bool) (xs ys : List ValidityFaul
     → r ≡ find stands (xs ++ ys)
 found_or_else stands xs ys None r e h = h ∙ sym (in_front stands xs ys None (sym e))
 found_or_else stands xs ys (Some fault) r e h = h ∙ sym (in_front stands xs ys (Some fault) (sym e))
+
+-- ---- one list of faults before another
+pub first_stays : (stands : ValidityFault → Bool) (xs ys : List ValidityFault) (o : Option ValidityFault) → o ≡ find stands xs → is_some o ≡ true → find stands (xs ++ ys) ≡ o
+first_stays stands xs ys o e some = let k = some_is o some in in_front stands xs ys o (sym e) ∙ (ap (λ f. option_or f (find stands ys)) k.1 ∙ sym k.1)
+
+pub second_follows : (stands : ValidityFault → Bool) (xs ys : List ValidityFault) (o p : Option ValidityFault) → o ≡ find stands xs → is_some o ≡ false → p ≡ find stands ys → find stands (xs ++ ys) ≡ p
+second_follows stands xs ys o p e none f = in_front stands xs ys None (sym e ∙ none_is o none) ∙ sym f
+
+pub none_behind : (stands : ValidityFault → Bool) (xs ys : List ValidityFault) → find stands (xs ++ ys) ≡ None → find stands ys ≡ None
+none_behind stands xs ys h = go (find stands xs) refl
+  where
+    go : (o : Option ValidityFault) → find stands xs ≡ o → find stands ys ≡ None
+    go None e = sym (in_front stands xs ys None e) ∙ h
+    go (Some fault) e = let k : Some fault ≡ None = sym (in_front stands xs ys (Some fault) e) ∙ h in absurd cc
+
+-- the lists of the order of tests, the rings' and the polygons' together
+pub grouped : (a b c d e f g h : List ValidityFault) → a ++ b ++ c ++ d ++ e ++ f ++ g ++ h ≡ (a ++ b ++ c ++ (d ++ e ++ f)) ++ (g ++ h)
+grouped a b c d e f g h = simp append_assoc

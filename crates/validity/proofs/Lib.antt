@@ -1,8 +1,11 @@
 pub mod CheckedTexts
 pub mod Edges
+pub mod Envelopes
 pub mod Faults
 pub mod Finding
 pub mod Kept
+pub mod Near
+pub mod NearNumbers
 pub mod OutlineFacts
 pub mod PartFacts
 pub mod PolygonPromises

@@ -79,7 +79,7 @@ outlined_more es runs element_ends ring_ends x o =
     }
 
 -- the polygons up to and with this one
-taken : {A : Type 0} (xs : List A) (m : ℕ) (x : A) → slice_get xs m ≡ Some x → take (m + 1) xs ≡ take m xs ++ x ∷ []
+pub taken : {A : Type 0} (xs : List A) (m : ℕ) (x : A) → slice_get xs m ≡ Some x → take (m + 1) xs ≡ take m xs ++ x ∷ []
 taken xs m x e = ap (λ n. take n xs) (next m) ∙ go xs m x e
   where
     next : (k : ℕ) → k + 1 ≡ suc k

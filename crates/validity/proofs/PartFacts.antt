@@ -1,15 +1,17 @@
 -- The tests of rings and polygons by their edges.
-use Rattle.std.proofs.Common.{◌≡◌, refl, ap₂, ◌∙◌, ℕ, zero, suc, ◌<◌, not, ◌||◌, length, get_or, List, [], ◌∷◌, map, Option, Some, None, slice_get}
+use Rattle.std.proofs.Common.{◌≡◌, refl, sym, subst, ap₂, ◌∙◌, ℕ, zero, suc, ◌<◌, not, ◌||◌, length, get_or, List, [], ◌∷◌, map, Option, Some, None, slice_get}
 use Rattle.std.proofs.lemmas.Option.{slice_get-get_or}
 use Rattle.geometry_model.specs.Points.{Position}
 use Rattle.geometry_model.specs.Geometries.{Edge, edges_of_line, edges_of_lines}
 use Rattle.geometry_model.specs.Validity.{inside, inside_element}
-use Rattle.geometry_model.specs.FirstFaults.{test_of_both, elements_share}
+use Rattle.geometry_model.specs.FirstFaults.{test_of_both, rings_share, elements_share}
+use Rattle.edge_boxes.specs.BoxLists.{BoxesOf}
+use Rattle.edge_boxes.specs.declared.boxes.EdgeBoxes.{EdgeBoxes}
 use Rattle.ring_tests.specs.EdgeRuns.{edges_share, is_odd_above}
 use Rattle.ring_tests.proofs.Runs.{polygons_by_their_edges, inside_by_edges}
 
 -- what stands at a place of a mapped list
-mapped_at : {A B : Type 0} (f : A → B) (xs : List A) (i : ℕ) (y : B) → slice_get (map f xs) i ≡ Some y → (x : A) × (slice_get xs i ≡ Some x) × (f x ≡ y)
+pub mapped_at : {A B : Type 0} (f : A → B) (xs : List A) (i : ℕ) (y : B) → slice_get (map f xs) i ≡ Some y → (x : A) × (slice_get xs i ≡ Some x) × (f x ≡ y)
 mapped_at f [] i y e = absurd cc
 mapped_at f (x ∷ xs) zero y e = (x, refl, cc)
 mapped_at f (x ∷ xs) (suc i) y e = mapped_at f xs i y e
@@ -50,3 +52,15 @@ not_inside rings outer ring h k = both (slice_get rings outer) (slice_get rings 
     both None s a b e f = absurd cc
     both (Some r) None a b e f = absurd cc
     both (Some r) (Some s) a b e f = refl
+
+pub rings_share_by_edges : (rings : List (List Position)) (i j : ℕ) (r s : List Edge) → slice_get (map edges_of_line rings) i ≡ Some r → slice_get (map edges_of_line rings) j ≡ Some s
+    → test_of_both rings_share (slice_get rings i) (slice_get rings j) ≡ edges_share r s
+rings_share_by_edges rings i j r s e f = let k = mapped_at edges_of_line rings i r e in let l = mapped_at edges_of_line rings j s f in
+    ap₂ (λ (a b : Option (List Position)). test_of_both rings_share a b) k.1 l.1 ∙ ap₂ edges_share k.2 l.2
+
+-- ---- boxes of a part's edges
+same_run : (o : Option (List Edge)) (r s : List Edge) → o ≡ Some r → o ≡ Some s → r ≡ s
+same_run o r s e f = let h : Some r ≡ Some s = sym e ∙ f in cc
+
+pub boxes_of_run : (boxes : EdgeBoxes) (o : Option (List Edge)) (run : List Edge) → o ≡ Some run → BoxesOf boxes run → (other : List Edge) → o ≡ Some other → BoxesOf boxes other
+boxes_of_run boxes o run is are other also = subst (BoxesOf boxes) (same_run o run other is also) are

@@ -5,6 +5,8 @@ use Rattle.geometry_model.specs.Validity.{Element, numbered_elements}
 use Rattle.geometry_model.specs.FirstFaults.{rings_end}
 use Rattle.geometry_model.specs.declared.shapes.GeometryType.{GeometryType}
 use Rattle.geometry_model.specs.declared.shapes.GeometryType.TheVariants as types
+use Rattle.edge_boxes.specs.BoxLists.{BoxesOf}
+use Rattle.edge_boxes.specs.declared.boxes.EdgeBoxes.{EdgeBoxes}
 use Rattle.wkt.specs.Cuts.{cut_at, AreEnds}
 
 -- the runs are the edges of the lines, and the ends are the places where those and the rings of each polygon end (06-103r4, 6.1.7 to 6.1.14)
@@ -48,3 +50,11 @@ pub record IsHole (g : Geometry) (hole end : ℕ) : Type 0 where
   pub are : AreRings g first end
   pub after : first < hole
   pub before : hole < end
+
+-- the boxes are those of the edges of the line or ring with this number (06-103r4, 6.1.7)
+abbrev pub AreLineBoxes : EdgeBoxes → Geometry → ℕ → Type 0
+AreLineBoxes boxes g line = (run : List Edge) → slice_get (map edges_of_line (lines g)) line ≡ Some run → BoxesOf boxes run
+
+-- the boxes are those of the edges of the polygon with this number (06-103r4, 6.1.14)
+abbrev pub AreElementBoxes : EdgeBoxes → Geometry → ℕ → Type 0
+AreElementBoxes boxes g element = (run : List Edge) → slice_get (map edges_of_lines (elements g)) element ≡ Some run → BoxesOf boxes run

@@ -1,14 +1,18 @@
 //! The first fault of each kind, in the order of tests.
 
-ghost use Rattle.std.specs.Prelude.{◌≡◌, ◌<◌, ◌+◌, length, map};
+ghost use Rattle.std.specs.Prelude.{◌≡◌, ◌<◌, ◌+◌, ◌++◌, length, map, IfOk};
 ghost use Rattle.geometry_model.specs.Geometries as spec;
 ghost use Rattle.geometry_model.specs.FirstFaults.{numbers, of_pairs, validity_fault};
+ghost use Rattle.geometry_laws.specs.PieceLaws.{HasClosedRings};
 ghost use Rattle.validity.specs.FaultOrder.{first_of, of_lines, of_rings, with_later, with_later_elements, of_elements_and};
 ghost use Rattle.validity.specs.FaultOrder.{rings_meeting, holes_outside, nested_holes, of_two_elements, of_other_elements};
+ghost use Rattle.validity.specs.Neighbours.{near_one, ring_envelopes, element_envelopes};
 ghost use Rattle.validity.specs.Outlines.{AreRings, IsRing, IsHole};
 
+use crate::neighbours::Neighbours;
 use crate::outlines::Outline;
 use geometry_model::ValidityFault;
+use std::alloc::{AllocError, Global};
 
 /// The first line or ring that has too few positions.
 fn short_line(outline: &Outline) -> Option<ValidityFault>
@@ -35,195 +39,326 @@ fn open_ring(outline: &Outline) -> Option<ValidityFault>
 }
 
 /// The first ring that meets or covers itself.
-fn ring_not_simple(outline: &Outline) -> Option<ValidityFault>
-    ensures { result ≡ first_of outline.now (of_rings ValidityFault.RingNotSimple outline.now) }
+fn ring_not_simple(alloc: Global, outline: &Outline) -> Result<Option<ValidityFault>, AllocError>
+    ensures { IfOk result
+        (λ fault. fault ≡ first_of outline.now (of_rings ValidityFault.RingNotSimple outline.now)) }
 {
     for ring in 0..outline.ring_count() {
-        if outline.meets_itself(ring) {
-            return Some(ValidityFault::RingNotSimple(ring));
+        if outline.meets_itself(alloc, ring)? {
+            return Ok(Some(ValidityFault::RingNotSimple(ring)));
         }
     }
-    None
+    Ok(None)
 }
 
-/// The first of the later rings of its polygon that a ring meets.
-fn ring_meets_later(outline: &Outline, ring: usize, end: usize) -> Option<ValidityFault>
-    requires { IsRing outline.now ring end }
-    ensures { result ≡ first_of outline.now (with_later ValidityFault.RingsMeet ring end) }
+/// The first of the later rings of its polygon that a ring meets; all that it meets are among those near it.
+fn ring_meets_near(
+    alloc: Global,
+    outline: &Outline,
+    ring: usize,
+    end: usize,
+    near: &[usize],
+) -> Result<Option<ValidityFault>, AllocError>
+    requires closed { HasClosedRings outline.now }
+    requires ring { IsRing outline.now ring end }
+    requires near { near.now ≡ near_one (ring_envelopes outline.now) ring }
+    ensures { IfOk result
+        (λ fault. fault ≡ first_of outline.now (with_later ValidityFault.RingsMeet ring end)) }
 {
-    for later in ring + 1..end {
-        if outline.rings_share(ring, later) {
-            return Some(ValidityFault::RingsMeet(ring, later));
+    let boxes = outline.line_boxes(alloc, ring)?;
+    let mut found = Vec::new(alloc);
+    for later in near {
+        if ring < *later && *later < end && outline.rings_share(ring, &boxes, *later, &mut found)? {
+            return Ok(Some(ValidityFault::RingsMeet(ring, *later)));
         }
     }
-    None
+    Ok(None)
 }
 
 /// The first two rings of a polygon that meet.
-fn rings_of_one_meet(outline: &Outline, first: usize, end: usize) -> Option<ValidityFault>
-    requires { AreRings outline.now first end }
-    ensures { result ≡ first_of outline.now (of_pairs ValidityFault.RingsMeet first end) }
+fn rings_of_one_meet(
+    alloc: Global,
+    outline: &Outline,
+    rings: &Neighbours,
+    first: usize,
+    end: usize,
+) -> Result<Option<ValidityFault>, AllocError>
+    requires closed { HasClosedRings outline.now }
+    requires rings { rings.now ≡ ring_envelopes outline.now }
+    requires are { AreRings outline.now first end }
+    ensures { IfOk result
+        (λ fault. fault ≡ first_of outline.now (of_pairs ValidityFault.RingsMeet first end)) }
 {
     for ring in first..end {
-        let fault = ring_meets_later(outline, ring, end);
+        let near = rings.near(alloc, ring)?;
+        let fault = ring_meets_near(alloc, outline, ring, end, near.as_slice())?;
         if fault.is_some() {
-            return fault;
+            return Ok(fault);
         }
     }
-    None
+    Ok(None)
 }
 
 /// The first two rings of one polygon that meet, polygon by polygon.
-fn rings_meet(outline: &Outline) -> Option<ValidityFault>
-    ensures { result ≡ first_of outline.now (rings_meeting outline.now) }
+fn rings_meet(
+    alloc: Global,
+    outline: &Outline,
+    rings: &Neighbours,
+) -> Result<Option<ValidityFault>, AllocError>
+    requires closed { HasClosedRings outline.now }
+    requires rings { rings.now ≡ ring_envelopes outline.now }
+    ensures { IfOk result (λ fault. fault ≡ first_of outline.now (rings_meeting outline.now)) }
 {
     for element in 0..outline.geometry().element_count() {
         let (first, end) = outline.ring_numbers(element);
-        let fault = rings_of_one_meet(outline, first, end);
+        let fault = rings_of_one_meet(alloc, outline, rings, first, end)?;
         if fault.is_some() {
-            return fault;
+            return Ok(fault);
         }
     }
-    None
+    Ok(None)
 }
 
 /// The first hole of a polygon that isn't inside its outer ring.
-fn hole_of_one_outside(outline: &Outline, first: usize, end: usize) -> Option<ValidityFault>
+fn hole_of_one_outside(
+    alloc: Global,
+    outline: &Outline,
+    first: usize,
+    end: usize,
+) -> Result<Option<ValidityFault>, AllocError>
     requires { AreRings outline.now first end }
-    ensures { result ≡ first_of outline.now (map ValidityFault.HoleOutside (numbers (first + 1) end)) }
+    ensures { IfOk result
+        (λ fault. fault ≡ first_of outline.now (map ValidityFault.HoleOutside (numbers (first + 1) end))) }
 {
     if first == end {
-        return None;
+        return Ok(None);
     }
+    let boxes = outline.line_boxes(alloc, first)?;
     for hole in first + 1..end {
-        if outline.is_outside_ring(first, hole) {
-            return Some(ValidityFault::HoleOutside(hole));
+        if outline.is_outside_ring(first, &boxes, hole) {
+            return Ok(Some(ValidityFault::HoleOutside(hole)));
         }
     }
-    None
+    Ok(None)
 }
 
 /// The first hole that isn't inside the outer ring of its polygon.
-fn hole_outside(outline: &Outline) -> Option<ValidityFault>
-    ensures { result ≡ first_of outline.now (holes_outside outline.now) }
+fn hole_outside(alloc: Global, outline: &Outline) -> Result<Option<ValidityFault>, AllocError>
+    ensures { IfOk result (λ fault. fault ≡ first_of outline.now (holes_outside outline.now)) }
 {
     for element in 0..outline.geometry().element_count() {
         let (first, end) = outline.ring_numbers(element);
-        let fault = hole_of_one_outside(outline, first, end);
+        let fault = hole_of_one_outside(alloc, outline, first, end)?;
         if fault.is_some() {
-            return fault;
+            return Ok(fault);
         }
     }
-    None
+    Ok(None)
 }
 
-/// The first of the later holes of its polygon that is inside a hole, or round it.
-fn hole_nested_later(outline: &Outline, hole: usize, end: usize) -> Option<ValidityFault>
-    requires { IsHole outline.now hole end }
+/// The first of the later holes of its polygon that is inside a hole, or round it; all such are among those near it.
+fn hole_nested_near(
+    outline: &Outline,
+    hole: usize,
+    end: usize,
+    near: &[usize],
+) -> Option<ValidityFault>
+    requires closed { HasClosedRings outline.now }
+    requires hole { IsHole outline.now hole end }
+    requires near { near.now ≡ near_one (ring_envelopes outline.now) hole }
     ensures { result ≡ first_of outline.now (with_later ValidityFault.HolesNested hole end) }
 {
-    for later in hole + 1..end {
-        if outline.are_nested(hole, later) {
-            return Some(ValidityFault::HolesNested(hole, later));
+    for later in near {
+        if hole < *later && *later < end && outline.are_nested(hole, *later) {
+            return Some(ValidityFault::HolesNested(hole, *later));
         }
     }
     None
 }
 
 /// The first two holes of a polygon of which one is inside the other.
-fn holes_of_one_nested(outline: &Outline, first: usize, end: usize) -> Option<ValidityFault>
-    requires { AreRings outline.now first end }
-    ensures { result ≡ first_of outline.now (of_pairs ValidityFault.HolesNested (first + 1) end) }
+fn holes_of_one_nested(
+    alloc: Global,
+    outline: &Outline,
+    rings: &Neighbours,
+    first: usize,
+    end: usize,
+) -> Result<Option<ValidityFault>, AllocError>
+    requires closed { HasClosedRings outline.now }
+    requires rings { rings.now ≡ ring_envelopes outline.now }
+    requires are { AreRings outline.now first end }
+    ensures { IfOk result
+        (λ fault. fault ≡ first_of outline.now (of_pairs ValidityFault.HolesNested (first + 1) end)) }
 {
     if first == end {
-        return None;
+        return Ok(None);
     }
     for hole in first + 1..end {
-        let fault = hole_nested_later(outline, hole, end);
+        let near = rings.near(alloc, hole)?;
+        let fault = hole_nested_near(outline, hole, end, near.as_slice());
         if fault.is_some() {
-            return fault;
+            return Ok(fault);
         }
     }
-    None
+    Ok(None)
 }
 
 /// The first two holes of one polygon of which one is inside the other, polygon by polygon.
-fn holes_nested(outline: &Outline) -> Option<ValidityFault>
-    ensures { result ≡ first_of outline.now (nested_holes outline.now) }
+fn holes_nested(
+    alloc: Global,
+    outline: &Outline,
+    rings: &Neighbours,
+) -> Result<Option<ValidityFault>, AllocError>
+    requires closed { HasClosedRings outline.now }
+    requires rings { rings.now ≡ ring_envelopes outline.now }
+    ensures { IfOk result (λ fault. fault ≡ first_of outline.now (nested_holes outline.now)) }
 {
     for element in 0..outline.geometry().element_count() {
         let (first, end) = outline.ring_numbers(element);
-        let fault = holes_of_one_nested(outline, first, end);
+        let fault = holes_of_one_nested(alloc, outline, rings, first, end)?;
         if fault.is_some() {
-            return fault;
+            return Ok(fault);
         }
     }
-    None
+    Ok(None)
 }
 
-/// The first of the later polygons that a polygon meets.
-fn element_meets_later(outline: &Outline, element: usize) -> Option<ValidityFault>
-    requires { element < length (spec.elements outline.now) }
-    ensures { result ≡ first_of outline.now (with_later_elements ValidityFault.ElementsMeet element outline.now) }
+/// The first of the later polygons that a polygon meets; all that it meets are among those near it.
+fn element_meets_near(
+    alloc: Global,
+    outline: &Outline,
+    element: usize,
+    near: &[usize],
+) -> Result<Option<ValidityFault>, AllocError>
+    requires closed { HasClosedRings outline.now }
+    requires element { element < length (spec.elements outline.now) }
+    requires near { near.now ≡ near_one (element_envelopes outline.now) element }
+    ensures { IfOk result
+        (λ fault. fault ≡ first_of outline.now (with_later_elements ValidityFault.ElementsMeet element outline.now)) }
 {
+    let boxes = outline.element_boxes(alloc, element)?;
+    let mut found = Vec::new(alloc);
     let count = outline.geometry().element_count();
-    for later in element + 1..count {
-        if outline.elements_share(element, later) {
-            return Some(ValidityFault::ElementsMeet(element, later));
+    for later in near {
+        if element < *later
+            && *later < count
+            && outline.elements_share(element, &boxes, *later, &mut found)?
+        {
+            return Ok(Some(ValidityFault::ElementsMeet(element, *later)));
         }
     }
-    None
+    Ok(None)
 }
 
 /// The first two polygons whose rings meet.
-fn elements_meet(outline: &Outline) -> Option<ValidityFault>
-    ensures { result ≡ first_of outline.now (of_two_elements ValidityFault.ElementsMeet outline.now) }
+fn elements_meet(
+    alloc: Global,
+    outline: &Outline,
+    elements: &Neighbours,
+) -> Result<Option<ValidityFault>, AllocError>
+    requires closed { HasClosedRings outline.now }
+    requires elements { elements.now ≡ element_envelopes outline.now }
+    ensures { IfOk result
+        (λ fault. fault ≡ first_of outline.now (of_two_elements ValidityFault.ElementsMeet outline.now)) }
 {
     for element in 0..outline.geometry().element_count() {
-        let fault = element_meets_later(outline, element);
+        let near = elements.near(alloc, element)?;
+        let fault = element_meets_near(alloc, outline, element, near.as_slice())?;
         if fault.is_some() {
-            return fault;
+            return Ok(fault);
         }
     }
-    None
+    Ok(None)
 }
 
-/// The first polygon inside which a polygon is.
-fn element_inside_any(outline: &Outline, element: usize) -> Option<ValidityFault>
-    requires { element < length (spec.elements outline.now) }
+/// The first polygon inside which a polygon is; all such are among those near it.
+fn element_inside_near(outline: &Outline, element: usize, near: &[usize]) -> Option<ValidityFault>
+    requires closed { HasClosedRings outline.now }
+    requires element { element < length (spec.elements outline.now) }
+    requires near { near.now ≡ near_one (element_envelopes outline.now) element }
     ensures { result ≡ first_of outline.now (of_elements_and ValidityFault.ElementInside element outline.now) }
 {
-    for other in 0..outline.geometry().element_count() {
-        if outline.is_inside_other(element, other) {
-            return Some(ValidityFault::ElementInside(element, other));
+    let count = outline.geometry().element_count();
+    for other in near {
+        if *other < count && outline.is_inside_other(element, *other) {
+            return Some(ValidityFault::ElementInside(element, *other));
         }
     }
     None
 }
 
 /// The first polygon that is inside another, and the first of those.
-fn element_inside(outline: &Outline) -> Option<ValidityFault>
-    ensures { result ≡ first_of outline.now (of_other_elements ValidityFault.ElementInside outline.now) }
+fn element_inside(
+    alloc: Global,
+    outline: &Outline,
+    elements: &Neighbours,
+) -> Result<Option<ValidityFault>, AllocError>
+    requires closed { HasClosedRings outline.now }
+    requires elements { elements.now ≡ element_envelopes outline.now }
+    ensures { IfOk result
+        (λ fault. fault ≡ first_of outline.now (of_other_elements ValidityFault.ElementInside outline.now)) }
 {
     for element in 0..outline.geometry().element_count() {
-        let fault = element_inside_any(outline, element);
+        let near = elements.near(alloc, element)?;
+        let fault = element_inside_near(outline, element, near.as_slice());
         if fault.is_some() {
-            return fault;
+            return Ok(fault);
         }
     }
-    None
+    Ok(None)
+}
+
+/// The first fault of the rings of polygons: V4 to V6.
+fn fault_of_rings(alloc: Global, outline: &Outline) -> Result<Option<ValidityFault>, AllocError>
+    requires { HasClosedRings outline.now }
+    ensures { IfOk result (λ fault. fault ≡ first_of outline.now
+        (rings_meeting outline.now ++ holes_outside outline.now ++ nested_holes outline.now)) }
+{
+    let rings = Neighbours::of_rings(alloc, outline)?;
+    let meeting = rings_meet(alloc, outline, &rings)?;
+    if meeting.is_some() {
+        return Ok(meeting);
+    }
+    let outside = hole_outside(alloc, outline)?;
+    if outside.is_some() {
+        return Ok(outside);
+    }
+    holes_nested(alloc, outline, &rings)
+}
+
+/// The first fault of two polygons: V7 and V8.
+fn fault_of_elements(alloc: Global, outline: &Outline) -> Result<Option<ValidityFault>, AllocError>
+    requires { HasClosedRings outline.now }
+    ensures { IfOk result (λ fault. fault ≡ first_of outline.now
+        (of_two_elements ValidityFault.ElementsMeet outline.now
+        ++ of_other_elements ValidityFault.ElementInside outline.now)) }
+{
+    let elements = Neighbours::of_elements(alloc, outline)?;
+    let meeting = elements_meet(alloc, outline, &elements)?;
+    if meeting.is_some() {
+        return Ok(meeting);
+    }
+    element_inside(alloc, outline, &elements)
 }
 
 /// The first fault of a geometry in the order of tests: V1 to V8, and within one the least numbers first.
-pub(crate) fn first_fault(outline: &Outline) -> Option<ValidityFault>
-    ensures { result ≡ validity_fault outline.now }
+pub(crate) fn first_fault(
+    alloc: Global,
+    outline: &Outline,
+) -> Result<Option<ValidityFault>, AllocError>
+    ensures { IfOk result (λ fault. fault ≡ validity_fault outline.now) }
 {
-    short_line(outline)
-        .or_else(|| open_ring(outline))
-        .or_else(|| ring_not_simple(outline))
-        .or_else(|| rings_meet(outline))
-        .or_else(|| hole_outside(outline))
-        .or_else(|| holes_nested(outline))
-        .or_else(|| elements_meet(outline))
-        .or_else(|| element_inside(outline))
+    let malformed = short_line(outline).or_else(|| open_ring(outline));
+    if malformed.is_some() {
+        return Ok(malformed);
+    }
+    let crossed = ring_not_simple(alloc, outline)?;
+    if crossed.is_some() {
+        return Ok(crossed);
+    }
+    let of_rings = fault_of_rings(alloc, outline)?;
+    if of_rings.is_some() {
+        return Ok(of_rings);
+    }
+    fault_of_elements(alloc, outline)
 }

@@ -4,6 +4,8 @@
 pub mod check_fault;
 pub mod checked_texts;
 mod first_faults;
+mod near_edges;
+mod neighbours;
 mod outlines;
 mod part_tests;
 mod runs;

@@ -3,9 +3,10 @@
 ghost use Rattle.std.specs.Prelude.{◌≡◌, ◌<◌, length, map, slice_get, Some, IfOk};
 ghost use Rattle.geometry_model.specs.Geometries.{edges_of_line, edges_of_lines};
 ghost use Rattle.geometry_model.specs.Geometries as spec;
-ghost use Rattle.validity.specs.Outlines.{AreRingsOf};
+ghost use Rattle.validity.specs.Outlines.{AreRingsOf, AreLineBoxes, AreElementBoxes};
 
 use crate::runs::{Runs, bounds, part};
+use edge_boxes::EdgeBoxes;
 use geometry_model::Kind;
 use orient::Segment;
 use std::alloc::{AllocError, Global};
@@ -120,6 +121,26 @@ impl Outline {
         ensures { slice_get (map edges_of_line (spec.lines self.now)) line ≡ Some result.now }
     {
         self.runs.get(line)
+    }
+
+    /// The boxes over the edges of one of its lines or rings.
+    pub(crate) fn line_boxes(&self, alloc: Global, line: usize) -> Result<EdgeBoxes, AllocError>
+        requires { line < length (spec.lines self.now) }
+        ensures { IfOk result (λ boxes. AreLineBoxes boxes self.now line) }
+    {
+        EdgeBoxes::build(alloc, self.line_edges(line))
+    }
+
+    /// The boxes over the edges of one of its polygons.
+    pub(crate) fn element_boxes(
+        &self,
+        alloc: Global,
+        element: usize,
+    ) -> Result<EdgeBoxes, AllocError>
+        requires { element < length (spec.elements self.now) }
+        ensures { IfOk result (λ boxes. AreElementBoxes boxes self.now element) }
+    {
+        EdgeBoxes::build(alloc, self.element_edges(element))
     }
 
     /// Lends the edges of one of its polygons, in order.

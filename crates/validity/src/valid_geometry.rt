@@ -99,7 +99,7 @@ pub fn check(alloc: Global, geometry: Geometry) -> Result<Valid, CheckFault>
 {
     let outline = Outline::of(alloc, geometry)?;
     let boxes = EdgeBoxes::build(alloc, outline.segments())?;
-    match first_fault(&outline) {
+    match first_fault(alloc, &outline)? {
         Some(fault) => Err(CheckFault::of(fault)),
         None => Ok(Valid { outline, boxes }),
     }

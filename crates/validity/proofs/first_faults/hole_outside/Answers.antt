@@ -8,11 +8,11 @@ use Rattle.validity.proofs.first_faults.hole_outside.Goals as goal
 
 pub returns-then-is_some : goal.returns-then-is_some
 returns-then-is_some c = sym (c.loop-element.invariant ∙ found_in_polygon (has_fault c.args.outline.now) (λ first end. map validity.HoleOutside (numbers (first + 1) end)) c.args.outline.now c.loop-element.element c.ring_numbers-first.result.0 c.ring_numbers-first.result.1
-    c.hole_of_one_outside-fault.result c.ring_numbers-first.ensures c.hole_of_one_outside-fault.ensures (sym c.is_some.ensures ∙ c.if-is_some.true))
+    c.in_ok-fault.fault c.ring_numbers-first.ensures c.in_ok-fault.ensures (sym c.is_some.ensures ∙ c.if-is_some.true))
 
 pub loop-element-preserved : goal.loop-element-preserved
 loop-element-preserved c = c.loop-element.invariant ∙ passed_in_polygon (has_fault c.args.outline.now) (λ first end. map validity.HoleOutside (numbers (first + 1) end)) c.args.outline.now c.loop-element.element c.ring_numbers-first.result.0 c.ring_numbers-first.result.1
-    c.hole_of_one_outside-fault.result c.ring_numbers-first.ensures c.hole_of_one_outside-fault.ensures (sym c.is_some.ensures ∙ c.if-is_some.false)
+    c.in_ok-fault.fault c.ring_numbers-first.ensures c.in_ok-fault.ensures (sym c.is_some.ensures ∙ c.if-is_some.false)
 
 pub returns : goal.returns
 returns c = sym (c.loop-element.invariant ∙ none_in_polygons (has_fault c.args.outline.now) (λ first end. map validity.HoleOutside (numbers (first + 1) end)) c.args.outline.now c.loop-element.element
