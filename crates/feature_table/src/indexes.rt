@@ -104,7 +104,7 @@ fn envelope_in(row: &[Value<Geometry>], column: usize) -> Option<Envelope>
     ensures { result ≡ field_envelope (field_in column row.now) }
 {
     match items::at(row, column) {
-        Some(Value::Geometry(geometry)) => Envelope::of(geometry),
+        Some(Value::Geometry(geometry)) => geometry.envelope(),
         _ => None,
     }
 }

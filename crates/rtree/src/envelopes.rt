@@ -1,6 +1,7 @@
 //! Envelopes: the least upright rectangle round some positions.
 
-ghost use Rattle.std.specs.Prelude.{◌≡◌, ◌≤ℤ◌, ◌&&◌};
+ghost use Rattle.std.specs.Prelude.{◌≡◌, ◌≤ℤ◌, ◌&&◌, ◌++◌, List};
+ghost use Rattle.geometry_model.specs.Points.{Position};
 ghost use Rattle.std.specs.Int.{int_min, int_max};
 ghost use Rattle.geometry_model.specs.Envelopes.{Envelope as Rectangle, envelope_at, with_position, envelope_of_positions, joined, overlap, meets};
 
@@ -41,7 +42,19 @@ impl Envelope {
     pub fn of_positions(positions: &[GridPoint]) -> Option<Envelope>
         ensures { result ≡ envelope_of_positions positions.now }
     {
-        let mut all = None;
+        Envelope::with_positions(positions, None)
+    }
+
+    /// The envelope of some positions and of those that follow them, whose envelope is given. (OGC 06-103r4, 6.1.2.2:
+    /// Envelope.)
+    pub fn with_positions(
+        positions: &[GridPoint],
+        following: Option<Envelope>,
+    ) -> Option<Envelope>
+        ensures { (later : List Position) → following ≡ envelope_of_positions later
+            → result ≡ envelope_of_positions (positions.now ++ later) }
+    {
+        let mut all = following;
         let mut left = positions.len();
         while left > 0 {
             left -= 1;
@@ -143,7 +156,7 @@ fn envelope_at(a: GridPoint) -> Envelope
 }
 
 // The envelope of a position and of what follows it.
-pub(crate) fn with_position(a: GridPoint, rest: Option<Envelope>) -> Envelope
+fn with_position(a: GridPoint, rest: Option<Envelope>) -> Envelope
     ensures { result ≡ with_position a rest }
 {
     let one = envelope_at(a);

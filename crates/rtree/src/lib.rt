@@ -5,7 +5,6 @@
 #![tactic(auto)]
 
 pub mod envelopes;
-mod geometries;
 pub mod indexes;
 pub mod lists;
 mod packing;

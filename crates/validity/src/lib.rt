@@ -9,6 +9,7 @@ mod neighbours;
 mod outlines;
 mod part_tests;
 mod runs;
+mod valid_envelopes;
 pub mod valid_geometry;
 
 pub use check_fault::CheckFault;

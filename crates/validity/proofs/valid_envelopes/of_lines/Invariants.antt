@@ -1,6 +1,6 @@
 use Rattle.std.proofs.Common.{◌≡◌, ◌≤◌, drop, flat_map, length}
 use Rattle.geometry_model.specs.Envelopes.{envelope_of_positions}
-use Rattle.rtree.proofs.geometries.of_lines.Given as goal
+use Rattle.validity.proofs.valid_envelopes.of_lines.Given as goal
 
 -- the envelope of the lines from this one on
 abbrev pub invariant-loop-left : goal.invariant-loop-left

@@ -1,0 +1,31 @@
+//! The envelopes of valid geometries.
+
+ghost use Rattle.std.specs.Prelude.{◌≡◌, flat_map};
+ghost use Rattle.geometry_model.specs.Envelopes.{envelope, envelope_of_positions};
+
+use crate::valid_geometry::Valid;
+use rtree::Envelope;
+use wkt::LineString;
+
+impl Valid {
+    /// Its envelope, absent exactly where it is empty. It takes no memory. (06-103r4, 6.1.2.2: Envelope.)
+    pub fn envelope(&self) -> Option<Envelope>
+        ensures { result ≡ envelope self.now }
+    {
+        let geometry = self.geometry();
+        Envelope::with_positions(geometry.listed(), of_lines(geometry.lines()))
+    }
+}
+
+/// The envelope of the positions of some lines.
+fn of_lines(lines: &[LineString]) -> Option<Envelope>
+    ensures { result ≡ envelope_of_positions (flat_map (λ line. line) lines.now) }
+{
+    let mut all = None;
+    let mut left = lines.len();
+    while left > 0 {
+        left -= 1;
+        all = Envelope::with_positions(lines[left].positions(), all);
+    }
+    all
+}
