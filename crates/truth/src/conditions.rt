@@ -36,13 +36,14 @@ pub fn value(
     ensures kept { work.old ≤ work.new }
     ensures no_memory { computed denoted rows.now cond.now ≡ 0 → has_as_text cond.now ≡ false → IsOk result }
 {
+    // What a count shows has 64 bits, and so the clauses speak of the work itself.
     let before = work.count();
     let truth = evaluated(alloc, cond, rows, work);
     prove!(before <= work.count());
     truth
 }
 
-/// The truth of a condition at rows; the counts stand as far as they fit in 64 bits.
+/// The truth of a condition at rows. Its clauses take the work as it is kept in 64 bits; `value` sees that it always is.
 #[cycle(value)]
 fn evaluated(
     alloc: Global,
@@ -66,12 +67,13 @@ fn evaluated(
         Cond::IsEmpty(argument) => Ok(emptiness(argument, rows)),
         Cond::Relates(predicate, a, b) => {
             let first = geometry_at(rows, a);
-            relation(alloc, *predicate, first, geometry_at(rows, b), work)
+            let second = geometry_at(rows, b);
+            relation(alloc, *predicate, first, second, work)
         }
     }
 }
 
-/// The truth of joined parts at rows, each of them evaluated.
+/// The truth of joined parts at rows. Each of them is evaluated, from left to right.
 #[cycle(value)]
 fn joined_parts(
     alloc: Global,

@@ -30,8 +30,8 @@ evaluated-returns-in-Relates-clause-truth t c =
     same_truth _ _ _ (c.relation.ensures.truth matrix gives)
     (ap (truth matrix denoted c.args.rows.now) c.in-Relates.is
     ∙ fold-Relates _ _ (truth_by_parts matrix denoted c.args.rows.now) p c.in-Relates.a c.in-Relates.b
-    ∙ sym (ap (λ g. related matrix p g (option_copied c.geometry_at.result)) c.geometry_at-first.ensures
-    ∙ ap (related matrix p (denoted c.args.rows.now c.in-Relates.a)) c.geometry_at.ensures))
+    ∙ sym (ap (λ g. related matrix p g (option_copied c.geometry_at-second.result)) c.geometry_at-first.ensures
+    ∙ ap (related matrix p (denoted c.args.rows.now c.in-Relates.a)) c.geometry_at-second.ensures))
 
 pub joined_parts-returns-in_err-evaluated-clause-no_memory : goal.joined_parts-returns-in_err-evaluated-clause-no_memory
 joined_parts-returns-in_err-evaluated-clause-no_memory t c =
@@ -45,13 +45,15 @@ joined_parts-returns-in_err-evaluated-clause-no_memory t c =
     cc
 
 pub joined_parts-loop-part-preserved : goal.joined_parts-loop-part-preserved
-joined_parts-loop-part-preserved t c = (
-  (λ matrix gives.
+joined_parts-loop-part-preserved t c = record {
+  truth =
+      λ matrix gives.
       joined_more (joined_by c.args.junction) (truth matrix denoted c.args.rows.now) _ _ _ c.args.parts.now c.loop-part.part-index c.part-item.result
       c.loop-part-test.true (c.in_ok-evaluated.ensures.truth matrix gives ∙ ap (truth matrix denoted c.args.rows.now) c.part-item.is) c.joined-truth.ensures
-      ∙ c.loop-part.invariant.0 matrix gives),
-  counted_more (computed denoted c.args.rows.now) _ _ c.args.parts.now c.loop-part.part-index c.part-item.result c.loop-part-test.true
+      ∙ c.loop-part.invariant.truth matrix gives;
+  counted =
+      counted_more (computed denoted c.args.rows.now) _ _ c.args.parts.now c.loop-part.part-index c.part-item.result c.loop-part-test.true
       (c.in_ok-evaluated.ensures.counted ∙ ap (λ part. kept_count (c.loop-part.work + computed denoted c.args.rows.now part)) c.part-item.is)
-      ∙ c.loop-part.invariant.1,
-  omega (arith, c.in_ok-evaluated.ensures.kept),
-)
+      ∙ c.loop-part.invariant.counted;
+  kept = omega (arith, c.in_ok-evaluated.ensures.kept);
+}
