@@ -2,7 +2,12 @@
 //! Features, part 2).
 #![tactic(auto)]
 
+mod arguments;
+mod comparisons;
 mod conditions;
+mod logic;
+mod relations;
+mod sides;
 
 pub use conditions::value;
 pub use table_model::values::Truth;

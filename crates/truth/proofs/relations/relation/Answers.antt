@@ -1,0 +1,4 @@
+use Rattle.truth.proofs.relations.relation.Goals as goal
+
+pub returns-in-Some-Some-clause-truth : goal.returns-in-Some-Some-clause-truth
+returns-in-Some-Some-clause-truth c = λ matrix gives. rw (c.in-Some-Some.is-0, c.in-Some-Some.is-1) (c.related.ensures.truth matrix gives)
