@@ -5,9 +5,9 @@ use Rattle.csv.specs.Records.{fields_of}
 use Rattle.table_model.specs.AnswerTexts.{record_of}
 use Rattle.table_model.specs.Meanings.{referenced}
 use Rattle.table_model.specs.Places.{AreThere, rows_at}
-use Rattle.engine.specs.Pairs.{IsPlace}
+use Rattle.executor.specs.Pairs.{IsPlace}
 use Rattle.engine.specs.Serving.{serving}
-use Rattle.engine.proofs.ScanLemmas.{first-there, one-row, second-there, two-rows}
+use Rattle.engine.proofs.PairLemmas.{first-there, one-row, second-there, two-rows}
 use Rattle.engine.proofs.runs.pair_record.Goals as goal
 
 pub row-requires : goal.row-requires
