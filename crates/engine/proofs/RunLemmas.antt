@@ -1,6 +1,6 @@
 -- What the exits of a run say.
 use Rattle.std.proofs.Common.{◌≡◌, ◌≢◌, ◌<◌, inl, inr, ℕ, Bool, true, false, List, ◌∷◌, [], ◌++◌, codes, length, map, Option, None, Some, Result, Ok, Err, OnOk, OnErr, IfErr, refl, sym, ◌∙◌, ap, subst, append-nil}
-use Rattle.std.specs.Prelude.{IfOk, IsErrAnd, IsOk, zero, suc, decimal}
+use Rattle.std.specs.Prelude.{IsErrAnd, IsOk, zero, suc, decimal}
 use Rattle.std.specs.List.{concat}
 use Rattle.std.specs.Option.{option_map_or}
 use Rattle.std.specs.Io.KnownBytes.{Appends, Keeps}
@@ -314,6 +314,6 @@ loaded-counts r matrix database definitions records text written is loaded same 
     subst (Counts r) (tables ∙ sym (ap (λ q. after OfQuery q (loaded_work serving matrix definitions records)) is)) fact
 
 -- where a run ends in a fault nothing is said of its work
-pub no-count : {P : ℕ → Type 0} (r : Result ℕ Fault) (f : Fault) → IsErrAnd r (λ x. x ≡ f) → IfOk r P
-no-count (Ok n) f is = absurd is
-no-count (Err e) f is = tt
+pub no-count : (r : Result ℕ Fault) (f : Fault) (work : Result ℕ Refusal) → IsErrAnd r (λ x. x ≡ f) → Counts r work
+no-count (Ok n) f work is = absurd is
+no-count (Err e) f work is = tt

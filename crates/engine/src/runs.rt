@@ -8,7 +8,7 @@ ghost use Rattle.engine.specs.Runs.{AnswersQuery, CountsOver, CountsQuery, IsOfT
 ghost use Rattle.engine.specs.Serving.{record_text, serving};
 ghost use Rattle.executor.specs.Pairs.{HasReferences, IsPlace, pair_rows};
 ghost use Rattle.feature_table.specs.Tables.{EachRecordsOf, records_in};
-ghost use Rattle.records.specs.RecordWriters.{IsReady};
+ghost use Rattle.records.specs.RecordWriters.{CountsPut, IsReady};
 ghost use Rattle.table_model.specs.AnswerTexts.{record_of};
 ghost use Rattle.table_model.specs.BoundQueries.{IsBound, geometry_fits};
 ghost use Rattle.table_model.specs.ExplainTexts.{analyze_text, explain_text};
@@ -97,6 +97,7 @@ fn put_planned<I: EnvelopeIndex + Drop, S: Sink>(
     ensures text { ByEveryMatrix (λ matrix. PutsText result
         (planned_text query.now.explain serving matrix database.now query.now plan.now)
         (S.taken sink.old) (S.taken sink.new) (S.failures sink.old) (S.failures sink.new)) }
+    ensures failures { CountsPut (S.failures sink.old) (S.failures sink.new) result }
     ensures work { ByEveryMatrix (λ matrix. IfOk result (λ n. n
         ≡ planned_work query.now.explain serving matrix database.now.tables query.now plan.now)) }
 {
@@ -120,6 +121,7 @@ fn put_rows<I: EnvelopeIndex + Drop, S: Sink>(
     ensures text { ByEveryMatrix (λ matrix. PutsText result
         (bound_text serving matrix database.now query.now)
         (S.taken sink.old) (S.taken sink.new) (S.failures sink.old) (S.failures sink.new)) }
+    ensures failures { CountsPut (S.failures sink.old) (S.failures sink.new) result }
     ensures work { ByEveryMatrix (λ matrix. IfOk result (λ n. n
         ≡ kept_count (spec.work matrix serving.denotes database.now.tables query.now plan.now))) }
 {
@@ -152,6 +154,7 @@ fn put_analysis<I: EnvelopeIndex + Drop, S: Sink>(
     ensures text { ByEveryMatrix (λ matrix. PutsText result (analyze_text query.now plan.now
         (kept_count (spec.work matrix serving.denotes database.now.tables query.now plan.now)))
         (S.taken sink.old) (S.taken sink.new) (S.failures sink.old) (S.failures sink.new)) }
+    ensures failures { CountsPut (S.failures sink.old) (S.failures sink.new) result }
     ensures work { ByEveryMatrix (λ matrix. IfOk result (λ n. n
         ≡ kept_count (spec.work matrix serving.denotes database.now.tables query.now plan.now))) }
 {

@@ -4,4 +4,6 @@
 #[cfg(test)]
 mod order_tests;
 #[cfg(test)]
+mod spatial_tests;
+#[cfg(test)]
 mod tests;

@@ -13,7 +13,7 @@ returns-in_err-bound-clause-answer g c = λ matrix gives.
     c.from_residual.ensures.1 c.in_err-bound.ensures.answer
 
 pub returns-in_err-bound-clause-work : goal.returns-in_err-bound-clause-work
-returns-in_err-bound-clause-work g c = λ matrix gives. no-count c.from_residual.result _ c.from_residual.ensures.1
+returns-in_err-bound-clause-work g c = λ matrix gives. no-count c.from_residual.result _ _ c.from_residual.ensures.1
 
 pub returns-in_err-bound-clause-table : goal.returns-in_err-bound-clause-table
 returns-in_err-bound-clause-table g c = λ count. of-tables count c.from_residual.result _ c.from_residual.ensures.1 (query-of-tables count c.in_err-bound.field-0.0)
@@ -24,7 +24,7 @@ returns-in_err-plan-clause-answer g c = λ matrix gives.
     (memory-none ℕ _ none_reached _)
 
 pub returns-in_err-plan-clause-work : goal.returns-in_err-plan-clause-work
-returns-in_err-plan-clause-work g c = λ matrix gives. no-count c.from_residual-in_err-plan.result _ c.from_residual-in_err-plan.ensures.1
+returns-in_err-plan-clause-work g c = λ matrix gives. no-count c.from_residual-in_err-plan.result _ _ c.from_residual-in_err-plan.ensures.1
 
 pub returns-in_err-plan-clause-table : goal.returns-in_err-plan-clause-table
 returns-in_err-plan-clause-table g c = λ count. of-tables count c.from_residual-in_err-plan.result faults.Memory c.from_residual-in_err-plan.ensures.1 tt
@@ -39,7 +39,7 @@ returns-in_err-work-clause-answer g c = λ matrix gives.
     (c.in_err-work.ensures.text matrix gives).front)
 
 pub returns-in_err-work-clause-work : goal.returns-in_err-work-clause-work
-returns-in_err-work-clause-work g c = λ matrix gives. no-count c.from_residual-in_err-work.result _ c.from_residual-in_err-work.ensures.1
+returns-in_err-work-clause-work g c = λ matrix gives. no-count c.from_residual-in_err-work.result _ _ c.from_residual-in_err-work.ensures.1
 
 pub returns-in_err-work-clause-table : goal.returns-in_err-work-clause-table
 returns-in_err-work-clause-table g c = λ count.
