@@ -1,5 +1,5 @@
 pub mod TextLemmas
-pub mod ScanLemmas
+pub mod PairLemmas
 pub mod ReaderLemmas
 pub mod RunLemmas
 pub mod PutLemmas

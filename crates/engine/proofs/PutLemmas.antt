@@ -19,6 +19,11 @@ put-none {A = A} (Err e) text old before is = record {
   failures = subst (λ f. CountsPut {A = A} before before (Err f)) (sym is) refl;
 }
 
+-- what a failure counts is the same, whatever would have been answered
+pub counts-as : (A B : Type 0) (e : PutFault) (before after : ℕ) → CountsPut {A = A} before after (Err e) → CountsPut {A = B} before after (Err e)
+counts-as A B put.Sink before after is = is
+counts-as A B put.Memory before after is = is
+
 -- a beginning was put where the sink failed or memory ran out
 pub put-begun : {A : Type 0} (r : Result A PutFault) (e : PutFault) (text : List ℕ) (old new : Option (List ℕ)) (before after : ℕ) → IsErrAnd r (λ f. f ≡ e)
     → AppendsFront old new text → CountsPut {A = A} before after (Err e) → PutsText r text old new before after

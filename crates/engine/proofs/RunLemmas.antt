@@ -1,41 +1,50 @@
 -- What the exits of a run say.
 use Rattle.std.proofs.Common.{◌≡◌, ◌≢◌, ◌<◌, inl, inr, ℕ, Bool, true, false, List, ◌∷◌, [], ◌++◌, codes, length, map, Option, None, Some, Result, Ok, Err, OnOk, OnErr, IfErr, refl, sym, ◌∙◌, ap, subst, append-nil}
 use Rattle.std.specs.Prelude.{IsErrAnd, IsOk, zero, suc, decimal}
-use Rattle.std.specs.List.{concat, filter}
+use Rattle.std.specs.List.{concat}
+use Rattle.std.specs.Option.{option_map_or}
 use Rattle.std.specs.Io.KnownBytes.{Appends, Keeps}
 use Rattle.std.proofs.lemmas.List.{length-map}
 use Rattle.std.proofs.lemmas.Simd.{map-map}
-use Rattle.binding_laws.proofs.Filtering.{bound_of_statement, conjuncts_are_filtered}
+use Rattle.binding_laws.proofs.Filtering.{bound_of_statement, meaning_by_conjuncts}
+use Rattle.executor.specs.Pairs.{choice_of, choices_of, pair_rows}
+use Rattle.executor.specs.declared.execution.RowPair.{RowPair}
+use Rattle.geometry_model.specs.Geometries.{Geometry}
 use Rattle.sinks.specs.Sinks.{AppendsFront}
-use Rattle.table_model.proofs.PlaceFacts.{map_up_to, selected_gives_passing}
+use Rattle.table_model.proofs.PlaceFacts.{meant_gives_limited}
 use Rattle.table_model.specs.AnswerTexts.{answer, count_records, header, record_of}
-use Rattle.table_model.specs.Binding.{Checked, ◌>>=◌, binding, bound_condition, bound_items, bound_references, bound_whole, statement}
+use Rattle.table_model.specs.Binding.{Checked, ◌>>=◌, binding, statement}
 use Rattle.table_model.specs.Databases.{Database, load_tables}
+use Rattle.table_model.specs.GeometryColumns.{ColumnShape}
 use Rattle.table_model.specs.Loading.{Record}
-use Rattle.table_model.specs.Meanings.{Row, Table, all_true, filtered, is_true, passing_rows, product, referenced, search_condition, up_to}
-use Rattle.table_model.specs.Places.{limited, query_rows, selected}
+use Rattle.table_model.specs.Meanings.{Table, meaning, passing_rows, referenced}
+use Rattle.table_model.specs.Places.{limited, meant, query_rows}
+use Rattle.table_model.specs.Plans.{chosen}
 use Rattle.table_model.specs.QueryReading.{query_of}
-use Rattle.table_model.specs.RunOutcomes.{MatrixOf, Refusal, OfQuery, OfTable, after, answer_text, loaded_outcome, outcome, query_outcome, records_text}
+use Rattle.table_model.specs.ExplainTexts.{explain_text}
+use Rattle.table_model.specs.RunOutcomes.{MatrixOf, Refusal, OfQuery, OfTable, after, answer_text, counted_text, loaded_outcome, outcome, query_outcome, records_text, text_for}
 use Rattle.table_model.specs.Statements.{Statement, by_conjuncts}
-use Rattle.table_model.specs.Truths.{Rows, truth}
+use Rattle.table_model.specs.Truths.{truth}
 use Rattle.table_model.specs.declared.conditions.Bound.{Bound}
+use Rattle.table_model.specs.declared.conditions.ColumnPlace.{ColumnPlace}
+use Rattle.table_model.specs.declared.conditions.GeometryArgument.{GeometryArgument}
 use Rattle.table_model.specs.declared.definitions.TableDef.{TableDef}
 use Rattle.table_model.specs.declared.faults.LoadFault.{LoadFault}
 use Rattle.table_model.specs.declared.faults.LoadFault.TheVariants as load
 use Rattle.table_model.specs.declared.faults.QueryFault.{QueryFault}
 use Rattle.table_model.specs.declared.faults.QueryFault.TheVariants as query
 use Rattle.table_model.specs.declared.faults.TableFault.{TableFault}
+use Rattle.table_model.specs.declared.plans.Plan.{Plan}
 use Rattle.table_model.specs.declared.queries.Explain.{Explain}
 use Rattle.table_model.specs.declared.queries.Explain.TheVariants as explains
 use Rattle.table_model.specs.declared.queries.Query.{Query}
-use Rattle.table_model.specs.declared.values.NoGeometry.{NoGeometry}
+use Rattle.table_model.specs.declared.queries.WrittenColumn.{WrittenColumn}
+use Rattle.table_model.specs.declared.queries.WrittenGeometry.{WrittenGeometry}
 use Rattle.feature_table.specs.Outcomes.{IsFailure, is_of_reading}
 use Rattle.feature_table.specs.Tables.{EarlierLoad}
 use Rattle.engine.specs.Faults.{load_wants_memory, memory_or, of_put, of_query, of_table, wants_memory}
-use Rattle.engine.specs.Pairs.{choice_of, choices_of, pair_rows}
-use Rattle.engine.specs.Runs.{IsOfTables, IsReached, RefusesTable, Runs, bound_text, count_text, none_reached, pair_text, rows_of_pairs, rows_text}
+use Rattle.engine.specs.Runs.{Counts, IsOfTables, IsReached, RefusesTable, Runs, answer_work, bound_text, count_text, loaded_work, none_reached, pair_text, planned_text, planned_work, query_work, rows_of_pairs, rows_text, work_outcome}
 use Rattle.engine.specs.Serving.{record_text, serving}
-use Rattle.engine.specs.declared.execute.RowPair.{RowPair}
 use Rattle.engine.specs.declared.run_fault.Fault.{Fault}
 use Rattle.engine.specs.declared.run_fault.Fault.TheVariants as faults
 use Rattle.records.specs.declared.put_fault.PutFault.{PutFault}
@@ -44,19 +53,19 @@ use Rattle.records.specs.declared.put_fault.PutFault.TheVariants as put
 -- ---- what is served
 
 abbrev pub Definitions : Type 0
-Definitions = List (TableDef NoGeometry)
+Definitions = List (TableDef ColumnShape)
 
 abbrev pub Served : Type 0
-Served = Database NoGeometry NoGeometry
+Served = Database ColumnShape Geometry
 
 abbrev pub Written : Type 0
-Written = Query NoGeometry NoGeometry
+Written = Query WrittenGeometry WrittenColumn
 
 abbrev pub Stated : Type 0
-Stated = Statement NoGeometry NoGeometry
+Stated = Statement (GeometryArgument Geometry) ColumnPlace
 
 abbrev pub Joined : Type 0
-Joined = Bound NoGeometry NoGeometry
+Joined = Bound (GeometryArgument Geometry) ColumnPlace
 
 -- ---- faults
 
@@ -119,24 +128,17 @@ load-of-tables count f within = go (load_wants_memory f.fault)
 
 -- ---- texts
 
--- the header and the records of the pairs that are wanted are the records of the answer
-records-text : (database : Served) (bound : Joined) (pairs : List RowPair) (counts : Bool) → bound.counts ≡ counts → counts ≡ false
-    → record_text (header serving.writing database.definitions bound) ++ concat (map (pair_text serving database bound) (up_to bound.limit pairs))
+-- the header and the records of the pairs are the records of the answer
+pub listed-text : (database : Served) (bound : Joined) (pairs : List RowPair) → bound.counts ≡ false
+    → record_text (header serving.writing database.definitions bound) ++ concat (map (pair_text serving database bound) pairs)
     ≡ rows_text serving database bound (rows_of_pairs database bound pairs)
-records-text database bound pairs true is no_count = cc no_count
-records-text database bound pairs false is no_count =
+listed-text database bound pairs is =
     let rows = pair_rows (referenced database.tables bound.references) in
     let listed = record_of serving.writing bound in
-    let these : map (pair_text serving database bound) (up_to bound.limit pairs) ≡ map record_text (map listed (up_to bound.limit (map rows pairs))) =
-    sym (map-map (λ r. record_text (listed r)) rows (up_to bound.limit pairs))
-    ∙ ap (map (λ r. record_text (listed r))) (map_up_to rows bound.limit pairs)
-    ∙ sym (map-map record_text listed (up_to bound.limit (map rows pairs))) in
+    let these : map (pair_text serving database bound) pairs ≡ map record_text (map listed (map rows pairs)) =
+    sym (map-map (λ r. record_text (listed r)) rows pairs)
+    ∙ sym (map-map record_text listed (map rows pairs)) in
     ap (λ l. record_text (header serving.writing database.definitions bound) ++ concat l) these ∙ rw is refl
-
-pub listed-text : (database : Served) (bound : Joined) (pairs : List RowPair) → bound.counts ≡ false
-    → record_text (header serving.writing database.definitions bound) ++ concat (map (pair_text serving database bound) (up_to bound.limit pairs))
-    ≡ rows_text serving database bound (rows_of_pairs database bound pairs)
-listed-text database bound pairs is = records-text database bound pairs false is refl
 
 -- the header of COUNT(*) and the record of the number are the records of the answer
 pub counted-text : (database : Served) (bound : Joined) (pairs : List RowPair) → bound.counts ≡ true
@@ -150,64 +152,58 @@ number-text None count other = ap (λ l. record_text (codes "COUNT(*)" ∷ []) +
 number-text (Some zero) count other = absurd (other refl)
 number-text (Some (suc n)) count other = ap (λ l. record_text (codes "COUNT(*)" ∷ []) ++ l) (sym (append-nil (record_text (decimal count ∷ []))))
 
--- the rows at the places that a query selects are those that its conjuncts pass
-pub passing-text : (matrix : MatrixOf) (database : Served) (bound : Joined) (pairs : List RowPair)
-    → choices_of pairs ≡ selected (truth matrix serving.denotes) database.tables bound
+-- the rows at the places that a query means are those that its conjuncts pass, under LIMIT
+pub meant-text : (matrix : MatrixOf) (database : Served) (bound : Joined) (pairs : List RowPair)
+    → choices_of pairs ≡ meant (truth matrix serving.denotes) database.tables bound
     → rows_text serving database bound (rows_of_pairs database bound pairs) ≡ bound_text serving matrix database bound
-passing-text matrix database bound pairs are =
+meant-text matrix database bound pairs are =
     ap (rows_text serving database bound)
     (sym (map-map (query_rows database.tables bound) choice_of pairs)
     ∙ ap (map (query_rows database.tables bound)) are
-    ∙ selected_gives_passing (truth matrix serving.denotes) database.tables bound)
+    ∙ meant_gives_limited (truth matrix serving.denotes) database.tables bound)
 
 -- ---- queries
 
--- what ON and WHERE filter is what the conjuncts pass
-filtered-passing : (matrix : MatrixOf) (tables : List (Table NoGeometry)) (stated : Stated)
-    → filtered (truth matrix serving.denotes) tables stated ≡ passing_rows (truth matrix serving.denotes) tables (by_conjuncts stated)
-filtered-passing matrix tables stated =
-    let tests : (λ (rows : Rows NoGeometry). is_true (truth matrix serving.denotes rows (search_condition stated))) ≡ all_true (truth matrix serving.denotes) (by_conjuncts stated).conjuncts =
-    λ i rows. sym (conjuncts_are_filtered NoGeometry NoGeometry NoGeometry matrix serving.denotes rows stated) i in
-    ap (λ test. filter test (product (referenced tables stated.references))) tests
+-- the answer of a query of which this is the chosen plan
+chosen-text : (matrix : MatrixOf) (database : Served) (stated : Stated) (plan : Plan) (explain : Explain) → chosen database.tables (by_conjuncts stated) ≡ Some plan
+    → text_for explain record_text serving matrix database stated ≡ planned_text explain serving matrix database (by_conjuncts stated) plan
+chosen-text matrix database stated plan explains.No is =
+    ap (rows_text serving database (by_conjuncts stated)) (meaning_by_conjuncts Geometry (GeometryArgument Geometry) ColumnPlace matrix serving.denotes database.tables stated)
+chosen-text matrix database stated plan explains.Plan is = ap (λ p. option_map_or (explain_text (by_conjuncts stated)) p []) is
+chosen-text matrix database stated plan explains.Analyze is = ap (λ p. option_map_or (counted_text serving matrix database.tables stated) p []) is
 
--- the answer of a query that asks for rows
-asked-text : (matrix : MatrixOf) (database : Served) (stated : Stated) (explain : Explain) → stated.explain ≡ explain → explain ≡ explains.No
-    → answer_text record_text serving matrix database stated ≡ bound_text serving matrix database (by_conjuncts stated)
-asked-text matrix database stated explain is asks =
-    ap (λ e. answer_text record_text serving matrix database (record { explain = e; references = stated.references; items = stated.items; on = stated.on; condition = stated.condition; counts = stated.counts; limit = stated.limit })) (is ∙ asks)
-    ∙ ap (rows_text serving database (by_conjuncts stated)) (filtered-passing matrix database.tables stated)
+-- what a query is bound to is the query as it stands, by its conjuncts
+stated-after : {X : Type 0} (s : Checked Stated) (bound : Joined) (of : Stated → X) (planned : Joined → X) → (s >>= (λ stated. Ok (by_conjuncts stated))) ≡ Ok bound
+    → ((stated : Stated) → by_conjuncts stated ≡ bound → of stated ≡ planned bound) → after OfQuery s (λ q. Ok (of q)) ≡ Ok (planned bound)
+stated-after (Ok stated) bound of planned is same =
+    let these : by_conjuncts stated ≡ bound = cc is in
+    ap Ok (same stated these)
+stated-after (Err e) bound of planned is same = cc is
 
-stated-text : (matrix : MatrixOf) (database : Served) (bound : Joined) (s : Checked Stated) → (s >>= (λ stated. Ok (by_conjuncts stated))) ≡ Ok bound → bound.explain ≡ explains.No
-    → after OfQuery s (λ q. Ok (answer_text record_text serving matrix database q)) ≡ Ok (bound_text serving matrix database bound)
-stated-text matrix database bound (Ok stated) is asks =
-    let same : by_conjuncts stated ≡ bound = cc is in
-    ap Ok (asked-text matrix database stated stated.explain refl (ap (λ b. b.explain) same ∙ asks) ∙ ap (bound_text serving matrix database) same)
-stated-text matrix database bound (Err e) is asks = cc is
+bound-stated : (written : Written) (definitions : Definitions) (bound : Joined) → binding serving.binding definitions written ≡ Ok bound
+    → (statement serving.binding definitions written >>= (λ stated. Ok (by_conjuncts stated))) ≡ Ok bound
+bound-stated written definitions bound is =
+    sym (bound_of_statement ColumnShape WrittenGeometry (GeometryArgument Geometry) WrittenColumn ColumnPlace serving.binding definitions written) ∙ is
 
--- the outcome of a query that is bound and asks for rows
-pub bound-outcome : (matrix : MatrixOf) (written : Written) (database : Served) (bound : Joined) → binding serving.binding database.definitions written ≡ Ok bound → bound.explain ≡ explains.No
-    → query_outcome record_text serving matrix written database ≡ Ok (bound_text serving matrix database bound)
-bound-outcome matrix written database bound is asks =
-    stated-text matrix database bound (statement serving.binding database.definitions written)
-    (sym (bound_of_statement NoGeometry NoGeometry NoGeometry NoGeometry NoGeometry serving.binding database.definitions written) ∙ is) asks
+-- the outcome of a query that is bound, of which this is the chosen plan
+pub bound-outcome : (matrix : MatrixOf) (written : Written) (database : Served) (bound : Joined) (plan : Plan) → binding serving.binding database.definitions written ≡ Ok bound
+    → chosen database.tables bound ≡ Some plan → query_outcome record_text serving matrix written database ≡ Ok (planned_text bound.explain serving matrix database bound plan)
+bound-outcome matrix written database bound plan is first =
+    stated-after (statement serving.binding database.definitions written) bound (λ q. answer_text record_text serving matrix database q)
+    (λ b. planned_text b.explain serving matrix database b plan) (bound-stated written database.definitions bound is)
+    (λ stated same.
+    chosen-text matrix database stated plan stated.explain (ap (chosen database.tables) same ∙ first)
+    ∙ ap (λ b. planned_text b.explain serving matrix database b plan) same)
 
--- a step of binding keeps what its rest keeps
-kept-by : {X : Type 0} (r : Checked X) (rest : X → Checked Joined) (bound : Joined) (explain : Explain) → ((x : X) → rest x ≡ Ok bound → bound.explain ≡ explain)
-    → (r >>= rest) ≡ Ok bound → bound.explain ≡ explain
-kept-by (Ok x) rest bound explain keeps is = keeps x is
-kept-by (Err e) rest bound explain keeps is = cc is
-
-ok-same : (r : Checked Joined) (one other : Joined) → r ≡ Ok one → r ≡ Ok other → one ≡ other
-ok-same r one other is also = cc
-
--- a bound query asks for what was written
-pub binding-asks : (definitions : Definitions) (written : Written) (bound : Joined) → binding serving.binding definitions written ≡ Ok bound → bound.explain ≡ written.explain
-binding-asks definitions written bound is =
-    kept-by (bound_references definitions written.first written.second) _ bound written.explain
-    (λ references. kept-by (bound_items serving.binding definitions references written.selection) _ bound written.explain
-    (λ listed. kept-by (bound_condition serving.binding definitions references written.on) _ bound written.explain
-    (λ joining. kept-by (bound_condition serving.binding definitions references written.condition) _ bound written.explain
-    (λ filtering last. sym (ap (λ b. b.explain) (ok-same _ _ bound refl last)))))) is
+-- and its work
+pub bound-work : (matrix : MatrixOf) (written : Written) (database : Served) (bound : Joined) (plan : Plan) → binding serving.binding database.definitions written ≡ Ok bound
+    → chosen database.tables bound ≡ Some plan → query_work serving matrix written database ≡ Ok (planned_work bound.explain serving matrix database.tables bound plan)
+bound-work matrix written database bound plan is first =
+    stated-after (statement serving.binding database.definitions written) bound (λ q. answer_work serving matrix database.tables q)
+    (λ b. planned_work b.explain serving matrix database.tables b plan) (bound-stated written database.definitions bound is)
+    (λ stated same.
+    ap (λ p. option_map_or (planned_work stated.explain serving matrix database.tables (by_conjuncts stated)) p 0) (ap (chosen database.tables) same ∙ first)
+    ∙ ap (λ b. planned_work b.explain serving matrix database.tables b plan) same)
 
 same-error : {X : Type 0} (r : Checked X) (one other : QueryFault) → r ≡ Err one → r ≡ Err other → one ≡ other
 same-error r one other is also = cc
@@ -223,7 +219,7 @@ unbound-runs {A = A} r e matrix written database old is given =
     at-fault r (of_query e) (query_outcome record_text serving matrix written database) none_reached old old is
     (query-refused A e (statement serving.binding database.definitions written) (λ q. Ok (answer_text record_text serving matrix database q)) none_reached old
     (λ other. stated-fault (binding serving.binding database.definitions written) (statement serving.binding database.definitions written) e
-    (bound_of_statement NoGeometry NoGeometry NoGeometry NoGeometry NoGeometry serving.binding database.definitions written) (given other)))
+    (bound_of_statement ColumnShape WrittenGeometry (GeometryArgument Geometry) WrittenColumn ColumnPlace serving.binding database.definitions written) (given other)))
 
 -- ---- tables
 
@@ -304,3 +300,20 @@ loaded-runs r matrix database definitions records text written old new is loaded
     reaches-more r (outcome record_text serving matrix definitions records text) (IsReached serving definitions records text) old new
     (subst (λ o. Runs r o none_reached old new)
     (loaded-is matrix database definitions records written loaded same ∙ sym (read-outcome matrix definitions records text written is)) fact)
+
+-- ---- work
+
+-- the work of a run over tables that have loaded is that of the query over them
+pub loaded-counts : (r : Result ℕ Fault) (matrix : MatrixOf) (database : Served) (definitions : Definitions) (records : List (List Record)) (text : List ℕ) (written : Written)
+    → query_of serving.language text ≡ Ok written → load_tables serving.reading definitions records ≡ Ok database.tables → database.definitions ≡ definitions
+    → Counts r (query_work serving matrix written database) → Counts r (work_outcome serving matrix definitions records text)
+loaded-counts r matrix database definitions records text written is loaded same fact =
+    let tables : query_work serving matrix written database ≡ loaded_work serving matrix definitions records written =
+    ap (λ ds. query_work serving matrix written (record { definitions = ds; tables = database.tables })) same
+    ∙ sym (ap (λ t. after OfTable t (λ tables. query_work serving matrix written (record { definitions = definitions; tables = tables }))) loaded) in
+    subst (Counts r) (tables ∙ sym (ap (λ q. after OfQuery q (loaded_work serving matrix definitions records)) is)) fact
+
+-- where a run ends in a fault nothing is said of its work
+pub no-count : (r : Result ℕ Fault) (f : Fault) (work : Result ℕ Refusal) → IsErrAnd r (λ x. x ≡ f) → Counts r work
+no-count (Ok n) f work is = absurd is
+no-count (Err e) f work is = tt

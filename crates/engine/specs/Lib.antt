@@ -1,6 +1,6 @@
 pub mod Failures
 pub mod Serving
-pub mod Pairs
+pub mod AnswerFields
 pub mod Puts
 pub mod Runs
 pub mod Faults

@@ -1,19 +1,23 @@
 //! The records of an answer, made in memory.
 
-ghost use Rattle.std.specs.Prelude.{◌≡◌, ◌∷◌, ◌++◌, [], ◌<◌, IfOk, OnOk};
+ghost use Rattle.std.specs.Prelude.{◌≡◌, ◌∷◌, ◌++◌, [], ◌<◌, IfOk, OnOk, codes};
+ghost use Rattle.std.specs.Fmt.{signed_decimal};
 ghost use Rattle.csv.specs.Records.{fields_of, partial_of};
-ghost use Rattle.table_model.specs.AnswerTexts.{column_name, column_header, field_text, header, item_header, item_text, record_of, reference_header};
-ghost use Rattle.table_model.specs.Truths.{field_at};
+ghost use Rattle.geometry_model.specs.CanonicalText.{canonical_text};
+ghost use Rattle.table_model.specs.AnswerTexts.{column_name, column_header, field_text, function_text, header, item_header, item_text, record_of, reference_header};
+ghost use Rattle.table_model.specs.Truths.{dimension, field_at};
 ghost use Rattle.feature_table.specs.Cells.{shown};
+ghost use Rattle.engine.specs.AnswerFields.{dimension_text, emptiness_text};
 ghost use Rattle.engine.specs.Serving.{serving};
 
 use csv::ByteRecord;
-use feature_table::{Field, Row, TableDef};
+use feature_table::{Field, Geometry, Row, TableDef};
+use geometry_model::Kind;
 use itoa::Buffer;
 use spatial_sql::Bound;
 use std::alloc::{AllocError, Global};
 use table_model::conditions::{ColumnPlace, Item, Reference};
-use table_model::values::NoGeometry;
+use wkt::{MemorySink, print};
 
 /// The header record of a query's answer. It fails only for want of memory.
 pub fn header_record(
@@ -34,6 +38,7 @@ pub fn header_record(
 /// Makes a record that of some rows, one for each reference of the query; what stood in it is gone. It fails only for want
 /// of memory.
 pub fn row_record(
+    alloc: Global,
     fields: &mut ByteRecord,
     query: &Bound,
     rows: &[Row<'_>],
@@ -42,7 +47,7 @@ pub fn row_record(
 {
     fields.clear();
     for item in query.items.as_slice() {
-        push_item(fields, item, rows)?;
+        push_item(alloc, fields, item, rows)?;
     }
     Ok(())
 }
@@ -52,15 +57,41 @@ fn item_header(
     alloc: Global,
     definitions: &[TableDef],
     references: &[Reference],
-    item: &Item<NoGeometry>,
+    item: &Item<ColumnPlace>,
 ) -> Result<Vec<u8>, AllocError>
     ensures { IfOk result
         (λ text. text.items ≡ item_header serving.writing definitions.now references.now item.now) }
 {
     match item {
         Item::Column(place) => column_header(alloc, definitions, references, *place),
-        Item::AsText(none) | Item::Dimension(none) | Item::IsEmpty(none) => match *none {},
+        Item::AsText(place) => {
+            function_header(alloc, b"ST_AsText(", definitions, references, *place)
+        }
+        Item::Dimension(place) => {
+            function_header(alloc, b"ST_Dimension(", definitions, references, *place)
+        }
+        Item::IsEmpty(place) => {
+            function_header(alloc, b"ST_IsEmpty(", definitions, references, *place)
+        }
     }
+}
+
+// The header of a function of a column: its name with a parenthesis, the column's header, and a parenthesis.
+fn function_header(
+    alloc: Global,
+    name: &[u8],
+    definitions: &[TableDef],
+    references: &[Reference],
+    place: ColumnPlace,
+) -> Result<Vec<u8>, AllocError>
+    ensures { IfOk result (λ text. text.items
+        ≡ name.now ++ column_header definitions.now references.now place ++ codes ")") }
+{
+    let column = column_header(alloc, definitions, references, place)?;
+    let mut text = Vec::from_slice(alloc, name)?;
+    text.extend_from_slice(column.as_slice())?;
+    text.extend_from_slice(b")")?;
+    Ok(text)
 }
 
 // The header of a column.
@@ -117,8 +148,9 @@ fn column_name(definitions: &[TableDef], table: usize, column: usize) -> &[u8]
 
 // Adds the field of an item.
 fn push_item(
+    alloc: Global,
     fields: &mut ByteRecord,
-    item: &Item<NoGeometry>,
+    item: &Item<ColumnPlace>,
     rows: &[Row<'_>],
 ) -> Result<(), AllocError>
     requires { partial_of fields.old ≡ [] }
@@ -127,8 +159,10 @@ fn push_item(
     ensures partial { OnOk result (partial_of fields.new ≡ []) }
 {
     match item {
-        Item::Column(place) => push_field(fields, field_at(rows, *place)),
-        Item::AsText(none) | Item::Dimension(none) | Item::IsEmpty(none) => match *none {},
+        Item::Column(place) => push_field(alloc, fields, field_at(rows, *place)),
+        Item::AsText(place) => push_text(alloc, fields, field_at(rows, *place)),
+        Item::Dimension(place) => push_dimension(fields, field_at(rows, *place)),
+        Item::IsEmpty(place) => push_emptiness(fields, field_at(rows, *place)),
     }
 }
 
@@ -145,7 +179,11 @@ fn field_at<'a>(rows: &'a [Row<'_>], place: ColumnPlace) -> Field<'a>
 }
 
 // Adds the text of a field.
-fn push_field(fields: &mut ByteRecord, field: Field<'_>) -> Result<(), AllocError>
+fn push_field(
+    alloc: Global,
+    fields: &mut ByteRecord,
+    field: Field<'_>,
+) -> Result<(), AllocError>
     requires { partial_of fields.old ≡ [] }
     ensures fields { OnOk result
         (fields_of fields.new ≡ fields_of fields.old ++ field_text serving.writing (shown field.entry) ∷ []) }
@@ -153,11 +191,87 @@ fn push_field(fields: &mut ByteRecord, field: Field<'_>) -> Result<(), AllocErro
 {
     match field {
         Field::Null => fields.push_field(b""),
-        Field::Int(number) => {
-            let mut buffer = Buffer::new();
-            fields.push_field(buffer.format(number).as_bytes())
-        }
+        Field::Int(number) => push_number(fields, number),
         Field::Text(text) => fields.push_field(text.as_bytes()),
-        Field::Geom(none) => match *none {},
+        Field::Geom(geometry) => push_geometry(alloc, fields, geometry),
     }
+}
+
+// Adds ST_AsText of a field.
+fn push_text(alloc: Global, fields: &mut ByteRecord, field: Field<'_>) -> Result<(), AllocError>
+    requires { partial_of fields.old ≡ [] }
+    ensures fields { OnOk result (fields_of fields.new
+        ≡ fields_of fields.old ++ function_text canonical_text (shown field.entry) ∷ []) }
+    ensures partial { OnOk result (partial_of fields.new ≡ []) }
+{
+    match field {
+        Field::Geom(geometry) => push_geometry(alloc, fields, geometry),
+        Field::Null | Field::Int(_) | Field::Text(_) => fields.push_field(b""),
+    }
+}
+
+// Adds ST_Dimension of a field.
+fn push_dimension(fields: &mut ByteRecord, field: Field<'_>) -> Result<(), AllocError>
+    requires { partial_of fields.old ≡ [] }
+    ensures fields { OnOk result (fields_of fields.new
+        ≡ fields_of fields.old ++ function_text dimension_text (shown field.entry) ∷ []) }
+    ensures partial { OnOk result (partial_of fields.new ≡ []) }
+{
+    match field {
+        Field::Geom(geometry) => push_number(fields, dimension(geometry.kind())),
+        Field::Null | Field::Int(_) | Field::Text(_) => fields.push_field(b""),
+    }
+}
+
+// Adds ST_IsEmpty of a field.
+fn push_emptiness(fields: &mut ByteRecord, field: Field<'_>) -> Result<(), AllocError>
+    requires { partial_of fields.old ≡ [] }
+    ensures fields { OnOk result (fields_of fields.new
+        ≡ fields_of fields.old ++ function_text emptiness_text (shown field.entry) ∷ []) }
+    ensures partial { OnOk result (partial_of fields.new ≡ []) }
+{
+    match field {
+        Field::Geom(geometry) => fields.push_field(if geometry.is_empty() { b"1" } else { b"0" }),
+        Field::Null | Field::Int(_) | Field::Text(_) => fields.push_field(b""),
+    }
+}
+
+// The number that ST_Dimension gives of a kind.
+fn dimension(kind: Kind) -> i64
+    ensures { result ≡ dimension kind }
+{
+    match kind {
+        Kind::Point => 0,
+        Kind::Line => 1,
+        Kind::Area => 2,
+    }
+}
+
+// Adds a number.
+fn push_number(fields: &mut ByteRecord, number: i64) -> Result<(), AllocError>
+    requires { partial_of fields.old ≡ [] }
+    ensures fields { OnOk result
+        (fields_of fields.new ≡ fields_of fields.old ++ signed_decimal number ∷ []) }
+    ensures partial { OnOk result (partial_of fields.new ≡ []) }
+{
+    let mut buffer = Buffer::new();
+    fields.push_field(buffer.format(number).as_bytes())
+}
+
+// Adds the canonical text of a geometry. A sink over memory fails for want of memory alone.
+fn push_geometry(
+    alloc: Global,
+    fields: &mut ByteRecord,
+    geometry: &Geometry,
+) -> Result<(), AllocError>
+    requires { partial_of fields.old ≡ [] }
+    ensures fields { OnOk result
+        (fields_of fields.new ≡ fields_of fields.old ++ canonical_text geometry.now ∷ []) }
+    ensures partial { OnOk result (partial_of fields.new ≡ []) }
+{
+    let mut text = MemorySink::new(alloc);
+    if print(geometry.geometry(), &mut text).is_err() {
+        return Err(AllocError);
+    }
+    fields.push_field(text.bytes())
 }

@@ -11,11 +11,15 @@ use crate::runs::run;
 use command_line::Order;
 use feature_table::{Database, Schema};
 use itoa::Buffer;
+use rtree::{EnvelopeIndex, ListIndex};
 use spatial_sql::read_schema;
 use std::alloc::{AllocError, Global};
 use std::io::{ErrorKind, Read};
 use table_model::tokens::TEXT_LIMIT;
 use wkt::{Sink, SinkFault, put_parts};
+
+/// The index that is kept of each geometry column.
+type ColumnIndex = ListIndex;
 
 /// How many bytes of a schema's file are read: one more than a schema may have.
 const SCHEMA_BYTES: u64 = TEXT_LIMIT as u64 + 1;
@@ -85,8 +89,8 @@ fn serve_run<R: Read + Drop, F: FnMut(&str) -> Option<R>, S: Sink, E: Sink>(
         Ok(readers) => readers,
         Err(failure) => return failed(&failure, err),
     };
-    match run(alloc, &schema, readers, query, out) {
-        Ok(()) => 0,
+    match run::<ColumnIndex, R, S>(alloc, &schema, readers, query, out) {
+        Ok(_) => 0,
         Err(fault) => failed(&run_failure(&schema, fault), err),
     }
 }
@@ -114,7 +118,7 @@ fn serve_check<R: Read + Drop, F: FnMut(&str) -> Option<R>, S: Sink, E: Sink>(
         Ok(readers) => readers,
         Err(failure) => return failed(&failure, err),
     };
-    let database = match Database::load(alloc, &schema, readers) {
+    let database: Database<'_, ColumnIndex> = match Database::load(alloc, &schema, readers) {
         Ok(database) => database,
         Err(fault) => return failed(&run_failure(&schema, Fault::from(fault)), err),
     };
@@ -125,7 +129,10 @@ fn serve_check<R: Read + Drop, F: FnMut(&str) -> Option<R>, S: Sink, E: Sink>(
 }
 
 // Puts a line for each table: its name, a blank and the number of its rows.
-fn put_counts<S: Sink>(database: &Database<'_>, out: &mut S) -> Result<(), SinkFault> {
+fn put_counts<I: EnvelopeIndex + Drop, S: Sink>(
+    database: &Database<'_, I>,
+    out: &mut S,
+) -> Result<(), SinkFault> {
     for (place, table) in database.definitions().iter().enumerate() {
         let mut digits = Buffer::new();
         let rows = digits.format(database.table(place).rows());

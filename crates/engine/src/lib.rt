@@ -4,7 +4,6 @@
 
 pub mod answer_records;
 pub mod commands;
-pub mod execute;
 pub mod failure;
 pub mod first_run;
 pub mod relate;

@@ -1,82 +1,174 @@
 //! A run: from a query's text and the tables' texts to the text of the answer.
 
-ghost use Rattle.std.specs.Prelude.{◌≡◌, ◌∷◌, [], ℕ, IfErr, List, Some, All, false, length, map, OnOk};
+ghost use Rattle.std.specs.Prelude.{◌≡◌, ◌∷◌, [], ℕ, IfErr, IfOk, List, Some, All, length, map, OnOk};
 ghost use Rattle.csv.specs.Records.{fields_of};
 ghost use Rattle.std.specs.List.{concat};
-ghost use Rattle.engine.specs.Pairs.{HasReferences, IsPlace, pair_rows};
 ghost use Rattle.engine.specs.Puts.{PutsText};
-ghost use Rattle.engine.specs.Runs.{AnswersQuery, IsOfTables, RunsOver, count_after, count_text, pair_text, rows_of_pairs, rows_text};
+ghost use Rattle.engine.specs.Runs.{AnswersQuery, CountsOver, CountsQuery, IsOfTables, RunsOver, bound_text, count_after, count_text, pair_text, planned_text, planned_work, rows_of_pairs, rows_text};
 ghost use Rattle.engine.specs.Serving.{record_text, serving};
+ghost use Rattle.executor.specs.Pairs.{HasReferences, IsPlace, pair_rows};
 ghost use Rattle.feature_table.specs.Tables.{EachRecordsOf, records_in};
-ghost use Rattle.records.specs.RecordWriters.{IsReady};
+ghost use Rattle.records.specs.RecordWriters.{CountsPut, IsReady};
 ghost use Rattle.table_model.specs.AnswerTexts.{record_of};
+ghost use Rattle.table_model.specs.BoundQueries.{IsBound, geometry_fits};
+ghost use Rattle.table_model.specs.ExplainTexts.{analyze_text, explain_text};
 ghost use Rattle.table_model.specs.Loading.{Record};
-ghost use Rattle.table_model.specs.Meanings as meaning;
 ghost use Rattle.table_model.specs.Meanings.{referenced};
-ghost use Rattle.table_model.specs.declared.queries.Explain.TheVariants as explains;
+ghost use Rattle.table_model.specs.Plans.{IsLawful};
+ghost use Rattle.table_model.specs.RunOutcomes.{ByEveryMatrix, kept_count};
+ghost use Rattle.table_model.specs.Work as spec;
 
 use crate::answer_records::{header_record, row_record};
-use crate::execute::{RowPair, execute};
 use crate::run_fault::Fault;
 use csv::ByteRecord;
+use de9im::Work;
+use executor::{RowPair, execute};
+use explain::{analyze, explain};
 use feature_table::{Database, Schema};
 use itoa::Buffer;
+use planner::choose;
 use records::{PutFault, RecordWriter};
+use rtree::EnvelopeIndex;
 use spatial_sql::{Bound, Query, bind, read_query};
 use std::alloc::{AllocError, Global};
 use std::io::Read;
+use table_model::plans::Plan;
+use table_model::queries::Explain;
 use wkt::Sink;
 
 /// Answers a query over the tables that the readers give, one for each table of the schema, in its order: reads
-/// the query, loads all tables, binds, and puts the header and the rows. Where the readers' texts are known the
-/// answer is that of the records that `csv` reads of them; whatever the readers are, there are records of which this
-/// is the answer.
-pub fn run<R: Read + Drop, S: Sink>(
+/// the query, loads all tables, binds, chooses the plan, and puts the header and the rows, or what EXPLAIN tells. Where
+/// the readers' texts are known the answer is that of the records that `csv` reads of them; whatever the readers are,
+/// there are records of which this is the answer. The work answered is that of the chosen plan, and none under EXPLAIN.
+pub fn run<I: EnvelopeIndex + Drop, R: Read + Drop, S: Sink>(
     alloc: Global,
     schema: &Schema,
     readers: Vec<R>,
     query: &str,
     sink: &mut S,
-) -> Result<(), Fault>
+) -> Result<Work, Fault>
     requires { length readers.items ≡ length schema.now }
     ensures texts { (texts : List (List ℕ)) → map R.remaining readers.items ≡ map Some texts
         → RunsOver serving result schema.now (map records_in texts) query.now
         (S.taken sink.old) (S.taken sink.new) }
+    ensures work { (texts : List (List ℕ)) → map R.remaining readers.items ≡ map Some texts
+        → CountsOver serving result schema.now (map records_in texts) query.now }
     ensures records { (records : List (List Record)) × EachRecordsOf (map R.remaining readers.items) records
-        × RunsOver serving result schema.now records query.now (S.taken sink.old) (S.taken sink.new) }
+        × RunsOver serving result schema.now records query.now (S.taken sink.old) (S.taken sink.new)
+        × CountsOver serving result schema.now records query.now }
     ensures failures { S.failures sink.new ≡ count_after (S.failures sink.old) result }
     ensures table { IfErr result (IsOfTables (length schema.now)) }
 {
     let query = read_query(alloc, query)?;
-    let database = Database::load(alloc, schema, readers)?;
+    let database: Database<'_, I> = Database::load(alloc, schema, readers)?;
     answer_query(alloc, &query, &database, sink)
 }
 
-// Answers a query for rows over a database: binds it, and puts its answer. At Ok all of the answer has been put;
-// nothing where the query isn't bound, and a beginning where the sink failed or memory ran out.
-fn answer_query<S: Sink>(
+// Answers a query over a database: binds it, chooses its plan, and puts its answer. At Ok all of the answer has been
+// put; nothing where the query isn't bound, and a beginning where the sink failed or memory ran out.
+fn answer_query<I: EnvelopeIndex + Drop, S: Sink>(
     alloc: Global,
     query: &Query<'_>,
-    database: &Database<'_>,
+    database: &Database<'_, I>,
     sink: &mut S,
-) -> Result<(), Fault>
-    requires { query.now.explain ≡ explains.No }
+) -> Result<Work, Fault>
     ensures answer { AnswersQuery serving result database.now query.now
         (S.taken sink.old) (S.taken sink.new) }
+    ensures work { CountsQuery serving result database.now query.now }
     ensures failures { S.failures sink.new ≡ count_after (S.failures sink.old) result }
     ensures table { (count : ℕ) → IfErr result (IsOfTables count) }
 {
     let bound = bind(alloc, query, database)?;
-    let pairs = execute(alloc, database, &bound)?;
-    put_answer(alloc, database, &bound, pairs.as_slice(), sink)?;
-    Ok(())
+    let plan = choose(alloc, database, &bound)?;
+    let work = put_planned(alloc, database, &bound, &plan, sink)?;
+    Ok(work)
 }
 
-// Puts the answer of a query that these pairs of rows pass: how many there are under COUNT(*), else the header and the
-// record of each pair, of the first ones alone under LIMIT.
-fn put_answer<S: Sink>(
+// Puts what a bound query asks for, by a lawful plan, and answers the work.
+fn put_planned<I: EnvelopeIndex + Drop, S: Sink>(
     alloc: Global,
-    database: &Database<'_>,
+    database: &Database<'_, I>,
+    query: &Bound,
+    plan: &Plan,
+    sink: &mut S,
+) -> Result<Work, PutFault>
+    requires bound { IsBound geometry_fits database.now.definitions query.now }
+    requires lawful { IsLawful database.now.tables query.now plan.now }
+    ensures text { ByEveryMatrix (λ matrix. PutsText result
+        (planned_text query.now.explain serving matrix database.now query.now plan.now)
+        (S.taken sink.old) (S.taken sink.new) (S.failures sink.old) (S.failures sink.new)) }
+    ensures failures { CountsPut (S.failures sink.old) (S.failures sink.new) result }
+    ensures work { ByEveryMatrix (λ matrix. IfOk result (λ n. n
+        ≡ planned_work query.now.explain serving matrix database.now.tables query.now plan.now)) }
+{
+    match query.explain {
+        Explain::No => put_rows(alloc, database, query, plan, sink),
+        Explain::Plan => put_plan(query, plan, sink),
+        Explain::Analyze => put_analysis(alloc, database, query, plan, sink),
+    }
+}
+
+// Puts the rows that a bound query means, found by a lawful plan, and answers the work.
+fn put_rows<I: EnvelopeIndex + Drop, S: Sink>(
+    alloc: Global,
+    database: &Database<'_, I>,
+    query: &Bound,
+    plan: &Plan,
+    sink: &mut S,
+) -> Result<Work, PutFault>
+    requires bound { IsBound geometry_fits database.now.definitions query.now }
+    requires lawful { IsLawful database.now.tables query.now plan.now }
+    ensures text { ByEveryMatrix (λ matrix. PutsText result
+        (bound_text serving matrix database.now query.now)
+        (S.taken sink.old) (S.taken sink.new) (S.failures sink.old) (S.failures sink.new)) }
+    ensures failures { CountsPut (S.failures sink.old) (S.failures sink.new) result }
+    ensures work { ByEveryMatrix (λ matrix. IfOk result (λ n. n
+        ≡ kept_count (spec.work matrix serving.denotes database.now.tables query.now plan.now))) }
+{
+    let mut work = Work::new();
+    let pairs = execute(alloc, database, query, plan, &mut work)?;
+    put_answer(alloc, database, query, pairs.as_slice(), sink)?;
+    Ok(work)
+}
+
+// Puts what EXPLAIN tells of a plan. Nothing is executed, so there is no work.
+fn put_plan<S: Sink>(query: &Bound, plan: &Plan, sink: &mut S) -> Result<Work, PutFault>
+    ensures text { PutsText result (explain_text query.now plan.now)
+        (S.taken sink.old) (S.taken sink.new) (S.failures sink.old) (S.failures sink.new) }
+    ensures work { IfOk result (λ n. n ≡ 0) }
+{
+    explain(query, plan, sink)?;
+    Ok(Work::new())
+}
+
+// Executes a lawful plan to its end, puts what EXPLAIN ANALYZE tells of it, and answers the work.
+fn put_analysis<I: EnvelopeIndex + Drop, S: Sink>(
+    alloc: Global,
+    database: &Database<'_, I>,
+    query: &Bound,
+    plan: &Plan,
+    sink: &mut S,
+) -> Result<Work, PutFault>
+    requires bound { IsBound geometry_fits database.now.definitions query.now }
+    requires lawful { IsLawful database.now.tables query.now plan.now }
+    ensures text { ByEveryMatrix (λ matrix. PutsText result (analyze_text query.now plan.now
+        (kept_count (spec.work matrix serving.denotes database.now.tables query.now plan.now)))
+        (S.taken sink.old) (S.taken sink.new) (S.failures sink.old) (S.failures sink.new)) }
+    ensures failures { CountsPut (S.failures sink.old) (S.failures sink.new) result }
+    ensures work { ByEveryMatrix (λ matrix. IfOk result (λ n. n
+        ≡ kept_count (spec.work matrix serving.denotes database.now.tables query.now plan.now))) }
+{
+    let mut work = Work::new();
+    execute(alloc, database, query, plan, &mut work)?;
+    analyze(query, plan, work.count(), sink)?;
+    Ok(work)
+}
+
+// Puts the answer of a query that means these pairs of rows: how many there are under COUNT(*), else the header and the
+// record of each pair.
+fn put_answer<I: EnvelopeIndex + Drop, S: Sink>(
+    alloc: Global,
+    database: &Database<'_, I>,
     query: &Bound,
     pairs: &[RowPair],
     sink: &mut S,
@@ -93,18 +185,7 @@ fn put_answer<S: Sink>(
     }
     let header = header_record(alloc, database.definitions(), query)?;
     writer.put(alloc, &header, sink)?;
-    let wanted = up_to(query.limit, pairs);
-    put_pairs(alloc, database, query, wanted, &mut writer, sink)
-}
-
-// The first of some pairs, at most so many where there is a limit.
-fn up_to(limit: Option<u64>, pairs: &[RowPair]) -> &[RowPair]
-    ensures { result.now ≡ meaning.up_to limit pairs.now }
-{
-    match limit {
-        Some(most) if most < pairs.len() as u64 => &pairs[..most as usize],
-        _ => pairs,
-    }
+    put_pairs(alloc, database, query, pairs, &mut writer, sink)
 }
 
 // Puts the header of COUNT(*), and the record of the number; under LIMIT 0 there is none.
@@ -145,9 +226,9 @@ fn put_field<S: Sink>(
 }
 
 // Puts the record of each pair.
-fn put_pairs<S: Sink>(
+fn put_pairs<I: EnvelopeIndex + Drop, S: Sink>(
     alloc: Global,
-    database: &Database<'_>,
+    database: &Database<'_, I>,
     query: &Bound,
     pairs: &[RowPair],
     writer: &mut RecordWriter,
@@ -161,15 +242,16 @@ fn put_pairs<S: Sink>(
 {
     let mut fields = ByteRecord::new(alloc);
     for pair in pairs {
-        pair_record(database, query, *pair, &mut fields)?;
+        pair_record(alloc, database, query, *pair, &mut fields)?;
         writer.put(alloc, &fields, sink)?;
     }
     Ok(())
 }
 
 // Makes a record that of a pair.
-fn pair_record(
-    database: &Database<'_>,
+fn pair_record<I: EnvelopeIndex + Drop>(
+    alloc: Global,
+    database: &Database<'_, I>,
     query: &Bound,
     pair: RowPair,
     fields: &mut ByteRecord,
@@ -183,10 +265,10 @@ fn pair_record(
     let references = query.references.as_slice();
     let table = database.table(references[0].table);
     match pair.second {
-        None => row_record(fields, query, &[table.row(pair.first)]),
+        None => row_record(alloc, fields, query, &[table.row(pair.first)]),
         Some(second) => {
             let other = database.table(references[1].table);
-            row_record(fields, query, &[table.row(pair.first), other.row(second)])
+            row_record(alloc, fields, query, &[table.row(pair.first), other.row(second)])
         }
     }
 }

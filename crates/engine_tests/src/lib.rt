@@ -5,5 +5,6 @@
 mod order_tests;
 #[cfg(test)]
 mod parcels_tests;
+mod spatial_tests;
 #[cfg(test)]
 mod tests;

@@ -21,7 +21,7 @@ const NO_TEXT: &str = "";
 const QUERY: &str = "SELECT id, name FROM t WHERE pop > 5 AND NOT name = 'b'";
 
 // The order to run a query over the schema `s` and the directory `d`.
-fn run_order(alloc: Global, query: &str) -> Result<Order, AllocError> {
+pub(crate) fn run_order(alloc: Global, query: &str) -> Result<Order, AllocError> {
     Ok(Order::Run {
         schema: String::from_str(alloc, "s")?,
         directory: String::from_str(alloc, "d")?,
@@ -39,15 +39,15 @@ fn relate_order(alloc: Global, first: &str, second: &str) -> Result<Order, Alloc
 
 // What a command prints on standard output and on standard error, and its status.
 #[derive(Drop)]
-struct Printed {
-    out: MemorySink,
-    err: MemorySink,
-    status: u8,
+pub(crate) struct Printed {
+    pub(crate) out: MemorySink,
+    pub(crate) err: MemorySink,
+    pub(crate) status: u8,
 }
 
 impl Printed {
     // Whether these are the two outputs and the status.
-    fn is(&self, out: &str, err: &str, status: u8) -> bool {
+    pub(crate) fn is(&self, out: &str, err: &str, status: u8) -> bool {
         self.out.bytes() == out.as_bytes()
             && self.err.bytes() == err.as_bytes()
             && self.status == status

@@ -5,32 +5,32 @@ use Rattle.csv.specs.Records.{fields_of}
 use Rattle.table_model.specs.AnswerTexts.{record_of}
 use Rattle.table_model.specs.Meanings.{referenced}
 use Rattle.table_model.specs.Places.{AreThere, rows_at}
-use Rattle.engine.specs.Pairs.{IsPlace}
+use Rattle.executor.specs.Pairs.{IsPlace}
 use Rattle.engine.specs.Serving.{serving}
-use Rattle.engine.proofs.ScanLemmas.{first-there, one-row, second-there, two-rows}
+use Rattle.engine.proofs.PairLemmas.{first-there, one-row, second-there, two-rows}
 use Rattle.engine.proofs.runs.pair_record.Goals as goal
 
 pub row-requires : goal.row-requires
-row-requires c =
+row-requires g c =
     let tables = c.args.database.now.tables in
     first-there tables c.as_slice-references.result.now c.index-references-0.result c.table-table.result.now c.args.pair
     (subst (λ rs. IsPlace (referenced tables rs) c.args.pair) (sym c.as_slice-references.ensures) c.requires.place) c.table-table.ensures
 
 pub row-requires-in-Some : goal.row-requires-in-Some
-row-requires-in-Some c =
+row-requires-in-Some g c =
     let tables = c.args.database.now.tables in
     first-there tables c.as_slice-references.result.now c.index-references-0.result c.table-table.result.now c.args.pair
     (subst (λ rs. IsPlace (referenced tables rs) c.args.pair) (sym c.as_slice-references.ensures) c.requires.place) c.table-table.ensures
 
 pub row-requires-in-Some-2 : goal.row-requires-in-Some-2
-row-requires-in-Some-2 c =
+row-requires-in-Some-2 g c =
     let tables = c.args.database.now.tables in
     let there = subst (λ rs. IsPlace (referenced tables rs) c.args.pair) (sym c.as_slice-references.ensures) c.requires.place in
     second-there tables c.as_slice-references.result.now c.index-references-1.result c.table-other.result.now c.args.pair.first c.in-Some.second
     (subst (λ o. AreThere (referenced tables c.as_slice-references.result.now) (c.args.pair.first ∷ option_to_list o)) c.in-Some.is there) c.table-other.ensures
 
 pub returns-in-None : goal.returns-in-None
-returns-in-None c =
+returns-in-None g c =
     let tables = c.args.database.now.tables in
     let there = subst (λ rs. IsPlace (referenced tables rs) c.args.pair) (sym c.as_slice-references.ensures) c.requires.place in
     subst (λ rows. OnOk c.row_record.result (fields_of c.row_record.new.fields ≡ record_of serving.writing c.args.query.now rows))
@@ -41,7 +41,7 @@ returns-in-None c =
     c.row_record.ensures
 
 pub returns-in-Some : goal.returns-in-Some
-returns-in-Some c =
+returns-in-Some g c =
     let tables = c.args.database.now.tables in
     let there = subst (λ rs. IsPlace (referenced tables rs) c.args.pair) (sym c.as_slice-references.ensures) c.requires.place in
     subst (λ rows. OnOk c.row_record-in-Some.result (fields_of c.row_record-in-Some.new.fields ≡ record_of serving.writing c.args.query.now rows))

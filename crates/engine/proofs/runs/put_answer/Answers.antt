@@ -1,16 +1,11 @@
 -- The count, or the header and then the pairs' records; a front of the header is a front of the answer.
-use Rattle.std.proofs.Common.{All, ap, subst, sym, ◌≡◌, ◌∙◌, ◌++◌, map, true, false, length, rules}
-use Rattle.std.specs.List.{concat}
+use Rattle.std.proofs.Common.{ap, subst, ◌≡◌, ◌∙◌, true, false, rules}
 use Rattle.sinks.specs.Sinks.{AppendsFront}
 use Rattle.std.specs.Io.KnownBytes.{Appends}
 use Rattle.table_model.specs.AnswerTexts.{header}
-use Rattle.table_model.specs.Meanings.{referenced}
-use Rattle.engine.specs.Pairs.{IsPlace}
-use Rattle.engine.specs.Runs.{pair_text}
 use Rattle.engine.specs.Serving.{record_text, serving}
 use Rattle.engine.proofs.PutLemmas.{first-begun, put-none, put-same, put-then}
 use Rattle.engine.proofs.RunLemmas.{counted-text, listed-text}
-use Rattle.engine.proofs.ScanLemmas.{all-wanted}
 use Rattle.records.specs.declared.put_fault.PutFault.TheVariants as put
 use Rattle.engine.proofs.runs.put_answer.Goals as goal
 
@@ -32,18 +27,11 @@ returns-in_err-put g c =
     c.from_residual-in_err-put.ensures.1
     (subst (λ l. AppendsFront (g.S.Sink.taken c.args.sink.now) (g.S.Sink.taken c.put.new.sink) l) written c.in_err-put.ensures.front) c.in_err-put.ensures.failures)
 
-pub put_pairs-requires-clause-places : goal.put_pairs-requires-clause-places
-put_pairs-requires-clause-places g c =
-    let Place = IsPlace (referenced c.args.database.now.tables c.args.query.now.references) in
-    subst (λ ps. All Place ps) (sym c.up_to-wanted.ensures) (all-wanted Place c.args.query.now.limit c.args.pairs.now c.requires.places)
-
 pub returns : goal.returns
 returns g c =
     let lists : c.args.query.now.counts ≡ false = search rules in
     let written = ap record_text (c.in_ok-header.ensures ∙ ap (λ ds. header serving.writing ds c.args.query.now) c.definitions.ensures.value) in
     let head = record_text (header serving.writing c.args.database.now.definitions c.args.query.now) in
-    put-same c.put_pairs.result _ _ _ _ _ _
-    (ap (λ ps. head ++ concat (map (pair_text serving c.args.database.now c.args.query.now) ps)) c.up_to-wanted.ensures
-    ∙ listed-text c.args.database.now c.args.query.now c.args.pairs.now lists)
+    put-same c.put_pairs.result _ _ _ _ _ _ (listed-text c.args.database.now c.args.query.now c.args.pairs.now lists)
     (put-then c.put_pairs.result head _ (g.S.Sink.taken c.args.sink.now) (g.S.Sink.taken c.put.new.sink) _ (g.S.Sink.failures c.args.sink.now) (g.S.Sink.failures c.put.new.sink) _
     (subst (λ l. Appends (g.S.Sink.taken c.args.sink.now) (g.S.Sink.taken c.put.new.sink) l) written c.in_ok-put.ensures.ok) c.in_ok-put.ensures.failures c.put_pairs.ensures)
