@@ -1,10 +1,10 @@
 -- Areas of at most one ring, or of at most one polygon: there is no fault of two.
-use Rattle.std.proofs.Common.{◌≡◌, refl, sym, ap, ap₂, ◌∙◌, ℕ, zero, suc, ◌+◌, ◌-◌, ◌<◌, ◌≤◌, Bool, List, [], ◌∷◌, ◌++◌, map, length, length-append, Option, None, arith}
+use Rattle.std.proofs.Common.{◌≡◌, refl, ap, ap₂, ℕ, zero, suc, ◌+◌, ◌<◌, ◌≤◌, List, [], ◌∷◌, ◌++◌, map, length, length-append, None, arith}
 use Rattle.std.specs.List.{find, flat_map}
 use Rattle.geometry_model.specs.Points.{Position}
-use Rattle.geometry_model.specs.Geometries.{Geometry, lines, rings, elements, joined_rings}
-use Rattle.geometry_model.specs.Validity.{Element, elements_from, numbered_elements}
-use Rattle.geometry_model.specs.FirstFaults.{has_fault, numbers, of_pairs, of_every_two, of_elements, rings_end}
+use Rattle.geometry_model.specs.Geometries.{Geometry, rings, elements, joined_rings}
+use Rattle.geometry_model.specs.Validity.{Element, elements_from}
+use Rattle.geometry_model.specs.FirstFaults.{has_fault, numbers, of_pairs, of_every_two, rings_end}
 use Rattle.geometry_model.specs.declared.validity_faults.ValidityFault.{ValidityFault}
 use Rattle.geometry_model.specs.declared.validity_faults.ValidityFault.TheVariants.{RingsMeet, HoleOutside, HolesNested, ElementsMeet, ElementInside}
 use Rattle.validity.specs.FaultOrder.{rings_meeting, holes_outside, nested_holes, of_two_elements, of_other_elements}
