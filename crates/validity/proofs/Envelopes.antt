@@ -1,20 +1,18 @@
 -- What rings and polygons share lies in their envelopes.
-use Rattle.std.proofs.Common.{◌≡◌, ◌≢◌, refl, sym, ap, ap₂, ◌∙◌, subst, ℕ, zero, suc, ◌+◌, ◌<◌, ℤ, Bool, true, false, ◌||◌, if◌then◌else◌, List, [], ◌∷◌, ◌++◌, map, take, flat_map, length, get_or, Option, Some, None, slice_get, append-nil, arith, All}
+use Rattle.std.proofs.Common.{◌≡◌, ◌≢◌, refl, sym, ap, ap₂, ◌∙◌, ℕ, zero, suc, ◌+◌, ◌<◌, ℤ, Bool, true, false, ◌||◌, if◌then◌else◌, List, [], ◌∷◌, ◌++◌, map, take, flat_map, length, Option, Some, None, slice_get, append-nil, arith, All}
 use Rattle.std.specs.Int.{int_min, int_max}
 use Rattle.std.specs.List.{list_any}
 use Rattle.std.proofs.lemmas.Int.{ints, clamps}
 use Rattle.std.proofs.lemmas.List.{map-append}
-use Rattle.std.proofs.lemmas.List.Elements.{All-head, All-tail}
 use Rattle.std.proofs.lemmas.Grind.{flat_map-append}
 use Rattle.geometry_model.specs.Points.{Position, Point, IsPoint, point_at}
-use Rattle.geometry_model.specs.Geometries.{Geometry, Edge, edges_of_lines, lines, rings, elements, joined_rings}
+use Rattle.geometry_model.specs.Geometries.{Geometry, Edge, edges_of_lines, lines, rings}
 use Rattle.geometry_model.specs.Sides.{on}
 use Rattle.geometry_model.specs.Crossings.{odd_above}
 use Rattle.geometry_model.specs.Locations.{stands_at, locate, on_some}
 use Rattle.geometry_model.specs.Envelopes.{Envelope, envelope_at, joined, with_position, envelope_of_positions, meets}
 use Rattle.geometry_model.specs.Validity.{inside, inside_element}
 use Rattle.geometry_model.specs.FirstFaults.{share_point, rings_share, elements_share}
-use Rattle.geometry_model.specs.declared.point_sets.Location.{Location}
 use Rattle.geometry_model.specs.declared.point_sets.Location.TheVariants.{Interior, Boundary, Exterior}
 use Rattle.geometry_laws.specs.RingLaws.{IsClosed}
 use Rattle.geometry_laws.specs.PieceLaws.{HasClosedRings}

@@ -13,7 +13,7 @@ numbers_go_on i n h = go (n - i) (n - (i + 1)) (omega arith)
     go : (k l : ℕ) → k ≡ suc l → range_with_len i k ≡ i ∷ range_with_len (i + 1) l
     go k l e = ap (range_with_len i) e
 
-numbers_end : (i n : ℕ) → n ≤ i → numbers i n ≡ []
+pub numbers_end : (i n : ℕ) → n ≤ i → numbers i n ≡ []
 numbers_end i n h = let e : n - i ≡ 0 = omega arith in ap (range_with_len i) e
 
 -- ---- one fault a number

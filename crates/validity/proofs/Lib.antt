@@ -2,6 +2,7 @@ pub mod CheckedTexts
 pub mod Edges
 pub mod Envelopes
 pub mod Faults
+pub mod Few
 pub mod Finding
 pub mod Kept
 pub mod Near

@@ -1,5 +1,5 @@
 -- Edges near an edge: those that aren't found pass no test that edges pass only where their bounds meet.
-use Rattle.std.proofs.Common.{◌≡◌, refl, sym, ap, ap₂, ◌∙◌, subst, ℕ, zero, suc, ◌+◌, ◌-◌, ◌<◌, ◌≤◌, Bool, true, false, not, ◌&&◌, ◌||◌, ◌==◌, if◌then◌else◌, cond, nat_le, int_le, List, [], ◌∷◌, map, drop, length, get_or, Option, Some, slice_get, arith}
+use Rattle.std.proofs.Common.{◌≡◌, refl, sym, ap, ◌∙◌, subst, ℕ, zero, suc, ◌+◌, ◌-◌, ◌<◌, ◌≤◌, Bool, true, false, not, ◌&&◌, ◌||◌, ◌==◌, if◌then◌else◌, cond, nat_le, int_le, List, [], ◌∷◌, map, drop, length, get_or, Option, Some, slice_get, arith}
 use Rattle.std.specs.List.{list_any, enumerate_from}
 use Rattle.std.proofs.lemmas.List.{length-map}
 use Rattle.geometry_model.specs.Points.{Position, point_at}
@@ -8,7 +8,7 @@ use Rattle.geometry_model.specs.Geometries.{Edge}
 use Rattle.geometry_model.specs.Sides.{on}
 use Rattle.geometry_model.specs.FirstFaults.{share_point, share_other, clash, cross}
 use Rattle.geometry_model.specs.Envelopes.{Envelope, overlap}
-use Rattle.geometry_laws.proofs.Scaling.{and_parts, and_from}
+use Rattle.geometry_laws.proofs.Scaling.{and_parts}
 use Rattle.ring_tests.specs.RunLaws.{box_of}
 use Rattle.ring_tests.specs.EdgeRuns.{edges_share}
 use Rattle.ring_tests.proofs.Boxes.{sharing_boxes_overlap}

@@ -6,7 +6,7 @@ use Rattle.std.proofs.lemmas.List.{length-map}
 use Rattle.std.proofs.lemmas.Option.{get_or_from_slice_get, slice_get_within}
 use Rattle.geometry_model.specs.Points.{Position}
 use Rattle.geometry_model.specs.Geometries.{Geometry, lines, rings, elements, joined_rings}
-use Rattle.geometry_model.specs.Envelopes.{Envelope, envelope_of_positions, overlap, meets}
+use Rattle.geometry_model.specs.Envelopes.{Envelope, envelope_of_positions, meets}
 use Rattle.geometry_model.specs.Validity.{Element, numbered_elements, inside, inside_element}
 use Rattle.geometry_model.specs.FirstFaults.{has_fault, numbers, rings_share, elements_share, test_of_both}
 use Rattle.geometry_model.specs.declared.validity_faults.ValidityFault.{ValidityFault}
@@ -18,7 +18,7 @@ use Rattle.geometry_laws.proofs.RingParity.{each_from_all}
 use Rattle.geometry_laws.proofs.CoverTheorems.{all_from_each}
 use Rattle.geometry_laws.proofs.Scaling.{and_parts}
 use Rattle.rtree.specs.Found.{placed_meets, meeting_places}
-use Rattle.validity.specs.Neighbours.{first_near, near_one, ring_envelopes, element_envelope, element_envelopes}
+use Rattle.validity.specs.Neighbours.{first_near, ring_envelopes, element_envelope, element_envelopes}
 use Rattle.validity.specs.Outlines.{AreRings}
 use Rattle.validity.proofs.Edges.{at_index}
 use Rattle.validity.proofs.Envelopes.{rings_are_lines, sharing_meet, inside_meet, sharing_rings_meet, inside_rings_meet}

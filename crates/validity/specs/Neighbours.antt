@@ -1,5 +1,5 @@
 -- Which rings or polygons are near one: those whose envelopes meet its own.
-use Rattle.std.specs.Prelude.{ℕ, Bool, ◌&&◌, nat_le, nat_lt, cond, List, [], ◌∷◌, map, flat_map, get_or, Option, Some, None}
+use Rattle.std.specs.Prelude.{ℕ, ◌&&◌, nat_le, nat_lt, cond, List, [], ◌∷◌, map, flat_map, get_or, Option, Some, None}
 use Rattle.geometry_model.specs.Points.{Position}
 use Rattle.geometry_model.specs.Geometries.{Geometry, rings, elements}
 use Rattle.geometry_model.specs.Envelopes.{Envelope, envelope_of_positions, joined}

@@ -314,6 +314,9 @@ fn fault_of_rings(alloc: Global, outline: &Outline) -> Result<Option<ValidityFau
     ensures { IfOk result (λ fault. fault ≡ first_of outline.now
         (rings_meeting outline.now ++ holes_outside outline.now ++ nested_holes outline.now)) }
 {
+    if outline.ring_count() < 2 {
+        return Ok(None);
+    }
     let rings = Neighbours::of_rings(alloc, outline)?;
     let meeting = rings_meet(alloc, outline, &rings)?;
     if meeting.is_some() {
@@ -333,6 +336,9 @@ fn fault_of_elements(alloc: Global, outline: &Outline) -> Result<Option<Validity
         (of_two_elements ValidityFault.ElementsMeet outline.now
         ++ of_other_elements ValidityFault.ElementInside outline.now)) }
 {
+    if outline.geometry().element_count() < 2 {
+        return Ok(None);
+    }
     let elements = Neighbours::of_elements(alloc, outline)?;
     let meeting = elements_meet(alloc, outline, &elements)?;
     if meeting.is_some() {

@@ -1,5 +1,5 @@
 -- None near before this one stands.
-use Rattle.std.proofs.Common.{◌≡◌, ◌+◌, map, drop, length}
+use Rattle.std.proofs.Common.{◌≡◌, map, drop, length}
 use Rattle.std.specs.List.{find}
 use Rattle.geometry_model.specs.Geometries.{elements}
 use Rattle.geometry_model.specs.FirstFaults.{has_fault, numbers}

@@ -1,8 +1,10 @@
-use Rattle.std.proofs.Common.{◌≡◌, ◌∙◌, ◌++◌, sym}
+use Rattle.std.proofs.Common.{◌≡◌, ◌∙◌, ◌++◌, ◌<◌, sym, length, arith}
 use Rattle.std.specs.List.{find}
 use Rattle.std.proofs.lemmas.Result.{IfOk-weaker}
+use Rattle.geometry_model.specs.Geometries.{rings}
 use Rattle.geometry_model.specs.FirstFaults.{has_fault}
 use Rattle.validity.specs.FaultOrder.{rings_meeting, holes_outside, nested_holes}
+use Rattle.validity.proofs.Few.{few_rings}
 use Rattle.validity.proofs.Finding.{first_stays, second_follows}
 use Rattle.validity.proofs.first_faults.fault_of_rings.Goals as goal
 
@@ -26,3 +28,8 @@ returns c =
     IfOk-weaker c.holes_nested.result (λ fault. fault ≡ find (has_fault g) (nested_holes g)) _
     (λ fault e. sym (second_follows (has_fault g) (rings_meeting g ++ holes_outside g) (nested_holes g) c.in_ok-outside.outside fault (sym two) (sym c.is_some-2.ensures ∙ c.if-is_some-2.false) e))
     c.holes_nested.ensures
+
+pub returns-then-ring_count-lt2 : goal.returns-then-ring_count-lt2
+returns-then-ring_count-lt2 c =
+    let few : length (rings c.args.outline.now) < 2 = omega (arith, c.ring_count.ensures, c.if-ring_count-lt2.true) in
+    sym (few_rings c.args.outline.now few)

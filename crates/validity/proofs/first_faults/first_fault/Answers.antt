@@ -1,5 +1,5 @@
 -- The lists of faults, one before another, in the order of tests.
-use Rattle.std.proofs.Common.{◌≡◌, ◌++◌, ◌∙◌, sym, ap, List, Bool, true, false, Option, Some, None, rules}
+use Rattle.std.proofs.Common.{◌≡◌, ◌++◌, ◌∙◌, sym, ap, List, true, false, Option, Some, rules}
 use Rattle.std.specs.List.{find}
 use Rattle.std.specs.Option.{MatchOption, is_some}
 use Rattle.std.proofs.lemmas.Result.{IfOk-weaker}

@@ -1,7 +1,6 @@
 -- None near before this one stands.
-use Rattle.std.proofs.Common.{◌≡◌, ◌+◌, map, drop, length}
+use Rattle.std.proofs.Common.{◌≡◌, ◌+◌, map, drop}
 use Rattle.std.specs.List.{find}
-use Rattle.geometry_model.specs.Geometries.{elements}
 use Rattle.geometry_model.specs.FirstFaults.{has_fault, numbers}
 use Rattle.geometry_model.specs.declared.validity_faults.ValidityFault.TheVariants as validity
 use Rattle.validity.specs.Neighbours.{first_near}

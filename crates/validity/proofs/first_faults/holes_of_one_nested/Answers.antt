@@ -1,4 +1,4 @@
-use Rattle.std.proofs.Common.{◌∙◌, sym, ap, ◌+◌, map, length, arith, List, Option}
+use Rattle.std.proofs.Common.{◌∙◌, sym, ap, ◌+◌, map, length, arith, Option}
 use Rattle.geometry_model.specs.Envelopes.{Envelope}
 use Rattle.geometry_model.specs.FirstFaults.{has_fault, numbers}
 use Rattle.geometry_model.specs.declared.validity_faults.ValidityFault.TheVariants as validity

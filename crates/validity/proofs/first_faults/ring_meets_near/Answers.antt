@@ -1,7 +1,5 @@
-use Rattle.std.proofs.Common.{◌≡◌, ◌∙◌, ◌+◌, refl, sym, ap, Some, arith}
-use Rattle.geometry_model.specs.FirstFaults.{has_fault}
+use Rattle.std.proofs.Common.{◌∙◌, ◌+◌, refl, sym, ap, arith}
 use Rattle.geometry_model.specs.declared.validity_faults.ValidityFault.TheVariants as validity
-use Rattle.rtree.specs.Found.{meeting_places}
 use Rattle.validity.specs.Neighbours.{first_near, ring_envelopes}
 use Rattle.validity.proofs.NearNumbers.{near_found, rings_near, rings_cover, found_near, passed_early, passed_late, passed_near}
 use Rattle.validity.proofs.RingNumbers.{rings_meet_at, lines_cover}

@@ -1,7 +1,6 @@
 -- None before this one clashes with a later one, and the boxes are those of the edges.
 use Rattle.std.proofs.Common.{◌≡◌}
 use Rattle.ring_tests.specs.EdgeRuns.{edges_clash, clash_after}
-use Rattle.edge_boxes.specs.BoxLists.{BoxesOf}
 use Rattle.validity.proofs.near_edges.is_not_simple.Given as goal
 
 abbrev pub invariant-loop-i : goal.invariant-loop-i

@@ -1,6 +1,6 @@
-use Rattle.std.proofs.Common.{◌≡◌, ◌<◌, ◌∙◌, ◌++◌, ◌∷◌, [], sym, ap, length, Some, rules, arith}
+use Rattle.std.proofs.Common.{◌<◌, ◌∙◌, ◌++◌, ◌∷◌, [], ap, length, arith}
 use Rattle.std.specs.List.{slice_get}
-use Rattle.geometry_model.specs.Geometries.{lines, rings}
+use Rattle.geometry_model.specs.Geometries.{rings}
 use Rattle.geometry_model.specs.Envelopes.{envelope_of_positions}
 use Rattle.validity.proofs.Envelopes.{mapped_next, rings_are_lines}
 use Rattle.validity.proofs.neighbours.Neighbours.of_rings.Goals as goal

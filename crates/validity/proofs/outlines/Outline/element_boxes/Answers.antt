@@ -3,7 +3,6 @@ use Rattle.std.specs.List.{slice_get}
 use Rattle.std.proofs.lemmas.Result.{IfOk-weaker}
 use Rattle.geometry_model.specs.Geometries.{elements, edges_of_lines}
 use Rattle.edge_boxes.specs.BoxLists.{BoxesOf}
-use Rattle.validity.specs.Outlines.{AreLineBoxes, AreElementBoxes}
 use Rattle.validity.proofs.PartFacts.{boxes_of_run}
 use Rattle.validity.proofs.outlines.Outline.element_boxes.Goals as goal
 
