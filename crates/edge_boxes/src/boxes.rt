@@ -36,7 +36,7 @@ pub struct EdgeBoxes {
 }
 
 impl EdgeBoxes {
-    /// The boxes over some edges, in one pass: leaves of up to 8 edges, other boxes over up to 8 subtrees, none where
+    /// The boxes over some edges, in one pass: leaves of up to 8 edges, other boxes over up to 4 subtrees, none where
     /// there are 16 edges or fewer. It may fail for want of memory.
     pub fn build(alloc: Global, edges: &[Segment]) -> Result<EdgeBoxes, AllocError>
         ensures { IfOk result (λ boxes. BoxesOf boxes edges.now) }
@@ -113,7 +113,7 @@ fn crossings_among(boxes: &[EdgeBox], edges: &[Segment], point: &RatPoint) -> Cr
     let cell = Cell::of(point);
     let mut place = boxes.len();
     let uncovered = run_of(edges, covered(boxes, place), edges.len());
-    let mut found = of_edges(uncovered, point, &cell);
+    let mut found = of_edges(uncovered, point);
     while place > 0 {
         let (next, own) = step(boxes, edges, place, point, &cell);
         found = own.join(found);
@@ -130,7 +130,7 @@ fn is_held_among(boxes: &[EdgeBox], edges: &[Segment], point: &RatPoint) -> bool
     let cell = Cell::of(point);
     let mut place = boxes.len();
     let uncovered = run_of(edges, covered(boxes, place), edges.len());
-    if of_edges(uncovered, point, &cell).on {
+    if of_edges(uncovered, point).on {
         return true;
     }
     while place > 0 {
@@ -162,7 +162,7 @@ fn step(
         Some(crossings) => (place - 1 - last.size as usize, crossings),
         None if last.size == 0 => {
             let leaf = run_of(edges, covered(boxes, place - 1), last.end as usize);
-            (place - 1, of_edges(leaf, point, cell))
+            (place - 1, of_edges(leaf, point))
         }
         None => (place - 1, none()),
     }

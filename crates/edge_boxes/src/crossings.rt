@@ -5,14 +5,13 @@ ghost use Rattle.geometry_model.specs.Crossings.{exactly_one};
 ghost use Rattle.geometry_model.specs.Points.{Point};
 ghost use Rattle.geometry_model.specs.Geometries.{Edge};
 ghost use Rattle.edge_boxes.specs.Runs.{SumsUp};
-ghost use Rattle.edge_boxes.specs.Cells.{IsCellOf};
 ghost use Rattle.edge_boxes.specs.EdgeCrossings.{AreCrossings, IsTold, lie_apart};
 
 use crate::bounds::Bounds;
 use crate::cells::Cell;
 use crate::runs::{Ends, Run};
 use fraction::RatPoint;
-use orient::{Segment, at_or_above, crosses_up, on};
+use orient::{Segment, crossing_at};
 
 /// How a point lies to edges (OGC 06-103r4, 6.1.11.1: inside). Of an edge's ends the left one counts and the right one
 /// doesn't; an upright edge lies above no point.
@@ -102,28 +101,24 @@ pub(crate) fn told(run: &Run, cell: &Cell) -> Option<Crossings>
 }
 
 /// How the point lies to one edge.
-fn of_edge(edge: &Segment, point: &RatPoint, cell: &Cell) -> Crossings
-    requires { IsCellOf cell.now point.now }
+fn of_edge(edge: &Segment, point: &RatPoint) -> Crossings
     ensures { AreCrossings result (edge.now ∷ []) point.now }
 {
-    match told(&Run::of(edge), cell) {
-        Some(crossings) => crossings,
-        None => Crossings {
-            on: on(edge, point),
-            odd_above: crosses_up(edge, point),
-            odd_at_or_above: at_or_above(edge, point),
-        },
+    let found = crossing_at(edge, point);
+    Crossings {
+        on: found.on,
+        odd_above: found.strictly_above,
+        odd_at_or_above: found.at_or_above,
     }
 }
 
-/// How the point lies to some edges.
-pub(crate) fn of_edges(edges: &[Segment], point: &RatPoint, cell: &Cell) -> Crossings
-    requires { IsCellOf cell.now point.now }
+/// How the point lies to some edges. Each is asked: few are, and a test of their bounds would cost as much.
+pub(crate) fn of_edges(edges: &[Segment], point: &RatPoint) -> Crossings
     ensures { AreCrossings result edges.now point.now }
 {
     let mut found = NONE;
     for edge in edges {
-        found = found.join(of_edge(edge, point, cell));
+        found = found.join(of_edge(edge, point));
     }
     found
 }
