@@ -113,7 +113,7 @@ fn crossings_among(boxes: &[EdgeBox], edges: &[Segment], point: &RatPoint) -> Cr
     let cell = Cell::of(point);
     let mut place = boxes.len();
     let uncovered = run_of(edges, covered(boxes, place), edges.len());
-    let mut found = of_edges(uncovered, point);
+    let mut found = of_edges(uncovered, point, &cell);
     while place > 0 {
         let (next, own) = step(boxes, edges, place, point, &cell);
         found = own.join(found);
@@ -130,7 +130,7 @@ fn is_held_among(boxes: &[EdgeBox], edges: &[Segment], point: &RatPoint) -> bool
     let cell = Cell::of(point);
     let mut place = boxes.len();
     let uncovered = run_of(edges, covered(boxes, place), edges.len());
-    if of_edges(uncovered, point).on {
+    if of_edges(uncovered, point, &cell).on {
         return true;
     }
     while place > 0 {
@@ -162,7 +162,7 @@ fn step(
         Some(crossings) => (place - 1 - last.size as usize, crossings),
         None if last.size == 0 => {
             let leaf = run_of(edges, covered(boxes, place - 1), last.end as usize);
-            (place - 1, of_edges(leaf, point))
+            (place - 1, of_edges(leaf, point, cell))
         }
         None => (place - 1, none()),
     }

@@ -5,6 +5,7 @@ ghost use Rattle.geometry_model.specs.Crossings.{exactly_one};
 ghost use Rattle.geometry_model.specs.Points.{Point};
 ghost use Rattle.geometry_model.specs.Geometries.{Edge};
 ghost use Rattle.edge_boxes.specs.Runs.{SumsUp};
+ghost use Rattle.edge_boxes.specs.Cells.{IsCellOf};
 ghost use Rattle.edge_boxes.specs.EdgeCrossings.{AreCrossings, IsTold, lie_apart};
 
 use crate::bounds::Bounds;
@@ -100,8 +101,8 @@ pub(crate) fn told(run: &Run, cell: &Cell) -> Option<Crossings>
     }
 }
 
-/// How the point lies to one edge.
-fn of_edge(edge: &Segment, point: &RatPoint) -> Crossings
+/// How the point lies to one edge, by the side of it.
+fn by_side(edge: &Segment, point: &RatPoint) -> Crossings
     ensures { AreCrossings result (edge.now ∷ []) point.now }
 {
     let found = crossing_at(edge, point);
@@ -112,13 +113,29 @@ fn of_edge(edge: &Segment, point: &RatPoint) -> Crossings
     }
 }
 
-/// How the point lies to some edges. Each is asked: few are, and a test of their bounds would cost as much.
-pub(crate) fn of_edges(edges: &[Segment], point: &RatPoint) -> Crossings
+/// How the point lies to one edge. At a position of the grid a side costs no more than a look at the edge's bounds; elsewhere
+/// it takes long products.
+fn of_edge(edge: &Segment, point: &RatPoint, cell: &Cell) -> Crossings
+    requires { IsCellOf cell.now point.now }
+    ensures { AreCrossings result (edge.now ∷ []) point.now }
+{
+    if point.denominator() == 1 {
+        return by_side(edge, point);
+    }
+    match told(&Run::of(edge), cell) {
+        Some(crossings) => crossings,
+        None => by_side(edge, point),
+    }
+}
+
+/// How the point lies to some edges.
+pub(crate) fn of_edges(edges: &[Segment], point: &RatPoint, cell: &Cell) -> Crossings
+    requires { IsCellOf cell.now point.now }
     ensures { AreCrossings result edges.now point.now }
 {
     let mut found = NONE;
     for edge in edges {
-        found = found.join(of_edge(edge, point));
+        found = found.join(of_edge(edge, point, cell));
     }
     found
 }
