@@ -126,17 +126,17 @@ def seconds(program, word, times, text):
 
 
 def each(program, word, text, repeats):
-    """The least seconds of one turn, start-up left out, and the answer."""
+    """The least seconds of one turn, start-up left out, and the answer. The turns take as long as start-up at least, since
+    its own noise would else be all that is measured."""
+    idle = min(seconds(program, word, 0, text)[0] for _ in range(repeats))
     turns = 1
     while True:
         many, answer = seconds(program, word, turns, text)
-        if many > 0.4 or turns >= 4096:
+        if many - idle > max(0.4, idle) or turns >= 4096:
             break
         turns *= 4
-    best = min(
-        seconds(program, word, turns, text)[0] - seconds(program, word, 0, text)[0] for _ in range(repeats)
-    )
-    return max(best, 1e-9) / turns, answer
+    best = min(seconds(program, word, turns, text)[0] for _ in range(repeats))
+    return max(best - idle, 1e-9) / turns, answer
 
 
 def main():

@@ -84,24 +84,55 @@ pub short_fits : (q : ℤ) → unsigned_abs q ≤ coordinate_limit → SFits w32
 short_fits q h = omega (arith, ints, h)
 
 -- ---- ceilings by floors
-pub negative_fits : (q : ℤ) → unsigned_abs q ≤ coordinate_limit → SFits w32 (pos 0 -ℤ q)
-negative_fits q h = omega (arith, ints, h)
-
-pub opposite_bound : (n w : ℤ) → pos 0 <ℤ w → unsigned_abs n ≤ coordinate_limit * unsigned_abs w → w ≤ℤ pos denominator_limit → unsigned_abs n ≤ coordinate_limit * denominator_limit
-opposite_bound n w hw h k = omega (arith, ints, hw, h, k)
-
-pub opposite_within : (n m w : ℤ) → m ≡ pos 0 -ℤ n → unsigned_abs n ≤ coordinate_limit * unsigned_abs w → unsigned_abs m ≤ coordinate_limit * unsigned_abs w
-opposite_within n m w e h = omega (arith, ints, e, h)
-
-pub ceiling_from : (n w m q : ℤ) → m ≡ pos 0 -ℤ n → IsFloor m w q → IsCeiling n w (pos 0 -ℤ q)
-ceiling_from n w m q o is a = turned n (a *ℤ w) m ((pos 0 -ℤ a) *ℤ w) o (solve (a ∷ w ∷ []) ((lit (pos 0) ⊖ var 0) ⊗ var 1) (lit (pos 0) ⊖ var 0 ⊗ var 1) tt)
-    ∙ is (pos 0 -ℤ a) ∙ turned (pos 0 -ℤ a) q a (pos 0 -ℤ q) (twice a) refl
+pub ceiling_at : (n w q : ℤ) → pos 0 <ℤ w → q *ℤ w ≡ n → IsCeiling n w q
+ceiling_at n w q hw e a = same_at_most n (a *ℤ w) q a (λ h. go h (at_most_or_less q a))
+    (λ h. into (a *ℤ w) (q *ℤ w) ((a -ℤ q) *ℤ w) (solve (a ∷ q ∷ w ∷ []) ((var 0 ⊖ var 1) ⊗ var 2) (var 0 ⊗ var 2 ⊖ var 1 ⊗ var 2) tt) (plus_plus (a -ℤ q) w (gap q a h) (weak w hw)) e)
   where
-    twice : (a : ℤ) → a ≡ pos 0 -ℤ (pos 0 -ℤ a)
-    twice a = omega (arith, ints)
+    gap : (q a : ℤ) → q ≤ℤ a → pos 0 ≤ℤ (a -ℤ q)
+    gap q a h = omega (arith, ints)
 
-    turned : (s t s' t' : ℤ) → s' ≡ pos 0 -ℤ s → t' ≡ pos 0 -ℤ t → int_le s t ≡ int_le t' s'
-    turned s t s' t' e f = grind (arith, ints)
+    into : (s t d : ℤ) → d ≡ s -ℤ t → pos 0 ≤ℤ d → t ≡ n → n ≤ℤ s
+    into s t d e h k = omega (arith, ints)
+
+    beyond : (a q : ℤ) → a <ℤ q → pos 0 ≤ℤ (q -ℤ a -ℤ pos 1)
+    beyond a q h = omega (arith, ints)
+
+    apart : (s t d : ℤ) → d ≡ t -ℤ s -ℤ w → pos 0 ≤ℤ d → pos 0 <ℤ w → t ≡ n → n ≤ℤ s → ⊥
+    apart s t d e h k f l = omega (arith, ints)
+
+    go : n ≤ℤ (a *ℤ w) → (q ≤ℤ a) ⊎ (a <ℤ q) → q ≤ℤ a
+    go h (inl l) = l
+    go h (inr l) = absurd (apart (a *ℤ w) (q *ℤ w) ((q -ℤ a -ℤ pos 1) *ℤ w) (solve (q ∷ a ∷ w ∷ []) ((var 0 ⊖ var 1 ⊖ lit (pos 1)) ⊗ var 2) (var 0 ⊗ var 2 ⊖ var 1 ⊗ var 2 ⊖ var 2) tt)
+        (plus_plus (q -ℤ a -ℤ pos 1) w (beyond a q l) (weak w hw)) hw e h)
+
+pub ceiling_over : (n w q : ℤ) → pos 0 <ℤ w → IsFloor n w q → (q *ℤ w ≡ n → ⊥) → IsCeiling n w (q +ℤ pos 1)
+ceiling_over n w q hw is no_whole a = same_at_most n (a *ℤ w) (q +ℤ pos 1) a (λ h. go h (at_most_or_less (q +ℤ pos 1) a)) (λ h. from (not_at_most_from (a *ℤ w) n (is a ∙ at_most_no a q (past h))))
+  where
+    past : (q +ℤ pos 1) ≤ℤ a → q <ℤ a
+    past h = omega (arith, ints)
+
+    from : n <ℤ (a *ℤ w) → n ≤ℤ (a *ℤ w)
+    from h = omega (arith, ints)
+
+    up_to : a <ℤ (q +ℤ pos 1) → a ≤ℤ q
+    up_to h = omega (arith, ints)
+
+    gap : a ≤ℤ q → pos 0 ≤ℤ (q -ℤ a)
+    gap h = omega (arith, ints)
+
+    least : (q : ℤ) → q ≤ℤ q
+    least q = omega (arith, ints)
+
+    same : (s t d : ℤ) → d ≡ t -ℤ s → pos 0 ≤ℤ d → t ≤ℤ n → n ≤ℤ s → t ≡ n
+    same s t d e h k l = omega (arith, ints)
+
+    go : n ≤ℤ (a *ℤ w) → ((q +ℤ pos 1) ≤ℤ a) ⊎ (a <ℤ (q +ℤ pos 1)) → (q +ℤ pos 1) ≤ℤ a
+    go h (inl l) = l
+    go h (inr l) = absurd (no_whole (same (a *ℤ w) (q *ℤ w) ((q -ℤ a) *ℤ w) (solve (q ∷ a ∷ w ∷ []) ((var 0 ⊖ var 1) ⊗ var 2) (var 0 ⊗ var 2 ⊖ var 1 ⊗ var 2) tt)
+        (plus_plus (q -ℤ a) w (gap (up_to l)) (weak w hw)) (at_most_from (q *ℤ w) n (is q ∙ at_most_yes q q (least q))) h))
+
+pub next_fits : (q : ℤ) → unsigned_abs q ≤ coordinate_limit → SFits w32 (q +ℤ pos 1)
+next_fits q h = omega (arith, ints, h)
 
 -- ---- of numbers read where they come from
 pub floor_as : (n w q n' w' q' : ℤ) → n ≡ n' → w ≡ w' → q ≡ q' → IsFloor n w q → IsFloor n' w' q'

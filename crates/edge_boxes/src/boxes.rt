@@ -36,7 +36,7 @@ pub struct EdgeBoxes {
 }
 
 impl EdgeBoxes {
-    /// The boxes over some edges, in one pass: leaves of up to 8 edges, other boxes over up to 8 subtrees, none where
+    /// The boxes over some edges, in one pass: leaves of up to 8 edges, other boxes over up to 4 subtrees, none where
     /// there are 16 edges or fewer. It may fail for want of memory.
     pub fn build(alloc: Global, edges: &[Segment]) -> Result<EdgeBoxes, AllocError>
         ensures { IfOk result (λ boxes. BoxesOf boxes edges.now) }

@@ -1,4 +1,4 @@
-//! How a list of boxes is built: leaf by leaf, and eight subtrees joined to one as soon as they are there. The boxes of a
+//! How a list of boxes is built: leaf by leaf, and four subtrees joined to one as soon as they are there. The boxes of a
 //! ring or element are joined before those of the next come.
 
 ghost use Rattle.std.specs.Prelude.{◌≡◌, ◌≤◌, ◌<◌, ◌-◌, length, List, [], Some, slice_get, IfOk, OnOk, IfSome};
@@ -19,7 +19,7 @@ const LEAST_LEAF: usize = 4;
 const GREATEST_LEAF: usize = 8;
 
 /// How many subtrees are joined to one.
-const SUBTREES: usize = 8;
+const SUBTREES: usize = 4;
 
 /// The boxes over some edges.
 pub(crate) fn boxes_over(alloc: Global, edges: &[Segment]) -> Result<Vec<EdgeBox>, AllocError>

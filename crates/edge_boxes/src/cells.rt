@@ -1,8 +1,7 @@
 //! The cell of the grid round a point: the whole numbers next to its coordinates.
 
-ghost use Rattle.std.specs.Prelude.{◌≡◌, ◌≤◌, ◌*◌, ◌<ℤ◌, ◌≤ℤ◌, ◌*ℤ◌, ◌-ℤ◌, ℤ, pos, int_le, unsigned_abs};
+ghost use Rattle.std.specs.Prelude.{◌≡◌, ◌≤◌, ◌*◌, ◌<ℤ◌, ◌*ℤ◌, ℤ, pos, int_le, unsigned_abs};
 ghost use Rattle.geometry_model.specs.WellKnownText.{coordinate_limit};
-ghost use Rattle.fraction.specs.Ranges.{denominator_limit};
 ghost use Rattle.edge_boxes.specs.Cells.{IsCellOf, IsFloor, IsCeiling};
 
 use fraction::RatPoint;
@@ -23,13 +22,26 @@ impl Cell {
         ensures { IsCellOf result point.now }
     {
         let denominator = point.denominator();
+        let (floor_x, ceiling_x) = neighbours(point.numerator_x(), denominator);
+        let (floor_y, ceiling_y) = neighbours(point.numerator_y(), denominator);
         Cell {
-            floor_x: floor(point.numerator_x(), denominator),
-            ceiling_x: ceiling(point.numerator_x(), denominator),
-            floor_y: floor(point.numerator_y(), denominator),
-            ceiling_y: ceiling(point.numerator_y(), denominator),
+            floor_x,
+            ceiling_x,
+            floor_y,
+            ceiling_y,
         }
     }
+}
+
+/// The floor of a quotient and its ceiling, by one division.
+fn neighbours(numerator: i128, denominator: i64) -> (i32, i32)
+    requires positive { pos 0 <ℤ denominator }
+    requires within { unsigned_abs numerator ≤ coordinate_limit * unsigned_abs denominator }
+    ensures floor { IsFloor numerator denominator result.0 }
+    ensures ceiling { IsCeiling numerator denominator result.1 }
+{
+    let floor = floor(numerator, denominator);
+    (floor, ceiling(floor, numerator, denominator))
 }
 
 /// The greatest whole number up to a quotient.
@@ -46,20 +58,23 @@ fn floor(numerator: i128, denominator: i64) -> i32
     }
 }
 
-/// The least whole number from a quotient on.
-fn ceiling(numerator: i128, denominator: i64) -> i32
+/// The least whole number from a quotient on, by the greatest one up to it.
+fn ceiling(floor: i32, numerator: i128, denominator: i64) -> i32
     requires positive { pos 0 <ℤ denominator }
-    requires within { unsigned_abs numerator ≤ coordinate_limit * unsigned_abs denominator }
-    requires short { denominator ≤ℤ pos denominator_limit }
+    requires floor { IsFloor numerator denominator floor }
+    requires bound { unsigned_abs floor ≤ coordinate_limit }
     ensures { IsCeiling numerator denominator result }
 {
-    -floor(opposite(numerator), denominator)
+    if multiple(floor, denominator) == numerator {
+        floor
+    } else {
+        floor + 1
+    }
 }
 
-/// The number with its sign turned.
-fn opposite(number: i128) -> i128
-    requires { unsigned_abs number ≤ coordinate_limit * denominator_limit }
-    ensures { result ≡ pos 0 -ℤ number }
+/// A whole number over a denominator.
+fn multiple(number: i32, denominator: i64) -> i128
+    ensures { result ≡ number *ℤ denominator }
 {
-    -number
+    number as i128 * denominator as i128
 }

@@ -12,7 +12,7 @@ use crate::bounds::Bounds;
 use crate::cells::Cell;
 use crate::runs::{Ends, Run};
 use fraction::RatPoint;
-use orient::{Segment, at_or_above, crosses_up, on};
+use orient::{Segment, crossing_at};
 
 /// How a point lies to edges (OGC 06-103r4, 6.1.11.1: inside). Of an edge's ends the left one counts and the right one
 /// doesn't; an upright edge lies above no point.
@@ -101,18 +101,30 @@ pub(crate) fn told(run: &Run, cell: &Cell) -> Option<Crossings>
     }
 }
 
-/// How the point lies to one edge.
+/// How the point lies to one edge, by the side of it.
+fn by_side(edge: &Segment, point: &RatPoint) -> Crossings
+    ensures { AreCrossings result (edge.now ∷ []) point.now }
+{
+    let found = crossing_at(edge, point);
+    Crossings {
+        on: found.on,
+        odd_above: found.strictly_above,
+        odd_at_or_above: found.at_or_above,
+    }
+}
+
+/// How the point lies to one edge. At a position of the grid a side costs no more than a look at the edge's bounds; elsewhere
+/// it takes long products.
 fn of_edge(edge: &Segment, point: &RatPoint, cell: &Cell) -> Crossings
     requires { IsCellOf cell.now point.now }
     ensures { AreCrossings result (edge.now ∷ []) point.now }
 {
+    if point.denominator() == 1 {
+        return by_side(edge, point);
+    }
     match told(&Run::of(edge), cell) {
         Some(crossings) => crossings,
-        None => Crossings {
-            on: on(edge, point),
-            odd_above: crosses_up(edge, point),
-            odd_at_or_above: at_or_above(edge, point),
-        },
+        None => by_side(edge, point),
     }
 }
 

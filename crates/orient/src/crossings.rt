@@ -1,19 +1,36 @@
 //! Which segments lie above a point, on an upward ray from it: each covers its left end and not its right
 //! one.
 
-ghost use Rattle.std.specs.Prelude.{◌≡◌};
+ghost use Rattle.std.specs.Prelude.{◌≡◌, ◌-ℤ◌, pos, if◌then◌else◌, int_le, int_lt};
+ghost use Rattle.geometry_model.specs.Sides.{on};
 ghost use Rattle.geometry_model.specs.Crossings as spec;
 
 use crate::products::numerator_over;
 use crate::segments::Segment;
-use crate::sides::signed_side;
+use crate::sides::{is_on, signed_side};
 use fraction::{GridPoint, RatPoint};
 
-/// Whether a position isn't to the right of the point.
+/// How a point lies to a segment (OGC 06-103r4, 6.1.7 and 6.1.11.1). Of the segment's ends the left one counts and the right
+/// one doesn't; an upright segment lies above no point.
+#[derive(Clone, Copy, Debug, PartialEq, Eq)]
+pub struct Crossing {
+    /// Whether it lies on the segment, ends counted.
+    pub on: bool,
+    /// Whether the segment lies strictly above it.
+    pub strictly_above: bool,
+    /// Whether the segment lies above it or goes through it.
+    pub at_or_above: bool,
+}
+
+/// Whether a position isn't to the right of the point. At a position of the grid no product is needed.
 fn reaches(a: GridPoint, p: &RatPoint) -> bool
     ensures { result ≡ spec.reaches a p.now }
 {
-    numerator_over(a.x(), p.denominator()) <= p.numerator_x()
+    if p.denominator() == 1 {
+        i128::from(a.x()) <= p.numerator_x()
+    } else {
+        numerator_over(a.x(), p.denominator()) <= p.numerator_x()
+    }
 }
 
 /// Whether exactly one end of the segment isn't to the right of the point.
@@ -49,4 +66,41 @@ pub fn at_or_above(segment: &Segment, p: &RatPoint) -> bool
     ensures { result ≡ spec.at_or_above segment.now p.now }
 {
     spans(segment, p) && signed_side_rightward(segment, p) <= 0
+}
+
+/// Whether the segment goes from left to right, or is upright.
+fn is_rightward(segment: &Segment) -> bool
+    ensures { result ≡ int_le segment.now.start.x segment.now.end.x }
+{
+    segment.start().x() <= segment.end().x()
+}
+
+/// Whether a side is below 0, where it is turned if it isn't seen rightward.
+fn is_below(side: i128, is_rightward: bool) -> bool
+    ensures { result ≡ int_lt (if is_rightward then side else pos 0 -ℤ side) (pos 0) }
+{
+    (side != 0) & ((side < 0) == is_rightward)
+}
+
+/// Whether a side is at most 0, where it is turned if it isn't seen rightward.
+fn is_at_most(side: i128, is_rightward: bool) -> bool
+    ensures { result ≡ int_le (if is_rightward then side else pos 0 -ℤ side) (pos 0) }
+{
+    (side == 0) | ((side < 0) == is_rightward)
+}
+
+/// How the point lies to the segment, all told by one side.
+pub fn crossing_at(segment: &Segment, p: &RatPoint) -> Crossing
+    ensures on { result.on ≡ on segment.now p.now }
+    ensures strictly_above { result.strictly_above ≡ spec.strictly_above segment.now p.now }
+    ensures at_or_above { result.at_or_above ≡ spec.at_or_above segment.now p.now }
+{
+    let side = signed_side(segment.start(), segment.end(), p);
+    let is_rightward = is_rightward(segment);
+    let spans = spans(segment, p);
+    Crossing {
+        on: is_on(side, segment, p),
+        strictly_above: spans & is_below(side, is_rightward),
+        at_or_above: spans & is_at_most(side, is_rightward),
+    }
 }

@@ -7,6 +7,6 @@ mod products;
 pub mod segments;
 pub mod sides;
 
-pub use crossings::{at_or_above, crosses_up};
+pub use crossings::{Crossing, at_or_above, crosses_up, crossing_at};
 pub use segments::Segment;
 pub use sides::{on, side, side_number};

@@ -97,9 +97,17 @@ fn is_within_ends(segment: &Segment, p: &RatPoint) -> bool
         && is_between(start.y(), end.y(), p.numerator_y(), w)
 }
 
+/// Whether p, of this side, lies on the segment.
+pub(crate) fn is_on(side: i128, segment: &Segment, p: &RatPoint) -> bool
+    requires { side ≡ spec.side segment.now.start segment.now.end p.now }
+    ensures { result ≡ spec.on segment.now p.now }
+{
+    side == 0 && is_within_ends(segment, p)
+}
+
 /// Whether p lies on the segment, ends counted (OGC 06-103r4, 6.1.7: Line).
 pub fn on(segment: &Segment, p: &RatPoint) -> bool
     ensures { result ≡ spec.on segment.now p.now }
 {
-    signed_side(segment.start(), segment.end(), p) == 0 && is_within_ends(segment, p)
+    is_on(signed_side(segment.start(), segment.end(), p), segment, p)
 }

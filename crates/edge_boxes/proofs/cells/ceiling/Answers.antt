@@ -1,17 +1,19 @@
-use Rattle.std.proofs.Common.{◌≡◌, pos, ◌-ℤ◌, sym, ap, ◌∙◌, rules}
+use Rattle.std.proofs.Common.{◌≡◌, sym, ap, ◌∙◌, to_z, of_z}
 use Rattle.std.proofs.lemmas.Int.{to_z-of_z}
-use mir.Syntax.{w32, w64, w128}
+use mir.Syntax.{w32, w128}
 use mir.Val.{SFits}
-use Rattle.edge_boxes.proofs.Floors.{ceiling_from, negative_fits, opposite_within, opposite_bound}
+use Rattle.edge_boxes.proofs.Floors.{ceiling_at, ceiling_over, next_fits}
 use Rattle.edge_boxes.proofs.cells.ceiling.Goals as goal
 
-pub opposite-requires : goal.opposite-requires
-opposite-requires c = simp (to_z-of_z, c.ranges.numerator) (opposite_bound c.args.numerator c.args.denominator c.requires.positive c.requires.within c.requires.short)
+pub returns-then-multiple-numerator : goal.returns-then-multiple-numerator
+returns-then-multiple-numerator c =
+    let f : SFits w128 c.multiple.result = record { sfits = c.multiple.type_inv } in
+    let e = simp (to_z-of_z, c.ranges.floor, c.ranges.denominator) at c.multiple.ensures in
+    let g = sym (to_z-of_z w128 c.multiple.result f) ∙ ap (to_z w128) c.if-multiple-numerator.true ∙ to_z-of_z w128 c.args.numerator c.ranges.numerator in
+    simp (to_z-of_z, c.ranges.floor) (ceiling_at c.args.numerator c.args.denominator c.args.floor c.requires.positive (sym e ∙ g))
 
-pub returns : goal.returns
-returns c =
-    let f : SFits w32 c.floor.result = record { sfits = c.floor.type_inv } in
-    let g = negative_fits c.floor.result c.floor.ensures.bound in
-    let x : SFits w128 c.opposite.result = record { sfits = c.opposite.type_inv } in
-    let o : c.opposite.result ≡ pos 0 -ℤ c.args.numerator = simp (to_z-of_z, c.ranges.numerator) at c.opposite.ensures in
-    simp to_z-of_z (ceiling_from c.args.numerator c.args.denominator c.opposite.result c.floor.result o (simp (to_z-of_z, c.ranges.denominator, x) at c.floor.ensures.floor))
+pub returns-else-multiple-numerator : goal.returns-else-multiple-numerator
+returns-else-multiple-numerator c =
+    let e = simp (to_z-of_z, c.ranges.floor, c.ranges.denominator) at c.multiple.ensures in
+    let next = next_fits c.args.floor c.requires.bound in
+    simp (to_z-of_z, c.ranges.floor, next) (ceiling_over c.args.numerator c.args.denominator c.args.floor c.requires.positive c.requires.floor (λ h. c.if-multiple-numerator.false (ap (of_z w128) (e ∙ h))))
