@@ -5,6 +5,7 @@
 mod order_tests;
 #[cfg(test)]
 mod parcels_tests;
+#[cfg(test)]
 mod spatial_tests;
 #[cfg(test)]
 mod tests;
