@@ -43,7 +43,7 @@ pub fn value(
     truth
 }
 
-/// The truth of a condition at rows. Its clauses take the work as it is kept in 64 bits; `value` sees that it always is.
+/// The truth of a condition at rows. Its clauses take the work as it is kept in 64 bits; `value` sees that it is.
 #[cycle(value)]
 fn evaluated(
     alloc: Global,
