@@ -7,6 +7,7 @@
 pub mod envelopes;
 pub mod indexes;
 pub mod lists;
+pub mod of_geometries;
 mod packing;
 pub mod trees;
 
