@@ -73,11 +73,11 @@ fn the_tree_finds(rt: HostRuntime) -> Result<(), Fail> {
     finds::<RTree>(&rt)
 }
 
-// The envelopes of so many positions on a line, the last one first, and an absent one behind them.
-fn on_a_line(alloc: Global, count: i32) -> Result<Vec<Option<Envelope>>, Fail> {
+// The envelopes of 100 positions on a line, the last one first, and an absent one behind them.
+fn on_a_line(alloc: Global) -> Result<Vec<Option<Envelope>>, Fail> {
     let mut envelopes = Vec::new(alloc);
-    for k in 0..count {
-        envelopes.push(Envelope::of_positions(&[position(count - k, 1)?]))?;
+    for k in 0..100u8 {
+        envelopes.push(Envelope::of_positions(&[position(100 - i32::from(k), 1)?]))?;
     }
     envelopes.push(None)?;
     Ok(envelopes)
@@ -86,7 +86,7 @@ fn on_a_line(alloc: Global, count: i32) -> Result<Vec<Option<Envelope>>, Fail> {
 /// Of 100 positions in 13 leaves, two nodes over them and a root, a small square opens one of each, and another meets none.
 #[test]
 fn opened_nodes(rt: HostRuntime) -> Result<(), Fail> {
-    let envelopes = on_a_line(rt.alloc(), 100)?;
+    let envelopes = on_a_line(rt.alloc())?;
     let tree = RTree::build(rt.alloc(), envelopes.as_slice())?;
     assert!(rt; tree.opened(framed((0, 0), (4, 4))?) == 3);
     assert!(rt; tree.opened(framed((500, 500), (500, 500))?) == 0);

@@ -4,6 +4,8 @@
 #[cfg(test)]
 mod area_validity_tests;
 #[cfg(test)]
+mod envelope_tests;
+#[cfg(test)]
 mod location_tests;
 #[cfg(test)]
 mod printing_tests;

@@ -10,7 +10,8 @@ use Rattle.std.proofs.lemmas.Simd.{map-map}
 use Rattle.geometry_model.specs.Envelopes.{Envelope}
 use Rattle.std.proofs.lemmas.List.FromFn.{length-map-range_with_len, map-range_with_len_more}
 use mathlib.Core.Path.{fun_ext}
-use Rattle.rtree.specs.Packing.{Entry, eights, nodes_over, levels_up, levels_of, joined_all, around}
+use Rattle.rtree.specs.Joins.{joined_all}
+use Rattle.rtree.specs.Packing.{Entry, eights, nodes_over, levels_up, levels_of, around}
 use Rattle.rtree.specs.Trees.{KeepPacking, singles}
 use Rattle.rtree.proofs.JoinLemmas.{joined_nodes}
 

@@ -11,7 +11,8 @@ use Rattle.std.proofs.lemmas.List.FromFn.{get_or-map-range_with_len}
 use Rattle.std.proofs.lemmas.Slice.Zip.{get_or-zip, length-zip}
 use Rattle.integers.proofs.Signs.{at_most_from, at_most_yes}
 use Rattle.geometry_model.specs.Envelopes.{Envelope, joined, overlap}
-use Rattle.rtree.specs.Packing.{Entry, around, eights, nodes_over, with_envelope}
+use Rattle.rtree.specs.Joins.{with_envelope}
+use Rattle.rtree.specs.Packing.{Entry, around, eights, nodes_over}
 use Rattle.rtree.specs.Trees.{AreLevels, entries_of, found_below, groups_at, level_at, places_found, singles}
 use Rattle.rtree.proofs.GroupLemmas.{group_is, length-eights, same_length}
 

@@ -1,4 +1,5 @@
 pub mod Found
+pub mod Joins
 pub mod ListIndexes
 pub mod Packing
 pub mod Trees

@@ -1,10 +1,11 @@
 -- How the envelopes of a list are packed into a tree: their order, and the groups of neighbours that are its nodes.
-use Rattle.std.specs.Prelude.{ℕ, zero, suc, ◌*◌, ℤ, ◌+ℤ◌, Bool, cond, List, [], ◌∷◌, map, filter_map, take, drop, length, nat_le, Option, Some, None, option_map, count_by, flat_map}
+use Rattle.std.specs.Prelude.{ℕ, zero, suc, ◌*◌, ℤ, ◌+ℤ◌, Bool, cond, List, [], ◌∷◌, map, filter_map, take, drop, length, nat_le, Option, option_map, count_by, flat_map}
 use Rattle.std.specs.Int.{div_ceil}
 use Rattle.std.specs.List.{enumerate_from, range_with_len}
 use Rattle.std.specs.Ordering.{ordering_then, int_cmp, nat_cmp, is_lt}
 use Rattle.std.specs.declared.cmp.Ordering.{Ordering}
-use Rattle.geometry_model.specs.Envelopes.{Envelope, joined, meets}
+use Rattle.geometry_model.specs.Envelopes.{Envelope, meets}
+use Rattle.rtree.specs.Joins.{joined_all}
 
 -- an envelope of a list, behind its position there
 abbrev pub Entry : Type 0
@@ -62,16 +63,6 @@ abbrev pub levels_of : {X : Type 0} → List X → List (List (List X))
 levels_of entries = levels_up (length entries) (eights entries)
 
 -- ---- the envelopes of the nodes
-
--- the envelope of one envelope and of what may follow it
-abbrev pub with_envelope : Envelope → Option Envelope → Envelope
-with_envelope e None = e
-with_envelope e (Some f) = joined e f
-
--- the envelope of all of some envelopes; of none it is absent
-abbrev pub joined_all : List Envelope → Option Envelope
-joined_all [] = None
-joined_all (e ∷ rest) = Some (with_envelope e (joined_all rest))
 
 -- the envelope of all entries below a node
 abbrev pub around : List Entry → Option Envelope

@@ -5,7 +5,8 @@ ghost use Rattle.std.specs.Option.{option_to_list};
 ghost use Rattle.std.specs.Vec.{vec_items};
 ghost use Rattle.geometry_model.specs.Envelopes.{meets};
 ghost use Rattle.rtree.specs.Found.{meeting_places};
-ghost use Rattle.rtree.specs.Packing.{Entry, comes_before, eights, entry_at, joined_all, packing_key, present};
+ghost use Rattle.rtree.specs.Joins.{joined_all};
+ghost use Rattle.rtree.specs.Packing.{Entry, comes_before, eights, entry_at, packing_key, present};
 ghost use Rattle.rtree.specs.Trees.{KeepPacking};
 
 use crate::envelopes::{Envelope, joined};

@@ -1,5 +1,5 @@
 use Rattle.std.proofs.Common.{◌∙◌, ◌<◌, Some, length, take, ap, sym, rules}
-use Rattle.rtree.specs.Packing.{joined_all}
+use Rattle.rtree.specs.Joins.{joined_all}
 use Rattle.rtree.proofs.FoundLemmas.{taken}
 use Rattle.rtree.proofs.JoinLemmas.{joined_more}
 use Rattle.rtree.proofs.packing.around.Goals as goal

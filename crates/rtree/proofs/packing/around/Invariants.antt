@@ -1,5 +1,5 @@
 use Rattle.std.proofs.Common.{◌≡◌, Some, take}
-use Rattle.rtree.specs.Packing.{joined_all}
+use Rattle.rtree.specs.Joins.{joined_all}
 use Rattle.rtree.proofs.packing.around.Given as goal
 
 -- the envelope of the envelopes so far

@@ -1,6 +1,6 @@
 use Rattle.std.proofs.Common.{◌≡◌, ◌*◌, Some, map, take, drop}
 use Rattle.std.specs.List.{range_with_len}
-use Rattle.rtree.specs.Packing.{joined_all}
+use Rattle.rtree.specs.Joins.{joined_all}
 use Rattle.rtree.proofs.packing.level_over.Given as goal
 
 -- the nodes before this one are there

@@ -1,7 +1,8 @@
 use Rattle.std.proofs.Common.{◌≡◌, ◌∙◌, ◌<◌, ◌≤◌, ◌++◌, ◌∷◌, [], Some, ap, length, map, subst, sym, arith}
 use Rattle.std.specs.Vec.{vec_items}
 use Rattle.std.proofs.lemmas.List.{map-append}
-use Rattle.rtree.specs.Packing.{eights, joined_all}
+use Rattle.rtree.specs.Joins.{joined_all}
+use Rattle.rtree.specs.Packing.{eights}
 use Rattle.rtree.specs.Trees.{KeepPacking}
 use Rattle.rtree.proofs.GroupLemmas.{IsRising, fewer, rising_end, rising_more, rising_start}
 use Rattle.rtree.proofs.packing.levels_over.Goals as goal
