@@ -1,6 +1,6 @@
-use Rattle.std.proofs.Common.{◌≡◌, sym, ap, ◌∙◌, to_z, of_z}
+use Rattle.std.proofs.Common.{sym, ap, ◌∙◌, to_z, of_z}
 use Rattle.std.proofs.lemmas.Int.{to_z-of_z}
-use mir.Syntax.{w32, w128}
+use mir.Syntax.{w128}
 use mir.Val.{SFits}
 use Rattle.edge_boxes.proofs.Floors.{ceiling_at, ceiling_over, next_fits}
 use Rattle.edge_boxes.proofs.cells.ceiling.Goals as goal
