@@ -1,0 +1,6 @@
+mod CandidateLemmas
+mod FilterLemmas
+mod PlaceLemmas
+mod ProbeLemmas
+mod RowLemmas
+mod WalkLemmas
