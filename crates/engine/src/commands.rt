@@ -11,7 +11,7 @@ use crate::runs::run;
 use command_line::Order;
 use feature_table::{Database, Schema};
 use itoa::Buffer;
-use rtree::{EnvelopeIndex, ListIndex};
+use rtree::{EnvelopeIndex, RTree};
 use spatial_sql::read_schema;
 use std::alloc::{AllocError, Global};
 use std::io::{ErrorKind, Read};
@@ -19,7 +19,7 @@ use table_model::tokens::TEXT_LIMIT;
 use wkt::{Sink, SinkFault, put_parts};
 
 /// The index that is kept of each geometry column.
-type ColumnIndex = ListIndex;
+type ColumnIndex = RTree;
 
 /// How many bytes of a schema's file are read: one more than a schema may have.
 const SCHEMA_BYTES: u64 = TEXT_LIMIT as u64 + 1;
