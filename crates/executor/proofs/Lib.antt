@@ -3,4 +3,5 @@ mod FilterLemmas
 mod PlaceLemmas
 mod ProbeLemmas
 mod RowLemmas
+mod RunLemmas
 mod WalkLemmas
