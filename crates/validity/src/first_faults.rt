@@ -233,8 +233,8 @@ fn element_meets_near(
     requires closed { HasClosedRings outline.now }
     requires element { element < length (spec.elements outline.now) }
     requires near { near.now ≡ near_one (element_envelopes outline.now) element }
-    ensures { IfOk result
-        (λ fault. fault ≡ first_of outline.now (with_later_elements ValidityFault.ElementsMeet element outline.now)) }
+    ensures { IfOk result (λ fault. fault
+        ≡ first_of outline.now (with_later_elements ValidityFault.ElementsMeet element outline.now)) }
 {
     let boxes = outline.element_boxes(alloc, element)?;
     let mut found = Vec::new(alloc);
