@@ -1,9 +1,9 @@
 -- What the exits of a run say.
-use Rattle.std.proofs.Common.{◌≡◌, ◌≢◌, ◌<◌, inl, inr, ℕ, Bool, true, false, List, ◌∷◌, [], ◌++◌, codes, length, map, Option, None, Some, Result, Ok, Err, OnOk, OnErr, IfErr, refl, sym, ◌∙◌, ap, subst, append-nil}
+use Rattle.std.proofs.Common.{◌≡◌, ◌≢◌, ◌<◌, inl, inr, ℕ, Bool, true, false, List, ◌∷◌, [], ◌++◌, codes, length, map, Option, None, Some, Result, Ok, Err, IfErr, refl, sym, ◌∙◌, ap, subst, append-nil}
 use Rattle.std.specs.Prelude.{IsErrAnd, IsOk, zero, suc, decimal}
 use Rattle.std.specs.List.{concat}
 use Rattle.std.specs.Option.{option_map_or}
-use Rattle.std.specs.Io.KnownBytes.{Appends, Keeps}
+use Rattle.std.specs.Io.KnownBytes.{Keeps}
 use Rattle.std.proofs.lemmas.List.{length-map}
 use Rattle.std.proofs.lemmas.Simd.{map-map}
 use Rattle.binding_laws.proofs.Filtering.{bound_of_statement, meaning_by_conjuncts}
@@ -12,17 +12,17 @@ use Rattle.executor.specs.declared.execution.RowPair.{RowPair}
 use Rattle.geometry_model.specs.Geometries.{Geometry}
 use Rattle.sinks.specs.Sinks.{AppendsFront}
 use Rattle.table_model.proofs.PlaceFacts.{meant_gives_limited}
-use Rattle.table_model.specs.AnswerTexts.{answer, count_records, header, record_of}
+use Rattle.table_model.specs.AnswerTexts.{answer, header, record_of}
 use Rattle.table_model.specs.Binding.{Checked, ◌>>=◌, binding, statement}
 use Rattle.table_model.specs.Databases.{Database, load_tables}
 use Rattle.table_model.specs.GeometryColumns.{ColumnShape}
 use Rattle.table_model.specs.Loading.{Record}
-use Rattle.table_model.specs.Meanings.{Table, meaning, passing_rows, referenced}
-use Rattle.table_model.specs.Places.{limited, meant, query_rows}
+use Rattle.table_model.specs.Meanings.{referenced}
+use Rattle.table_model.specs.Places.{meant, query_rows}
 use Rattle.table_model.specs.Plans.{chosen}
 use Rattle.table_model.specs.QueryReading.{query_of}
 use Rattle.table_model.specs.ExplainTexts.{explain_text}
-use Rattle.table_model.specs.RunOutcomes.{MatrixOf, Refusal, OfQuery, OfTable, after, answer_text, counted_text, loaded_outcome, outcome, query_outcome, records_text, text_for}
+use Rattle.table_model.specs.RunOutcomes.{MatrixOf, Refusal, OfQuery, OfTable, after, answer_text, counted_text, loaded_outcome, outcome, query_outcome, text_for}
 use Rattle.table_model.specs.Statements.{Statement, by_conjuncts}
 use Rattle.table_model.specs.Truths.{truth}
 use Rattle.table_model.specs.declared.conditions.Bound.{Bound}

@@ -179,11 +179,7 @@ fn field_at<'a>(rows: &'a [Row<'_>], place: ColumnPlace) -> Field<'a>
 }
 
 // Adds the text of a field.
-fn push_field(
-    alloc: Global,
-    fields: &mut ByteRecord,
-    field: Field<'_>,
-) -> Result<(), AllocError>
+fn push_field(alloc: Global, fields: &mut ByteRecord, field: Field<'_>) -> Result<(), AllocError>
     requires { partial_of fields.old ≡ [] }
     ensures fields { OnOk result
         (fields_of fields.new ≡ fields_of fields.old ++ field_text serving.writing (shown field.entry) ∷ []) }

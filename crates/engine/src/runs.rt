@@ -268,7 +268,12 @@ fn pair_record<I: EnvelopeIndex + Drop>(
         None => row_record(alloc, fields, query, &[table.row(pair.first)]),
         Some(second) => {
             let other = database.table(references[1].table);
-            row_record(alloc, fields, query, &[table.row(pair.first), other.row(second)])
+            row_record(
+                alloc,
+                fields,
+                query,
+                &[table.row(pair.first), other.row(second)],
+            )
         }
     }
 }

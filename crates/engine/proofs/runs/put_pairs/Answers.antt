@@ -1,5 +1,5 @@
 -- The records of the pairs before this one were put; this one's, or a front of it, comes after them.
-use Rattle.std.proofs.Common.{◌<◌, length, ap, ◌∙◌, subst, sym, refl, arith}
+use Rattle.std.proofs.Common.{◌<◌, length, ap, ◌∙◌, subst, arith}
 use Rattle.engine.specs.Runs.{pair_text}
 use Rattle.engine.specs.Serving.{record_text, serving}
 use Rattle.engine.proofs.PutLemmas.{put-begun}
