@@ -12,8 +12,14 @@ fn envelopes_of_geometries(rt: HostRuntime) -> Result<(), Fail> {
         (b"MULTIPOINT(1 5,-2 7,0 6)", (-2, 1, 5, 7)),
         (b"LINESTRING(0 9,4 1)", (0, 4, 1, 9)),
         (b"MULTILINESTRING((0 0,1 1),(5 -3,2 2))", (0, 5, -3, 2)),
-        (b"POLYGON((0 0,8 0,8 6,0 6,0 0),(1 1,1 2,2 1,1 1))", (0, 8, 0, 6)),
-        (b"MULTIPOLYGON(((0 0,1 0,0 1,0 0)),((9 9,9 8,8 9,9 9)))", (0, 9, 0, 9)),
+        (
+            b"POLYGON((0 0,8 0,8 6,0 6,0 0),(1 1,1 2,2 1,1 1))",
+            (0, 8, 0, 6),
+        ),
+        (
+            b"MULTIPOLYGON(((0 0,1 0,0 1,0 0)),((9 9,9 8,8 9,9 9)))",
+            (0, 9, 0, 9),
+        ),
     ];
     for (text, bounds) in cases {
         let valid = check(rt.alloc(), read(rt.alloc(), text)?)?;

@@ -37,8 +37,10 @@ fn push_entry(
     place: usize,
     envelope: Option<Envelope>,
 ) -> Result<(), AllocError>
-    ensures absent { OnOk result (absent.new.items ≡ absent.old.items ++ cond (meets envelope None) (place ∷ []) []) }
-    ensures others { OnOk result (entries.new.items ≡ entries.old.items ++ option_to_list (entry_at (place, envelope))) }
+    ensures absent { OnOk result (absent.new.items
+        ≡ absent.old.items ++ cond (meets envelope None) (place ∷ []) []) }
+    ensures others { OnOk result (entries.new.items
+        ≡ entries.old.items ++ option_to_list (entry_at (place, envelope))) }
 {
     match envelope {
         None => absent.push(place)?,

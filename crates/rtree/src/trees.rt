@@ -13,9 +13,9 @@ use crate::packing::{NODE_SIZE, envelopes_of, levels_over, places_of, push_apart
 use std::alloc::{AllocError, Global};
 use std::marker::Model;
 
-/// A tree packed by sorted centres. The envelopes that are there are ordered by least x plus greatest x, then by least
-/// y plus greatest y, then by position; each eight neighbours make a leaf, and each eight neighbours of a level a node
-/// of the next, up to one root. A node keeps the envelope of all below it.
+/// A tree packed by sorted centres. The envelopes that are there are ordered by least x plus greatest x, then by
+/// least y plus greatest y, then by position; each eight neighbours make a leaf, and each eight neighbours of a
+/// level a node of the next, up to one root. A node keeps the envelope of all below it.
 #[derive(Drop)]
 pub struct RTree {
     /// The positions of the absent envelopes, ascending.
@@ -36,7 +36,8 @@ impl Model for RTree {
 }
 
 impl RTree {
-    /// How many nodes, leaves among them, have an envelope that meets the one asked for; none meets an absent one.
+    /// How many nodes, leaves among them, have an envelope that meets the one asked for; none meets an absent
+    /// one. It tells of the packing alone, and nothing of what a search visits.
     pub fn opened(&self, asked: Option<Envelope>) -> usize
         ensures { result ≡ opened self.now asked }
     {
@@ -104,8 +105,8 @@ impl EnvelopeIndex for RTree {
     }
 }
 
-// Adds the positions of the envelopes that meet the one asked for, of all below eight neighbours of the highest of
-// some levels, the first of which is given.
+// Adds the positions of the envelopes that meet the one asked for, of all below eight neighbours of the highest
+// of some levels, the first of which is given. It goes into a node only where its envelope meets.
 fn push_below(
     levels: &[Vec<Envelope>],
     places: &[usize],
