@@ -5,3 +5,4 @@ mod ProbeLemmas
 mod RowLemmas
 mod RunLemmas
 mod WalkLemmas
+pub mod OrderLemmas

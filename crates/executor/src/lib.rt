@@ -6,6 +6,7 @@ mod envelopes;
 pub mod execution;
 mod filters;
 mod found;
+mod orders;
 mod places;
 mod tables;
 mod walks;

@@ -127,7 +127,11 @@ fn spatial_truths_at_rows(rt: HostRuntime) -> Result<(), Fail> {
             [yes, unknown, no, no],
             3,
         ),
-        ("SELECT id FROM t WHERE ST_IsEmpty(geom)", [no, unknown, no, yes], 0),
+        (
+            "SELECT id FROM t WHERE ST_IsEmpty(geom)",
+            [no, unknown, no, yes],
+            0,
+        ),
         (
             "SELECT id FROM t WHERE ST_AsText(geom) = 'POINT(1 1)'",
             [yes, unknown, no, no],

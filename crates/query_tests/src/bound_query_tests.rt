@@ -1,7 +1,7 @@
 //! What binding means for whole queries, with places counted by hand.
 
-use query_binder::{Bound, ColumnShape, QueryFault, TableDef, bind};
 use geometry_model::{GeometryFault, Predicate, TextFault, ValidityFault};
+use query_binder::{Bound, ColumnShape, QueryFault, TableDef, bind};
 use query_reader::read_query;
 use sqlite_items::Items;
 use std::alloc::Global;

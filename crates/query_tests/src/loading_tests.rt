@@ -102,7 +102,11 @@ fn each_fault(rt: HostRuntime) -> Result<(), Fail> {
 fn shapes(alloc: Global) -> Result<Schema, Fail> {
     let columns = vec![in alloc;
         column(alloc, "id", ColumnType::Integer)?,
-        column(alloc, "geom", ColumnType::Geometry(Some(GeometryType::Polygon)))?,
+        column(
+            alloc,
+            "geom",
+            ColumnType::Geometry(Some(GeometryType::Polygon))
+        )?,
     ]?;
     let tables = vec![in alloc;
         TableDef {

@@ -47,10 +47,7 @@ impl Envelope {
 
     /// The envelope of some positions and of those that follow them, whose envelope is given. (OGC 06-103r4, 6.1.2.2:
     /// Envelope.)
-    pub fn with_positions(
-        positions: &[GridPoint],
-        following: Option<Envelope>,
-    ) -> Option<Envelope>
+    pub fn with_positions(positions: &[GridPoint], following: Option<Envelope>) -> Option<Envelope>
         ensures { (later : List Position) → following ≡ envelope_of_positions later
             → result ≡ envelope_of_positions (positions.now ++ later) }
     {
