@@ -2,8 +2,6 @@
 #![tactic(auto)]
 
 #[cfg(test)]
-mod index_tests;
-#[cfg(test)]
 mod order_tests;
 #[cfg(test)]
 mod parcels_tests;
