@@ -1,0 +1,81 @@
+//! The gaps of an edge among other edges.
+
+ghost use Rattle.std.specs.Prelude.{◌≡◌, false, OnOk, IfOk};
+ghost use Rattle.edge_boxes.specs.BoxLists.{BoxesOf};
+ghost use Rattle.gap_laws.specs.Gaps.{AreGaps, SharesNoStretch};
+
+use edge_boxes::EdgeBoxes;
+use fraction::RatPoint;
+use orient::Segment;
+use std::alloc::{AllocError, Global};
+use std::marker::Model;
+
+/// Where other edges meet an edge: the points that it shares with them, and its stops, in ascending order, from its lesser end
+/// to its greater one, between neighbours of which each of the others holds all points or none (OGC 06-103r4, 6.1.15.2:
+/// intersection; gaps: this project's choice). It is filled for one edge after another, and keeps its memory.
+#[derive(Debug, Drop)]
+pub struct Gaps {
+    near: Vec<usize>,
+    shared: Vec<RatPoint>,
+    stops: Vec<RatPoint>,
+}
+
+impl Model for Gaps {
+    ghost use Rattle.gap_laws.specs.Gaps.{EdgeGaps};
+
+    ghost Value = { EdgeGaps };
+
+    ghost view = { λ g. record { shared = g.shared.items; stops = g.stops.items } };
+}
+
+impl Gaps {
+    /// Those of no edge. It takes no memory.
+    pub fn new(alloc: Global) -> Gaps {
+        Gaps {
+            near: Vec::new(alloc),
+            shared: Vec::new(alloc),
+            stops: Vec::new(alloc),
+        }
+    }
+
+    /// Fills it for an edge among others, whose boxes come along. It may fail for want of memory.
+    pub fn find(
+        &mut self,
+        edge: &Segment,
+        others: &[Segment],
+        boxes: &EdgeBoxes,
+    ) -> Result<(), AllocError>
+        requires { BoxesOf boxes.now others.now }
+        ensures { OnOk result (AreGaps edge.now others.now self.new) }
+    {
+        Err(AllocError)
+    }
+
+    /// Whether one of the others may share a stretch with the edge: where it answers no, none does. It may fail for want of
+    /// memory, and forgets what it was filled with.
+    pub fn may_share_stretch(
+        &mut self,
+        edge: &Segment,
+        others: &[Segment],
+        boxes: &EdgeBoxes,
+    ) -> Result<bool, AllocError>
+        requires { BoxesOf boxes.now others.now }
+        ensures { IfOk result (λ may. may ≡ false → SharesNoStretch edge.now others.now) }
+    {
+        Err(AllocError)
+    }
+
+    /// Lends the points that the edge shares with others.
+    pub fn shared(&self) -> &[RatPoint]
+        ensures { result.now ≡ self.now.shared }
+    {
+        self.shared.as_slice()
+    }
+
+    /// Lends the stops.
+    pub fn stops(&self) -> &[RatPoint]
+        ensures { result.now ≡ self.now.stops }
+    {
+        self.stops.as_slice()
+    }
+}

@@ -1,0 +1,6 @@
+//! Where other edges meet an edge: the points that they share, and the gaps between these.
+#![tactic(auto)]
+
+pub mod gaps;
+
+pub use gaps::Gaps;
