@@ -2,6 +2,7 @@
 
 ghost use Rattle.std.specs.Prelude.{◌≡◌};
 ghost use Rattle.geometry_model.specs.Patterns.{dimension_character};
+ghost use Rattle.cell_laws.specs.Cells.{at_most, greater};
 
 use geometry_model::{Dimension, Location};
 use std::marker::Model;
@@ -11,15 +12,24 @@ use std::marker::Model;
 /// (06-103r4, 6.1.15.2).
 #[derive(Clone, Copy, Debug, PartialEq, Eq)]
 pub struct Matrix {
-    pub(crate) interior_interior: Dimension,
-    pub(crate) interior_boundary: Dimension,
-    pub(crate) interior_exterior: Dimension,
-    pub(crate) boundary_interior: Dimension,
-    pub(crate) boundary_boundary: Dimension,
-    pub(crate) boundary_exterior: Dimension,
-    pub(crate) exterior_interior: Dimension,
-    pub(crate) exterior_boundary: Dimension,
-    pub(crate) exterior_exterior: Dimension,
+    /// Of both interiors.
+    pub interior_interior: Dimension,
+    /// Of the interior of the first and the boundary of the second.
+    pub interior_boundary: Dimension,
+    /// Of the interior of the first and the exterior of the second.
+    pub interior_exterior: Dimension,
+    /// Of the boundary of the first and the interior of the second.
+    pub boundary_interior: Dimension,
+    /// Of both boundaries.
+    pub boundary_boundary: Dimension,
+    /// Of the boundary of the first and the exterior of the second.
+    pub boundary_exterior: Dimension,
+    /// Of the exterior of the first and the interior of the second.
+    pub exterior_interior: Dimension,
+    /// Of the exterior of the first and the boundary of the second.
+    pub exterior_boundary: Dimension,
+    /// Of both exteriors.
+    pub exterior_exterior: Dimension,
 }
 
 impl Model for Matrix {
@@ -56,6 +66,25 @@ impl Matrix {
     ghost use Rattle.std.specs.Prelude.{◌≡◌};
     ghost use Rattle.geometry_model.specs.Dimensions.{cell, transposed};
     ghost use Rattle.geometry_model.specs.Patterns.{matrix_text};
+    ghost use Rattle.cell_laws.specs.Cells.{at_most, raised};
+    ghost use Rattle.matrices.specs.Raising as spec;
+
+    /// The matrix that shows no more than that the exteriors share an area (06-103r4, 6.1.15.2).
+    pub fn of_exteriors() -> Matrix
+        ensures { result ≡ spec.of_exteriors }
+    {
+        Matrix {
+            interior_interior: Dimension::Empty,
+            interior_boundary: Dimension::Empty,
+            interior_exterior: Dimension::Empty,
+            boundary_interior: Dimension::Empty,
+            boundary_boundary: Dimension::Empty,
+            boundary_exterior: Dimension::Empty,
+            exterior_interior: Dimension::Empty,
+            exterior_boundary: Dimension::Empty,
+            exterior_exterior: Dimension::Two,
+        }
+    }
 
     /// The dimension of what a part of the first geometry has in common with a part of the second
     /// (06-103r4, 6.1.15.2).
@@ -75,8 +104,33 @@ impl Matrix {
         }
     }
 
+    /// Whether it shows at least this dimension of two parts (06-103r4, 6.1.15.2).
+    pub fn shows(&self, first: Location, second: Location, dimension: Dimension) -> bool
+        ensures { result ≡ at_most dimension (cell self.now first second) }
+    {
+        at_most(dimension, self.cell(first, second))
+    }
+
+    /// Raises the cell of two parts to this dimension, where it is less (06-103r4, 6.1.15.2).
+    pub fn raise(&mut self, first: Location, second: Location, dimension: Dimension)
+        ensures { self.new ≡ raised self.old first second dimension }
+    {
+        let cell = greater(dimension, self.cell(first, second));
+        match (first, second) {
+            (Location::Interior, Location::Interior) => self.interior_interior = cell,
+            (Location::Interior, Location::Boundary) => self.interior_boundary = cell,
+            (Location::Interior, Location::Exterior) => self.interior_exterior = cell,
+            (Location::Boundary, Location::Interior) => self.boundary_interior = cell,
+            (Location::Boundary, Location::Boundary) => self.boundary_boundary = cell,
+            (Location::Boundary, Location::Exterior) => self.boundary_exterior = cell,
+            (Location::Exterior, Location::Interior) => self.exterior_interior = cell,
+            (Location::Exterior, Location::Boundary) => self.exterior_boundary = cell,
+            (Location::Exterior, Location::Exterior) => self.exterior_exterior = cell,
+        }
+    }
+
     /// The matrix of the two geometries the other way round.
-    pub(crate) fn transposed(&self) -> Matrix
+    pub fn transposed(&self) -> Matrix
         ensures { result ≡ transposed self.now }
     {
         Matrix {
@@ -108,6 +162,30 @@ impl Matrix {
             character(self.exterior_boundary),
             character(self.exterior_exterior),
         ]
+    }
+}
+
+/// Whether the first dimension isn't greater than the second.
+fn at_most(first: Dimension, second: Dimension) -> bool
+    ensures { result ≡ at_most first second }
+{
+    match (first, second) {
+        (Dimension::Empty, _)
+        | (_, Dimension::Two)
+        | (Dimension::Zero, Dimension::Zero | Dimension::One)
+        | (Dimension::One, Dimension::One) => true,
+        _ => false,
+    }
+}
+
+/// The greater of two dimensions.
+fn greater(first: Dimension, second: Dimension) -> Dimension
+    ensures { result ≡ greater first second }
+{
+    if at_most(first, second) {
+        second
+    } else {
+        first
     }
 }
 

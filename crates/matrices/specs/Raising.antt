@@ -1,0 +1,52 @@
+-- How a matrix of two geometries grows while it is found.
+use Rattle.std.specs.Prelude.{◌≡◌, true, List, All, Any}
+use Rattle.geometry_model.specs.Points.{Position, Point, IsPoint, point_at}
+use Rattle.geometry_model.specs.Geometries.{Edge, Geometry, kind, edges, lines, listed}
+use Rattle.geometry_model.specs.Sides.{on}
+use Rattle.geometry_model.specs.Locations.{is_odd_end, locate, ends}
+use Rattle.geometry_model.specs.Dimensions.{Matrix, matrix_of}
+use Rattle.geometry_model.specs.Validity.{IsValid}
+use Rattle.geometry_model.specs.declared.shapes.Kind.{Kind}
+use Rattle.geometry_model.specs.declared.shapes.Kind.TheVariants as kinds
+use Rattle.geometry_model.specs.declared.point_sets.Location.{Location}
+use Rattle.geometry_model.specs.declared.point_sets.Dimension.TheVariants.{Empty, Zero, Two}
+use Rattle.cell_laws.specs.Cells.{Shows, IsPartOf, IsSound, CoversPosition}
+use Rattle.cover_laws.specs.Covering.{ShowsOff}
+
+-- the matrix that shows no more than that the exteriors share an area (06-103r4, 6.1.15.2)
+abbrev pub of_exteriors : Matrix
+of_exteriors = record (matrix_of (λ l k. Empty)) { exterior_exterior = Two }
+
+-- the matrix has grown so far that it shows something, and no further: it is part of each that it was part of and that shows this too
+pub record IsRaisedTo (Shown : Matrix → Type 0) (m n : Matrix) : Type 0 where
+  pub grown : IsPartOf m n
+  pub shows : Shown n
+  pub least : (o : Matrix) → IsPartOf m o → Shown o → IsPartOf n o
+
+-- the matrix has grown, and where the geometries are valid it still shows nothing but what is there (06-103r4, 6.1.15.2)
+pub record Grows (a b : Geometry) (m n : Matrix) : Type 0 where
+  pub grown : IsPartOf m n
+  pub sound : IsValid a → IsValid b → IsSound a b m → IsSound a b n
+
+-- the matrix shows where the position stands, if an odd number of ends stand there (06-103r4, 6.1.8.1: the mod 2 rule)
+abbrev pub CoversEnd : Geometry → Geometry → Matrix → Position → Type 0
+CoversEnd a b m p = is_odd_end (lines a) (point_at p) ≡ true → CoversPosition a b m p
+
+-- the matrix shows where all listed positions of a stand in b, and all odd ends of its lines
+pub record ShowsOwnEnds (a b : Geometry) (m : Matrix) : Type 0 where
+  pub positions : All (CoversPosition a b m) (listed a)
+  pub odd_ends : kind a ≡ kinds.Line → All (λ line. All (CoversEnd a b m) (ends line)) (lines a)
+
+-- the matrix shows of one part that it shares at least a point with each part that a geometry of this kind has
+abbrev pub ShowsRow : Location → Kind → Matrix → Type 0
+ShowsRow l k m = (b : Geometry) → kind b ≡ k → (p : Point) → Shows m l (locate b p) Zero
+
+-- the matrix shows all that gaps of the edges of a geometry of this kind can show in this part of another, off the other's edges
+abbrev pub ShowsAllOff : Kind → Location → Matrix → Type 0
+ShowsAllOff k l m = (a : Geometry) → kind a ≡ k → (e : Edge) → ShowsOff a m e l
+
+-- the point is on edges of both geometries
+pub record IsOnBoth (a b : Geometry) (p : Point) : Type 0 where
+  pub is_point : IsPoint p
+  pub on_first : Any (λ e. on e p ≡ true) (edges a)
+  pub on_second : Any (λ e. on e p ≡ true) (edges b)

@@ -1,0 +1,104 @@
+//! What a gap of an edge shows of a matrix.
+
+ghost use Rattle.std.specs.Prelude.{◌≡◌, ◌≢◌, ◌↔◌, IsTrue, IsNone, IfSome, All, Contains, pos, ◌≤ℤ◌};
+ghost use Rattle.geometry_model.specs.Geometries.{edges};
+ghost use Rattle.geometry_model.specs.Pieces.{stretches};
+ghost use Rattle.gap_laws.specs.Gaps.{IsGap, mostly};
+ghost use Rattle.cover_laws.specs.Covering.{IsOffEdges, ShowsOff, ShowsOn, ShowsAt, ShowsGap};
+ghost use Rattle.fraction.specs.Ranges.{meeting_limit};
+ghost use Rattle.matrices.specs.Raising.{Grows, IsRaisedTo};
+
+use crate::fullness::of_own_edges;
+use crate::matrix::Matrix;
+use fraction::RatPoint;
+use geometry_model::{Dimension, Kind, Location};
+use orient::Segment;
+use side_labels::{above, below};
+use validity::Valid;
+
+/// Whether both ends of an edge, which differ, have one x.
+fn is_upright(edge: &Segment) -> bool
+    ensures upright { IsTrue result ↔ (edge.now.start.x ≡ edge.now.end.x) }
+    ensures length { edge.now.start ≢ edge.now.end }
+{
+    edge.start().x() == edge.end().x()
+}
+
+/// Where a point off a geometry's edges stands in it, but for listed positions; None where an edge holds the point.
+fn part_off_edges(valid: &Valid, p: &RatPoint) -> Option<Location>
+    ensures on { IsNone result → IsOffEdges valid.now p.now → ⊥ }
+    ensures off { IfSome result (λ part. IsOffEdges valid.now p.now × (part ≡ mostly valid.now p.now)) }
+{
+    let found = valid.boxes().crossings(valid.segments(), p);
+    if found.on {
+        None
+    } else if found.odd_above && valid.kind() == Kind::Area {
+        Some(Location::Interior)
+    } else {
+        Some(Location::Exterior)
+    }
+}
+
+/// Shows what a gap of an edge of the first geometry shows that lies in this part of the second one, off its edges: the gap itself
+/// and, where it isn't upright, its sides, one of which is exterior to the first geometry, and the other of an area's edge interior
+/// (OGC 06-103r4, 6.1.15.2).
+fn raise_off(first: &Valid, edge: &Segment, part: Location, matrix: &mut Matrix)
+    ensures { IsRaisedTo (λ m. ShowsOff first.now m edge.now part) matrix.old matrix.new }
+{
+    matrix.raise(of_own_edges(first.kind()), part, Dimension::One);
+    if is_upright(edge) {
+        return;
+    }
+    matrix.raise(Location::Exterior, part, Dimension::Two);
+    if first.kind() == Kind::Area {
+        matrix.raise(Location::Interior, part, Dimension::Two);
+    }
+}
+
+/// Shows what a gap of an edge of the first geometry shows that an edge of the second shares: the gap itself and, where it isn't
+/// upright, its sides as they stand at a point of it in both geometries (OGC 06-103r4, 6.1.15.2).
+fn raise_on(first: &Valid, second: &Valid, edge: &Segment, p: &RatPoint, matrix: &mut Matrix)
+    ensures { IsRaisedTo (λ m. ShowsOn first.now second.now m edge.now p.now) matrix.old matrix.new }
+{
+    matrix.raise(
+        of_own_edges(first.kind()),
+        of_own_edges(second.kind()),
+        Dimension::One,
+    );
+    if is_upright(edge) {
+        return;
+    }
+    matrix.raise(below(first, p), below(second, p), Dimension::Two);
+    matrix.raise(above(first, p), above(second, p), Dimension::Two);
+}
+
+/// Shows what the point of a gap shows at which the gap is asked for.
+fn raise_at(first: &Valid, second: &Valid, edge: &Segment, p: &RatPoint, matrix: &mut Matrix)
+    ensures { IsRaisedTo (λ m. ShowsAt first.now second.now m edge.now p.now) matrix.old matrix.new }
+{
+    match part_off_edges(second, p) {
+        Some(part) => raise_off(first, edge, part, matrix),
+        None => raise_on(first, second, edge, p, matrix),
+    }
+}
+
+/// Shows what the gaps between neighbouring stops of an edge of the first geometry show.
+pub(crate) fn raise_gaps(
+    first: &Valid,
+    second: &Valid,
+    edge: &Segment,
+    stops: &[RatPoint],
+    matrix: &mut Matrix,
+)
+    requires own { Contains (edges first.now) edge.now }
+    requires gaps { All (λ c. IsGap edge.now (edges second.now) c.lesser c.greater) (stretches stops.now) }
+    requires limits { All (λ p. p.W ≤ℤ pos meeting_limit) stops.now }
+    ensures grows { Grows first.now second.now matrix.old matrix.new }
+    ensures shows { All (λ c. ShowsGap first.now second.now matrix.new edge.now c.lesser c.greater)
+        (stretches stops.now) }
+{
+    for place in 1..stops.len() {
+        let sample = RatPoint::mediant(&stops[place - 1], &stops[place]);
+        raise_at(first, second, edge, &sample, matrix);
+    }
+}

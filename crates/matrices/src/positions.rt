@@ -1,0 +1,98 @@
+//! What listed positions and the ends of lines show of a matrix.
+
+ghost use Rattle.std.specs.Prelude.{◌≡◌, true, All};
+ghost use Rattle.geometry_model.specs.Points.{IsPoint};
+ghost use Rattle.geometry_model.specs.Geometries.{kind, edges};
+ghost use Rattle.geometry_model.specs.Locations.{locate, ends};
+ghost use Rattle.geometry_model.specs.Validity.{IsValid};
+ghost use Rattle.geometry_model.specs.declared.shapes.Kind.TheVariants as kinds;
+ghost use Rattle.geometry_model.specs.declared.point_sets.Dimension.TheVariants.{Zero};
+ghost use Rattle.validity.specs.ValidGeometries.{HasLength};
+ghost use Rattle.cell_laws.specs.Cells.{Shows, CoversPosition};
+ghost use Rattle.matrices.specs.Raising.{Grows, ShowsOwnEnds, ShowsRow, CoversEnd};
+
+use crate::matrix::Matrix;
+use fraction::{GridPoint, RatPoint};
+use geometry_model::{Dimension, Kind, Location};
+use side_labels::locate;
+use validity::Valid;
+
+/// Shows that the parts in which a point stands share it (OGC 06-103r4, 6.1.15.2).
+pub(crate) fn raise_point(first: &Valid, second: &Valid, p: &RatPoint, matrix: &mut Matrix)
+    requires { IsPoint p.now }
+    ensures grows { Grows first.now second.now matrix.old matrix.new }
+    ensures shows { Shows matrix.new (locate first.now p.now) (locate second.now p.now) Zero }
+{
+    matrix.raise(locate(first, p), locate(second, p), Dimension::Zero);
+}
+
+/// The same of a position.
+fn raise_position(first: &Valid, second: &Valid, at: GridPoint, matrix: &mut Matrix)
+    ensures grows { Grows first.now second.now matrix.old matrix.new }
+    ensures shows { CoversPosition first.now second.now matrix.new at }
+{
+    raise_point(first, second, &RatPoint::of_grid(at), matrix);
+}
+
+/// Whether it is shown that a part of the first geometry shares a point with each part that a geometry of this kind has: points
+/// have no boundary (OGC 06-103r4, 6.1.4).
+fn shows_row(matrix: &Matrix, part: Location, kind: Kind) -> bool
+    ensures { result ≡ true → ShowsRow part kind matrix.now }
+{
+    matrix.shows(part, Location::Interior, Dimension::Zero)
+        && matrix.shows(part, Location::Exterior, Dimension::Zero)
+        && (kind == Kind::Point || matrix.shows(part, Location::Boundary, Dimension::Zero))
+}
+
+/// Shows where the listed positions of the first geometry stand in the second, until nothing more can come.
+fn raise_listed(first: &Valid, second: &Valid, matrix: &mut Matrix)
+    ensures grows { Grows first.now second.now matrix.old matrix.new }
+    ensures shows { All (CoversPosition first.now second.now matrix.new) (listed first.now) }
+{
+    for position in first.geometry().listed() {
+        if shows_row(matrix, Location::Interior, second.kind()) {
+            return;
+        }
+        raise_position(first, second, *position, matrix);
+    }
+}
+
+/// Shows where the two ends of a line stand.
+fn raise_ends_of(first: &Valid, second: &Valid, line: &[GridPoint], matrix: &mut Matrix)
+    ensures grows { Grows first.now second.now matrix.old matrix.new }
+    ensures shows { All (CoversPosition first.now second.now matrix.new) (ends line.now) }
+{
+    if line.is_empty() {
+        return;
+    }
+    raise_position(first, second, line[0], matrix);
+    raise_position(first, second, line[line.len() - 1], matrix);
+}
+
+/// Shows where the boundary of lines stands in the second geometry: the ends of them at which an odd number of ends stand, until
+/// nothing more can come (OGC 06-103r4, 6.1.8.1: the mod 2 rule).
+fn raise_line_ends(first: &Valid, second: &Valid, matrix: &mut Matrix)
+    requires { kind first.now ≡ kinds.Line }
+    ensures grows { Grows first.now second.now matrix.old matrix.new }
+    ensures shows { All (λ line. All (CoversEnd first.now second.now matrix.new) (ends line)) (lines first.now) }
+{
+    for line in first.geometry().lines() {
+        if shows_row(matrix, Location::Boundary, second.kind()) {
+            return;
+        }
+        raise_ends_of(first, second, line.positions(), matrix);
+    }
+}
+
+/// Shows where the listed positions of the first geometry and the boundary of its lines stand in the second.
+pub(crate) fn raise_own_ends(first: &Valid, second: &Valid, matrix: &mut Matrix)
+    ensures grows { Grows first.now second.now matrix.old matrix.new }
+    ensures shows { ShowsOwnEnds first.now second.now matrix.new }
+    ensures valid { IsValid first.now }
+    ensures lengths { All HasLength (edges first.now) }
+{
+    raise_listed(first, second, matrix);
+    if first.kind() == Kind::Line {
+        raise_line_ends(first, second, matrix);
+    }
+}

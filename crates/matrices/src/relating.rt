@@ -1,0 +1,26 @@
+//! The matrix of two valid geometries.
+
+ghost use Rattle.std.specs.Prelude.{◌≡◌, IfOk};
+ghost use Rattle.geometry_model.specs.Dimensions.{IsMatrix};
+ghost use Rattle.geometry_model.specs.Labels.{labelled_matrix};
+
+use crate::edges::raise_edges;
+use crate::matrix::Matrix;
+use crate::positions::raise_own_ends;
+use std::alloc::{AllocError, Global};
+use validity::Valid;
+
+/// The DE-9IM matrix of two valid geometries (06-103r4, 6.1.15.2). It fails only for want of memory.
+pub fn find_matrix(alloc: Global, first: &Valid, second: &Valid) -> Result<Matrix, AllocError>
+    ensures labelled { IfOk result (λ m. m ≡ labelled_matrix first.now second.now) }
+    ensures point_sets { IfOk result (λ m. IsMatrix first.now second.now m) }
+{
+    let mut matrix = Matrix::of_exteriors();
+    raise_own_ends(first, second, &mut matrix);
+    let mut turned = matrix.transposed();
+    raise_own_ends(second, first, &mut turned);
+    raise_edges(alloc, second, first, &mut turned)?;
+    matrix = turned.transposed();
+    raise_edges(alloc, first, second, &mut matrix)?;
+    Ok(matrix)
+}
