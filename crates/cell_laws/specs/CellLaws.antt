@@ -1,10 +1,10 @@
 -- Laws of what a matrix shows: what is there may be shown, and what covers all edges and positions shows all.
-use Rattle.std.specs.Prelude.{◌≡◌, ◌≢◌, true, List, ◌++◌, All, Contains}
+use Rattle.std.specs.Prelude.{◌≡◌, ◌≢◌, true, All, Contains}
 use Rattle.geometry_model.specs.Points.{Position, Point, IsPoint}
 use Rattle.geometry_model.specs.Geometries.{Edge, Geometry, edges, listed}
 use Rattle.geometry_model.specs.Sides.{on}
 use Rattle.geometry_model.specs.Locations.{locate}
-use Rattle.geometry_model.specs.Dimensions.{Matrix, cell, transposed}
+use Rattle.geometry_model.specs.Dimensions.{Matrix, transposed}
 use Rattle.geometry_model.specs.Labels.{below, above, edges_of_both, labelled_matrix}
 use Rattle.geometry_model.specs.declared.point_sets.Location.{Location}
 use Rattle.geometry_model.specs.declared.point_sets.Location.TheVariants.{Exterior}

@@ -1,5 +1,5 @@
 -- What a matrix shows of two geometries so far, and what it has to show of the points of an edge.
-use Rattle.std.specs.Prelude.{◌≡◌, ◌≢◌, true, false, Bool, ◌&&◌, List, ◌++◌, if◌then◌else◌}
+use Rattle.std.specs.Prelude.{◌≡◌, ◌≢◌, true, false, Bool, ◌&&◌, ◌++◌, if◌then◌else◌}
 use Rattle.geometry_model.specs.Points.{Position, Point, IsPoint, point_at}
 use Rattle.geometry_model.specs.Geometries.{Edge, Geometry, listed}
 use Rattle.geometry_model.specs.Sides.{on}

@@ -48,34 +48,34 @@ use Rattle.matrix_laws.proofs.Around.{Within, within_piece}
 use Rattle.matrix_laws.proofs.Pieces.{sample_inside, piece_segment, lower_side, upper_side}
 
 -- ---- words for two geometries
-abbrev edges' : Geometry → Geometry → List Edge
+abbrev pub edges' : Geometry → Geometry → List Edge
 edges' a b = edges_of_both a b
 
-abbrev listed' : Geometry → Geometry → List Position
+abbrev pub listed' : Geometry → Geometry → List Position
 listed' a b = listed a ++ listed b
 
-abbrev cuts' : Geometry → Geometry → List Point
+abbrev pub cuts' : Geometry → Geometry → List Point
 cuts' a b = cut_points (edges_of_both a b) (listed a ++ listed b)
 
-abbrev pieces' : Geometry → Geometry → List Piece
+abbrev pub pieces' : Geometry → Geometry → List Piece
 pieces' a b = pieces (cut_points (edges_of_both a b) (listed a ++ listed b)) (edges_of_both a b)
 
-abbrev some_side : Geometry → Geometry → Location → Location → Bool
+abbrev pub some_side : Geometry → Geometry → Location → Location → Bool
 some_side a b l k = list_any (is_side_pair l k) (map (side_labels a b) (pieces' a b))
 
-abbrev some_piece : Geometry → Geometry → Location → Location → Bool
+abbrev pub some_piece : Geometry → Geometry → Location → Location → Bool
 some_piece a b l k = list_any (is_pair l k) (map (λ c. label a b (sample c)) (pieces' a b))
 
-abbrev some_cut : Geometry → Geometry → Location → Location → Bool
+abbrev pub some_cut : Geometry → Geometry → Location → Location → Bool
 some_cut a b l k = list_any (is_pair l k) (map (label a b) (cuts' a b))
 
 -- ---- locations and lists
-location_same : (l : Location) → same_location l l ≡ true
+pub location_same : (l : Location) → same_location l l ≡ true
 location_same Interior = refl
 location_same Boundary = refl
 location_same Exterior = refl
 
-location_is : (l m : Location) → same_location l m ≡ true → l ≡ m
+pub location_is : (l m : Location) → same_location l m ≡ true → l ≡ m
 location_is Interior Interior e = refl
 location_is Boundary Boundary e = refl
 location_is Exterior Exterior e = refl
@@ -86,20 +86,20 @@ location_is Boundary Exterior e = absurd (let z : false ≡ true = e in cc)
 location_is Exterior Interior e = absurd (let z : false ≡ true = e in cc)
 location_is Exterior Boundary e = absurd (let z : false ≡ true = e in cc)
 
-pair_is : (l k m n : Location) → same_location l m && same_location k n ≡ true → (l ≡ m) × (k ≡ n)
+pub pair_is : (l k m n : Location) → same_location l m && same_location k n ≡ true → (l ≡ m) × (k ≡ n)
 pair_is l k m n e = let both : (same_location l m ≡ true) × (same_location k n ≡ true) = and_parts (same_location l m) (same_location k n) e in (location_is l m both.0, location_is k n both.1)
 
-pair_of : (l k m n : Location) → m ≡ l → n ≡ k → same_location l m && same_location k n ≡ true
+pub pair_of : (l k m n : Location) → m ≡ l → n ≡ k → same_location l m && same_location k n ≡ true
 pair_of l k m n e f = and_from (same_location l m) (same_location k n) (ap (same_location l) e ∙ location_same l) (ap (same_location k) f ∙ location_same k)
 
 any_of_map : {X Y : Type 0} (f : X → Y) (t : Y → Bool) (xs : List X) → list_any t (map f xs) ≡ list_any (λ x. t (f x)) xs
 any_of_map f t [] = refl
 any_of_map f t (x ∷ xs) = ap (λ (b : Bool). t (f x) || b) (any_of_map f t xs)
 
-passing_of : {X Y : Type 0} (f : X → Y) (t : Y → Bool) (xs : List X) → list_any t (map f xs) ≡ true → Passing (λ x. t (f x)) xs
+pub passing_of : {X Y : Type 0} (f : X → Y) (t : Y → Bool) (xs : List X) → list_any t (map f xs) ≡ true → Passing (λ x. t (f x)) xs
 passing_of f t xs e = some_passed (λ x. t (f x)) xs (sym (any_of_map f t xs) ∙ e)
 
-any_by : {X Y : Type 0} (f : X → Y) (t : Y → Bool) (xs : List X) (x : X) → Among x xs → t (f x) ≡ true → list_any t (map f xs) ≡ true
+pub any_by : {X Y : Type 0} (f : X → Y) (t : Y → Bool) (xs : List X) (x : X) → Among x xs → t (f x) ≡ true → list_any t (map f xs) ≡ true
 any_by f t xs x a e = any_of_map f t xs ∙ one_passes (λ y. t (f y)) xs x a e
 
 each_of_map : {X Y : Type 0} (P : Y → Type 0) (f : X → Y) (xs : List X) → Each P (map f xs) → Each (λ x. P (f x)) xs
@@ -110,7 +110,7 @@ map_each : {X Y : Type 0} (P : Y → Type 0) (f : X → Y) (xs : List X) → Eac
 map_each P f [] h = tt
 map_each P f (x ∷ xs) h = (h.0, map_each P f xs h.1)
 
-or_cases : (s t : Bool) → s || t ≡ true → (s ≡ true) ⊎ (t ≡ true)
+pub or_cases : (s t : Bool) → s || t ≡ true → (s ≡ true) ⊎ (t ≡ true)
 or_cases true t e = inl refl
 or_cases false t e = inr e
 
@@ -119,7 +119,7 @@ pub record IsListedPiece (a b : Geometry) (c : Piece) : Type 0 where
   pub is_piece : IsPieceOf a b c
   pub ends : Ends c
 
-listed_piece : (a b : Geometry) (c : Piece) → Among c (pieces' a b) → IsListedPiece a b c
+pub listed_piece : (a b : Geometry) (c : Piece) → Among c (pieces' a b) → IsListedPiece a b c
 listed_piece a b c m = go (piece_is (edges' a b) (listed' a b) c m)
   where
     go : IsLeastPiece (edges' a b) (listed' a b) c → IsListedPiece a b c
@@ -262,7 +262,7 @@ straight c z o ho e f = cancel_zero o.W (right c z) ho (
     ∙ solve (o.X ∷ z.W ∷ c.W ∷ []) ((var 0 ⊗ var 1) ⊗ var 2 ⊖ (var 0 ⊗ var 2) ⊗ var 1) (lit (pos 0)) tt)
 
 -- ---- the label of a free point is that of a side, or both are exterior
-abbrev Apart' : Location → Location → Type 0
+abbrev pub Apart' : Location → Location → Type 0
 Apart' l k = l ≡ Exterior → k ≡ Exterior → ⊥
 
 free_side : (a b : Geometry) → Each IsClosed (rings a) → Each IsClosed (rings b) → (l k : Location) → Apart' l k → (z : Point) → Free a b z → locate a z ≡ l → locate b z ≡ k → some_side a b l k ≡ true
@@ -382,7 +382,7 @@ segment_shows a b ca cb l k n t = go (avoid_points (cuts' a b) t.p t.q t.p_is_po
         loose a b ca cb l k n (weighted 1 t.p o.t t.q) hz (uncovered a b (weighted 1 t.p o.t t.q) hz o.off) w.0 w.1
 
 -- ---- a point is a cut, or no cut
-point_shows : (a b : Geometry) → Each IsClosed (rings a) → Each IsClosed (rings b) → (l k : Location) → Apart' l k → HasPoint (common a l b k) → (some_cut a b l k ≡ true) ⊎ ((some_piece a b l k ≡ true) ⊎ (some_side a b l k ≡ true))
+pub point_shows : (a b : Geometry) → Each IsClosed (rings a) → Each IsClosed (rings b) → (l k : Location) → Apart' l k → HasPoint (common a l b k) → (some_cut a b l k ≡ true) ⊎ ((some_piece a b l k ≡ true) ⊎ (some_side a b l k ≡ true))
 point_shows a b ca cb l k n t = go (list_any (λ c. same_point c t.p) (cuts' a b)) refl
   where
     at_cut : Passing (λ c. same_point c t.p) (cuts' a b) → some_cut a b l k ≡ true

@@ -1,0 +1,4 @@
+pub mod Growing
+pub mod There
+pub mod Whole
+pub mod CellTheorems
