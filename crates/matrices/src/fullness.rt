@@ -1,7 +1,7 @@
 //! When a matrix shows all that the edges of its first geometry can show.
 
 ghost use Rattle.std.specs.Prelude.{◌≡◌, true};
-ghost use Rattle.cover_laws.specs.Covering.{IsFullOff, IsFullOn};
+ghost use Rattle.cover_laws.specs.CoveringLaws.{IsFullOff, IsFullOn};
 ghost use Rattle.gap_laws.specs.Gaps.{of_own_edges};
 ghost use Rattle.matrices.specs.Raising.{ShowsAllOff};
 

@@ -2,7 +2,7 @@
 
 ghost use Rattle.std.specs.Prelude.{◌≡◌, true, All};
 ghost use Rattle.geometry_model.specs.Points.{IsPoint};
-ghost use Rattle.geometry_model.specs.Geometries.{kind, edges};
+ghost use Rattle.geometry_model.specs.Geometries.{kind, edges, lines, listed};
 ghost use Rattle.geometry_model.specs.Locations.{locate, ends};
 ghost use Rattle.geometry_model.specs.Validity.{IsValid};
 ghost use Rattle.geometry_model.specs.declared.shapes.Kind.TheVariants as kinds;
