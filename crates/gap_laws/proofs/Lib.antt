@@ -1,0 +1,3 @@
+pub mod Between
+pub mod Shared
+pub mod GapTheorems
