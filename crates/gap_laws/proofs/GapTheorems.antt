@@ -1,12 +1,31 @@
 -- The laws of gaps, each under the name of its statement.
-use Rattle.gap_laws.specs.GapLaws.{GapHasMediant, GapHasNoCut, SharedPointSharesGap, SharedGapHoldsEnds}
+use Rattle.gap_laws.specs.GapLaws.{GapHasMediant, GapHasNoCut, MostlyIsLocated, NoCutIsMostly, OwnEdgesAreMostly, OffEdgesIsNoBoundary, SidesOffEdges, SidesOfNoArea, SharedPointSharesGap, SharedGapHoldsEnds}
 use Rattle.gap_laws.proofs.Shared as shared
+use Rattle.gap_laws.proofs.Standing as standing
 
 pub gap_has_mediant : GapHasMediant
 gap_has_mediant = shared.gap_has_mediant
 
 pub gap_has_no_cut : GapHasNoCut
 gap_has_no_cut = shared.gap_has_no_cut
+
+pub mostly_is_located : MostlyIsLocated
+mostly_is_located = standing.mostly_is_located
+
+pub no_cut_is_mostly : NoCutIsMostly
+no_cut_is_mostly = standing.no_cut_is_mostly
+
+pub own_edges_are_mostly : OwnEdgesAreMostly
+own_edges_are_mostly = standing.own_edges_are_mostly
+
+pub off_edges_is_no_boundary : OffEdgesIsNoBoundary
+off_edges_is_no_boundary = standing.off_edges_is_no_boundary
+
+pub sides_off_edges : SidesOffEdges
+sides_off_edges = standing.sides_off_edges
+
+pub sides_of_no_area : SidesOfNoArea
+sides_of_no_area = standing.sides_of_no_area
 
 pub shared_point_shares_gap : SharedPointSharesGap
 shared_point_shares_gap = shared.shared_point_shares_gap

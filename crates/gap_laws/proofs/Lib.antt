@@ -1,3 +1,4 @@
 pub mod Between
 pub mod Shared
+pub mod Standing
 pub mod GapTheorems
