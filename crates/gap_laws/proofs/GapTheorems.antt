@@ -1,13 +1,20 @@
 -- The laws of gaps, each under the name of its statement.
-use Rattle.gap_laws.specs.GapLaws.{GapHasMediant, GapHasNoCut, MostlyIsLocated, NoCutIsMostly, OwnEdgesAreMostly, OffEdgesIsNoBoundary, SidesOffEdges, SidesOfNoArea, SharedPointSharesGap, SharedGapHoldsEnds}
+use Rattle.gap_laws.specs.GapLaws.{GapHasMediant, GapHasNoCut, GapIsAlike, GapEndIsAlike, MostlyIsLocated, NoCutIsMostly, OwnEdgesAreMostly, OffEdgesIsNoBoundary, SidesOffEdges, SidesOfNoArea, SharedPointSharesGap, SharedGapHoldsEnds}
 use Rattle.gap_laws.proofs.Shared as shared
 use Rattle.gap_laws.proofs.Standing as standing
+use Rattle.gap_laws.proofs.Alike as alike
 
 pub gap_has_mediant : GapHasMediant
 gap_has_mediant = shared.gap_has_mediant
 
 pub gap_has_no_cut : GapHasNoCut
 gap_has_no_cut = shared.gap_has_no_cut
+
+pub gap_is_alike : GapIsAlike
+gap_is_alike = alike.gap_is_alike
+
+pub gap_end_is_alike : GapEndIsAlike
+gap_end_is_alike = alike.gap_end_is_alike
 
 pub mostly_is_located : MostlyIsLocated
 mostly_is_located = standing.mostly_is_located
