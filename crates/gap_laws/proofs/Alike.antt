@@ -27,7 +27,7 @@ use Rattle.geometry_laws.proofs.CoverTheorems.{all_from_each}
 use Rattle.gap_laws.specs.Gaps.{IsBetween, IsClear, IsShared, IsGap, IsWithin, mostly}
 use Rattle.gap_laws.proofs.Between.{on_weighted, between_sum, compare_respects_last, between_respects}
 use Rattle.gap_laws.proofs.Shared.{clash, span_of_gap, clear_or_shared, shared_holds_ends}
-use Rattle.gap_laws.proofs.Standing.{own_edges_are_mostly, sides_off_edges}
+use Rattle.gap_laws.proofs.Mostly.{own_edges_are_mostly, sides_off_edges}
 
 -- ---- along a stretch that misses all edges
 stays : (g : Geometry) → HasClosedRings g → (x y : Point) → IsPoint x → IsPoint y → Each (λ f. on f x ≡ false) (edges g) → Each (λ f. on f y ≡ false) (edges g) → Each (Misses x y) (edges g) → mostly g x ≡ mostly g y

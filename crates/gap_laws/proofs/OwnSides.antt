@@ -27,7 +27,7 @@ use Rattle.polygon_laws.proofs.Areas.{RingOf, ring_of}
 use Rattle.polygon_laws.proofs.Parting.{flat, equal_or_not, no_edge_of_ring, no_edge_of_others, each_ring, rings_part, sides_of_a_ring}
 use Rattle.gap_laws.specs.Gaps.{IsBetween}
 use Rattle.gap_laws.proofs.Between.{Span, wide, on_line, between_sum, no_end_between}
-use Rattle.gap_laws.proofs.Standing.{sides_of_no_area}
+use Rattle.gap_laws.proofs.Mostly.{sides_of_no_area}
 
 -- ---- an edge of an area is one of its rings'
 ring_edge : (a : Geometry) → kind a ≡ kinds.Area → (e : Edge) → Contains (edges a) e → Among e (edges_of_lines (rings a))
