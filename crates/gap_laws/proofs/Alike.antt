@@ -1,5 +1,5 @@
 -- All points strictly between the ends of a gap stand alike, and an end that no edge holds stands so too.
-use Rattle.std.proofs.Common.{ℕ, zero, suc, ◌+◌, ◌<◌, ℤ, pos, ◌+ℤ◌, ◌-ℤ◌, ◌*ℤ◌, ◌<ℤ◌, ◌≡◌, ◌⊎◌, inl, inr, Bool, true, false, refl, sym, ap, ap₂, ◌∙◌, List, [], ◌∷◌, All, arith}
+use Rattle.std.proofs.Common.{ℕ, zero, suc, ◌+◌, ◌<◌, ℤ, pos, ◌+ℤ◌, ◌-ℤ◌, ◌*ℤ◌, ◌<ℤ◌, ◌≡◌, ◌⊎◌, inl, inr, Bool, true, false, refl, sym, ap, ◌∙◌, List, [], ◌∷◌, All, arith}
 use borrow.Author.Differences.{ints}
 use Rattle.std.specs.List.{list_any}
 use Rattle.std.specs.declared.cmp.Ordering.{Ordering}
@@ -15,18 +15,17 @@ use Rattle.geometry_laws.specs.PieceLaws.{HasClosedRings}
 use Rattle.geometry_laws.proofs.Plane.{right}
 use Rattle.geometry_laws.proofs.Each.{Each, Among, each_at, each_of, Passing, some_passed, none_passed}
 use Rattle.geometry_laws.proofs.Scaling.{same_from}
-use Rattle.geometry_laws.proofs.PointOrder.{same_symmetric, equal_is_same}
+use Rattle.geometry_laws.proofs.PointOrder.{equal_is_same}
 use Rattle.geometry_laws.proofs.Respect.{compare_respects, on_respects}
 use Rattle.geometry_laws.proofs.RingParity.{each_from_all}
 use Rattle.geometry_laws.proofs.Lines.{weighted_is_point}
-use Rattle.geometry_laws.proofs.Locating.{by_contraries}
 use Rattle.geometry_laws.proofs.Triangles.{above_kept}
 use Rattle.geometry_laws.proofs.LineOrder.{up, Lex, lex_of_less, less_of_lex, before_sum, after_sum}
 use Rattle.geometry_laws.proofs.Cuts.{contains_of_among, turn_less}
 use Rattle.geometry_laws.proofs.CoverTheorems.{all_from_each}
 use Rattle.gap_laws.specs.Gaps.{IsBetween, IsClear, IsShared, IsGap, IsWithin, mostly}
-use Rattle.gap_laws.proofs.Between.{on_weighted, between_sum, compare_respects_last, between_respects}
-use Rattle.gap_laws.proofs.Shared.{clash, span_of_gap, clear_or_shared, shared_holds_ends}
+use Rattle.gap_laws.proofs.Between.{on_weighted, between_sum, compare_respects_last}
+use Rattle.gap_laws.proofs.Shared.{clash, span_of_gap, clear_or_shared, point_shares, shared_holds_ends}
 use Rattle.gap_laws.proofs.Mostly.{own_edges_are_mostly, sides_off_edges}
 
 -- ---- along a stretch that misses all edges
@@ -40,17 +39,13 @@ clear_by : (e f : Edge) (p q x : Point) → IsClear e p q f ⊎ IsShared e p q f
 clear_by e f p q x (inl c) i n = c
 clear_by e f p q x (inr s) i n = absurd (clash (on f x) (s.1 x i) n)
 
-shared_by : (e f : Edge) (p q x : Point) → IsClear e p q f ⊎ IsShared e p q f → IsBetween e p q x → on f x ≡ true → IsShared e p q f
-shared_by e f p q x (inl c) i h = absurd (clash (on f x) h (c x i))
-shared_by e f p q x (inr s) i h = s
-
 pub gap_is_alike : (b : Geometry) → HasClosedRings b → (e : Edge) (p q : Point) → IsGap e (edges b) p q → (x y : Point) → IsBetween e p q x → IsBetween e p q y → mostly b x ≡ mostly b y
 gap_is_alike b c e p q g x y i j = decide (list_any (λ f. on f x) (edges b)) refl
   where
     held : Passing (λ f. on f x) (edges b) → mostly b x ≡ mostly b y
     held h = own_edges_are_mostly b h.found (contains_of_among h.found (edges b) h.among) x h.passes
         ∙ sym (own_edges_are_mostly b h.found (contains_of_among h.found (edges b) h.among) y
-        ((shared_by e h.found p q x (clear_or_shared e (edges b) p q h.found g h.among) i h.passes).1 y j))
+        ((point_shares e (edges b) p q x h.found g h.among i h.passes).1 y j))
 
     clear : Each (λ f. on f x ≡ false) (edges b) → (f : Edge) → Among f (edges b) → IsClear e p q f
     clear h f m = clear_by e f p q x (clear_or_shared e (edges b) p q f g m) i (each_at (λ d. on d x ≡ false) (edges b) f h m)

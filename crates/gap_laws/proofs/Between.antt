@@ -1,23 +1,21 @@
 -- Strictly between two points of an edge: sums stay there, and an edge that holds all of it holds its ends.
-use Rattle.std.proofs.Common.{ℕ, zero, suc, ◌+◌, ◌<◌, ℤ, pos, ◌+ℤ◌, ◌-ℤ◌, ◌*ℤ◌, ◌<ℤ◌, ◌≡◌, ◌⊎◌, inl, inr, Bool, true, false, refl, sym, ap, ap₂, subst, ◌∙◌, [], ◌∷◌, arith}
+use Rattle.std.proofs.Common.{ℕ, ◌+◌, ◌<◌, ℤ, pos, ◌+ℤ◌, ◌*ℤ◌, ◌≡◌, Bool, true, false, refl, sym, ap, subst, ◌∙◌, arith}
 use borrow.Author.Differences.{ints}
 use Rattle.std.specs.declared.cmp.Ordering.{Ordering}
 use Rattle.std.specs.declared.cmp.Ordering.TheVariants.{Less, Equal, Greater}
 use Rattle.geometry_model.specs.Points.{Position, Point, IsPoint, point_at, compare, same_point, mediant, least_form}
 use Rattle.geometry_model.specs.Geometries.{Edge}
 use Rattle.geometry_model.specs.Sides.{side, on}
-use Rattle.geometry_model.specs.Dimensions.{area, weighted}
+use Rattle.geometry_model.specs.Dimensions.{weighted}
 use Rattle.geometry_model.specs.Locations.{stands_at}
 use Rattle.geometry_model.proofs.LeastFormFacts.{least_is_same, least_is_point}
-use Rattle.integers.proofs.Ring.{solve, var, lit, ◌⊕◌, ◌⊗◌}
 use Rattle.geometry_laws.specs.PointLaws.{reversed}
-use Rattle.geometry_laws.proofs.Scaling.{same_from}
 use Rattle.geometry_laws.proofs.PointOrder.{same_symmetric, same_transitive, compare_reversed, equal_is_same, less_transitive, mediant_between}
 use Rattle.geometry_laws.proofs.Respect.{compare_respects, on_respects}
 use Rattle.geometry_laws.proofs.Hulls.{on_from_hull, hull_from_on, on_parts}
 use Rattle.geometry_laws.proofs.RingParity.{position_is_point}
 use Rattle.geometry_laws.proofs.Lines.{weighted_is_point}
-use Rattle.geometry_laws.proofs.Locating.{start_is_on, end_is_on, by_contraries}
+use Rattle.geometry_laws.proofs.Locating.{by_contraries}
 use Rattle.geometry_laws.proofs.Triangles.{dot, dot_stands}
 use Rattle.geometry_laws.proofs.LineOrder.{IsSum, after_sum, before_sum, sum_between, on_sum, weighted_is_sum, area_on_line}
 use Rattle.geometry_laws.proofs.Cuts.{turn_less, not_less_self, not_after_both, not_before_both}

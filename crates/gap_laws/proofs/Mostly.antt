@@ -1,21 +1,20 @@
 -- Where a point mostly stands: on own edges, off all edges, and where it is no cut.
-use Rattle.std.proofs.Common.{◌≡◌, ◌≢◌, ◌⊎◌, inl, inr, Bool, true, false, ◌||◌, if◌then◌else◌, refl, sym, ap, ap₂, ◌∙◌, List, [], ◌∷◌, ◌++◌, All, Contains, count_by, flat_map, option_to_list}
+use Rattle.std.proofs.Common.{◌≡◌, ◌≢◌, ◌⊎◌, inl, inr, Bool, true, false, if◌then◌else◌, refl, sym, ap, ◌∙◌, List, [], ◌∷◌, ◌++◌, All, Contains, flat_map, option_to_list}
 use Rattle.geometry_model.specs.Points.{Position, Point, IsPoint}
-use Rattle.geometry_model.specs.Geometries.{Edge, Geometry, kind, edges, edges_of_lines, lines, listed, rings, joined_rings}
+use Rattle.geometry_model.specs.Geometries.{Edge, Geometry, kind, edges, edges_of_lines, lines, listed, joined_rings}
 use Rattle.geometry_model.specs.Sides.{on}
-use Rattle.geometry_model.specs.Crossings.{exactly_one as xor, odd, odd_above, odd_at_or_above}
+use Rattle.geometry_model.specs.Crossings.{exactly_one as xor, odd_above, odd_at_or_above}
 use Rattle.geometry_model.specs.CutPoints.{IsCut}
 use Rattle.geometry_model.specs.CutPoints.IsCut.{AtEnd, Listed}
 use Rattle.geometry_model.specs.Locations.{stands_at, ends, on_some, is_odd_end, in_points, in_rings, locate}
 use Rattle.geometry_model.specs.Labels.{below, above, edges_of_both}
-use Rattle.geometry_model.specs.declared.shapes.Kind.{Kind}
 use Rattle.geometry_model.specs.declared.shapes.Kind.TheVariants as kinds
 use Rattle.geometry_model.specs.declared.point_sets.Location.{Location}
 use Rattle.geometry_model.specs.declared.point_sets.Location.TheVariants.{Interior, Boundary, Exterior}
-use Rattle.geometry_laws.proofs.Each.{Each, Among, each_of, each_map, none_passes, one_passes, parity, odd_count, parity_none, among_left, among_right}
+use Rattle.geometry_laws.proofs.Each.{Among, each_of, each_map, none_passes, one_passes, odd_count, parity_none, among_left, among_right}
 use Rattle.geometry_laws.proofs.Xor.{xor_false}
 use Rattle.geometry_laws.proofs.RingParity.{each_from_all}
-use Rattle.geometry_laws.proofs.Locating.{NoEnd, all_ends_even, by_contraries}
+use Rattle.geometry_laws.proofs.Locating.{all_ends_even, by_contraries}
 use Rattle.geometry_laws.proofs.Cuts.{among_from_contains, contains_of_among, or_first, or_last}
 use Rattle.geometry_laws.proofs.WithinPiece.{touches, on_from_touch, parity_at_or_above}
 use Rattle.geometry_laws.proofs.CoverTheorems.{all_from_each}

@@ -1,5 +1,5 @@
 -- Along an edge of a valid area, strictly between two of its points, one side is interior and the other exterior, the same at each point.
-use Rattle.std.proofs.Common.{ℕ, ◌+◌, ◌<◌, pos, ◌≡◌, ◌≢◌, ◌⊎◌, inl, inr, Bool, true, false, ◌&&◌, if◌then◌else◌, int_lt, ℤ, refl, sym, ap, ap₂, subst, ◌∙◌, List, ◌++◌, Contains, Some, slice_get}
+use Rattle.std.proofs.Common.{ℕ, pos, ◌≡◌, ◌≢◌, ◌⊎◌, inl, inr, Bool, true, false, ◌&&◌, if◌then◌else◌, int_lt, ℤ, refl, sym, ap, ap₂, subst, ◌∙◌, List, ◌++◌, Contains, Some, slice_get}
 use Rattle.geometry_model.specs.Points.{Position, Point, IsPoint, point_at}
 use Rattle.geometry_model.specs.Geometries.{Edge, Geometry, kind, edges, edges_of_line, edges_of_lines, listed, rings, joined_rings}
 use Rattle.geometry_model.specs.Sides.{side, on}
@@ -12,7 +12,7 @@ use Rattle.geometry_model.specs.Labels.{below, above, edges_of_both}
 use Rattle.geometry_model.specs.Validity.{IsValid}
 use Rattle.geometry_model.specs.declared.shapes.Kind.TheVariants as kinds
 use Rattle.geometry_model.specs.declared.point_sets.Location.TheVariants.{Interior, Exterior}
-use Rattle.geometry_laws.specs.RingLaws.{IsClosed, Misses}
+use Rattle.geometry_laws.specs.RingLaws.{IsClosed}
 use Rattle.geometry_laws.proofs.Each.{Each, Among, among_left}
 use Rattle.geometry_laws.proofs.Hulls.{on_from_hull}
 use Rattle.geometry_laws.proofs.RingParity.{each_from_all, Step, step_by_missing, step_along, parity_by_steps}

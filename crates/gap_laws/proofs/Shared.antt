@@ -8,7 +8,7 @@ use Rattle.geometry_model.specs.Sides.{side, on}
 use Rattle.geometry_model.specs.Dimensions.{weighted}
 use Rattle.geometry_model.specs.CutPoints.{IsCut, cut_points}
 use Rattle.geometry_laws.proofs.Each.{Each, Among, each_at, each_of}
-use Rattle.geometry_laws.proofs.PointOrder.{same_symmetric, equal_is_same, less_transitive, mediant_between}
+use Rattle.geometry_laws.proofs.PointOrder.{same_symmetric, equal_is_same, less_transitive}
 use Rattle.geometry_laws.proofs.RingParity.{each_from_all, side_is_area, position_is_point}
 use Rattle.geometry_laws.proofs.Locating.{start_is_on, end_is_on, by_contraries}
 use Rattle.geometry_laws.proofs.LineOrder.{area_on_line}
@@ -16,7 +16,6 @@ use Rattle.geometry_laws.proofs.Cuts.{among_from_contains, turn_less, not_less_s
 use Rattle.geometry_laws.proofs.Hulls.{on_from_hull}
 use Rattle.geometry_laws.proofs.Avoid.{OffPoints, avoid_points}
 use Rattle.cut_laws.proofs.Lists.{Some_of}
-use Rattle.cut_laws.proofs.CutLists.{IsLeastCut}
 use Rattle.cut_laws.proofs.CutOrder.{listed_is_cut, cut_is_listed}
 use Rattle.gap_laws.specs.Gaps.{IsBetween, IsClear, IsShared, IsGap}
 use Rattle.gap_laws.proofs.Between.{Span, wide, on_line, on_within, between_sum, mediant_is_between, least_mediant_between, After, after_lesser, Before, before_greater}

@@ -32,8 +32,8 @@ pub fn gap_is_alike()
     ensures { GapIsAlike }
 {}
 
-/// An end of a gap that no edge holds stands as the points between its ends do, which then no edge holds either (06-103r4,
-/// 6.1.15.2).
+/// A point from the one end of a gap to the other, both counted, that no edge holds stands as the points strictly between the
+/// ends do, and then no edge holds those (06-103r4, 6.1.15.2).
 pub fn gap_end_is_alike()
     ensures { GapEndIsAlike }
 {}

@@ -18,7 +18,7 @@ pub fn sides_of_own_edge()
     ensures { SidesOfOwnEdge }
 {}
 
-/// So they are strictly between any two points of such an edge (06-103r4, 6.1.11.1).
+/// Strictly between any two points of such an edge, too, one side is interior and the other exterior (06-103r4, 6.1.11.1).
 pub fn sides_within_own_edge()
     ensures { SidesWithinOwnEdge }
 {}
