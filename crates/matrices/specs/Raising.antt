@@ -3,12 +3,13 @@ use Rattle.std.specs.Prelude.{◌≡◌, true, List, All, Any}
 use Rattle.geometry_model.specs.Points.{Position, Point, IsPoint, point_at}
 use Rattle.geometry_model.specs.Geometries.{Edge, Geometry, kind, edges, lines, listed}
 use Rattle.geometry_model.specs.Sides.{on}
-use Rattle.geometry_model.specs.Locations.{is_odd_end, locate, ends}
+use Rattle.geometry_model.specs.Locations.{locate, ends}
 use Rattle.geometry_model.specs.Dimensions.{Matrix, matrix_of}
 use Rattle.geometry_model.specs.Validity.{IsValid}
 use Rattle.geometry_model.specs.declared.shapes.Kind.{Kind}
 use Rattle.geometry_model.specs.declared.shapes.Kind.TheVariants as kinds
 use Rattle.geometry_model.specs.declared.point_sets.Location.{Location}
+use Rattle.geometry_model.specs.declared.point_sets.Location.TheVariants.{Boundary}
 use Rattle.geometry_model.specs.declared.point_sets.Dimension.TheVariants.{Empty, Zero, Two}
 use Rattle.cell_laws.specs.Cells.{Shows, IsPartOf, IsSound, CoversPosition}
 use Rattle.cover_laws.specs.Covering.{ShowsOff}
@@ -28,14 +29,18 @@ pub record Grows (a b : Geometry) (m n : Matrix) : Type 0 where
   pub grown : IsPartOf m n
   pub sound : IsValid a → IsValid b → IsSound a b m → IsSound a b n
 
--- the matrix shows where the position stands, if an odd number of ends stand there (06-103r4, 6.1.8.1: the mod 2 rule)
+-- the matrix shows where the position stands, if it is on the boundary of a (06-103r4, 6.1.15.2)
 abbrev pub CoversEnd : Geometry → Geometry → Matrix → Position → Type 0
-CoversEnd a b m p = is_odd_end (lines a) (point_at p) ≡ true → CoversPosition a b m p
+CoversEnd a b m p = locate a (point_at p) ≡ Boundary → CoversPosition a b m p
 
--- the matrix shows where all listed positions of a stand in b, and all odd ends of its lines
+-- it does so of both ends of a line
+abbrev pub CoversEndsOf : Geometry → Geometry → Matrix → List Position → Type 0
+CoversEndsOf a b m line = All (CoversEnd a b m) (ends line)
+
+-- the matrix shows where all listed positions of a stand in b, and all ends of its lines that are on its boundary (06-103r4, 6.1.8.1: the mod 2 rule)
 pub record ShowsOwnEnds (a b : Geometry) (m : Matrix) : Type 0 where
   pub positions : All (CoversPosition a b m) (listed a)
-  pub odd_ends : kind a ≡ kinds.Line → All (λ line. All (CoversEnd a b m) (ends line)) (lines a)
+  pub odd_ends : kind a ≡ kinds.Line → All (CoversEndsOf a b m) (lines a)
 
 -- the matrix shows of one part that it shares at least a point with each part that a geometry of this kind has
 abbrev pub ShowsRow : Location → Kind → Matrix → Type 0

@@ -61,6 +61,7 @@ fn raise_edge(
     requires first_valid { IsValid first.now }
     requires second_valid { IsValid second.now }
     requires own { Contains (edges first.now) edge.now }
+    requires length { HasLength edge.now }
     requires ends { ShowsEnds first.now second.now matrix.old }
     ensures grows { OnOk result (Grows first.now second.now matrix.old matrix.new) }
     ensures covers { OnOk result (Covers first.now second.now matrix.new edge.now) }

@@ -1,10 +1,11 @@
 //! What a gap of an edge shows of a matrix.
 
-ghost use Rattle.std.specs.Prelude.{◌≡◌, ◌≢◌, ◌↔◌, IsTrue, IsNone, IfSome, All, Contains, pos, ◌≤ℤ◌};
+ghost use Rattle.std.specs.Prelude.{◌≡◌, ◌↔◌, IsTrue, IsNone, IfSome, All, Contains, pos, ◌≤ℤ◌};
 ghost use Rattle.geometry_model.specs.Geometries.{edges};
 ghost use Rattle.geometry_model.specs.Pieces.{stretches};
 ghost use Rattle.gap_laws.specs.Gaps.{IsGap, mostly};
 ghost use Rattle.cover_laws.specs.Covering.{IsOffEdges, ShowsOff, ShowsOn, ShowsAt, ShowsGap};
+ghost use Rattle.validity.specs.ValidGeometries.{HasLength};
 ghost use Rattle.fraction.specs.Ranges.{meeting_limit};
 ghost use Rattle.matrices.specs.Raising.{Grows, IsRaisedTo};
 
@@ -16,10 +17,9 @@ use orient::Segment;
 use side_labels::{above, below};
 use validity::Valid;
 
-/// Whether both ends of an edge, which differ, have one x.
+/// Whether both ends of an edge have one x.
 fn is_upright(edge: &Segment) -> bool
-    ensures upright { IsTrue result ↔ (edge.now.start.x ≡ edge.now.end.x) }
-    ensures length { edge.now.start ≢ edge.now.end }
+    ensures { IsTrue result ↔ (edge.now.start.x ≡ edge.now.end.x) }
 {
     edge.start().x() == edge.end().x()
 }
@@ -91,6 +91,7 @@ pub(crate) fn raise_gaps(
     matrix: &mut Matrix,
 )
     requires own { Contains (edges first.now) edge.now }
+    requires length { HasLength edge.now }
     requires gaps { All (λ c. IsGap edge.now (edges second.now) c.lesser c.greater) (stretches stops.now) }
     requires limits { All (λ p. p.W ≤ℤ pos meeting_limit) stops.now }
     ensures grows { Grows first.now second.now matrix.old matrix.new }

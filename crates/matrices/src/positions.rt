@@ -2,14 +2,13 @@
 
 ghost use Rattle.std.specs.Prelude.{◌≡◌, true, All};
 ghost use Rattle.geometry_model.specs.Points.{IsPoint};
-ghost use Rattle.geometry_model.specs.Geometries.{kind, edges, lines, listed};
+ghost use Rattle.geometry_model.specs.Geometries.{edges, lines, listed};
 ghost use Rattle.geometry_model.specs.Locations.{locate, ends};
 ghost use Rattle.geometry_model.specs.Validity.{IsValid};
-ghost use Rattle.geometry_model.specs.declared.shapes.Kind.TheVariants as kinds;
 ghost use Rattle.geometry_model.specs.declared.point_sets.Dimension.TheVariants.{Zero};
 ghost use Rattle.validity.specs.ValidGeometries.{HasLength};
 ghost use Rattle.cell_laws.specs.Cells.{Shows, CoversPosition};
-ghost use Rattle.matrices.specs.Raising.{Grows, ShowsOwnEnds, ShowsRow, CoversEnd};
+ghost use Rattle.matrices.specs.Raising.{Grows, ShowsOwnEnds, ShowsRow, CoversEndsOf};
 
 use crate::matrix::Matrix;
 use fraction::{GridPoint, RatPoint};
@@ -72,9 +71,8 @@ fn raise_ends_of(first: &Valid, second: &Valid, line: &[GridPoint], matrix: &mut
 /// Shows where the boundary of lines stands in the second geometry: the ends of them at which an odd number of ends stand, until
 /// nothing more can come (OGC 06-103r4, 6.1.8.1: the mod 2 rule).
 fn raise_line_ends(first: &Valid, second: &Valid, matrix: &mut Matrix)
-    requires { kind first.now ≡ kinds.Line }
     ensures grows { Grows first.now second.now matrix.old matrix.new }
-    ensures shows { All (λ line. All (CoversEnd first.now second.now matrix.new) (ends line)) (lines first.now) }
+    ensures shows { All (CoversEndsOf first.now second.now matrix.new) (lines first.now) }
 {
     for line in first.geometry().lines() {
         if shows_row(matrix, Location::Boundary, second.kind()) {

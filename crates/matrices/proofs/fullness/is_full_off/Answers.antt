@@ -1,0 +1,15 @@
+use Rattle.std.proofs.Common.{◌∙◌, sym}
+use Rattle.geometry_model.specs.declared.shapes.Kind.TheVariants as kinds
+use Rattle.matrices.proofs.fullness.is_full_off.Goals as goal
+
+pub returns-then-ne : goal.returns-then-ne
+returns-then-ne c = λ _. record {
+  in_exterior = c.is_full_in.ensures c.if-is_full_in.true c.args.first.now (sym c.kind.ensures);
+  in_interior = λ k. ?;
+}
+
+pub returns-else-ne : goal.returns-else-ne
+returns-else-ne c = λ full. record {
+  in_exterior = c.is_full_in.ensures c.if-is_full_in.true c.args.first.now (sym c.kind.ensures);
+  in_interior = λ _. c.is_full_in-else-ne.ensures full c.args.first.now (sym c.kind-else-ne.ensures);
+}
