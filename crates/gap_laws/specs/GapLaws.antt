@@ -1,16 +1,14 @@
 -- Laws of gaps: what lies alike all along one, and what its ends share with it.
 use Rattle.std.specs.Prelude.{◌≡◌, ◌≢◌, ◌⊎◌, true, false, List, ◌++◌, All, Contains}
-use Rattle.std.specs.declared.cmp.Ordering.TheVariants.{Less}
-use Rattle.geometry_model.specs.Points.{Position, Point, IsPoint, compare, least_form, mediant}
+use Rattle.geometry_model.specs.Points.{Position, Point, IsPoint, least_form, mediant}
 use Rattle.geometry_model.specs.Geometries.{Edge, Geometry, kind, edges, lines, listed}
 use Rattle.geometry_model.specs.Sides.{on}
 use Rattle.geometry_model.specs.CutPoints.{IsCut}
-use Rattle.geometry_model.specs.Pieces.{Piece}
 use Rattle.geometry_model.specs.Locations.{stands_at, is_odd_end, locate}
 use Rattle.geometry_model.specs.Labels.{below, above, edges_of_both}
 use Rattle.geometry_model.specs.Validity.{IsValid}
 use Rattle.geometry_model.specs.declared.shapes.Kind.TheVariants as kinds
-use Rattle.geometry_model.specs.declared.point_sets.Location.TheVariants.{Interior, Boundary, Exterior}
+use Rattle.geometry_model.specs.declared.point_sets.Location.TheVariants.{Interior, Exterior}
 use Rattle.geometry_laws.specs.PieceLaws.{HasClosedRings}
 use Rattle.polygon_laws.specs.PolygonLaws.{ArePartedAs}
 use Rattle.gap_laws.specs.Gaps.{IsBetween, IsGap, IsWithin, IsShared, mostly, of_own_edges}
@@ -27,7 +25,7 @@ GapHasNoCut = (e : Edge) (fs : List Edge) (p q : Point) → IsGap e fs p q → (
 abbrev pub GapIsAlike : Type 0
 GapIsAlike = (b : Geometry) → HasClosedRings b → (e : Edge) (p q : Point) → IsGap e (edges b) p q → (x y : Point) → IsBetween e p q x → IsBetween e p q y → mostly b x ≡ mostly b y
 
--- and so does an end of it that no edge holds, which lies in the interior or the exterior (06-103r4, 6.1.15.2)
+-- and so does each point from the one end to the other, both counted, that no edge holds; then no edge holds those between (06-103r4, 6.1.15.2)
 abbrev pub GapEndIsAlike : Type 0
 GapEndIsAlike = (b : Geometry) → HasClosedRings b → (e : Edge) (p q : Point) → IsGap e (edges b) p q → (x y : Point) → IsBetween e p q y → IsPoint x → on e x ≡ true → IsWithin (record { lesser = p; greater = q }) x
     → All (λ f. on f x ≡ false) (edges b) → (mostly b x ≡ mostly b y) × All (λ f. on f y ≡ false) (edges b)
@@ -71,10 +69,10 @@ abbrev pub SidesAlongOwnEdge : Type 0
 SidesAlongOwnEdge = (a : Geometry) → IsValid a → (e : Edge) → Contains (edges a) e → e.start.x ≢ e.end.x → (p q x y : Point) → IsPoint p → IsPoint q → on e p ≡ true → on e q ≡ true → IsBetween e p q x → IsBetween e p q y
     → (below a x ≡ below a y) × (above a x ≡ above a y)
 
--- a point that a gap shares with another edge, and that isn't an end of either nor a cut, lies where that edge holds the whole gap
+-- an edge that holds one point strictly between the ends of a gap holds all of them
 abbrev pub SharedPointSharesGap : Type 0
 SharedPointSharesGap = (e : Edge) (fs : List Edge) (p q x : Point) (f : Edge) → IsGap e fs p q → Contains fs f → IsBetween e p q x → on f x ≡ true → IsShared e p q f
 
--- and that edge holds the gap's ends too
+-- and an edge that holds all of them holds the gap's ends too
 abbrev pub SharedGapHoldsEnds : Type 0
 SharedGapHoldsEnds = (e : Edge) (fs : List Edge) (p q : Point) (f : Edge) → IsGap e fs p q → Contains fs f → IsShared e p q f → (on f p ≡ true) × (on f q ≡ true)

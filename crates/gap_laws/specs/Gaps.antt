@@ -1,5 +1,5 @@
 -- Gaps: the stretches of an edge between neighbouring points at which other edges meet it.
-use Rattle.std.specs.Prelude.{◌≡◌, ◌⊎◌, true, false, Bool, ◌||◌, List, [], ◌∷◌, All, Any, Contains, if◌then◌else◌, pos, ◌≤ℤ◌}
+use Rattle.std.specs.Prelude.{◌≡◌, ◌⊎◌, true, false, ◌||◌, List, [], ◌∷◌, All, Any, Contains, if◌then◌else◌, pos, ◌≤ℤ◌}
 use Rattle.std.specs.declared.cmp.Ordering.TheVariants.{Less}
 use Rattle.geometry_model.specs.Points.{Point, IsPoint, same_point, compare}
 use Rattle.geometry_model.specs.Geometries.{Edge, Geometry, kind, lines, rings}

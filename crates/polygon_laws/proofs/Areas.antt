@@ -190,12 +190,12 @@ ring_even d (q ∷ ks) t r (inl z) f m p hp h g = on_outer d q ks t f (subst (λ
 ring_even d (q ∷ ks) t r (inr a) f m p hp h g = on_hole d q ks t r a f m p hp h g
 
 -- ---- the edges of rings
-record RingOf (f : Edge) (rs : List (List Position)) : Type 0 where
-  ring : List Position
-  among : Among ring rs
-  holds : Among f (edges_of_line ring)
+pub record RingOf (f : Edge) (rs : List (List Position)) : Type 0 where
+  pub ring : List Position
+  pub among : Among ring rs
+  pub holds : Among f (edges_of_line ring)
 
-ring_of : (f : Edge) (rs : List (List Position)) → Among f (edges_of_lines rs) → RingOf f rs
+pub ring_of : (f : Edge) (rs : List (List Position)) → Among f (edges_of_lines rs) → RingOf f rs
 ring_of f [] a = absurd a
 ring_of f (r ∷ rs) a = go (among_either f (edges_of_line r) (edges_of_lines rs) a) (λ m. ring_of f rs m)
   where

@@ -51,7 +51,7 @@ reaches_no a x h = reaches_is a x ∙ at_most_no (pos 0) (right (point_at a) x) 
     turned : (s t : ℤ) → t ≡ pos 0 -ℤ s → pos 0 <ℤ s → t <ℤ pos 0
     turned s t e h = omega (arith, ints)
 
-flat : (e : Edge) (p : Point) → side e.start e.end p ≡ pos 0 → side_rightward e p ≡ pos 0
+pub flat : (e : Edge) (p : Point) → side e.start e.end p ≡ pos 0 → side_rightward e p ≡ pos 0
 flat e p h = go (int_le e.start.x e.end.x)
   where
     turned : (s t : ℤ) → t ≡ pos 0 -ℤ s → s ≡ pos 0 → t ≡ pos 0
@@ -130,7 +130,7 @@ around [] j e f c g h n = absurd (let z : None ≡ Some e = g in cc)
 around (a ∷ rest) j e f c g h n = first_start a rest e g ∙ sym c ∙ sym (last_end a rest j f h n)
 
 -- ---- no other edge of the ring goes through the point
-equal_or_not : (i j : ℕ) → (i ≡ j) ⊎ (i ≡ j → ⊥)
+pub equal_or_not : (i j : ℕ) → (i ≡ j) ⊎ (i ≡ j → ⊥)
 equal_or_not i j = grind arith
 
 less_or_more : (i j : ℕ) → (i ≡ j → ⊥) → (i < j) ⊎ (j < i)
@@ -169,7 +169,7 @@ not_on : (e : Edge) (p : Point) → (on e p ≡ true → ⊥) → on e p ≡ fal
 not_on e p n = by_contraries (on e p) false (λ q. absurd (n q)) refl
 
 -- none of its ring, since the ring is simple
-no_edge_of_ring : (g : Geometry) → IsValid g → (i : ℕ) (ring : List Position) → slice_get (rings g) i ≡ Some ring → (j : ℕ) (e : Edge) → slice_get (edges_of_line ring) j ≡ Some e
+pub no_edge_of_ring : (g : Geometry) → IsValid g → (i : ℕ) (ring : List Position) → slice_get (rings g) i ≡ Some ring → (j : ℕ) (e : Edge) → slice_get (edges_of_line ring) j ≡ Some e
     → (p : Point) → IsPoint p → on e p ≡ true → stands_at p e.start ≡ false → stands_at p e.end ≡ false → (k : ℕ) (d : Edge) → (k ≡ j → ⊥) → slice_get (edges_of_line ring) k ≡ Some d → on d p ≡ false
 no_edge_of_ring g v i ring ri j e ej p hp h s t k d n dk = not_on d p (λ m. pick m (less_or_more k j n))
   where
@@ -185,7 +185,7 @@ no_edge_of_ring g v i ring ri j e ej p hp h s t k d n dk = not_on d p (λ m. pic
     pick m (inr l) = not_simple j k e d l ej dk h m (inl (apart_from e.end p t)) (inl (apart_from e.start p s))
 
 -- none of another ring, since no two rings share a point
-no_edge_of_others : (g : Geometry) → IsValid g → (i : ℕ) (ring : List Position) → slice_get (rings g) i ≡ Some ring → (j : ℕ) (e : Edge) → slice_get (edges_of_line ring) j ≡ Some e
+pub no_edge_of_others : (g : Geometry) → IsValid g → (i : ℕ) (ring : List Position) → slice_get (rings g) i ≡ Some ring → (j : ℕ) (e : Edge) → slice_get (edges_of_line ring) j ≡ Some e
     → (p : Point) → IsPoint p → on e p ≡ true → (k : ℕ) (r : List Position) → (k ≡ i → ⊥) → slice_get (rings g) k ≡ Some r → (m : ℕ) (d : Edge) → slice_get (edges_of_line r) m ≡ Some d → on d p ≡ false
 no_edge_of_others g v i ring ri j e ej p hp h k r n rk m d dm = not_on d p (λ q. pick q (less_or_more k i n))
   where
@@ -212,7 +212,7 @@ parted_as true false e = inr (refl, refl)
 parted_as false true e = inl (refl, refl)
 parted_as false false e = absurd (cc)
 
-each_ring : (P : Edge → Type 0) (rs : List (List Position)) → ((k : ℕ) (r : List Position) → slice_get rs k ≡ Some r → (m : ℕ) (d : Edge) → slice_get (edges_of_line r) m ≡ Some d → P d) → Each P (edges_of_lines rs)
+pub each_ring : (P : Edge → Type 0) (rs : List (List Position)) → ((k : ℕ) (r : List Position) → slice_get rs k ≡ Some r → (m : ℕ) (d : Edge) → slice_get (edges_of_line r) m ≡ Some d → P d) → Each P (edges_of_lines rs)
 each_ring P [] f = tt
 each_ring P (r ∷ rs) f = each_append P (edges_of_line r) (edges_of_lines rs) (each_by P (edges_of_line r) (λ m d q. f 0 r refl m d q)) (each_ring P rs (λ k q h m d z. f (suc k) q h m d z))
 

@@ -1,0 +1,51 @@
+-- The laws of gaps, each under the name of its statement.
+use Rattle.gap_laws.specs.GapLaws.{GapHasMediant, GapHasNoCut, GapIsAlike, GapEndIsAlike, MostlyIsLocated, NoCutIsMostly, OwnEdgesAreMostly, OffEdgesIsNoBoundary, SidesOffEdges, SidesOfNoArea, SidesOfOwnEdge, SidesWithinOwnEdge, SidesAlongOwnEdge, SharedPointSharesGap, SharedGapHoldsEnds}
+use Rattle.gap_laws.proofs.Shared as shared
+use Rattle.gap_laws.proofs.Mostly as placing
+use Rattle.gap_laws.proofs.Alike as alike
+use Rattle.gap_laws.proofs.OwnSides as own_sides
+
+pub gap_has_mediant : GapHasMediant
+gap_has_mediant = shared.gap_has_mediant
+
+pub gap_has_no_cut : GapHasNoCut
+gap_has_no_cut = shared.gap_has_no_cut
+
+pub gap_is_alike : GapIsAlike
+gap_is_alike = alike.gap_is_alike
+
+pub gap_end_is_alike : GapEndIsAlike
+gap_end_is_alike = alike.gap_end_is_alike
+
+pub mostly_is_located : MostlyIsLocated
+mostly_is_located = placing.mostly_is_located
+
+pub no_cut_is_mostly : NoCutIsMostly
+no_cut_is_mostly = placing.no_cut_is_mostly
+
+pub own_edges_are_mostly : OwnEdgesAreMostly
+own_edges_are_mostly = placing.own_edges_are_mostly
+
+pub off_edges_is_no_boundary : OffEdgesIsNoBoundary
+off_edges_is_no_boundary = placing.off_edges_is_no_boundary
+
+pub sides_off_edges : SidesOffEdges
+sides_off_edges = placing.sides_off_edges
+
+pub sides_of_no_area : SidesOfNoArea
+sides_of_no_area = placing.sides_of_no_area
+
+pub sides_of_own_edge : SidesOfOwnEdge
+sides_of_own_edge = own_sides.sides_of_own_edge
+
+pub sides_within_own_edge : SidesWithinOwnEdge
+sides_within_own_edge = own_sides.sides_within_own_edge
+
+pub sides_along_own_edge : SidesAlongOwnEdge
+sides_along_own_edge = own_sides.sides_along_own_edge
+
+pub shared_point_shares_gap : SharedPointSharesGap
+shared_point_shares_gap = shared.shared_point_shares_gap
+
+pub shared_gap_holds_ends : SharedGapHoldsEnds
+shared_gap_holds_ends = shared.shared_gap_holds_ends
