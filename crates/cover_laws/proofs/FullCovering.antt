@@ -1,7 +1,6 @@
 -- A matrix that shows all that gaps can show covers each edge, whatever meets it.
-use Rattle.std.proofs.Common.{◌≡◌, ◌≢◌, ◌⊎◌, inl, inr, true, false, refl, sym, subst, ◌∙◌, List, Contains}
-use Rattle.std.specs.declared.cmp.Ordering.TheVariants.{Less}
-use Rattle.geometry_model.specs.Points.{Point, IsPoint, compare}
+use Rattle.std.proofs.Common.{◌≡◌, ◌≢◌, ◌⊎◌, inl, inr, true, refl, sym, subst, Contains}
+use Rattle.geometry_model.specs.Points.{Point, IsPoint}
 use Rattle.geometry_model.specs.Geometries.{Edge, Geometry, kind, edges}
 use Rattle.geometry_model.specs.Sides.{on}
 use Rattle.geometry_model.specs.Dimensions.{Matrix}
@@ -18,7 +17,7 @@ use Rattle.cell_laws.proofs.Growing.{shows_at, shows_less}
 use Rattle.gap_laws.specs.Gaps.{SharesNoStretch, mostly, of_own_edges}
 use Rattle.cover_laws.specs.Covering.{IsOffEdges, ShowsOff, ShowsEnds}
 use Rattle.cover_laws.specs.CoveringLaws.{IsFullOff, IsFullOn}
-use Rattle.cover_laws.proofs.GapTerms.{off_edges_is_no_boundary}
+use Rattle.gap_laws.proofs.GapTheorems.{off_edges_is_no_boundary}
 use Rattle.cover_laws.proofs.Stretching.{SharesFurther, shares_further, spread}
 use Rattle.cover_laws.proofs.Located.{Side, lower_side, upper_side, on_or_off, off_is_shown, ShowsShared, shared_is_shown, Overlaps, overlaps}
 

@@ -1,6 +1,6 @@
 -- What a gap shows is there: a point of it that is no cut stands as its sample does.
-use Rattle.std.proofs.Common.{◌≡◌, ◌≢◌, ◌⊎◌, inl, inr, true, false, refl, sym, ap, ◌∙◌, List, ◌++◌, All, Contains}
-use Rattle.geometry_model.specs.Points.{Position, Point, IsPoint}
+use Rattle.std.proofs.Common.{◌≡◌, ◌≢◌, ◌⊎◌, inl, inr, true, false, refl, sym, ◌∙◌, List, ◌++◌, All, Contains}
+use Rattle.geometry_model.specs.Points.{Point, IsPoint}
 use Rattle.geometry_model.specs.Geometries.{Edge, Geometry, kind, edges, listed}
 use Rattle.geometry_model.specs.Sides.{on}
 use Rattle.geometry_model.specs.CutPoints.{IsCut}
@@ -13,7 +13,7 @@ use Rattle.geometry_model.specs.declared.point_sets.Location.TheVariants.{Interi
 use Rattle.geometry_model.specs.declared.point_sets.Dimension.TheVariants.{One, Two}
 use Rattle.geometry_laws.proofs.Each.{Passing, each_of}
 use Rattle.geometry_laws.proofs.CoverTheorems.{all_from_each}
-use Rattle.geometry_laws.proofs.Cuts.{among_from_contains, contains_of_among}
+use Rattle.geometry_laws.proofs.Cuts.{contains_of_among}
 use Rattle.polygon_laws.specs.PolygonLaws.{ArePartedAs}
 use Rattle.polygon_laws.proofs.Closing.{valid_rings_are_closed}
 use Rattle.cell_laws.specs.Cells.{Shows, IsNoCut}
@@ -21,19 +21,12 @@ use Rattle.cell_laws.proofs.Growing.{shows_at}
 use Rattle.cell_laws.proofs.There.{piece_is_there, sides_are_there}
 use Rattle.gap_laws.specs.Gaps.{IsBetween, IsClear, IsShared, IsGap, mostly, of_own_edges}
 use Rattle.cover_laws.specs.Covering.{IsOffEdges, ShowsOff, ShowsOn, ShowsAt}
-use Rattle.cover_laws.proofs.GapTerms.{gap_has_no_cut, gap_is_alike, own_edges_are_mostly, sides_off_edges, sides_of_no_area, sides_of_own_edge, sides_along_own_edge, shared_gap_holds_ends}
+use Rattle.gap_laws.proofs.Shared.{span_of_gap}
+use Rattle.gap_laws.proofs.GapTheorems.{gap_has_no_cut, gap_is_alike, own_edges_are_mostly, sides_off_edges, sides_of_no_area, sides_of_own_edge, sides_along_own_edge, shared_point_shares_gap, shared_gap_holds_ends}
 use Rattle.cover_laws.proofs.Stretching.{not_upright_either}
 use Rattle.cover_laws.proofs.Located.{contains_left, all_at, is_area, on_or_off, StandsMostly, no_cut_stands}
 
--- ---- an edge holds the whole gap where it holds a point of it
-pub held_by : (e : Edge) (fs : List Edge) (p q : Point) → IsGap e fs p q → (f : Edge) → Contains fs f → (y : Point) → IsBetween e p q y → on f y ≡ true → IsShared e p q f
-held_by e fs p q g f c y i h = go (all_at (λ k. IsClear e p q k ⊎ IsShared e p q k) fs f g.whole c)
-  where
-    go : IsClear e p q f ⊎ IsShared e p q f → IsShared e p q f
-    go (inl n) = absurd (let z : true ≡ false = sym h ∙ n y i in cc)
-    go (inr s) = s
-
--- the edge's point between, as one of the other edge
+-- ---- the edge's point between, as one of the other edge
 pub between_of_other : (e f : Edge) (p q x : Point) → IsShared e p q f → IsBetween e p q x → IsBetween f p q x
 between_of_other e f p q x s i = record { is_point = i.is_point; is_on = s.1 x i; after = i.after; before = i.before }
 
@@ -50,8 +43,8 @@ same_sides a b va vb e c n p q g f d s x y i j = go (shared_gap_holds_ends e (ed
   where
     go : (on f p ≡ true) × (on f q ≡ true) → SameSides a b x y
     go h = let u : (below a x ≡ below a y) × (above a x ≡ above a y) = sides_along_own_edge a va e c n p q x y g.lesser_is_point g.greater_is_point g.lesser_on g.greater_on i j in
-        let v : (below b x ≡ below b y) × (above b x ≡ above b y) = sides_along_own_edge b vb f d (not_upright_either e f p q n g.lesser_is_point g.greater_is_point g.lesser_on g.greater_on h.0 h.1 g.in_order)
-            p q x y g.lesser_is_point g.greater_is_point h.0 h.1 (between_of_other e f p q x s i) (between_of_other e f p q y s j) in
+        let v : (below b x ≡ below b y) × (above b x ≡ above b y) = sides_along_own_edge b vb f d (not_upright_either e f p q n (span_of_gap e (edges b) p q g) h.0 h.1)
+        p q x y g.lesser_is_point g.greater_is_point h.0 h.1 (between_of_other e f p q x s i) (between_of_other e f p q y s j) in
         record { first_below = u.0; first_above = u.1; second_below = v.0; second_above = v.1 }
 
 -- ---- off b's edges
@@ -141,4 +134,4 @@ gap_is_there a b va vb e c w p q y g j = go (gap_has_no_cut e (edges b) p q g (e
         shared : (IsOffEdges b y → ⊥) → Passing (λ f. on f y) (edges b) ⊎ IsOffEdges b y → ShowsOn a b (labelled_matrix a b) e y
         shared n (inr o) = absurd (n o)
         shared n (inl k) = on_there a b va vb e c p q s.0 y g s.1 j (at_no_cut a b va vb e c p q s.0 s.1 s.2) k.found (contains_of_among k.found (edges b) k.among)
-            (held_by e (edges b) p q g k.found (contains_of_among k.found (edges b) k.among) y j k.passes)
+            (shared_point_shares_gap e (edges b) p q y k.found g (contains_of_among k.found (edges b) k.among) j k.passes)

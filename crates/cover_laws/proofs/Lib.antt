@@ -1,4 +1,3 @@
-pub mod GapTerms
 pub mod Stretching
 pub mod Located
 pub mod GapThere

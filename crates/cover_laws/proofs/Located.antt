@@ -5,7 +5,7 @@ use Rattle.geometry_model.specs.Points.{Position, Point, IsPoint, point_at}
 use Rattle.geometry_model.specs.Geometries.{Edge, Geometry, kind, edges, lines, listed, rings}
 use Rattle.geometry_model.specs.Sides.{on, on_one_line}
 use Rattle.geometry_model.specs.Crossings.{odd_above, odd_at_or_above}
-use Rattle.geometry_model.specs.CutPoints.{IsCut, is_end}
+use Rattle.geometry_model.specs.CutPoints.{is_end}
 use Rattle.geometry_model.specs.CutPoints.IsCut.{AtEnd, AtCrossing}
 use Rattle.geometry_model.specs.Locations.{stands_at, is_odd_end, locate}
 use Rattle.geometry_model.specs.Dimensions.{Matrix}
@@ -24,7 +24,7 @@ use Rattle.cell_laws.specs.Cells.{Shows, ShowsPoint, IsNoCut, CoversPosition}
 use Rattle.cell_laws.proofs.Growing.{shows_at, shows_less}
 use Rattle.gap_laws.specs.Gaps.{mostly, of_own_edges}
 use Rattle.cover_laws.specs.Covering.{IsOffEdges, ShowsOff, ShowsEnds}
-use Rattle.cover_laws.proofs.GapTerms.{mostly_is_located, no_cut_is_mostly, own_edges_are_mostly, sides_off_edges, sides_of_no_area}
+use Rattle.gap_laws.proofs.GapTheorems.{mostly_is_located, no_cut_is_mostly, own_edges_are_mostly, sides_off_edges, sides_of_no_area}
 
 -- ---- of a list
 pub contains_left : {X : Type 0} (xs ys : List X) (x : X) → Contains xs x → Contains (xs ++ ys) x

@@ -1,19 +1,17 @@
 -- An edge that holds a point strictly within it, of another edge's line, holds a stretch of that line about the point.
-use Rattle.std.proofs.Common.{◌≡◌, ◌≢◌, ◌⊎◌, inl, inr, Bool, true, false, ℤ, pos, ◌-ℤ◌, ◌*ℤ◌, ◌<ℤ◌, ◌+ℤ◌, refl, sym, ap, ◌∙◌, [], ◌∷◌, arith}
+use Rattle.std.proofs.Common.{◌≡◌, ◌≢◌, true, false, ℤ, pos, ◌-ℤ◌, ◌*ℤ◌, ◌<ℤ◌, ◌+ℤ◌, refl, sym, ap, ◌∙◌, [], ◌∷◌, arith}
 use borrow.Author.Differences.{ints}
 use Rattle.std.specs.declared.cmp.Ordering.{Ordering}
 use Rattle.std.specs.declared.cmp.Ordering.TheVariants.{Less, Equal, Greater}
 use Rattle.geometry_model.specs.Points.{Position, Point, IsPoint, point_at, same_point, compare}
 use Rattle.geometry_model.specs.Geometries.{Edge}
 use Rattle.geometry_model.specs.Sides.{side, on}
-use Rattle.geometry_model.specs.Dimensions.{area}
 use Rattle.geometry_model.specs.CutPoints.{is_end}
-use Rattle.geometry_model.specs.Pieces.{Piece}
 use Rattle.integers.proofs.Ring.{solve, var, lit, ◌⊗◌}
 use Rattle.geometry_laws.proofs.Plane.{right}
 use Rattle.geometry_laws.proofs.PointOrder.{same_symmetric, equal_is_same, less_transitive}
 use Rattle.geometry_laws.proofs.Respect.{on_respects}
-use Rattle.geometry_laws.proofs.Hulls.{OnHull, on_from_hull, hull_from_on, on_parts}
+use Rattle.geometry_laws.proofs.Hulls.{OnHull, on_from_hull, hull_from_on}
 use Rattle.geometry_laws.proofs.RingParity.{side_is_area, position_is_point}
 use Rattle.geometry_laws.proofs.Locating.{start_is_on, end_is_on}
 use Rattle.geometry_laws.proofs.Triangles.{dot_coordinate}
@@ -22,17 +20,10 @@ use Rattle.geometry_laws.proofs.LineSides.{side_turned}
 use Rattle.geometry_laws.proofs.Cuts.{turn_less, OneLine, same_end, or_first, or_last, hull_of_start, hull_of_end, not_after_both, not_before_both}
 use Rattle.geometry_laws.proofs.WithinPiece.{strictly_right}
 use Rattle.cut_laws.proofs.Stretches.{less_right, less_left}
-use Rattle.gap_laws.specs.Gaps.{IsBetween, IsClear, IsWithin}
+use Rattle.gap_laws.specs.Gaps.{IsBetween, IsClear}
+use Rattle.gap_laws.proofs.Between.{Span, wide, on_line, on_within}
 
--- ---- what an edge's line holds between two of its points, the edge holds
-pub on_line : (e : Edge) (x : Point) → on e x ≡ true → side e.start e.end x ≡ pos 0
-on_line e x h = (on_parts e x h).on_line
-
-pub on_between : (e : Edge) → e.start ≢ e.end → (p q x : Point) → IsPoint p → IsPoint q → IsPoint x → on e p ≡ true → on e q ≡ true → side e.start e.end x ≡ pos 0 → compare p x ≡ Less → compare x q ≡ Less → on e x ≡ true
-on_between e n p q x hp hq hx k l s f g = on_from_hull e x (on_sum e p q x (hull_from_on e p hp k) (hull_from_on e q hq l)
-    (sum_between p q x hp hq hx (area_on_line e.start e.end p q x n (on_line e p k) (on_line e q l) s) f g (less_transitive p x q hp hx hq f g)))
-
--- a point of an edge lies on the line of each edge of the same line
+-- ---- a point of an edge lies on the line of each edge of the same line
 pub on_other_line : (e f : Edge) → e.start ≢ e.end → OneLine e f → (x : Point) → on e x ≡ true → side f.start f.end x ≡ pos 0
 on_other_line e f n o x h = side_is_area f.start f.end x ∙ area_on_line e.start e.end (point_at f.start) (point_at f.end) x n o.start o.end (on_line e x h)
 
@@ -145,43 +136,22 @@ shares_further e f n o x hx s t = go (compare s.hi t.hi) refl
       further = t.before;
     }
 
--- ---- a point of a closed stretch is one of its ends or lies strictly within
-pub data Place (p q x : Point) : Type 0 where
-  AtLesser : same_point p x ≡ true → Place p q x
-  AtGreater : same_point x q ≡ true → Place p q x
-  Strictly : compare p x ≡ Less → compare x q ≡ Less → Place p q x
-
-pub place : (p q x : Point) → IsWithin (record { lesser = p; greater = q }) x → Place p q x
-place p q x w = go (compare p x) refl (compare x q) refl
-  where
-    go : (o : Ordering) → compare p x ≡ o → (t : Ordering) → compare x q ≡ t → Place p q x
-    go Less g Less k = Strictly g k
-    go Equal g t k = AtLesser ((equal_is_same p x).0 g)
-    go Greater g t k = absurd (w.not_before (turn_less p x g))
-    go Less g Equal k = AtGreater ((equal_is_same x q).0 k)
-    go Less g Greater k = absurd (w.not_after (turn_less x q k))
-
 -- ---- an edge that goes on beyond an end of a stretch, and holds nothing within it or all, holds all
 pub record Meeting (e f : Edge) (p q : Point) : Type 0 where
-  pub wide : e.start ≢ e.end
   pub one_line : OneLine e f
-  pub lesser_is_point : IsPoint p
-  pub greater_is_point : IsPoint q
-  pub lesser_on : on e p ≡ true
-  pub greater_on : on e q ≡ true
-  pub in_order : compare p q ≡ Less
+  pub span : Span e p q
 
 pub goes_on : (e f : Edge) (p q : Point) → Meeting e f p q → IsClear e p q f → (x : Point) → IsPoint x → Spread f x → same_point p x ≡ true → (y : Point) → IsBetween e p q y → on f y ≡ true
 goes_on e f p q h c x hx t g y i = go (compare t.hi q) refl
   where
     before_hi : compare p t.hi ≡ Less
-    before_hi = less_left p x t.hi h.lesser_is_point hx g t.before
+    before_hi = less_left p x t.hi (h.span).lesser hx g t.before
 
     after_lo : compare t.lo y ≡ Less
-    after_lo = less_transitive t.lo x y t.lo_is_point hx i.is_point t.after (less_left x p y hx h.lesser_is_point (same_symmetric x p ∙ g) i.after)
+    after_lo = less_transitive t.lo x y t.lo_is_point hx i.is_point t.after (less_left x p y hx (h.span).lesser (same_symmetric x p ∙ g) i.after)
 
     held : compare y t.hi ≡ Less → on f y ≡ true
-    held k = t.holds y i.is_point (on_other_line e f h.wide h.one_line y i.is_on) after_lo k
+    held k = t.holds y i.is_point (on_other_line e f (wide e p q h.span) h.one_line y i.is_on) after_lo k
 
     hi_line : side e.start e.end t.hi ≡ pos 0
     hi_line = (t.along e.start e.end (h.one_line).start (h.one_line).end).1
@@ -189,27 +159,27 @@ goes_on e f p q h c x hx t g y i = go (compare t.hi q) refl
     hi_clear : compare t.hi q ≡ Less → ⊥
     hi_clear k = let z : true ≡ false = sym t.hi_on ∙ c t.hi record {
       is_point = t.hi_is_point;
-      is_on = on_between e h.wide p q t.hi h.lesser_is_point h.greater_is_point t.hi_is_point h.lesser_on h.greater_on hi_line before_hi k;
+      is_on = on_within e p q h.span t.hi t.hi_is_point hi_line before_hi k;
       after = before_hi;
       before = k;
     } in absurd (cc)
 
     go : (o : Ordering) → compare t.hi q ≡ o → on f y ≡ true
     go Less k = absurd (hi_clear k)
-    go Equal k = held (less_right y q t.hi h.greater_is_point t.hi_is_point i.before (same_symmetric q t.hi ∙ (equal_is_same t.hi q).0 k))
-    go Greater k = held (less_transitive y q t.hi i.is_point h.greater_is_point t.hi_is_point i.before (turn_less t.hi q k))
+    go Equal k = held (less_right y q t.hi (h.span).greater t.hi_is_point i.before (same_symmetric q t.hi ∙ (equal_is_same t.hi q).0 k))
+    go Greater k = held (less_transitive y q t.hi i.is_point (h.span).greater t.hi_is_point i.before (turn_less t.hi q k))
 
 pub goes_back : (e f : Edge) (p q : Point) → Meeting e f p q → IsClear e p q f → (x : Point) → IsPoint x → Spread f x → same_point x q ≡ true → (y : Point) → IsBetween e p q y → on f y ≡ true
 goes_back e f p q h c x hx t g y i = go (compare p t.lo) refl
   where
     after_lo : compare t.lo q ≡ Less
-    after_lo = less_right t.lo x q hx h.greater_is_point t.after g
+    after_lo = less_right t.lo x q hx (h.span).greater t.after g
 
     before_hi : compare y t.hi ≡ Less
-    before_hi = less_transitive y x t.hi i.is_point hx t.hi_is_point (less_right y q x h.greater_is_point hx i.before (same_symmetric q x ∙ g)) t.before
+    before_hi = less_transitive y x t.hi i.is_point hx t.hi_is_point (less_right y q x (h.span).greater hx i.before (same_symmetric q x ∙ g)) t.before
 
     held : compare t.lo y ≡ Less → on f y ≡ true
-    held k = t.holds y i.is_point (on_other_line e f h.wide h.one_line y i.is_on) k before_hi
+    held k = t.holds y i.is_point (on_other_line e f (wide e p q h.span) h.one_line y i.is_on) k before_hi
 
     lo_line : side e.start e.end t.lo ≡ pos 0
     lo_line = (t.along e.start e.end (h.one_line).start (h.one_line).end).0
@@ -217,15 +187,15 @@ goes_back e f p q h c x hx t g y i = go (compare p t.lo) refl
     lo_clear : compare p t.lo ≡ Less → ⊥
     lo_clear k = let z : true ≡ false = sym t.lo_on ∙ c t.lo record {
       is_point = t.lo_is_point;
-      is_on = on_between e h.wide p q t.lo h.lesser_is_point h.greater_is_point t.lo_is_point h.lesser_on h.greater_on lo_line k after_lo;
+      is_on = on_within e p q h.span t.lo t.lo_is_point lo_line k after_lo;
       after = k;
       before = after_lo;
     } in absurd (cc)
 
     go : (o : Ordering) → compare p t.lo ≡ o → on f y ≡ true
     go Less k = absurd (lo_clear k)
-    go Equal k = held (less_left t.lo p y t.lo_is_point h.lesser_is_point (same_symmetric t.lo p ∙ (equal_is_same p t.lo).0 k) i.after)
-    go Greater k = held (less_transitive t.lo p y t.lo_is_point h.lesser_is_point i.is_point (turn_less p t.lo k) i.after)
+    go Equal k = held (less_left t.lo p y t.lo_is_point (h.span).lesser (same_symmetric t.lo p ∙ (equal_is_same p t.lo).0 k) i.after)
+    go Greater k = held (less_transitive t.lo p y t.lo_is_point (h.span).lesser i.is_point (turn_less p t.lo k) i.after)
 
 -- ---- of two edges that share two points none is upright where the other isn't
 upright_coordinate : (f : Edge) → f.start.x ≡ f.end.x → (p : Point) → IsPoint p → on f p ≡ true → f.start.x *ℤ p.W ≡ p.X *ℤ pos 1
@@ -243,8 +213,8 @@ same_column s px pw qx qw e f = nothing (px *ℤ qw) (qx *ℤ pw) (turned px pw 
     nothing : (u v : ℤ) → u ≡ v → v -ℤ u ≡ pos 0
     nothing u v e = omega (arith, ints)
 
-pub not_upright_either : (e f : Edge) (p q : Point) → e.start.x ≢ e.end.x → IsPoint p → IsPoint q → on e p ≡ true → on e q ≡ true → on f p ≡ true → on f q ≡ true → compare p q ≡ Less → f.start.x ≢ f.end.x
-not_upright_either e f p q n hp hq ep eq fp fq l k = clash (right p q) (same_column f.start.x p.X p.W q.X q.W (upright_coordinate f k p hp fp) (upright_coordinate f k q hq fq)) (strictly_right e.start e.end p q n (on_line e p ep) (on_line e q eq) l)
+pub not_upright_either : (e f : Edge) (p q : Point) → e.start.x ≢ e.end.x → Span e p q → on f p ≡ true → on f q ≡ true → f.start.x ≢ f.end.x
+not_upright_either e f p q n s fp fq k = clash (right p q) (same_column f.start.x p.X p.W q.X q.W (upright_coordinate f k p s.lesser fp) (upright_coordinate f k q s.greater fq)) (strictly_right e.start e.end p q n (on_line e p s.lesser_on) (on_line e q s.greater_on) s.in_order)
   where
     clash : (z : ℤ) → z ≡ pos 0 → pos 0 <ℤ z → ⊥
     clash z g k = omega (arith, ints)
