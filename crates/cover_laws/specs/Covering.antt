@@ -1,6 +1,6 @@
 -- What a matrix has to show of the gaps of an edge, so that it shows all of the edge's points.
-use Rattle.std.specs.Prelude.{◌≡◌, ◌≢◌, true, false, List, All, Contains}
-use Rattle.geometry_model.specs.Points.{Position, Point, IsPoint}
+use Rattle.std.specs.Prelude.{◌≡◌, ◌≢◌, true, false, All}
+use Rattle.geometry_model.specs.Points.{Point, IsPoint}
 use Rattle.geometry_model.specs.Geometries.{Edge, Geometry, kind, edges, lines, listed}
 use Rattle.geometry_model.specs.Sides.{on}
 use Rattle.geometry_model.specs.Locations.{is_odd_end, locate}

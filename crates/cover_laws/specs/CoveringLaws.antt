@@ -1,6 +1,6 @@
 -- Laws of covering: a matrix that shows the gaps of an edge and what they share with the other geometry covers the edge.
-use Rattle.std.specs.Prelude.{◌≡◌, ◌≢◌, List, All, Contains}
-use Rattle.geometry_model.specs.Points.{Position, Point, IsPoint}
+use Rattle.std.specs.Prelude.{◌≡◌, ◌≢◌, All, Contains}
+use Rattle.geometry_model.specs.Points.{Point}
 use Rattle.geometry_model.specs.Geometries.{Edge, Geometry, kind, edges}
 use Rattle.geometry_model.specs.Locations.{locate}
 use Rattle.geometry_model.specs.Pieces.{stretches}

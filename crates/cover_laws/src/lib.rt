@@ -1,3 +1,25 @@
 //! Laws of covering: what a matrix has to show of the gaps of edges, so that it shows all that two geometries have in common.
 //! Nothing here runs: each function has an empty body, and its contract is a law.
 #![tactic(auto)]
+
+ghost use Rattle.cover_laws.specs.CoveringLaws.{GapIsThere, GapsCover, FullCovers, FullOffCovers};
+
+/// What a gap of an edge shows of two valid geometries is there: the gap itself, and its sides where the edge isn't upright (06-103r4, 6.1.15.2).
+pub fn gap_is_there()
+    ensures { GapIsThere }
+{}
+
+/// A matrix that shows all gaps of an edge, the points that it shares with the other geometry, and all ends, covers the edge (06-103r4, 6.1.15.2).
+pub fn gaps_cover()
+    ensures { GapsCover }
+{}
+
+/// A matrix that shows all that gaps can show covers each edge, whatever meets it (06-103r4, 6.1.15.2).
+pub fn full_covers()
+    ensures { FullCovers }
+{}
+
+/// Where no edge shares a stretch with an edge, it is enough that the matrix shows all that gaps can show off the other geometry's edges, and that the own edges share a point (06-103r4, 6.1.15.2).
+pub fn full_off_covers()
+    ensures { FullOffCovers }
+{}

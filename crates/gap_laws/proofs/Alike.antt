@@ -93,12 +93,12 @@ back x m n y h = less_of_lex (weighted m x (suc n) y) x (carry _ _ _ _ (linear x
     linear a w b v = solve (a ∷ w ∷ b ∷ v ∷ pos m ∷ pos (suc n) ∷ []) (var 0 ⊗ (var 4 ⊗ var 1 ⊕ var 5 ⊗ var 3) ⊖ (var 4 ⊗ var 0 ⊕ var 5 ⊗ var 2) ⊗ var 1) (var 5 ⊗ (var 0 ⊗ var 3 ⊖ var 2 ⊗ var 1)) tt
 
 -- where a point stands to the ends of the gap
-data Stands (e : Edge) (p q x : Point) : Type 0 where
+pub data Stands (e : Edge) (p q x : Point) : Type 0 where
   AtLesser : same_point p x ≡ true → Stands e p q x
   AtGreater : same_point x q ≡ true → Stands e p q x
   Amid : IsBetween e p q x → Stands e p q x
 
-stands : (e : Edge) (p q x : Point) → IsPoint p → IsPoint q → IsPoint x → on e x ≡ true → IsWithin (record { lesser = p; greater = q }) x → Stands e p q x
+pub stands : (e : Edge) (p q x : Point) → IsPoint p → IsPoint q → IsPoint x → on e x ≡ true → IsWithin (record { lesser = p; greater = q }) x → Stands e p q x
 stands e p q x hp hq hx h w = go (compare p x) refl (compare x q) refl
   where
     go : (t : Ordering) → compare p x ≡ t → (u : Ordering) → compare x q ≡ u → Stands e p q x
