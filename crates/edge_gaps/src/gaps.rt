@@ -1,10 +1,13 @@
 //! The gaps of an edge among other edges.
 
-ghost use Rattle.std.specs.Prelude.{◌≡◌, false, OnOk, IfOk};
+ghost use Rattle.std.specs.Prelude.{◌≡◌, false, [], OnOk, IfOk};
 ghost use Rattle.edge_boxes.specs.BoxLists.{BoxesOf};
 ghost use Rattle.gap_laws.specs.Gaps.{AreGaps, SharesNoStretch};
 
-use edge_boxes::EdgeBoxes;
+use crate::lines::is_one_on_its_line;
+use crate::sharing::{find_shared, put_in_order};
+use crate::stops::set_stops;
+use edge_boxes::{Bounds, EdgeBoxes};
 use fraction::RatPoint;
 use orient::Segment;
 use std::alloc::{AllocError, Global};
@@ -30,7 +33,9 @@ impl Model for Gaps {
 
 impl Gaps {
     /// Those of no edge. It takes no memory.
-    pub fn new(alloc: Global) -> Gaps {
+    pub fn new(alloc: Global) -> Gaps
+        ensures { result ≡ record { shared = []; stops = [] } }
+    {
         Gaps {
             near: Vec::new(alloc),
             shared: Vec::new(alloc),
@@ -48,7 +53,10 @@ impl Gaps {
         requires { BoxesOf boxes.now others.now }
         ensures { OnOk result (AreGaps edge.now others.now self.new) }
     {
-        Err(AllocError)
+        boxes.meeting(others, &Bounds::of(edge), 0, &mut self.near)?;
+        find_shared(edge, others, self.near.as_slice(), &mut self.shared)?;
+        put_in_order(&mut self.shared);
+        set_stops(&mut self.stops, edge, self.shared.as_slice())
     }
 
     /// Whether one of the others may share a stretch with the edge: where it answers no, none does. It may fail for want of
@@ -62,7 +70,8 @@ impl Gaps {
         requires { BoxesOf boxes.now others.now }
         ensures { IfOk result (λ may. may ≡ false → SharesNoStretch edge.now others.now) }
     {
-        Err(AllocError)
+        boxes.meeting(others, &Bounds::of(edge), 0, &mut self.near)?;
+        Ok(is_one_on_its_line(edge, others, self.near.as_slice()))
     }
 
     /// Lends the points that the edge shares with others.

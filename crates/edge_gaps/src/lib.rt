@@ -2,5 +2,9 @@
 #![tactic(auto)]
 
 pub mod gaps;
+mod lines;
+mod places;
+mod sharing;
+mod stops;
 
 pub use gaps::Gaps;

@@ -23,7 +23,7 @@ pub record HasEnds (e : Edge) (low high : Position) : Type 0 where
   pub in_order : compare (point_at low) (point_at high) ≡ Less
   pub are_ends : ((low ≡ e.start) × (high ≡ e.end)) ⊎ ((low ≡ e.end) × (high ≡ e.start))
 
-same_position : (a b : Position) → same_point (point_at a) (point_at b) ≡ true → a ≡ b
+pub same_position : (a b : Position) → same_point (point_at a) (point_at b) ≡ true → a ≡ b
 same_position a b e = λ i. record { x = plain a.x b.x (same_x (point_at a) (point_at b) e) i; y = plain a.y b.y (same_y (point_at a) (point_at b) e) i }
   where
     plain : (x y : ℤ) → x *ℤ pos 1 ≡ y *ℤ pos 1 → x ≡ y

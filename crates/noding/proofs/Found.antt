@@ -43,7 +43,7 @@ shared_once e f q r hq hr apart kq kr =
     same_transitive q m r (turned_is_point (before_turning e f) sq.w_is_not) (same_symmetric q m ∙ turned_is_same (before_turning e f) q sq.x_is sq.y_is) (turned_is_same (before_turning e f) r sr.x_is sr.y_is)
 
 -- an end of an edge is its lesser or its greater end
-end_of : (g : Edge) (low high : Position) → HasEnds g low high → (p : Point) → is_end g p ≡ true → (same_point (point_at low) p ≡ true) ⊎ (same_point (point_at high) p ≡ true)
+pub end_of : (g : Edge) (low high : Position) → HasEnds g low high → (p : Point) → is_end g p ≡ true → (same_point (point_at low) p ≡ true) ⊎ (same_point (point_at high) p ≡ true)
 end_of g low high h p k = go (or_either (same_point (point_at g.start) p) (same_point (point_at g.end) p) k) h.are_ends
   where
     moved : (a b : Position) → b ≡ a → same_point (point_at a) p ≡ true → same_point (point_at b) p ≡ true

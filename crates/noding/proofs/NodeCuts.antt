@@ -87,11 +87,11 @@ end_is_on_edge e p hp h = go (or_either (same_point (point_at e.start) p) (same_
     go (inl s) = start_is_on e p hp s
     go (inr s) = end_is_on e p hp s
 
-common_at_end : (g e : Edge) (p : Point) → on g p ≡ true → on e p ≡ true → is_end e p ≡ true → is_common_cut g e p ≡ true
+pub common_at_end : (g e : Edge) (p : Point) → on g p ≡ true → on e p ≡ true → is_end e p ≡ true → is_common_cut g e p ≡ true
 common_at_end g e p kg ke h = and_from (on_both g e p) (is_end g p || is_end e p || not (on_one_line g e)) (and_from (on g p) (on e p) kg ke)
     (or_first (is_end g p || is_end e p) (not (on_one_line g e)) (or_second (is_end g p) (is_end e p) h))
 
-common_at_crossing : (g e : Edge) (p : Point) → on g p ≡ true → on e p ≡ true → on_one_line g e ≡ false → is_common_cut g e p ≡ true
+pub common_at_crossing : (g e : Edge) (p : Point) → on g p ≡ true → on e p ≡ true → on_one_line g e ≡ false → is_common_cut g e p ≡ true
 common_at_crossing g e p kg ke h = and_from (on_both g e p) (is_end g p || is_end e p || not (on_one_line g e)) (and_from (on g p) (on e p) kg ke)
     (or_second (is_end g p || is_end e p) (not (on_one_line g e)) (subst (λ (b : Bool). not b ≡ true) (sym h) refl))
 

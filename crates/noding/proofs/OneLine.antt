@@ -61,20 +61,20 @@ lined e f we wf h = record {
 }
 
 -- the position is on the line of the edge
-abbrev OnLine : Edge → Position → Type 0
+abbrev pub OnLine : Edge → Position → Type 0
 OnLine e a = side e.start e.end (point_at a) ≡ pos 0
 
-start_on_line : (e : Edge) → OnLine e e.start
+pub start_on_line : (e : Edge) → OnLine e e.start
 start_on_line e = (on_parts e (point_at e.start) (on_from_hull e (point_at e.start) (hull_of_start e))).on_line
 
-end_on_line : (e : Edge) → OnLine e e.end
+pub end_on_line : (e : Edge) → OnLine e e.end
 end_on_line e = (on_parts e (point_at e.end) (on_from_hull e (point_at e.end) (hull_of_end e))).on_line
 
 one_of : (P : Position → Type 0) (a b m : Position) → (m ≡ a) ⊎ (m ≡ b) → P a → P b → P m
 one_of P a b m (inl e) h k = subst P (sym e) h
 one_of P a b m (inr e) h k = subst P (sym e) k
 
-e_low_on_line : (e f : Edge) (l : Lined e f) → OnLine e l.e_low
+pub e_low_on_line : (e f : Edge) (l : Lined e f) → OnLine e l.e_low
 e_low_on_line e f l = at_low (OnLine e) e l.e_low l.e_high l.e_ends (start_on_line e) (end_on_line e)
 
 e_high_on_line : (e f : Edge) (l : Lined e f) → OnLine e l.e_high

@@ -1,0 +1,113 @@
+-- The points that an edge shares with others, as they are found one edge after the other.
+use Rattle.std.proofs.Common.{◌≡◌, ◌⊎◌, inl, inr, ℕ, suc, ◌+◌, ◌<◌, ◌≤◌, true, false, refl, sym, ap, subst, ◌∙◌, List, [], ◌∷◌, ◌++◌, length, get_or, All, Contains, pos, ◌≤ℤ◌, arith}
+use Rattle.std.proofs.lemmas.List.{get_or_default}
+use Rattle.std.proofs.lemmas.List.Elements.{All-contains, Contains-append_cases}
+use Rattle.geometry_model.specs.Points.{Point, IsPoint, same_point}
+use Rattle.geometry_model.specs.Geometries.{Edge}
+use Rattle.geometry_model.specs.Sides.{on, on_one_line}
+use Rattle.geometry_laws.proofs.Scaling.{and_parts}
+use Rattle.fraction.specs.Ranges.{meeting_limit}
+use Rattle.cut_laws.proofs.Lists.{among_from_contains, any_from_some}
+use Rattle.ring_tests.specs.RunLaws.{box_of}
+use Rattle.edge_boxes.specs.Meetings.{places_meeting}
+use Rattle.noding.specs.Meetings.{on_both, named, is_common_cut}
+use Rattle.noding.specs.Nodings.{ListsPoint, PutsPointsInOrder}
+use Rattle.noding.specs.declared.answers.Meet.{Meet}
+use Rattle.noding.proofs.NamedCuts.{CutOf}
+use Rattle.noding.proofs.NodeCuts.{cut_is_point, cut_of_both, named_on_both}
+use Rattle.noding.proofs.BreakPoints.{Shares, all_of, any_left, any_right, earlier_or_last, point_kept}
+use Rattle.gap_laws.specs.Gaps.{SharesNoStretch}
+use Rattle.edge_gaps.specs.Steps.{IsSharedPoint, ListsCommonCuts, AreSharedSoFar, AreShared}
+use Rattle.edge_gaps.proofs.Near.{IsNearAt, sharing_is_near}
+
+-- ---- one more edge
+element_stands : {X : Type 0} (xs : List X) (j : ℕ) (x d : X) → j < length xs → x ≡ get_or xs j x → get_or xs j d ≡ x
+element_stands xs j x d h is = get_or_default xs j d x h ∙ sym is
+
+pub first_shared : (e : Edge) (others : List Edge) (near : List ℕ) (points : List Point) → points ≡ [] → AreSharedSoFar e others near 0 points
+first_shared e others near points none = record { from = from; found = λ k d f l. absurd (omega (arith, l)) }
+  where
+    nowhere : (p : Point) → Contains {X = Point} [] p → IsSharedPoint e others p
+    nowhere p c = absurd (omega (arith, c.1))
+
+    from : (p : Point) → Contains points p → IsSharedPoint e others p
+    from p c = nowhere p (subst (λ ps. Contains ps p) none c)
+
+pub shared_more : (e : Edge) (others : List Edge) (near : List ℕ) (n j : ℕ) (f : Edge) (m : Meet) (xs ys : List Point) → n < length near → j ≡ get_or near n j → j < length others → f ≡ get_or others j f
+    → Shares e f m → ys ≡ xs ++ named m → AreSharedSoFar e others near n xs → AreSharedSoFar e others near (n + 1) ys
+shared_more e others near n j f m xs ys hn hj lj hf s grown h = record { from = from; found = found }
+  where
+    cut : (p : Point) → Contains (named m) p → CutOf e f p
+    cut p c = All-contains (CutOf e f) (named m) p s.cuts c
+
+    both : (p : Point) → Contains (named m) p → (on e p ≡ true) × (on f p ≡ true)
+    both p c = and_parts (on e p) (on f p) (named_on_both e f m s.exact p (cut_is_point (e ∷ f ∷ []) [] p (cut p c)) (among_from_contains (named m) p c))
+
+    behind : Contains (e ∷ others) f
+    behind = (suc j, omega (arith, lj), sym hf)
+
+    either : (p : Point) → Contains xs p ⊎ Contains (named m) p → IsSharedPoint e others p
+    either p (inl c) = h.from p c
+    either p (inr c) = record {
+      on_edge = (both p c).0;
+      on_other = any_from_some (λ g. on g p ≡ true) others (record { found = f; among = among_from_contains others f (j, lj, sym hf); has = (both p c).1 });
+      is_cut = cut_of_both (e ∷ others) e f p (0, omega arith, refl) behind (cut p c);
+      limit = All-contains (λ q. q.W ≤ℤ pos meeting_limit) (named m) p s.limit c;
+    }
+
+    from : (p : Point) → Contains ys p → IsSharedPoint e others p
+    from p c = either p (Contains-append_cases xs (named m) p (subst (λ zs. Contains zs p) grown c))
+
+    at_last : (k d : ℕ) (g : Edge) → k ≡ n → get_or others (get_or near k d) g ≡ f
+    at_last k d g is = ap (λ i. get_or others (get_or near i d) g) is ∙ ap (λ i. get_or others i g) (element_stands near n j d hn hj) ∙ element_stands others j f g lj hf
+
+    found : (k d : ℕ) (g : Edge) → k < n + 1 → ListsCommonCuts e (get_or others (get_or near k d) g) ys
+    found k d g l p hp c = go (earlier_or_last k n l)
+      where
+        go : (k < n) ⊎ (k ≡ n) → ListsPoint ys p
+        go (inl b) = subst (λ zs. ListsPoint zs p) (sym grown) (any_left (λ q. same_point q p ≡ true) xs (named m) (h.found k d g b p hp c))
+        go (inr b) = subst (λ zs. ListsPoint zs p) (sym grown) (any_right (λ q. same_point q p ≡ true) xs (named m)
+            (s.names p hp (subst (λ (x : Edge). is_common_cut e x p ≡ true) (at_last k d g b) c)))
+
+-- ---- after the last edge
+pub all_shared : (e : Edge) (others : List Edge) (near : List ℕ) (n : ℕ) (points : List Point) → near ≡ places_meeting (box_of e) 0 others → length near ≤ n → AreSharedSoFar e others near n points → AreShared e others points
+all_shared e others near n points is past h = record { from = h.from; found = found }
+  where
+    found : (f : Edge) → Contains others f → ListsCommonCuts e f points
+    found f c p hp k =
+        let both : (on e p ≡ true) × (on f p ≡ true) = and_parts (on e p) (on f p) (and_parts (on_both e f p) _ k).0 in
+        at (sharing_is_near e others near f p is c hp both.0 both.1)
+      where
+        at : IsNearAt near others f → ListsPoint points p
+        at a = h.found a.index a.place f (omega (arith, a.within, past)) p hp (subst (λ (x : Edge). is_common_cut e x p ≡ true) (sym a.stands) k)
+
+pub shared_points : (e : Edge) (others : List Edge) (points : List Point) → AreShared e others points → All IsPoint points
+shared_points e others points h = all_of IsPoint points (λ p c. cut_is_point (e ∷ others) [] p (h.from p c).is_cut)
+
+-- put in order, each once
+pub shared_in_order : (e : Edge) (others : List Edge) (points ordered : List Point) → AreShared e others points → PutsPointsInOrder points ordered → AreShared e others ordered
+shared_in_order e others points ordered h o = record {
+  from = λ p c. h.from p (o.from p c);
+  found = λ f c p hp k. point_kept points ordered (shared_points e others points h) o p (h.found f c p hp k);
+}
+
+-- ---- none of the edges near is on one line with the edge
+abbrev pub NoneOnItsLine : Edge → List Edge → List ℕ → ℕ → Type 0
+NoneOnItsLine e others near count = (k d : ℕ) (f : Edge) → k < count → on_one_line e (get_or others (get_or near k d) f) ≡ false
+
+pub none_more : (e : Edge) (others : List Edge) (near : List ℕ) (n j : ℕ) (f : Edge) → n < length near → j ≡ get_or near n j → j < length others → f ≡ get_or others j f → on_one_line e f ≡ false
+    → NoneOnItsLine e others near n → NoneOnItsLine e others near (n + 1)
+none_more e others near n j f hn hj lj hf off h k d g l = go (earlier_or_last k n l)
+  where
+    at_last : k ≡ n → get_or others (get_or near k d) g ≡ f
+    at_last is = ap (λ i. get_or others (get_or near i d) g) is ∙ ap (λ i. get_or others i g) (element_stands near n j d hn hj) ∙ element_stands others j f g lj hf
+
+    go : (k < n) ⊎ (k ≡ n) → on_one_line e (get_or others (get_or near k d) g) ≡ false
+    go (inl b) = h k d g b
+    go (inr b) = ap (on_one_line e) (at_last b) ∙ off
+
+pub none_shares : (e : Edge) (others : List Edge) (near : List ℕ) (n : ℕ) → near ≡ places_meeting (box_of e) 0 others → length near ≤ n → NoneOnItsLine e others near n → SharesNoStretch e others
+none_shares e others near n is past h f c one x y hx hy kx lx ky ly = at (sharing_is_near e others near f x is c hx kx lx)
+  where
+    at : IsNearAt near others f → same_point x y ≡ true
+    at a = absurd (let clash : true ≡ false = sym one ∙ sym (ap (on_one_line e) a.stands) ∙ h a.index a.place f (omega (arith, a.within, past)) in cc)
