@@ -3,45 +3,36 @@
 ghost use Rattle.std.specs.Prelude.{◌≡◌, IfOk, OnOk, OnErr};
 ghost use Rattle.std.specs.List.{list_any};
 ghost use Rattle.geometry_model.specs.Dimensions.{IsMatrix};
-ghost use Rattle.geometry_model.specs.Labels.{is_pair, is_side_pair, labelled_cell, matrix_of_labels, labelled_matrix};
+ghost use Rattle.geometry_model.specs.Labels.{is_pair, is_side_pair, labelled_cell, matrix_of_labels};
 ghost use Rattle.integers.specs.Counts.{one_more};
 
-use crate::matrix::Matrix;
 use crate::work::Work;
 use geometry_model::{Dimension, Location};
-use side_labels::{Label, Labels, SideLabels, labels};
+use matrices::{Matrix, find_matrix};
+use side_labels::{Label, Labels, SideLabels};
 use std::alloc::{AllocError, Global};
 use validity::Valid;
 
-/// The DE-9IM matrix of two geometries, by their labels (06-103r4, 6.1.15.2; labels: this project's choice). It adds one to
-/// the work. It fails only for want of memory, and then leaves the work as it was.
+/// The DE-9IM matrix of two geometries (06-103r4, 6.1.15.2). It adds one to the work. It fails only for want of memory, and then
+/// leaves the work as it was.
 pub fn relate(
     alloc: Global,
     first: &Valid,
     second: &Valid,
     work: &mut Work,
 ) -> Result<Matrix, AllocError>
-    ensures labelled { IfOk result (λ m. m ≡ labelled_matrix first.now second.now) }
     ensures point_sets { IfOk result (λ m. IsMatrix first.now second.now m) }
     ensures counted { OnOk result (work.new ≡ one_more work.old) }
     ensures refused { OnErr result (work.new ≡ work.old) }
 {
-    let matrix = labelled(alloc, first, second)?;
+    let matrix = find_matrix(alloc, first, second)?;
     work.add_one();
     Ok(matrix)
 }
 
-// The matrix that the labels of two geometries show.
-fn labelled(alloc: Global, first: &Valid, second: &Valid) -> Result<Matrix, AllocError>
-    ensures labelled { IfOk result (λ m. m ≡ labelled_matrix first.now second.now) }
-    ensures point_sets { IfOk result (λ m. IsMatrix first.now second.now m) }
-{
-    let labels = labels(alloc, first, second)?;
-    Ok(matrix_of_labels(&labels))
-}
-
-// The matrix that labels show: the two exteriors share an area always.
-fn matrix_of_labels(labels: &Labels) -> Matrix
+/// The matrix that labels show: the two exteriors share an area always (06-103r4, 6.1.15.2; labels: this project's choice). It
+/// takes no memory.
+pub fn matrix_of_labels(labels: &Labels) -> Matrix
     ensures { result ≡ matrix_of_labels labels.now }
 {
     Matrix {

@@ -8,6 +8,8 @@ mod envelope_tests;
 #[cfg(test)]
 mod location_tests;
 #[cfg(test)]
+mod pair_tests;
+#[cfg(test)]
 mod printing_tests;
 #[cfg(test)]
 mod reading_tests;

@@ -1,7 +1,7 @@
 -- What an edge shows: the points that it shares with the other geometry.
-use Rattle.std.proofs.Common.{◌≡◌, ◌⊎◌, inl, inr, Bool, true, false, refl, sym, ap, ◌∙◌, subst, List, [], arith}
+use Rattle.std.proofs.Common.{◌≡◌, ◌⊎◌, ◌<◌, ◌+◌, ℕ, inl, inr, Bool, true, false, refl, sym, ◌∙◌, subst, List, [], ◌∷◌, length, get_or, take, arith}
 use Rattle.std.specs.List.{All, Any, Contains}
-use Rattle.std.proofs.lemmas.List.Elements.{All-nil, All-weaker, All-contains_itself}
+use Rattle.std.proofs.lemmas.List.Elements.{All-nil, All-more, All-weaker}
 use Rattle.geometry_model.specs.Points.{Point, IsPoint}
 use Rattle.geometry_model.specs.Geometries.{Edge, Geometry, kind, edges, lines, listed}
 use Rattle.geometry_model.specs.Sides.{on}
@@ -77,3 +77,11 @@ all_shared_shown a b m xs ends both meets = All-weaker (IsOnBoth a b) (λ x. Sho
 pub shared_on_both : (a b : Geometry) (e : Edge) (g : EdgeGaps) → Contains (edges a) e → AreGaps e (edges b) g → All (IsOnBoth a b) g.shared
 shared_on_both a b e g c are = All-weaker (λ p. IsPoint p × (on e p ≡ true) × Any (λ f. on f p ≡ true) (edges b)) (IsOnBoth a b)
     (λ p h. record { is_point = h.0; on_first = (c.0, e, c.1, c.2, h.1); on_second = h.2 }) g.shared are.shared_on
+
+-- one point more, and one edge more
+pub points_more : (a b : Geometry) (ps : List Point) (i : ℕ) (p : Point) (m n : Matrix) → i < length ps → p ≡ get_or ps i p → IsPartOf m n → All (λ x. Shows m (locate a x) (locate b x) Zero) (take i ps)
+    → Shows n (locate a p) (locate b p) Zero → All (λ x. Shows n (locate a x) (locate b x) Zero) (take (i + 1) ps)
+points_more a b ps i p m n l e part all one = All-more (λ x. Shows n (locate a x) (locate b x) Zero) ps i p l (points_kept a b (take i ps) m n part all) (subst (λ x. Shows n (locate a x) (locate b x) Zero) e one)
+
+pub edges_more : (a b : Geometry) (es : List Edge) (i : ℕ) (e : Edge) (m n : Matrix) → i < length es → e ≡ get_or es i e → IsPartOf m n → All (Covers a b m) (take i es) → Covers a b n e → All (Covers a b n) (take (i + 1) es)
+edges_more a b es i e m n l eq part all one = All-more (Covers a b n) es i e l (covers_kept a b (take i es) m n part all) (subst (Covers a b n) eq one)

@@ -1,7 +1,7 @@
 -- Listed positions and ends of lines, and when no more of them can show anything.
-use Rattle.std.proofs.Common.{◌≡◌, ◌<◌, ◌-◌, ℕ, Bool, true, false, if◌then◌else◌, refl, sym, ap, ap₂, ◌∙◌, subst, List, [], ◌∷◌, length, get_or, arith, option_to_list}
+use Rattle.std.proofs.Common.{◌≡◌, ◌<◌, ◌+◌, ◌-◌, ℕ, Bool, true, false, if◌then◌else◌, refl, sym, ap, ap₂, ◌∙◌, subst, List, [], ◌∷◌, length, get_or, take, arith, option_to_list}
 use Rattle.std.specs.List.{All, Contains, list_any}
-use Rattle.std.proofs.lemmas.List.Elements.{All-nil, All-cons, All-weaker, All-contains_itself}
+use Rattle.std.proofs.lemmas.List.Elements.{All-nil, All-cons, All-more, All-weaker, All-contains_itself}
 use Rattle.geometry_model.specs.Points.{Position, Point, point_at}
 use Rattle.geometry_model.specs.Geometries.{Geometry, kind, lines, listed}
 use Rattle.geometry_model.specs.Locations.{stands_at, last_after, ends, in_points, locate}
@@ -62,5 +62,10 @@ row_covers_ends a b m row ls = All-weaker (Contains ls) (CoversEndsOf a b m) (λ
 pub covered_ends_kept : (a b : Geometry) (ls : List (List Position)) (m n : Matrix) → IsPartOf m n → All (CoversEndsOf a b m) ls → All (CoversEndsOf a b n) ls
 covered_ends_kept a b ls m n part all = All-weaker (CoversEndsOf a b m) (CoversEndsOf a b n) (λ line own. All-weaker (CoversEnd a b m) (CoversEnd a b n) (λ p s h. still_shown m n part _ _ Zero (s h)) (ends line) own) ls all
 
-pub covered_ends : (a b : Geometry) (line : List Position) (m : Matrix) → All (CoversPosition a b m) (ends line) → CoversEndsOf a b m line
+covered_ends : (a b : Geometry) (line : List Position) (m : Matrix) → All (CoversPosition a b m) (ends line) → CoversEndsOf a b m line
 covered_ends a b line m all = All-weaker (CoversPosition a b m) (CoversEnd a b m) (λ p s h. s) (ends line) all
+
+-- one line more
+pub covers_line_more : (a b : Geometry) (ls : List (List Position)) (i : ℕ) (line : List Position) (m n : Matrix) → i < length ls → line ≡ get_or ls i line → IsPartOf m n → All (CoversEndsOf a b m) (take i ls) → All (CoversPosition a b n) (ends line)
+    → All (CoversEndsOf a b n) (take (i + 1) ls)
+covers_line_more a b ls i line m n l e part all one = All-more (CoversEndsOf a b n) ls i line l (covered_ends_kept a b (take i ls) m n part all) (subst (CoversEndsOf a b n) e (covered_ends a b line n one))

@@ -20,7 +20,7 @@ use Rattle.cell_laws.proofs.Growing.{still_shown}
 use Rattle.cover_laws.specs.Covering.{IsOffEdges, ShowsOff, ShowsOn, ShowsAt, ShowsGap}
 use Rattle.matrices.specs.Raising.{IsRaisedTo, Grows}
 use Rattle.matrices.proofs.Growth.{raised_one, raised_two, raised_so, shown_kept, grows_raised, grows_through}
-use Rattle.matrices.proofs.Laws.{gap_is_there}
+use Rattle.cover_laws.proofs.CoveringTheorems.{gap_is_there}
 
 both_kept : (P Q : Matrix → Type 0) → ((m n : Matrix) → IsPartOf m n → P m → P n) → ((m n : Matrix) → IsPartOf m n → Q m → Q n) → (m n : Matrix) → IsPartOf m n → P m × Q m → P n × Q n
 both_kept P Q p q m n part h = (p m n part h.0, q m n part h.1)
@@ -79,18 +79,18 @@ at_on a b e y m n on r = raised_so (λ o. ShowsOn a b o e y) (λ o. ShowsAt a b 
 -- ---- gap after gap
 pub shows_off_kept : (a : Geometry) (e : Edge) (l : Location) (m n : Matrix) → IsPartOf m n → ShowsOff a m e l → ShowsOff a n e l
 shows_off_kept a e l m n part s = record {
-  piece = still_shown m n part _ _ One s.piece;
-  outer = λ h. still_shown m n part _ _ Two (s.outer h);
-  inner = λ h k. still_shown m n part _ _ Two (s.inner h k);
+  piece = still_shown m n part (of_own_edges (kind a)) l One s.piece;
+  outer = λ h. still_shown m n part Exterior l Two (s.outer h);
+  inner = λ h k. still_shown m n part Interior l Two (s.inner h k);
 }
 
 shows_at_kept : (a b : Geometry) (e : Edge) (y : Point) (m n : Matrix) → IsPartOf m n → ShowsAt a b m e y → ShowsAt a b n e y
 shows_at_kept a b e y m n part s = record {
   off = λ h. shows_off_kept a e (mostly b y) m n part (s.off h);
   shared = λ h. let t : ShowsOn a b m e y = s.shared h in record {
-    piece = still_shown m n part _ _ One t.piece;
-    lower = λ k. still_shown m n part _ _ Two (t.lower k);
-    upper = λ k. still_shown m n part _ _ Two (t.upper k);
+    piece = still_shown m n part (of_own_edges (kind a)) (of_own_edges (kind b)) One t.piece;
+    lower = λ k. still_shown m n part (below a y) (below b y) Two (t.lower k);
+    upper = λ k. still_shown m n part (above a y) (above b y) Two (t.upper k);
   };
 }
 

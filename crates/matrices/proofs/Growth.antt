@@ -1,7 +1,7 @@
 -- How the matrix grows, step by step, and what stays shown.
-use Rattle.std.proofs.Common.{◌≡◌, subst, sym, List}
+use Rattle.std.proofs.Common.{◌≡◌, ◌<◌, ◌+◌, ℕ, subst, sym, List, length, get_or, take}
 use Rattle.std.specs.List.{All}
-use Rattle.std.proofs.lemmas.List.Elements.{All-weaker}
+use Rattle.std.proofs.lemmas.List.Elements.{All-weaker, All-more}
 use Rattle.geometry_model.specs.Points.{Position, Point, IsPoint}
 use Rattle.geometry_model.specs.Geometries.{Geometry}
 use Rattle.geometry_model.specs.Locations.{locate}
@@ -76,3 +76,8 @@ grows_point a b p l k m n h el ek e = grows_raised a b (λ o. Shows o l k Zero) 
 -- ---- positions stay covered
 pub covered_kept : (a b : Geometry) (ps : List Position) (m n : Matrix) → IsPartOf m n → All (CoversPosition a b m) ps → All (CoversPosition a b n) ps
 covered_kept a b ps m n part all = All-weaker (CoversPosition a b m) (CoversPosition a b n) (λ p s. still_shown m n part _ _ Zero s) ps all
+
+-- one position more
+pub covers_more : (a b : Geometry) (ps : List Position) (i : ℕ) (p : Position) (m n : Matrix) → i < length ps → p ≡ get_or ps i p → IsPartOf m n → All (CoversPosition a b m) (take i ps) → CoversPosition a b n p
+    → All (CoversPosition a b n) (take (i + 1) ps)
+covers_more a b ps i p m n l e part all one = All-more (CoversPosition a b n) ps i p l (covered_kept a b (take i ps) m n part all) (subst (CoversPosition a b n) e one)

@@ -1,7 +1,6 @@
-pub mod Laws
 pub mod Growth
 pub mod Ends
+pub mod OddEnds
 pub mod GapCells
 pub mod EdgePoints
-pub mod OddEnds
 pub mod Passes

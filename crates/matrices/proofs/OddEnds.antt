@@ -39,11 +39,11 @@ end_there ls x h = go (list_any (stands_at x) (flat_map ends ls)) refl
 
 end_covered : (a b : Geometry) (m : Matrix) (ls : List (List Position)) (p : Position) → All (CoversEndsOf a b m) ls → Among p (flat_map ends ls) → CoversEnd a b m p
 end_covered a b m [] p all among = absurd among
-end_covered a b m (l ∷ ls) p all among = go (among_either p (ends l) (flat_map ends ls) among)
+end_covered a b m (l ∷ ls) p all among = go (among_either p (ends l) (flat_map ends ls) among) (λ h. end_covered a b m ls p (All-tail (CoversEndsOf a b m) l ls all) h)
   where
-    go : Among p (ends l) ⊎ Among p (flat_map ends ls) → CoversEnd a b m p
-    go (inl h) = All-contains (CoversEnd a b m) (ends l) p (All-head (CoversEndsOf a b m) l ls all) (contains_of_among p (ends l) h)
-    go (inr h) = end_covered a b m ls p (All-tail (CoversEndsOf a b m) l ls all) h
+    go : Among p (ends l) ⊎ Among p (flat_map ends ls) → (Among p (flat_map ends ls) → CoversEnd a b m p) → CoversEnd a b m p
+    go (inl h) rest = All-contains (CoversEnd a b m) (ends l) p (All-head (CoversEndsOf a b m) l ls all) (contains_of_among p (ends l) h)
+    go (inr h) rest = rest h
 
 pub shows_odd_end : (a b : Geometry) (m : Matrix) (x : Point) → kind a ≡ kinds.Line → IsPoint x → is_odd_end (lines a) x ≡ true → All (CoversEndsOf a b m) (lines a) → Shows m (locate a x) (locate b x) Zero
 shows_odd_end a b m x k hx h all = go (end_there (lines a) x h)

@@ -76,16 +76,13 @@ pub passes_give : (a b : Geometry) (m s t n : Matrix) → IsValid a → IsValid 
     → Grows b a s t → All (Covers b a t) (edges b)
     → Grows a b (transposed t) n → All (Covers a b n) (edges a)
     → n ≡ labelled_matrix a b
-passes_give a b m s t n va vb gm om gs os gt ct gn cn = covering_is_whole a b ca cb n cn
+passes_give a b m s t n va vb gm om gs os gt ct gn cn = covering_is_whole a b (valid_rings_are_closed a va) (valid_rings_are_closed b vb) n cn
     (covers_kept a b (edges b) (transposed t) n gn.grown (All-weaker (Covers b a t) (Covers a b (transposed t)) (covers_turned b a t).0 (edges b) ct))
     (covered_kept a b (listed a) m n upto om.positions)
     (covered_kept a b (listed b) (transposed t) n gn.grown (All-weaker (CoversPosition b a t) (CoversPosition a b (transposed t)) (covers_turned b a t).1 (listed b) (covered_kept b a (listed b) s t gt.grown os.positions)))
     (still_shown of_exteriors n (part_through of_exteriors m n gm.grown upto) Exterior Exterior Two refl)
     (gn.sound va vb ((covers_turned b a t).2 (gt.sound vb va (gs.sound vb va ((covers_turned a b m).2 (gm.sound va vb (start_is_sound a b)))))))
   where
-    ca = valid_rings_are_closed a va
-    cb = valid_rings_are_closed b vb
-
     upto : IsPartOf m n
     upto = part_through m (transposed t) n (part_turned (transposed m) t (part_through (transposed m) s t gs.grown gt.grown)) gn.grown
 
