@@ -6,6 +6,8 @@ mod area_validity_tests;
 #[cfg(test)]
 mod envelope_tests;
 #[cfg(test)]
+mod gap_tests;
+#[cfg(test)]
 mod location_tests;
 #[cfg(test)]
 mod pair_tests;

@@ -1,0 +1,141 @@
+//! Edges that cross, touch, overlap and miss an edge, with the points and stops worked out by hand.
+
+use edge_boxes::EdgeBoxes;
+use edge_gaps::Gaps;
+use fraction::{GridPoint, RatPoint};
+use orient::Segment;
+use std::alloc::Global;
+use std::test::Fail;
+
+type Line = ((i32, i32), (i32, i32));
+
+type Numbers = (i128, i128, i64);
+
+fn position((x, y): (i32, i32)) -> Result<GridPoint, Fail> {
+    Ok(GridPoint::new(x, y).ok_or("past the limit")?)
+}
+
+fn segment((a, b): Line) -> Result<Segment, Fail> {
+    Ok(Segment::new(position(a)?, position(b)?).ok_or("equal ends")?)
+}
+
+fn segments(alloc: Global, lines: &[Line]) -> Result<Vec<Segment>, Fail> {
+    let mut segments = Vec::new(alloc);
+    for line in lines {
+        segments.push(segment(*line)?)?;
+    }
+    Ok(segments)
+}
+
+fn numbers(alloc: Global, points: &[RatPoint]) -> Result<Vec<Numbers>, Fail> {
+    let mut numbers = Vec::new(alloc);
+    for point in points {
+        numbers.push((
+            point.numerator_x(),
+            point.numerator_y(),
+            point.denominator(),
+        ))?;
+    }
+    Ok(numbers)
+}
+
+#[test]
+fn gaps(rt: HostRuntime) -> Result<(), Fail> {
+    let alloc = rt.alloc();
+    let level = ((0, 0), (10, 0));
+    // An edge and others, the points that they share, the stops, and whether they may share a stretch.
+    let cases: [(Line, &[Line], &[Numbers], &[Numbers], bool); 8] = [
+        // None, and one far from it.
+        (level, &[], &[], &[(0, 0, 1), (10, 0, 1)], false),
+        (
+            level,
+            &[((20, 20), (30, 31))],
+            &[],
+            &[(0, 0, 1), (10, 0, 1)],
+            false,
+        ),
+        // One that crosses it.
+        (
+            level,
+            &[((3, -1), (4, 2))],
+            &[(10, 0, 3)],
+            &[(0, 0, 1), (10, 0, 3), (10, 0, 1)],
+            false,
+        ),
+        // One that touches it at its end.
+        (
+            level,
+            &[((10, 0), (12, 5))],
+            &[(10, 0, 1)],
+            &[(0, 0, 1), (10, 0, 1)],
+            false,
+        ),
+        // One that lies along it.
+        (
+            level,
+            &[((7, 0), (5, 0))],
+            &[(5, 0, 1), (7, 0, 1)],
+            &[(0, 0, 1), (5, 0, 1), (7, 0, 1), (10, 0, 1)],
+            true,
+        ),
+        // All of these, one that ends on it and two through one point of it, and the edge from its end to its start.
+        (
+            ((10, 0), (0, 0)),
+            &[
+                ((7, 0), (5, 0)),
+                ((10, 0), (12, 5)),
+                ((20, 20), (30, 31)),
+                ((3, -1), (4, 2)),
+                ((2, 0), (2, 4)),
+                ((5, -1), (7, 1)),
+                ((7, -1), (5, 1)),
+            ],
+            &[
+                (2, 0, 1),
+                (10, 0, 3),
+                (5, 0, 1),
+                (6, 0, 1),
+                (7, 0, 1),
+                (10, 0, 1),
+            ],
+            &[
+                (0, 0, 1),
+                (2, 0, 1),
+                (10, 0, 3),
+                (5, 0, 1),
+                (6, 0, 1),
+                (7, 0, 1),
+                (10, 0, 1),
+            ],
+            true,
+        ),
+        // An upright one that goes down, and one that lies along it past its end.
+        (
+            ((1, 5), (1, -4)),
+            &[((1, 3), (1, 9))],
+            &[(1, 3, 1), (1, 5, 1)],
+            &[(1, -4, 1), (1, 3, 1), (1, 5, 1)],
+            true,
+        ),
+        // One beside it that is parallel.
+        (
+            ((0, 0), (9, 9)),
+            &[((1, 0), (9, 8))],
+            &[],
+            &[(0, 0, 1), (9, 9, 1)],
+            false,
+        ),
+    ];
+    let mut gaps = Gaps::new(alloc);
+    for (edge, others, shared, stops, may_share) in cases {
+        let edge = segment(edge)?;
+        let others = segments(alloc, others)?;
+        let boxes = EdgeBoxes::build(alloc, others.as_slice())?;
+        gaps.find(&edge, others.as_slice(), &boxes)?;
+        assert!(rt; numbers(alloc, gaps.shared())?.as_slice() == shared);
+        assert!(rt; numbers(alloc, gaps.stops())?.as_slice() == stops);
+        let may = gaps.may_share_stretch(&edge, others.as_slice(), &boxes)?;
+        assert_eq!(rt; may, may_share);
+    }
+    Ok(())
+}
