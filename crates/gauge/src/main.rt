@@ -5,6 +5,7 @@
 ghost use Rattle.std.specs.Prelude.{OnOk};
 ghost use Rattle.gauge.specs.Reprinting.{Reprints};
 
+use de9im::{Matrix, Work, relate};
 use fraction::{GridPoint, RatPoint};
 use geometry_model::Location;
 use side_labels::locate;
@@ -86,8 +87,7 @@ fn gauge(rt: &HostRuntime) -> Result<(), Failure> {
         [_] => put_again(rt.alloc(), text.as_bytes(), &mut out)?,
         [_, word, times] => {
             let times = times.parse::<u32>().map_err(|_| Failure::Misuse)?;
-            let answer = measured(rt.alloc(), word.as_str(), times, text.as_str())?;
-            put_number(answer, &mut out)?;
+            put_measured(rt.alloc(), word.as_str(), times, text.as_str(), &mut out)?;
         }
         _ => return Err(Failure::Misuse),
     }
@@ -117,6 +117,34 @@ fn put_again<S: Sink>(alloc: Global, text: &[u8], sink: &mut S) -> Result<(), Fa
 fn put_number<S: Sink>(number: usize, sink: &mut S) -> Result<(), Failure> {
     let mut buffer = itoa::Buffer::new();
     put_all(sink, buffer.format(number).as_bytes()).map_err(|_| Failure::Failed)
+}
+
+// Does one thing this often, and puts its answer: of `relate` the matrix of the geometries in the first two lines, else a number.
+fn put_measured<S: Sink>(
+    alloc: Global,
+    word: &str,
+    times: u32,
+    text: &str,
+    sink: &mut S,
+) -> Result<(), Failure> {
+    if word == "relate" {
+        let matrix = related(alloc, times, text)?;
+        return put_all(sink, &matrix.text()).map_err(|_| Failure::Failed);
+    }
+    put_number(measured(alloc, word, times, text)?, sink)
+}
+
+// Relates the geometries in the first two lines this often, and once before.
+fn related(alloc: Global, times: u32, text: &str) -> Result<Matrix, Failure> {
+    let mut lines = text.lines();
+    let first = check(alloc, read(alloc, lines.next().unwrap_or("").as_bytes())?)?;
+    let second = check(alloc, read(alloc, lines.next().unwrap_or("").as_bytes())?)?;
+    let mut work = Work::new();
+    let mut matrix = relate(alloc, &first, &second, &mut work)?;
+    for _ in 0..times {
+        matrix = relate(alloc, &first, &second, &mut work)?;
+    }
+    Ok(matrix)
 }
 
 // Does one thing this often, and answers its number: of `read` its lines or rings, of `check` 1 where the geometry is valid, of
