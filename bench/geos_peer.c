@@ -3,13 +3,31 @@
  * The first line of standard input is a geometry, each further line a point. The first word says what is done,
  * the second how often: `read` reads the text, `check` reads and tests it, `locate` reads, tests and prepares it once and
  * then locates every point. It prints one line: for `read` the number of geometries in it, for `check` 1 where the geometry is
- * valid and else 0, for `locate` how many points are in the interior or on the boundary.
+ * valid and else 0, for `locate` how many points are in the interior or on the boundary. Of `relate` the first two lines are
+ * geometries, which it reads and tests once, and it prints their matrix.
  */
 #define GEOS_USE_ONLY_R_API
 #include <geos_c.h>
 #include <stdio.h>
 #include <stdlib.h>
 #include <string.h>
+
+static int relate(GEOSContextHandle_t geos, const char *first, long times) {
+    char *line = NULL;
+    size_t room = 0;
+    if (getline(&line, &room, stdin) < 0) return 6;
+    GEOSWKTReader *reader = GEOSWKTReader_create_r(geos);
+    GEOSGeometry *a = GEOSWKTReader_read_r(geos, reader, first);
+    GEOSGeometry *b = GEOSWKTReader_read_r(geos, reader, line);
+    if (a == NULL || b == NULL || GEOSisValid_r(geos, a) != 1 || GEOSisValid_r(geos, b) != 1) return 5;
+    char *matrix = GEOSRelate_r(geos, a, b);
+    for (long k = 0; k < times; k++) {
+        GEOSFree_r(geos, matrix);
+        matrix = GEOSRelate_r(geos, a, b);
+    }
+    printf("%s\n", matrix);
+    return 0;
+}
 
 static void quiet(const char *message, void *data) { (void)message; (void)data; }
 
@@ -22,6 +40,7 @@ int main(int argc, char **argv) {
     GEOSContextHandle_t geos = GEOS_init_r();
     GEOSContext_setErrorMessageHandler_r(geos, quiet, NULL);
     GEOSContext_setNoticeMessageHandler_r(geos, quiet, NULL);
+    if (strcmp(argv[1], "relate") == 0) return relate(geos, line, times);
     GEOSGeometry **asked = NULL;
     size_t points = 0, kept = 0;
     double x, y;

@@ -5,9 +5,10 @@
 ghost use Rattle.std.specs.Prelude.{OnOk};
 ghost use Rattle.gauge.specs.Reprinting.{Reprints};
 
+use de9im::{Matrix, Work, matrix_of_labels, relate};
 use fraction::{GridPoint, RatPoint};
 use geometry_model::Location;
-use side_labels::locate;
+use side_labels::{labels, locate};
 use std::alloc::{AllocError, Global};
 use std::env;
 use std::io::{BufWriter, ErrorKind, Read};
@@ -84,10 +85,10 @@ fn gauge(rt: &HostRuntime) -> Result<(), Failure> {
     let mut out = StdSink::new(buffer);
     match words.as_slice() {
         [_] => put_again(rt.alloc(), text.as_bytes(), &mut out)?,
+        [_, word] if word.as_str() == "pairs" => put_pairs(rt.alloc(), text.as_str(), &mut out)?,
         [_, word, times] => {
             let times = times.parse::<u32>().map_err(|_| Failure::Misuse)?;
-            let answer = measured(rt.alloc(), word.as_str(), times, text.as_str())?;
-            put_number(answer, &mut out)?;
+            put_measured(rt.alloc(), word.as_str(), times, text.as_str(), &mut out)?;
         }
         _ => return Err(Failure::Misuse),
     }
@@ -117,6 +118,72 @@ fn put_again<S: Sink>(alloc: Global, text: &[u8], sink: &mut S) -> Result<(), Fa
 fn put_number<S: Sink>(number: usize, sink: &mut S) -> Result<(), Failure> {
     let mut buffer = itoa::Buffer::new();
     put_all(sink, buffer.format(number).as_bytes()).map_err(|_| Failure::Failed)
+}
+
+// Does one thing this often, and puts its answer: of `relate` the matrix of the geometries in the first two lines, else a number.
+fn put_measured<S: Sink>(
+    alloc: Global,
+    word: &str,
+    times: u32,
+    text: &str,
+    sink: &mut S,
+) -> Result<(), Failure> {
+    if word == "relate" {
+        let matrix = related(alloc, times, text)?;
+        return put_all(sink, &matrix.text()).map_err(|_| Failure::Failed);
+    }
+    put_number(measured(alloc, word, times, text)?, sink)
+}
+
+// Relates the geometries in the first two lines this often, and once before.
+fn related(alloc: Global, times: u32, text: &str) -> Result<Matrix, Failure> {
+    let mut lines = text.lines();
+    let first = check(alloc, read(alloc, lines.next().unwrap_or("").as_bytes())?)?;
+    let second = check(alloc, read(alloc, lines.next().unwrap_or("").as_bytes())?)?;
+    let mut work = Work::new();
+    let mut matrix = relate(alloc, &first, &second, &mut work)?;
+    for _ in 0..times {
+        matrix = relate(alloc, &first, &second, &mut work)?;
+    }
+    Ok(matrix)
+}
+
+// Relates the geometries of each two lines.
+fn put_pairs<S: Sink>(alloc: Global, text: &str, sink: &mut S) -> Result<(), Failure> {
+    let mut lines = text.lines();
+    while let Some(first) = lines.next() {
+        let second = lines.next().unwrap_or("");
+        match (valid(alloc, first)?, valid(alloc, second)?) {
+            (Some(first), Some(second)) => put_both(alloc, &first, &second, sink)?,
+            _ => put_all(sink, b"invalid\n").map_err(|_| Failure::Failed)?,
+        }
+    }
+    Ok(())
+}
+
+// The valid geometry that a text spells; None where it has a fault of validity.
+fn valid(alloc: Global, text: &str) -> Result<Option<Valid>, Failure> {
+    match check(alloc, read(alloc, text.as_bytes())?) {
+        Ok(valid) => Ok(Some(valid)),
+        Err(CheckFault::OutOfMemory) => Err(Failure::OutOfMemory),
+        Err(_) => Ok(None),
+    }
+}
+
+// Puts the matrix that is found by edges, and the one that labels show.
+fn put_both<S: Sink>(
+    alloc: Global,
+    first: &Valid,
+    second: &Valid,
+    sink: &mut S,
+) -> Result<(), Failure> {
+    let mut work = Work::new();
+    let by_edges = relate(alloc, first, second, &mut work)?;
+    let by_labels = matrix_of_labels(&labels(alloc, first, second)?);
+    for piece in [&by_edges.text()[..], b" ", &by_labels.text()[..], b"\n"] {
+        put_all(sink, piece).map_err(|_| Failure::Failed)?;
+    }
+    Ok(())
 }
 
 // Does one thing this often, and answers its number: of `read` its lines or rings, of `check` 1 where the geometry is valid, of
