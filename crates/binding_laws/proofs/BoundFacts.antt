@@ -11,8 +11,8 @@ use Rattle.geometry_model.specs.CheckedTexts.{geometry_in_text, tested, valid_or
 use Rattle.geometry_model.specs.FirstFaults.{validity_fault}
 use Rattle.geometry_model.specs.Geometries.{Geometry}
 use Rattle.geometry_model.specs.TextReading.{read_text}
-use Rattle.table_model.specs.Binding.{GeometryBinding, Checked, ◌>>=◌, binding, no_geometry, bound_references, bound_reference, reference_at, table_place, two_references, with_second, name_start, columns_of, type_of, refers_to, column_named, found_in, column_meant, columns_meant, the_one, bound_column, geometry_of_type, geometry_only, unquoted, bound_operand, comparable, checked_types, bound_predicate, bound_by_parts, bound_cond, bound_condition, bound_item, bound_items, items_of, counts}
-use Rattle.table_model.specs.BoundQueries.{GeometryFits, IsBound, AreReferences, place_type, column_type, reference_columns, is_geometry, operand_type, type_if, can_compare, fits_by_parts, cond_fits, item_fits, argument_fits, geometry_fits, no_geometry_fits}
+use Rattle.table_model.specs.Binding.{GeometryBinding, Checked, ◌>>=◌, binding, bound_references, bound_reference, reference_at, table_place, two_references, with_second, name_start, columns_of, type_of, refers_to, column_named, found_in, column_meant, columns_meant, the_one, bound_column, geometry_of_type, geometry_only, unquoted, bound_operand, comparable, checked_types, bound_predicate, bound_by_parts, bound_cond, bound_condition, bound_item, bound_items, items_of, counts}
+use Rattle.table_model.specs.BoundQueries.{GeometryFits, IsBound, AreReferences, place_type, column_type, reference_columns, is_geometry, operand_type, type_if, can_compare, fits_by_parts, cond_fits, item_fits, argument_fits, geometry_fits}
 use Rattle.table_model.specs.GeometryColumns.{ColumnShape, geometry_binding, bound_argument, literal}
 use Rattle.table_model.specs.Loading.{and_then, each}
 use Rattle.table_model.specs.Outcomes.{Gives}
@@ -47,13 +47,12 @@ use Rattle.table_model.specs.declared.typing.Found.{Found}
 use Rattle.table_model.specs.declared.typing.OperandType.{OperandType}
 use Rattle.table_model.specs.declared.typing.OperandType.TheVariants as types
 use Rattle.table_model.specs.declared.typing.Typed.{Typed}
-use Rattle.table_model.specs.declared.values.NoGeometry.{NoGeometry}
 use Rattle.table_model.proofs.CondFolds as cond_folds
 use Rattle.table_model.proofs.CondInduction.{Each, by_parts}
 use Rattle.table_model.proofs.ConjunctFacts.{conjuncts-Or, conjuncts-And, conjuncts-Not, conjuncts-Compare, conjuncts-IsNull, conjuncts-IsEmpty, conjuncts-Relates}
 use Rattle.table_model.proofs.WrittenFolds as written_folds
 use Rattle.binding_laws.proofs.WrittenInduction.{by_written}
-use Rattle.binding_laws.specs.BoundLaws.{GeometryQueriesAreBound, PlainQueriesAreBound}
+use Rattle.binding_laws.specs.BoundLaws.{GeometryQueriesAreBound}
 
 -- ---- steps
 
@@ -461,25 +460,11 @@ geometry_fitting = record {
 pub geometry_queries_are_bound : GeometryQueriesAreBound
 geometry_queries_are_bound definitions query = binding_ok geometry_binding geometry_fits geometry_fitting definitions query
 
-plain_fitting : (T : Type 0) → Fitting (no_geometry {T = T}) (no_geometry_fits {T = T})
-plain_fitting T = record {
-  argument = λ schema references a geometry. refl;
-  item_argument = λ schema references c geometry. refl;
-}
-
-pub plain_queries_are_bound : (T : Type 0) → PlainQueriesAreBound T
-plain_queries_are_bound T definitions query = binding_ok no_geometry no_geometry_fits (plain_fitting T) definitions query
-
 answered : {X : Type 0} (r s : Checked X) (P : X → Type 0) → IfOk s P → Gives query_fault.OutOfMemory (λ x. x) r s → IfOk r P
 answered (Ok x) s P is gives = subst (λ t. IfOk t P) gives is
 answered (Err e) s P is gives = tt
 
 -- a binder that answers what binding gives, or runs out of memory, answers what is bound to these definitions
-pub plain_answer_is_bound : {T : Type 0} (definitions : List (TableDef T)) (query : Query NoGeometry NoGeometry) (r : Checked (Bound NoGeometry NoGeometry))
-    → Gives query_fault.OutOfMemory (λ b. b) r (binding no_geometry definitions query) → IfOk r (IsBound no_geometry_fits definitions)
-plain_answer_is_bound {T} definitions query r gives = answered r (binding no_geometry definitions query) (IsBound no_geometry_fits definitions) (plain_queries_are_bound T definitions query) gives
-
--- the same of a binder of queries with geometries
 pub geometry_answer_is_bound : (definitions : List (TableDef ColumnShape)) (query : Query WrittenGeometry WrittenColumn) (r : Checked (Bound (GeometryArgument Geometry) ColumnPlace))
     → Gives query_fault.OutOfMemory (λ b. b) r (binding geometry_binding definitions query) → IfOk r (IsBound geometry_fits definitions)
 geometry_answer_is_bound definitions query r gives = answered r (binding geometry_binding definitions query) (IsBound geometry_fits definitions) (geometry_queries_are_bound definitions query) gives

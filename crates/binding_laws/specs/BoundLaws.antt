@@ -1,20 +1,14 @@
 -- The laws of what is bound: a query that is bound to definitions has its tables and columns there, and its types fit.
 use Rattle.std.specs.Prelude.{List, IfOk}
-use Rattle.table_model.specs.Binding.{binding, no_geometry}
-use Rattle.table_model.specs.BoundQueries.{IsBound, geometry_fits, no_geometry_fits}
+use Rattle.table_model.specs.Binding.{binding}
+use Rattle.table_model.specs.BoundQueries.{IsBound, geometry_fits}
 use Rattle.table_model.specs.GeometryColumns.{ColumnShape, geometry_binding}
 use Rattle.table_model.specs.declared.definitions.TableDef.{TableDef}
 use Rattle.table_model.specs.declared.queries.Query.{Query}
 use Rattle.table_model.specs.declared.queries.WrittenColumn.{WrittenColumn}
 use Rattle.table_model.specs.declared.queries.WrittenGeometry.{WrittenGeometry}
-use Rattle.table_model.specs.declared.values.NoGeometry.{NoGeometry}
 
 -- what a query with geometries is bound to, is bound to these definitions (06-104r4, 7.2)
 abbrev pub GeometryQueriesAreBound : Type 0
 GeometryQueriesAreBound = (definitions : List (TableDef ColumnShape)) (query : Query WrittenGeometry WrittenColumn)
     → IfOk (binding geometry_binding definitions query) (IsBound geometry_fits definitions)
-
--- what a query without geometries is bound to, is bound to these definitions
-abbrev pub PlainQueriesAreBound : (T : Type 0) → Type 0
-PlainQueriesAreBound T = (definitions : List (TableDef T)) (query : Query NoGeometry NoGeometry)
-    → IfOk (binding no_geometry definitions query) (IsBound no_geometry_fits definitions)

@@ -2,12 +2,10 @@
 use Rattle.std.specs.Prelude.{ℕ, List, ◌∷◌, []}
 use Rattle.geometry_model.specs.Labels.{labelled_matrix}
 use Rattle.table_model.specs.BindingExamples.{towns}
-use Rattle.table_model.specs.FirstRunExamples.{town_rows}
-use Rattle.table_model.specs.Serving.{no_geometries}
-use Rattle.table_model.specs.declared.conditions.Bound.{Bound}
-use Rattle.table_model.specs.declared.values.NoGeometry.{NoGeometry}
+use Rattle.table_model.specs.FirstRunExamples.{BoundQuery, town_rows}
 use Rattle.engine.specs.Runs.{bound_text}
+use Rattle.engine.specs.Serving.{serving}
 
 -- the text of the answer of a query over the table of towns
-abbrev pub town_text : Bound NoGeometry NoGeometry → List ℕ
-town_text = bound_text no_geometries labelled_matrix (record { definitions = towns; tables = town_rows ∷ [] })
+abbrev pub town_text : BoundQuery → List ℕ
+town_text = bound_text serving labelled_matrix (record { definitions = towns; tables = town_rows ∷ [] })

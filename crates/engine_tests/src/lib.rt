@@ -2,6 +2,8 @@
 #![tactic(auto)]
 
 #[cfg(test)]
+mod index_tests;
+#[cfg(test)]
 mod order_tests;
 #[cfg(test)]
 mod parcels_tests;

@@ -36,6 +36,13 @@ const SQUARES_EXCHANGED: &str = "id,geom
 1,\"POLYGON((4 0,8 0,8 4,4 4,4 0))\"
 ";
 
+const SQUARES_PAIRED: &str = "a.id,a.geom,b.id,b.geom
+1,\"POLYGON((0 0,4 0,4 4,0 4,0 0))\",1,\"POLYGON((0 0,4 0,4 4,0 4,0 0))\"
+1,\"POLYGON((0 0,4 0,4 4,0 4,0 0))\",2,\"POLYGON((4 0,8 0,8 4,4 4,4 0))\"
+2,\"POLYGON((4 0,8 0,8 4,4 4,4 0))\",1,\"POLYGON((0 0,4 0,4 4,0 4,0 0))\"
+2,\"POLYGON((4 0,8 0,8 4,4 4,4 0))\",2,\"POLYGON((4 0,8 0,8 4,4 4,4 0))\"
+";
+
 const JOINED: &str =
     "SELECT b.id, s.id FROM big b JOIN sq s ON ST_Intersects(b.geom, s.geom) WHERE b.id <> 2";
 
@@ -125,6 +132,7 @@ fn geometries_stand_in_rows(rt: HostRuntime) -> Result<(), Fail> {
             "SELECT id FROM t WHERE NOT ST_Within(geom, $S) OR geom IS NULL",
             "id\n2\n3\n",
         ),
+        ("SELECT id FROM t WHERE ST_Within(geom, $S) = 0", "id\n3\n"),
         (
             "SELECT * FROM t",
             "id,pop,geom\n1,2,POINT(1 1)\n2,7,\n3,9,POINT(9 9)\n",
@@ -234,9 +242,30 @@ fn squares_touch(rt: HostRuntime) -> Result<(), Fail> {
             "EXPLAIN ANALYZE SELECT a.id, b.id FROM sq a, sq b WHERE ST_Touches(a.geom, b.geom)",
             "cost 6\nouter a scan\ninner b scan\nfilter 1\nwork 4\n",
         ),
+        (
+            "EXPLAIN SELECT id FROM sq WHERE ST_Within(geom, $S)",
+            "cost 2\nouter sq scan\nfilter 1\n",
+        ),
+        (
+            "EXPLAIN SELECT * FROM sq a CROSS JOIN sq b",
+            "cost 6\nouter a scan\ninner b scan\nfilter none\n",
+        ),
+        ("SELECT * FROM sq a CROSS JOIN sq b", SQUARES_PAIRED),
     ] {
         assert!(rt; run_over(&rt, &files, query)?.is(out, "", 0));
     }
+    Ok(())
+}
+
+/// Over four rows a probe costs what the scan does, and the scan is taken.
+#[test]
+fn few_rows_are_scanned(rt: HostRuntime) -> Result<(), Fail> {
+    let points = points_up_to(rt.alloc(), 4)?;
+    let mut files = files_of(POINTS_SCHEMA);
+    files.points = points.as_str();
+    let query = "EXPLAIN SELECT id FROM big WHERE ST_Intersects(geom, $S)";
+    let told = "cost 4\nouter big scan\nfilter 1\n";
+    assert!(rt; run_over(&rt, &files, query)?.is(told, "", 0));
     Ok(())
 }
 
@@ -354,6 +383,28 @@ fn rows_and_queries_are_refused(rt: HostRuntime) -> Result<(), Fail> {
             5,
         ),
         (MIXED, "EXPLAIN ANALYZE", "", "sfq: Q2 at 15\n", 5),
+        (
+            MIXED,
+            "SELECT id FROM t WHERE ST_Relate(geom, geom, 'TTT')",
+            "",
+            "sfq: Q9 at 45\n",
+            5,
+        ),
+        (
+            "id,pop,geom\n3,9,POINT(9 9)\n1,2,POINT(1 1)\n2,7,\n4,1,LINESTRING(0 0)\n",
+            "SELECT id FROM t",
+            "",
+            "sfq: t L6 record 4 V1 0\n",
+            4,
+        ),
+        (MIXED, "SELECT id FROM t LIMIT -1", "", "sfq: Q2 at 23\n", 5),
+        (
+            MIXED,
+            "SELECT id FROM t LIMIT 9223372036854775808",
+            "",
+            "sfq: Q12 at 23\n",
+            5,
+        ),
     ] {
         let mut files = files_of(MIXED_SCHEMA);
         files.mixed = table;

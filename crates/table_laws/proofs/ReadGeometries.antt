@@ -9,15 +9,12 @@ use Rattle.geometry_model.specs.Validity.{IsValid}
 use Rattle.geometry_model.specs.declared.geometry_faults.GeometryFault.{GeometryFault}
 use Rattle.geometry_model.specs.declared.text_faults.TextFault.{TextFault}
 use Rattle.geometry_model.specs.declared.validity_faults.ValidityFault.{ValidityFault}
-use Rattle.geometry_model.specs.declared.geometry_faults.GeometryFault.TheVariants as geometry_fault
 use Rattle.validity_laws.proofs.FirstFaultFacts.{none_is_found_where_valid}
-use Rattle.table_model.specs.FeatureTables.{TakesNone, TakesValid}
+use Rattle.table_model.specs.FeatureTables.{TakesValid}
 use Rattle.table_model.specs.GeometryColumns.{ColumnShape, of_shape, read_geometry, takes_type}
 use Rattle.table_model.specs.declared.faults.LoadFault.{LoadFault}
 use Rattle.table_model.specs.declared.faults.LoadFault.TheVariants as fault
-use Rattle.table_model.specs.Loading.{GeometryReader}
-use Rattle.table_model.specs.declared.values.NoGeometry.{NoGeometry}
-use Rattle.table_laws.specs.FeatureTableLaws.{LoadedAreRows, LoadedIsDatabase, PlainAreRows, PlainIsDatabase}
+use Rattle.table_laws.specs.FeatureTableLaws.{LoadedAreRows, LoadedIsDatabase}
 use Rattle.table_laws.proofs.TableFacts.{ReadsTaken, loads_database, loads_rows}
 
 tested-valid : (r : Result Geometry TextFault) (g : Geometry) → tested r ≡ Ok g → IsValid g
@@ -43,17 +40,8 @@ shaped number shape (Ok h) g valid e = go (takes_type shape (type_of h)) refl e
 read_is_valid : ReadsTaken TakesValid read_geometry
 read_is_valid number shape bytes g e = shaped number shape (geometry_in_text bytes) g (text-valid bytes) e
 
-none_is_read : (geometry : GeometryReader NoGeometry NoGeometry) → ReadsTaken TakesNone geometry
-none_is_read geometry number kind bytes g e = elim kind [ ]
-
 pub loaded_are_rows : LoadedAreRows
 loaded_are_rows = loads_rows TakesValid read_geometry read_is_valid
 
 pub loaded_is_database : LoadedIsDatabase
 loaded_is_database = loads_database TakesValid read_geometry read_is_valid
-
-pub plain_are_rows : PlainAreRows
-plain_are_rows geometry = loads_rows TakesNone geometry (none_is_read geometry)
-
-pub plain_is_database : PlainIsDatabase
-plain_is_database geometry = loads_database TakesNone geometry (none_is_read geometry)

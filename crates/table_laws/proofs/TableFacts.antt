@@ -6,7 +6,6 @@ use Rattle.std.specs.List.{enumerate_from}
 use Rattle.std.specs.Str.{is_utf8}
 use Rattle.std.specs.Str.Parse.{signed_digits_value}
 use Rattle.table_model.specs.Databases.{at_table, load_tables}
-use Rattle.table_model.specs.Definitions.{lawful}
 use Rattle.table_model.specs.FeatureTables.{AreRows, IsRow, IsValueFor, Takes}
 use Rattle.table_model.specs.Loading.{GeometryReader, Record, and_then, by_key, checked_row, each, filled_value, fits_64_bits, insert_by_key, integer_of, is_number, is_required, load, number_in, row_limit, row_of, rows_of, trimmed, value_of, field_under}
 use Rattle.table_model.specs.Meanings.{Row, Table}

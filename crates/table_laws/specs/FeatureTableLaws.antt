@@ -2,12 +2,11 @@
 use Rattle.std.specs.Prelude.{◌≡◌, true, List, Ok, length}
 use Rattle.table_model.specs.Databases.{load_tables}
 use Rattle.table_model.specs.Definitions.{lawful}
-use Rattle.table_model.specs.FeatureTables.{AreRows, IsDatabase, Takes, TakesNone, TakesValid}
+use Rattle.table_model.specs.FeatureTables.{AreRows, IsDatabase, Takes, TakesValid}
 use Rattle.table_model.specs.GeometryColumns.{read_geometry}
 use Rattle.table_model.specs.Loading.{GeometryReader, Record, load}
 use Rattle.table_model.specs.Meanings.{Table}
 use Rattle.table_model.specs.declared.definitions.TableDef.{TableDef}
-use Rattle.table_model.specs.declared.values.NoGeometry.{NoGeometry}
 
 -- what loads for a table with this reader of geometries are the rows of one (06-104r4, feature tables)
 abbrev pub LoadsRows : {T G : Type 0} → Takes T G → GeometryReader T G → Type 0
@@ -26,11 +25,3 @@ LoadedAreRows = LoadsRows TakesValid read_geometry
 -- tables with geometry columns that load (06-104r4)
 abbrev pub LoadedIsDatabase : Type 0
 LoadedIsDatabase = LoadsDatabase TakesValid read_geometry
-
--- a table without geometry columns that loads (06-104r4, feature tables)
-abbrev pub PlainAreRows : Type 0
-PlainAreRows = (geometry : GeometryReader NoGeometry NoGeometry) → LoadsRows TakesNone geometry
-
--- tables without geometry columns that load (06-104r4)
-abbrev pub PlainIsDatabase : Type 0
-PlainIsDatabase = (geometry : GeometryReader NoGeometry NoGeometry) → LoadsDatabase TakesNone geometry

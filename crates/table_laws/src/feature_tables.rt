@@ -1,6 +1,6 @@
 //! Laws of feature tables and databases: what loads has the facts of one.
 
-ghost use Rattle.table_laws.specs.FeatureTableLaws.{LoadedAreRows, LoadedIsDatabase, PlainAreRows, PlainIsDatabase};
+ghost use Rattle.table_laws.specs.FeatureTableLaws.{LoadedAreRows, LoadedIsDatabase};
 
 /// The rows of a table with geometry columns that loads are at most 100,000 and ascend by key, each with a value for each
 /// column; a geometry is valid, and of its column's type (06-104r4, feature tables and 7.2).
@@ -11,14 +11,4 @@ pub fn loaded_are_rows()
 /// The tables with geometry columns that load for lawful definitions are those of a database (06-104r4).
 pub fn loaded_is_database()
     ensures { LoadedIsDatabase }
-{}
-
-/// The rows of a table without geometry columns that loads (06-104r4, feature tables).
-pub fn plain_are_rows()
-    ensures { PlainAreRows }
-{}
-
-/// The tables without geometry columns that load for lawful definitions are those of a database (06-104r4).
-pub fn plain_is_database()
-    ensures { PlainIsDatabase }
 {}

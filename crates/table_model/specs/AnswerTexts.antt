@@ -4,7 +4,6 @@ use Rattle.std.specs.Fmt.{signed_decimal}
 use Rattle.table_model.specs.Meanings.{Row}
 use Rattle.table_model.specs.Binding.{table_columns}
 use Rattle.table_model.specs.Truths.{field_at}
-use Rattle.table_model.specs.declared.values.NoGeometry.{NoGeometry}
 use Rattle.table_model.specs.declared.values.Value.{Value}
 use Rattle.table_model.specs.declared.values.Value.TheVariants as v
 use Rattle.table_model.specs.declared.conditions.Bound.{Bound}
@@ -22,15 +21,6 @@ pub record Writing (G C : Type 0) : Type 0 where
   pub text : G → List ℕ
   pub dimension : G → ℤ
   pub is_empty : G → Bool
-
--- how geometries are written where none is served: there is none
-abbrev pub no_writing : Writing NoGeometry NoGeometry
-no_writing = record {
-  place = λ c. elim c [ ];
-  text = λ g. elim g [ ];
-  dimension = λ g. elim g [ ];
-  is_empty = λ g. elim g [ ];
-}
 
 -- the name of a column as the schema spells it
 abbrev pub name_of : {T : Type 0} → Option (ColumnDef T) → List ℕ

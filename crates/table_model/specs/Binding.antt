@@ -8,12 +8,11 @@ use Rattle.table_model.specs.Loading.{each}
 use Rattle.table_model.specs.Statements.{Statement, conjuncts_of}
 use Rattle.table_model.specs.Texts.{same_name}
 use Rattle.table_model.specs.declared.faults.QueryFault.{QueryFault}
-use Rattle.table_model.specs.declared.faults.QueryFault.TheVariants.{UnknownTable, SameName, UnknownColumn, AmbiguousColumn, TypeMismatch, Syntax}
+use Rattle.table_model.specs.declared.faults.QueryFault.TheVariants.{UnknownTable, SameName, UnknownColumn, AmbiguousColumn, TypeMismatch}
 use Rattle.table_model.specs.declared.definitions.ColumnType.{ColumnType}
 use Rattle.table_model.specs.declared.definitions.ColumnType.TheVariants as columns
 use Rattle.table_model.specs.declared.definitions.ColumnDef.{ColumnDef}
 use Rattle.table_model.specs.declared.definitions.TableDef.{TableDef}
-use Rattle.table_model.specs.declared.values.NoGeometry.{NoGeometry}
 use Rattle.table_model.specs.declared.queries.Name.{Name}
 use Rattle.table_model.specs.declared.queries.WrittenColumn.{WrittenColumn}
 use Rattle.table_model.specs.declared.queries.WrittenReference.{WrittenReference}
@@ -364,11 +363,3 @@ statement how schema query = do
     counts = counts query.selection;
     limit = query.limit;
   })
-
--- how geometry arguments are bound where none is served
-abbrev pub no_geometry : {T : Type 0} → GeometryBinding T NoGeometry NoGeometry NoGeometry NoGeometry
-no_geometry = record {
-  argument = λ schema references a. Ok (record { part = a; part_type = types.Geometry });
-  item_argument = λ schema references a. Ok (record { part = a; part_type = types.Geometry });
-  pattern = λ written. Err (Syntax written.at);
-}

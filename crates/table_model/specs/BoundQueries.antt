@@ -22,7 +22,6 @@ use Rattle.table_model.specs.declared.definitions.ColumnDef.{ColumnDef}
 use Rattle.table_model.specs.declared.definitions.TableDef.{TableDef}
 use Rattle.table_model.specs.declared.typing.OperandType.{OperandType}
 use Rattle.table_model.specs.declared.typing.OperandType.TheVariants as types
-use Rattle.table_model.specs.declared.values.NoGeometry.{NoGeometry}
 
 -- ---- columns
 
@@ -124,7 +123,3 @@ geometry_fits = record {
   argument = argument_fits;
   item_argument = λ definitions references place. is_geometry (place_type definitions references place);
 }
-
--- where none is served there is no argument that could fail to be one
-abbrev pub no_geometry_fits : {T : Type 0} → GeometryFits T NoGeometry NoGeometry
-no_geometry_fits = record { argument = λ definitions references a. true; item_argument = λ definitions references c. true }

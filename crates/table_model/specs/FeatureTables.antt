@@ -14,7 +14,6 @@ use Rattle.table_model.specs.declared.definitions.ColumnDef.{ColumnDef}
 use Rattle.table_model.specs.declared.definitions.ColumnType.{ColumnType}
 use Rattle.table_model.specs.declared.definitions.ColumnType.TheVariants as column
 use Rattle.table_model.specs.declared.definitions.TableDef.{TableDef}
-use Rattle.table_model.specs.declared.values.NoGeometry.{NoGeometry}
 use Rattle.table_model.specs.declared.values.Value.{Value}
 use Rattle.table_model.specs.declared.values.Value.TheVariants as value
 
@@ -60,7 +59,3 @@ pub record IsDatabase {T G : Type 0} (takes : Takes T G) (database : Database T 
 -- a column takes the valid geometries of its type, and of each type where it is GEOMETRY (06-104r4, 7.1; 06-103r4, 6.1)
 abbrev pub TakesValid : Takes ColumnShape Geometry
 TakesValid shape g = (takes_type shape (type_of g) ≡ true) × IsValid g
-
--- where no geometry is served no column takes one
-abbrev pub TakesNone : Takes NoGeometry NoGeometry
-TakesNone kind g = elim kind [ ]

@@ -1,30 +1,35 @@
 -- Words for the worked run over a table of numbers and texts: its records, its queries, its rows.
-use Rattle.std.specs.Prelude.{ℕ, pos, true, false, List, [], ◌∷◌, codes, Some, None}
+use Rattle.std.specs.Prelude.{ℕ, pos, false, List, [], ◌∷◌, codes, Some, None}
+use Rattle.geometry_model.specs.Geometries.{Geometry}
 use Rattle.geometry_model.specs.Labels.{labelled_matrix}
-use Rattle.table_model.specs.AnswerTexts.{Writing, answer_records}
-use Rattle.table_model.specs.Binding.{Checked, binding, no_geometry}
+use Rattle.table_model.specs.AnswerTexts.{answer_records}
+use Rattle.table_model.specs.Arguments.{denoted}
+use Rattle.table_model.specs.Binding.{Checked, binding}
 use Rattle.table_model.specs.BindingExamples.{towns}
-use Rattle.table_model.specs.Loading.{GeometryReader, Record}
+use Rattle.table_model.specs.GeometryColumns.{geometry_binding, geometry_writing}
+use Rattle.table_model.specs.Loading.{Record}
 use Rattle.table_model.specs.Meanings.{Row, passing_rows}
-use Rattle.table_model.specs.Truths.{truth, no_argument}
+use Rattle.table_model.specs.Truths.{truth}
 use Rattle.table_model.specs.declared.conditions.Bound.{Bound}
 use Rattle.table_model.specs.declared.conditions.ColumnPlace.{ColumnPlace}
 use Rattle.table_model.specs.declared.conditions.Comparison.TheVariants as signs
 use Rattle.table_model.specs.declared.conditions.Cond.{Cond}
 use Rattle.table_model.specs.declared.conditions.Cond.TheVariants as conds
+use Rattle.table_model.specs.declared.conditions.GeometryArgument.{GeometryArgument}
 use Rattle.table_model.specs.declared.conditions.Item.{Item}
 use Rattle.table_model.specs.declared.conditions.Item.TheVariants as items
 use Rattle.table_model.specs.declared.conditions.Operand.{Operand}
 use Rattle.table_model.specs.declared.conditions.Operand.TheVariants as operands
 use Rattle.table_model.specs.declared.queries.Explain.TheVariants as explains
 use Rattle.table_model.specs.declared.queries.Selection.TheVariants as selections
+use Rattle.table_model.specs.declared.queries.WrittenColumn.{WrittenColumn}
 use Rattle.table_model.specs.declared.queries.WrittenCond.{WrittenCond}
 use Rattle.table_model.specs.declared.queries.WrittenCond.TheVariants as written_conds
+use Rattle.table_model.specs.declared.queries.WrittenGeometry.{WrittenGeometry}
 use Rattle.table_model.specs.declared.queries.WrittenItem.{WrittenItem}
 use Rattle.table_model.specs.declared.queries.WrittenItem.TheVariants as written_items
 use Rattle.table_model.specs.declared.queries.WrittenOperand.{WrittenOperand}
 use Rattle.table_model.specs.declared.queries.WrittenOperand.TheVariants as written_operands
-use Rattle.table_model.specs.declared.values.NoGeometry.{NoGeometry}
 use Rattle.table_model.specs.declared.values.Value.{Value}
 use Rattle.table_model.specs.declared.values.Value.TheVariants as values
 
@@ -38,45 +43,49 @@ town_records =
     ∷ (codes "4" ∷ codes "7" ∷ [] ∷ [])
     ∷ []
 
--- no column is of a geometry, so nothing is read
-abbrev pub plain_reader : GeometryReader NoGeometry NoGeometry
-plain_reader number kind bytes = elim kind [ ]
-
 -- a row of a key, a number and a text
-abbrev pub town : ℕ → Value NoGeometry → Value NoGeometry → Row NoGeometry
+abbrev pub town : ℕ → Value Geometry → Value Geometry → Row Geometry
 town id pop name = values.Integer (pos id) ∷ pop ∷ name ∷ []
 
 -- the rows
-abbrev pub first_town : Row NoGeometry
+abbrev pub first_town : Row Geometry
 first_town = town 1 (values.Integer (pos 8)) (values.Text (codes "a"))
 
 -- the second, third and fourth
-abbrev pub second_town : Row NoGeometry
+abbrev pub second_town : Row Geometry
 second_town = town 2 (values.Integer (pos 9)) (values.Text (codes "b"))
 
 -- the one whose number isn't known
-abbrev pub third_town : Row NoGeometry
+abbrev pub third_town : Row Geometry
 third_town = town 3 values.Null (values.Text (codes "c"))
 
 -- the one without a name
-abbrev pub fourth_town : Row NoGeometry
+abbrev pub fourth_town : Row Geometry
 fourth_town = town 4 (values.Integer (pos 7)) values.Null
 
 -- the table
-abbrev pub town_rows : List (Row NoGeometry)
+abbrev pub town_rows : List (Row Geometry)
 town_rows = first_town ∷ second_town ∷ third_town ∷ fourth_town ∷ []
 
 -- a column as it is written, at a byte
-abbrev pub written_column : List ℕ → ℕ → WrittenOperand NoGeometry
+abbrev pub written_column : List ℕ → ℕ → WrittenOperand WrittenGeometry
 written_column name at = written_operands.Column (record { reference = None; name = record { text = name; at = at } })
 
 -- a column of the select list as it is written, at a byte
-abbrev pub written_item : List ℕ → ℕ → WrittenItem NoGeometry
+abbrev pub written_item : List ℕ → ℕ → WrittenItem WrittenColumn
 written_item name at = written_items.Column (record { reference = None; name = record { text = name; at = at } })
 
+-- a bound condition
+abbrev pub BoundCond : Type 0
+BoundCond = Cond (GeometryArgument Geometry)
+
+-- a bound query
+abbrev pub BoundQuery : Type 0
+BoundQuery = Bound (GeometryArgument Geometry) ColumnPlace
+
 -- SELECT id, name FROM t with this WHERE, bound to the table
-abbrev pub bound_names : WrittenCond NoGeometry → Checked (Bound NoGeometry NoGeometry)
-bound_names condition = binding no_geometry towns (record {
+abbrev pub bound_names : WrittenCond WrittenGeometry → Checked BoundQuery
+bound_names condition = binding geometry_binding towns (record {
   explain = explains.No;
   selection = selections.Items (written_item (codes "id") 7 ∷ written_item (codes "name") 11 ∷ []);
   first = record { table = record { text = codes "t"; at = 21 }; alias = None };
@@ -87,7 +96,7 @@ bound_names condition = binding no_geometry towns (record {
 })
 
 -- pop > 5 AND NOT name = 'b'
-abbrev pub many_but_b : WrittenCond NoGeometry
+abbrev pub many_but_b : WrittenCond WrittenGeometry
 many_but_b = written_conds.And (
     written_conds.Compare 29 signs.Greater (written_column (codes "pop") 29) (written_operands.Integer (pos 5))
     ∷ written_conds.Not (written_conds.Compare 45 signs.Equal (written_column (codes "name") 45) (written_operands.Text (record { text = codes "b"; at = 52 })))
@@ -98,19 +107,19 @@ abbrev pub column_at : ℕ → ColumnPlace
 column_at column = record { reference = 0; column = column }
 
 -- a side that is a column
-abbrev pub side : ℕ → Operand NoGeometry
+abbrev pub side : ℕ → Operand (GeometryArgument Geometry)
 side column = operands.Column (column_at column)
 
 -- the condition pop > 5
-abbrev pub many : Cond NoGeometry
+abbrev pub many : BoundCond
 many = conds.Compare signs.Greater (side 1) (operands.Integer (pos 5))
 
 -- the condition that the name is this
-abbrev pub name_is : List ℕ → Cond NoGeometry
+abbrev pub name_is : List ℕ → BoundCond
 name_is name = conds.Compare signs.Equal (side 2) (operands.Text name)
 
 -- a query of these columns and conjuncts
-abbrev pub query_of_columns : List (Item NoGeometry) → List (Cond NoGeometry) → Bound NoGeometry NoGeometry
+abbrev pub query_of_columns : List (Item ColumnPlace) → List BoundCond → BoundQuery
 query_of_columns columns conjuncts = record {
   explain = explains.No;
   references = record { table = 0; name = codes "t" } ∷ [];
@@ -121,30 +130,21 @@ query_of_columns columns conjuncts = record {
 }
 
 -- SELECT id, name FROM t WHERE pop > 5 AND NOT name = 'b'
-abbrev pub first_query : Bound NoGeometry NoGeometry
+abbrev pub first_query : BoundQuery
 first_query = query_of_columns (items.Column (column_at 0) ∷ items.Column (column_at 2) ∷ []) (many ∷ conds.Not (name_is (codes "b")) ∷ [])
 
 -- SELECT id FROM t WHERE pop > 5 OR name = 'c'
-abbrev pub second_query : Bound NoGeometry NoGeometry
+abbrev pub second_query : BoundQuery
 second_query = query_of_columns (items.Column (column_at 0) ∷ []) (conds.Or (many ∷ name_is (codes "c") ∷ []) ∷ [])
 
 -- SELECT id FROM t WHERE NOT pop > 7
-abbrev pub third_query : Bound NoGeometry NoGeometry
+abbrev pub third_query : BoundQuery
 third_query = query_of_columns (items.Column (column_at 0) ∷ []) (conds.Not (conds.Compare signs.Greater (side 1) (operands.Integer (pos 7))) ∷ [])
 
 -- what a query means over the table
-abbrev pub meant : Bound NoGeometry NoGeometry → List (List (Row NoGeometry))
-meant query = passing_rows (truth labelled_matrix no_argument) (town_rows ∷ []) query
-
--- where no geometry is served, none is written
-abbrev pub plain_writing : Writing NoGeometry NoGeometry
-plain_writing = record {
-  place = λ c. column_at 0;
-  text = λ g. [];
-  dimension = λ g. pos 0;
-  is_empty = λ g. true;
-}
+abbrev pub meant : BoundQuery → List (List (Row Geometry))
+meant query = passing_rows (truth labelled_matrix denoted) (town_rows ∷ []) query
 
 -- the records of its answer
-abbrev pub answered : Bound NoGeometry NoGeometry → List Record
-answered query = answer_records plain_writing towns query (meant query)
+abbrev pub answered : BoundQuery → List Record
+answered query = answer_records geometry_writing towns query (meant query)

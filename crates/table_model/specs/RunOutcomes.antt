@@ -1,6 +1,6 @@
 -- The outcome of a query over tables: the bytes of its answer, or why it has none. It is generic in how geometries are served,
 -- and in the text of a record.
-use Rattle.std.specs.Prelude.{ℕ, ◌-◌, ◌^◌, min, List, [], map, Option, Result, Ok, Err}
+use Rattle.std.specs.Prelude.{ℕ, ◌-◌, ◌^◌, min, List, [], map, Result, Ok, Err}
 use Rattle.std.specs.List.{concat}
 use Rattle.std.specs.Option.{option_map_or}
 use Rattle.geometry_model.specs.Dimensions.{Matrix}

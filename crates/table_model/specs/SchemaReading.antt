@@ -191,7 +191,3 @@ schema geometry = do
 -- The schema that a text is, or its fault: its length first, then its grammar
 unfoldable pub schema_of : {T : Type 0} → (List ℕ → Option T) → List ℕ → Result (List (TableDef T)) SchemaFault
 schema_of geometry text = if nat_lt most_bytes (length text) then Err fault.TooLong else value_of (schema geometry (tokens false text))
-
--- what names a type of geometry where none is served: nothing does
-abbrev pub no_geometry_type : {T : Type 0} → List ℕ → Option T
-no_geometry_type word = None

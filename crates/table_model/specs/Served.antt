@@ -7,7 +7,6 @@ use Rattle.table_model.specs.declared.queries.WrittenCond.{WrittenCond}
 use Rattle.table_model.specs.declared.queries.WrittenGeometry.{WrittenGeometry}
 use Rattle.table_model.specs.declared.queries.WrittenItem.{WrittenItem}
 use Rattle.table_model.specs.declared.queries.WrittenOperand.{WrittenOperand}
-use Rattle.table_model.specs.declared.values.NoGeometry.{NoGeometry}
 
 -- functions, a second table reference, EXPLAIN, ANALYZE after it, LIMIT and COUNT(*), each served or not
 pub record Served : Type 0 where
@@ -29,12 +28,12 @@ nothing_served = record { functions = false; second_reference = false; explain =
 -- a geometry argument in the tree of a condition; there is none where functions aren't served
 abbrev pub Argument : Bool → Type 0
 Argument true = WrittenGeometry
-Argument false = NoGeometry
+Argument false = ⊥
 
 -- an argument in the tree of the select list; there is none where functions aren't served
 abbrev pub ItemArgument : Bool → Type 0
 ItemArgument true = WrittenColumn
-ItemArgument false = NoGeometry
+ItemArgument false = ⊥
 
 -- an operand, with functions or without
 abbrev pub ServedOperand : Bool → Type 0

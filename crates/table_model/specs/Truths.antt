@@ -12,7 +12,6 @@ use Rattle.geometry_model.specs.declared.shapes.Kind.TheVariants as kinds
 use Rattle.geometry_model.specs.declared.relations.Predicate.{Predicate}
 use Rattle.table_model.specs.declared.values.Truth.{Truth}
 use Rattle.table_model.specs.declared.values.Truth.TheVariants.{True, False, Unknown}
-use Rattle.table_model.specs.declared.values.NoGeometry.{NoGeometry}
 use Rattle.table_model.specs.declared.values.Value.{Value}
 use Rattle.table_model.specs.declared.values.Value.TheVariants as values
 use Rattle.table_model.specs.declared.conditions.Comparison.{Comparison}
@@ -142,7 +141,3 @@ truth_by_parts matrix denotes rows (Cond-F.Relates predicate a b) = related matr
 -- the truth of a condition at rows (06-104r4's conditions in SQL's three-valued logic)
 abbrev pub truth : {A G : Type 0} → (Geometry → Geometry → Matrix) → (Rows G → A → Option Geometry) → Rows G → Cond A → Truth
 truth {A = A} matrix denotes rows = fold-Cond A Truth (truth_by_parts matrix denotes rows)
-
--- what a geometry argument denotes where none is served: there is none
-abbrev pub no_argument : {G : Type 0} → Rows G → NoGeometry → Option Geometry
-no_argument rows a = None

@@ -9,7 +9,6 @@ ghost use Rattle.table_model.specs.FirstRunExamples.{
   second_town,
   third_town,
   fourth_town,
-  plain_reader,
   bound_names,
   many_but_b,
   first_query,
@@ -19,11 +18,12 @@ ghost use Rattle.table_model.specs.FirstRunExamples.{
   answered,
 };
 ghost use Rattle.table_model.specs.BindingExamples.{town_table};
+ghost use Rattle.table_model.specs.GeometryColumns.{read_geometry};
 ghost use Rattle.table_model.specs.Loading.{load};
 
 /// The records give the rows.
 pub fn rows_of_the_first_run()
-    ensures { load plain_reader town_table town_records ≡ Ok town_rows }
+    ensures { load read_geometry town_table town_records ≡ Ok town_rows }
 {}
 
 /// The condition of the first query is two conjuncts.

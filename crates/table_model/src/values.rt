@@ -22,8 +22,3 @@ pub enum Truth {
     False,
     Unknown,
 }
-
-/// Stands in the place of a geometry, or of what speaks of one, where none is served: it has no value. It derives no
-/// method beside its drop, since none could be called.
-#[derive(Drop)]
-pub enum NoGeometry {}

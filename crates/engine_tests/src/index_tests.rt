@@ -1,0 +1,83 @@
+//! Runs over an index that never has the memory for a search: only a probe meets it.
+
+use engine::{Fault, run};
+use rtree::{Envelope, EnvelopeIndex, ListIndex};
+use schema_reader::read_schema;
+use std::alloc::{AllocError, Global};
+use std::test::Fail;
+use wkt::MemorySink;
+
+const SCHEMA: &[u8] = b"CREATE TABLE big (id INTEGER PRIMARY KEY, geom POINT);";
+
+const POINTS: &str = "id,geom
+1,POINT(1 1)
+2,POINT(2 1)
+3,POINT(3 1)
+4,POINT(4 1)
+5,POINT(5 1)
+6,POINT(6 1)
+7,POINT(7 1)
+";
+
+/// An index whose searches all lack memory.
+#[derive(Drop)]
+struct Starved {
+    list: ListIndex,
+}
+
+impl EnvelopeIndex for Starved {
+    ghost use Rattle.rtree.specs.ListIndexes.{listed};
+
+    ghost indexed = { λ index. listed index.list };
+
+    fn build(alloc: Global, envelopes: &[Option<Envelope>]) -> Result<Starved, AllocError> {
+        Ok(Starved {
+            list: ListIndex::build(alloc, envelopes)?,
+        })
+    }
+
+    fn search(&self, _asked: Option<Envelope>, found: &mut Vec<usize>) -> Result<(), AllocError> {
+        found.clear();
+        Err(AllocError)
+    }
+}
+
+// Runs a query over the points; what it puts is left in the sink.
+fn run_starved(
+    alloc: Global,
+    query: &str,
+    sink: &mut MemorySink,
+) -> Result<Result<u64, Fault>, Fail> {
+    let schema = read_schema(alloc, SCHEMA)?;
+    if schema.tables().len() != 1 {
+        return Err(Fail::from("not one table"));
+    }
+    let mut readers = Vec::new(alloc);
+    readers.push(POINTS.as_bytes())?;
+    match run::<Starved, &[u8], MemorySink>(alloc, &schema, readers, query, sink) {
+        Ok(work) => Ok(Ok(work.count())),
+        Err(fault) => Ok(Err(fault)),
+    }
+}
+
+/// A probe is refused with its search, and nothing is put.
+#[test]
+fn probes_search_their_index(rt: HostRuntime) -> Result<(), Fail> {
+    let query =
+        "SELECT id FROM big WHERE ST_Intersects(geom, ST_GeomFromText('POLYGON((0 0,4 0,4 4,0 4,0 0))'))";
+    let mut sink = MemorySink::new(rt.alloc());
+    let answer = run_starved(rt.alloc(), query, &mut sink)?;
+    assert!(rt; answer == Err(Fault::Memory) && sink.bytes().is_empty());
+    Ok(())
+}
+
+/// A scan asks no index; the work answered is the number of matrices.
+#[test]
+fn scans_ask_no_index(rt: HostRuntime) -> Result<(), Fail> {
+    let query =
+        "SELECT id FROM big WHERE id > 6 OR ST_Intersects(geom, ST_GeomFromText('POLYGON((0 0,4 0,4 4,0 4,0 0))'))";
+    let mut sink = MemorySink::new(rt.alloc());
+    let answer = run_starved(rt.alloc(), query, &mut sink)?;
+    assert!(rt; answer == Ok(7) && sink.bytes() == b"id\n1\n2\n3\n4\n7\n".as_slice());
+    Ok(())
+}
