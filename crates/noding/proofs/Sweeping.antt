@@ -70,7 +70,7 @@ overlap_from a b c d n w hw e f = go (reached a b n w e) (reached c d n w f)
         (in_time (lesser a b) r.low s.high (greater c d) n w hw r.low_within r.from_low s.to_high s.high_within)
         (in_time (lesser c d) s.low r.high (greater a b) n w hw s.low_within s.from_low r.to_high r.high_within)
 
-false_from : (b : Bool) → (b ≡ true → ⊥) → b ≡ false
+pub false_from : (b : Bool) → (b ≡ true → ⊥) → b ≡ false
 false_from true h = absurd (h refl)
 false_from false h = refl
 

@@ -10,6 +10,7 @@ ghost use Rattle.noding.specs.Ranges.{overlapping_pairs};
 use crate::break_points::Break;
 use crate::noded::Noded;
 use crate::orders::{points_in_order, stretches_in_order};
+use crate::positions::listed_order;
 use crate::sweeps::{sweep_order, swept_breaks};
 use fraction::{GridPoint, RatPoint};
 use orient::Segment;
@@ -71,8 +72,9 @@ pub fn node(alloc: Global, segments: &[Segment], listed: &[GridPoint]) -> Result
     ensures end_triples { IfOk result (λ noded. All HasNodeTriples noded.pieces) }
 {
     let order = sweep_order(alloc, segments)?;
-    let swept = swept_breaks(alloc, order.as_slice(), listed)?;
-    let mut nodes = points_at(alloc, listed)?;
+    let positions = listed_order(alloc, listed)?;
+    let swept = swept_breaks(alloc, order.as_slice(), positions.as_slice())?;
+    let mut nodes = points_at(alloc, positions.as_slice())?;
     let mut pieces = Vec::new(alloc);
     for breaks in swept.breaks.as_slice() {
         push_points(&mut nodes, breaks.as_slice())?;
