@@ -1,19 +1,15 @@
 -- A sweep: edges in the order of their least x, each tried with those that begin before it ends.
-use Rattle.std.proofs.Common.{◌≡◌, ◌≢◌, ◌⊎◌, inl, inr, ℕ, ◌+◌, ◌<◌, ◌≤◌, Bool, true, false, not, ◌&&◌, ◌||◌, refl, sym, ap, subst, ◌∙◌, List, [], ◌∷◌, ◌++◌, length, get_or, map, filter, All, Any, Contains, ℤ, pos, ◌≤ℤ◌, ◌<ℤ◌, ◌*ℤ◌, ◌-ℤ◌, int_le, arith}
+use Rattle.std.proofs.Common.{◌≡◌, ◌⊎◌, inl, inr, ℕ, ◌<◌, ◌≤◌, Bool, true, false, not, ◌&&◌, ◌||◌, refl, sym, subst, ◌∙◌, List, length, get_or, ℤ, pos, ◌≤ℤ◌, ◌<ℤ◌, ◌*ℤ◌, ◌-ℤ◌, int_le, arith}
 use Rattle.std.proofs.lemmas.Int.{ints}
-use Rattle.std.proofs.lemmas.List.{get_or_default, get_or-map, length-map}
-use Rattle.std.proofs.lemmas.List.Elements.{All-contains, Contains-append_left, Contains-append_cases}
+use Rattle.std.proofs.lemmas.List.{get_or_default}
 use Rattle.integers.proofs.Signs.{at_most_yes, at_most_no}
-use Rattle.geometry_model.specs.Points.{Position, Point, IsPoint, IsLeast, point_at, same_point}
+use Rattle.geometry_model.specs.Points.{Point, IsPoint}
 use Rattle.geometry_model.specs.Geometries.{Edge}
 use Rattle.geometry_model.specs.Sides.{on, between, on_one_line}
-use Rattle.geometry_model.specs.CutPoints.{IsCut, is_end}
-use Rattle.geometry_model.specs.CutPoints.IsCut.{AtEnd, Listed, AtCrossing}
-use Rattle.fraction.specs.Ranges.{meeting_limit}
+use Rattle.geometry_model.specs.CutPoints.{is_end}
 use Rattle.geometry_laws.proofs.Scaling.{and_parts, and_from}
-use Rattle.geometry_laws.proofs.Hulls.{OnParts, on_parts, ordered}
-use Rattle.noding.specs.Meetings.{on_both, IsMeeting, named, is_common_cut, NamesCommonCuts}
-use Rattle.noding.specs.declared.answers.Meet.{Meet}
+use Rattle.geometry_laws.proofs.Hulls.{on_parts, ordered}
+use Rattle.noding.specs.Meetings.{on_both, is_common_cut}
 use Rattle.noding.specs.Sweeps.{Ascends}
 use Rattle.noding.specs.Ranges.{lesser, greater, least_x, greatest_x, overlap, x_ranges_overlap, y_ranges_overlap}
 

@@ -15,11 +15,7 @@ use orient::{Segment, on};
 use std::alloc::{AllocError, Global};
 
 /// Appends a listed position if it is on a segment.
-fn push_if_on(
-    breaks: &mut Breaks,
-    segment: &Segment,
-    position: GridPoint,
-) -> Result<(), AllocError>
+fn push_if_on(breaks: &mut Breaks, segment: &Segment, position: GridPoint) -> Result<(), AllocError>
     ensures { OnOk result
         (breaks.new ≡ breaks.old ++ filter (spec.on segment.now) (point_at position ∷ [])) }
 {

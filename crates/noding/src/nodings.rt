@@ -56,7 +56,8 @@ fn push_stretches(
 /// are the stretches of segments between neighbouring nodes on them (OGC 06-103r4, 6.1.15.2: intersection; nodes, pieces
 /// and their order: this project's choice). Both are exact and ascend, each once, and the denominators are at most 8 L L, L being the
 /// limit of coordinates. The segments are swept from left
-/// to right, and only those pairs are tried whose ranges of x overlap. It fails only for want of memory.
+/// to right, and only those pairs are tried whose ranges of x overlap; a segment asks the listed positions by x, those in its
+/// range alone. It fails only for want of memory.
 pub fn node(alloc: Global, segments: &[Segment], listed: &[GridPoint]) -> Result<Noded, AllocError>
     ensures tests { IfOk result (λ noded. noded.tests ≡ min (overlapping_pairs segments.now) (2 ^ 64 - 1)) }
     ensures exact_nodes { IfOk result (λ noded. noded.nodes ≡ cut_points segments.now listed.now) }
