@@ -1,15 +1,14 @@
 -- How many pairs of edges have overlapping ranges of x: counted edge by edge, and in another order.
-use Rattle.std.proofs.Common.{◌≡◌, ℕ, zero, suc, ◌+◌, ◌-◌, ◌^◌, ◌<◌, ◌≤◌, min, Bool, true, false, cond, ◌&&◌, refl, sym, ap, ap₂, ◌∙◌, List, [], ◌∷◌, length, get_or, drop, count_by, length-drop, ℤ, ◌≤ℤ◌, int_le, arith, IsPermutation}
+use Rattle.std.proofs.Common.{◌≡◌, ℕ, zero, suc, ◌+◌, ◌<◌, ◌≤◌, min, Bool, true, false, cond, ◌&&◌, refl, sym, ap, ap₂, ◌∙◌, List, [], ◌∷◌, length, get_or, drop, count_by, length-drop, ℤ, ◌≤ℤ◌, int_le, arith, IsPermutation}
 use Rattle.std.specs.List.{sum_by}
 use Rattle.std.proofs.lemmas.Int.{ints}
 use Rattle.std.proofs.Math.Seq.{drop-cons}
 use Rattle.std.proofs.lemmas.List.{get_or-drop}
-use Rattle.std.proofs.lemmas.List.Sums.{sum_by-cons, sum_by-drop_more}
+use Rattle.std.proofs.lemmas.List.Sums.{sum_by-cons}
 use Rattle.std.proofs.lemmas.List.Sorted.{sum_by-IsPermutation, length_permutation}
 use Rattle.integers.proofs.Signs.{at_most_yes}
 use Rattle.geometry_model.specs.Geometries.{Edge}
-use Rattle.geometry_laws.proofs.Each.{Each, Among, each_of}
-use Rattle.noding.specs.Ranges.{lesser, greater, overlap, x_ranges_overlap, overlaps_with_first, overlaps_of_first, overlapping_pairs}
+use Rattle.noding.specs.Ranges.{lesser, greater, x_ranges_overlap, overlaps_with_first, overlaps_of_first, overlapping_pairs}
 use Rattle.noding.proofs.Sweeping.{lesser_first, greater_first}
 
 -- ---- sums

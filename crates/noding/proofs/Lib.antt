@@ -11,6 +11,7 @@ pub mod NodeCuts
 pub mod Ordered
 pub mod BreakPoints
 pub mod Sweeping
+pub mod InRange
 pub mod Counting
 pub mod Neighbours
 pub mod NodeSteps

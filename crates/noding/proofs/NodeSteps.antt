@@ -226,46 +226,53 @@ has_pieces es ps n cs ds all h o = λ c i. first c (some_from_any (λ d. same_pi
     first c s = let k : Contains cs s.found = contains_from_among cs s.found s.among in
         second c s.found (All-contains HasPointEnds cs s.found (pieces_have_points es ps n cs h) k) s.has (some_from_any (λ e. same_piece e s.found ≡ true) ds (o.kept s.found k))
 
--- ---- the same edges in another order
-pub record SameEdges (es fs : List Edge) : Type 0 where
-  pub there : (e : Edge) → Contains es e → Contains fs e
-  pub back : (e : Edge) → Contains fs e → Contains es e
+-- ---- the same edges and positions in other orders
+pub record SameGiven (es fs : List Edge) (ps qs : List Position) : Type 0 where
+  pub edge_there : (e : Edge) → Contains es e → Contains fs e
+  pub edge_back : (e : Edge) → Contains fs e → Contains es e
+  pub position_there : (a : Position) → Contains ps a → Contains qs a
+  pub position_back : (a : Position) → Contains qs a → Contains ps a
 
-pub same_edges : (es fs : List Edge) → IsPermutation es fs → SameEdges es fs
-same_edges es fs h = record { there = λ e. Contains-permutation es fs e h; back = λ e. Contains-permutation fs es e (IsPermutation-sym es fs h) }
-
-same_cut : (es fs : List Edge) (ps : List Position) → SameEdges es fs → (p : Point) → IsCut fs ps p → IsCut es ps p
-same_cut es fs ps s p = cut_moved fs es ps ps p s.back (λ a c. c)
-
-cut_there : (es fs : List Edge) (ps : List Position) → SameEdges es fs → (p : Point) → IsCut es ps p → IsCut fs ps p
-cut_there es fs ps s p = cut_moved es fs ps ps p s.there (λ a c. c)
-
-moved_piece : (es fs : List Edge) (ps : List Position) → SameEdges es fs → (c : Piece) → IsPiece es ps c → IsPiece fs ps c
-moved_piece es fs ps s c h = record {
-  edge = h.edge;
-  among = s.there h.edge h.among;
-  lesser_on = h.lesser_on;
-  greater_on = h.greater_on;
-  lesser_is_cut = cut_there es fs ps s c.lesser h.lesser_is_cut;
-  greater_is_cut = cut_there es fs ps s c.greater h.greater_is_cut;
-  in_order = h.in_order;
-  neighbours = λ p hp k cut x y. h.neighbours p hp k (same_cut es fs ps s p cut) x y;
+pub same_given : (es fs : List Edge) (ps qs : List Position) → IsPermutation es fs → IsPermutation ps qs → SameGiven es fs ps qs
+same_given es fs ps qs h k = record {
+  edge_there = λ e. Contains-permutation es fs e h;
+  edge_back = λ e. Contains-permutation fs es e (IsPermutation-sym es fs h);
+  position_there = λ a. Contains-permutation ps qs a k;
+  position_back = λ a. Contains-permutation qs ps a (IsPermutation-sym ps qs k);
 }
 
-turned : (es fs : List Edge) → SameEdges es fs → SameEdges fs es
-turned es fs s = record { there = s.back; back = s.there }
+turned : (es fs : List Edge) (ps qs : List Position) → SameGiven es fs ps qs → SameGiven fs es qs ps
+turned es fs ps qs s = record { edge_there = s.edge_back; edge_back = s.edge_there; position_there = s.position_back; position_back = s.position_there }
 
-pub cuts_of_same : (es fs : List Edge) (ps : List Position) (nodes : List Point) → SameEdges es fs → All (IsCut fs ps) nodes → All (IsCut es ps) nodes
-cuts_of_same es fs ps nodes s h = λ k d l. same_cut es fs ps s (get_or nodes k d) (h k d l)
+cut_there : (es fs : List Edge) (ps qs : List Position) → SameGiven es fs ps qs → (p : Point) → IsCut es ps p → IsCut fs qs p
+cut_there es fs ps qs s p = cut_moved es fs ps qs p s.edge_there s.position_there
 
-pub lists_cuts_of_same : (es fs : List Edge) (ps : List Position) (nodes : List Point) → SameEdges es fs → ListsCuts fs ps nodes → ListsCuts es ps nodes
-lists_cuts_of_same es fs ps nodes s h = λ p c. h p (cut_there es fs ps s p c)
+cut_back : (es fs : List Edge) (ps qs : List Position) → SameGiven es fs ps qs → (p : Point) → IsCut fs qs p → IsCut es ps p
+cut_back es fs ps qs s p = cut_moved fs es qs ps p s.edge_back s.position_back
 
-pub pieces_of_same : (es fs : List Edge) (ps : List Position) (cs : List Piece) → SameEdges es fs → All (IsPiece fs ps) cs → All (IsPiece es ps) cs
-pieces_of_same es fs ps cs s h = λ k d l. moved_piece fs es ps (turned es fs s) (get_or cs k d) (h k d l)
+moved_piece : (es fs : List Edge) (ps qs : List Position) → SameGiven es fs ps qs → (c : Piece) → IsPiece es ps c → IsPiece fs qs c
+moved_piece es fs ps qs s c h = record {
+  edge = h.edge;
+  among = s.edge_there h.edge h.among;
+  lesser_on = h.lesser_on;
+  greater_on = h.greater_on;
+  lesser_is_cut = cut_there es fs ps qs s c.lesser h.lesser_is_cut;
+  greater_is_cut = cut_there es fs ps qs s c.greater h.greater_is_cut;
+  in_order = h.in_order;
+  neighbours = λ p hp k cut x y. h.neighbours p hp k (cut_back es fs ps qs s p cut) x y;
+}
 
-pub lists_pieces_of_same : (es fs : List Edge) (ps : List Position) (cs : List Piece) → SameEdges es fs → ListsPieces fs ps cs → ListsPieces es ps cs
-lists_pieces_of_same es fs ps cs s h = λ c i. h c (moved_piece es fs ps s c i)
+pub cuts_of_same : (es fs : List Edge) (ps qs : List Position) (nodes : List Point) → SameGiven es fs ps qs → All (IsCut fs qs) nodes → All (IsCut es ps) nodes
+cuts_of_same es fs ps qs nodes s h = λ k d l. cut_back es fs ps qs s (get_or nodes k d) (h k d l)
+
+pub lists_cuts_of_same : (es fs : List Edge) (ps qs : List Position) (nodes : List Point) → SameGiven es fs ps qs → ListsCuts fs qs nodes → ListsCuts es ps nodes
+lists_cuts_of_same es fs ps qs nodes s h = λ p c. h p (cut_there es fs ps qs s p c)
+
+pub pieces_of_same : (es fs : List Edge) (ps qs : List Position) (cs : List Piece) → SameGiven es fs ps qs → All (IsPiece fs qs) cs → All (IsPiece es ps) cs
+pieces_of_same es fs ps qs cs s h = λ k d l. moved_piece fs es qs ps (turned es fs ps qs s) (get_or cs k d) (h k d l)
+
+pub lists_pieces_of_same : (es fs : List Edge) (ps qs : List Position) (cs : List Piece) → SameGiven es fs ps qs → ListsPieces fs qs cs → ListsPieces es ps cs
+lists_pieces_of_same es fs ps qs cs s h = λ c i. h c (moved_piece es fs ps qs s c i)
 
 -- ---- the break points of one of the edges, from a list that is lent
 pub record Row (es : List Edge) (ps : List Position) (n : ℕ) (points : List Point) : Type 0 where
@@ -274,8 +281,8 @@ pub record Row (es : List Edge) (ps : List Position) (n : ℕ) (points : List Po
   pub is : edge ≡ get_or es n edge
   pub breaks : AreBreaks es ps edge points
 
-pub row : (es fs : List Edge) (ps : List Position) (breaks slice : List (List Point)) (item : List Point) (n : ℕ) → fs ≡ es → slice ≡ breaks → AllCut fs ps breaks → n < length slice → item ≡ get_or slice n item → Row es ps n item
-row es fs ps breaks slice item n he hs cut l is = record {
+pub row : (es fs : List Edge) (ps qs : List Position) (breaks slice : List (List Point)) (item : List Point) (n : ℕ) → fs ≡ es → qs ≡ ps → slice ≡ breaks → AllCut fs qs breaks → n < length slice → item ≡ get_or slice n item → Row es ps n item
+row es fs ps qs breaks slice item n he hp hs cut l is = record {
   edge = get_or es n some_edge;
   within = within;
   is = get_or_default es n some_edge (get_or es n some_edge) within;
@@ -283,10 +290,10 @@ row es fs ps breaks slice item n he hs cut l is = record {
 }
   where
     here : AllCut es ps breaks
-    here = subst (λ (gs : List Edge). AllCut gs ps breaks) he cut
+    here = subst (λ (gs : List Edge). AllCut gs ps breaks) he (subst (λ (rs : List Position). AllCut fs rs breaks) hp cut)
 
     within : n < length es
     within = omega (arith, l, ap length hs, here.same_length)
 
-pub all_gone : (es fs : List Edge) (ps : List Position) (breaks slice : List (List Point)) (n : ℕ) → fs ≡ es → slice ≡ breaks → AllCut fs ps breaks → length slice ≤ n → length es ≤ n
-all_gone es fs ps breaks slice n he hs cut l = omega (arith, l, ap length hs, ap length he, cut.same_length)
+pub all_gone : (es fs : List Edge) (qs : List Position) (breaks slice : List (List Point)) (n : ℕ) → fs ≡ es → slice ≡ breaks → AllCut fs qs breaks → length slice ≤ n → length es ≤ n
+all_gone es fs qs breaks slice n he hs cut l = omega (arith, l, ap length hs, ap length he, cut.same_length)

@@ -1,19 +1,15 @@
 -- A sweep: edges in the order of their least x, each tried with those that begin before it ends.
-use Rattle.std.proofs.Common.{◌≡◌, ◌≢◌, ◌⊎◌, inl, inr, ℕ, ◌+◌, ◌<◌, ◌≤◌, Bool, true, false, not, ◌&&◌, ◌||◌, refl, sym, ap, subst, ◌∙◌, List, [], ◌∷◌, ◌++◌, length, get_or, map, filter, All, Any, Contains, ℤ, pos, ◌≤ℤ◌, ◌<ℤ◌, ◌*ℤ◌, ◌-ℤ◌, int_le, arith}
+use Rattle.std.proofs.Common.{◌≡◌, ◌⊎◌, inl, inr, ℕ, ◌<◌, ◌≤◌, Bool, true, false, not, ◌&&◌, ◌||◌, refl, sym, subst, ◌∙◌, List, length, get_or, ℤ, pos, ◌≤ℤ◌, ◌<ℤ◌, ◌*ℤ◌, ◌-ℤ◌, int_le, arith}
 use Rattle.std.proofs.lemmas.Int.{ints}
-use Rattle.std.proofs.lemmas.List.{get_or_default, get_or-map, length-map}
-use Rattle.std.proofs.lemmas.List.Elements.{All-contains, Contains-append_left, Contains-append_cases}
+use Rattle.std.proofs.lemmas.List.{get_or_default}
 use Rattle.integers.proofs.Signs.{at_most_yes, at_most_no}
-use Rattle.geometry_model.specs.Points.{Position, Point, IsPoint, IsLeast, point_at, same_point}
+use Rattle.geometry_model.specs.Points.{Point, IsPoint}
 use Rattle.geometry_model.specs.Geometries.{Edge}
 use Rattle.geometry_model.specs.Sides.{on, between, on_one_line}
-use Rattle.geometry_model.specs.CutPoints.{IsCut, is_end}
-use Rattle.geometry_model.specs.CutPoints.IsCut.{AtEnd, Listed, AtCrossing}
-use Rattle.fraction.specs.Ranges.{meeting_limit}
+use Rattle.geometry_model.specs.CutPoints.{is_end}
 use Rattle.geometry_laws.proofs.Scaling.{and_parts, and_from}
-use Rattle.geometry_laws.proofs.Hulls.{OnParts, on_parts, ordered}
-use Rattle.noding.specs.Meetings.{on_both, IsMeeting, named, is_common_cut, NamesCommonCuts}
-use Rattle.noding.specs.declared.answers.Meet.{Meet}
+use Rattle.geometry_laws.proofs.Hulls.{on_parts, ordered}
+use Rattle.noding.specs.Meetings.{on_both, is_common_cut}
 use Rattle.noding.specs.Sweeps.{Ascends}
 use Rattle.noding.specs.Ranges.{lesser, greater, least_x, greatest_x, overlap, x_ranges_overlap, y_ranges_overlap}
 
@@ -70,7 +66,7 @@ overlap_from a b c d n w hw e f = go (reached a b n w e) (reached c d n w f)
         (in_time (lesser a b) r.low s.high (greater c d) n w hw r.low_within r.from_low s.to_high s.high_within)
         (in_time (lesser c d) s.low r.high (greater a b) n w hw s.low_within s.from_low r.to_high r.high_within)
 
-false_from : (b : Bool) → (b ≡ true → ⊥) → b ≡ false
+pub false_from : (b : Bool) → (b ≡ true → ⊥) → b ≡ false
 false_from true h = absurd (h refl)
 false_from false h = refl
 

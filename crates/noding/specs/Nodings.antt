@@ -1,5 +1,5 @@
 -- The nodes and pieces of edges and listed positions.
-use Rattle.std.specs.Prelude.{◌≡◌, ℕ, ◌<◌, Bool, true, ◌&&◌, List, [], get_or, Contains, Any, All, AllPairs, pos, ◌≤ℤ◌}
+use Rattle.std.specs.Prelude.{◌≡◌, ℕ, ◌<◌, Bool, true, ◌&&◌, List, get_or, Contains, Any, All, AllPairs, pos, ◌≤ℤ◌}
 use Rattle.std.specs.declared.cmp.Ordering.TheVariants.{Less}
 use Rattle.geometry_model.specs.Points.{Position, Point, IsPoint, IsLeast, point_at, same_point, compare}
 use Rattle.geometry_model.specs.Geometries.{Edge}

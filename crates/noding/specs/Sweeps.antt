@@ -17,6 +17,15 @@ pub record IsSweepOrder (given ordered : List Edge) : Type 0 where
   pub permutation : IsPermutation given ordered
   pub ascend : Ascends ordered
 
+-- no position is to the left of one before it
+abbrev pub AscendPositions : List Position → Type 0
+AscendPositions ps = (i j : ℕ) (d : Position) → i ≤ j → j < length ps → (get_or ps i d).x ≤ℤ (get_or ps j d).x
+
+-- the positions of the first list by x
+pub record IsListedOrder (given ordered : List Position) : Type 0 where
+  pub permutation : IsPermutation given ordered
+  pub ascend : AscendPositions ordered
+
 -- the ends of an edge and the listed positions on it
 abbrev pub own_breaks : List Position → Edge → List Point
 own_breaks ps e = point_at e.start ∷ point_at e.end ∷ filter (on e) (map point_at ps)

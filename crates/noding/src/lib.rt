@@ -10,6 +10,7 @@ pub mod meetings;
 pub mod noded;
 pub mod nodings;
 mod orders;
+mod positions;
 mod products;
 mod ranges;
 mod stretches;

@@ -10,6 +10,7 @@ ghost use Rattle.noding.specs.Ranges.{overlapping_pairs};
 use crate::break_points::Break;
 use crate::noded::Noded;
 use crate::orders::{points_in_order, stretches_in_order};
+use crate::positions::listed_order;
 use crate::sweeps::{sweep_order, swept_breaks};
 use fraction::{GridPoint, RatPoint};
 use orient::Segment;
@@ -55,7 +56,8 @@ fn push_stretches(
 /// are the stretches of segments between neighbouring nodes on them (OGC 06-103r4, 6.1.15.2: intersection; nodes, pieces
 /// and their order: this project's choice). Both are exact and ascend, each once, and the denominators are at most 8 L L, L being the
 /// limit of coordinates. The segments are swept from left
-/// to right, and only those pairs are tried whose ranges of x overlap. It fails only for want of memory.
+/// to right, and only those pairs are tried whose ranges of x overlap; a segment asks the listed positions by x, those in its
+/// range alone. It fails only for want of memory.
 pub fn node(alloc: Global, segments: &[Segment], listed: &[GridPoint]) -> Result<Noded, AllocError>
     ensures tests { IfOk result (λ noded. noded.tests ≡ min (overlapping_pairs segments.now) (2 ^ 64 - 1)) }
     ensures exact_nodes { IfOk result (λ noded. noded.nodes ≡ cut_points segments.now listed.now) }
@@ -71,8 +73,9 @@ pub fn node(alloc: Global, segments: &[Segment], listed: &[GridPoint]) -> Result
     ensures end_triples { IfOk result (λ noded. All HasNodeTriples noded.pieces) }
 {
     let order = sweep_order(alloc, segments)?;
-    let swept = swept_breaks(alloc, order.as_slice(), listed)?;
-    let mut nodes = points_at(alloc, listed)?;
+    let positions = listed_order(alloc, listed)?;
+    let swept = swept_breaks(alloc, order.as_slice(), positions.as_slice())?;
+    let mut nodes = points_at(alloc, positions.as_slice())?;
     let mut pieces = Vec::new(alloc);
     for breaks in swept.breaks.as_slice() {
         push_points(&mut nodes, breaks.as_slice())?;

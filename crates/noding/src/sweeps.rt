@@ -5,7 +5,7 @@ ghost use Rattle.geometry_model.specs.Points.{IsPoint, IsLeast};
 ghost use Rattle.geometry_model.specs.CutPoints.{IsCut};
 ghost use Rattle.fraction.specs.Ranges.{meeting_limit};
 ghost use Rattle.noding.specs.Meetings.{IsMeeting, named, NamesCommonCuts};
-ghost use Rattle.noding.specs.Sweeps.{IsSweepOrder, Ascends, own_breaks, IsWide, GrowsAt, OrdersAt, OrdersEach, HavePoints, SweepsPair, SweepsOn, SweepsAll, AllCut};
+ghost use Rattle.noding.specs.Sweeps.{IsSweepOrder, Ascends, own_breaks, IsWide, GrowsAt, OrdersAt, OrdersEach, HavePoints, SweepsPair, SweepsOn, SweepsAll, AllCut, AscendPositions};
 ghost use Rattle.noding.specs.Ranges.{overlapping_pairs, overlaps_of_first};
 
 use crate::answers::Meet;
@@ -32,6 +32,7 @@ pub(crate) fn all_own_breaks(
     segments: &[Segment],
     listed: &[GridPoint],
 ) -> Result<Vec<Breaks>, AllocError>
+    requires { AscendPositions listed.now }
     ensures values { IfOk result (λ breaks. breaks.items ≡ map (own_breaks listed.now) segments.now) }
     ensures wide { IfOk result (λ _. All IsWide segments.now) }
 {
@@ -162,7 +163,8 @@ pub(crate) fn swept_breaks(
     order: &[Segment],
     listed: &[GridPoint],
 ) -> Result<Swept, AllocError>
-    requires { Ascends order.now }
+    requires edges { Ascends order.now }
+    requires listed { AscendPositions listed.now }
     ensures breaks { IfOk result (λ swept. AllCut order.now listed.now swept.breaks.items) }
     ensures counted { IfOk result (λ swept. swept.tests ≡ min (overlapping_pairs order.now) (2 ^ 64 - 1)) }
 {

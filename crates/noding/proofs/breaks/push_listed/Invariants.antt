@@ -4,5 +4,5 @@ use Rattle.geometry_model.specs.Sides.{on}
 use Rattle.noding.proofs.breaks.push_listed.Given as goal
 
 -- the positions before this one that are on the segment
-abbrev pub invariant-loop-position : goal.invariant-loop-position
-invariant-loop-position l = l.breaks ≡ l.initial.breaks ++ filter (on l.segment) (map point_at (take l.position-index l.listed))
+abbrev pub invariant-loop-place : goal.invariant-loop-place
+invariant-loop-place l = l.breaks ≡ l.initial.breaks ++ filter (on l.segment) (map point_at (take l.place l.listed))

@@ -1,4 +1,4 @@
-use Rattle.std.proofs.Common.{◌≡◌, ◌∙◌, ◌+◌, ◌-◌, ◌^◌, get_or, subst, arith, drop}
+use Rattle.std.proofs.Common.{◌∙◌, ◌+◌, ◌-◌, ◌^◌, get_or, arith, drop}
 use Rattle.std.proofs.lemmas.List.{get_or_default}
 use Rattle.noding.specs.Ranges.{overlaps_of_first, overlapping_pairs}
 use Rattle.noding.proofs.BreakPoints.{some_edge, swept_enough}

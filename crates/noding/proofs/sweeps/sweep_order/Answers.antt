@@ -1,11 +1,10 @@
-use Rattle.std.proofs.Common.{◌≡◌, ℕ, ◌≤◌, ◌<◌, List, length, get_or, subst, false, ℤ, ◌≤ℤ◌, arith, IsPermutation, rules}
+use Rattle.std.proofs.Common.{◌≡◌, List, get_or, subst, false, ℤ, ◌≤ℤ◌, arith, IsPermutation, rules}
 use Rattle.std.specs.List.Sorted.{IsSortedByKey}
 use Rattle.std.specs.Ordering.{int_cmp, is_lt}
 use Rattle.std.proofs.lemmas.Int.{ints}
 use Rattle.std.proofs.lemmas.Cmp.{int_cmp_total}
 use Rattle.std.proofs.lemmas.Fn.{always_returns_same}
 use Rattle.std.proofs.lemmas.List.Sorted.{sorted_far, ranks_by}
-use Rattle.integers.proofs.Tests.{cmp_less}
 use Rattle.geometry_model.specs.Geometries.{Edge}
 use Rattle.noding.specs.Ranges.{least_x}
 use Rattle.noding.specs.Sweeps.{Ascends}

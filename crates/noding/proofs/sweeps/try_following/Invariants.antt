@@ -1,4 +1,4 @@
-use Rattle.std.proofs.Common.{◌≡◌, ℕ, ◌≤◌, ◌+◌, ◌-◌, ◌^◌, min, length, drop, List}
+use Rattle.std.proofs.Common.{◌≡◌, ◌≤◌, ◌+◌, ◌-◌, ◌^◌, min, length, drop, List}
 use Rattle.geometry_model.specs.Points.{Position}
 use Rattle.noding.specs.Ranges.{overlaps_with_first, overlaps_of_first}
 use Rattle.noding.specs.Sweeps.{SweptTo}
