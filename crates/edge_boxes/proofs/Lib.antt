@@ -1,4 +1,5 @@
 pub mod EdgeSides
+pub mod StripSums
 pub mod RunSums
 pub mod Telling
 pub mod Floors

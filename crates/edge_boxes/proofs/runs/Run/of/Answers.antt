@@ -6,4 +6,5 @@ pub returns : goal.returns
 returns c = record {
   lies = rw c.of.ensures (own_bounds c.args.edge.now, tt);
   ends = c.ends_of.ensures;
+  strip = tt;
 }
