@@ -2,6 +2,7 @@ pub mod EdgeSides
 pub mod StripSums
 pub mod RunSums
 pub mod Telling
+pub mod StripSides
 pub mod Floors
 pub mod BoxFacts
 pub mod Steps

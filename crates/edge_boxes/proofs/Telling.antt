@@ -20,7 +20,7 @@ use Rattle.edge_boxes.specs.declared.runs.Run.{Run}
 use Rattle.edge_boxes.proofs.EdgeSides.{IsOff, IsOver, off_left, off_right, off_below, is_over}
 use Rattle.edge_boxes.proofs.RunSums.{odd_joined}
 
-each_of : (P Q : Edge → Type 0) (es : List Edge) → ((e : Edge) → P e → Q e) → AllByRecursion P es → Each Q es
+pub each_of : (P Q : Edge → Type 0) (es : List Edge) → ((e : Edge) → P e → Q e) → AllByRecursion P es → Each Q es
 each_of P Q [] f h = tt
 each_of P Q (e ∷ es) f h = (f e h.0, each_of P Q es f h.1)
 
