@@ -7,4 +7,5 @@ pub mod Floors
 pub mod BoxFacts
 pub mod Steps
 pub mod Growing
+pub mod StripTaking
 pub mod Meeting

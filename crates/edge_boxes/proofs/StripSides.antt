@@ -1,15 +1,15 @@
 -- What a strip tells of a point in a cell.
-use Rattle.std.proofs.Common.{ℤ, pos, ◌+ℤ◌, ◌-ℤ◌, ◌*ℤ◌, ◌≤ℤ◌, ◌<ℤ◌, int_lt, int_le, ◌≡◌, ◌⊎◌, inl, inr, Bool, true, false, ◌&&◌, Option, Some, None, IfSome, sym, ap₂, ◌∙◌, subst, List, [], ◌∷◌, arith}
+use Rattle.std.proofs.Common.{ℤ, pos, ◌+ℤ◌, ◌-ℤ◌, ◌*ℤ◌, ◌≤ℤ◌, ◌<ℤ◌, int_lt, int_le, ◌≡◌, ◌⊎◌, inl, inr, Bool, true, false, Option, Some, None, IfSome, sym, ap₂, ◌∙◌, subst, List, [], ◌∷◌, arith}
 use borrow.Author.Differences.{ints}
 use Rattle.geometry_model.specs.Points.{Position, Point}
 use Rattle.geometry_model.specs.Geometries.{Edge}
 use Rattle.geometry_model.specs.Crossings.{exactly_one as xor}
 use Rattle.integers.proofs.Ring.{solve, var, lit, ◌⊕◌, ◌⊖◌, ◌⊗◌}
-use Rattle.integers.proofs.Signs.{plus_plus, strict_plus_plus, at_most_or_less, at_most_yes, at_most_from, less_from}
+use Rattle.integers.proofs.Signs.{plus_plus, strict_plus_plus, at_most_or_less, at_most_yes, at_most_from}
 use Rattle.geometry_laws.proofs.Scaling.{and_parts}
 use Rattle.edge_boxes.specs.Cells.{IsFloor, IsCeiling, IsCellOf}
 use Rattle.edge_boxes.specs.Strips.{rise, IsInStrip, LiesInStrip, IsStripOf, lies_under, lies_over}
-use Rattle.edge_boxes.specs.Runs.{SumsUp, SumsUpEnds}
+use Rattle.edge_boxes.specs.Runs.{SumsUpEnds}
 use Rattle.edge_boxes.specs.EdgeCrossings.{AreCrossings, IsTold, IsToldByStrip}
 use Rattle.edge_boxes.specs.declared.crossings.Crossings.{Crossings}
 use Rattle.edge_boxes.specs.declared.runs.Run.{Run}

@@ -1,5 +1,5 @@
 -- Strips that are widened position by position.
-use Rattle.std.proofs.Common.{ℕ, ◌+◌, ◌*◌, ◌<◌, ◌≤◌, ℤ, pos, negsuc, ◌-ℤ◌, ◌*ℤ◌, ◌≤ℤ◌, ◌<ℤ◌, ◌≡◌, ◌⊎◌, inl, inr, sym, ap, ◌∙◌, subst, List, [], ◌∷◌, ◌++◌, length, take, get_or, arith, rules}
+use Rattle.std.proofs.Common.{ℕ, ◌+◌, ◌*◌, ◌<◌, ◌≤◌, ℤ, pos, negsuc, ◌-ℤ◌, ◌*ℤ◌, ◌≤ℤ◌, ◌<ℤ◌, ◌≡◌, ◌⊎◌, inl, inr, sym, ap, ◌∙◌, subst, List, [], ◌∷◌, ◌++◌, length, take, get_or, arith}
 use Rattle.std.proofs.Math.Nat.{mul-le-mul}
 use Rattle.std.proofs.lemmas.Int.{ints, clamps, unsigned_abs-mul}
 use Rattle.std.proofs.lemmas.List.{take_more}
@@ -11,7 +11,7 @@ use mir.Val.{SFits}
 use Rattle.geometry_model.specs.Points.{Position}
 use Rattle.geometry_model.specs.Geometries.{Edge}
 use Rattle.integers.proofs.Signs.{at_most_or_less, minus_minus}
-use Rattle.edge_boxes.specs.Strips.{rise, IsInStrip, LiesInStrip, IsStripOf, IsWider}
+use Rattle.edge_boxes.specs.Strips.{rise, IsInStrip, LiesInStrip, IsWider}
 use Rattle.edge_boxes.specs.declared.strips.Direction.{Direction}
 use Rattle.edge_boxes.specs.declared.strips.Strip.{Strip}
 

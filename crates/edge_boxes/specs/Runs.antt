@@ -1,5 +1,5 @@
 -- What is kept of a run of consecutive edges, and when it holds of them.
-use Rattle.std.specs.Prelude.{◌≡◌, Bool, true, List, ℤ, ◌*ℤ◌, ◌≤ℤ◌, int_le, count_by, IfSome}
+use Rattle.std.specs.Prelude.{◌≡◌, true, List, ℤ, ◌*ℤ◌, ◌≤ℤ◌, int_le, count_by, IfSome}
 use Rattle.std.specs.List.{AllByRecursion}
 use Rattle.geometry_model.specs.Points.{Position, Point}
 use Rattle.geometry_model.specs.Geometries.{Edge}

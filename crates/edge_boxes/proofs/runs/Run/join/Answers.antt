@@ -1,4 +1,3 @@
-use Rattle.std.proofs.Common.{◌≡◌, sym, ◌∙◌}
 use Rattle.edge_boxes.proofs.RunSums.{lie_joined}
 use Rattle.edge_boxes.proofs.runs.Run.join.Goals as goal
 

@@ -1,4 +1,3 @@
-use Rattle.std.proofs.Common.{◌≡◌, sym, ◌∙◌}
 use Rattle.edge_boxes.proofs.RunSums.{own_bounds}
 use Rattle.edge_boxes.proofs.runs.Run.of.Goals as goal
 

@@ -1,10 +1,8 @@
-use Rattle.std.proofs.Common.{◌≡◌, refl, sym, ap, ap₂, ◌∙◌, rules}
-use Rattle.std.specs.Int.{int_min, int_max}
+use Rattle.std.proofs.Common.{refl, ◌∙◌, rules}
 use Rattle.std.proofs.lemmas.Int.{to_z-of_z}
-use mir.Syntax.{w32, w64}
+use mir.Syntax.{w64}
 use mir.Val.{SFits}
-use Rattle.edge_boxes.specs.Strips.{rise}
-use Rattle.edge_boxes.proofs.StripSums.{is_wider, holds_new}
+use Rattle.edge_boxes.proofs.StripSums.{is_wider}
 use Rattle.edge_boxes.proofs.strips.Strip.widened.Goals as goal
 
 pub returns-clause-wider : goal.returns-clause-wider
