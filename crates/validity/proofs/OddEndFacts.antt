@@ -1,5 +1,5 @@
 -- The positions on which an odd number of ends stand.
-use Rattle.std.proofs.Common.{◌≡◌, ◌≢◌, ◌⊎◌, inl, inr, ℕ, zero, suc, ◌+◌, ◌-◌, ◌<◌, ◌≤◌, Bool, true, false, not, ◌&&◌, ◌||◌, refl, sym, ap, ap₂, ◌∙◌, subst, List, [], ◌∷◌, ◌++◌, length, get_or, take, drop, count_by, flat_map, cond, append_assoc, arith, IsPermutation, pos, ◌<ℤ◌}
+use Rattle.std.proofs.Common.{◌≡◌, ◌≢◌, ◌⊎◌, inl, inr, ℕ, zero, suc, ◌+◌, ◌-◌, ◌<◌, ◌≤◌, Bool, true, false, not, ◌&&◌, ◌||◌, refl, sym, ap, ap₂, ◌∙◌, subst, List, [], ◌∷◌, ◌++◌, length, get_or, take, drop, count_by, flat_map, cond, append_assoc, Result, Ok, Err, IfOk, arith, IsPermutation, pos, ◌<ℤ◌}
 use Rattle.std.specs.Prelude.{nat_lt}
 use Rattle.std.specs.List.{AllByRecursion, list_any}
 use Rattle.std.specs.List.Sorted.{IsSorted, IsStrictlySortedBy}
@@ -7,6 +7,7 @@ use Rattle.std.specs.Cmp.{IsTotalOrder}
 use Rattle.std.specs.Ordering.{is_lt, int_cmp, on, ordering_reverse}
 use Rattle.std.specs.declared.cmp.Ordering.{Ordering}
 use Rattle.std.specs.declared.cmp.Ordering.TheVariants.{Less, Equal, Greater}
+use Rattle.std.proofs.lemmas.Bool.Decides.{nat_tests}
 use Rattle.std.proofs.lemmas.Cmp.{int_cmp_total, on_total, then_total}
 use Rattle.std.proofs.Math.Seq.{take-length}
 use Rattle.std.proofs.lemmas.List.{take_more, append-nil, take_all}
@@ -84,8 +85,11 @@ less_all x (a ∷ others) s l n = all_less x a others s l (ap (λ b. same_positi
     here : get_or (a ∷ others) (length (a ∷ others) - 1) x ≡ get_or (a ∷ others) (length others) x
     here = let e : length (a ∷ others) - 1 ≡ length others = omega arith in ap (λ n. get_or (a ∷ others) n x) e
 
+    positive : (n : ℕ) → nat_lt 0 (suc n) ≡ true
+    positive n = grind (arith, nat_tests)
+
     tested : (n : ℕ) (b : Position) → nat_lt 0 (suc n) && same_position b x ≡ false → same_position b x ≡ false
-    tested n b e = e
+    tested n b e = sym (ap (λ t. t && same_position b x) (positive n)) ∙ e
 
 -- ---- one position more
 after_rest : (given : List Position) (i : ℕ) (a : Position) → IsBeforeRest given i a → IsBeforeRest given (i + 1) a
@@ -209,11 +213,11 @@ none_after p a (b ∷ bs) hp e h = odd_joined (stands_at p) (b ∷ []) bs ∙ ap
 pub one_stands : (p : Point) (xs : List Position) → IsPoint p → IsStrictlySortedBy position_order xs → list_any (stands_at p) xs ≡ odd (count_by (stands_at p) xs)
 unfolding IsStrictlySortedBy
 one_stands p [] hp h = refl
-one_stands p (a ∷ others) hp h = go (stands_at p a) refl ∙ sym (odd_joined (stands_at p) (a ∷ []) others ∙ ap (λ b. xor b (odd (count_by (stands_at p) others))) (one_odd (stands_at p) a))
+one_stands p (a ∷ others) hp h = go (stands_at p a) refl (one_stands p others hp h.1) ∙ sym (odd_joined (stands_at p) (a ∷ []) others ∙ ap (λ b. xor b (odd (count_by (stands_at p) others))) (one_odd (stands_at p) a))
   where
-    go : (t : Bool) → stands_at p a ≡ t → (stands_at p a || list_any (stands_at p) others) ≡ xor (stands_at p a) (odd (count_by (stands_at p) others))
-    go true e = ap (λ b. b || list_any (stands_at p) others) e ∙ sym (ap not (none_after p a others hp e h.0)) ∙ ap (λ b. xor b (odd (count_by (stands_at p) others))) (sym e)
-    go false e = ap (λ b. b || list_any (stands_at p) others) e ∙ one_stands p others hp h.1 ∙ ap (λ b. xor b (odd (count_by (stands_at p) others))) (sym e)
+    go : (t : Bool) → stands_at p a ≡ t → list_any (stands_at p) others ≡ odd (count_by (stands_at p) others) → (stands_at p a || list_any (stands_at p) others) ≡ xor (stands_at p a) (odd (count_by (stands_at p) others))
+    go true e r = ap (λ b. b || list_any (stands_at p) others) e ∙ sym (ap not (none_after p a others hp e h.0)) ∙ ap (λ b. xor b (odd (count_by (stands_at p) others))) (sym e)
+    go false e r = ap (λ b. b || list_any (stands_at p) others) e ∙ r ∙ ap (λ b. xor b (odd (count_by (stands_at p) others))) (sym e)
 
 -- of all ends, in ascending order, those that are left
 pub are_odd_ends : (ls : List (List Position)) (all sorted found : List Position) → all ≡ flat_map ends ls → IsPermutation all sorted → IsStrictlySortedBy position_order found → HasParityOf found sorted → AreOddEnds found ls
@@ -221,3 +225,8 @@ are_odd_ends ls all sorted found e moved up alike = record {
   ascend = up;
   exact = λ p hp. one_stands p found hp up ∙ alike p ∙ ap odd (sum_by-IsPermutation _ all sorted moved) ∙ ap (λ l. odd (count_by (stands_at p) l)) e;
 }
+
+pub odd_ends_found : {V E : Type 0} (items : V → List Position) (r : Result V E) (ls : List (List Position)) (all sorted slice : List Position) → all ≡ flat_map ends ls → IsPermutation all sorted → slice ≡ sorted
+    → IfOk r (λ v. IsStrictlySortedBy position_order (items v)) → IfOk r (λ v. HasParityOf (items v) slice) → IfOk r (λ v. AreOddEnds (items v) ls)
+odd_ends_found items (Ok v) ls all sorted slice e moved f up alike = are_odd_ends ls all sorted (items v) e moved up (subst (HasParityOf (items v)) f alike)
+odd_ends_found items (Err w) ls all sorted slice e moved f up alike = tt
