@@ -1,11 +1,11 @@
 -- Boxes at their places, and what stays as the list grows.
-use Rattle.std.proofs.Common.{ℕ, zero, suc, ◌+◌, ◌-◌, ◌<◌, ◌≤◌, ◌≡◌, ◌⊎◌, inl, inr, List, [], ◌∷◌, ◌++◌, length, drop, take, get_or, Option, Some, None, refl, sym, ap, ◌∙◌, subst, arith}
+use Rattle.std.proofs.Common.{ℕ, zero, suc, ◌+◌, ◌-◌, ◌<◌, ◌≤◌, ◌≡◌, List, ◌++◌, length, drop, take, get_or, Option, Some, None, refl, sym, ap, ◌∙◌, arith}
 use Rattle.std.specs.Prelude.{slice_get, slice_range}
-use Rattle.std.proofs.lemmas.Option.{slice_get_read, slice_get_within, slice_get-get_or}
+use Rattle.std.proofs.lemmas.Option.{slice_get_read}
 use Rattle.std.proofs.lemmas.List.{take-append-drop, drop-drop, length-drop, append-nil, length-append}
 use Rattle.std.proofs.Math.Seq.{drop-length}
 use Rattle.geometry_model.specs.Geometries.{Edge}
-use Rattle.edge_boxes.specs.BoxLists.{end_of, covered, IsRun, IsBoxAt, AreBoxes}
+use Rattle.edge_boxes.specs.BoxLists.{end_of, covered, AreBoxes}
 use Rattle.edge_boxes.specs.declared.boxes.EdgeBox.{EdgeBox}
 
 -- a part of a list and what comes after it

@@ -1,5 +1,6 @@
--- An edge wholly on one side of a point, in x or in y: whether it holds the point and lies above it.
-use Rattle.std.proofs.Common.{ℤ, pos, ◌+ℤ◌, ◌-ℤ◌, ◌*ℤ◌, ◌≤ℤ◌, ◌<ℤ◌, int_lt, int_le, ◌≡◌, Bool, true, false, ◌&&◌, ◌||◌, refl, sym, ap, ap₂, ◌∙◌, List, [], ◌∷◌, arith}
+-- An edge wholly on one side of a point, left or right of it, or below or above a line through it: whether it holds the point
+-- and lies above it.
+use Rattle.std.proofs.Common.{ℤ, pos, ◌+ℤ◌, ◌-ℤ◌, ◌*ℤ◌, ◌≤ℤ◌, ◌<ℤ◌, int_lt, int_le, ◌≡◌, ◌⊎◌, inl, inr, Bool, true, false, ◌&&◌, ◌||◌, refl, sym, ap, ap₂, ◌∙◌, subst, [], ◌∷◌, arith}
 use borrow.Author.Differences.{ints}
 use Rattle.std.specs.Ordering.{int_eq}
 use Rattle.geometry_model.specs.Points.{Position, Point, IsPoint}
@@ -7,14 +8,26 @@ use Rattle.geometry_model.specs.Geometries.{Edge}
 use Rattle.geometry_model.specs.Sides.{side, on, between}
 use Rattle.geometry_model.specs.Crossings.{exactly_one, reaches, spans, side_rightward, strictly_above, at_or_above}
 use Rattle.integers.proofs.Ring.{solve, var, lit, ◌⊕◌, ◌⊖◌, ◌⊗◌}
-use Rattle.integers.proofs.Signs.{plus_plus, plus_minus, strict_plus_plus, strict_plus_minus, cancel_positive, cancel_negative, less_yes, less_no, at_most_yes, at_most_no, at_most_from, not_at_most_from}
+use Rattle.integers.proofs.Signs.{plus_plus, plus_minus, minus_plus, minus_minus, strict_plus_plus, strict_plus_minus, cancel_positive, cancel_negative, zero_product, less_yes, less_no, at_most_yes, at_most_no}
+use Rattle.integers.proofs.Tests.{equal_from}
 use Rattle.geometry_laws.proofs.LineSides.{side'}
 use Rattle.geometry_laws.proofs.RingParity.{rightward_left, rightward_right}
 
--- ---- the side of a point that lies over or under both ends
-height : (a b : Position) (p : Point) → (b.x *ℤ p.W -ℤ p.X) *ℤ (p.Y -ℤ a.y *ℤ p.W) +ℤ (p.X -ℤ a.x *ℤ p.W) *ℤ (p.Y -ℤ b.y *ℤ p.W) ≡ p.W *ℤ side a b p
-height a b p = solve (a.x ∷ a.y ∷ b.x ∷ b.y ∷ p.X ∷ p.Y ∷ p.W ∷ [])
-    ((var 2 ⊗ var 6 ⊖ var 4) ⊗ (var 5 ⊖ var 1 ⊗ var 6) ⊕ (var 4 ⊖ var 0 ⊗ var 6) ⊗ (var 5 ⊖ var 3 ⊗ var 6)) (var 6 ⊗ side') tt
+-- ---- how far a point lies above the line of a direction through a position, times its way to the right
+abbrev pub beyond : ℤ → ℤ → Position → Point → ℤ
+beyond dx dy a p = dx *ℤ (p.Y -ℤ a.y *ℤ p.W) -ℤ dy *ℤ (p.X -ℤ a.x *ℤ p.W)
+
+slanted : (dx dy : ℤ) (a b : Position) (p : Point) → (b.x *ℤ p.W -ℤ p.X) *ℤ beyond dx dy a p +ℤ (p.X -ℤ a.x *ℤ p.W) *ℤ beyond dx dy b p ≡ (dx *ℤ p.W) *ℤ side a b p
+slanted dx dy a b p = solve (a.x ∷ a.y ∷ b.x ∷ b.y ∷ p.X ∷ p.Y ∷ p.W ∷ dx ∷ dy ∷ [])
+    ((var 2 ⊗ var 6 ⊖ var 4) ⊗ (var 7 ⊗ (var 5 ⊖ var 1 ⊗ var 6) ⊖ var 8 ⊗ (var 4 ⊖ var 0 ⊗ var 6)) ⊕ (var 4 ⊖ var 0 ⊗ var 6) ⊗ (var 7 ⊗ (var 5 ⊖ var 3 ⊗ var 6) ⊖ var 8 ⊗ (var 4 ⊖ var 2 ⊗ var 6)))
+    ((var 7 ⊗ var 6) ⊗ side') tt
+
+level : (a : Position) (p : Point) → beyond (pos 1) (pos 0) a p ≡ p.Y -ℤ a.y *ℤ p.W
+level a p = solve (a.x ∷ a.y ∷ p.X ∷ p.Y ∷ p.W ∷ []) (lit (pos 1) ⊗ (var 3 ⊖ var 1 ⊗ var 4) ⊖ lit (pos 0) ⊗ (var 2 ⊖ var 0 ⊗ var 4)) (var 3 ⊖ var 1 ⊗ var 4) tt
+
+-- straight above or below the position
+upright : (dx dy : ℤ) (a : Position) (p : Point) → p.X -ℤ a.x *ℤ p.W ≡ pos 0 → beyond dx dy a p ≡ dx *ℤ (p.Y -ℤ a.y *ℤ p.W)
+upright dx dy a p e = ap (λ (z : ℤ). dx *ℤ (p.Y -ℤ a.y *ℤ p.W) -ℤ dy *ℤ z) e ∙ solve (dx ∷ dy ∷ (p.Y -ℤ a.y *ℤ p.W) ∷ []) (var 0 ⊗ var 2 ⊖ var 1 ⊗ lit (pos 0)) (var 0 ⊗ var 2) tt
 
 weak : (x : ℤ) → pos 0 <ℤ x → pos 0 ≤ℤ x
 weak x h = omega (arith, ints)
@@ -31,6 +44,10 @@ less_than x y e = omega (arith, ints)
 at_least : (x y : ℤ) → int_le x y ≡ true → pos 0 ≤ℤ (y -ℤ x)
 at_least x y e = omega (arith, ints)
 
+at_greatest : (x y : ℤ) → int_le y x ≡ true → (y -ℤ x) ≤ℤ pos 0
+at_greatest x y e = omega (arith, ints)
+
+-- ---- the side of a point that lies over or under both ends
 over : (c d u v w s : ℤ) → c *ℤ u +ℤ d *ℤ v ≡ w *ℤ s → pos 0 <ℤ w → pos 0 <ℤ c → pos 0 ≤ℤ d → pos 0 <ℤ u → pos 0 <ℤ v → pos 0 <ℤ s
 over c d u v w s e hw hc hd hu hv = cancel_positive w s (weak w hw) (sum (c *ℤ u) (d *ℤ v) (w *ℤ s) e (strict_plus_plus c u hc hu) (plus_plus d v hd (weak v hv)))
   where
@@ -43,13 +60,13 @@ under c d u v w s e hw hc hd hu hv = cancel_negative w s (weak w hw) (sum (c *�
     sum : (x y z : ℤ) → x +ℤ y ≡ z → x <ℤ pos 0 → y ≤ℤ pos 0 → z <ℤ pos 0
     sum x y z e h k = omega (arith, ints)
 
-side_over : (a b : Position) (p : Point) → IsPoint p → reaches a p ≡ true → reaches b p ≡ false → int_le p.Y (a.y *ℤ p.W) ≡ false → int_le p.Y (b.y *ℤ p.W) ≡ false → pos 0 <ℤ side a b p
-side_over a b p hp f g h k = over (b.x *ℤ p.W -ℤ p.X) (p.X -ℤ a.x *ℤ p.W) (p.Y -ℤ a.y *ℤ p.W) (p.Y -ℤ b.y *ℤ p.W) p.W (side a b p) (height a b p) hp
-    (more_than p.X (b.x *ℤ p.W) g) (at_least (a.x *ℤ p.W) p.X f) (more_than (a.y *ℤ p.W) p.Y h) (more_than (b.y *ℤ p.W) p.Y k)
+side_over : (dx dy : ℤ) (a b : Position) (p : Point) → IsPoint p → pos 0 <ℤ dx → reaches a p ≡ true → reaches b p ≡ false → pos 0 <ℤ beyond dx dy a p → pos 0 <ℤ beyond dx dy b p → pos 0 <ℤ side a b p
+side_over dx dy a b p hp hx f g h k = over (b.x *ℤ p.W -ℤ p.X) (p.X -ℤ a.x *ℤ p.W) (beyond dx dy a p) (beyond dx dy b p) (dx *ℤ p.W) (side a b p) (slanted dx dy a b p) (strict_plus_plus dx p.W hx hp)
+    (more_than p.X (b.x *ℤ p.W) g) (at_least (a.x *ℤ p.W) p.X f) h k
 
-side_under : (a b : Position) (p : Point) → IsPoint p → reaches a p ≡ true → reaches b p ≡ false → int_le (a.y *ℤ p.W) p.Y ≡ false → int_le (b.y *ℤ p.W) p.Y ≡ false → side a b p <ℤ pos 0
-side_under a b p hp f g h k = under (b.x *ℤ p.W -ℤ p.X) (p.X -ℤ a.x *ℤ p.W) (p.Y -ℤ a.y *ℤ p.W) (p.Y -ℤ b.y *ℤ p.W) p.W (side a b p) (height a b p) hp
-    (more_than p.X (b.x *ℤ p.W) g) (at_least (a.x *ℤ p.W) p.X f) (less_than (a.y *ℤ p.W) p.Y h) (less_than (b.y *ℤ p.W) p.Y k)
+side_under : (dx dy : ℤ) (a b : Position) (p : Point) → IsPoint p → pos 0 <ℤ dx → reaches a p ≡ true → reaches b p ≡ false → beyond dx dy a p <ℤ pos 0 → beyond dx dy b p <ℤ pos 0 → side a b p <ℤ pos 0
+side_under dx dy a b p hp hx f g h k = under (b.x *ℤ p.W -ℤ p.X) (p.X -ℤ a.x *ℤ p.W) (beyond dx dy a p) (beyond dx dy b p) (dx *ℤ p.W) (side a b p) (slanted dx dy a b p) (strict_plus_plus dx p.W hx hp)
+    (more_than p.X (b.x *ℤ p.W) g) (at_least (a.x *ℤ p.W) p.X f) h k
 
 -- ---- an edge that holds no point so far away
 neither_after : (a b c d : Bool) → b ≡ false → d ≡ false → (a && b) || (c && d) ≡ false
@@ -71,16 +88,107 @@ off_in_x : (a b c : Bool) → b ≡ false → a && b && c ≡ false
 off_in_x true b c e = ap (λ (x : Bool). x && c) e
 off_in_x false b c e = refl
 
-off_in_y : (a b c : Bool) → c ≡ false → a && b && c ≡ false
-off_in_y true true c e = e
-off_in_y true false c e = refl
-off_in_y false b c e = refl
-
 on_off_in_x : (e : Edge) (p : Point) → between e.start.x e.end.x p.X p.W ≡ false → on e p ≡ false
 on_off_in_x e p h = off_in_x (int_eq (side e.start e.end p) (pos 0)) (between e.start.x e.end.x p.X p.W) (between e.start.y e.end.y p.Y p.W) h
 
-on_off_in_y : (e : Edge) (p : Point) → between e.start.y e.end.y p.Y p.W ≡ false → on e p ≡ false
-on_off_in_y e p h = off_in_y (int_eq (side e.start e.end p) (pos 0)) (between e.start.x e.end.x p.X p.W) (between e.start.y e.end.y p.Y p.W) h
+off_in_y : (a b c : Bool) → (a ≡ true → b ≡ true → c ≡ false) → a && b && c ≡ false
+off_in_y true true c h = h refl refl
+off_in_y true false c h = refl
+off_in_y false b c h = refl
+
+-- both ways from the ends to the point go to the right, or both to the left
+go_alike : (a b : ℤ) (p : Point) → between a b p.X p.W ≡ true
+    → ((pos 0 ≤ℤ (b *ℤ p.W -ℤ p.X)) × (pos 0 ≤ℤ (p.X -ℤ a *ℤ p.W))) ⊎ (((b *ℤ p.W -ℤ p.X) ≤ℤ pos 0) × ((p.X -ℤ a *ℤ p.W) ≤ℤ pos 0))
+go_alike a b p h = go (int_le (a *ℤ p.W) p.X) (int_le p.X (b *ℤ p.W)) (int_le (b *ℤ p.W) p.X) (int_le p.X (a *ℤ p.W)) refl refl refl refl h
+  where
+    go : (q r s t : Bool) → int_le (a *ℤ p.W) p.X ≡ q → int_le p.X (b *ℤ p.W) ≡ r → int_le (b *ℤ p.W) p.X ≡ s → int_le p.X (a *ℤ p.W) ≡ t → (q && r) || (s && t) ≡ true
+        → ((pos 0 ≤ℤ (b *ℤ p.W -ℤ p.X)) × (pos 0 ≤ℤ (p.X -ℤ a *ℤ p.W))) ⊎ (((b *ℤ p.W -ℤ p.X) ≤ℤ pos 0) × ((p.X -ℤ a *ℤ p.W) ≤ℤ pos 0))
+    go true true s t eq er es et h = inl (at_least p.X (b *ℤ p.W) er, at_least (a *ℤ p.W) p.X eq)
+    go q r true true eq er es et h = inr (at_greatest p.X (b *ℤ p.W) es, at_greatest (a *ℤ p.W) p.X et)
+    go true false true false eq er es et h = absurd (let n : false ≡ true = h in cc)
+    go true false false t eq er es et h = absurd (let n : false ≡ true = h in cc)
+    go false r true false eq er es et h = absurd (let n : false ≡ true = h in cc)
+    go false r false t eq er es et h = absurd (let n : false ≡ true = h in cc)
+
+-- products of one sign whose sum is 0, their second factors not 0
+both_zero : (c d u v : ℤ) → c *ℤ u +ℤ d *ℤ v ≡ pos 0 → (u ≡ pos 0 → ⊥) → (v ≡ pos 0 → ⊥) → ((pos 0 ≤ℤ (c *ℤ u)) × (pos 0 ≤ℤ (d *ℤ v))) ⊎ (((c *ℤ u) ≤ℤ pos 0) × ((d *ℤ v) ≤ℤ pos 0))
+    → (c ≡ pos 0) × (d ≡ pos 0)
+both_zero c d u v e hu hv signs = (first (zero_product c u (left (c *ℤ u) (d *ℤ v) e signs)), second (zero_product d v (right (c *ℤ u) (d *ℤ v) e signs)))
+  where
+    left : (x y : ℤ) → x +ℤ y ≡ pos 0 → ((pos 0 ≤ℤ x) × (pos 0 ≤ℤ y)) ⊎ ((x ≤ℤ pos 0) × (y ≤ℤ pos 0)) → x ≡ pos 0
+    left x y e (inl h) = let h0 = h.0 in let h1 = h.1 in omega (arith, ints, e, h0, h1)
+    left x y e (inr h) = let h0 = h.0 in let h1 = h.1 in omega (arith, ints, e, h0, h1)
+
+    right : (x y : ℤ) → x +ℤ y ≡ pos 0 → ((pos 0 ≤ℤ x) × (pos 0 ≤ℤ y)) ⊎ ((x ≤ℤ pos 0) × (y ≤ℤ pos 0)) → y ≡ pos 0
+    right x y e (inl h) = let h0 = h.0 in let h1 = h.1 in omega (arith, ints, e, h0, h1)
+    right x y e (inr h) = let h0 = h.0 in let h1 = h.1 in omega (arith, ints, e, h0, h1)
+
+    first : (c ≡ pos 0) ⊎ (u ≡ pos 0) → c ≡ pos 0
+    first (inl z) = z
+    first (inr z) = absurd (hu z)
+
+    second : (d ≡ pos 0) ⊎ (v ≡ pos 0) → d ≡ pos 0
+    second (inl z) = z
+    second (inr z) = absurd (hv z)
+
+-- a point on an edge's line and between its ends in x, above or below both in a direction, stands straight above or below both
+stands_upright : (dx dy : ℤ) (e : Edge) (p : Point) → int_eq (side e.start e.end p) (pos 0) ≡ true → between e.start.x e.end.x p.X p.W ≡ true
+    → ((pos 0 <ℤ beyond dx dy e.start p) × (pos 0 <ℤ beyond dx dy e.end p)) ⊎ ((beyond dx dy e.start p <ℤ pos 0) × (beyond dx dy e.end p <ℤ pos 0))
+    → (p.X -ℤ e.start.x *ℤ p.W ≡ pos 0) × (p.X -ℤ e.end.x *ℤ p.W ≡ pos 0)
+stands_upright dx dy e p f g h = (zeros.1, turn (e.end.x *ℤ p.W) p.X zeros.0)
+  where
+    c : ℤ
+    c = e.end.x *ℤ p.W -ℤ p.X
+
+    d : ℤ
+    d = p.X -ℤ e.start.x *ℤ p.W
+
+    turn : (x y : ℤ) → x -ℤ y ≡ pos 0 → y -ℤ x ≡ pos 0
+    turn x y e = omega (arith, ints, e)
+
+    flat : (dx *ℤ p.W) *ℤ side e.start e.end p ≡ pos 0
+    flat = ap (λ (z : ℤ). (dx *ℤ p.W) *ℤ z) (equal_from (side e.start e.end p) (pos 0) f) ∙ solve ((dx *ℤ p.W) ∷ []) (var 0 ⊗ lit (pos 0)) (lit (pos 0)) tt
+
+    positive : (z : ℤ) → pos 0 <ℤ z → z ≡ pos 0 → ⊥
+    positive z l e = omega (arith, ints, l, e)
+
+    negative : (z : ℤ) → z <ℤ pos 0 → z ≡ pos 0 → ⊥
+    negative z l e = omega (arith, ints, l, e)
+
+    zeros : ((e.end.x *ℤ p.W -ℤ p.X) ≡ pos 0) × ((p.X -ℤ e.start.x *ℤ p.W) ≡ pos 0)
+    zeros = go (go_alike e.start.x e.end.x p g) h
+      where
+        go : ((pos 0 ≤ℤ (e.end.x *ℤ p.W -ℤ p.X)) × (pos 0 ≤ℤ (p.X -ℤ e.start.x *ℤ p.W))) ⊎ (((e.end.x *ℤ p.W -ℤ p.X) ≤ℤ pos 0) × ((p.X -ℤ e.start.x *ℤ p.W) ≤ℤ pos 0))
+            → ((pos 0 <ℤ beyond dx dy e.start p) × (pos 0 <ℤ beyond dx dy e.end p)) ⊎ ((beyond dx dy e.start p <ℤ pos 0) × (beyond dx dy e.end p <ℤ pos 0))
+            → ((e.end.x *ℤ p.W -ℤ p.X) ≡ pos 0) × ((p.X -ℤ e.start.x *ℤ p.W) ≡ pos 0)
+        go (inl m) (inl n) = both_zero c d (beyond dx dy e.start p) (beyond dx dy e.end p) (slanted dx dy e.start e.end p ∙ flat) (positive (beyond dx dy e.start p) n.0) (positive (beyond dx dy e.end p) n.1)
+            (inl (plus_plus c (beyond dx dy e.start p) m.0 (weak (beyond dx dy e.start p) n.0), plus_plus d (beyond dx dy e.end p) m.1 (weak (beyond dx dy e.end p) n.1)))
+        go (inl m) (inr n) = both_zero c d (beyond dx dy e.start p) (beyond dx dy e.end p) (slanted dx dy e.start e.end p ∙ flat) (negative (beyond dx dy e.start p) n.0) (negative (beyond dx dy e.end p) n.1)
+            (inr (plus_minus c (beyond dx dy e.start p) m.0 (weak_minus (beyond dx dy e.start p) n.0), plus_minus d (beyond dx dy e.end p) m.1 (weak_minus (beyond dx dy e.end p) n.1)))
+        go (inr m) (inl n) = both_zero c d (beyond dx dy e.start p) (beyond dx dy e.end p) (slanted dx dy e.start e.end p ∙ flat) (positive (beyond dx dy e.start p) n.0) (positive (beyond dx dy e.end p) n.1)
+            (inr (minus_plus c (beyond dx dy e.start p) m.0 (weak (beyond dx dy e.start p) n.0), minus_plus d (beyond dx dy e.end p) m.1 (weak (beyond dx dy e.end p) n.1)))
+        go (inr m) (inr n) = both_zero c d (beyond dx dy e.start p) (beyond dx dy e.end p) (slanted dx dy e.start e.end p ∙ flat) (negative (beyond dx dy e.start p) n.0) (negative (beyond dx dy e.end p) n.1)
+            (inl (minus_minus c (beyond dx dy e.start p) m.0 (weak_minus (beyond dx dy e.start p) n.0), minus_minus d (beyond dx dy e.end p) m.1 (weak_minus (beyond dx dy e.end p) n.1)))
+
+higher : (dx dy : ℤ) (a : Position) (p : Point) → pos 0 <ℤ dx → p.X -ℤ a.x *ℤ p.W ≡ pos 0 → pos 0 <ℤ beyond dx dy a p → int_le p.Y (a.y *ℤ p.W) ≡ false
+higher dx dy a p hx e h = no_more p.Y (a.y *ℤ p.W) (cancel_positive dx (p.Y -ℤ a.y *ℤ p.W) (weak dx hx) (subst (λ (z : ℤ). pos 0 <ℤ z) (upright dx dy a p e) h))
+  where
+    no_more : (x y : ℤ) → pos 0 <ℤ (x -ℤ y) → int_le x y ≡ false
+    no_more x y h = at_most_no x y (omega (arith, ints, h))
+
+lower : (dx dy : ℤ) (a : Position) (p : Point) → pos 0 <ℤ dx → p.X -ℤ a.x *ℤ p.W ≡ pos 0 → beyond dx dy a p <ℤ pos 0 → int_le (a.y *ℤ p.W) p.Y ≡ false
+lower dx dy a p hx e h = no_less p.Y (a.y *ℤ p.W) (cancel_negative dx (p.Y -ℤ a.y *ℤ p.W) (weak dx hx) (subst (λ (z : ℤ). z <ℤ pos 0) (upright dx dy a p e) h))
+  where
+    no_less : (x y : ℤ) → (x -ℤ y) <ℤ pos 0 → int_le y x ≡ false
+    no_less x y h = at_most_no y x (omega (arith, ints, h))
+
+on_off_beyond : (dx dy : ℤ) (e : Edge) (p : Point) → pos 0 <ℤ dx → pos 0 <ℤ beyond dx dy e.start p → pos 0 <ℤ beyond dx dy e.end p → on e p ≡ false
+on_off_beyond dx dy e p hx h k = off_in_y (int_eq (side e.start e.end p) (pos 0)) (between e.start.x e.end.x p.X p.W) (between e.start.y e.end.y p.Y p.W)
+    (λ f g. let zeros = stands_upright dx dy e p f g (inl (h, k)) in past e.start.y e.end.y p.Y p.W (higher dx dy e.start p hx zeros.0 h) (higher dx dy e.end p hx zeros.1 k))
+
+on_off_short : (dx dy : ℤ) (e : Edge) (p : Point) → pos 0 <ℤ dx → beyond dx dy e.start p <ℤ pos 0 → beyond dx dy e.end p <ℤ pos 0 → on e p ≡ false
+on_off_short dx dy e p hx h k = off_in_y (int_eq (side e.start e.end p) (pos 0)) (between e.start.x e.end.x p.X p.W) (between e.start.y e.end.y p.Y p.W)
+    (λ f g. let zeros = stands_upright dx dy e p f g (inr (h, k)) in ahead e.start.y e.end.y p.Y p.W (lower dx dy e.start p hx zeros.0 h) (lower dx dy e.end p hx zeros.1 k))
 
 -- the edge doesn't hold the point and isn't counted above it
 pub record IsOff (p : Point) (e : Edge) : Type 0 where
@@ -111,19 +219,19 @@ pub off_right : (e : Edge) (p : Point) → int_le (e.start.x *ℤ p.W) p.X ≡ f
 off_right e p h k = unspanned e p (on_off_in_x e p (ahead e.start.x e.end.x p.X p.W h k)) (ap₂ exactly_one h k)
 
 -- ---- an edge under a point, one over it
-sign_under : (e : Edge) (p : Point) (a b : Bool) → reaches e.start p ≡ a → reaches e.end p ≡ b → IsPoint p → int_le p.Y (e.start.y *ℤ p.W) ≡ false → int_le p.Y (e.end.y *ℤ p.W) ≡ false
+sign_under : (dx dy : ℤ) (e : Edge) (p : Point) (a b : Bool) → reaches e.start p ≡ a → reaches e.end p ≡ b → IsPoint p → pos 0 <ℤ dx → pos 0 <ℤ beyond dx dy e.start p → pos 0 <ℤ beyond dx dy e.end p
     → exactly_one a b ≡ true → pos 0 <ℤ side_rightward e p
-sign_under e p true true f g hp h k s = absurd (let n : false ≡ true = s in cc)
-sign_under e p false false f g hp h k s = absurd (let n : false ≡ true = s in cc)
-sign_under e p true false f g hp h k s = rw (rightward_left e p hp f g) (side_over e.start e.end p hp f g h k)
-sign_under e p false true f g hp h k s = rw (rightward_right e p hp f g) (side_over e.end e.start p hp g f k h)
+sign_under dx dy e p true true f g hp hx h k s = absurd (let n : false ≡ true = s in cc)
+sign_under dx dy e p false false f g hp hx h k s = absurd (let n : false ≡ true = s in cc)
+sign_under dx dy e p true false f g hp hx h k s = rw (rightward_left e p hp f g) (side_over dx dy e.start e.end p hp hx f g h k)
+sign_under dx dy e p false true f g hp hx h k s = rw (rightward_right e p hp f g) (side_over dx dy e.end e.start p hp hx g f k h)
 
-sign_over : (e : Edge) (p : Point) (a b : Bool) → reaches e.start p ≡ a → reaches e.end p ≡ b → IsPoint p → int_le (e.start.y *ℤ p.W) p.Y ≡ false → int_le (e.end.y *ℤ p.W) p.Y ≡ false
+sign_over : (dx dy : ℤ) (e : Edge) (p : Point) (a b : Bool) → reaches e.start p ≡ a → reaches e.end p ≡ b → IsPoint p → pos 0 <ℤ dx → beyond dx dy e.start p <ℤ pos 0 → beyond dx dy e.end p <ℤ pos 0
     → exactly_one a b ≡ true → side_rightward e p <ℤ pos 0
-sign_over e p true true f g hp h k s = absurd (let n : false ≡ true = s in cc)
-sign_over e p false false f g hp h k s = absurd (let n : false ≡ true = s in cc)
-sign_over e p true false f g hp h k s = rw (rightward_left e p hp f g) (side_under e.start e.end p hp f g h k)
-sign_over e p false true f g hp h k s = rw (rightward_right e p hp f g) (side_under e.end e.start p hp g f k h)
+sign_over dx dy e p true true f g hp hx h k s = absurd (let n : false ≡ true = s in cc)
+sign_over dx dy e p false false f g hp hx h k s = absurd (let n : false ≡ true = s in cc)
+sign_over dx dy e p true false f g hp hx h k s = rw (rightward_left e p hp f g) (side_under dx dy e.start e.end p hp hx f g h k)
+sign_over dx dy e p false true f g hp hx h k s = rw (rightward_right e p hp f g) (side_under dx dy e.end e.start p hp hx g f k h)
 
 no_product : (s t : Bool) → (s ≡ true → t ≡ false) → s && t ≡ false
 no_product true t h = h refl
@@ -133,23 +241,36 @@ first_factor : (s t : Bool) → (s ≡ true → t ≡ true) → s && t ≡ s
 first_factor true t h = h refl
 first_factor false t h = refl
 
-not_at_most : (z : ℤ) → pos 0 <ℤ z → int_le z (pos 0) ≡ false
-not_at_most z h = at_most_no z (pos 0) h
-
-pub off_below : (e : Edge) (p : Point) → IsPoint p → int_le p.Y (e.start.y *ℤ p.W) ≡ false → int_le p.Y (e.end.y *ℤ p.W) ≡ false → IsOff p e
-off_below e p hp h k =
-    let sign = sign_under e p (reaches e.start p) (reaches e.end p) refl refl hp h k in
+pub off_beyond : (dx dy : ℤ) (e : Edge) (p : Point) → IsPoint p → pos 0 <ℤ dx → pos 0 <ℤ beyond dx dy e.start p → pos 0 <ℤ beyond dx dy e.end p → IsOff p e
+off_beyond dx dy e p hp hx h k =
+    let sign = sign_under dx dy e p (reaches e.start p) (reaches e.end p) refl refl hp hx h k in
     record {
-      on = on_off_in_y e p (past e.start.y e.end.y p.Y p.W h k);
+      on = on_off_beyond dx dy e p hx h k;
       above = no_product (spans e p) (int_lt (side_rightward e p) (pos 0)) (λ s. less_no (side_rightward e p) (pos 0) (weak (side_rightward e p) (sign s)));
       at_or_above = no_product (spans e p) (int_le (side_rightward e p) (pos 0)) (λ s. at_most_no (side_rightward e p) (pos 0) (sign s));
     }
 
-pub is_over : (e : Edge) (p : Point) → IsPoint p → int_le (e.start.y *ℤ p.W) p.Y ≡ false → int_le (e.end.y *ℤ p.W) p.Y ≡ false → IsOver p e
-is_over e p hp h k =
-    let sign = sign_over e p (reaches e.start p) (reaches e.end p) refl refl hp h k in
+pub over_beyond : (dx dy : ℤ) (e : Edge) (p : Point) → IsPoint p → pos 0 <ℤ dx → beyond dx dy e.start p <ℤ pos 0 → beyond dx dy e.end p <ℤ pos 0 → IsOver p e
+over_beyond dx dy e p hp hx h k =
+    let sign = sign_over dx dy e p (reaches e.start p) (reaches e.end p) refl refl hp hx h k in
     record {
-      on = on_off_in_y e p (ahead e.start.y e.end.y p.Y p.W h k);
+      on = on_off_short dx dy e p hx h k;
       above = first_factor (spans e p) (int_lt (side_rightward e p) (pos 0)) (λ s. less_yes (side_rightward e p) (pos 0) (sign s));
       at_or_above = first_factor (spans e p) (int_le (side_rightward e p) (pos 0)) (λ s. at_most_yes (side_rightward e p) (pos 0) (weak_minus (side_rightward e p) (sign s)));
     }
+
+-- ---- the level direction
+one : pos 0 <ℤ pos 1
+one = omega (arith, ints)
+
+pub off_below : (e : Edge) (p : Point) → IsPoint p → int_le p.Y (e.start.y *ℤ p.W) ≡ false → int_le p.Y (e.end.y *ℤ p.W) ≡ false → IsOff p e
+off_below e p hp h k = off_beyond (pos 1) (pos 0) e p hp one (raised e.start h) (raised e.end k)
+  where
+    raised : (a : Position) → int_le p.Y (a.y *ℤ p.W) ≡ false → pos 0 <ℤ beyond (pos 1) (pos 0) a p
+    raised a h = subst (λ (z : ℤ). pos 0 <ℤ z) (sym (level a p)) (more_than (a.y *ℤ p.W) p.Y h)
+
+pub is_over : (e : Edge) (p : Point) → IsPoint p → int_le (e.start.y *ℤ p.W) p.Y ≡ false → int_le (e.end.y *ℤ p.W) p.Y ≡ false → IsOver p e
+is_over e p hp h k = over_beyond (pos 1) (pos 0) e p hp one (sunk e.start h) (sunk e.end k)
+  where
+    sunk : (a : Position) → int_le (a.y *ℤ p.W) p.Y ≡ false → beyond (pos 1) (pos 0) a p <ℤ pos 0
+    sunk a h = subst (λ (z : ℤ). z <ℤ pos 0) (sym (level a p)) (less_than (a.y *ℤ p.W) p.Y h)

@@ -1,8 +1,11 @@
 pub mod EdgeSides
+pub mod StripSums
 pub mod RunSums
 pub mod Telling
+pub mod StripSides
 pub mod Floors
 pub mod BoxFacts
 pub mod Steps
 pub mod Growing
+pub mod StripTaking
 pub mod Meeting

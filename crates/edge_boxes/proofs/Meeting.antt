@@ -1,9 +1,9 @@
 -- The places of edges asked for, found from the last one to the first.
 use Rattle.std.proofs.Common.{ℕ, zero, suc, ◌+◌, ◌-◌, ◌<◌, ◌≤◌, ℤ, int_le, ◌≤ℤ◌, ◌≡◌, Bool, true, false, ◌&&◌, cond, List, [], ◌∷◌, ◌++◌, length, drop, take, get_or, drop-cons, append_assoc, append-nil, reverse, refl, sym, ap, ap₂, ◌∙◌, subst, arith}
-use Rattle.std.specs.Prelude.{slice_get, slice_range, nat_le}
+use Rattle.std.specs.Prelude.{slice_range, nat_le}
 use Rattle.std.specs.Int.{int_min, int_max}
 use Rattle.std.specs.List.{AllByRecursion}
-use Rattle.std.proofs.lemmas.List.{take-append-drop, length-drop, reverse-append}
+use Rattle.std.proofs.lemmas.List.{take-append-drop, reverse-append}
 use Rattle.std.proofs.lemmas.Int.{ints, clamps}
 use Rattle.integers.proofs.Signs.{at_most_yes, at_most_from}
 use Rattle.geometry_model.specs.Geometries.{Edge}

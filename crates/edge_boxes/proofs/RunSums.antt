@@ -1,13 +1,13 @@
 -- What is kept of a run holds of two runs, one behind the other.
-use Rattle.std.proofs.Common.{ℤ, ◌*ℤ◌, ◌≤ℤ◌, int_le, ◌≡◌, Bool, true, false, refl, sym, ap, ap₂, ◌∙◌, List, [], ◌∷◌, ◌++◌, count_by, arith}
+use Rattle.std.proofs.Common.{ℤ, ◌*ℤ◌, int_le, ◌≡◌, Bool, true, false, refl, sym, ap, ap₂, ◌∙◌, List, [], ◌∷◌, ◌++◌, count_by, arith}
 use Rattle.std.proofs.lemmas.Int.{ints, clamps}
 use Rattle.std.specs.List.{AllByRecursion}
-use Rattle.geometry_model.specs.Points.{Position, Point}
+use Rattle.geometry_model.specs.Points.{Position}
 use Rattle.geometry_model.specs.Geometries.{Edge}
 use Rattle.geometry_model.specs.Envelopes.{Envelope, joined}
 use Rattle.geometry_model.specs.Crossings.{exactly_one as xor, spans, odd}
 use Rattle.geometry_laws.proofs.Xor.{xor_self, xor_false}
-use Rattle.geometry_laws.proofs.Each.{parity, odd_count, parity_append}
+use Rattle.geometry_laws.proofs.Each.{odd_count, parity_append}
 use Rattle.ring_tests.specs.RunLaws.{box_of}
 use Rattle.edge_boxes.specs.Runs.{IsWithin, LiesIn, Telescopes}
 

@@ -1,26 +1,25 @@
 -- What a run's bounds and ends tell of a point.
-use Rattle.std.proofs.Common.{ℕ, ◌+◌, ◌<◌, length, take, get_or, ℤ, pos, ◌*ℤ◌, ◌≤ℤ◌, ◌<ℤ◌, int_lt, int_le, ◌≡◌, ◌⊎◌, inl, inr, Bool, true, false, ◌||◌, refl, sym, ap, ap₂, ◌∙◌, List, [], ◌∷◌, ◌++◌, arith}
+use Rattle.std.proofs.Common.{ℕ, ◌+◌, ◌<◌, length, take, get_or, ℤ, ◌*ℤ◌, ◌≤ℤ◌, ◌<ℤ◌, int_lt, int_le, ◌≡◌, ◌⊎◌, inl, inr, Bool, true, false, ◌||◌, refl, sym, ap₂, ◌∙◌, List, [], ◌∷◌, ◌++◌, arith}
 use borrow.Author.Differences.{ints}
-use Rattle.std.specs.List.{AllByRecursion, list_any}
+use Rattle.std.specs.List.{AllByRecursion}
 use Rattle.std.proofs.lemmas.List.{take_more}
 use Rattle.std.proofs.lemmas.List.Folds.{list_any-append}
-use Rattle.geometry_model.specs.Points.{Position, Point}
+use Rattle.geometry_model.specs.Points.{Point}
 use Rattle.geometry_model.specs.Geometries.{Edge}
-use Rattle.geometry_model.specs.Envelopes.{Envelope}
 use Rattle.geometry_model.specs.Sides.{on}
 use Rattle.geometry_model.specs.Crossings.{exactly_one as xor, spans, strictly_above, at_or_above}
 use Rattle.geometry_laws.proofs.Each.{Each, each_map, none_passes, parity, parity_none, same_parity, odd_count}
 use Rattle.integers.proofs.Signs.{less_from, at_most_no}
-use Rattle.edge_boxes.specs.Runs.{IsWithin, LiesIn, Telescopes, SumsUp}
+use Rattle.edge_boxes.specs.Runs.{LiesIn, Telescopes, SumsUp}
 use Rattle.edge_boxes.specs.Cells.{IsFloor, IsCeiling, IsCellOf}
-use Rattle.edge_boxes.specs.EdgeCrossings.{AreCrossings, on_any}
+use Rattle.edge_boxes.specs.EdgeCrossings.{AreCrossings}
 use Rattle.edge_boxes.specs.declared.crossings.Crossings.{Crossings}
 use Rattle.edge_boxes.specs.declared.cells.Cell.{Cell}
 use Rattle.edge_boxes.specs.declared.runs.Run.{Run}
 use Rattle.edge_boxes.proofs.EdgeSides.{IsOff, IsOver, off_left, off_right, off_below, is_over}
 use Rattle.edge_boxes.proofs.RunSums.{odd_joined}
 
-each_of : (P Q : Edge → Type 0) (es : List Edge) → ((e : Edge) → P e → Q e) → AllByRecursion P es → Each Q es
+pub each_of : (P Q : Edge → Type 0) (es : List Edge) → ((e : Edge) → P e → Q e) → AllByRecursion P es → Each Q es
 each_of P Q [] f h = tt
 each_of P Q (e ∷ es) f h = (f e h.0, each_of P Q es f h.1)
 

@@ -1,8 +1,10 @@
 -- Lists of boxes that grow, whatever edges they are over.
-use Rattle.std.specs.Prelude.{◌≡◌, ◌⊎◌, ℕ, ◌<◌, ◌≤◌, List, length}
+use Rattle.std.specs.Prelude.{◌≡◌, ◌⊎◌, ℕ, ◌-◌, ◌<◌, ◌≤◌, List, length, Option, Some, IfSome, slice_get, slice_range}
 use Rattle.geometry_model.specs.Geometries.{Edge}
 use Rattle.edge_boxes.specs.BoxLists.{AreBoxes, IsBoxAt, IsRun, covered}
+use Rattle.edge_boxes.specs.Strips.{IsStripOf}
 use Rattle.edge_boxes.specs.declared.runs.Run.{Run}
+use Rattle.edge_boxes.specs.declared.strips.Strip.{Strip}
 use Rattle.edge_boxes.specs.declared.boxes.EdgeBox.{EdgeBox}
 
 -- up to which edge all boxes go
@@ -26,3 +28,7 @@ IsNextBox boxes b = (edges : List Edge) → AreBoxes boxes edges → IsBoxAt edg
 -- the run sums up the edges of the boxes from a place on
 abbrev pub IsRunFrom : List EdgeBox → Run → ℕ → Type 0
 IsRunFrom boxes run place = (edges : List Edge) → AreBoxes boxes edges → IsRun edges run (covered boxes place) (covered_by_all boxes)
+
+-- the strip, where there is one, is that of the edges of the box at this place
+abbrev pub IsStripAt : List EdgeBox → List Edge → ℕ → Option Strip → Type 0
+IsStripAt boxes edges place strip = (b : EdgeBox) → slice_get boxes place ≡ Some b → IfSome strip (λ s. IsStripOf s (slice_range edges (covered boxes (place - b.size)) b.end))

@@ -6,9 +6,12 @@ use Rattle.geometry_model.specs.Geometries.{Edge}
 use Rattle.geometry_model.specs.Envelopes.{Envelope}
 use Rattle.geometry_model.specs.Sides.{on}
 use Rattle.geometry_model.specs.Crossings.{odd, strictly_above, at_or_above}
-use Rattle.edge_boxes.specs.Runs.{SumsUp}
+use Rattle.edge_boxes.specs.Runs.{SumsUp, SumsUpEnds}
+use Rattle.edge_boxes.specs.Strips.{IsStripOf}
 use Rattle.edge_boxes.specs.Cells.{IsCellOf}
+use Rattle.edge_boxes.specs.declared.runs.Ends.{Ends}
 use Rattle.edge_boxes.specs.declared.runs.Run.{Run}
+use Rattle.edge_boxes.specs.declared.strips.Strip.{Strip}
 use Rattle.edge_boxes.specs.declared.cells.Cell.{Cell}
 use Rattle.edge_boxes.specs.declared.crossings.Crossings.{Crossings}
 
@@ -37,3 +40,7 @@ lie_apart b c = int_lt b.greatest_x c.ceiling_x || int_lt c.floor_x b.least_x ||
 -- what a run tells of a point in a cell holds, whatever the run's edges are
 abbrev pub IsTold : Run → Cell → Crossings → Type 0
 IsTold run cell c = (p : Point) (es : List Edge) → IsCellOf cell p → SumsUp run es → AreCrossings c es p
+
+-- what a run's strip and ends tell of a point in a cell holds, whatever the run's edges are
+abbrev pub IsToldByStrip : Strip → Ends → Cell → Crossings → Type 0
+IsToldByStrip strip ends cell c = (p : Point) (es : List Edge) → IsCellOf cell p → IsStripOf strip es → SumsUpEnds ends es → AreCrossings c es p

@@ -1,3 +1,4 @@
+pub mod Strips
 pub mod Runs
 pub mod EdgeCrossings
 pub mod Cells

@@ -1,10 +1,11 @@
 -- What is kept of a run of consecutive edges, and when it holds of them.
-use Rattle.std.specs.Prelude.{◌≡◌, Bool, true, List, ℤ, ◌*ℤ◌, ◌≤ℤ◌, int_le, count_by}
+use Rattle.std.specs.Prelude.{◌≡◌, true, List, ℤ, ◌*ℤ◌, ◌≤ℤ◌, int_le, count_by, IfSome}
 use Rattle.std.specs.List.{AllByRecursion}
 use Rattle.geometry_model.specs.Points.{Position, Point}
 use Rattle.geometry_model.specs.Geometries.{Edge}
 use Rattle.geometry_model.specs.Crossings.{exactly_one, spans, odd}
 use Rattle.geometry_model.specs.Envelopes.{Envelope}
+use Rattle.edge_boxes.specs.Strips.{IsStripOf}
 use Rattle.edge_boxes.specs.declared.runs.Ends.{Ends}
 use Rattle.edge_boxes.specs.declared.runs.Run.{Run}
 
@@ -32,3 +33,4 @@ SumsUpEnds ends es = ends.is_chain ≡ true → Telescopes es ends.first_x ends.
 pub record SumsUp (r : Run) (es : List Edge) : Type 0 where
   pub lies : AllByRecursion (LiesIn r.bounds) es
   pub ends : SumsUpEnds r.ends es
+  pub strip : IfSome r.strip (λ s. IsStripOf s es)

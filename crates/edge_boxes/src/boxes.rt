@@ -97,7 +97,7 @@ pub(crate) fn covered(boxes: &[EdgeBox], place: usize) -> usize
 }
 
 /// The edges from one place up to another.
-fn run_of(edges: &[Segment], first: usize, end: usize) -> &[Segment]
+pub(crate) fn run_of(edges: &[Segment], first: usize, end: usize) -> &[Segment]
     requires ordered { first ≤ end }
     requires within { end ≤ length edges.now }
     ensures { result.now ≡ slice_range edges.now first end }

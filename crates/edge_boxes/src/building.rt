@@ -3,10 +3,11 @@
 
 ghost use Rattle.std.specs.Prelude.{◌≡◌, ◌≤◌, ◌<◌, ◌-◌, length, List, [], Some, slice_get, IfOk, OnOk, IfSome};
 ghost use Rattle.edge_boxes.specs.BoxLists.{AreBoxes, IsRun, covered};
-ghost use Rattle.edge_boxes.specs.Builds.{KeepsBoxes, IsNextFirst, IsNextBox, IsRunFrom};
+ghost use Rattle.edge_boxes.specs.Builds.{KeepsBoxes, IsNextFirst, IsNextBox, IsRunFrom, IsStripAt};
 
-use crate::boxes::EdgeBox;
+use crate::boxes::{EdgeBox, covered, run_of};
 use crate::runs::Run;
+use crate::strips::Strip;
 use orient::Segment;
 use std::alloc::{AllocError, Global};
 
@@ -17,6 +18,9 @@ const FEW_EDGES: usize = 16;
 const LEAST_LEAF: usize = 4;
 
 const GREATEST_LEAF: usize = 8;
+
+/// The most edges of a box whose strip is kept; each strip takes a walk along its edges.
+const STRIP_EDGES: usize = 128;
 
 /// How many subtrees are joined to one.
 const SUBTREES: usize = 4;
@@ -30,7 +34,34 @@ pub(crate) fn boxes_over(alloc: Global, edges: &[Segment]) -> Result<Vec<EdgeBox
         return Ok(boxes);
     }
     push_boxes(&mut boxes, edges)?;
+    take_strips(&mut boxes, edges);
     Ok(boxes)
+}
+
+/// Keeps with the boxes over few edges their strips.
+fn take_strips(boxes: &mut Vec<EdgeBox>, edges: &[Segment])
+    requires { AreBoxes boxes.old.items edges.now }
+    ensures { AreBoxes boxes.new.items edges.now }
+{
+    for place in 0..boxes.len() {
+        let strip = strip_at(boxes.as_slice(), edges, place);
+        boxes[place].run.strip = strip;
+    }
+}
+
+/// The strip of the box at a place, where it has few edges.
+fn strip_at(boxes: &[EdgeBox], edges: &[Segment], place: usize) -> Option<Strip>
+    requires boxes { AreBoxes boxes.now edges.now }
+    requires place { place < length boxes.now }
+    ensures { IsStripAt boxes.now edges.now place result }
+{
+    let at = &boxes[place];
+    let own = run_of(edges, covered(boxes, place - at.size as usize), at.end as usize);
+    if own.len() <= STRIP_EDGES {
+        Strip::of(own)
+    } else {
+        None
+    }
 }
 
 /// Adds the boxes over the edges to none.

@@ -6,11 +6,12 @@ ghost use Rattle.geometry_model.specs.Points.{Point};
 ghost use Rattle.geometry_model.specs.Geometries.{Edge};
 ghost use Rattle.edge_boxes.specs.Runs.{SumsUp};
 ghost use Rattle.edge_boxes.specs.Cells.{IsCellOf};
-ghost use Rattle.edge_boxes.specs.EdgeCrossings.{AreCrossings, IsTold, lie_apart};
+ghost use Rattle.edge_boxes.specs.EdgeCrossings.{AreCrossings, IsTold, IsToldByStrip, lie_apart};
 
 use crate::bounds::Bounds;
 use crate::cells::Cell;
 use crate::runs::{Ends, Run};
+use crate::strips::Strip;
 use fraction::RatPoint;
 use orient::{Segment, crossing_at};
 
@@ -88,16 +89,32 @@ fn is_over(bounds: &Bounds, cell: &Cell) -> bool
     cell.floor_y < bounds.least_y
 }
 
-/// How the point lies to a run of edges that doesn't hold it, where the run's bounds and ends tell.
+/// How the point lies to a run of edges that doesn't hold it, where the run's strip and ends tell.
+fn told_by_strip(strip: &Strip, ends: &Ends, cell: &Cell) -> Option<Crossings>
+    ensures { IfSome result (IsToldByStrip strip.now ends.now cell.now) }
+{
+    if strip.is_under(cell) {
+        Some(NONE)
+    } else if strip.is_over(cell) && ends.is_chain {
+        Some(above(spans(ends, cell.floor_x)))
+    } else {
+        None
+    }
+}
+
+/// How the point lies to a run of edges that doesn't hold it, where the run's bounds and ends tell, or its strip and ends.
 pub(crate) fn told(run: &Run, cell: &Cell) -> Option<Crossings>
     ensures { IfSome result (IsTold run.now cell.now) }
 {
     if is_apart(&run.bounds, cell) {
-        Some(NONE)
-    } else if is_over(&run.bounds, cell) && run.ends.is_chain {
-        Some(above(spans(&run.ends, cell.floor_x)))
-    } else {
-        None
+        return Some(NONE);
+    }
+    if is_over(&run.bounds, cell) && run.ends.is_chain {
+        return Some(above(spans(&run.ends, cell.floor_x)));
+    }
+    match &run.strip {
+        Some(strip) => told_by_strip(strip, &run.ends, cell),
+        None => None,
     }
 }
 

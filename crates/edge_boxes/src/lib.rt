@@ -10,6 +10,7 @@ pub mod crossings;
 pub mod laws;
 mod meetings;
 mod runs;
+mod strips;
 
 pub use bounds::Bounds;
 pub use boxes::EdgeBoxes;

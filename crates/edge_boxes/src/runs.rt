@@ -5,6 +5,7 @@ ghost use Rattle.geometry_model.specs.Geometries.{Edge};
 ghost use Rattle.edge_boxes.specs.Runs.{SumsUp, SumsUpEnds};
 
 use crate::bounds::Bounds;
+use crate::strips::Strip;
 use orient::Segment;
 
 /// The first and the last x of a chain of edges, where the run is one as far as it can be told by them.
@@ -15,11 +16,12 @@ pub(crate) struct Ends {
     pub(crate) is_chain: bool,
 }
 
-/// The bounds and the ends of a run of edges.
+/// The bounds and the ends of a run of edges, and a strip of them where one was taken.
 #[derive(Clone, Copy, Debug)]
 pub(crate) struct Run {
     pub(crate) bounds: Bounds,
     pub(crate) ends: Ends,
+    pub(crate) strip: Option<Strip>,
 }
 
 /// The ends of one edge.
@@ -59,23 +61,25 @@ fn join_ends(first: Ends, second: Ends) -> Ends
 }
 
 impl Run {
-    /// That of one edge.
+    /// That of one edge, without a strip.
     pub(crate) fn of(edge: &Segment) -> Run
         ensures { SumsUp result (edge.now ∷ []) }
     {
         Run {
             bounds: Bounds::of(edge),
             ends: ends_of(edge),
+            strip: None,
         }
     }
 
-    /// That of two runs, one behind the other.
+    /// That of two runs, one behind the other, without a strip.
     pub(crate) fn join(self, later: Run) -> Run
         ensures { (xs ys : List Edge) → SumsUp self xs → SumsUp later ys → SumsUp result (xs ++ ys) }
     {
         Run {
             bounds: self.bounds.join(later.bounds),
             ends: join_ends(self.ends, later.ends),
+            strip: None,
         }
     }
 }

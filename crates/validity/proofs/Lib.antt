@@ -7,6 +7,7 @@ pub mod Finding
 pub mod Kept
 pub mod Near
 pub mod NearNumbers
+pub mod OddEndFacts
 pub mod OutlineFacts
 pub mod PartFacts
 pub mod PolygonPromises

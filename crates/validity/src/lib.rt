@@ -6,6 +6,7 @@ pub mod checked_texts;
 mod first_faults;
 mod near_edges;
 mod neighbours;
+mod odd_ends;
 mod outlines;
 mod part_tests;
 mod runs;

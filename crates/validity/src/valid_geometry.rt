@@ -5,14 +5,17 @@ ghost use Rattle.geometry_model.specs.Geometries as spec;
 ghost use Rattle.geometry_model.specs.Validity.{IsValid};
 ghost use Rattle.geometry_model.specs.FirstFaults.{validity_fault};
 ghost use Rattle.edge_boxes.specs.BoxLists.{BoxesOf};
+ghost use Rattle.validity.specs.OddEnds.{AreOddEnds, ended_lines};
 ghost use Rattle.validity.specs.CheckFaults.{IsFaultOf, IsStandingFaultOf, IsFirstFaultOf};
 ghost use Rattle.validity.specs.PolygonPromises.{HolesAreCutOut, HolesAreInside, InteriorByElements, ElementsAreApart};
 ghost use Rattle.validity.specs.PolygonPromises.{StretchesStay, OutsideIsExterior, RingsPart, RingsHaveSides};
 
 use crate::check_fault::CheckFault;
 use crate::first_faults::first_fault;
+use crate::odd_ends::odd_ends;
 use crate::outlines::Outline;
 use edge_boxes::EdgeBoxes;
+use fraction::GridPoint;
 use geometry_model::Kind;
 use orient::Segment;
 use std::alloc::Global;
@@ -25,6 +28,8 @@ pub struct Valid {
     outline: Outline,
     /// The boxes over its edges.
     boxes: EdgeBoxes,
+    /// The positions on which an odd number of ends of its lines stand.
+    odd_ends: Vec<GridPoint>,
 }
 
 impl Model for Valid {
@@ -35,7 +40,7 @@ impl Model for Valid {
 
     ghost view = { λ v. v.outline };
 
-    ghost invariant = { λ v. IsKept v.outline v.boxes };
+    ghost invariant = { λ v. IsKept v.outline v.boxes v.odd_ends.items };
 }
 
 impl Valid {
@@ -74,6 +79,14 @@ impl Valid {
     {
         &self.boxes
     }
+
+    /// Lends the positions on which an odd number of ends of its lines stand, ascending, each once: the boundary of lines
+    /// (06-103r4, 6.1.8.1: the mod 2 rule). Points and areas have none.
+    pub fn odd_ends(&self) -> &[GridPoint]
+        ensures { AreOddEnds result.now (ended_lines self.now) }
+    {
+        self.odd_ends.as_slice()
+    }
 }
 
 /// Takes a geometry as valid where it has no fault, and otherwise answers its first fault: the faults are tested in
@@ -101,6 +114,13 @@ pub fn check(alloc: Global, geometry: Geometry) -> Result<Valid, CheckFault>
     let boxes = EdgeBoxes::build(alloc, outline.segments())?;
     match first_fault(alloc, &outline)? {
         Some(fault) => Err(CheckFault::of(fault)),
-        None => Ok(Valid { outline, boxes }),
+        None => {
+            let odd_ends = odd_ends(alloc, outline.geometry())?;
+            Ok(Valid {
+                outline,
+                boxes,
+                odd_ends,
+            })
+        }
     }
 }

@@ -1,4 +1,4 @@
-use Rattle.std.proofs.Common.{◌≤◌, length, arith}
+use Rattle.std.proofs.Common.{length, arith}
 use Rattle.edge_boxes.proofs.BoxFacts.{covered_within}
 use Rattle.edge_boxes.proofs.boxes.crossings_among.Goals as goal
 

@@ -1,4 +1,4 @@
-use Rattle.std.proofs.Common.{◌≡◌, ◌≤◌, length, sym, ap, ◌∙◌, arith}
+use Rattle.std.proofs.Common.{◌≤◌, length, sym, ◌∙◌, arith}
 use Rattle.edge_boxes.proofs.BoxFacts.{covered_within}
 use Rattle.edge_boxes.proofs.Steps.{on_uncovered, on_at_step}
 use Rattle.edge_boxes.proofs.boxes.is_held_among.Goals as goal

@@ -1,4 +1,3 @@
-use Rattle.std.proofs.Common.{◌≡◌, ◌≤◌, Some, None, sym, subst, rules, arith}
 use Rattle.edge_boxes.proofs.Steps.{box_before, told_step, leaf_ordered, leaf_step, inner_step}
 use Rattle.edge_boxes.proofs.boxes.step.Goals as goal
 

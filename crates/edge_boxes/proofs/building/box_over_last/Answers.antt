@@ -1,4 +1,4 @@
-use Rattle.std.proofs.Common.{◌≡◌, Some, length, refl, sym, ap, ◌∙◌, subst, arith, rules}
+use Rattle.std.proofs.Common.{refl, rules}
 use Rattle.edge_boxes.proofs.Growing.{next_box}
 use Rattle.edge_boxes.proofs.building.box_over_last.Goals as goal
 

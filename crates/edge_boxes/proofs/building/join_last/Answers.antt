@@ -1,5 +1,3 @@
-use Rattle.std.proofs.Common.{◌≡◌, sym, ap, ◌∙◌, rules}
-use Rattle.edge_boxes.specs.Builds.{IsNextBox}
 use Rattle.edge_boxes.proofs.Growing.{keeps_joined}
 use Rattle.edge_boxes.proofs.building.join_last.Goals as goal
 

@@ -1,4 +1,4 @@
-use Rattle.std.proofs.Common.{◌≤◌, arith, rules}
+use Rattle.std.proofs.Common.{rules}
 use Rattle.edge_boxes.proofs.Growing.{keeps_on}
 use Rattle.edge_boxes.proofs.building.join_rest.Goals as goal
 

@@ -1,4 +1,4 @@
-use Rattle.std.proofs.Common.{◌≡◌, ◌<◌, length, arith, rules}
+use Rattle.std.proofs.Common.{arith, rules}
 use Rattle.edge_boxes.proofs.Growing.{run_and_one}
 use Rattle.edge_boxes.proofs.building.leaf.Goals as goal
 

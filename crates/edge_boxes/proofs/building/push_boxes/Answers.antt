@@ -1,4 +1,4 @@
-use Rattle.std.proofs.Common.{◌≡◌, ◌≤◌, ◌<◌, arith, rules}
+use Rattle.std.proofs.Common.{arith}
 use Rattle.edge_boxes.proofs.Growing.{keeps_on, kept_first}
 use Rattle.edge_boxes.proofs.building.push_boxes.Goals as goal
 

@@ -1,4 +1,4 @@
-use Rattle.std.proofs.Common.{◌≡◌, inl, sym, ap, ◌∙◌, rules}
+use Rattle.std.proofs.Common.{inl}
 use Rattle.edge_boxes.proofs.Growing.{next_leaf}
 use Rattle.edge_boxes.proofs.building.push_leaf.Goals as goal
 

@@ -1,4 +1,4 @@
-use Rattle.std.proofs.Common.{◌≡◌, ◌<◌, ◌≤◌, length, sym, subst, arith, rules}
+use Rattle.std.proofs.Common.{sym, subst, arith, rules}
 use Rattle.edge_boxes.specs.Builds.{IsRunFrom}
 use Rattle.edge_boxes.proofs.Growing.{run_more}
 use Rattle.edge_boxes.proofs.building.run_of_last.Goals as goal

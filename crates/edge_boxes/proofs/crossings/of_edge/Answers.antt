@@ -1,4 +1,4 @@
-use Rattle.std.proofs.Common.{◌≡◌, [], ◌∷◌, sym, ◌∙◌}
+use Rattle.std.proofs.Common.{[], ◌∷◌}
 use Rattle.edge_boxes.proofs.crossings.of_edge.Goals as goal
 
 pub returns-in-Some : goal.returns-in-Some

@@ -1,6 +1,4 @@
-use Rattle.std.proofs.Common.{◌≡◌, ◌<◌, ◌∷◌, [], ◌++◌, length, take, sym, subst, rules}
-use Rattle.std.proofs.lemmas.List.{take_more}
-use Rattle.edge_boxes.specs.EdgeCrossings.{AreCrossings}
+use Rattle.std.proofs.Common.{◌<◌, ◌∷◌, [], length, take, rules}
 use Rattle.edge_boxes.proofs.Telling.{one_more}
 use Rattle.edge_boxes.proofs.crossings.of_edges.Goals as goal
 

@@ -1,4 +1,4 @@
-use Rattle.std.proofs.Common.{◌≡◌, ◌≤◌, ◌++◌, length, reverse, sym, ap, ◌∙◌, arith, rules}
+use Rattle.std.proofs.Common.{◌≡◌, ◌≤◌, ◌++◌, length, reverse, ap, ◌∙◌, arith, rules}
 use Rattle.edge_boxes.specs.BoxLists.{covered}
 use Rattle.edge_boxes.proofs.BoxFacts.{covered_within}
 use Rattle.edge_boxes.proofs.Meeting.{asked_joined, asked_uncovered, rest_found}

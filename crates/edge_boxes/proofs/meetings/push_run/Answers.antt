@@ -1,4 +1,4 @@
-use Rattle.std.proofs.Common.{◌≡◌, ◌<◌, ◌≤◌, ◌-◌, length, arith, rules}
+use Rattle.std.proofs.Common.{◌<◌, arith, rules}
 use Rattle.edge_boxes.proofs.Meeting.{found_before_end}
 use Rattle.edge_boxes.proofs.meetings.push_run.Goals as goal
 

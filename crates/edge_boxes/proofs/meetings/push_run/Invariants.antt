@@ -1,4 +1,4 @@
-use Rattle.std.proofs.Common.{◌≡◌, ◌≤◌, ◌-◌, ◌++◌, reverse}
+use Rattle.std.proofs.Common.{◌≡◌, ◌≤◌, ◌++◌, reverse}
 use Rattle.std.specs.Prelude.{slice_range}
 use Rattle.edge_boxes.specs.Meetings.{places_asked}
 use Rattle.edge_boxes.proofs.meetings.push_run.Given as goal

@@ -1,4 +1,4 @@
-use Rattle.std.proofs.Common.{◌≡◌, ◌≤◌, true, false, not, sym, ap, ◌∙◌, rules, arith}
+use Rattle.std.proofs.Common.{rules}
 use Rattle.edge_boxes.proofs.Steps.{box_before, leaf_ordered}
 use Rattle.edge_boxes.proofs.Meeting.{skip_step, leaf_asked, inner_asked}
 use Rattle.edge_boxes.proofs.meetings.push_step.Goals as goal

@@ -18,7 +18,8 @@ returns-in-Some-clause-fault c = found_is_told c.args.geometry c.of-in-Some.resu
     (ap validity_fault (sym c.in_ok-outline.ensures) ∙ (sym c.in_ok-fault.ensures ∙ c.in-Some.is))
 
 pub invariant_of-result : goal.invariant_of-result
-invariant_of-result c = is_kept c.in_ok-outline.outline c.segments.result.now c.in_ok-boxes.boxes c.segments.ensures c.in_ok-boxes.ensures (sym c.in_ok-fault.ensures ∙ c.in-None.is)
+invariant_of-result c = is_kept c.in_ok-outline.outline c.segments.result.now c.in_ok-boxes.boxes c.in_ok-odd_ends.odd_ends.items c.segments.ensures c.in_ok-boxes.ensures
+    (rw (← c.geometry-in-None.ensures) c.in_ok-odd_ends.ensures) (sym c.in_ok-fault.ensures ∙ c.in-None.is)
 
 pub returns-in-None-clause-holes : goal.returns-in-None-clause-holes
 returns-in-None-clause-holes c = holes_are_cut_out c.args.geometry (none_found_valid c.in_ok-outline.ensures c.in_ok-fault.ensures c.in-None.is)

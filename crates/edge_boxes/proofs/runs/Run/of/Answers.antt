@@ -1,4 +1,3 @@
-use Rattle.std.proofs.Common.{◌≡◌, sym, ◌∙◌}
 use Rattle.edge_boxes.proofs.RunSums.{own_bounds}
 use Rattle.edge_boxes.proofs.runs.Run.of.Goals as goal
 
@@ -6,4 +5,5 @@ pub returns : goal.returns
 returns c = record {
   lies = rw c.of.ensures (own_bounds c.args.edge.now, tt);
   ends = c.ends_of.ensures;
+  strip = tt;
 }

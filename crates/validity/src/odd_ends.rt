@@ -1,0 +1,86 @@
+//! The positions on which an odd number of ends of lines stand: the boundary of lines (06-103r4, 6.1.8.1: the mod 2 rule).
+
+ghost use Rattle.std.specs.Prelude.{◌≡◌, ◌++◌, [], flat_map, IfOk, OnOk};
+ghost use Rattle.std.specs.List.Sorted.{IsSorted, IsStrictlySortedBy};
+ghost use Rattle.geometry_model.specs.Locations as spec;
+ghost use Rattle.fraction.specs.Orders.{position_order};
+ghost use Rattle.validity.specs.OddEnds.{AreOddEnds, HasParityOf, ends_in, toggled, ended_lines as spec_ended_lines};
+
+use fraction::GridPoint;
+use geometry_model::Kind;
+use std::alloc::{AllocError, Global};
+use wkt::{Geometry, LineString};
+
+/// Those of a geometry: of an area and of points none. It may fail for want of memory.
+pub(crate) fn odd_ends(alloc: Global, geometry: &Geometry) -> Result<Vec<GridPoint>, AllocError>
+    ensures { IfOk result (λ found. AreOddEnds found.items (spec_ended_lines geometry.now)) }
+{
+    let mut ends = ends_of(alloc, ended_lines(geometry))?;
+    ends.sort_unstable();
+    odd_ones(alloc, ends.as_slice())
+}
+
+/// The lines whose ends may be a boundary.
+fn ended_lines(geometry: &Geometry) -> &[LineString]
+    ensures { result.now ≡ spec_ended_lines geometry.now }
+{
+    match geometry.kind() {
+        Kind::Line => geometry.lines(),
+        Kind::Point | Kind::Area => &[],
+    }
+}
+
+/// The two ends of each of some lines.
+fn ends_of(alloc: Global, lines: &[LineString]) -> Result<Vec<GridPoint>, AllocError>
+    ensures { IfOk result (λ ends. ends.items ≡ flat_map spec.ends lines.now) }
+{
+    let mut ends = Vec::new(alloc);
+    for line in lines {
+        push_ends(&mut ends, line.positions())?;
+    }
+    Ok(ends)
+}
+
+/// Adds the two ends of a line.
+fn push_ends(ends: &mut Vec<GridPoint>, line: &[GridPoint]) -> Result<(), AllocError>
+    ensures { OnOk result (ends.new.items ≡ ends.old.items ++ spec.ends line.now) }
+{
+    if !line.is_empty() {
+        ends.push(line[0])?;
+        ends.push(line[line.len() - 1])?;
+    }
+    Ok(())
+}
+
+/// Whether the last one is this position.
+fn is_last(positions: &[GridPoint], position: GridPoint) -> bool
+    ensures { result ≡ ends_in positions.now position }
+{
+    !positions.is_empty() && positions[positions.len() - 1] == position
+}
+
+/// Takes the position at the end away where it is this one, and else adds this one.
+fn toggle(found: &mut Vec<GridPoint>, position: GridPoint) -> Result<(), AllocError>
+    ensures { OnOk result (found.new.items ≡ toggled found.old.items position) }
+{
+    if is_last(found.as_slice(), position) {
+        found.pop();
+    } else {
+        found.push(position)?;
+    }
+    Ok(())
+}
+
+/// Of ascending positions those that are listed an odd number of times, each once: each takes the same one before it away,
+/// or else is added.
+fn odd_ones(alloc: Global, given: &[GridPoint]) -> Result<Vec<GridPoint>, AllocError>
+    requires { IsSorted position_order given.now }
+    ensures ascend { IfOk result (λ found. IsStrictlySortedBy position_order found.items) }
+    ensures parity { IfOk result (λ found. HasParityOf found.items given.now) }
+{
+    let mut found = Vec::new(alloc);
+    for position in given {
+        toggle(&mut found, *position)?;
+    }
+    Ok(found)
+}
