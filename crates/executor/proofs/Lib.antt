@@ -4,5 +4,6 @@ mod PlaceLemmas
 mod ProbeLemmas
 mod RowLemmas
 mod RunLemmas
+mod StandingLemmas
 mod WalkLemmas
 pub mod OrderLemmas

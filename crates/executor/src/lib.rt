@@ -5,10 +5,13 @@ mod accesses;
 mod envelopes;
 pub mod execution;
 mod filters;
-mod found;
 mod orders;
 mod places;
+mod progress;
+mod stages;
+pub mod streams;
 mod tables;
 mod walks;
 
 pub use execution::{RowPair, execute};
+pub use streams::Rows;
