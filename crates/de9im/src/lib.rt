@@ -14,6 +14,3 @@ pub use pattern::MatrixPattern;
 pub use predicate::{SpatialPredicate, holds};
 pub use relating::relate;
 pub use work::Work;
-
-#[cfg(test)]
-mod tests;

@@ -14,6 +14,3 @@ mod runs;
 pub use bounds::Bounds;
 pub use boxes::EdgeBoxes;
 pub use crossings::Crossings;
-
-#[cfg(test)]
-mod tests;

@@ -19,6 +19,3 @@ pub use answers::Meet;
 pub use meetings::meet;
 pub use noded::Noded;
 pub use nodings::node;
-
-#[cfg(test)]
-mod tests;

@@ -4,5 +4,3 @@
 pub mod double_keys;
 pub mod feature_tables;
 pub mod loading;
-#[cfg(test)]
-mod tests;
