@@ -13,6 +13,3 @@ pub use pattern::MatrixPattern;
 pub use predicate::{SpatialPredicate, holds};
 pub use relating::{matrix_of_labels, relate};
 pub use work::Work;
-
-#[cfg(test)]
-mod tests;

@@ -15,6 +15,3 @@ mod strips;
 pub use bounds::Bounds;
 pub use boxes::EdgeBoxes;
 pub use crossings::Crossings;
-
-#[cfg(test)]
-mod tests;

@@ -1,14 +1,20 @@
-//! The first fault of areas, and areas that have none.
+//! The first fault of areas and lines, and areas that have none.
 
+use std::alloc::Global;
 use std::test::Fail;
 use validity::{CheckFault, check};
 use wkt::read;
 
+// The fault of the geometry of a text.
+fn fault_of(alloc: Global, text: &[u8]) -> Result<Option<CheckFault>, Fail> {
+    Ok(check(alloc, read(alloc, text)?).err())
+}
+
 #[test]
-fn rings_are_long_closed_and_simple(rt: HostRuntime) -> Result<(), Fail> {
-    // One that crosses itself, neighbours that overlap, a repeat that is dropped, an open one, a spike, one that passes a
-    // position twice, a flat one; none.
-    let cases: [(&[u8], Option<CheckFault>); 8] = [
+fn first_faults(rt: HostRuntime) -> Result<(), Fail> {
+    let cases: [(&[u8], Option<CheckFault>); 29] = [
+        // Rings that are short, open or not simple: one that crosses itself, neighbours that overlap, a repeat that is dropped, an open
+        // one, a spike, one that passes a position twice, a flat one; none.
         (
             b"POLYGON((0 0,4 4,4 0,0 4,0 0))",
             Some(CheckFault::RingNotSimple(0)),
@@ -38,18 +44,8 @@ fn rings_are_long_closed_and_simple(rt: HostRuntime) -> Result<(), Fail> {
             Some(CheckFault::RingNotSimple(0)),
         ),
         (b"POLYGON EMPTY", None),
-    ];
-    for (text, fault) in cases {
-        assert_eq!(rt; check(rt.alloc(), read(rt.alloc(), text)?).err(), fault);
-    }
-    Ok(())
-}
-
-#[test]
-fn rings_of_a_polygon_lie_apart(rt: HostRuntime) -> Result<(), Fail> {
-    // Two holes with a common corner, a hole that touches the outer ring in a point, in a stretch, everywhere, a hole
-    // outside, nested holes in either order; two holes apart.
-    let cases: [(&[u8], Option<CheckFault>); 8] = [
+        // Two holes with a common corner, a hole that touches the outer ring in a point, in a stretch, everywhere, a hole outside,
+        // nested holes in either order; two holes apart.
         (
             b"POLYGON((0 0,9 0,9 9,0 9,0 0),(1 1,4 1,4 4,1 1),(4 4,7 4,7 7,4 4))",
             Some(CheckFault::RingsMeet(1, 2)),
@@ -82,49 +78,26 @@ fn rings_of_a_polygon_lie_apart(rt: HostRuntime) -> Result<(), Fail> {
             b"POLYGON((0 0,9 0,9 9,0 9,0 0),(1 1,2 1,2 2,1 1),(5 5,6 5,6 6,5 5))",
             None,
         ),
-    ];
-    for (text, fault) in cases {
-        assert_eq!(rt; check(rt.alloc(), read(rt.alloc(), text)?).err(), fault);
-    }
-    Ok(())
-}
-
-#[test]
-fn the_first_fault_alone_is_told(rt: HostRuntime) -> Result<(), Fail> {
-    // An open ring that is outside too, a ring that crosses itself before two that meet, two that meet before a hole outside,
-    // a short element behind one that is long enough.
-    let cases: [(&[u8], CheckFault); 4] = [
+        // The first of two faults: an open ring that is outside too, a ring that crosses itself before two that meet, two that meet
+        // before a hole outside, a short element behind one that is long enough.
         (
             b"POLYGON((0 0,9 0,9 9,0 9,0 0),(1 1,2 1,2 2,1 1),(20 20,21 20,21 21,20 21))",
-            CheckFault::RingNotClosed(2),
+            Some(CheckFault::RingNotClosed(2)),
         ),
         (
             b"POLYGON((0 0,9 0,9 9,0 9,0 0),(1 1,3 3,3 1,1 3,1 1),(0 4,1 4,1 5,0 4))",
-            CheckFault::RingNotSimple(1),
+            Some(CheckFault::RingNotSimple(1)),
         ),
         (
             b"POLYGON((0 0,9 0,9 9,0 9,0 0),(20 20,21 20,21 21,20 20),(0 4,1 4,1 5,0 4))",
-            CheckFault::RingsMeet(0, 2),
+            Some(CheckFault::RingsMeet(0, 2)),
         ),
         (
             b"MULTILINESTRING((0 0,1 1),(2 2))",
-            CheckFault::TooFewPoints(1),
+            Some(CheckFault::TooFewPoints(1)),
         ),
-    ];
-    for (text, fault) in cases {
-        assert_eq!(rt;
-            check(rt.alloc(), read(rt.alloc(), text)?).err(),
-            Some(fault)
-        );
-    }
-    Ok(())
-}
-
-#[test]
-fn polygons_of_an_area_lie_apart(rt: HostRuntime) -> Result<(), Fail> {
-    // A common corner, two that are equal, one inside another in either order, a hole of the second one outside; one in a
-    // hole of another, none.
-    let cases: [(&[u8], Option<CheckFault>); 7] = [
+        // Polygons: a common corner, two that are equal, one inside another in either order, a hole of the second one outside; one
+        // in a hole of another, none.
         (
             b"MULTIPOLYGON(((0 0,4 0,4 4,0 4,0 0)),((4 4,5 4,5 5,4 4)))",
             Some(CheckFault::ElementsMeet(0, 1)),
@@ -150,9 +123,12 @@ fn polygons_of_an_area_lie_apart(rt: HostRuntime) -> Result<(), Fail> {
             None,
         ),
         (b"MULTIPOLYGON EMPTY", None),
+        // Lines of one position.
+        (b"LINESTRING(3 3)", Some(CheckFault::TooFewPoints(0))),
+        (b"LINESTRING(3 3,3 3)", Some(CheckFault::TooFewPoints(0))),
     ];
     for (text, fault) in cases {
-        assert_eq!(rt; check(rt.alloc(), read(rt.alloc(), text)?).err(), fault);
+        assert!(rt; fault_of(rt.alloc(), text)? == fault);
     }
     Ok(())
 }

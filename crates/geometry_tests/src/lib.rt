@@ -1,8 +1,10 @@
-//! Tests of texts, validity, location and relations of geometries.
+//! Tests of texts, segments, validity, location and relations of geometries.
 #![tactic(auto)]
 
 #[cfg(test)]
 mod area_validity_tests;
+#[cfg(test)]
+mod box_tests;
 #[cfg(test)]
 mod envelope_tests;
 #[cfg(test)]
@@ -10,12 +12,18 @@ mod gap_tests;
 #[cfg(test)]
 mod location_tests;
 #[cfg(test)]
+mod noding_tests;
+#[cfg(test)]
 mod pair_tests;
+#[cfg(test)]
+mod predicate_tests;
 #[cfg(test)]
 mod printing_tests;
 #[cfg(test)]
 mod reading_tests;
 #[cfg(test)]
 mod relation_tests;
+#[cfg(test)]
+mod rows;
 #[cfg(test)]
 mod validity_tests;

@@ -1,111 +1,84 @@
-//! Where points stand in geometries of points and lines.
+//! Where points stand in geometries.
 
-use fraction::{GridPoint, RatPoint};
-use side_labels::{Location, labels, locate};
+use crate::rows::{number, parts_of, position};
+use fraction::RatPoint;
+use side_labels::{Labels, Location, labels, locate};
+use std::alloc::Global;
 use std::test::Fail;
 use validity::check;
 use wkt::read;
 
-#[test]
-fn points_in_listed_points(rt: HostRuntime) -> Result<(), Fail> {
-    let cases: [(&[u8], (i32, i32), Location); 8] = [
-        (b"POINT(1 2)", (1, 2), Location::Interior),
-        (b"POINT(1 2)", (2, 1), Location::Exterior),
-        (b"POINT EMPTY", (0, 0), Location::Exterior),
-        (b"MULTIPOINT EMPTY", (0, 0), Location::Exterior),
-        (b"MULTIPOINT((1 2),(3 4))", (1, 2), Location::Interior),
-        (b"MULTIPOINT((1 2),(3 4))", (3, 4), Location::Interior),
-        (b"MULTIPOINT((1 2),(3 4))", (1, 4), Location::Exterior),
-        (b"MULTIPOINT(1 1,1 1)", (1, 1), Location::Interior),
-    ];
-    for (text, (x, y), location) in cases {
-        let valid = check(rt.alloc(), read(rt.alloc(), text)?)?;
-        let p = RatPoint::of_grid(GridPoint::new(x, y).ok_or("past the limit")?);
-        assert_eq!(rt; locate(&valid, &p), location, "{p:?}");
+// A geometry, a point by both numerators and the denominator, and where it stands. A closed line has no boundary, two ends at
+// one point cancel, and three don't.
+const LOCATED: &str = "POINT(1 2) | 1 2 over 1 | interior
+POINT(1 2) | 2 1 over 1 | exterior
+POINT(3 1) | 3 1 over 2 | exterior
+POINT(3 1) | 6 2 over 2 | interior
+POINT EMPTY | 0 0 over 1 | exterior
+MULTIPOINT EMPTY | 0 0 over 1 | exterior
+MULTIPOINT((1 2),(3 4)) | 1 2 over 1 | interior
+MULTIPOINT((1 2),(3 4)) | 3 4 over 1 | interior
+MULTIPOINT((1 2),(3 4)) | 1 4 over 1 | exterior
+MULTIPOINT(1 1,1 1) | 1 1 over 1 | interior
+LINESTRING(0 0,2 1,4 0) | 0 0 over 1 | boundary
+LINESTRING(0 0,2 1,4 0) | 2 1 over 1 | interior
+LINESTRING(0 0,2 1,4 0) | 2 0 over 1 | exterior
+LINESTRING(0 0,2 1,4 0) | 2 1 over 2 | interior
+LINESTRING(0 0,2 0,2 2,0 0) | 0 0 over 1 | interior
+LINESTRING EMPTY | 0 0 over 1 | exterior
+MULTILINESTRING((0 0,2 0),(2 0,4 0)) | 2 0 over 1 | interior
+MULTILINESTRING((0 0,2 0),(2 0,4 0),(2 0,2 2)) | 2 0 over 1 | boundary
+POLYGON((0 2,2 0,4 2,2 4,0 2)) | 2 1 over 1 | interior
+POLYGON((0 2,2 0,4 2,2 4,0 2)) | 2 2 over 1 | interior
+POLYGON((0 2,2 0,4 2,2 4,0 2)) | 4 2 over 1 | boundary
+POLYGON((0 0,10 0,10 10,0 10,0 0),(4 4,6 4,6 6,4 6,4 4)) | 5 5 over 1 | exterior
+POLYGON((0 0,10 0,10 10,0 10,0 0),(4 4,6 4,6 6,4 6,4 4)) | 4 5 over 1 | boundary
+POLYGON((0 0,10 0,10 10,0 10,0 0),(4 4,6 4,6 6,4 6,4 4)) | 2 5 over 1 | interior
+MULTIPOLYGON(((0 0,4 0,4 4,0 4,0 0)),((6 0,8 0,8 4,6 4,6 0))) | 5 2 over 1 | exterior
+MULTIPOLYGON(((0 0,4 0,4 4,0 4,0 0)),((6 0,8 0,8 4,6 4,6 0))) | 7 2 over 1 | interior
+MULTIPOLYGON(((0 0,9 0,9 9,0 9,0 0),(2 2,8 2,8 8,2 8,2 2)),((4 4,6 4,6 6,4 6,4 4))) | 3 3 over 1 | exterior
+MULTIPOLYGON(((0 0,9 0,9 9,0 9,0 0),(2 2,8 2,8 8,2 8,2 2)),((4 4,6 4,6 6,4 6,4 4))) | 5 5 over 1 | interior";
+
+// The point of two numerators over a denominator.
+fn point(text: &str) -> Result<RatPoint, Fail> {
+    let (numerators, denominator) = text.split_once(" over ").ok_or("no denominator")?;
+    let (at, w) = (position(numerators)?, number(denominator)?);
+    if w < 1 {
+        return Err(Fail::new("no denominator"));
     }
-    // The numerators alone are those of the listed position.
-    let valid = check(rt.alloc(), read(rt.alloc(), b"POINT(3 1)")?)?;
-    assert_eq!(rt;
-        locate(&valid, &RatPoint::reduced(3, 1, 2)),
-        Location::Exterior
-    );
-    assert_eq!(rt;
-        locate(&valid, &RatPoint::reduced(6, 2, 2)),
-        Location::Interior
-    );
-    Ok(())
+    Ok(RatPoint::reduced(i128::from(at.x()), i128::from(at.y()), i64::from(w)))
+}
+
+// Where a point stands in the geometry of a text.
+fn located(alloc: Global, text: &str, point: &RatPoint) -> Result<&'static str, Fail> {
+    let valid = check(alloc, read(alloc, text.as_bytes())?)?;
+    Ok(match locate(&valid, point) {
+        Location::Interior => "interior",
+        Location::Boundary => "boundary",
+        Location::Exterior => "exterior",
+    })
 }
 
 #[test]
-fn points_in_lines(rt: HostRuntime) -> Result<(), Fail> {
-    let cases: [(&[u8], (i32, i32), Location); 7] = [
-        (b"LINESTRING(0 0,2 1,4 0)", (0, 0), Location::Boundary),
-        (b"LINESTRING(0 0,2 1,4 0)", (2, 1), Location::Interior),
-        (b"LINESTRING(0 0,2 1,4 0)", (2, 0), Location::Exterior),
-        // A closed line has no boundary.
-        (b"LINESTRING(0 0,2 0,2 2,0 0)", (0, 0), Location::Interior),
-        (b"LINESTRING EMPTY", (0, 0), Location::Exterior),
-        // Two ends at one point cancel, three don't.
-        (
-            b"MULTILINESTRING((0 0,2 0),(2 0,4 0))",
-            (2, 0),
-            Location::Interior,
-        ),
-        (
-            b"MULTILINESTRING((0 0,2 0),(2 0,4 0),(2 0,2 2))",
-            (2, 0),
-            Location::Boundary,
-        ),
-    ];
-    for (text, (x, y), location) in cases {
-        let valid = check(rt.alloc(), read(rt.alloc(), text)?)?;
-        let p = RatPoint::of_grid(GridPoint::new(x, y).ok_or("past the limit")?);
-        assert_eq!(rt; locate(&valid, &p), location, "{p:?}");
+fn points_in_geometries(rt: HostRuntime) -> Result<(), Fail> {
+    for row in LOCATED.lines() {
+        let (text, place, wanted) = parts_of(row)?;
+        assert!(rt; located(rt.alloc(), text, &point(place)?)? == wanted);
     }
-    let valid = check(rt.alloc(), read(rt.alloc(), b"LINESTRING(0 0,2 1,4 0)")?)?;
-    assert_eq!(rt;
-        locate(&valid, &RatPoint::reduced(2, 1, 2)),
-        Location::Interior
-    );
     Ok(())
 }
 
-#[test]
-fn points_in_areas(rt: HostRuntime) -> Result<(), Fail> {
-    let diamond: &[u8] = b"POLYGON((0 2,2 0,4 2,2 4,0 2))";
-    let holed: &[u8] = b"POLYGON((0 0,10 0,10 10,0 10,0 0),(4 4,6 4,6 6,4 6,4 4))";
-    let squares: &[u8] = b"MULTIPOLYGON(((0 0,4 0,4 4,0 4,0 0)),((6 0,8 0,8 4,6 4,6 0)))";
-    let island: &[u8] =
-        b"MULTIPOLYGON(((0 0,9 0,9 9,0 9,0 0),(2 2,8 2,8 8,2 8,2 2)),((4 4,6 4,6 6,4 6,4 4)))";
-    let cases: [(&[u8], (i32, i32), Location); 10] = [
-        // Straight above it stands a position of the ring.
-        (diamond, (2, 1), Location::Interior),
-        (diamond, (2, 2), Location::Interior),
-        (diamond, (4, 2), Location::Boundary),
-        (holed, (5, 5), Location::Exterior),
-        (holed, (4, 5), Location::Boundary),
-        (holed, (2, 5), Location::Interior),
-        (squares, (5, 2), Location::Exterior),
-        (squares, (7, 2), Location::Interior),
-        (island, (3, 3), Location::Exterior),
-        (island, (5, 5), Location::Interior),
-    ];
-    for (text, (x, y), location) in cases {
-        let valid = check(rt.alloc(), read(rt.alloc(), text)?)?;
-        let p = RatPoint::of_grid(GridPoint::new(x, y).ok_or("past the limit")?);
-        assert_eq!(rt; locate(&valid, &p), location, "{p:?}");
-    }
-    Ok(())
+// The labels of two texts.
+fn labelled(alloc: Global, first: &str, second: &str) -> Result<Labels, Fail> {
+    let first = check(alloc, read(alloc, first.as_bytes())?)?;
+    let second = check(alloc, read(alloc, second.as_bytes())?)?;
+    Ok(labels(alloc, &first, &second)?)
 }
 
 #[test]
 fn labels_of_two_lines(rt: HostRuntime) -> Result<(), Fail> {
-    let alloc = rt.alloc();
-    let first = check(alloc, read(alloc, b"LINESTRING(0 0,3 1)")?)?;
-    let second = check(alloc, read(alloc, b"LINESTRING(0 1,2 0)")?)?;
-    let labels = labels(alloc, &first, &second)?;
-    assert_eq!(rt; labels.of_points().len(), 5);
-    assert_eq!(rt; labels.of_pieces().len(), 4);
+    let labels = labelled(rt.alloc(), "LINESTRING(0 0,3 1)", "LINESTRING(0 1,2 0)")?;
+    assert!(rt; (labels.of_points().len(), labels.of_pieces().len()) == (5, 4));
     // The crossing is the third node.
     let crossing = labels.of_points()[2];
     assert!(rt; crossing.is_pair(Location::Interior, Location::Interior));

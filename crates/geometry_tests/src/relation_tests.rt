@@ -1,13 +1,17 @@
 //! Matrices of two geometries, each asked the other way round too.
 
-use de9im::{Work, relate};
+use crate::rows::{parts_of, related};
+use de9im::Work;
 use std::alloc::Global;
 use std::test::Fail;
-use validity::check;
-use wkt::read;
 
 // Two geometries a line, and their matrix.
-const WORKED: &str = "LINESTRING(0 0,3 1) | LINESTRING(0 1,2 0) | 0F1FF0102
+const WORKED: &str = "POINT(1 2) | MULTIPOINT((1 2),(3 4)) | 0FFFFF0F2
+POINT(1 2) | multipoint ( 3 4 ) | FF0FFF0F2
+MULTIPOINT(1 1,1 1) | POINT(+1.00 01) | 0FFFFFFF2
+POINT EMPTY | MULTIPOINT EMPTY | FFFFFFFF2
+POINT EMPTY | POINT(0 0) | FFFFFF0F2
+LINESTRING(0 0,3 1) | LINESTRING(0 1,2 0) | 0F1FF0102
 POINT(0 0) | LINESTRING(0 0,2 0,2 2,0 0) | 0FFFFF1F2
 POINT EMPTY | LINESTRING EMPTY | FFFFFFFF2
 LINESTRING(-100000 -100000,100000 99999) | LINESTRING(-100000 -99999,100000 99998) | 0F1FF0102
@@ -33,7 +37,11 @@ LINESTRING(2 2,7 2) | MULTIPOLYGON(((0 0,4 0,4 4,0 4,0 0)),((6 0,8 0,8 4,6 4,6 0
 POINT(5 2) | MULTIPOLYGON(((0 0,4 0,4 4,0 4,0 0)),((6 0,8 0,8 4,6 4,6 0))) | FF0FFF212
 POLYGON((0 0,4 0,4 4,0 4,0 0)) | MULTIPOLYGON(((0 0,4 0,4 4,0 4,0 0)),((6 0,8 0,8 4,6 4,6 0))) | 2FFF1F212
 POINT(5 5) | MULTIPOLYGON(((0 0,10 0,10 10,0 10,0 0),(2 2,8 2,8 8,2 8,2 2)),((4 4,6 4,6 6,4 6,4 4))) | 0FFFFF212
-POINT(3 3) | MULTIPOLYGON(((0 0,10 0,10 10,0 10,0 0),(2 2,8 2,8 8,2 8,2 2)),((4 4,6 4,6 6,4 6,4 4))) | FF0FFF212";
+POINT(3 3) | MULTIPOLYGON(((0 0,10 0,10 10,0 10,0 0),(2 2,8 2,8 8,2 8,2 2)),((4 4,6 4,6 6,4 6,4 4))) | FF0FFF212
+POINT(5 5) | POLYGON((0 0,1 0,2 0,3 0,4 0,5 0,6 0,7 0,8 0,9 0,10 0,11 0,12 0,13 0,14 0,15 0,16 0,17 0,18 0,19 0,20 0,20 10,19 10,18 10,17 10,16 10,15 10,14 10,13 10,12 10,11 10,10 10,9 10,8 10,7 10,6 10,5 10,4 10,3 10,2 10,1 10,0 10,0 0)) | 0FFFFF212
+POINT(7 0) | POLYGON((0 0,1 0,2 0,3 0,4 0,5 0,6 0,7 0,8 0,9 0,10 0,11 0,12 0,13 0,14 0,15 0,16 0,17 0,18 0,19 0,20 0,20 10,19 10,18 10,17 10,16 10,15 10,14 10,13 10,12 10,11 10,10 10,9 10,8 10,7 10,6 10,5 10,4 10,3 10,2 10,1 10,0 10,0 0)) | F0FFFF212
+POINT(-3 10) | POLYGON((0 0,1 0,2 0,3 0,4 0,5 0,6 0,7 0,8 0,9 0,10 0,11 0,12 0,13 0,14 0,15 0,16 0,17 0,18 0,19 0,20 0,20 10,19 10,18 10,17 10,16 10,15 10,14 10,13 10,12 10,11 10,10 10,9 10,8 10,7 10,6 10,5 10,4 10,3 10,2 10,1 10,0 10,0 0)) | FF0FFF212
+POINT(30 5) | POLYGON((0 0,1 0,2 0,3 0,4 0,5 0,6 0,7 0,8 0,9 0,10 0,11 0,12 0,13 0,14 0,15 0,16 0,17 0,18 0,19 0,20 0,20 10,19 10,18 10,17 10,16 10,15 10,14 10,13 10,12 10,11 10,10 10,9 10,8 10,7 10,6 10,5 10,4 10,3 10,2 10,1 10,0 10,0 0)) | FF0FFF212";
 
 // Pairs of which engines that cut at rounded points tell another matrix.
 const ELSEWHERE: &str = "LINESTRING(3 1,0 0) | MULTILINESTRING((3 0,0 2),(3 1,0 0)) | 1FFF0F102
@@ -44,13 +52,6 @@ LINESTRING(1 0,0 1,-1 0,1 1,1 0) | POLYGON((1 1,-1 0,0 -1,1 1)) | 111FFF212
 MULTILINESTRING((17 24,-30 -56),(8 26,-23 -148)) | POLYGON((3 0,7 8,-6 0,3 0)) | 101FF0212
 POLYGON((1 -1,0 -1,3 3,1 -1)) | LINESTRING(2 1,1 0,3 2) | 1F2F01102";
 
-// The text of the matrix of two texts.
-fn related(alloc: Global, first: &str, second: &str) -> Result<[u8; 9], Fail> {
-    let first = check(alloc, read(alloc, first.as_bytes())?)?;
-    let second = check(alloc, read(alloc, second.as_bytes())?)?;
-    Ok(relate(alloc, &first, &second, &mut Work::new())?.text())
-}
-
 // The text of the transposed matrix.
 fn turned(text: &[u8; 9]) -> [u8; 9] {
     [
@@ -58,22 +59,12 @@ fn turned(text: &[u8; 9]) -> [u8; 9] {
     ]
 }
 
-// The two geometries of a row, and the text of their matrix.
-fn parts_of(row: &str) -> Result<(&str, &str, &str), Fail> {
-    if let Some((first, others)) = row.split_once(" | ") {
-        if let Some((second, matrix)) = others.split_once(" | ") {
-            return Ok((first, second, matrix));
-        }
-    }
-    Err(Fail::new("a row has three parts"))
-}
-
 // Whether each row's matrix is that of its geometries, both ways; else the number of the first that isn't.
 fn first_wrong(alloc: Global, rows: &str) -> Result<Option<usize>, Fail> {
     for (number, row) in rows.lines().enumerate() {
         let (first, second, matrix) = parts_of(row)?;
-        let text = related(alloc, first, second)?;
-        let other = related(alloc, second, first)?;
+        let text = related(alloc, first, second, &mut Work::new())?.0.text();
+        let other = related(alloc, second, first, &mut Work::new())?.0.text();
         if text.as_slice() != matrix.as_bytes() || other != turned(&text) {
             return Ok(Some(number));
         }

@@ -1,60 +1,55 @@
-//! Geometries of points, which have no fault, and the faults that a refusal tells of.
+//! Geometries of points and lines, and the faults that a refusal tells of.
 
-use fraction::GridPoint;
 use geometry_model::{Kind, ValidityFault};
+use std::alloc::Global;
 use std::test::Fail;
 use validity::{CheckFault, check};
-use wkt::read;
+use wkt::{MemorySink, print, read};
 
-#[test]
-fn points_are_valid(rt: HostRuntime) -> Result<(), Fail> {
-    // The text, and the places of its positions.
-    let cases: [(&[u8], &[(i32, i32)]); 5] = [
-        (b"POINT EMPTY", &[]),
-        (b"POINT(1 2)", &[(1, 2)]),
-        (b"MULTIPOINT EMPTY", &[]),
-        (b"MULTIPOINT(1 1,1 1)", &[(1, 1), (1, 1)]),
-        (b"multipoint ( 3 4.0, -1 2 )", &[(3, 4), (-1, 2)]),
-    ];
-    for (text, places) in cases {
-        let valid = check(rt.alloc(), read(rt.alloc(), text)?)?;
-        assert_eq!(rt; valid.kind(), Kind::Point);
-        assert_eq!(rt; valid.is_empty(), places.is_empty());
-        assert!(rt; valid.segments().is_empty());
-        let listed = valid.geometry().listed();
-        assert_eq!(rt; listed.len(), places.len());
-        for (position, (x, y)) in listed.iter().zip(places) {
-            assert!(rt; Some(*position) == GridPoint::new(*x, *y));
-        }
-    }
-    Ok(())
+// The kind of the valid geometry of a text, whether it is empty, and how many segments it has; its text is put.
+fn kept(alloc: Global, text: &str, sink: &mut MemorySink) -> Result<(Kind, bool, usize), Fail> {
+    let valid = check(alloc, read(alloc, text.as_bytes())?)?;
+    print(valid.geometry(), sink)?;
+    Ok((valid.kind(), valid.is_empty(), valid.segments().len()))
 }
 
 #[test]
-fn lines_have_two_positions_or_none(rt: HostRuntime) -> Result<(), Fail> {
-    // The text, and the places of its positions.
-    let cases: [(&[u8], &[(i32, i32)]); 4] = [
-        (b"LINESTRING EMPTY", &[]),
-        (b"LINESTRING(0 0,1 1)", &[(0, 0), (1, 1)]),
+fn points_and_lines_are_kept(rt: HostRuntime) -> Result<(), Fail> {
+    for (text, canonical, wanted) in [
+        ("POINT EMPTY", "POINT EMPTY", (Kind::Point, true, 0)),
+        ("POINT(1 2)", "POINT(1 2)", (Kind::Point, false, 0)),
         (
-            b"LINESTRING(0 0,0 0,1 1,1 1,0 0)",
-            &[(0, 0), (1, 1), (0, 0)],
+            "MULTIPOINT EMPTY",
+            "MULTIPOINT EMPTY",
+            (Kind::Point, true, 0),
         ),
-        (b"linestring(-1 2, 3 4, 5 -6)", &[(-1, 2), (3, 4), (5, -6)]),
-    ];
-    for (text, places) in cases {
-        let valid = check(rt.alloc(), read(rt.alloc(), text)?)?;
-        assert_eq!(rt; valid.kind(), Kind::Line);
-        assert_eq!(rt; valid.is_empty(), places.is_empty());
-        assert_eq!(rt; valid.segments().len(), places.len().saturating_sub(1));
-        for (at, segment) in valid.segments().iter().enumerate() {
-            assert!(rt; Some(segment.start()) == GridPoint::new(places[at].0, places[at].1));
-            assert!(rt; Some(segment.end()) == GridPoint::new(places[at + 1].0, places[at + 1].1));
-        }
-    }
-    for text in ["LINESTRING(3 3)", "LINESTRING(3 3,3 3)"] {
-        let fault = check(rt.alloc(), read(rt.alloc(), text.as_bytes())?).err();
-        assert_eq!(rt; fault, Some(CheckFault::TooFewPoints(0)));
+        (
+            "multipoint ( 3 4.0, -1 2 )",
+            "MULTIPOINT((3 4),(-1 2))",
+            (Kind::Point, false, 0),
+        ),
+        (
+            "LINESTRING EMPTY",
+            "LINESTRING EMPTY",
+            (Kind::Line, true, 0),
+        ),
+        (
+            "LINESTRING(0 0,0 0,1 1,1 1,0 0)",
+            "LINESTRING(0 0,1 1,0 0)",
+            (Kind::Line, false, 2),
+        ),
+        (
+            "linestring(-1 2, 3 4, 5 -6)",
+            "LINESTRING(-1 2,3 4,5 -6)",
+            (Kind::Line, false, 2),
+        ),
+    ] {
+        let mut sink = MemorySink::new(rt.alloc());
+        let told = kept(rt.alloc(), text, &mut sink)?;
+        assert!(rt;
+            told == wanted && sink.bytes() == canonical.as_bytes(),
+            "{text}"
+        );
     }
     Ok(())
 }

@@ -20,6 +20,3 @@ pub use answers::Meet;
 pub use meetings::meet;
 pub use noded::Noded;
 pub use nodings::node;
-
-#[cfg(test)]
-mod tests;

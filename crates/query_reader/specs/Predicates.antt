@@ -3,11 +3,12 @@ use Rattle.std.specs.Prelude.{ℕ, true, if◌then◌else◌, List, [], ◌∷�
 use Rattle.geometry_model.specs.declared.relations.Predicate.{Predicate}
 use Rattle.geometry_model.specs.declared.relations.Predicate.TheVariants as p
 use Rattle.table_model.specs.Parsers.{place, next, ◌<$>◌}
-use Rattle.table_model.specs.QueryReading.{Reader, Functions, calls, called_or, column, geometry, operand_functions, relates, relates_by, tested, comparison}
+use Rattle.table_model.specs.QueryReading.{Reader, Functions, calls, called_or, name, column, geometry, operand_functions, relates, relates_by, tested, comparison}
 use Rattle.table_model.specs.Served.{ServedCond, ServedItem, ServedOperand}
 use Rattle.table_model.specs.declared.queries.WrittenCond.TheVariants as c
 use Rattle.table_model.specs.declared.queries.WrittenItem.TheVariants as i
 use Rattle.table_model.specs.declared.queries.WrittenOperand.TheVariants as o
+use Rattle.table_model.specs.declared.queries.Name.{Name}
 use Rattle.table_model.specs.declared.tokens.Token.{Token}
 
 -- the predicates of two geometries with the names of their functions (06-103r4, 6.1.15.3)
@@ -69,3 +70,7 @@ empty_item at = i.IsEmpty at <$> column
 -- a column, as an item
 abbrev pub column_item : Reader (ServedItem true)
 column_item = i.Column <$> column
+
+-- the name of an alias, where one stands
+abbrev pub some_name : Reader (Option Name)
+some_name = Some <$> name

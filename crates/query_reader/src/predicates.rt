@@ -1,6 +1,6 @@
 //! Reads predicates: calls of the functions that relate geometries, and what they are compared with.
 
-ghost use Rattle.std.specs.Prelude.{◌≡◌};
+ghost use Rattle.std.specs.Prelude.{◌≡◌, map};
 ghost use Rattle.table_model.specs.QueryReading as spec;
 ghost use Rattle.table_model.specs.Parsers as steps;
 ghost use Rattle.table_model.specs.Parsers.{Reads};
@@ -151,18 +151,25 @@ fn emptiness<'a>(
     truth_test(alloc, tokens, WrittenCond::IsEmpty(at, argument))
 }
 
+/// The first predicate of a table that is called next, by its name.
+fn called_of(table: &[(&[u8], Predicate)], tokens: &Cursor<'_, '_>) -> Option<Predicate>
+    ensures { result ≡ named_in (map (λ row. (row.0.now, row.1)) table.now) tokens.now }
+{
+    let mut left = table;
+    while let [entry, rest @ ..] = left {
+        if calls(tokens, entry.0) {
+            return Some(entry.1);
+        }
+        left = rest;
+    }
+    None
+}
+
 /// The predicate of two geometries that is called next, by its name.
 fn named_predicate(tokens: &Cursor<'_, '_>) -> Option<Predicate>
     ensures { result ≡ named_in named_predicates tokens.now }
 {
-    let mut table: &[(&[u8], Predicate)] = &NAMED_PREDICATES;
-    while let [entry, rest @ ..] = table {
-        if calls(tokens, entry.0) {
-            return Some(entry.1);
-        }
-        table = rest;
-    }
-    None
+    called_of(&NAMED_PREDICATES, tokens)
 }
 
 /// Reads ST_Relate, ST_IsEmpty or a comparison.

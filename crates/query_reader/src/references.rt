@@ -2,6 +2,7 @@
 
 ghost use Rattle.table_model.specs.QueryReading as spec;
 ghost use Rattle.table_model.specs.Parsers.{Reads};
+ghost use Rattle.query_reader.specs.Predicates as names;
 ghost use Rattle.query_reader.specs.Language.{language};
 
 use crate::condition::{WrittenCond, condition};
@@ -12,6 +13,13 @@ use table_model::faults::QueryFault;
 use table_model::queries::{LEVEL_LIMIT, Name, WrittenReference};
 use table_model::tokens::TokenKind;
 
+/// Reads the name of an alias.
+fn some_name<'a>(tokens: &mut Cursor<'_, 'a>) -> Result<Option<Name<'a>>, QueryFault>
+    ensures { Reads QueryFault.OutOfMemory (names.some_name tokens.old) result tokens.new }
+{
+    Ok(Some(name(tokens)?))
+}
+
 /// Reads an alias, where one stands.
 #[tactic(auto, unfolding(table_model::specs::QueryReading::alias))]
 fn alias<'a>(tokens: &mut Cursor<'_, 'a>) -> Result<Option<Name<'a>>, QueryFault>
@@ -19,9 +27,9 @@ fn alias<'a>(tokens: &mut Cursor<'_, 'a>) -> Result<Option<Name<'a>>, QueryFault
 {
     if tokens.sees(TokenKind::As) {
         tokens.advance();
-        Ok(Some(name(tokens)?))
+        some_name(tokens)
     } else if tokens.sees(TokenKind::Word) {
-        Ok(Some(name(tokens)?))
+        some_name(tokens)
     } else {
         Ok(None)
     }

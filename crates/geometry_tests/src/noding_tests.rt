@@ -1,0 +1,111 @@
+//! Segments that cross, touch, overlap and miss one another, with values worked out by hand. Points are told by both
+//! numerators and the denominator.
+
+use crate::rows::{parts_of, position, segment};
+use fraction::{GridPoint, RatPoint};
+use noding::{Meet, meet, node};
+use orient::Segment;
+use std::alloc::Global;
+use std::test::Fail;
+
+// Two segments, and what they have in common: nothing, a point, or the ends of a stretch.
+const MEETINGS: &str = "0 0 to 3 1 | 0 1 to 2 0 | 6 2 5,
+0 0 to 4 0 | 6 0 to 2 0 | 2 0 1,4 0 1,
+0 0 to 2 0 | 2 0 to 4 0 | 2 0 1,
+0 0 to 2 2 | 1 0 to 3 2 | apart
+0 0 to 2 2 | 2 2 to 0 0 | 0 0 1,2 2 1,
+-10000000 -10000000 to 10000000 9999999 | -10000000 10000000 to 9999999 -10000000 | -10000000 -399999990000000 799999960000001,
+0 0 to 4 0 | 2 0 to 3 5 | 2 0 1,
+0 0 to 1 0 | 2 0 to 3 5 | apart
+0 0 to 4 0 | 2 1 to 3 5 | apart
+0 0 to 4 0 | 5 -1 to 5 1 | apart
+0 0 to 1 1 | 2 2 to 3 3 | apart
+1 -4 to 1 5 | 1 3 to 1 0 | 1 0 1,1 3 1,
+2 0 to 4 1 | 2 0 to 4 2 | 2 0 1,";
+
+// Segments, listed positions, and the nodes, the ends of the pieces and the number of pairs tried: two segments that cross; one
+// that ends on another; two with a stretch in common, and positions on it and off it; three through one point, which no end is,
+// and one of them twice; one that begins at the x at which the other ends; the finest crossing; a square.
+const NODED: &str =
+    "0 0 to 3 1; 0 1 to 2 0 | 0 0 | 0 0 1,0 1 1,6 2 5,2 0 1,3 1 1,/0 0 1,6 2 5,0 1 1,6 2 5,6 2 5,2 0 1,6 2 5,3 1 1,/1
+4 0 to 0 0; 2 3 to 2 0 | 0 0 | 0 0 1,2 0 1,2 3 1,4 0 1,/0 0 1,2 0 1,2 0 1,2 3 1,2 0 1,4 0 1,/1
+0 0 to 4 0; 6 0 to 2 0 | 3 0; 9 9; 4 0 | 0 0 1,2 0 1,3 0 1,4 0 1,6 0 1,9 9 1,/0 0 1,2 0 1,2 0 1,3 0 1,3 0 1,4 0 1,4 0 1,6 0 1,/1
+0 0 to 1 1; 0 1 to 1 0; 1 0 to 0 1; 2 -1 to -1 2 | 0 0 | -1 2 1,0 0 1,0 1 1,1 1 2,1 0 1,1 1 1,2 -1 1,/-1 2 1,0 1 1,0 0 1,1 1 2,0 1 1,1 1 2,1 1 2,1 0 1,1 1 2,1 1 1,1 0 1,2 -1 1,/6
+0 0 to 2 0; 2 -1 to 2 1 | 0 0 | 0 0 1,2 -1 1,2 0 1,2 1 1,/0 0 1,2 0 1,2 -1 1,2 0 1,2 0 1,2 1 1,/1
+-10000000 -10000000 to 10000000 9999999; -10000000 10000000 to 9999999 -10000000 | -10000000 10000000 | -10000000 -10000000 1,-10000000 10000000 1,-10000000 -399999990000000 799999960000001,9999999 -10000000 1,10000000 9999999 1,/-10000000 -10000000 1,-10000000 -399999990000000 799999960000001,-10000000 10000000 1,-10000000 -399999990000000 799999960000001,-10000000 -399999990000000 799999960000001,9999999 -10000000 1,-10000000 -399999990000000 799999960000001,10000000 9999999 1,/1
+0 0 to 4 0; 4 0 to 4 4; 4 4 to 0 4; 0 4 to 0 0 | 3 1 | 0 0 1,0 4 1,3 1 1,4 0 1,4 4 1,/0 0 1,0 4 1,0 0 1,4 0 1,0 4 1,4 4 1,4 0 1,4 4 1,/5";
+
+// Appends a point's text.
+fn tell(told: &mut String, point: &RatPoint) -> Result<(), Fail> {
+    let (x, y) = (point.numerator_x(), point.numerator_y());
+    write!(told, "{x} {y} {},", point.denominator())?;
+    Ok(())
+}
+
+// What two segments have in common.
+fn common(alloc: Global, one: &Segment, other: &Segment) -> Result<String, Fail> {
+    let mut told = String::new(alloc);
+    match meet(one, other) {
+        Meet::Apart => told.push_str("apart")?,
+        Meet::At(point) => tell(&mut told, &point)?,
+        Meet::Along(first, last) => {
+            tell(&mut told, &first)?;
+            tell(&mut told, &last)?;
+        }
+    }
+    Ok(told)
+}
+
+// The segment, and the same from its end to its start.
+fn both_ways(segment: Segment) -> Result<[Segment; 2], Fail> {
+    let turned = Segment::new(segment.end(), segment.start());
+    Ok([segment, turned.ok_or("equal ends")?])
+}
+
+#[test]
+fn meetings_either_way(rt: HostRuntime) -> Result<(), Fail> {
+    for row in MEETINGS.lines() {
+        let (first, second, wanted) = parts_of(row)?;
+        for one in both_ways(segment(first)?)? {
+            for other in both_ways(segment(second)?)? {
+                assert!(rt; common(rt.alloc(), &one, &other)?.as_str() == wanted);
+                assert!(rt; common(rt.alloc(), &other, &one)?.as_str() == wanted);
+            }
+        }
+    }
+    Ok(())
+}
+
+// The nodes of some segments and positions, the ends of the pieces, and how many pairs were tried.
+fn noded(alloc: Global, segments: &[Segment], listed: &[GridPoint]) -> Result<String, Fail> {
+    let noded = node(alloc, segments, listed)?;
+    let mut told = String::new(alloc);
+    for point in noded.nodes() {
+        tell(&mut told, point)?;
+    }
+    told.push_str("/")?;
+    for (lesser, greater) in noded.pieces() {
+        tell(&mut told, lesser)?;
+        tell(&mut told, greater)?;
+    }
+    write!(told, "/{}", noded.tests())?;
+    Ok(told)
+}
+
+#[test]
+fn nodes_and_pieces_of_segments(rt: HostRuntime) -> Result<(), Fail> {
+    for row in NODED.lines() {
+        let (lines, places, wanted) = parts_of(row)?;
+        let mut segments = Vec::new(rt.alloc());
+        for line in lines.split("; ") {
+            segments.push(segment(line)?)?;
+        }
+        let mut listed = Vec::new(rt.alloc());
+        for place in places.split("; ") {
+            listed.push(position(place)?)?;
+        }
+        let told = noded(rt.alloc(), segments.as_slice(), listed.as_slice())?;
+        assert!(rt; told.as_str() == wanted);
+    }
+    Ok(())
+}

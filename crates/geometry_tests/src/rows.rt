@@ -1,0 +1,52 @@
+//! Tables of tests, a row a line, and what their parts tell.
+
+use de9im::{Matrix, Work, relate};
+use fraction::GridPoint;
+use geometry_model::Kind;
+use orient::Segment;
+use std::alloc::Global;
+use std::test::Fail;
+use validity::check;
+use wkt::read;
+
+/// The three parts of a row.
+pub(crate) fn parts_of(row: &str) -> Result<(&str, &str, &str), Fail> {
+    if let Some((first, others)) = row.split_once(" | ") {
+        if let Some((second, third)) = others.split_once(" | ") {
+            return Ok((first, second, third));
+        }
+    }
+    Err(Fail::new("a row has three parts"))
+}
+
+/// A number.
+pub(crate) fn number(text: &str) -> Result<i32, Fail> {
+    Ok(text.parse::<i32>()?)
+}
+
+/// The position of two numbers.
+pub(crate) fn position(text: &str) -> Result<GridPoint, Fail> {
+    let (x, y) = text.split_once(" ").ok_or("a position has two numbers")?;
+    let position = GridPoint::new(number(x)?, number(y)?);
+    Ok(position.ok_or("past the limit")?)
+}
+
+/// The segment from one position to another.
+pub(crate) fn segment(text: &str) -> Result<Segment, Fail> {
+    let (start, end) = text.split_once(" to ").ok_or("a segment has two ends")?;
+    let segment = Segment::new(position(start)?, position(end)?);
+    Ok(segment.ok_or("equal ends")?)
+}
+
+/// The matrix of two texts, and the kinds of both geometries.
+pub(crate) fn related(
+    alloc: Global,
+    first: &str,
+    second: &str,
+    work: &mut Work,
+) -> Result<(Matrix, Kind, Kind), Fail> {
+    let first = check(alloc, read(alloc, first.as_bytes())?)?;
+    let second = check(alloc, read(alloc, second.as_bytes())?)?;
+    let matrix = relate(alloc, &first, &second, work)?;
+    Ok((matrix, first.kind(), second.kind()))
+}
