@@ -4,8 +4,8 @@ ghost use Rattle.std.specs.Prelude.{◌≡◌, option_map};
 ghost use Rattle.geometry_model.specs.Patterns.{takes, matches, character_of, pattern_of_text};
 ghost use Rattle.geometry_model.specs.declared.relations.Pattern.{Pattern};
 
-use crate::matrix::Matrix;
 use geometry_model::{Dimension, Pattern, PatternCharacter};
+use matrices::Matrix;
 
 /// What a pattern of the DE-9IM matrix does (06-103r4, 6.1.15.2). [`Pattern`] alone has it.
 pub trait MatrixPattern: Sized {

@@ -4,9 +4,9 @@ ghost use Rattle.std.specs.Prelude.{◌≡◌};
 ghost use Rattle.geometry_model.specs.Predicates.{like, crosses, overlaps, holds, wants_point, wants_common_point, forces_meeting};
 ghost use Rattle.geometry_model.specs.declared.relations.Predicate.{Predicate};
 
-use crate::matrix::Matrix;
 use crate::pattern::MatrixPattern;
 use geometry_model::{Kind, Pattern, PatternCharacter, Predicate};
+use matrices::Matrix;
 
 /// What a spatial predicate says of itself. [`Predicate`] alone has it.
 pub trait SpatialPredicate {
