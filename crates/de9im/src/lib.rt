@@ -2,12 +2,14 @@
 //! that it is matched with, and the spatial predicates that it decides.
 #![tactic(auto)]
 
+mod labelled;
 mod pattern;
 mod predicate;
 mod relating;
 mod work;
 
 pub use geometry_model::{Dimension, Kind, Location, Pattern, PatternCharacter, Predicate};
+pub use labelled::matrix_of_labels;
 pub use matrices::Matrix;
 pub use pattern::MatrixPattern;
 pub use predicate::{SpatialPredicate, holds};

@@ -1,0 +1,69 @@
+//! The matrix that the labels of two geometries show: another way to the matrix that `relate` answers, by every node and every
+//! piece. Tests compare the two.
+
+ghost use Rattle.std.specs.Prelude.{◌≡◌};
+ghost use Rattle.std.specs.List.{list_any};
+ghost use Rattle.geometry_model.specs.Labels.{is_pair, is_side_pair, labelled_cell, matrix_of_labels};
+
+use geometry_model::{Dimension, Location};
+use matrices::Matrix;
+use side_labels::{Label, Labels, SideLabels};
+
+/// The matrix that labels show: of each two parts the greatest dimension of a node, a piece or a side of one with these labels. The
+/// two exteriors share an area always (OGC 06-103r4, 6.1.15.2; labels: this project's choice). It takes no memory.
+pub fn matrix_of_labels(labels: &Labels) -> Matrix
+    ensures { result ≡ matrix_of_labels labels.now }
+{
+    Matrix {
+        interior_interior: cell(labels, Location::Interior, Location::Interior),
+        interior_boundary: cell(labels, Location::Interior, Location::Boundary),
+        interior_exterior: cell(labels, Location::Interior, Location::Exterior),
+        boundary_interior: cell(labels, Location::Boundary, Location::Interior),
+        boundary_boundary: cell(labels, Location::Boundary, Location::Boundary),
+        boundary_exterior: cell(labels, Location::Boundary, Location::Exterior),
+        exterior_interior: cell(labels, Location::Exterior, Location::Interior),
+        exterior_boundary: cell(labels, Location::Exterior, Location::Boundary),
+        exterior_exterior: Dimension::Two,
+    }
+}
+
+// The greatest dimension of what has this pair of parts as its label: a side of a piece, a piece, a node, nothing.
+fn cell(labels: &Labels, first: Location, second: Location) -> Dimension
+    ensures { result ≡ labelled_cell labels.now first second }
+{
+    if some_side(labels.of_sides(), first, second) {
+        Dimension::Two
+    } else if some_label(labels.of_pieces(), first, second) {
+        Dimension::One
+    } else if some_label(labels.of_points(), first, second) {
+        Dimension::Zero
+    } else {
+        Dimension::Empty
+    }
+}
+
+// Whether one of the labels is this pair of parts.
+fn some_label(labels: &[Label], first: Location, second: Location) -> bool
+    ensures { result ≡ list_any (is_pair first second) labels.now }
+{
+    labels.iter().any(|label| label.is_pair(first, second))
+}
+
+// Whether one of the labels of sides is this pair of parts.
+fn some_side(sides: &[Option<SideLabels>], first: Location, second: Location) -> bool
+    ensures { result ≡ list_any (is_side_pair first second) sides.now }
+{
+    sides
+        .iter()
+        .any(|labels| is_side_pair(labels, first, second))
+}
+
+// Whether there are sides, and the label of one of them is this pair of parts.
+fn is_side_pair(sides: &Option<SideLabels>, first: Location, second: Location) -> bool
+    ensures { result ≡ is_side_pair first second sides.now }
+{
+    match sides {
+        Some(labels) => labels.has_pair(first, second),
+        None => false,
+    }
+}
