@@ -1,7 +1,8 @@
 -- How the matrix grows, step by step, and what stays shown.
-use Rattle.std.proofs.Common.{◌≡◌, ◌<◌, ◌+◌, ℕ, subst, sym, List, length, get_or, take}
+use Rattle.std.proofs.Common.{◌≡◌, ◌<◌, ◌≤◌, ◌+◌, ℕ, subst, sym, List, length, get_or, take}
 use Rattle.std.specs.List.{All}
-use Rattle.std.proofs.lemmas.List.Elements.{All-weaker, All-more}
+use Rattle.std.proofs.lemmas.List.{take_all}
+use Rattle.std.proofs.lemmas.List.Elements.{All-weaker, All-more, All-same}
 use Rattle.geometry_model.specs.Points.{Position, Point, IsPoint}
 use Rattle.geometry_model.specs.Geometries.{Geometry}
 use Rattle.geometry_model.specs.Locations.{locate}
@@ -81,3 +82,7 @@ covered_kept a b ps m n part all = All-weaker (CoversPosition a b m) (CoversPosi
 pub covers_more : (a b : Geometry) (ps : List Position) (i : ℕ) (p : Position) (m n : Matrix) → i < length ps → p ≡ get_or ps i p → IsPartOf m n → All (CoversPosition a b m) (take i ps) → CoversPosition a b n p
     → All (CoversPosition a b n) (take (i + 1) ps)
 covers_more a b ps i p m n l e part all one = All-more (CoversPosition a b n) ps i p l (covered_kept a b (take i ps) m n part all) (subst (CoversPosition a b n) e one)
+
+-- at the end of a list all of it has been taken
+pub all_taken : {X : Type 0} (P : X → Type 0) (xs ys : List X) (i : ℕ) → length xs ≤ i → xs ≡ ys → All P (take i xs) → All P ys
+all_taken P xs ys i l e all = subst (All P) e (All-same P xs (take i xs) (sym (take_all i xs l)) all)

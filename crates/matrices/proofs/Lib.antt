@@ -4,3 +4,4 @@ pub mod OddEnds
 pub mod GapCells
 pub mod EdgePoints
 pub mod Passes
+pub mod OffEdges

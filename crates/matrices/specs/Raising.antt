@@ -1,5 +1,5 @@
 -- How a matrix of two geometries grows while it is found.
-use Rattle.std.specs.Prelude.{◌≡◌, true, List, All, Any}
+use Rattle.std.specs.Prelude.{◌≡◌, true, Bool, if◌then◌else◌, List, All, Any}
 use Rattle.geometry_model.specs.Points.{Position, Point, IsPoint, point_at}
 use Rattle.geometry_model.specs.Geometries.{Edge, Geometry, kind, edges, lines, listed}
 use Rattle.geometry_model.specs.Sides.{on}
@@ -9,7 +9,7 @@ use Rattle.geometry_model.specs.Validity.{IsValid}
 use Rattle.geometry_model.specs.declared.shapes.Kind.{Kind}
 use Rattle.geometry_model.specs.declared.shapes.Kind.TheVariants as kinds
 use Rattle.geometry_model.specs.declared.point_sets.Location.{Location}
-use Rattle.geometry_model.specs.declared.point_sets.Location.TheVariants.{Boundary}
+use Rattle.geometry_model.specs.declared.point_sets.Location.TheVariants.{Interior, Boundary, Exterior}
 use Rattle.geometry_model.specs.declared.point_sets.Dimension.TheVariants.{Empty, Zero, Two}
 use Rattle.cell_laws.specs.Cells.{Shows, IsPartOf, IsSound, CoversPosition}
 use Rattle.cover_laws.specs.Covering.{ShowsOff}
@@ -55,3 +55,9 @@ pub record IsOnBoth (a b : Geometry) (p : Point) : Type 0 where
   pub is_point : IsPoint p
   pub on_first : Any (λ e. on e p ≡ true) (edges a)
   pub on_second : Any (λ e. on e p ≡ true) (edges b)
+
+-- off its edges a geometry of this kind has its interior where an odd number of the edges of an area are above, and else its exterior (06-103r4, 6.1.11.1)
+abbrev pub off_edges : Kind → Bool → Location
+off_edges kinds.Point odd = Exterior
+off_edges kinds.Line odd = Exterior
+off_edges kinds.Area odd = if odd then Interior else Exterior

@@ -7,7 +7,7 @@ ghost use Rattle.gap_laws.specs.Gaps.{IsGap, mostly};
 ghost use Rattle.cover_laws.specs.Covering.{IsOffEdges, ShowsOff, ShowsOn, ShowsAt, ShowsGap};
 ghost use Rattle.validity.specs.ValidGeometries.{HasLength};
 ghost use Rattle.fraction.specs.Ranges.{meeting_limit};
-ghost use Rattle.matrices.specs.Raising.{Grows, IsRaisedTo};
+ghost use Rattle.matrices.specs.Raising.{Grows, IsRaisedTo, off_edges};
 
 use crate::fullness::of_own_edges;
 use crate::matrix::Matrix;
@@ -31,11 +31,24 @@ fn part_off_edges(valid: &Valid, p: &RatPoint) -> Option<Location>
 {
     let found = valid.boxes().crossings(valid.segments(), p);
     if found.on {
-        None
-    } else if found.odd_above && valid.kind() == Kind::Area {
-        Some(Location::Interior)
-    } else {
-        Some(Location::Exterior)
+        return None;
+    }
+    Some(off_edges(valid.kind(), found.odd_above))
+}
+
+/// Where a point off the edges of a geometry of this kind stands in it, by the parity of the edges above the point.
+fn off_edges(kind: Kind, is_odd_above: bool) -> Location
+    ensures { result ≡ off_edges kind is_odd_above }
+{
+    match kind {
+        Kind::Point | Kind::Line => Location::Exterior,
+        Kind::Area => {
+            if is_odd_above {
+                Location::Interior
+            } else {
+                Location::Exterior
+            }
+        }
     }
 }
 

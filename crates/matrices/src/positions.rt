@@ -2,7 +2,7 @@
 
 ghost use Rattle.std.specs.Prelude.{◌≡◌, true, All};
 ghost use Rattle.geometry_model.specs.Points.{IsPoint};
-ghost use Rattle.geometry_model.specs.Geometries.{edges, lines, listed};
+ghost use Rattle.geometry_model.specs.Geometries.{edges, listed};
 ghost use Rattle.geometry_model.specs.Locations.{locate, ends};
 ghost use Rattle.geometry_model.specs.Validity.{IsValid};
 ghost use Rattle.geometry_model.specs.declared.point_sets.Dimension.TheVariants.{Zero};
@@ -15,6 +15,7 @@ use fraction::{GridPoint, RatPoint};
 use geometry_model::{Dimension, Kind, Location};
 use side_labels::locate;
 use validity::Valid;
+use wkt::LineString;
 
 /// Shows that the parts in which a point stands share it (OGC 06-103r4, 6.1.15.2).
 pub(crate) fn raise_point(first: &Valid, second: &Valid, p: &RatPoint, matrix: &mut Matrix)
@@ -68,13 +69,13 @@ fn raise_ends_of(first: &Valid, second: &Valid, line: &[GridPoint], matrix: &mut
     raise_position(first, second, line[line.len() - 1], matrix);
 }
 
-/// Shows where the boundary of lines stands in the second geometry: the ends of them at which an odd number of ends stand, until
-/// nothing more can come (OGC 06-103r4, 6.1.8.1: the mod 2 rule).
-fn raise_line_ends(first: &Valid, second: &Valid, matrix: &mut Matrix)
+/// Shows where those ends of the first geometry's lines stand that are on its boundary, until nothing more can come
+/// (OGC 06-103r4, 6.1.8.1: the mod 2 rule).
+fn raise_line_ends(first: &Valid, second: &Valid, lines: &[LineString], matrix: &mut Matrix)
     ensures grows { Grows first.now second.now matrix.old matrix.new }
-    ensures shows { All (CoversEndsOf first.now second.now matrix.new) (lines first.now) }
+    ensures shows { All (CoversEndsOf first.now second.now matrix.new) lines.now }
 {
-    for line in first.geometry().lines() {
+    for line in lines {
         if shows_row(matrix, Location::Boundary, second.kind()) {
             return;
         }
@@ -89,8 +90,10 @@ pub(crate) fn raise_own_ends(first: &Valid, second: &Valid, matrix: &mut Matrix)
     ensures valid { IsValid first.now }
     ensures lengths { All HasLength (edges first.now) }
 {
+    let geometry = first.geometry();
+    let lines = geometry.lines();
     raise_listed(first, second, matrix);
     if first.kind() == Kind::Line {
-        raise_line_ends(first, second, matrix);
+        raise_line_ends(first, second, lines, matrix);
     }
 }

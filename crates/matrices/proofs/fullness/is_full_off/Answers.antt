@@ -1,11 +1,10 @@
-use Rattle.std.proofs.Common.{◌∙◌, sym}
-use Rattle.geometry_model.specs.declared.shapes.Kind.TheVariants as kinds
+use Rattle.std.proofs.Common.{sym, rules}
 use Rattle.matrices.proofs.fullness.is_full_off.Goals as goal
 
 pub returns-then-ne : goal.returns-then-ne
 returns-then-ne c = λ _. record {
   in_exterior = c.is_full_in.ensures c.if-is_full_in.true c.args.first.now (sym c.kind.ensures);
-  in_interior = λ k. ?;
+  in_interior = λ k. absurd (first_of (search rules, cc));
 }
 
 pub returns-else-ne : goal.returns-else-ne

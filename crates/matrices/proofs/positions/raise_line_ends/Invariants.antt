@@ -7,5 +7,5 @@ use Rattle.matrices.proofs.positions.raise_line_ends.Given as goal
 abbrev pub invariant-loop-line : goal.invariant-loop-line
 invariant-loop-line l = record {
   grows : Grows l.first l.second l.initial.matrix l.matrix;
-  shows : All (CoversEndsOf l.first l.second l.matrix) (take l.line-index l.line-items);
+  shows : All (CoversEndsOf l.first l.second l.matrix) (take l.line-index l.lines);
 }
