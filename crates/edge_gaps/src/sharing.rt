@@ -1,10 +1,8 @@
 //! The points that an edge shares with others near it.
 
-ghost use Rattle.std.specs.Prelude.{◌≡◌, ◌++◌, ◌∷◌, [], All, Contains, OnOk, pos, ◌≤ℤ◌};
+ghost use Rattle.std.specs.Prelude.{◌≡◌, ◌++◌, All, OnOk};
 ghost use Rattle.geometry_model.specs.Points.{IsPoint};
-ghost use Rattle.geometry_model.specs.CutPoints.{IsCut};
 ghost use Rattle.ring_tests.specs.RunLaws.{box_of};
-ghost use Rattle.fraction.specs.Ranges.{meeting_limit};
 ghost use Rattle.edge_boxes.specs.Meetings.{places_meeting};
 ghost use Rattle.noding.specs.Meetings.{named};
 ghost use Rattle.noding.specs.Nodings.{PutsPointsInOrder};

@@ -39,6 +39,14 @@ fn numbers(alloc: Global, points: &[RatPoint]) -> Result<Vec<Numbers>, Fail> {
     Ok(numbers)
 }
 
+/// Fills the gaps for an edge among others. It answers whether they may share a stretch.
+fn fill(alloc: Global, gaps: &mut Gaps, edge: &Segment, others: &[Segment]) -> Result<bool, Fail> {
+    let boxes = EdgeBoxes::build(alloc, others)?;
+    let may_share = gaps.may_share_stretch(edge, others, &boxes)?;
+    gaps.find(edge, others, &boxes)?;
+    Ok(may_share)
+}
+
 #[test]
 fn gaps(rt: HostRuntime) -> Result<(), Fail> {
     let alloc = rt.alloc();
@@ -130,12 +138,12 @@ fn gaps(rt: HostRuntime) -> Result<(), Fail> {
     for (edge, others, shared, stops, may_share) in cases {
         let edge = segment(edge)?;
         let others = segments(alloc, others)?;
-        let boxes = EdgeBoxes::build(alloc, others.as_slice())?;
-        gaps.find(&edge, others.as_slice(), &boxes)?;
+        assert_eq!(rt;
+            fill(alloc, &mut gaps, &edge, others.as_slice())?,
+            may_share
+        );
         assert!(rt; numbers(alloc, gaps.shared())?.as_slice() == shared);
         assert!(rt; numbers(alloc, gaps.stops())?.as_slice() == stops);
-        let may = gaps.may_share_stretch(&edge, others.as_slice(), &boxes)?;
-        assert_eq!(rt; may, may_share);
     }
     Ok(())
 }
