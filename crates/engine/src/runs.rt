@@ -208,6 +208,15 @@ fn put_count<S: Sink>(
     put_field(alloc, digits.format(count).as_bytes(), writer, sink)
 }
 
+// The record of one field.
+fn one_field(alloc: Global, field: &[u8]) -> Result<ByteRecord, AllocError>
+    ensures { IfOk result (λ r. fields_of r ≡ field.now ∷ []) }
+{
+    let mut fields = ByteRecord::new(alloc);
+    fields.push_field(field)?;
+    Ok(fields)
+}
+
 // Puts a record of one field.
 fn put_field<S: Sink>(
     alloc: Global,
@@ -220,8 +229,7 @@ fn put_field<S: Sink>(
     ensures puts { PutsText result (record_text (field.now ∷ []))
         (S.taken sink.old) (S.taken sink.new) (S.failures sink.old) (S.failures sink.new) }
 {
-    let mut fields = ByteRecord::new(alloc);
-    fields.push_field(field)?;
+    let fields = one_field(alloc, field)?;
     writer.put(alloc, &fields, sink)
 }
 
