@@ -5,5 +5,6 @@ mod ProbeLemmas
 mod RowLemmas
 mod RunLemmas
 mod StandingLemmas
+mod StreamLemmas
 mod WalkLemmas
 pub mod OrderLemmas
