@@ -44,15 +44,20 @@ pub fn rational_points()
     ensures by_x { compare (point (negsuc 0) (pos 9) (pos 2)) (point (pos 0) (pos 0) (pos 1)) ≡ Less }
     ensures then_by_y { compare (point (pos 2) (pos 3) (pos 2)) (point (pos 1) (pos 1) (pos 1)) ≡ Greater }
     ensures equal { compare (point (pos 2) (pos 4) (pos 2)) (point (pos 1) (pos 2) (pos 1)) ≡ Equal }
-    ensures between { mediant (point (pos 0) (pos 0) (pos 1)) (point (pos 6) (pos 2) (pos 5)) ≡ point (pos 6) (pos 2) (pos 6) }
+    ensures between { mediant (point (pos 0) (pos 0) (pos 1)) (point (pos 6) (pos 2) (pos 5))
+        ≡ point (pos 6) (pos 2) (pos 6) }
 {}
 
 /// Where points stand: ends of lines, corners of rings, holes (06-103r4, 6.1.15.2).
 pub fn locations()
-    ensures two_ends { place (codes "MULTILINESTRING((0 0,2 0),(2 0,4 0))") (point (pos 2) (pos 0) (pos 1)) ≡ Some Interior }
-    ensures three_ends { place (codes "MULTILINESTRING((0 0,2 0),(2 0,4 0),(2 0,2 2))") (point (pos 2) (pos 0) (pos 1)) ≡ Some Boundary }
-    ensures closed_line { place (codes "LINESTRING(0 0,2 0,2 2,0 0)") (point (pos 0) (pos 0) (pos 1)) ≡ Some Interior }
-    ensures end_of_a_line { place (codes "LINESTRING(0 0,2 0,2 2)") (point (pos 2) (pos 2) (pos 1)) ≡ Some Boundary }
+    ensures two_ends { place (codes "MULTILINESTRING((0 0,2 0),(2 0,4 0))") (point (pos 2) (pos 0) (pos 1))
+        ≡ Some Interior }
+    ensures three_ends { place (codes "MULTILINESTRING((0 0,2 0),(2 0,4 0),(2 0,2 2))")
+        (point (pos 2) (pos 0) (pos 1)) ≡ Some Boundary }
+    ensures closed_line { place (codes "LINESTRING(0 0,2 0,2 2,0 0)") (point (pos 0) (pos 0) (pos 1))
+        ≡ Some Interior }
+    ensures end_of_a_line { place (codes "LINESTRING(0 0,2 0,2 2)") (point (pos 2) (pos 2) (pos 1))
+        ≡ Some Boundary }
     ensures off_a_line { place (codes "LINESTRING(0 0,3 1)") (point (pos 6) (pos 3) (pos 5)) ≡ Some Exterior }
     ensures below_a_corner { place diamond (point (pos 2) (pos 1) (pos 1)) ≡ Some Interior }
     ensures left_of_a_corner { place diamond (point (negsuc 0) (pos 2) (pos 1)) ≡ Some Exterior }
@@ -61,9 +66,12 @@ pub fn locations()
     ensures in_a_hole { place frame (point (pos 5) (pos 5) (pos 1)) ≡ Some Exterior }
     ensures on_the_ring_of_a_hole { place frame (point (pos 4) (pos 5) (pos 1)) ≡ Some Boundary }
     ensures beside_a_hole { place frame (point (pos 7) (pos 10) (pos 2)) ≡ Some Interior }
-    ensures in_an_element_within_a_hole { place square_in_a_hole (point (pos 5) (pos 5) (pos 1)) ≡ Some Interior }
-    ensures between_an_element_and_the_hole { place square_in_a_hole (point (pos 3) (pos 3) (pos 1)) ≡ Some Exterior }
-    ensures on_the_ring_of_an_element { place square_in_a_hole (point (pos 4) (pos 5) (pos 1)) ≡ Some Boundary }
+    ensures in_an_element_within_a_hole { place square_in_a_hole (point (pos 5) (pos 5) (pos 1))
+        ≡ Some Interior }
+    ensures between_an_element_and_the_hole { place square_in_a_hole (point (pos 3) (pos 3) (pos 1))
+        ≡ Some Exterior }
+    ensures on_the_ring_of_an_element { place square_in_a_hole (point (pos 4) (pos 5) (pos 1))
+        ≡ Some Boundary }
 {}
 
 /// Below is towards lesser y: just below the lower edge of an area is its exterior, and just above that edge its interior.
@@ -72,14 +80,20 @@ pub fn sides_of_edges()
     ensures above_the_lower_edge { just_above square (point (pos 2) (pos 0) (pos 1)) ≡ Some Interior }
     ensures below_the_upper_edge { just_below square (point (pos 2) (pos 4) (pos 1)) ≡ Some Interior }
     ensures above_the_upper_edge { just_above square (point (pos 2) (pos 4) (pos 1)) ≡ Some Exterior }
-    ensures below_the_lower_edge_of_a_hole { just_below frame (point (pos 5) (pos 4) (pos 1)) ≡ Some Interior }
-    ensures above_the_lower_edge_of_a_hole { just_above frame (point (pos 5) (pos 4) (pos 1)) ≡ Some Exterior }
+    ensures below_the_lower_edge_of_a_hole { just_below frame (point (pos 5) (pos 4) (pos 1))
+        ≡ Some Interior }
+    ensures above_the_lower_edge_of_a_hole { just_above frame (point (pos 5) (pos 4) (pos 1))
+        ≡ Some Exterior }
     ensures below_a_slanting_edge { just_below diamond (point (pos 1) (pos 1) (pos 1)) ≡ Some Exterior }
     ensures above_a_slanting_edge { just_above diamond (point (pos 1) (pos 1) (pos 1)) ≡ Some Interior }
-    ensures below_an_element_within_a_hole { just_below square_in_a_hole (point (pos 5) (pos 4) (pos 1)) ≡ Some Exterior }
-    ensures above_an_element_within_a_hole { just_above square_in_a_hole (point (pos 5) (pos 4) (pos 1)) ≡ Some Interior }
-    ensures below_a_line { just_below (codes "LINESTRING(0 0,4 0)") (point (pos 2) (pos 0) (pos 1)) ≡ Some Exterior }
-    ensures above_a_line { just_above (codes "LINESTRING(0 0,4 0)") (point (pos 2) (pos 0) (pos 1)) ≡ Some Exterior }
+    ensures below_an_element_within_a_hole { just_below square_in_a_hole (point (pos 5) (pos 4) (pos 1))
+        ≡ Some Exterior }
+    ensures above_an_element_within_a_hole { just_above square_in_a_hole (point (pos 5) (pos 4) (pos 1))
+        ≡ Some Interior }
+    ensures below_a_line { just_below (codes "LINESTRING(0 0,4 0)") (point (pos 2) (pos 0) (pos 1))
+        ≡ Some Exterior }
+    ensures above_a_line { just_above (codes "LINESTRING(0 0,4 0)") (point (pos 2) (pos 0) (pos 1))
+        ≡ Some Exterior }
 {}
 
 /// Cut points and pieces of two lines that cross, of two that share a stretch, and of an upright one.
@@ -95,11 +109,13 @@ pub fn cut_points_and_pieces()
         ≡ Some (from_to (point (pos 0) (pos 0) (pos 1)) (point (pos 2) (pos 0) (pos 1))
         ∷ from_to (point (pos 2) (pos 0) (pos 1)) (point (pos 4) (pos 0) (pos 1))
         ∷ from_to (point (pos 4) (pos 0) (pos 1)) (point (pos 6) (pos 0) (pos 1)) ∷ []) }
-    ensures end_on_an_upright_line { pieces_of_both (codes "LINESTRING(0 0,2 0)") (codes "LINESTRING(2 -1,2 1)")
+    ensures end_on_an_upright_line { pieces_of_both (codes "LINESTRING(0 0,2 0)")
+        (codes "LINESTRING(2 -1,2 1)")
         ≡ Some (from_to (point (pos 0) (pos 0) (pos 1)) (point (pos 2) (pos 0) (pos 1))
         ∷ from_to (point (pos 2) (negsuc 0) (pos 1)) (point (pos 2) (pos 0) (pos 1))
         ∷ from_to (point (pos 2) (pos 0) (pos 1)) (point (pos 2) (pos 1) (pos 1)) ∷ []) }
-    ensures at_the_limit { cuts (codes "LINESTRING(-10000000 -10000000,10000000 9999999)") (codes "LINESTRING(-10000000 10000000,9999999 -10000000)")
+    ensures at_the_limit { cuts (codes "LINESTRING(-10000000 -10000000,10000000 9999999)")
+        (codes "LINESTRING(-10000000 10000000,9999999 -10000000)")
         ≡ Some (point (negsuc 9999999) (negsuc 9999999) (pos 1) ∷ point (negsuc 9999999) (pos 10000000) (pos 1)
         ∷ point (negsuc 9999999) (negsuc 399999989999999) (pos 799999960000001)
         ∷ point (pos 9999999) (negsuc 9999999) (pos 1) ∷ point (pos 10000000) (pos 9999999) (pos 1) ∷ []) }
@@ -115,14 +131,19 @@ pub fn pattern_texts()
 
 /// Predicates of worked rows, by their label matrices (06-103r4, 6.1.15.3).
 pub fn predicates_of_rows()
-    ensures empty_geometries_are_equal { is_held Equals (codes "POINT EMPTY") (codes "LINESTRING EMPTY") ≡ Some true }
-    ensures empty_areas_are_equal { is_held Equals (codes "MULTIPOLYGON EMPTY") (codes "POLYGON EMPTY") ≡ Some true }
-    ensures one_element_is_a_polygon { is_held Equals (codes "MULTIPOLYGON(((0 0,4 0,4 4,0 4,0 0)))") square ≡ Some true }
-    ensures two_elements_are_equal { is_held Equals (codes "LINESTRING(0 0,2 0)") (codes "MULTILINESTRING((0 0,1 0),(1 0,2 0))") ≡ Some true }
+    ensures empty_geometries_are_equal { is_held Equals (codes "POINT EMPTY") (codes "LINESTRING EMPTY")
+        ≡ Some true }
+    ensures empty_areas_are_equal { is_held Equals (codes "MULTIPOLYGON EMPTY") (codes "POLYGON EMPTY")
+        ≡ Some true }
+    ensures one_element_is_a_polygon { is_held Equals (codes "MULTIPOLYGON(((0 0,4 0,4 4,0 4,0 0)))") square
+        ≡ Some true }
+    ensures two_elements_are_equal { is_held Equals (codes "LINESTRING(0 0,2 0)")
+        (codes "MULTILINESTRING((0 0,1 0),(1 0,2 0))") ≡ Some true }
     ensures corner_touches { is_held Touches (codes "LINESTRING(-2 2,2 -2)") square ≡ Some true }
     ensures corner_does_not_cross { is_held Crosses (codes "LINESTRING(-2 2,2 -2)") square ≡ Some false }
     ensures squares_touch { is_held Touches square (codes "POLYGON((4 0,8 0,8 4,4 4,4 0))") ≡ Some true }
-    ensures lines_cross { is_held Crosses (codes "LINESTRING(0 0,3 1)") (codes "LINESTRING(0 1,2 0)") ≡ Some true }
+    ensures lines_cross { is_held Crosses (codes "LINESTRING(0 0,3 1)") (codes "LINESTRING(0 1,2 0)")
+        ≡ Some true }
     ensures hole_is_disjoint { is_held Disjoint (codes "POINT(5 5)") frame ≡ Some true }
     ensures hole_does_not_intersect { is_held Intersects (codes "POINT(5 5)") frame ≡ Some false }
     ensures point_is_within { is_held Within (codes "POINT(1 1)") square ≡ Some true }
@@ -144,7 +165,8 @@ pub fn meeting_is_forced()
 
 /// Envelopes, and whether two meet: edges counted, and two absent ones do (06-103r4, 6.1.2.2).
 pub fn envelopes()
-    ensures of_a_line { bounds (codes "LINESTRING(3 -1,0 5,7 2)") ≡ Some (Some record { least_x = pos 0; greatest_x = pos 7; least_y = negsuc 0; greatest_y = pos 5 }) }
+    ensures of_a_line { bounds (codes "LINESTRING(3 -1,0 5,7 2)")
+        ≡ Some (Some record { least_x = pos 0; greatest_x = pos 7; least_y = negsuc 0; greatest_y = pos 5 }) }
     ensures of_an_empty_geometry { bounds (codes "POLYGON EMPTY") ≡ Some None }
     ensures two_absent { bounds_meet (codes "POINT EMPTY") (codes "POLYGON EMPTY") ≡ Some true }
     ensures one_absent { bounds_meet (codes "POINT EMPTY") square ≡ Some false }

@@ -27,28 +27,37 @@ pub fn texts_of_points()
     ensures points { read_text (codes "POINT(1. .0)") ≡ Ok (Point (Some (at (pos 1) (pos 0)))) }
     ensures signs { read_text (codes "POINT(+1.00 01)") ≡ Ok (Point (Some (at (pos 1) (pos 1)))) }
     ensures minus { read_text (codes "POINT(-0 -2)") ≡ Ok (Point (Some (at (pos 0) (negsuc 1)))) }
-    ensures limit { read_text (codes "POINT(-10000000 10000000)") ≡ Ok (Point (Some (at (negsuc 9999999) (pos 10000000)))) }
-    ensures white { read_text (codes "multipoint ( 1 2 , 3 4.0 )") ≡ Ok (MultiPoint (at (pos 1) (pos 2) ∷ at (pos 3) (pos 4) ∷ [])) }
-    ensures parentheses { read_text (codes "MultiPoint((1 2), 3 4)") ≡ Ok (MultiPoint (at (pos 1) (pos 2) ∷ at (pos 3) (pos 4) ∷ [])) }
+    ensures limit { read_text (codes "POINT(-10000000 10000000)")
+        ≡ Ok (Point (Some (at (negsuc 9999999) (pos 10000000)))) }
+    ensures white { read_text (codes "multipoint ( 1 2 , 3 4.0 )")
+        ≡ Ok (MultiPoint (at (pos 1) (pos 2) ∷ at (pos 3) (pos 4) ∷ [])) }
+    ensures parentheses { read_text (codes "MultiPoint((1 2), 3 4)")
+        ≡ Ok (MultiPoint (at (pos 1) (pos 2) ∷ at (pos 3) (pos 4) ∷ [])) }
     ensures empty { read_text (codes " Point\tEmpty\n") ≡ Ok (Point None) }
 {}
 
 /// Consecutive equal positions become one in lines and rings, and stay in a MULTIPOINT.
 pub fn repeated_positions()
-    ensures points { read_text (codes "MULTIPOINT(1 1,1 1)") ≡ Ok (MultiPoint (at (pos 1) (pos 1) ∷ at (pos 1) (pos 1) ∷ [])) }
-    ensures line { read_text (codes "LINESTRING(0 0,0 0,1 0)") ≡ Ok (LineString (at (pos 0) (pos 0) ∷ at (pos 1) (pos 0) ∷ [])) }
+    ensures points { read_text (codes "MULTIPOINT(1 1,1 1)")
+        ≡ Ok (MultiPoint (at (pos 1) (pos 1) ∷ at (pos 1) (pos 1) ∷ [])) }
+    ensures line { read_text (codes "LINESTRING(0 0,0 0,1 0)")
+        ≡ Ok (LineString (at (pos 0) (pos 0) ∷ at (pos 1) (pos 0) ∷ [])) }
     ensures whole_line { read_text (codes "LINESTRING(3 3,3 3)") ≡ Ok (LineString (at (pos 3) (pos 3) ∷ [])) }
-    ensures ring { read_text (codes "POLYGON((0 0,0 0,1 0,0 0))") ≡ Ok (Polygon ((at (pos 0) (pos 0) ∷ at (pos 1) (pos 0) ∷ at (pos 0) (pos 0) ∷ []) ∷ [])) }
+    ensures ring { read_text (codes "POLYGON((0 0,0 0,1 0,0 0))")
+        ≡ Ok (Polygon ((at (pos 0) (pos 0) ∷ at (pos 1) (pos 0) ∷ at (pos 0) (pos 0) ∷ []) ∷ [])) }
     ensures elements { read_text (codes "MULTILINESTRING((0 0,0 0),(0 0,1 0,0 0))")
         ≡ Ok (MultiLineString ((at (pos 0) (pos 0) ∷ []) ∷ (at (pos 0) (pos 0) ∷ at (pos 1) (pos 0) ∷ at (pos 0) (pos 0) ∷ []) ∷ [])) }
 {}
 
 /// Texts of several polygons: a hole in the first, repeats in any ring, white space, none at all (06-103r4, 7.2).
 pub fn texts_of_polygons()
-    ensures hole { read_text (codes "MULTIPOLYGON(((0 0,4 0,4 4,0 4,0 0),(1 1,2 1,1 2,1 1)),((9 9,10 9,9 10,9 9)))")
+    ensures hole { read_text
+        (codes "MULTIPOLYGON(((0 0,4 0,4 4,0 4,0 0),(1 1,2 1,1 2,1 1)),((9 9,10 9,9 10,9 9)))")
         ≡ Ok (MultiPolygon ((square ∷ corner 1 ∷ []) ∷ (corner 9 ∷ []) ∷ [])) }
-    ensures repeats { read_text (codes "MULTIPOLYGON(((9 9,9 9,10 9,9 10,9 10,9 9)),((3 3,3 3)))") ≡ Ok (MultiPolygon ((corner 9 ∷ []) ∷ ((at (pos 3) (pos 3) ∷ []) ∷ []) ∷ [])) }
-    ensures white { read_text (codes " multipolygon ( ( ( 9 9 , 10 9 , 9 10.0 , 9 9 ) ) , ((3 3)) ) ") ≡ Ok (MultiPolygon ((corner 9 ∷ []) ∷ ((at (pos 3) (pos 3) ∷ []) ∷ []) ∷ [])) }
+    ensures repeats { read_text (codes "MULTIPOLYGON(((9 9,9 9,10 9,9 10,9 10,9 9)),((3 3,3 3)))")
+        ≡ Ok (MultiPolygon ((corner 9 ∷ []) ∷ ((at (pos 3) (pos 3) ∷ []) ∷ []) ∷ [])) }
+    ensures white { read_text (codes " multipolygon ( ( ( 9 9 , 10 9 , 9 10.0 , 9 9 ) ) , ((3 3)) ) ")
+        ≡ Ok (MultiPolygon ((corner 9 ∷ []) ∷ ((at (pos 3) (pos 3) ∷ []) ∷ []) ∷ [])) }
     ensures empty { read_text (codes "MultiPolygon EMPTY") ≡ Ok (MultiPolygon []) }
 {}
 
@@ -76,7 +85,8 @@ pub fn first_faults()
 pub fn first_faults_of_polygons()
     ensures bad_number { read_text (codes "MULTIPOLYGON(((0 0,x 1)))") ≡ Err (Syntax 19) }
     ensures off_grid { read_text (codes "MULTIPOLYGON(((0 0)),((0 0,1.5 2)))") ≡ Err (OffGrid 27) }
-    ensures out_of_range { read_text (codes "MULTIPOLYGON(((0 0)),((0 0),(0 -10000001)))") ≡ Err (OutOfRange 31) }
+    ensures out_of_range { read_text (codes "MULTIPOLYGON(((0 0)),((0 0),(0 -10000001)))")
+        ≡ Err (OutOfRange 31) }
     ensures rings_alone { read_text (codes "MULTIPOLYGON((0 0,1 0))") ≡ Err (Syntax 14) }
     ensures unfinished { read_text (codes "MULTIPOLYGON(((0 0,1 0))") ≡ Err (Syntax 24) }
     ensures empty_element { read_text (codes "MULTIPOLYGON(EMPTY)") ≡ Err (Syntax 13) }
@@ -101,18 +111,25 @@ pub fn counted_polygons()
     ensures as_many { body (polygons 2 2 9) (input (codes "(((1 1)),((2 2)))"))
         ≡ Ok (((at (pos 1) (pos 1) ∷ []) ∷ []) ∷ ((at (pos 2) (pos 2) ∷ []) ∷ []) ∷ [], record { left = []; at = 17 }) }
     ensures third_polygon { body (polygons 2 2 9) (input (codes "(((1 1)),((2 2)),((3 3)))")) ≡ Err TooLong }
-    ensures ring_behind_two { body (polygons 2 2 9) (input (codes "(((1 1),(2 2)),((3.5 3)))")) ≡ Err TooLong }
+    ensures ring_behind_two { body (polygons 2 2 9) (input (codes "(((1 1),(2 2)),((3.5 3)))"))
+        ≡ Err TooLong }
     ensures ring_in_the_second { body (polygons 2 2 9) (input (codes "(((1 1)),((2 2),(")) ≡ Err TooLong }
     ensures no_ring { body (polygons 2 2 9) (input (codes "(((1 1)),((2 2)),())")) ≡ Err (Syntax 18) }
-    ensures position_of_the_second { body (polygons 9 9 3) (input (codes "(((1 1,2 2)),((3 3,4 4)))")) ≡ Err TooLong }
+    ensures position_of_the_second { body (polygons 9 9 3) (input (codes "(((1 1,2 2)),((3 3,4 4)))"))
+        ≡ Err TooLong }
 {}
 
 /// Canonical texts (06-103r4, 7.2).
 pub fn canonical_texts()
     ensures point { canonical_text (Point (Some (at (negsuc 0) (pos 20)))) ≡ codes "POINT(-1 20)" }
-    ensures points { canonical_text (MultiPoint (at (pos 1) (pos 2) ∷ at (pos 3) (pos 4) ∷ [])) ≡ codes "MULTIPOINT((1 2),(3 4))" }
-    ensures line { canonical_text (LineString (at (pos 0) (pos 0) ∷ at (pos 1) (pos 0) ∷ [])) ≡ codes "LINESTRING(0 0,1 0)" }
-    ensures lines { canonical_text (MultiLineString ((at (pos 0) (pos 0) ∷ at (pos 2) (pos 0) ∷ []) ∷ (at (pos 2) (pos 0) ∷ at (pos 4) (pos 0) ∷ []) ∷ []))
+    ensures points { canonical_text (MultiPoint (at (pos 1) (pos 2) ∷ at (pos 3) (pos 4) ∷ []))
+        ≡ codes "MULTIPOINT((1 2),(3 4))" }
+    ensures line { canonical_text (LineString (at (pos 0) (pos 0) ∷ at (pos 1) (pos 0) ∷ []))
+        ≡ codes "LINESTRING(0 0,1 0)" }
+    ensures lines { canonical_text
+        (MultiLineString
+        ((at (pos 0) (pos 0) ∷ at (pos 2) (pos 0) ∷ []) ∷ (at (pos 2) (pos 0) ∷ at (pos 4) (pos 0) ∷ [])
+        ∷ []))
         ≡ codes "MULTILINESTRING((0 0,2 0),(2 0,4 0))" }
     ensures polygon { canonical_text (Polygon (square ∷ [])) ≡ codes "POLYGON((0 0,4 0,4 4,0 4,0 0))" }
     ensures polygons { canonical_text (MultiPolygon ((square ∷ corner 1 ∷ []) ∷ (corner 9 ∷ []) ∷ []))

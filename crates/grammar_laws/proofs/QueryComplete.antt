@@ -25,7 +25,7 @@ use Rattle.table_model.specs.declared.tokens.TokenKind.{TokenKind}
 use Rattle.table_model.specs.declared.tokens.TokenKind.TheVariants as k
 use Rattle.table_model.specs.Parsers.{kind, place, spelling, next, written, sees, after, and_then, expect, parts_from}
 use Rattle.table_model.specs.QueryGrammar.{IsName, IsColumn, IsDigits, IsInteger, IsString, IsCall, IsGeometry, IsOperandFunction, IsOperand, IsComparison, function_of, IsPair, IsBool, IsNumber, IsTest, IsPredicate, IsChain, IsConjunction, IsConditionOf, IsNegationOf, IsNegation, IsCondition, IsItemFunction, IsItem, IsSelection, IsReference, IsCrossed, IsJoined, IsSecond, IsWhere, IsRowCount, IsLimit, IsExplain, IsSelect}
-use Rattle.table_model.specs.QueryReading.{Reader, Functions, name, column, calls, called_or, enclosed, string, geometry, integer, operand_functions, operand, comparison_of, compared, null_test, comparison, truth_value, truth_test, tested, relates, relates_by, predicate_functions, predicate, chain, conjunction, condition_of, group, negation, condition, item_functions, item, items, counted, count_function, selection, alias, reference, Second, crossed, joined_on, second, where_condition, limit_value, limit_number, limited, says, explained, query}
+use Rattle.table_model.specs.QueryReading.{Reader, Functions, name, column, calls, called_or, enclosed, string, geometry, integer, operand_functions, operand, comparison_of, compared, null_test, comparison, truth_value, truth_test, truth_tested, relates, relates_by, predicate_functions, predicate, chain, conjunction, condition_of, group, negation, condition, item_functions, item, items, counted, count_function, selection, alias, reference, Second, crossed, joined_on, second, where_condition, limit_value, limit_number, limited, says, explained, query}
 use Rattle.table_model.specs.Served.{Served, Argument, ItemArgument, ServedOperand, ServedCond, ServedItem, ServedQuery}
 use Rattle.table_model.specs.Texts.{same_name}
 use Rattle.table_model.specs.Tokens.{same_kind}
@@ -548,20 +548,20 @@ predicates_at = predicate_functions true
 -- a predicate that is called is read, and compared with 1 or 0, or with nothing
 called_complete : (function : List ℕ) (inside : ℕ → Reader (ServedCond true)) (P : ServedCond true → Phrase) (bool bool2 x : ServedCond true) (a b : List Token) (t : Token) (rest : List Token)
     → Complete (inside (place (a ++ (b ++ t ∷ rest)))) P EndsArgument → IsCall function (P bool2) a → bool2 ≡ bool → IsTest bool x b → EndsPredicate t.kind
-    → IsFirst (predicates_at (place (a ++ (b ++ t ∷ rest)))) (a ++ (b ++ t ∷ rest)) (tested (inside (place (a ++ (b ++ t ∷ rest)))))
+    → IsFirst (predicates_at (place (a ++ (b ++ t ∷ rest)))) (a ++ (b ++ t ∷ rest)) (truth_tested (inside (place (a ++ (b ++ t ∷ rest)))))
     → predicate true (a ++ (b ++ t ∷ rest)) ≡ Ok (x, t ∷ rest)
 unfolding predicate
 called_complete function inside P bool bool2 x a b t rest whole call same test f first =
     let ts : List Token = a ++ (b ++ t ∷ rest) in
     let at : ℕ = place ts in
-    first_called (predicates_at at) (comparison true) ts (tested (inside at)) first
+    first_called (predicates_at at) (comparison true) ts (truth_tested (inside at)) first
     ∙ ap (λ r. and_then r (λ y l. truth_test y l)) (call_read function (inside at) P whole bool2 a (b ++ t ∷ rest) call)
     ∙ ap (λ y. truth_test y (b ++ t ∷ rest)) same
     ∙ test_complete bool x b t rest test f
 
 -- which predicate's name stands next
 first_of_names : (at : ℕ) (predicate : Predicate) (word : List ℕ) (P : Phrase) (a tail : List Token) → function_of predicate ≡ Some word → IsCall word P a
-    → IsFirst (predicates_at at) (a ++ tail) (tested (relates at predicate))
+    → IsFirst (predicates_at at) (a ++ tail) (truth_tested (relates at predicate))
 unfolding same_name
 first_of_names at p.Equals word P a tail e call =
     let here : word ≡ codes "ST_Equals" = cc in
@@ -613,14 +613,14 @@ first_of_names at p.Overlaps word P a tail e call =
     inr (m _ refl, inr (m _ refl, inr (m _ refl, inr (m _ refl, inr (m _ refl, inr (m _ refl, inr (m _ refl, inl (hit, refl))))))))
 first_of_names at (p.Relate pattern) word P a tail e call = absurd (cc)
 
-first_relate : (at : ℕ) (P : Phrase) (a tail : List Token) → IsCall (codes "ST_Relate") P a → IsFirst (predicates_at at) (a ++ tail) (tested (relates_by at))
+first_relate : (at : ℕ) (P : Phrase) (a tail : List Token) → IsCall (codes "ST_Relate") P a → IsFirst (predicates_at at) (a ++ tail) (truth_tested (relates_by at))
 unfolding same_name
 first_relate at P a tail call =
     let m : (v : List ℕ) → same_name (codes "ST_Relate") v ≡ false → calls v (a ++ tail) ≡ false = λ v d. call_miss (codes "ST_Relate") v P a tail call d in
     let hit : calls (codes "ST_Relate") (a ++ tail) ≡ true = call_hit (codes "ST_Relate") P a tail call in
     inr (m _ refl, inr (m _ refl, inr (m _ refl, inr (m _ refl, inr (m _ refl, inr (m _ refl, inr (m _ refl, inr (m _ refl, inl (hit, refl)))))))))
 
-first_empty : (at : ℕ) (P : Phrase) (a tail : List Token) → IsCall (codes "ST_IsEmpty") P a → IsFirst (predicates_at at) (a ++ tail) (tested (empties at))
+first_empty : (at : ℕ) (P : Phrase) (a tail : List Token) → IsCall (codes "ST_IsEmpty") P a → IsFirst (predicates_at at) (a ++ tail) (truth_tested (empties at))
 unfolding same_name
 first_empty at P a tail call =
     let m : (v : List ℕ) → same_name (codes "ST_IsEmpty") v ≡ false → calls v (a ++ tail) ≡ false = λ v d. call_miss (codes "ST_IsEmpty") v P a tail call d in

@@ -18,7 +18,7 @@ use Rattle.table_model.specs.declared.tokens.TokenKind.TheVariants as k
 use Rattle.table_model.specs.Outcomes.{Gives}
 use Rattle.table_model.specs.Parsers.{Outcome, kind, place, spelling, next, sees, after, and_then, expect, parts_from, value_of}
 use Rattle.table_model.specs.QueryGrammar.{IsOperand, IsComparison, IsPredicateOf, IsPredicate, IsChain, IsConjunction, IsConditionOf, IsNegationOf, IsNegation, IsCondition, IsSelection, IsReference, IsWhere, IsExplain}
-use Rattle.table_model.specs.QueryReading.{Reader, Functions, name, column, calls, called_or, enclosed, string, geometry, integer, integer_value, integer_or, operand_functions, operand, comparison_of, compared, compared_by, null_test, comparison, truth_value, truth_test, tested, relates, relates_by, predicate_functions, predicate, chain, conjunction, condition_of, group, negation, most_levels, condition, item_functions, item, items, counted, count_function, selection, alias, reference, Second, crossed, joined_on, second, where_condition, limit_value, limit_or, limit_number, limited, says, explained, query, bad_place, query_by, query_of}
+use Rattle.table_model.specs.QueryReading.{Reader, Functions, name, column, calls, called_or, enclosed, string, geometry, integer, integer_value, integer_or, operand_functions, operand, comparison_of, compared, compared_by, null_test, comparison, truth_value, truth_test, truth_tested, relates, relates_by, predicate_functions, predicate, chain, conjunction, condition_of, group, negation, most_levels, condition, item_functions, item, items, counted, count_function, selection, alias, reference, Second, crossed, joined_on, second, where_condition, limit_value, limit_or, limit_number, limited, says, explained, query, bad_place, query_by, query_of}
 use Rattle.table_model.specs.QueryRefusals.{IsAnyOperand, IsAnyNegation, IsAnyCondition, BeforeSecond, BeforeOn, ThroughFrom, BeforeWhere, IsAnyWhere, BeforeLimit, AreParts, BeforeNegation, BeforeOperand, IsTooBig, StandsIn, is_at_token, StandsInQuery}
 use Rattle.table_model.specs.Served.{Served, Argument, ItemArgument, ServedOperand, ServedCond, ServedQuery}
 use Rattle.table_model.specs.Tokens.{same_kind, tokens, most_bytes}
@@ -118,7 +118,7 @@ test_faults : {A : Type 0} (x : WrittenCond A) → Faultless (truth_test x)
 unfolding truth_test
 test_faults x E ts = eaten_faults k.Equal ts _ _ E (λ _. value_faults x E (next ts)) (λ _. tt)
 
-tested_faults : {A : Type 0} (arguments : Reader (WrittenCond A)) → Faultless arguments → Faultless (tested arguments)
+tested_faults : {A : Type 0} (arguments : Reader (WrittenCond A)) → Faultless arguments → Faultless (truth_tested arguments)
 tested_faults arguments none E ts = then_none (enclosed arguments ts) _ E (enclosed_faults arguments none E ts) (λ x rest. test_faults x E rest)
 
 relates_faults : (at : ℕ) (predicate : Predicate) → Faultless (relates at predicate)
@@ -135,7 +135,7 @@ relates_by_faults at E ts = then_none (geometry ts) _ E (geometry_faults E ts)
 predicate_functions_faults : (functions : Bool) (at : ℕ) → AllFaultless (predicate_functions functions at)
 predicate_functions_faults false at = tt
 predicate_functions_faults true at =
-    let named : (predicate : Predicate) → Faultless (tested (relates at predicate)) = λ predicate. tested_faults (relates at predicate) (relates_faults at predicate) in (
+    let named : (predicate : Predicate) → Faultless (truth_tested (relates at predicate)) = λ predicate. tested_faults (relates at predicate) (relates_faults at predicate) in (
       named p.Equals,
       (
         named p.Disjoint,

@@ -25,7 +25,7 @@ use Rattle.table_model.specs.declared.tokens.TokenKind.{TokenKind}
 use Rattle.table_model.specs.declared.tokens.TokenKind.TheVariants as k
 use Rattle.table_model.specs.Parsers.{kind, place, spelling, next, written, sees, after, and_then, expect, parts_from, parts}
 use Rattle.table_model.specs.QueryGrammar.{IsName, IsColumn, IsDigits, IsInteger, IsString, IsCall, IsGeometry, IsOperandFunction, IsOperand, IsComparison, function_of, IsPair, IsBool, IsNumber, IsTest, IsPredicate, IsChain, IsConjunction, IsConditionOf, IsNegationOf, IsNegation, IsCondition, IsItem, IsSelection, IsReference, IsSecond, IsWhere, IsRowCount, IsLimit, IsExplain, IsSelect}
-use Rattle.table_model.specs.QueryReading.{Reader, Functions, name, column, calls, called_or, enclosed, string, geometry, integer, integer_value, integer_or, operand_functions, operand, comparison_of, compared, compared_by, null_test, comparison, truth_value, truth_test, tested, relates, relates_by, predicate_functions, predicate, chain, conjunction, condition_of, group, negation, condition, item_functions, item, items, counted, count_function, selection, alias, reference, Second, crossed, joined_on, second, where_condition, limit_value, limit_or, limit_number, limited, says, analyzed, explained, query}
+use Rattle.table_model.specs.QueryReading.{Reader, Functions, name, column, calls, called_or, enclosed, string, geometry, integer, integer_value, integer_or, operand_functions, operand, comparison_of, compared, compared_by, null_test, comparison, truth_value, truth_test, truth_tested, relates, relates_by, predicate_functions, predicate, chain, conjunction, condition_of, group, negation, condition, item_functions, item, items, counted, count_function, selection, alias, reference, Second, crossed, joined_on, second, where_condition, limit_value, limit_or, limit_number, limited, says, analyzed, explained, query}
 use Rattle.table_model.specs.Served.{Served, Argument, ItemArgument, ServedOperand, ServedCond, ServedItem, ServedQuery}
 use Rattle.table_model.specs.Texts.{same_name}
 use Rattle.table_model.specs.Tokens.{same_kind}
@@ -368,7 +368,7 @@ test_sound {A} bool ts =
 -- a predicate was called and compared with 1 or 0, or with nothing
 called_predicate : (inside : Reader (ServedCond true)) (ts : List Token)
     → IfRead (enclosed inside (next ts)) (λ x rest. Took ts (IsBool true x) rest)
-    → IfRead (tested inside (next ts)) (λ x rest. Took ts (IsPredicate true x) rest)
+    → IfRead (truth_tested inside (next ts)) (λ x rest. Took ts (IsPredicate true x) rest)
 called_predicate inside ts called = then_read (enclosed inside (next ts)) _ (λ x rest. Took ts (IsBool true x) rest) (λ x rest. Took ts (IsPredicate true x) rest)
     (λ bool mid took. map_read (truth_test bool mid) (λ x rest. Took mid (IsTest bool x) rest) (λ x rest. Took ts (IsPredicate true x) rest)
     (λ x rest q. but _ _ ts rest (seq (IsBool true bool) (IsTest bool x) ts mid rest took q) (λ used p. inr (inr (inr (bool, p))))) (test_sound bool mid))
@@ -429,12 +429,12 @@ relates_by_sound at ts =
     (geometry_sound ts)
 
 named_sound : (predicate : Predicate) (function : List ℕ) (ts : List Token) → function_of predicate ≡ Some function → calls function ts ≡ true
-    → IfRead (tested (relates (place ts) predicate) (next ts)) (λ x rest. Took ts (IsPredicate true x) rest)
+    → IfRead (truth_tested (relates (place ts) predicate) (next ts)) (λ x rest. Took ts (IsPredicate true x) rest)
 named_sound predicate function ts names h = called_predicate (relates (place ts) predicate) ts
     (placed function (named predicate) IsTwo (IsBool true) (relates (place ts) predicate) ts (relates_sound (place ts) predicate) h
     (λ x used p. inl (predicate, function, p.0.0, p.0.1, names, p.1, p.2)))
 
-patterned_sound : (ts : List Token) → calls (codes "ST_Relate") ts ≡ true → IfRead (tested (relates_by (place ts)) (next ts)) (λ x rest. Took ts (IsPredicate true x) rest)
+patterned_sound : (ts : List Token) → calls (codes "ST_Relate") ts ≡ true → IfRead (truth_tested (relates_by (place ts)) (next ts)) (λ x rest. Took ts (IsPredicate true x) rest)
 patterned_sound ts h = called_predicate (relates_by (place ts)) ts
     (placed (codes "ST_Relate") patterned IsThree (IsBool true) (relates_by (place ts)) ts (relates_by_sound (place ts)) h
     (λ x used p. inr (inl (p.0.0, p.0.1, p.0.2, p.1, p.2))))
@@ -443,7 +443,7 @@ patterned_sound ts h = called_predicate (relates_by (place ts)) ts
 abbrev pub empties : ℕ → Reader (ServedCond true)
 empties at = λ l. and_then (geometry l) (λ y rest. Ok (c.IsEmpty at y, rest))
 
-empty_sound : (ts : List Token) → calls (codes "ST_IsEmpty") ts ≡ true → IfRead (tested (empties (place ts)) (next ts)) (λ x rest. Took ts (IsPredicate true x) rest)
+empty_sound : (ts : List Token) → calls (codes "ST_IsEmpty") ts ≡ true → IfRead (truth_tested (empties (place ts)) (next ts)) (λ x rest. Took ts (IsPredicate true x) rest)
 empty_sound ts h = called_predicate (empties (place ts)) ts
     (placed (codes "ST_IsEmpty") c.IsEmpty IsGeometry (IsBool true) (empties (place ts)) ts (λ l. made_sound (c.IsEmpty (place ts)) geometry IsGeometry l geometry_sound) h
     (λ x used p. inr (inr p)))

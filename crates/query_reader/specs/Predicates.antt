@@ -3,7 +3,7 @@ use Rattle.std.specs.Prelude.{ℕ, true, if◌then◌else◌, List, [], ◌∷�
 use Rattle.geometry_model.specs.declared.relations.Predicate.{Predicate}
 use Rattle.geometry_model.specs.declared.relations.Predicate.TheVariants as p
 use Rattle.table_model.specs.Parsers.{place, next, ◌<$>◌}
-use Rattle.table_model.specs.QueryReading.{Reader, Functions, calls, called_or, name, column, geometry, operand_functions, relates, relates_by, tested, comparison}
+use Rattle.table_model.specs.QueryReading.{Reader, Functions, calls, called_or, name, column, geometry, operand_functions, relates, relates_by, truth_tested, comparison}
 use Rattle.table_model.specs.Served.{ServedCond, ServedItem, ServedOperand}
 use Rattle.table_model.specs.declared.queries.WrittenCond.TheVariants as c
 use Rattle.table_model.specs.declared.queries.WrittenItem.TheVariants as i
@@ -28,7 +28,7 @@ empty_argument at = c.IsEmpty at <$> geometry
 
 -- the other functions that are predicates: ST_Relate and ST_IsEmpty (06-103r4, 6.1.15.2 and 6.1.2.2)
 abbrev pub other_functions : ℕ → Functions (ServedCond true)
-other_functions at = (codes "ST_Relate", tested (relates_by at)) ∷ (codes "ST_IsEmpty", tested (empty_argument at)) ∷ []
+other_functions at = (codes "ST_Relate", truth_tested (relates_by at)) ∷ (codes "ST_IsEmpty", truth_tested (empty_argument at)) ∷ []
 
 -- a predicate that is none of two geometries by its name
 abbrev pub other_predicate : Reader (ServedCond true)
@@ -36,7 +36,7 @@ other_predicate ts = called_or (other_functions (place ts)) (comparison true) ts
 
 -- a predicate, where the one of two geometries that is called next is known
 abbrev pub predicate_by : Option Predicate → Reader (ServedCond true)
-predicate_by (Some predicate) ts = tested (relates (place ts) predicate) (next ts)
+predicate_by (Some predicate) ts = truth_tested (relates (place ts) predicate) (next ts)
 predicate_by None ts = other_predicate ts
 
 -- an operand that is a call of a function or a column

@@ -110,7 +110,7 @@ fn related<'a>(
     predicate: Predicate,
 ) -> Result<WrittenCond<'a>, QueryFault>
     ensures { Reads QueryFault.OutOfMemory
-        (spec.tested (spec.relates at predicate) (steps.next tokens.old)) result tokens.new }
+        (spec.truth_tested (spec.relates at predicate) (steps.next tokens.old)) result tokens.new }
 {
     tokens.advance();
     expect(tokens, TokenKind::LeftParenthesis)?;
@@ -126,7 +126,7 @@ fn related_by<'a>(
     at: usize,
 ) -> Result<WrittenCond<'a>, QueryFault>
     ensures { Reads QueryFault.OutOfMemory
-        (spec.tested (spec.relates_by at) (steps.next tokens.old)) result tokens.new }
+        (spec.truth_tested (spec.relates_by at) (steps.next tokens.old)) result tokens.new }
 {
     tokens.advance();
     expect(tokens, TokenKind::LeftParenthesis)?;
@@ -142,7 +142,7 @@ fn emptiness<'a>(
     at: usize,
 ) -> Result<WrittenCond<'a>, QueryFault>
     ensures { Reads QueryFault.OutOfMemory
-        (spec.tested (names.empty_argument at) (steps.next tokens.old)) result tokens.new }
+        (spec.truth_tested (names.empty_argument at) (steps.next tokens.old)) result tokens.new }
 {
     tokens.advance();
     expect(tokens, TokenKind::LeftParenthesis)?;

@@ -1,18 +1,15 @@
 -- Edges that share a point have rectangles that overlap.
-use Rattle.std.proofs.Common.{◌≡◌, ◌⊎◌, inl, inr, Bool, true, false, ◌&&◌, ◌||◌, List, [], ◌∷◌, ℤ, pos, ◌-ℤ◌, ◌*ℤ◌, ◌<ℤ◌, ◌≤ℤ◌, int_le, refl, arith}
+use Rattle.std.proofs.Common.{◌≡◌, ◌⊎◌, inl, inr, Bool, true, ◌&&◌, [], ◌∷◌, ℤ, pos, ◌-ℤ◌, ◌*ℤ◌, ◌<ℤ◌, ◌≤ℤ◌, int_le, refl, arith}
 use Rattle.std.specs.Int.{int_min, int_max}
 use Rattle.std.proofs.lemmas.Int.{ints, clamps}
-use Rattle.geometry_model.specs.Points.{Point, IsPoint}
-use Rattle.geometry_model.specs.Geometries.{Edge}
-use Rattle.geometry_model.specs.Sides.{between, on}
-use Rattle.geometry_model.specs.Envelopes.{overlap}
-use Rattle.integers.proofs.Ring.{Expr, var, ◌⊗◌, ◌⊖◌, solve}
+use Rattle.geometry_model.specs.Sides.{between}
+use Rattle.integers.proofs.Ring.{var, ◌⊗◌, ◌⊖◌, solve}
 use Rattle.integers.proofs.Signs.{at_most_or_less, strict_plus_plus, at_most_yes, at_most_from}
 use Rattle.geometry_laws.proofs.Scaling.{and_parts, and_from}
-use Rattle.geometry_laws.proofs.Hulls.{OnParts, on_parts}
+use Rattle.geometry_laws.proofs.Hulls.{on_parts}
 use Rattle.validity_laws.proofs.ElementFacts.{or_from}
 use Rattle.validity_laws.proofs.SharedPoints.{shared_point_is_decided}
-use Rattle.ring_tests.specs.RunLaws.{box_of, SharingBoxesOverlap}
+use Rattle.ring_tests.specs.RunLaws.{SharingBoxesOverlap}
 
 -- one of two ends is at most the coordinate, and one at least
 low_end : (s t n w : ℤ) → between s t n w ≡ true → ((s *ℤ w) ≤ℤ n) ⊎ ((t *ℤ w) ≤ℤ n)

@@ -1,9 +1,9 @@
 -- The tests of runs of edges, ring by ring and for whole polygons.
 use Rattle.std.proofs.Common.{◌≡◌, Bool, true, false, ◌||◌, List, [], ◌∷◌, ◌++◌, refl, sym, ap, ap₂, ◌∙◌}
 use Rattle.std.specs.List.{list_any}
-use Rattle.geometry_model.specs.Points.{Position, point_at}
+use Rattle.geometry_model.specs.Points.{Position}
 use Rattle.geometry_model.specs.Geometries.{Edge, edges_of_line, edges_of_lines}
-use Rattle.geometry_model.specs.FirstFaults.{share_point, rings_share}
+use Rattle.geometry_model.specs.FirstFaults.{share_point}
 use Rattle.ring_tests.specs.EdgeRuns.{edges_share, is_odd_above}
 use Rattle.ring_tests.specs.RunLaws.{RingsByTheirEdges, PolygonsByTheirEdges, InsideByEdges}
 

@@ -15,11 +15,11 @@ fn is_between(from: i32, to: i32, at: i32) -> bool
     from <= at && at <= to || to <= at && at <= from
 }
 
-/// Whether a place lies within the box of two others, ends counted.
-fn is_in_box(sx: i32, sy: i32, tx: i32, ty: i32, x: i32, y: i32) -> bool
-    ensures { result ≡ (between sx tx x (pos 1) && between sy ty y (pos 1)) }
+/// Whether a position lies in the box of two others, sides counted.
+fn is_in_box(from: GridPoint, to: GridPoint, at: GridPoint) -> bool
+    ensures { result ≡ (between from.x to.x at.x (pos 1) && between from.y to.y at.y (pos 1)) }
 {
-    is_between(sx, tx, x) && is_between(sy, ty, y)
+    is_between(from.x(), to.x(), at.x()) && is_between(from.y(), to.y(), at.y())
 }
 
 /// Whether a position lies within the segment's ends in both coordinates.
@@ -27,9 +27,7 @@ fn is_within_ends(segment: &Segment, at: GridPoint) -> bool
     ensures { result ≡ (between segment.now.start.x segment.now.end.x at.x (pos 1)
         && between segment.now.start.y segment.now.end.y at.y (pos 1)) }
 {
-    let start = segment.start();
-    let end = segment.end();
-    is_in_box(start.x(), start.y(), end.x(), end.y(), at.x(), at.y())
+    is_in_box(segment.start(), segment.end(), at)
 }
 
 /// Whether a position lies on the segment, ends counted, where the side on which it lies is known.
@@ -47,19 +45,13 @@ fn are_opposite(a: i64, b: i64) -> bool
     a < 0 && 0 < b || 0 < a && b < 0
 }
 
-/// Whether an end of one of two edges lies on the other, where their sides are known.
-fn touch(e: &Segment, f: &Segment, start: i64, end: i64, back_start: i64, back_end: i64) -> bool
+/// Whether an end of the second of two edges lies on the first, where the sides are known on which they lie.
+fn meets_end(e: &Segment, f: &Segment, start: i64, end: i64) -> bool
     requires start { start ≡ spec_side e.now.start e.now.end (point_at f.now.start) }
     requires end { end ≡ spec_side e.now.start e.now.end (point_at f.now.end) }
-    requires back_start { back_start ≡ spec_side f.now.start f.now.end (point_at e.now.start) }
-    requires back_end { back_end ≡ spec_side f.now.start f.now.end (point_at e.now.end) }
-    ensures { result ≡ (on e.now (point_at f.now.start) || on e.now (point_at f.now.end)
-        || on f.now (point_at e.now.start) || on f.now (point_at e.now.end)) }
+    ensures { result ≡ (on e.now (point_at f.now.start) || on e.now (point_at f.now.end)) }
 {
-    is_on(e, f.start(), start)
-        || is_on(e, f.end(), end)
-        || is_on(f, e.start(), back_start)
-        || is_on(f, e.end(), back_end)
+    is_on(e, f.start(), start) || is_on(e, f.end(), end)
 }
 
 /// Whether the ends of each of two edges lie on opposite sides of the other.
@@ -78,7 +70,9 @@ pub fn share_point(e: &Segment, f: &Segment) -> bool
     let end = side_number(e, f.end());
     let back_start = side_number(f, e.start());
     let back_end = side_number(f, e.end());
-    touch(e, f, start, end, back_start, back_end) || cross(start, end, back_start, back_end)
+    meets_end(e, f, start, end)
+        || meets_end(f, e, back_start, back_end)
+        || cross(start, end, back_start, back_end)
 }
 
 /// Whether a position other than the common one is on the edge.
@@ -90,7 +84,7 @@ fn other_on(common: GridPoint, segment: &Segment, at: GridPoint) -> bool
 
 /// Whether two edges with a common end share another point too (06-103r4, 6.1.6.1: simple). An end other than
 /// the common one is on both.
-pub fn share_other(common: GridPoint, e: &Segment, f: &Segment) -> bool
+pub(crate) fn share_other(common: GridPoint, e: &Segment, f: &Segment) -> bool
     ensures { result ≡ spec.share_other common e.now f.now }
 {
     other_on(common, e, f.start())

@@ -1,11 +1,10 @@
-//! Tests of the rings of areas: whether two edges share a point, whether a ring meets itself or another,
-//! whether a position is inside. They go over slices of edges, so one polygon, one ring or a part of it is
-//! tested alike. Nothing here takes memory.
+//! Tests of the rings of areas: whether two edges share a point or clash, whether a ring is closed, whether a position is
+//! inside. They go over slices, so one polygon, one ring or a part of it is tested alike. Nothing here takes memory.
 #![tactic(auto)]
 
 mod edges;
 pub mod laws;
 mod rings;
 
-pub use edges::{share_other, share_point};
-pub use rings::{clash, is_inside, is_not_closed, is_not_simple, share};
+pub use edges::share_point;
+pub use rings::{clash, is_inside, is_not_closed};

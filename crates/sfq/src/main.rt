@@ -2,6 +2,9 @@
 //! SELECT means; and it relates two geometries by their DE-9IM matrix.
 #![tactic(auto)]
 
+mod progress;
+
+use crate::progress::Progress;
 use command_line::{Misuse, Order, order};
 use engine::{Failure, failed, serve};
 use sinks::{Sink, StdSink, put_all};
@@ -31,7 +34,8 @@ fn main(rt: HostRuntime) -> ExitCode {
         Err(_) => return ExitCode::from(failed(&Failure::OutOfMemory, &mut err)),
     };
     let mut out = StdSink::new(buffer);
-    let opener = |path: &str| fs::open(&rt, path).ok();
+    let progress = Progress::new(&rt);
+    let opener = |path: &str| Some(progress.follow(path, fs::open(&rt, path).ok()?));
     let status = serve(rt.alloc(), &order, opener, &mut out, &mut err);
     if out.flush().is_err() && status == 0 {
         return ExitCode::from(failed(&Failure::WriteFailed, &mut err));

@@ -164,8 +164,8 @@ truth_test x = do
   if compared then truth_value x else pure x
 
 -- the arguments of a predicate, and what it is compared with
-abbrev pub tested : {A : Type 0} → Reader (WrittenCond A) → Reader (WrittenCond A)
-tested arguments = enclosed arguments >>= truth_test
+abbrev pub truth_tested : {A : Type 0} → Reader (WrittenCond A) → Reader (WrittenCond A)
+truth_tested arguments = enclosed arguments >>= truth_test
 
 -- geom ',' geom, the arguments of a predicate that is named (06-103r4, 6.1.15.3)
 unfoldable pub relates : ℕ → Predicate → Reader (WrittenCond WrittenGeometry)
@@ -190,16 +190,16 @@ relates_by at = do
 abbrev pub predicate_functions : (functions : Bool) → ℕ → Functions (ServedCond functions)
 predicate_functions false at = []
 predicate_functions true at =
-    (codes "ST_Equals", tested (relates at p.Equals))
-    ∷ (codes "ST_Disjoint", tested (relates at p.Disjoint))
-    ∷ (codes "ST_Intersects", tested (relates at p.Intersects))
-    ∷ (codes "ST_Touches", tested (relates at p.Touches))
-    ∷ (codes "ST_Crosses", tested (relates at p.Crosses))
-    ∷ (codes "ST_Within", tested (relates at p.Within))
-    ∷ (codes "ST_Contains", tested (relates at p.Contains))
-    ∷ (codes "ST_Overlaps", tested (relates at p.Overlaps))
-    ∷ (codes "ST_Relate", tested (relates_by at))
-    ∷ (codes "ST_IsEmpty", tested (c.IsEmpty at <$> geometry))
+    (codes "ST_Equals", truth_tested (relates at p.Equals))
+    ∷ (codes "ST_Disjoint", truth_tested (relates at p.Disjoint))
+    ∷ (codes "ST_Intersects", truth_tested (relates at p.Intersects))
+    ∷ (codes "ST_Touches", truth_tested (relates at p.Touches))
+    ∷ (codes "ST_Crosses", truth_tested (relates at p.Crosses))
+    ∷ (codes "ST_Within", truth_tested (relates at p.Within))
+    ∷ (codes "ST_Contains", truth_tested (relates at p.Contains))
+    ∷ (codes "ST_Overlaps", truth_tested (relates at p.Overlaps))
+    ∷ (codes "ST_Relate", truth_tested (relates_by at))
+    ∷ (codes "ST_IsEmpty", truth_tested (c.IsEmpty at <$> geometry))
     ∷ []
 
 -- pred = operand cmp operand | operand 'IS' 'NOT'? 'NULL' | bool ('=' ('1' | '0'))?

@@ -10,10 +10,15 @@ ghost use Rattle.table_model.specs.declared.typing.OperandType.TheVariants as ty
 /// references, and a name in another case.
 #[tactic(auto, unfolding(crate::specs::Texts::same_name))]
 pub fn names_of_columns()
-    ensures unknown { bound_column towns (called (codes "t") ∷ []) (bare (codes "nope")) ≡ Err (fault.UnknownColumn 7) }
-    ensures hidden { bound_column towns (called (codes "x") ∷ []) (qualified (codes "t") (codes "id")) ≡ Err (fault.UnknownColumn 7) }
-    ensures ambiguous { bound_column towns (called (codes "a") ∷ called (codes "b") ∷ []) (bare (codes "pop")) ≡ Err (fault.AmbiguousColumn 7) }
-    ensures found { bound_column towns (called (codes "a") ∷ called (codes "b") ∷ []) (qualified (codes "B") (codes "POP")) ≡ Ok (record { place = record { reference = 1; column = 1 }; column_type = types.Integer }) }
+    ensures unknown { bound_column towns (called (codes "t") ∷ []) (bare (codes "nope"))
+        ≡ Err (fault.UnknownColumn 7) }
+    ensures hidden { bound_column towns (called (codes "x") ∷ []) (qualified (codes "t") (codes "id"))
+        ≡ Err (fault.UnknownColumn 7) }
+    ensures ambiguous { bound_column towns (called (codes "a") ∷ called (codes "b") ∷ []) (bare (codes "pop"))
+        ≡ Err (fault.AmbiguousColumn 7) }
+    ensures found { bound_column towns (called (codes "a") ∷ called (codes "b") ∷ [])
+        (qualified (codes "B") (codes "POP"))
+        ≡ Ok (record { place = record { reference = 1; column = 1 }; column_type = types.Integer }) }
 {}
 
 /// A number and a text can't be compared; two quotes in a row are one.

@@ -34,12 +34,14 @@ pub fn binding_of_the_first_run()
 /// The rows that the queries mean: a number that isn't known is neither greater than another nor not.
 pub fn meaning_of_the_first_run()
     ensures first { meant first_query ≡ (first_town ∷ []) ∷ [] }
-    ensures second { meant second_query ≡ (first_town ∷ []) ∷ (second_town ∷ []) ∷ (third_town ∷ []) ∷ (fourth_town ∷ []) ∷ [] }
+    ensures second { meant second_query
+        ≡ (first_town ∷ []) ∷ (second_town ∷ []) ∷ (third_town ∷ []) ∷ (fourth_town ∷ []) ∷ [] }
     ensures third { meant third_query ≡ (fourth_town ∷ []) ∷ [] }
 {}
 
 /// The records of the answers.
 pub fn answers_of_the_first_run()
-    ensures first { answered first_query ≡ (codes "id" ∷ codes "name" ∷ []) ∷ (codes "1" ∷ codes "a" ∷ []) ∷ [] }
+    ensures first { answered first_query
+        ≡ (codes "id" ∷ codes "name" ∷ []) ∷ (codes "1" ∷ codes "a" ∷ []) ∷ [] }
     ensures third { answered third_query ≡ (codes "id" ∷ []) ∷ (codes "4" ∷ []) ∷ [] }
 {}

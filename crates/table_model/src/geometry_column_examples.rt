@@ -42,51 +42,86 @@ ghost use Rattle.table_model.specs.declared.values.Value.TheVariants as values;
 /// Records with geometries: an empty field is null, and the first fault of a field is that of its text, then of
 /// its geometry, then of its type.
 pub fn loaded_geometries()
-    ensures by_key { loaded None (fields (codes "3") (codes "9") (codes "POINT(9 9)") ∷ fields (codes "1") (codes "2") (codes "POINT(1 1)") ∷ fields (codes "2") (codes "7") [] ∷ [])
+    ensures by_key { loaded None
+        (fields (codes "3") (codes "9") (codes "POINT(9 9)")
+        ∷ fields (codes "1") (codes "2") (codes "POINT(1 1)") ∷ fields (codes "2") (codes "7") [] ∷ [])
         ≡ Ok (with_point 1 2 (pos 1) (pos 1) ∷ without_point 2 7 ∷ with_point 3 9 (pos 9) (pos 9) ∷ []) }
-    ensures bad_text { loaded None (fields (codes "3") (codes "9") (codes "POINT(9 9)") ∷ fields (codes "1") [] (codes "POINT(1 2") ∷ [])
+    ensures bad_text { loaded None
+        (fields (codes "3") (codes "9") (codes "POINT(9 9)") ∷ fields (codes "1") [] (codes "POINT(1 2") ∷ [])
         ≡ Err (load.BadGeometry 2 (Text (Syntax 9))) }
-    ensures not_valid { loaded None (fields (codes "3") [] (codes "LINESTRING(0 0)") ∷ []) ≡ Err (load.BadGeometry 1 (Invalid (TooFewPoints 0))) }
-    ensures wrong_type { loaded (Some LineString) (fields (codes "3") [] (codes "POINT(9 9)") ∷ []) ≡ Err (load.WrongType 1) }
-    ensures validity_first { loaded (Some LineString) (fields (codes "3") [] (codes "POLYGON((0 0,1 0,0 0))") ∷ []) ≡ Err (load.BadGeometry 1 (Invalid (TooFewPoints 0))) }
+    ensures not_valid { loaded None (fields (codes "3") [] (codes "LINESTRING(0 0)") ∷ [])
+        ≡ Err (load.BadGeometry 1 (Invalid (TooFewPoints 0))) }
+    ensures wrong_type { loaded (Some LineString) (fields (codes "3") [] (codes "POINT(9 9)") ∷ [])
+        ≡ Err (load.WrongType 1) }
+    ensures validity_first { loaded (Some LineString)
+        (fields (codes "3") [] (codes "POLYGON((0 0,1 0,0 0))") ∷ [])
+        ≡ Err (load.BadGeometry 1 (Invalid (TooFewPoints 0))) }
 {}
 
 /// Names that aren't there, or stand for two things.
 pub fn refused_names()
-    ensures no_table { bound selections.All (table (codes "t") 14) (Some (table (codes "v") 17)) None ≡ Err (query.UnknownTable 17) }
-    ensures one_name { bound (selections.Items (items.Column (bare (codes "id") 7) ∷ [])) (table (codes "t") 15) (Some (table (codes "t") 18)) None ≡ Err (query.SameName 18) }
-    ensures one_alias { bound selections.All (table (codes "t") 14) (Some (aliased (name (codes "u") 17) (name (codes "T") 19))) None ≡ Err (query.SameName 19) }
-    ensures no_column { bound (selections.Items (items.Column (bare (codes "nope") 7) ∷ [])) (table (codes "t") 17) None None ≡ Err (query.UnknownColumn 7) }
-    ensures table_behind_alias { bound (selections.Items (items.Column (of (name (codes "t") 7) (name (codes "id") 9)) ∷ [])) (aliased (name (codes "t") 17) (name (codes "a") 19)) None None
+    ensures no_table { bound selections.All (table (codes "t") 14) (Some (table (codes "v") 17)) None
+        ≡ Err (query.UnknownTable 17) }
+    ensures one_name { bound (selections.Items (items.Column (bare (codes "id") 7) ∷ []))
+        (table (codes "t") 15) (Some (table (codes "t") 18)) None ≡ Err (query.SameName 18) }
+    ensures one_alias { bound selections.All (table (codes "t") 14)
+        (Some (aliased (name (codes "u") 17) (name (codes "T") 19))) None ≡ Err (query.SameName 19) }
+    ensures no_column { bound (selections.Items (items.Column (bare (codes "nope") 7) ∷ []))
+        (table (codes "t") 17) None None ≡ Err (query.UnknownColumn 7) }
+    ensures table_behind_alias { bound
+        (selections.Items (items.Column (of (name (codes "t") 7) (name (codes "id") 9)) ∷ []))
+        (aliased (name (codes "t") 17) (name (codes "a") 19)) None None
         ≡ Err (query.UnknownColumn 7) }
-    ensures two_columns { bound (selections.Items (items.Column (bare (codes "id") 7) ∷ [])) (table (codes "t") 15) (Some (table (codes "u") 18)) None ≡ Err (query.AmbiguousColumn 7) }
+    ensures two_columns { bound (selections.Items (items.Column (bare (codes "id") 7) ∷ []))
+        (table (codes "t") 15) (Some (table (codes "u") 18)) None ≡ Err (query.AmbiguousColumn 7) }
 {}
 
 /// Types that don't fit: the arguments of a predicate are bound before its types are compared.
 pub fn refused_types()
-    ensures comparison { bound_where (conds.Compare 23 Equal (operand_column (codes "pop") 23) (operands.Text (name (codes "x") 29))) ≡ Err (query.TypeMismatch 23) }
-    ensures null_with_geometry { bound_where (conds.Compare 23 Equal operands.Null (operand_column (codes "geom") 30)) ≡ Err (query.TypeMismatch 23) }
-    ensures argument { bound_where (conds.IsEmpty 23 (geometry_column (codes "pop") 34)) ≡ Err (query.TypeMismatch 23) }
-    ensures call { bound_where (conds.Compare 23 Equal (operands.AsText 23 (geometry_column (codes "pop") 33)) (operand_column (codes "nope") 40)) ≡ Err (query.TypeMismatch 23) }
-    ensures item { bound (selections.Items (items.AsText 7 (bare (codes "pop") 17) ∷ [])) (table (codes "t") 27) None None ≡ Err (query.TypeMismatch 7) }
-    ensures later_argument { bound_where (conds.Relates 23 (predicates.Named Within) (geometry_column (codes "pop") 33) (geometry_column (codes "nope") 38)) ≡ Err (query.UnknownColumn 38) }
+    ensures comparison { bound_where
+        (conds.Compare 23 Equal (operand_column (codes "pop") 23) (operands.Text (name (codes "x") 29)))
+        ≡ Err (query.TypeMismatch 23) }
+    ensures null_with_geometry { bound_where
+        (conds.Compare 23 Equal operands.Null (operand_column (codes "geom") 30))
+        ≡ Err (query.TypeMismatch 23) }
+    ensures argument { bound_where (conds.IsEmpty 23 (geometry_column (codes "pop") 34))
+        ≡ Err (query.TypeMismatch 23) }
+    ensures call { bound_where
+        (conds.Compare 23 Equal (operands.AsText 23 (geometry_column (codes "pop") 33))
+        (operand_column (codes "nope") 40)) ≡ Err (query.TypeMismatch 23) }
+    ensures item { bound (selections.Items (items.AsText 7 (bare (codes "pop") 17) ∷ []))
+        (table (codes "t") 27) None None ≡ Err (query.TypeMismatch 7) }
+    ensures later_argument { bound_where
+        (conds.Relates 23 (predicates.Named Within) (geometry_column (codes "pop") 33)
+        (geometry_column (codes "nope") 38)) ≡ Err (query.UnknownColumn 38) }
 {}
 
 /// Strings that are no valid geometry or no pattern: a fault's byte is counted in the string's value, and these
 /// faults go before those of types.
 pub fn refused_strings()
-    ensures bad_text { bound_where (conds.IsEmpty 23 (from_text (codes "POINT(1 2") 50)) ≡ Err (query.BadGeometry 50 (Text (Syntax 9))) }
-    ensures quotes { bound_where (conds.IsEmpty 23 (from_text (codes "POINT''(1 2") 50)) ≡ Err (query.BadGeometry 50 (Text (Syntax 5))) }
-    ensures not_valid { bound_where (conds.IsEmpty 23 (from_text (codes "LINESTRING(3 3,3 3)") 50)) ≡ Err (query.BadGeometry 50 (Invalid (TooFewPoints 0))) }
-    ensures geometry_before_type { bound_where (conds.Relates 23 (predicates.Named Within) (geometry_column (codes "pop") 33) (from_text [] 54)) ≡ Err (query.BadGeometry 54 (Text (Syntax 0))) }
-    ensures pattern_before_type { bound_where (conds.Relates 23 (predicates.Relate (name (codes "FF*FF***") 45)) (geometry_column (codes "pop") 33) (geometry_column (codes "geom") 38)) ≡ Err (query.BadPattern 45) }
-    ensures letter_of_pattern { bound_where (conds.Relates 23 (predicates.Relate (name (codes "FF*FF***x") 46)) (geometry_column (codes "geom") 33) (geometry_column (codes "geom") 39)) ≡ Err (query.BadPattern 46) }
+    ensures bad_text { bound_where (conds.IsEmpty 23 (from_text (codes "POINT(1 2") 50))
+        ≡ Err (query.BadGeometry 50 (Text (Syntax 9))) }
+    ensures quotes { bound_where (conds.IsEmpty 23 (from_text (codes "POINT''(1 2") 50))
+        ≡ Err (query.BadGeometry 50 (Text (Syntax 5))) }
+    ensures not_valid { bound_where (conds.IsEmpty 23 (from_text (codes "LINESTRING(3 3,3 3)") 50))
+        ≡ Err (query.BadGeometry 50 (Invalid (TooFewPoints 0))) }
+    ensures geometry_before_type { bound_where
+        (conds.Relates 23 (predicates.Named Within) (geometry_column (codes "pop") 33) (from_text [] 54))
+        ≡ Err (query.BadGeometry 54 (Text (Syntax 0))) }
+    ensures pattern_before_type { bound_where
+        (conds.Relates 23 (predicates.Relate (name (codes "FF*FF***") 45)) (geometry_column (codes "pop") 33)
+        (geometry_column (codes "geom") 38)) ≡ Err (query.BadPattern 45) }
+    ensures letter_of_pattern { bound_where
+        (conds.Relates 23 (predicates.Relate (name (codes "FF*FF***x") 46))
+        (geometry_column (codes "geom") 33) (geometry_column (codes "geom") 39)) ≡ Err (query.BadPattern 46) }
 {}
 
 /// The texts of faults of geometries, in a table and in a query.
 pub fn geometry_fault_texts()
-    ensures text { load_text (codes "t") (load.BadGeometry 2 (Text (Syntax 9))) ≡ codes "t L6 record 2 W1 at 9" }
-    ensures rings { load_text (codes "t") (load.BadGeometry 2 (Invalid (RingsMeet 0 1))) ≡ codes "t L6 record 2 V4 0 1" }
+    ensures text { load_text (codes "t") (load.BadGeometry 2 (Text (Syntax 9)))
+        ≡ codes "t L6 record 2 W1 at 9" }
+    ensures rings { load_text (codes "t") (load.BadGeometry 2 (Invalid (RingsMeet 0 1)))
+        ≡ codes "t L6 record 2 V4 0 1" }
     ensures too_long { load_text (codes "t") (load.BadGeometry 2 (Text TooLong)) ≡ codes "t L6 record 2 W4" }
     ensures wrong_type { load_text (codes "t") (load.WrongType 2) ≡ codes "t L7 record 2" }
     ensures string { query_text (query.BadGeometry 40 (Text (Syntax 9))) ≡ codes "Q8 at 40 W1 at 9" }

@@ -27,9 +27,12 @@ ghost use Rattle.table_model.specs.declared.values.Value.TheVariants.{Null};
 
 /// Two rows with the same fields are two choices of places.
 pub fn equal_rows()
-    ensures both { meant (truth labelled_matrix denoted) ((first_point ∷ first_point ∷ []) ∷ []) (query (of 0 (codes "t") ∷ []) []) ≡ (0 ∷ []) ∷ (1 ∷ []) ∷ [] }
-    ensures first { meant (truth labelled_matrix denoted) ((first_point ∷ first_point ∷ []) ∷ []) (limit_to 1 (query (of 0 (codes "t") ∷ []) [])) ≡ (0 ∷ []) ∷ [] }
-    ensures pairs { meant (truth labelled_matrix denoted) ((first_point ∷ first_point ∷ []) ∷ []) (query (of 0 (codes "a") ∷ of 0 (codes "b") ∷ []) [])
+    ensures both { meant (truth labelled_matrix denoted) ((first_point ∷ first_point ∷ []) ∷ [])
+        (query (of 0 (codes "t") ∷ []) []) ≡ (0 ∷ []) ∷ (1 ∷ []) ∷ [] }
+    ensures first { meant (truth labelled_matrix denoted) ((first_point ∷ first_point ∷ []) ∷ [])
+        (limit_to 1 (query (of 0 (codes "t") ∷ []) [])) ≡ (0 ∷ []) ∷ [] }
+    ensures pairs { meant (truth labelled_matrix denoted) ((first_point ∷ first_point ∷ []) ∷ [])
+        (query (of 0 (codes "a") ∷ of 0 (codes "b") ∷ []) [])
         ≡ (0 ∷ 0 ∷ []) ∷ (0 ∷ 1 ∷ []) ∷ (1 ∷ 0 ∷ []) ∷ (1 ∷ 1 ∷ []) ∷ [] }
 {}
 
@@ -37,14 +40,20 @@ pub fn equal_rows()
 pub fn conditions_that_compute()
     ensures at_a_point { computes denoted (first_point ∷ []) (with_literal Intersects (square 0 0)) ≡ true }
     ensures at_null { computes denoted (row 1 Null ∷ []) (with_literal Intersects (square 0 0)) ≡ false }
-    ensures beside_null { computes denoted (row 1 Null ∷ first_point ∷ []) (Or (with_itself Intersects ∷ Not (of_second Intersects) ∷ [])) ≡ true }
-    ensures of_keys { computes denoted (first_point ∷ []) (Or (key_is Greater 0 9 ∷ IsEmpty (geometry 0) ∷ [])) ≡ false }
+    ensures beside_null { computes denoted (row 1 Null ∷ first_point ∷ [])
+        (Or (with_itself Intersects ∷ Not (of_second Intersects) ∷ [])) ≡ true }
+    ensures of_keys { computes denoted (first_point ∷ [])
+        (Or (key_is Greater 0 9 ∷ IsEmpty (geometry 0) ∷ [])) ≡ false }
 {}
 
 /// ST_AsText on either side of a comparison or before IS NULL, at whatever depth.
 pub fn conditions_with_as_text()
-    ensures left { has_as_text (Not (Or (key_is Greater 0 9 ∷ Compare Equal (AsText (geometry 0)) (Text (codes "POINT(1 1)")) ∷ []))) ≡ true }
+    ensures left { has_as_text
+        (Not (Or (key_is Greater 0 9 ∷ Compare Equal (AsText (geometry 0)) (Text (codes "POINT(1 1)")) ∷ [])))
+        ≡ true }
     ensures right { has_as_text (Compare Equal (Text (codes "POINT(1 1)")) (AsText (geometry 0))) ≡ true }
     ensures is_null { has_as_text (IsNull (AsText (geometry 0))) ≡ true }
-    ensures other_functions { has_as_text (Or (Compare Equal (Dimension (geometry 0)) (Integer (pos 1)) ∷ IsEmpty (geometry 0) ∷ with_literal Intersects (square 0 0) ∷ [])) ≡ false }
+    ensures other_functions { has_as_text
+        (Or (Compare Equal (Dimension (geometry 0)) (Integer (pos 1)) ∷ IsEmpty (geometry 0)
+        ∷ with_literal Intersects (square 0 0) ∷ [])) ≡ false }
 {}

@@ -27,7 +27,8 @@ ghost use Rattle.table_model.specs.declared.queries.WrittenPredicate.TheVariants
 
 /// EXPLAIN of a query whose condition has a literal, EXPLAIN ANALYZE, and the two words as names.
 pub fn plans_are_asked_for()
-    ensures explain { read (codes "EXPLAIN SELECT id FROM big WHERE ST_Intersects(geom, ST_GeomFromText('POLYGON((0 0,4 0,4 4,0 4,0 0))'))")
+    ensures explain { read
+        (codes "EXPLAIN SELECT id FROM big WHERE ST_Intersects(geom, ST_GeomFromText('POLYGON((0 0,4 0,4 4,0 4,0 0))'))")
         ≡ joined explains.Plan (selections.Items (items.Column (bare (codes "id") 15) ∷ [])) (table (codes "big") 23) None None (Some
         (conds.Relates 33 (predicates.Named Intersects) (geometry_column (codes "geom") 47) (from_text (codes "POLYGON((0 0,4 0,4 4,0 4,0 0))") 69))) }
     ensures analyze { read (codes "explain analyze SELECT * FROM t;")
@@ -38,7 +39,8 @@ pub fn plans_are_asked_for()
 
 /// A second table, in each of the ways in which it is written.
 pub fn tables_are_joined()
-    ensures inner { read (codes "SELECT b.id, s.id FROM big b JOIN sq s ON ST_Intersects(b.geom, s.geom) WHERE b.id <> 2")
+    ensures inner { read
+        (codes "SELECT b.id, s.id FROM big b JOIN sq s ON ST_Intersects(b.geom, s.geom) WHERE b.id <> 2")
         ≡ joined explains.No
         (selections.Items (items.Column (of (name (codes "b") 7) (name (codes "id") 9)) ∷ items.Column (of (name (codes "s") 13) (name (codes "id") 15)) ∷ []))
         (aliased (name (codes "big") 23) (name (codes "b") 27)) (Some (aliased (name (codes "sq") 34) (name (codes "s") 37)))
@@ -68,9 +70,12 @@ pub fn conditions_are_functions()
         ≡ all_where (conds.Not (conds.Relates 22 (predicates.Relate (name (codes "T*F**F***") 44)) (geometry_column (codes "geom") 32) (geometry_column (codes "geom") 38))) }
     ensures negated { read_where (codes "not st_within (geom, geom)")
         ≡ all_where (conds.Not (conds.Relates 26 (predicates.Named Within) (geometry_column (codes "geom") 37) (geometry_column (codes "geom") 43))) }
-    ensures one { read_where (codes "ST_IsEmpty(geom) = 01") ≡ all_where (conds.IsEmpty 22 (geometry_column (codes "geom") 33)) }
-    ensures zero { read_where (codes "ST_IsEmpty(geom) = 00") ≡ all_where (conds.Not (conds.IsEmpty 22 (geometry_column (codes "geom") 33))) }
-    ensures operands { read_where (codes "ST_AsText(geom) = 'x' AND 0 < ST_Dimension(ST_GeomFromText('POINT EMPTY'))")
+    ensures one { read_where (codes "ST_IsEmpty(geom) = 01")
+        ≡ all_where (conds.IsEmpty 22 (geometry_column (codes "geom") 33)) }
+    ensures zero { read_where (codes "ST_IsEmpty(geom) = 00")
+        ≡ all_where (conds.Not (conds.IsEmpty 22 (geometry_column (codes "geom") 33))) }
+    ensures operands { read_where
+        (codes "ST_AsText(geom) = 'x' AND 0 < ST_Dimension(ST_GeomFromText('POINT EMPTY'))")
         ≡ all_where (conds.And (conds.Compare 22 Equal (operands.AsText 22 (geometry_column (codes "geom") 32)) (operands.Text (name (codes "x") 40))
         ∷ conds.Compare 48 Less (operands.Integer (pos 0)) (operands.Dimension 52 (from_text (codes "POINT EMPTY") 81)) ∷ [])) }
 {}
@@ -93,7 +98,8 @@ pub fn functions_are_refused()
     ensures literal_alone { read_where (codes "ST_GeomFromText('POINT(1 1)')") ≡ Err (Syntax 22) }
     ensures third_argument { read_where (codes "ST_Within(geom, geom, 'T')") ≡ Err (Syntax 42) }
     ensures item { read (codes "SELECT ST_Within(geom, geom) FROM t") ≡ Err (Syntax 7) }
-    ensures literal_item { read (codes "SELECT ST_AsText(ST_GeomFromText('POINT(1 1)')) FROM t") ≡ Err (Syntax 17) }
+    ensures literal_item { read (codes "SELECT ST_AsText(ST_GeomFromText('POINT(1 1)')) FROM t")
+        ≡ Err (Syntax 17) }
     ensures table { read (codes "SELECT * FROM f(t)") ≡ Err (Syntax 14) }
     ensures explain { read (codes "EXPLAIN (SELECT * FROM t)") ≡ Err (Syntax 0) }
 {}
@@ -110,19 +116,27 @@ pub fn queries_are_refused()
 
 /// The parentheses of a function open no level, and the 65th level is refused.
 pub fn functions_open_no_level()
-    ensures deepest { read_where (repeat 64 (codes "(") ++ codes "ST_IsEmpty(geom)" ++ repeat 64 (codes ")")) ≡ all_where (conds.IsEmpty 86 (geometry_column (codes "geom") 97)) }
-    ensures deeper { read_where (repeat 65 (codes "(") ++ codes "ST_IsEmpty(geom)" ++ repeat 65 (codes ")")) ≡ Err (TooDeep 86) }
+    ensures deepest { read_where (repeat 64 (codes "(") ++ codes "ST_IsEmpty(geom)" ++ repeat 64 (codes ")"))
+        ≡ all_where (conds.IsEmpty 86 (geometry_column (codes "geom") 97)) }
+    ensures deeper { read_where (repeat 65 (codes "(") ++ codes "ST_IsEmpty(geom)" ++ repeat 65 (codes ")"))
+        ≡ Err (TooDeep 86) }
 {}
 
 /// COUNT(*) in any ASCII case, and COUNT as a name.
 pub fn rows_are_counted()
-    ensures alone { read (codes "SELECT COUNT(*) FROM big") ≡ under selections.Count (table (codes "big") 21) None None }
-    ensures spaced { read (codes "select count ( * ) from big;") ≡ under selections.Count (table (codes "big") 24) None None }
+    ensures alone { read (codes "SELECT COUNT(*) FROM big")
+        ≡ under selections.Count (table (codes "big") 21) None None }
+    ensures spaced { read (codes "select count ( * ) from big;")
+        ≡ under selections.Count (table (codes "big") 24) None None }
     ensures limited { read (codes "SELECT COUNT(*) FROM t WHERE id = 1 LIMIT 0;")
         ≡ under selections.Count (table (codes "t") 21) (Some (conds.Compare 29 Equal (operand_column (codes "id") 29) (operands.Integer (pos 1)))) (Some 0) }
-    ensures explained { read (codes "EXPLAIN SELECT COUNT(*) FROM t") ≡ joined explains.Plan selections.Count (table (codes "t") 29) None None None }
-    ensures name { read (codes "SELECT count FROM t") ≡ under (selections.Items (items.Column (bare (codes "count") 7) ∷ [])) (table (codes "t") 18) None None }
-    ensures table { read (codes "SELECT * FROM count") ≡ under selections.All (table (codes "count") 14) None None }
+    ensures explained { read (codes "EXPLAIN SELECT COUNT(*) FROM t")
+        ≡ joined explains.Plan selections.Count (table (codes "t") 29) None None None }
+    ensures name { read (codes "SELECT count FROM t")
+        ≡ under (selections.Items (items.Column (bare (codes "count") 7) ∷ [])) (table (codes "t") 18) None
+        None }
+    ensures table { read (codes "SELECT * FROM count")
+        ≡ under selections.All (table (codes "count") 14) None None }
 {}
 
 /// LIMIT, with WHERE and without, up to the greatest number of 64 bits with a sign.
@@ -131,11 +145,14 @@ pub fn rows_are_limited()
         ≡ under (selections.Items (items.Column (bare (codes "id") 7) ∷ [])) (table (codes "big") 15) None (Some 2) }
     ensures ended { read (codes "SELECT id FROM big LIMIT 2;")
         ≡ under (selections.Items (items.Column (bare (codes "id") 7) ∷ [])) (table (codes "big") 15) None (Some 2) }
-    ensures none { read (codes "select * from t limit 0") ≡ under selections.All (table (codes "t") 14) None (Some 0) }
+    ensures none { read (codes "select * from t limit 0")
+        ≡ under selections.All (table (codes "t") 14) None (Some 0) }
     ensures filtered { read (codes "SELECT * FROM t WHERE id > 1 LIMIT 0010;")
         ≡ under selections.All (table (codes "t") 14) (Some (conds.Compare 22 Greater (operand_column (codes "id") 22) (operands.Integer (pos 1)))) (Some 10) }
-    ensures aliased { read (codes "SELECT * FROM t a LIMIT 1") ≡ under selections.All (aliased (name (codes "t") 14) (name (codes "a") 16)) None (Some 1) }
-    ensures greatest { read (codes "SELECT * FROM t LIMIT 9223372036854775807") ≡ under selections.All (table (codes "t") 14) None (Some 9223372036854775807) }
+    ensures aliased { read (codes "SELECT * FROM t a LIMIT 1")
+        ≡ under selections.All (aliased (name (codes "t") 14) (name (codes "a") 16)) None (Some 1) }
+    ensures greatest { read (codes "SELECT * FROM t LIMIT 9223372036854775807")
+        ≡ under selections.All (table (codes "t") 14) None (Some 9223372036854775807) }
 {}
 
 /// LIMIT's integer has no sign and is within 64 bits with a sign; LIMIT stands once, at the end, and is no name.
@@ -144,8 +161,10 @@ pub fn limits_are_refused()
     ensures plus { read (codes "SELECT id FROM big LIMIT +1") ≡ Err (Syntax 25) }
     ensures absent { read (codes "SELECT id FROM big LIMIT") ≡ Err (Syntax 24) }
     ensures word { read (codes "SELECT id FROM big LIMIT all") ≡ Err (Syntax 25) }
-    ensures past_64_bits { read (codes "SELECT id FROM big LIMIT 9223372036854775808") ≡ Err (NumberTooBig 25) }
-    ensures filtered_past_64_bits { read (codes "SELECT * FROM t WHERE id = 1 LIMIT 9223372036854775808") ≡ Err (NumberTooBig 35) }
+    ensures past_64_bits { read (codes "SELECT id FROM big LIMIT 9223372036854775808")
+        ≡ Err (NumberTooBig 25) }
+    ensures filtered_past_64_bits { read (codes "SELECT * FROM t WHERE id = 1 LIMIT 9223372036854775808")
+        ≡ Err (NumberTooBig 35) }
     ensures fraction { read (codes "SELECT id FROM big LIMIT 2.5") ≡ Err (Syntax 26) }
     ensures twice { read (codes "SELECT id FROM big LIMIT 2 LIMIT 2") ≡ Err (Syntax 27) }
     ensures before_where { read (codes "SELECT id FROM big LIMIT 2 WHERE id = 1") ≡ Err (Syntax 27) }

@@ -8,15 +8,21 @@ ghost use Rattle.table_model.specs.declared.faults.SchemaFault.TheVariants as fa
 
 /// A column of each geometry, one of points, and two tables of which the second has a column of polygons.
 pub fn schemas_with_geometries()
-    ensures any { shown (codes "CREATE TABLE e (id INT PRIMARY KEY, geom GEOMETRY)") ≡ Ok (keyed (codes "e") None ∷ []) }
-    ensures of_points { shown (codes "create table big (id INTEGER PRIMARY KEY, geom Point);") ≡ Ok (keyed (codes "big") (Some Point) ∷ []) }
-    ensures two { shown (codes "CREATE TABLE e(id BIGINT PRIMARY KEY,geom POINT); CREATE TABLE sq(id INT PRIMARY KEY,geom POLYGON)") ≡ Ok (keyed (codes "e") (Some Point) ∷ keyed (codes "sq") (Some Polygon) ∷ []) }
+    ensures any { shown (codes "CREATE TABLE e (id INT PRIMARY KEY, geom GEOMETRY)")
+        ≡ Ok (keyed (codes "e") None ∷ []) }
+    ensures of_points { shown (codes "create table big (id INTEGER PRIMARY KEY, geom Point);")
+        ≡ Ok (keyed (codes "big") (Some Point) ∷ []) }
+    ensures two { shown
+        (codes "CREATE TABLE e(id BIGINT PRIMARY KEY,geom POINT); CREATE TABLE sq(id INT PRIMARY KEY,geom POLYGON)")
+        ≡ Ok (keyed (codes "e") (Some Point) ∷ keyed (codes "sq") (Some Polygon) ∷ []) }
 {}
 
 /// The first fault: a type that isn't named, a name given twice, no key, two keys.
 pub fn faults_of_schemas()
-    ensures no_type { shown (codes "CREATE TABLE t (id INT PRIMARY KEY, geom CIRCLE)") ≡ Err (fault.Syntax 41) }
+    ensures no_type { shown (codes "CREATE TABLE t (id INT PRIMARY KEY, geom CIRCLE)")
+        ≡ Err (fault.Syntax 41) }
     ensures double_name { shown (codes "CREATE TABLE t (id INT, ID INT)") ≡ Err (fault.DoubleName 24) }
     ensures no_key { shown (codes "CREATE TABLE t (id INT)") ≡ Err (fault.NoKey 22) }
-    ensures two_keys { shown (codes "CREATE TABLE t (a INT PRIMARY KEY, b INT PRIMARY KEY)") ≡ Err (fault.TwoKeys 41) }
+    ensures two_keys { shown (codes "CREATE TABLE t (a INT PRIMARY KEY, b INT PRIMARY KEY)")
+        ≡ Err (fault.TwoKeys 41) }
 {}

@@ -276,7 +276,8 @@ fn element_inside_near(outline: &Outline, element: usize, near: &[usize]) -> Opt
     requires closed { HasClosedRings outline.now }
     requires element { element < length (spec.elements outline.now) }
     requires near { near.now ≡ near_one (element_envelopes outline.now) element }
-    ensures { result ≡ first_of outline.now (of_elements_and ValidityFault.ElementInside element outline.now) }
+    ensures { result
+        ≡ first_of outline.now (of_elements_and ValidityFault.ElementInside element outline.now) }
 {
     let count = outline.geometry().element_count();
     for other in near {
