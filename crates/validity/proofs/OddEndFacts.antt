@@ -182,7 +182,7 @@ odd_toggled found new given i x up l is e k = go (ends_in found x) refl
     go false f = subst (λ l. IsKeptOdd l given (i + 1)) (sym (e ∙ ap (λ t. cond t (take (length found - 1) found) (found ++ x ∷ [])) f)) (odd_added found given i x up l is f k)
     go true f = subst (λ l. IsKeptOdd l given (i + 1)) (sym (e ∙ ap (λ t. cond t (take (length found - 1) found) (found ++ x ∷ [])) f))
         (odd_taken found (take (length found - 1) found) given i (get_or found (length found - 1) x) x (split_at_end found x (some (length found) (same_position (get_or found (length found - 1) x) x) f)) l is
-            (same_is (get_or found (length found - 1) x) x (and_parts (nat_lt 0 (length found)) (same_position (get_or found (length found - 1) x) x) f).1) k)
+        (same_is (get_or found (length found - 1) x) x (and_parts (nat_lt 0 (length found)) (same_position (get_or found (length found - 1) x) x) f).1) k)
 
 pub odd_of_all : (found given : List Position) (i : ℕ) → length given ≤ i → IsKeptOdd found given i → HasParityOf found given
 odd_of_all found given i h k p = k.parity p ∙ ap (λ l. odd (count_by (stands_at p) l)) (take_all i given h)
