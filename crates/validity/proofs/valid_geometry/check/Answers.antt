@@ -1,4 +1,6 @@
-use Rattle.std.proofs.Common.{sym, ap, ◌∙◌}
+use Rattle.std.proofs.Common.{sym, ap, subst, ◌∙◌}
+use Rattle.geometry_model.specs.Geometries.{Geometry}
+use Rattle.validity.specs.OddEnds.{AreOddEnds, ended_lines}
 use Rattle.geometry_model.specs.FirstFaults.{validity_fault}
 use Rattle.validity.proofs.Faults.{first_stands, found_is_told, found_stands, none_found_valid}
 use Rattle.validity.proofs.Kept.{is_kept}
@@ -19,7 +21,7 @@ returns-in-Some-clause-fault c = found_is_told c.args.geometry c.of-in-Some.resu
 
 pub invariant_of-result : goal.invariant_of-result
 invariant_of-result c = is_kept c.in_ok-outline.outline c.segments.result.now c.in_ok-boxes.boxes c.in_ok-odd_ends.odd_ends.items c.segments.ensures c.in_ok-boxes.ensures
-    (rw (← c.geometry-in-None.ensures) c.in_ok-odd_ends.ensures) (sym c.in_ok-fault.ensures ∙ c.in-None.is)
+    (subst (λ (g : Geometry). AreOddEnds c.in_ok-odd_ends.odd_ends.items (ended_lines g)) c.geometry.ensures c.in_ok-odd_ends.ensures) (sym c.in_ok-fault.ensures ∙ c.in-None.is)
 
 pub returns-in-None-clause-holes : goal.returns-in-None-clause-holes
 returns-in-None-clause-holes c = holes_are_cut_out c.args.geometry (none_found_valid c.in_ok-outline.ensures c.in_ok-fault.ensures c.in-None.is)
@@ -44,3 +46,9 @@ returns-in-None-clause-parted c = rings_part_there c.args.geometry (none_found_v
 
 pub returns-in-None-clause-sides : goal.returns-in-None-clause-sides
 returns-in-None-clause-sides c = rings_have_sides c.args.geometry (none_found_valid c.in_ok-outline.ensures c.in_ok-fault.ensures c.in-None.is)
+
+pub returns-in-None-clause-valid : goal.returns-in-None-clause-valid
+returns-in-None-clause-valid c = none_found_valid c.in_ok-outline.ensures c.in_ok-fault.ensures c.in-None.is
+
+pub returns-in-None-clause-faultless : goal.returns-in-None-clause-faultless
+returns-in-None-clause-faultless c = ap validity_fault (sym c.in_ok-outline.ensures) ∙ (sym c.in_ok-fault.ensures ∙ c.in-None.is)
