@@ -13,7 +13,7 @@ pub use labelled::matrix_of_labels;
 pub use matrices::Matrix;
 pub use pattern::MatrixPattern;
 pub use predicate::{SpatialPredicate, holds};
-pub use relating::{matrix_of_labels, relate};
+pub use relating::relate;
 pub use work::Work;
 
 #[cfg(test)]
