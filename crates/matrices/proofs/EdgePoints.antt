@@ -8,7 +8,6 @@ use Rattle.geometry_model.specs.Sides.{on}
 use Rattle.geometry_model.specs.Locations.{stands_at, is_odd_end, locate}
 use Rattle.geometry_model.specs.Dimensions.{Matrix}
 use Rattle.geometry_model.specs.declared.shapes.Kind.TheVariants as kinds
-use Rattle.geometry_model.specs.declared.point_sets.Location.{Location}
 use Rattle.geometry_model.specs.declared.point_sets.Dimension.TheVariants.{Zero}
 use Rattle.gap_laws.specs.Gaps.{EdgeGaps, AreGaps, of_own_edges}
 use Rattle.gap_laws.proofs.GapTheorems.{mostly_is_located, own_edges_are_mostly}

@@ -1,9 +1,9 @@
 -- Listed positions and ends of lines, and when no more of them can show anything.
-use Rattle.std.proofs.Common.{◌≡◌, ◌<◌, ◌+◌, ◌-◌, ℕ, Bool, true, false, if◌then◌else◌, refl, sym, ap, ap₂, ◌∙◌, subst, List, [], ◌∷◌, length, get_or, take, arith, option_to_list}
-use Rattle.std.specs.List.{All, Contains, list_any}
+use Rattle.std.proofs.Common.{◌≡◌, ◌<◌, ◌+◌, ◌-◌, ℕ, Bool, true, if◌then◌else◌, refl, sym, ap, ap₂, ◌∙◌, subst, List, [], ◌∷◌, length, get_or, take, arith, option_to_list}
+use Rattle.std.specs.List.{All, Contains}
 use Rattle.std.proofs.lemmas.List.Elements.{All-nil, All-cons, All-more, All-weaker, All-contains_itself}
-use Rattle.geometry_model.specs.Points.{Position, Point, point_at}
-use Rattle.geometry_model.specs.Geometries.{Geometry, kind, lines, listed}
+use Rattle.geometry_model.specs.Points.{Position, point_at}
+use Rattle.geometry_model.specs.Geometries.{Geometry, kind, listed}
 use Rattle.geometry_model.specs.Locations.{stands_at, last_after, ends, in_points, locate}
 use Rattle.geometry_model.specs.Dimensions.{Matrix}
 use Rattle.geometry_model.specs.declared.point_sets.Location.{Location}

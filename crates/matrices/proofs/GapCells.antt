@@ -1,5 +1,5 @@
 -- What gaps show, raised step by step.
-use Rattle.std.proofs.Common.{◌≡◌, ◌≢◌, ◌<◌, ◌+◌, ℕ, zero, suc, refl, sym, ap, ◌∙◌, subst, List, [], ◌∷◌, ◌++◌, length, get_or, take, pos, ◌≤ℤ◌, arith}
+use Rattle.std.proofs.Common.{◌≡◌, ◌≢◌, ◌<◌, ◌+◌, ℕ, zero, suc, refl, sym, ap, ◌∙◌, subst, List, [], ◌∷◌, ◌++◌, length, get_or, take, arith}
 use Rattle.std.specs.List.{All, Contains}
 use Rattle.std.proofs.Math.Seq.{take-suc}
 use Rattle.std.proofs.lemmas.List.Elements.{All-push, All-weaker, All-contains, All-same}
@@ -19,7 +19,7 @@ use Rattle.cell_laws.specs.Cells.{Shows, raised, IsPartOf}
 use Rattle.cell_laws.proofs.Growing.{still_shown}
 use Rattle.cover_laws.specs.Covering.{IsOffEdges, ShowsOff, ShowsOn, ShowsAt, ShowsGap}
 use Rattle.matrices.specs.Raising.{IsRaisedTo, Grows}
-use Rattle.matrices.proofs.Growth.{raised_one, raised_two, raised_so, shown_kept, grows_raised, grows_through}
+use Rattle.matrices.proofs.Growth.{raised_one, raised_two, raised_so, shown_kept, grows_raised}
 use Rattle.cover_laws.proofs.CoveringTheorems.{gap_is_there}
 
 both_kept : (P Q : Matrix → Type 0) → ((m n : Matrix) → IsPartOf m n → P m → P n) → ((m n : Matrix) → IsPartOf m n → Q m → Q n) → (m n : Matrix) → IsPartOf m n → P m × Q m → P n × Q n
@@ -44,8 +44,8 @@ off_two_sided a e w l m n o r ew slant area en eo er = raised_so (λ x. (Shows x
     (λ x s. record { piece = subst (λ (v : Location). Shows x v l One) ew s.0.0; outer = λ _. s.0.1; inner = λ _ _. s.1 })
     (λ x s. ((subst (λ (v : Location). Shows x v l One) (sym ew) s.piece, s.outer slant), s.inner area slant))
     m r (raised_two (λ x. Shows x w l One × Shows x Exterior l Two) (λ x. Shows x Interior l Two) (both_kept (λ x. Shows x w l One) (λ x. Shows x Exterior l Two) (shown_kept w l One) (shown_kept Exterior l Two)) m o r
-      (raised_two (λ x. Shows x w l One) (λ x. Shows x Exterior l Two) (shown_kept w l One) m n o (raised_one m n w l One en) (raised_one n o Exterior l Two eo))
-      (raised_one o r Interior l Two er))
+    (raised_two (λ x. Shows x w l One) (λ x. Shows x Exterior l Two) (shown_kept w l One) m n o (raised_one m n w l One en) (raised_one n o Exterior l Two eo))
+    (raised_one o r Interior l Two er))
 
 -- ---- on an edge of the second geometry
 pub on_upright : (a b : Geometry) (e : Edge) (y : Point) (w v : Location) (m n : Matrix) → w ≡ of_own_edges (kind a) → v ≡ of_own_edges (kind b) → e.start.x ≡ e.end.x → n ≡ raised m w v One → IsRaisedTo (λ o. ShowsOn a b o e y) m n
@@ -60,8 +60,8 @@ on_slanted a b e y w v m n o r ew ev slant en eo er = raised_so (λ x. (Shows x 
     (λ x s. record { piece = subst (λ (k : Location). Shows x (of_own_edges (kind a)) k One) ev (subst (λ (l : Location). Shows x l v One) ew s.0.0); lower = λ _. s.0.1; upper = λ _. s.1 })
     (λ x s. ((subst (λ (l : Location). Shows x l v One) (sym ew) (subst (λ (k : Location). Shows x (of_own_edges (kind a)) k One) (sym ev) s.piece), s.lower slant), s.upper slant))
     m r (raised_two (λ x. Shows x w v One × Shows x (below a y) (below b y) Two) (λ x. Shows x (above a y) (above b y) Two) (both_kept (λ x. Shows x w v One) (λ x. Shows x (below a y) (below b y) Two) (shown_kept w v One) (shown_kept (below a y) (below b y) Two)) m o r
-      (raised_two (λ x. Shows x w v One) (λ x. Shows x (below a y) (below b y) Two) (shown_kept w v One) m n o (raised_one m n w v One en) (raised_one n o (below a y) (below b y) Two eo))
-      (raised_one o r (above a y) (above b y) Two er))
+    (raised_two (λ x. Shows x w v One) (λ x. Shows x (below a y) (below b y) Two) (shown_kept w v One) m n o (raised_one m n w v One en) (raised_one n o (below a y) (below b y) Two eo))
+    (raised_one o r (above a y) (above b y) Two er))
 
 -- ---- at a point
 pub at_off : (a b : Geometry) (e : Edge) (y : Point) (l : Location) (m n : Matrix) → IsOffEdges b y → l ≡ mostly b y → IsRaisedTo (λ o. ShowsOff a o e l) m n → IsRaisedTo (λ o. ShowsAt a b o e y) m n
@@ -145,7 +145,7 @@ pub gaps_more : (a b : Geometry) (e : Edge) (stops : List Point) (j i : ℕ) (p 
 gaps_more a b e stops j i p q y m n ei l ep eq gaps ey r all = All-same (λ c. ShowsGap a b n e c.lesser c.greater) (stretches (take (i + 1) stops)) (stretches (take i stops) ++ record { lesser = p; greater = q } ∷ [])
     (stretches_more stops j i p q ei l ep eq)
     (All-push (λ c. ShowsGap a b n e c.lesser c.greater) (stretches (take i stops)) (record { lesser = p; greater = q }) (shows_gaps_kept a b e (stretches (take i stops)) m n r.grown all)
-      (record { sample = y; between = subst (IsBetween e p q) (sym ey) (gap_has_mediant e (edges b) p q (gap_at e b stops j i p q ei l ep eq gaps)); shows = r.shows }))
+    (record { sample = y; between = subst (IsBetween e p q) (sym ey) (gap_has_mediant e (edges b) p q (gap_at e b stops j i p q ei l ep eq gaps)); shows = r.shows }))
 
 pub gap_grows : (a b : Geometry) (e : Edge) (p q y : Point) (m n : Matrix) → Contains (edges a) e → HasLength e → IsGap e (edges b) p q → y ≡ least_form (mediant p q) → IsRaisedTo (λ o. ShowsAt a b o e y) m n → Grows a b m n
 gap_grows a b e p q y m n own long gap ey r = grows_raised a b (λ o. ShowsAt a b o e y) m n r

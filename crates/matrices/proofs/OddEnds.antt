@@ -4,7 +4,6 @@ use Rattle.std.specs.List.{All, list_any}
 use Rattle.std.proofs.lemmas.List.Elements.{All-contains, All-head, All-tail}
 use Rattle.geometry_model.specs.Points.{Position, Point, IsPoint, point_at}
 use Rattle.geometry_model.specs.Geometries.{Geometry, kind, lines}
-use Rattle.geometry_model.specs.Crossings.{odd}
 use Rattle.geometry_model.specs.Locations.{stands_at, is_odd_end, on_some, ends, locate}
 use Rattle.geometry_model.specs.Dimensions.{Matrix}
 use Rattle.geometry_model.specs.declared.shapes.Kind.TheVariants as kinds
@@ -14,7 +13,7 @@ use Rattle.geometry_laws.proofs.Each.{Among, Passing, among_either, some_passed,
 use Rattle.geometry_laws.proofs.Respect.{locate_respects}
 use Rattle.geometry_laws.proofs.RingParity.{position_is_point}
 use Rattle.geometry_laws.proofs.Cuts.{contains_of_among}
-use Rattle.cell_laws.specs.Cells.{Shows, CoversPosition}
+use Rattle.cell_laws.specs.Cells.{Shows}
 use Rattle.cell_laws.proofs.Growing.{shows_at}
 use Rattle.matrices.specs.Raising.{CoversEnd, CoversEndsOf}
 
@@ -28,7 +27,6 @@ odd_end_is_boundary (Geometry.LineString l) x k h = boundary_if (is_odd_end (l �
 odd_end_is_boundary (Geometry.MultiLineString ls) x k h = boundary_if (is_odd_end ls x) (on_some ls x) h
 odd_end_is_boundary (Geometry.Polygon rs) x k h = absurd (let z : kinds.Area ≡ kinds.Line = k in cc)
 odd_end_is_boundary (Geometry.MultiPolygon es) x k h = absurd (let z : kinds.Area ≡ kinds.Line = k in cc)
-
 
 end_there : (ls : List (List Position)) (x : Point) → is_odd_end ls x ≡ true → Passing (stands_at x) (flat_map ends ls)
 end_there ls x h = go (list_any (stands_at x) (flat_map ends ls)) refl

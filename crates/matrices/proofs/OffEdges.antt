@@ -1,9 +1,8 @@
 -- Where a point off a geometry's edges stands.
-use Rattle.std.proofs.Common.{◌≡◌, Bool, true, false, if◌then◌else◌, refl, sym, ap, ◌∙◌, List}
+use Rattle.std.proofs.Common.{◌≡◌, Bool, true, false, if◌then◌else◌, refl, sym, ap, ◌∙◌}
 use Rattle.std.proofs.lemmas.Bool.{false≢true}
-
-use Rattle.geometry_model.specs.Points.{Position, Point}
-use Rattle.geometry_model.specs.Geometries.{Edge, Geometry, kind, edges, edges_of_lines, joined_rings}
+use Rattle.geometry_model.specs.Points.{Point}
+use Rattle.geometry_model.specs.Geometries.{Geometry, kind, edges, joined_rings}
 use Rattle.geometry_model.specs.Sides.{on}
 use Rattle.geometry_model.specs.Crossings.{odd_above}
 use Rattle.geometry_model.specs.Locations.{on_some}

@@ -1,14 +1,11 @@
 -- The two passes: from what each shows to the matrix.
-use Rattle.std.proofs.Common.{◌≡◌, true, false, Bool, refl, sym, ap, ◌∙◌, subst, List}
+use Rattle.std.proofs.Common.{◌≡◌, refl, sym, ap, ◌∙◌, subst}
 use Rattle.std.specs.List.{All}
 use Rattle.std.proofs.lemmas.List.Elements.{All-weaker}
-use Rattle.geometry_model.specs.Points.{Position, Point, IsPoint, point_at}
-use Rattle.geometry_model.specs.Geometries.{Edge, Geometry, kind, edges, lines, listed}
-use Rattle.geometry_model.specs.Locations.{stands_at, is_odd_end, ends, locate}
+use Rattle.geometry_model.specs.Geometries.{Geometry, edges, lines, listed}
 use Rattle.geometry_model.specs.Dimensions.{Matrix, IsMatrix, cell, transposed}
 use Rattle.geometry_model.specs.Labels.{labelled_matrix}
 use Rattle.geometry_model.specs.Validity.{IsValid}
-use Rattle.geometry_model.specs.declared.shapes.Kind.TheVariants as kinds
 use Rattle.geometry_model.specs.declared.point_sets.Location.{Location}
 use Rattle.geometry_model.specs.declared.point_sets.Location.TheVariants.{Interior, Boundary, Exterior}
 use Rattle.geometry_model.specs.declared.point_sets.Dimension.{Dimension}
@@ -19,7 +16,7 @@ use Rattle.cell_laws.specs.Cells.{at_most, Shows, IsPartOf, IsSound, Covers, Cov
 use Rattle.cell_laws.proofs.Growing.{still_shown, cell_of}
 use Rattle.cell_laws.proofs.CellTheorems.{covering_is_whole, covers_turned}
 use Rattle.cover_laws.specs.Covering.{ShowsEnds}
-use Rattle.matrices.specs.Raising.{of_exteriors, Grows, CoversEnd, CoversEndsOf, ShowsOwnEnds}
+use Rattle.matrices.specs.Raising.{of_exteriors, Grows, ShowsOwnEnds}
 use Rattle.matrices.proofs.Growth.{covered_kept, part_through}
 use Rattle.matrices.proofs.Ends.{covered_ends_kept}
 use Rattle.matrices.proofs.OddEnds.{shows_odd_end}

@@ -51,10 +51,8 @@ pub(crate) fn is_full_on(first: &Valid, second: &Valid, matrix: &Matrix) -> bool
         of_own_edges(second.kind()),
         Dimension::One,
     ) && matrix.shows(Location::Exterior, Location::Exterior, Dimension::Two)
-        && (!is_first_area
-            || matrix.shows(Location::Interior, Location::Exterior, Dimension::Two))
-        && (!is_second_area
-            || matrix.shows(Location::Exterior, Location::Interior, Dimension::Two))
+        && (!is_first_area || matrix.shows(Location::Interior, Location::Exterior, Dimension::Two))
+        && (!is_second_area || matrix.shows(Location::Exterior, Location::Interior, Dimension::Two))
         && (!is_first_area
             || !is_second_area
             || matrix.shows(Location::Interior, Location::Interior, Dimension::Two))

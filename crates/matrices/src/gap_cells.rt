@@ -52,9 +52,9 @@ fn off_edges(kind: Kind, is_odd_above: bool) -> Location
     }
 }
 
-/// Shows what a gap of an edge of the first geometry shows that lies in this part of the second one, off its edges: the gap itself
-/// and, where it isn't upright, its sides, one of which is exterior to the first geometry, and the other of an area's edge interior
-/// (OGC 06-103r4, 6.1.15.2).
+/// Shows what a gap of an edge of the first geometry shows that lies in this part of the second one, off its edges: the gap
+/// itself and, where it isn't upright, its sides, of which one is exterior to the first geometry, and of an area's edge the other
+/// interior (OGC 06-103r4, 6.1.15.2).
 fn raise_off(first: &Valid, edge: &Segment, part: Location, matrix: &mut Matrix)
     ensures { IsRaisedTo (λ m. ShowsOff first.now m edge.now part) matrix.old matrix.new }
 {

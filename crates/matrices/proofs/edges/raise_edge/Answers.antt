@@ -47,4 +47,4 @@ returns-clause-covers c =
     (ends_kept a b c.args.matrix.now n (returns-clause-grows c).grown c.requires.ends)
     (subst (λ (xs : List Point). All (λ k. ShowsGap a b n c.args.edge.now k.lesser k.greater) (stretches xs)) c.stops.ensures c.raise_gaps.ensures.shows)
     (points_kept a b c.find.new.self.shared c.raise_shared.new.matrix n c.raise_gaps.ensures.grows.grown
-      (subst (All (λ p. Shows c.raise_shared.new.matrix (locate a p) (locate b p) Zero)) c.shared.ensures c.raise_shared.ensures.shows))
+    (subst (All (λ p. Shows c.raise_shared.new.matrix (locate a p) (locate b p) Zero)) c.shared.ensures c.raise_shared.ensures.shows))

@@ -15,8 +15,8 @@ loop-place-preserved c =
     record {
       grows = grows_through c.args.first.now c.args.second.now c.args.matrix.now c.loop-place.matrix c.raise_at.new.matrix c.loop-place.invariant.grows
           (gap_grows c.args.first.now c.args.second.now c.args.edge.now p q c.mediant-sample.result c.loop-place.matrix c.raise_at.new.matrix c.requires.own c.requires.length
-            (gap_at c.args.edge.now c.args.second.now c.args.stops.now (c.loop-place.place - 1) c.loop-place.place p q before c.loop-place-test.true c.index-stops-place.is c.index-stops-place-in-loop-place.is c.requires.gaps)
-            c.mediant-sample.ensures.exact c.raise_at.ensures);
+          (gap_at c.args.edge.now c.args.second.now c.args.stops.now (c.loop-place.place - 1) c.loop-place.place p q before c.loop-place-test.true c.index-stops-place.is c.index-stops-place-in-loop-place.is c.requires.gaps)
+          c.mediant-sample.ensures.exact c.raise_at.ensures);
       shows = gaps_more c.args.first.now c.args.second.now c.args.edge.now c.args.stops.now (c.loop-place.place - 1) c.loop-place.place p q c.mediant-sample.result c.loop-place.matrix c.raise_at.new.matrix
           before c.loop-place-test.true c.index-stops-place.is c.index-stops-place-in-loop-place.is c.requires.gaps c.mediant-sample.ensures.exact c.raise_at.ensures c.loop-place.invariant.shows;
     }

@@ -1,6 +1,6 @@
-use Rattle.std.proofs.Common.{subst, rules}
+use Rattle.std.proofs.Common.{subst}
 use Rattle.std.specs.List.{All}
-use Rattle.geometry_model.specs.Geometries.{Geometry, edges, lines, kind}
+use Rattle.geometry_model.specs.Geometries.{Geometry, edges}
 use Rattle.validity.specs.ValidGeometries.{HasLength}
 use Rattle.matrices.proofs.Growth.{grows_through}
 use Rattle.matrices.proofs.positions.raise_own_ends.Goals as goal

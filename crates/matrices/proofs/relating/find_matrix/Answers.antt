@@ -1,8 +1,8 @@
 use Rattle.std.proofs.Common.{subst, sym}
-use Rattle.geometry_model.specs.Dimensions.{Matrix, transposed}
+use Rattle.geometry_model.specs.Dimensions.{Matrix}
 use Rattle.cell_laws.specs.Cells.{IsPartOf}
 use Rattle.cover_laws.specs.Covering.{ShowsEnds}
-use Rattle.matrices.specs.Raising.{of_exteriors, Grows}
+use Rattle.matrices.specs.Raising.{Grows}
 use Rattle.matrices.proofs.Passes.{ends_turned, ends_again, passes_give, is_matrix}
 use Rattle.matrices.proofs.relating.find_matrix.Goals as goal
 
@@ -13,7 +13,7 @@ raise_edges-requires-clause-ends c = ends_turned c.args.first.now c.args.second.
 pub raise_edges-requires-2-clause-ends : goal.raise_edges-requires-2-clause-ends
 raise_edges-requires-2-clause-ends c = subst (ShowsEnds c.args.first.now c.args.second.now) (sym c.transposed-matrix.ensures)
     (ends_again c.args.first.now c.args.second.now c.raise_own_ends.new.matrix c.raise_own_ends-2.new.matrix c.raise_edges.new.matrix c.raise_own_ends.ensures.shows
-      (subst (λ (m : Matrix). IsPartOf m c.raise_own_ends-2.new.matrix) c.transposed-turned.ensures c.raise_own_ends-2.ensures.grows.grown) c.raise_own_ends-2.ensures.shows c.in_ok-raise_edges.ensures.grows.grown)
+    (subst (λ (m : Matrix). IsPartOf m c.raise_own_ends-2.new.matrix) c.transposed-turned.ensures c.raise_own_ends-2.ensures.grows.grown) c.raise_own_ends-2.ensures.shows c.in_ok-raise_edges.ensures.grows.grown)
 
 pub returns-clause-labelled : goal.returns-clause-labelled
 returns-clause-labelled c =
