@@ -348,18 +348,16 @@ fn failing_file<'a>(
     None
 }
 
-// The status of a run over the schema and the table where these reads and this put fail.
-fn run_failing<'a>(
+// The status of a run over a schema and its table where these reads and this put fail.
+fn run_failing(
     rt: &HostRuntime,
     failing: &Failing,
-    schema: &'a [u8],
-    table: &'a [u8],
     out: &mut StopSink,
     err: &mut MemorySink,
 ) -> Result<u8, Fail> {
     let order = run_order(rt.alloc(), QUERY)?;
     let failing = *failing;
-    let opener = move |path: &str| failing_file(path, failing, schema, table);
+    let opener = move |path: &str| failing_file(path, failing, SCHEMA.as_bytes(), TABLE.as_bytes());
     Ok(serve(rt.alloc(), &order, opener, out, err))
 }
 
@@ -379,14 +377,7 @@ fn reading_and_writing_may_fail(rt: HostRuntime) -> Result<(), Fail> {
         };
         let mut out = StopSink::new(rt.alloc(), failing.put, 3);
         let mut err = MemorySink::new(rt.alloc());
-        let status = run_failing(
-            &rt,
-            &failing,
-            SCHEMA.as_bytes(),
-            TABLE.as_bytes(),
-            &mut out,
-            &mut err,
-        )?;
+        let status = run_failing(&rt, &failing, &mut out, &mut err)?;
         let told = err.bytes() == line.as_bytes() && status == 6;
         assert!(rt; told && out.bytes() == out_text.as_bytes());
     }

@@ -96,7 +96,7 @@ impl<'r> Progress<'r> {
     }
 }
 
-/// A file that is read, and how far. At its end, and where its reading stops before, no line is left on the terminal.
+/// A file that is read, and how far. Once it is dropped, read to its end or not, no line is left on the terminal.
 pub struct Followed<'p> {
     file: File,
     name: Option<String>,
