@@ -1,5 +1,6 @@
 //! Reads conditions, with NOT, AND, OR and parentheses.
 
+ghost use Rattle.std.specs.Prelude.{◌≡◌};
 ghost use Rattle.table_model.specs.declared.queries.WrittenCond.TheVariants as tree;
 ghost use Rattle.table_model.specs.QueryReading as spec;
 ghost use Rattle.table_model.specs.Parsers.{Reads};
@@ -15,6 +16,13 @@ use table_model::queries::WrittenGeometry;
 use table_model::tokens::TokenKind;
 
 pub(crate) type WrittenCond<'a> = table_model::queries::WrittenCond<'a, WrittenGeometry<'a>>;
+
+/// The condition that all of these hold.
+fn all_of<'a>(parts: Items<WrittenCond<'a>>) -> WrittenCond<'a>
+    ensures { result ≡ tree.And parts.entry }
+{
+    WrittenCond::And(parts)
+}
 
 /// Reads the rest of a disjunction, after its first part and OR.
 #[cycle(conditions)]
@@ -75,7 +83,7 @@ fn conjuncts<'a>(
     for _turn in 0..tokens.count() {
         parts.push(negation(alloc, tokens, levels)?)?;
         if !tokens.eat(TokenKind::And) {
-            return Ok(WrittenCond::And(parts));
+            return Ok(all_of(parts));
         }
     }
     Err(refuse(tokens))

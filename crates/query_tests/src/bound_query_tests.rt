@@ -1,53 +1,20 @@
 //! What binding means for whole queries, with places counted by hand.
 
 use geometry_model::{GeometryFault, Predicate, TextFault, ValidityFault};
-use query_binder::{Bound, ColumnShape, QueryFault, TableDef, bind};
+use query_binder::{Bound, QueryFault, bind};
 use query_reader::read_query;
-use sqlite_items::Items;
+use spatial_sql::read_schema;
 use std::alloc::Global;
 use std::test::Fail;
 use table_model::conditions::{ColumnPlace, Cond, GeometryArgument, Item, Operand};
-use table_model::definitions::{ColumnDef, ColumnType};
-use table_model::texts::OwnedText;
 
-fn column(
-    alloc: Global,
-    name: &str,
-    column_type: ColumnType<ColumnShape>,
-) -> Result<ColumnDef<ColumnShape>, Fail> {
-    Ok(ColumnDef {
-        name: OwnedText::copy_of(alloc, name)?,
-        column_type,
-        not_null: false,
-    })
-}
+const SCHEMA: &[u8] =
+    b"CREATE TABLE t (id INTEGER PRIMARY KEY, pop INTEGER, name TEXT, geom GEOMETRY);";
 
-/// The table t of a key, a number, a name and a geometry.
-fn tables(alloc: Global) -> Result<Items<TableDef>, Fail> {
-    let mut columns = Items::new(alloc);
-    columns.push(column(alloc, "id", ColumnType::Integer)?)?;
-    columns.push(column(alloc, "pop", ColumnType::Integer)?)?;
-    columns.push(column(alloc, "name", ColumnType::Text)?)?;
-    columns.push(column(alloc, "geom", ColumnType::Geometry(None))?)?;
-    let mut tables = Items::new(alloc);
-    tables.push(TableDef {
-        name: OwnedText::copy_of(alloc, "t")?,
-        columns,
-        key: 0,
-    })?;
-    Ok(tables)
-}
-
-fn bound(alloc: Global, text: &str) -> Result<Bound, Fail> {
-    let tables = tables(alloc)?;
+fn bound(alloc: Global, text: &str) -> Result<Result<Bound, QueryFault>, Fail> {
+    let schema = read_schema(alloc, SCHEMA)?;
     let query = read_query(alloc, text)?;
-    Ok(bind(alloc, &query, tables.as_slice())?)
-}
-
-fn fault_of(alloc: Global, text: &str) -> Result<Option<QueryFault>, Fail> {
-    let tables = tables(alloc)?;
-    let query = read_query(alloc, text)?;
-    Ok(bind(alloc, &query, tables.as_slice()).err())
+    Ok(bind(alloc, &query, schema.tables()))
 }
 
 #[test]
@@ -77,7 +44,7 @@ fn refused_names_and_types(rt: HostRuntime) -> Result<(), Fail> {
             QueryFault::BadPattern(45),
         ),
     ] {
-        assert_eq!(rt; fault_of(rt.alloc(), text)?, Some(fault), "at {text}");
+        assert!(rt; bound(rt.alloc(), text)?.err() == Some(fault), "at {text}");
     }
     Ok(())
 }
@@ -99,7 +66,7 @@ fn refused_constants(rt: HostRuntime) -> Result<(), Fail> {
             QueryFault::BadGeometry(50, GeometryFault::Invalid(ValidityFault::TooFewPoints(0))),
         ),
     ] {
-        assert_eq!(rt; fault_of(rt.alloc(), text)?, Some(fault), "at {text}");
+        assert!(rt; bound(rt.alloc(), text)?.err() == Some(fault), "at {text}");
     }
     Ok(())
 }
@@ -111,8 +78,8 @@ fn binds_every_part(rt: HostRuntime) -> Result<(), Fail> {
         "SELECT a.id, ST_AsText(b.geom) FROM t a JOIN t b \
          ON ST_Within(a.geom, ST_GeomFromText('POINT(1 2)')) = 0 \
          WHERE ST_Relate(a.geom, b.geom, 't0*******') = 1 AND (a.name = 'o''k' AND b.pop > 2) LIMIT 3",
-    )?;
-    assert_eq!(rt; query.limit, Some(3));
+    )??;
+    assert!(rt; query.limit == Some(3));
     let last = ColumnPlace {
         reference: 1,
         column: 3,
@@ -148,9 +115,9 @@ fn binds_every_part(rt: HostRuntime) -> Result<(), Fail> {
 
 #[test]
 fn counts_rows(rt: HostRuntime) -> Result<(), Fail> {
-    let query = bound(rt.alloc(), "SELECT COUNT(*) FROM t")?;
+    let query = bound(rt.alloc(), "SELECT COUNT(*) FROM t")??;
     assert!(rt; query.counts && query.items.is_empty());
-    let query = bound(rt.alloc(), "SELECT * FROM t a, T b")?;
+    let query = bound(rt.alloc(), "SELECT * FROM t a, T b")??;
     assert_eq!(rt; (query.counts, query.items.len()), (false, 8));
     Ok(())
 }

@@ -8,6 +8,8 @@ mod bound_query_tests;
 #[cfg(test)]
 mod language_tests;
 #[cfg(test)]
+mod law_tests;
+#[cfg(test)]
 mod loading_tests;
 #[cfg(test)]
 mod plan_text_tests;
