@@ -8,6 +8,8 @@ mod order_tests;
 #[cfg(test)]
 mod parcels_tests;
 #[cfg(test)]
+mod row_tests;
+#[cfg(test)]
 mod spatial_tests;
 #[cfg(test)]
 mod tests;

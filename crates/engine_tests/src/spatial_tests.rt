@@ -8,13 +8,13 @@ use std::test::Fail;
 use wkt::MemorySink;
 
 // What `$S` stands for in a query.
-const SQUARE: &str = "ST_GeomFromText('POLYGON((0 0,4 0,4 4,0 4,0 0))')";
+pub(crate) const SQUARE: &str = "ST_GeomFromText('POLYGON((0 0,4 0,4 4,0 4,0 0))')";
 
-const POINTS_SCHEMA: &str = "CREATE TABLE big (id INTEGER PRIMARY KEY, geom POINT);";
+pub(crate) const POINTS_SCHEMA: &str = "CREATE TABLE big (id INTEGER PRIMARY KEY, geom POINT);";
 
 const SQUARES_SCHEMA: &str = "CREATE TABLE sq (id INTEGER PRIMARY KEY, geom POLYGON);";
 
-const TWO_SCHEMA: &str = "CREATE TABLE big (id INTEGER PRIMARY KEY, geom POINT);
+pub(crate) const TWO_SCHEMA: &str = "CREATE TABLE big (id INTEGER PRIMARY KEY, geom POINT);
 CREATE TABLE sq (id INTEGER PRIMARY KEY, geom POLYGON);";
 
 const MIXED_SCHEMA: &str = "CREATE TABLE t (id INTEGER PRIMARY KEY, pop INT, geom GEOMETRY);";
@@ -26,7 +26,7 @@ const EMPTY_SCHEMA: &str = "CREATE TABLE e (id INTEGER PRIMARY KEY, geom GEOMETR
 const EMPTY: &str =
     "id,geom\n1,POINT EMPTY\n2,LINESTRING EMPTY\n3,POINT(0 0)\n4,\n5,POLYGON EMPTY\n";
 
-const SQUARES: &str = "id,geom
+pub(crate) const SQUARES: &str = "id,geom
 1,\"POLYGON((0 0,4 0,4 4,0 4,0 0))\"
 2,\"POLYGON((4 0,8 0,8 4,4 4,4 0))\"
 ";
@@ -43,7 +43,7 @@ const SQUARES_PAIRED: &str = "a.id,a.geom,b.id,b.geom
 2,\"POLYGON((4 0,8 0,8 4,4 4,4 0))\",2,\"POLYGON((4 0,8 0,8 4,4 4,4 0))\"
 ";
 
-const JOINED: &str =
+pub(crate) const JOINED: &str =
     "SELECT b.id, s.id FROM big b JOIN sq s ON ST_Intersects(b.geom, s.geom) WHERE b.id <> 2";
 
 // The files of a command: a schema, and the texts of its tables, where they are there.
@@ -70,7 +70,7 @@ fn text_at<'a>(files: Files<'a>, path: &str) -> Option<&'a [u8]> {
 }
 
 // So many points at height 1, the one with the key k at k.
-fn points_up_to(alloc: Global, count: u32) -> Result<String, AllocError> {
+pub(crate) fn points_up_to(alloc: Global, count: u32) -> Result<String, AllocError> {
     let mut text = String::from_str(alloc, "id,geom\n")?;
     for k in 1..=count {
         let digits = k.to_string(alloc)?;

@@ -1,0 +1,62 @@
+//! Rows that come one after another: the first, and the work after it.
+
+use crate::spatial_tests::{JOINED, POINTS_SCHEMA, SQUARE, SQUARES, TWO_SCHEMA, points_up_to};
+use de9im::Work;
+use executor::{RowPair, Rows};
+use feature_table::Database;
+use planner::choose;
+use rtree::RTree;
+use spatial_sql::{bind, read_query, read_schema};
+use std::alloc::Global;
+use std::test::Fail;
+
+// The first row of a query over tables of these texts, and the work after it, from a start of 0.
+fn first_row(
+    alloc: Global,
+    schema: &str,
+    texts: Vec<&[u8]>,
+    query: &str,
+) -> Result<(Option<RowPair>, u64), Fail> {
+    let schema = read_schema(alloc, schema.as_bytes())?;
+    if schema.tables().len() != texts.len() {
+        return Err(Fail::from("not a text for each table"));
+    }
+    let database: Database<'_, RTree> = Database::load(alloc, &schema, texts)?;
+    let query = read_query(alloc, query)?;
+    let bound = bind(alloc, &query, &database)?;
+    let plan = choose(alloc, &database, &bound)?;
+    let mut rows = Rows::new(alloc, &database, &bound, &plan, Work::new());
+    let first = match rows.next() {
+        Some(row) => Some(row?),
+        None => None,
+    };
+    let work = rows.work().count();
+    Ok((first, work))
+}
+
+/// Where rows come as they are found, the first takes the work of the candidates up to it; where they are put in order
+/// first, all.
+#[test]
+fn work_after_the_first_row(rt: HostRuntime) -> Result<(), Fail> {
+    let alloc = rt.alloc();
+    let points = points_up_to(alloc, 100)?;
+    let query = "SELECT id FROM big WHERE id > 99 OR ST_Intersects(geom, $S)";
+    let query = query.replace(alloc, "$S", SQUARE)?;
+    let texts = vec![in alloc; points.as_bytes()]?;
+    let (row, work) = first_row(alloc, POINTS_SCHEMA, texts, query.as_str())?;
+    let wanted = RowPair {
+        first: 0,
+        second: None,
+    };
+    assert!(rt; row == Some(wanted));
+    assert!(rt; work == 1);
+    let texts = vec![in alloc; points.as_bytes(), SQUARES.as_bytes()]?;
+    let (row, work) = first_row(alloc, TWO_SCHEMA, texts, JOINED)?;
+    let wanted = RowPair {
+        first: 0,
+        second: Some(0),
+    };
+    assert!(rt; row == Some(wanted));
+    assert!(rt; work == 8);
+    Ok(())
+}
