@@ -1,5 +1,7 @@
 //! Matrices of drawn pairs of geometries: found by their edges they are those that their labels show.
 
+ghost use Rattle.std.specs.Prelude.{◌<◌};
+
 use de9im::{Matrix, Work, matrix_of_labels, relate};
 use side_labels::labels;
 use std::alloc::{AllocError, Global};
@@ -17,6 +19,7 @@ impl Draws {
     // A number below the bound.
     fn below(&mut self, bound: u64) -> u64
         requires { 0 < bound }
+        ensures { result < bound }
     {
         self.state = self
             .state
@@ -151,7 +154,11 @@ fn matrices_of_drawn_pairs(rt: HostRuntime) -> Result<(), Fail> {
         let (other, second) = drawn(&mut draws, alloc)?;
         let matrix = relate(alloc, &first, &second, &mut Work::new())?;
         let labelled = by_labels(alloc, &first, &second)?;
-        assert_eq!(rt; matrix.text(), labelled.text(), "seed {seed}: {text} | {other}");
+        assert_eq!(rt;
+            matrix.text(),
+            labelled.text(),
+            "seed {seed}: {text} | {other}"
+        );
     }
     Ok(())
 }
