@@ -105,5 +105,5 @@ pub one_edge_more : (s m t : Strip) (es : List Edge) (i : ℕ) (e : Edge) (a b :
     → i < length es → e ≡ get_or es i e → AllByRecursion (LiesInStrip s) (take i es) → AllByRecursion (LiesInStrip t) (take (i + 1) es)
 one_edge_more s m t es i e a b w ha v hb ea eb within is h =
     let more : AllByRecursion (LiesInStrip t) (take i es ++ e ∷ []) = all_more t (take i es) e (all_wider m t (take i es) v (all_wider s m (take i es) w h))
-        (record { start = subst (IsInStrip t) ea (v.holds a ha); end = subst (IsInStrip t) eb hb }) in
+    (record { start = subst (IsInStrip t) ea (v.holds a ha); end = subst (IsInStrip t) eb hb }) in
     rw (take_more es i e within, ← is) more

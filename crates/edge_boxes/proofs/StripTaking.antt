@@ -27,7 +27,7 @@ pub strip_of_box : (boxes : List EdgeBox) (edges own : List Edge) (place first :
 strip_of_box boxes edges own place first b strip e f g h c k =
     let same : b ≡ c = let s : Some b ≡ Some c = sym e ∙ k in cc in
     subst (λ (d : EdgeBox). IfSome strip (λ s. IsStripOf s (slice_range edges (covered boxes (place - d.size)) d.end))) same
-        (subst (λ n. IfSome strip (λ s. IsStripOf s (slice_range edges n b.end))) f (subst (λ l. IfSome strip (λ s. IsStripOf s l)) g h))
+    (subst (λ n. IfSome strip (λ s. IsStripOf s (slice_range edges n b.end))) f (subst (λ l. IfSome strip (λ s. IsStripOf s l)) g h))
 
 -- ---- one box replaced
 found_or_set : (boxes : List EdgeBox) (i j : ℕ) (x c : EdgeBox) → slice_get (set boxes i x) j ≡ Some c → (slice_get boxes j ≡ Some c) ⊎ ((j ≡ i) × (x ≡ c))
@@ -92,4 +92,4 @@ strip_set boxes edges i b strip are e h j c f = go (found_or_set boxes i j (stri
     go (inl g) = covered_alike boxes (set boxes i (stripped b strip)) edges j c alike (are j c g)
     go (inr g) = subst (λ (d : EdgeBox). IsBoxAt edges (set boxes i (stripped b strip)) j d) g.1
         (subst (λ n. IsBoxAt edges (set boxes i (stripped b strip)) n (stripped b strip)) (sym g.0)
-            (covered_alike boxes (set boxes i (stripped b strip)) edges i (stripped b strip) alike (with_strip boxes edges i b strip (are i b e) (h b e))))
+        (covered_alike boxes (set boxes i (stripped b strip)) edges i (stripped b strip) alike (with_strip boxes edges i b strip (are i b e) (h b e))))

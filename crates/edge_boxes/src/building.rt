@@ -56,7 +56,11 @@ fn strip_at(boxes: &[EdgeBox], edges: &[Segment], place: usize) -> Option<Strip>
     ensures { IsStripAt boxes.now edges.now place result }
 {
     let at = &boxes[place];
-    let own = run_of(edges, covered(boxes, place - at.size as usize), at.end as usize);
+    let own = run_of(
+        edges,
+        covered(boxes, place - at.size as usize),
+        at.end as usize,
+    );
     if own.len() <= STRIP_EDGES {
         Strip::of(own)
     } else {

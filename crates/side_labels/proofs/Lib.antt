@@ -1,2 +1,2 @@
-pub mod LineEnds
+pub mod LineKinds
 pub mod SampleLabels

@@ -2,11 +2,11 @@
 
 ghost use Rattle.std.specs.Prelude.{◌≡◌};
 ghost use Rattle.std.specs.List.{list_any};
-ghost use Rattle.geometry_model.specs.Geometries.{edges_of_lines};
+ghost use Rattle.geometry_model.specs.Geometries.{edges, edges_of_lines};
 ghost use Rattle.geometry_model.specs.Locations as spec;
 ghost use Rattle.edge_boxes.specs.BoxLists.{BoxesOf};
+ghost use Rattle.validity.specs.OddEnds.{ended_lines};
 
-use crate::crossings::is_odd_end;
 use edge_boxes::EdgeBoxes;
 use fraction::{GridPoint, RatPoint};
 use geometry_model::{Kind, Location};
@@ -24,7 +24,7 @@ pub fn locate(valid: &Valid, p: &RatPoint) -> Location
     let geometry = valid.geometry();
     match valid.kind() {
         Kind::Point => locate_in_points(geometry.listed(), p),
-        Kind::Line => locate_in_lines(geometry.lines(), valid.segments(), valid.boxes(), p),
+        Kind::Line => locate_in_lines(valid, geometry.lines(), p),
         Kind::Area => locate_in_rings(geometry.lines(), valid.segments(), valid.boxes(), p),
     }
 }
@@ -40,20 +40,15 @@ fn locate_in_points(listed: &[GridPoint], p: &RatPoint) -> Location
     }
 }
 
-/// Where a point stands in the geometry of these lines, whose edges and the boxes over those come along.
-fn locate_in_lines(
-    lines: &[LineString],
-    segments: &[Segment],
-    boxes: &EdgeBoxes,
-    p: &RatPoint,
-) -> Location
-    requires edges { segments.now ≡ edges_of_lines lines.now }
-    requires boxes { BoxesOf boxes.now segments.now }
+/// Where a point stands in a geometry of lines, which come along. The odd ends are searched first: they are kept.
+fn locate_in_lines(valid: &Valid, lines: &[LineString], p: &RatPoint) -> Location
+    requires ended { ended_lines valid.now ≡ lines.now }
+    requires edges { edges valid.now ≡ edges_of_lines lines.now }
     ensures { result ≡ spec.in_lines lines.now p.now }
 {
-    if is_odd_end(lines, p) {
+    if valid.is_odd_end(p) {
         Location::Boundary
-    } else if boxes.holds(segments, p) {
+    } else if valid.boxes().holds(valid.segments(), p) {
         Location::Interior
     } else {
         Location::Exterior

@@ -1,5 +1,5 @@
 -- The positions on which an odd number of ends stand.
-use Rattle.std.proofs.Common.{◌≡◌, ◌≢◌, ◌⊎◌, inl, inr, ℕ, zero, suc, ◌+◌, ◌-◌, ◌<◌, ◌≤◌, Bool, true, false, not, ◌&&◌, ◌||◌, refl, sym, ap, ap₂, ◌∙◌, subst, List, [], ◌∷◌, ◌++◌, length, get_or, take, drop, count_by, flat_map, cond, append_assoc, Result, Ok, Err, IfOk, arith, IsPermutation, pos, ◌<ℤ◌}
+use Rattle.std.proofs.Common.{◌≡◌, ◌≢◌, ◌⊎◌, inl, inr, ℕ, zero, suc, ◌+◌, ◌-◌, ◌/◌, ◌<◌, ◌≤◌, Bool, true, false, not, ◌&&◌, ◌||◌, refl, sym, ap, ap₂, ◌∙◌, subst, List, [], ◌∷◌, ◌++◌, length, get_or, take, drop, count_by, flat_map, cond, append_assoc, Result, Ok, Err, IfOk, arith, IsPermutation, pos, ◌<ℤ◌}
 use Rattle.std.specs.Prelude.{nat_lt}
 use Rattle.std.specs.List.{AllByRecursion, list_any}
 use Rattle.std.specs.List.Sorted.{IsSorted, IsStrictlySortedBy}
@@ -19,7 +19,8 @@ use Rattle.geometry_model.specs.WellKnownText.{same_position}
 use Rattle.fraction.specs.Orders.{position_order}
 use Rattle.fraction.proofs.OrderLemmas.{position_order_is, same_position_is}
 use Rattle.geometry_laws.proofs.Each.{odd_count, parity, parity_none}
-use Rattle.geometry_laws.proofs.PointOrder.{same_symmetric, same_transitive, equal_is_same}
+use Rattle.geometry_laws.specs.PointLaws.{reversed}
+use Rattle.geometry_laws.proofs.PointOrder.{same_symmetric, same_transitive, equal_is_same, compare_reversed, less_transitive}
 use Rattle.geometry_laws.proofs.Scaling.{and_parts}
 use Rattle.geometry_laws.proofs.Xor.{xor_false}
 use Rattle.edge_boxes.proofs.RunSums.{odd_joined}
@@ -181,7 +182,7 @@ odd_toggled found new given i x up l is e k = go (ends_in found x) refl
     go false f = subst (λ l. IsKeptOdd l given (i + 1)) (sym (e ∙ ap (λ t. cond t (take (length found - 1) found) (found ++ x ∷ [])) f)) (odd_added found given i x up l is f k)
     go true f = subst (λ l. IsKeptOdd l given (i + 1)) (sym (e ∙ ap (λ t. cond t (take (length found - 1) found) (found ++ x ∷ [])) f))
         (odd_taken found (take (length found - 1) found) given i (get_or found (length found - 1) x) x (split_at_end found x (some (length found) (same_position (get_or found (length found - 1) x) x) f)) l is
-            (same_is (get_or found (length found - 1) x) x (and_parts (nat_lt 0 (length found)) (same_position (get_or found (length found - 1) x) x) f).1) k)
+        (same_is (get_or found (length found - 1) x) x (and_parts (nat_lt 0 (length found)) (same_position (get_or found (length found - 1) x) x) f).1) k)
 
 pub odd_of_all : (found given : List Position) (i : ℕ) → length given ≤ i → IsKeptOdd found given i → HasParityOf found given
 odd_of_all found given i h k p = k.parity p ∙ ap (λ l. odd (count_by (stands_at p) l)) (take_all i given h)
@@ -230,3 +231,131 @@ pub odd_ends_found : {V E : Type 0} (items : V → List Position) (r : Result V 
     → IfOk r (λ v. IsStrictlySortedBy position_order (items v)) → IfOk r (λ v. HasParityOf (items v) slice) → IfOk r (λ v. AreOddEnds (items v) ls)
 odd_ends_found items (Ok v) ls all sorted slice e moved f up alike = are_odd_ends ls all sorted (items v) e moved up (subst (HasParityOf (items v)) f alike)
 odd_ends_found items (Err w) ls all sorted slice e moved f up alike = tt
+
+-- ---- a search among ascending positions
+all_at : {X : Type 0} (P : X → Type 0) (xs : List X) (k : ℕ) (d : X) → k < length xs → AllByRecursion P xs → P (get_or xs k d)
+all_at P [] k d h a = absurd (omega (arith, h))
+all_at P (x ∷ xs) zero d h a = a.0
+all_at P (x ∷ xs) (suc k) d h a = all_at P xs k d (omega (arith, h)) a.1
+
+strict_far : (xs : List Position) (i j : ℕ) (d : Position) → i < j → j < length xs → IsStrictlySortedBy position_order xs → position_order (get_or xs i d) (get_or xs j d) ≡ Less
+unfolding IsStrictlySortedBy
+strict_far [] i j d h k s = absurd (omega (arith, k))
+strict_far (x ∷ xs) zero zero d h k s = absurd (omega (arith, h))
+strict_far (x ∷ xs) zero (suc j) d h k s = all_at (λ y. position_order x y ≡ Less) xs j d (omega (arith, k)) s.0
+strict_far (x ∷ xs) (suc i) zero d h k s = absurd (omega (arith, h))
+strict_far (x ∷ xs) (suc i) (suc j) d h k s = strict_far xs i j d (omega (arith, h)) (omega (arith, k)) s.1
+
+-- how a position lies to the point
+abbrev pub lies : Position → Point → Ordering
+lies a p = compare (point_at a) p
+
+one_is_point : (a : Position) → IsPoint (point_at a)
+one_is_point a = omega arith
+
+-- those before one place are less than the point, those from another one on greater
+pub record IsParted (xs : List Position) (p : Point) (low high : ℕ) : Type 0 where
+  pub below : (k : ℕ) (d : Position) → k < low → lies (get_or xs k d) p ≡ Less
+  pub above : (k : ℕ) (d : Position) → high ≤ k → k < length xs → lies (get_or xs k d) p ≡ Greater
+  pub within : high ≤ length xs
+
+pub parted_first : (xs : List Position) (p : Point) (n : ℕ) → n ≡ length xs → IsParted xs p 0 n
+parted_first xs p n e = record { below = λ k d h. absurd (omega (arith, h)); above = λ k d h l. absurd (omega (arith, e, h, l)); within = omega (arith, e) }
+
+same_at : (xs : List Position) (k : ℕ) (d e : Position) → k < length xs → get_or xs k d ≡ get_or xs k e
+same_at [] k d e h = absurd (omega (arith, h))
+same_at (x ∷ xs) zero d e h = refl
+same_at (x ∷ xs) (suc k) d e h = same_at xs k d e (omega (arith, h))
+
+cases_less : (k m : ℕ) → k < m + 1 → (k < m) ⊎ (k ≡ m)
+cases_less k m h = go (nat_lt k m) refl
+  where
+    go : (t : Bool) → nat_lt k m ≡ t → (k < m) ⊎ (k ≡ m)
+    go true e = inl (grind (arith, nat_tests))
+    go false e = inr (grind (arith, nat_tests))
+
+pub parted_less : (xs : List Position) (p : Point) (low high middle : ℕ) (a : Position) → IsPoint p → IsStrictlySortedBy position_order xs → middle < high → a ≡ get_or xs middle a → lies a p ≡ Less → IsParted xs p low high → IsParted xs p (middle + 1) high
+parted_less xs p low high middle a hp s m is e parts = record { below = below; above = parts.above; within = parts.within }
+  where
+    inside : middle < length xs
+    inside = let w = parts.within in omega (arith, m, w)
+
+    at : (d : Position) → lies (get_or xs middle d) p ≡ Less
+    at d = ap (λ b. lies b p) (same_at xs middle d a inside ∙ sym is) ∙ e
+
+    below : (k : ℕ) (d : Position) → k < middle + 1 → lies (get_or xs k d) p ≡ Less
+    below k d h = go (cases_less k middle h)
+      where
+        go : (k < middle) ⊎ (k ≡ middle) → lies (get_or xs k d) p ≡ Less
+        go (inl l) = less_transitive (point_at (get_or xs k d)) (point_at (get_or xs middle d)) p (one_is_point (get_or xs k d)) (one_is_point (get_or xs middle d)) hp
+            (sym (position_order_is (get_or xs k d) (get_or xs middle d)) ∙ strict_far xs k middle d l inside s) (at d)
+        go (inr l) = ap (λ n. lies (get_or xs n d) p) l ∙ at d
+
+turn : (p q : Point) → compare p q ≡ Greater → compare q p ≡ Less
+turn p q e = compare_reversed p q ∙ ap reversed e
+
+turn_back : (p q : Point) → compare q p ≡ Less → compare p q ≡ Greater
+turn_back p q e = compare_reversed q p ∙ ap reversed e
+
+pub parted_greater : (xs : List Position) (p : Point) (low high middle : ℕ) (a : Position) → IsPoint p → IsStrictlySortedBy position_order xs → middle < high → a ≡ get_or xs middle a → lies a p ≡ Greater → IsParted xs p low high → IsParted xs p low middle
+parted_greater xs p low high middle a hp s m is e parts = record { below = parts.below; above = above; within = let w = parts.within in omega (arith, m, w) }
+  where
+    inside : middle < length xs
+    inside = let w = parts.within in omega (arith, m, w)
+
+    at : (d : Position) → lies (get_or xs middle d) p ≡ Greater
+    at d = ap (λ b. lies b p) (same_at xs middle d a inside ∙ sym is) ∙ e
+
+    above : (k : ℕ) (d : Position) → middle ≤ k → k < length xs → lies (get_or xs k d) p ≡ Greater
+    above k d h l = go (cases_less middle k (omega (arith, h)))
+      where
+        go : (middle < k) ⊎ (middle ≡ k) → lies (get_or xs k d) p ≡ Greater
+        go (inl m) = turn_back (point_at (get_or xs k d)) p (less_transitive p (point_at (get_or xs middle d)) (point_at (get_or xs k d)) hp (one_is_point (get_or xs middle d)) (one_is_point (get_or xs k d))
+            (turn (point_at (get_or xs middle d)) p (at d)) (sym (position_order_is (get_or xs middle d) (get_or xs k d)) ∙ strict_far xs middle k d m l s))
+        go (inr m) = ap (λ n. lies (get_or xs n d) p) (sym m) ∙ at d
+
+stands_from : (p : Point) (a : Position) → lies a p ≡ Equal → stands_at p a ≡ true
+stands_from p a e = (equal_is_same (point_at a) p).0 e
+
+pub found_there : (xs : List Position) (p : Point) (middle : ℕ) (a : Position) → middle < length xs → a ≡ get_or xs middle a → lies a p ≡ Equal → list_any (stands_at p) xs ≡ true
+found_there [] p middle a h is e = absurd (omega (arith, h))
+found_there (x ∷ xs) p zero a h is e = ap (λ b. b || list_any (stands_at p) xs) (ap (stands_at p) (sym is) ∙ stands_from p a e)
+found_there (x ∷ xs) p (suc m) a h is e = ap (λ b. stands_at p x || b) (found_there xs p m a (omega (arith, h)) is e) ∙ any_true (stands_at p x)
+  where
+    any_true : (b : Bool) → (b || true) ≡ true
+    any_true true = refl
+    any_true false = refl
+
+none_stands : (xs : List Position) (p : Point) → ((k : ℕ) (d : Position) → k < length xs → lies (get_or xs k d) p ≡ Equal → ⊥) → list_any (stands_at p) xs ≡ false
+none_stands [] p h = refl
+none_stands (x ∷ xs) p h = ap₂ (λ (a b : Bool). a || b) (off (stands_at p x) refl) (none_stands xs p (λ k d l. h (suc k) d (omega (arith, l))))
+  where
+    first : 0 < length (x ∷ xs)
+    first = omega arith
+
+    off : (t : Bool) → stands_at p x ≡ t → stands_at p x ≡ false
+    off false e = e
+    off true e = absurd (h zero x first ((equal_is_same (point_at x) p).1 e))
+
+pub not_there : (xs : List Position) (p : Point) (low high : ℕ) → high ≤ low → IsParted xs p low high → list_any (stands_at p) xs ≡ false
+not_there xs p low high h parts = none_stands xs p off
+  where
+    off : (k : ℕ) (d : Position) → k < length xs → lies (get_or xs k d) p ≡ Equal → ⊥
+    off k d l e = go (nat_lt k low) refl
+      where
+        go : (t : Bool) → nat_lt k low ≡ t → ⊥
+        go true f = let under : k < low = grind (arith, nat_tests) in let n : Less ≡ Equal = sym (parts.below k d under) ∙ e in cc
+        go false f = let past : high ≤ k = grind (arith, nat_tests) in let n : Greater ≡ Equal = sym (parts.above k d past l) ∙ e in cc
+
+-- the middle of two places
+pub middle_within : (low high n : ℕ) → low < high → high ≤ n → low + (high - low) / 2 < n
+middle_within low high n h k = let m : (high - low) / 2 < high - low = half (high - low) (omega (arith, h)) in omega (arith, h, k, m)
+  where
+    half : (n : ℕ) → 0 < n → n / 2 < n
+    half n h = omega (arith, h)
+
+pub middle_before : (low high : ℕ) → low < high → low + (high - low) / 2 < high
+middle_before low high h = middle_within low high high h (same high)
+  where
+    same : (n : ℕ) → n ≤ n
+    same n = omega arith

@@ -1,14 +1,17 @@
 //! The positions on which an odd number of ends of lines stand: the boundary of lines (06-103r4, 6.1.8.1: the mod 2 rule).
 
 ghost use Rattle.std.specs.Prelude.{◌≡◌, ◌++◌, [], flat_map, IfOk, OnOk};
+ghost use Rattle.std.specs.List.{list_any};
 ghost use Rattle.std.specs.List.Sorted.{IsSorted, IsStrictlySortedBy};
+ghost use Rattle.geometry_model.specs.Points.{IsPoint};
 ghost use Rattle.geometry_model.specs.Locations as spec;
 ghost use Rattle.fraction.specs.Orders.{position_order};
 ghost use Rattle.validity.specs.OddEnds.{AreOddEnds, HasParityOf, ends_in, toggled, ended_lines as spec_ended_lines};
 
-use fraction::GridPoint;
+use fraction::{GridPoint, RatPoint};
 use geometry_model::Kind;
 use std::alloc::{AllocError, Global};
+use std::cmp::Ordering;
 use wkt::{Geometry, LineString};
 
 /// Those of a geometry: of an area and of points none. It may fail for want of memory.
@@ -83,4 +86,25 @@ fn odd_ones(alloc: Global, given: &[GridPoint]) -> Result<Vec<GridPoint>, AllocE
         toggle(&mut found, *position)?;
     }
     Ok(found)
+}
+
+/// Whether the point stands at one of ascending positions: each look halves those that are left.
+pub(crate) fn stands_at_one(positions: &[GridPoint], p: &RatPoint) -> bool
+    requires { IsStrictlySortedBy position_order positions.now }
+    ensures stands { result ≡ list_any (spec.stands_at p.now) positions.now }
+    ensures point { IsPoint p.now }
+{
+    let is_point = p.denominator() > 0;
+    prove!(is_point);
+    let mut low = 0;
+    let mut high = positions.len();
+    while low < high {
+        let middle = low + (high - low) / 2;
+        match RatPoint::of_grid(positions[middle]).cmp(p) {
+            Ordering::Less => low = middle + 1,
+            Ordering::Equal => return true,
+            Ordering::Greater => high = middle,
+        }
+    }
+    false
 }

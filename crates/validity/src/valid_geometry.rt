@@ -3,6 +3,7 @@
 ghost use Rattle.std.specs.Prelude.{◌≡◌, IfOk, OnOk, IfErr, None};
 ghost use Rattle.geometry_model.specs.Geometries as spec;
 ghost use Rattle.geometry_model.specs.declared.shapes.Kind.TheVariants as kinds;
+ghost use Rattle.geometry_model.specs.Locations.{is_odd_end};
 ghost use Rattle.geometry_model.specs.Validity.{IsValid};
 ghost use Rattle.geometry_model.specs.FirstFaults.{validity_fault};
 ghost use Rattle.edge_boxes.specs.BoxLists.{BoxesOf};
@@ -14,10 +15,10 @@ ghost use Rattle.validity.specs.PolygonPromises.{StretchesStay, OutsideIsExterio
 
 use crate::check_fault::CheckFault;
 use crate::first_faults::first_fault;
-use crate::odd_ends::odd_ends;
+use crate::odd_ends::{odd_ends, stands_at_one};
 use crate::outlines::Outline;
 use edge_boxes::EdgeBoxes;
-use fraction::GridPoint;
+use fraction::{GridPoint, RatPoint};
 use geometry_model::Kind;
 use orient::Segment;
 use std::alloc::{AllocError, Global};
@@ -114,6 +115,13 @@ impl Valid {
             Content::Points(_, _) => &[],
             Content::Edged(edged) => edged.odd_ends.as_slice(),
         }
+    }
+
+    /// Whether an odd number of ends of its lines stand at the point (06-103r4, 6.1.8.1: the mod 2 rule). It takes no memory.
+    pub fn is_odd_end(&self, p: &RatPoint) -> bool
+        ensures { result ≡ is_odd_end (ended_lines self.now) p.now }
+    {
+        stands_at_one(self.odd_ends(), p)
     }
 }
 

@@ -13,4 +13,4 @@ returns-clause-wider c =
     let f4 : SFits w64 c.args.self.greatest = search rules in
     let f5 : SFits w64 c.rise-rise.result = record { sfits = c.rise-rise.type_inv } in
     is_wider c.args.self (record { direction = c.args.self.direction; least = _; greatest = _ }) c.rise-rise.result refl
-        (to_z-of_z w64 c.min.result f1 ∙ simp to_z-of_z at c.min.ensures.value) (to_z-of_z w64 c.max.result f2 ∙ simp to_z-of_z at c.max.ensures.value)
+    (to_z-of_z w64 c.min.result f1 ∙ simp to_z-of_z at c.min.ensures.value) (to_z-of_z w64 c.max.result f2 ∙ simp to_z-of_z at c.max.ensures.value)
