@@ -1,5 +1,6 @@
 pub mod Cells
 pub mod GeometryFields
+pub mod KeyedRows
 pub mod Layouts
 pub mod Reading
 pub mod Records

@@ -1,6 +1,9 @@
 //! Feature keys: two rows of one key, and the order of rows.
 
 ghost use Rattle.std.specs.Prelude.{◌≡◌, ◌≢◌, IfErr, IfOk, Ok, Err, OnOk, false, map};
+ghost use Rattle.std.specs.List.Sorted.{IsPermutation, IsSortedByKey};
+ghost use Rattle.std.specs.Ordering.{int_cmp};
+ghost use Rattle.feature_table.specs.KeyedRows.{keyed_row};
 ghost use Rattle.feature_table.specs.Outcomes.{is_of_reading};
 ghost use Rattle.table_model.specs.Loading as spec;
 ghost use Rattle.table_model.specs.declared.faults.LoadFault.TheVariants as fault;
@@ -9,6 +12,7 @@ use crate::geometry_fields::Geometry;
 use sqlite_items::{self as items, Items};
 use std::alloc::{AllocError, Global};
 use std::collections::BTreeSet;
+use std::mem;
 use table_model::faults::LoadFault;
 use table_model::values::Value;
 
@@ -41,6 +45,51 @@ fn double_key(
     Ok(None)
 }
 
+/// A row beside its key, so that the sort looks into no row.
+#[derive(Drop)]
+pub(crate) struct KeyedRow {
+    number: i64,
+    row: Items<Value<Geometry>>,
+}
+
+/// Rows beside their keys.
+fn with_keys(
+    alloc: Global,
+    rows: Vec<Items<Value<Geometry>>>,
+    key: usize,
+) -> Result<Vec<KeyedRow>, AllocError>
+    ensures { IfOk result (λ keyed. keyed.items ≡ map (keyed_row key) rows.items) }
+{
+    let mut keyed = Vec::new(alloc);
+    for row in rows {
+        let number = key_of(row.as_slice(), key);
+        keyed.push(KeyedRow { number, row })?;
+    }
+    Ok(keyed)
+}
+
+/// The rows of those that stand beside their keys.
+fn without_keys(
+    alloc: Global,
+    keyed: Vec<KeyedRow>,
+) -> Result<Vec<Items<Value<Geometry>>>, AllocError>
+    ensures { IfOk result (λ rows. rows.items ≡ map (λ k. k.row) keyed.items) }
+{
+    let mut rows = Vec::new(alloc);
+    for keyed_row in keyed {
+        rows.push(keyed_row.row)?;
+    }
+    Ok(rows)
+}
+
+/// Puts rows that stand beside their keys into the order of the keys.
+fn sort_keyed(keyed: &mut Vec<KeyedRow>)
+    ensures moved { IsPermutation keyed.old.items keyed.new.items }
+    ensures sorted { IsSortedByKey (λ k. k.number) int_cmp keyed.new.items }
+{
+    keyed.sort_unstable_by_key(|keyed_row| keyed_row.number);
+}
+
 /// Puts rows into the order of their keys. The fault tells of two rows of one key.
 pub(crate) fn order_by_key(
     alloc: Global,
@@ -54,7 +103,10 @@ pub(crate) fn order_by_key(
     match double_key(alloc, rows.as_slice(), key)? {
         Some(number) => Err(LoadFault::DoubleKey(number)),
         None => {
-            rows.sort_by_key(|row| key_of(row.as_slice(), key))?;
+            let given = mem::replace(rows, Vec::new(alloc));
+            let mut keyed = with_keys(alloc, given, key)?;
+            sort_keyed(&mut keyed);
+            *rows = without_keys(alloc, keyed)?;
             Ok(())
         }
     }

@@ -1,4 +1,5 @@
 pub mod CheckFaults
+pub mod Contents
 pub mod FaultOrder
 pub mod NearEdges
 pub mod Neighbours

@@ -2,10 +2,12 @@
 
 ghost use Rattle.std.specs.Prelude.{◌≡◌, IfOk, OnOk, IfErr, None};
 ghost use Rattle.geometry_model.specs.Geometries as spec;
+ghost use Rattle.geometry_model.specs.declared.shapes.Kind.TheVariants as kinds;
 ghost use Rattle.geometry_model.specs.Locations.{is_odd_end};
 ghost use Rattle.geometry_model.specs.Validity.{IsValid};
 ghost use Rattle.geometry_model.specs.FirstFaults.{validity_fault};
 ghost use Rattle.edge_boxes.specs.BoxLists.{BoxesOf};
+ghost use Rattle.validity.specs.ValidGeometries.{IsKept};
 ghost use Rattle.validity.specs.OddEnds.{AreOddEnds, ended_lines};
 ghost use Rattle.validity.specs.CheckFaults.{IsFaultOf, IsStandingFaultOf, IsFirstFaultOf};
 ghost use Rattle.validity.specs.PolygonPromises.{HolesAreCutOut, HolesAreInside, InteriorByElements, ElementsAreApart};
@@ -19,13 +21,27 @@ use edge_boxes::EdgeBoxes;
 use fraction::{GridPoint, RatPoint};
 use geometry_model::Kind;
 use orient::Segment;
-use std::alloc::Global;
+use std::alloc::{AllocError, Global};
 use std::marker::Model;
 use wkt::Geometry;
 
 /// A geometry without fault (06-103r4, 6.1.7 and 6.1.11). Contracts see it as that geometry.
 #[derive(Debug, Drop)]
 pub struct Valid {
+    content: Content,
+}
+
+/// What is kept of a geometry: of points, which have no edges, nothing else but a list without boxes, and of others all
+/// behind one pointer, so that a list of points is small.
+#[derive(Debug, Drop)]
+pub(crate) enum Content {
+    Points(Geometry, EdgeBoxes),
+    Edged(Box<Edged>),
+}
+
+/// A geometry of lines or areas, with what its edges are asked by.
+#[derive(Debug, Drop)]
+pub(crate) struct Edged {
     outline: Outline,
     /// The boxes over its edges.
     boxes: EdgeBoxes,
@@ -35,13 +51,13 @@ pub struct Valid {
 
 impl Model for Valid {
     ghost use Rattle.geometry_model.specs.Geometries as spec;
-    ghost use Rattle.validity.specs.ValidGeometries.{IsKept};
+    ghost use Rattle.validity.specs.Contents.{geometry_of, IsKeptIn};
 
     ghost Value = { spec.Geometry };
 
-    ghost view = { λ v. v.outline };
+    ghost view = { λ v. geometry_of v.content };
 
-    ghost invariant = { λ v. IsKept v.outline v.boxes v.odd_ends.items };
+    ghost invariant = { λ v. IsKeptIn v.content };
 }
 
 impl Valid {
@@ -50,35 +66,44 @@ impl Valid {
         ensures same { result.now ≡ self.now }
         ensures valid { IsValid self.now }
     {
-        self.outline.geometry()
+        match &self.content {
+            Content::Points(geometry, _) => geometry,
+            Content::Edged(edged) => edged.outline.geometry(),
+        }
     }
 
     /// Its kind: points, lines or areas, also where it is empty (06-103r4, 6.1.15.3).
     pub fn kind(&self) -> Kind
         ensures { result ≡ spec.kind self.now }
     {
-        self.outline.geometry().kind()
+        self.geometry().kind()
     }
 
     /// Whether it is the empty set of points (06-103r4, 6.1.2.2).
     pub fn is_empty(&self) -> bool
         ensures { result ≡ spec.is_empty self.now }
     {
-        self.outline.geometry().is_empty()
+        self.geometry().is_empty()
     }
 
     /// Lends its edges, in order; points have none (06-103r4, 6.1.7 to 6.1.11).
     pub fn segments(&self) -> &[Segment]
         ensures { result.now ≡ spec.edges self.now }
     {
-        self.outline.segments()
+        match &self.content {
+            Content::Points(_, _) => &[],
+            Content::Edged(edged) => edged.outline.segments(),
+        }
     }
 
     /// Lends the list of boxes over its edges.
     pub fn boxes(&self) -> &EdgeBoxes
         ensures { BoxesOf result.now (spec.edges self.now) }
     {
-        &self.boxes
+        match &self.content {
+            Content::Points(_, boxes) => boxes,
+            Content::Edged(edged) => &edged.boxes,
+        }
     }
 
     /// Lends the positions on which an odd number of ends of its lines stand, ascending, each once: the boundary of lines
@@ -86,7 +111,10 @@ impl Valid {
     pub fn odd_ends(&self) -> &[GridPoint]
         ensures { AreOddEnds result.now (ended_lines self.now) }
     {
-        self.odd_ends.as_slice()
+        match &self.content {
+            Content::Points(_, _) => &[],
+            Content::Edged(edged) => edged.odd_ends.as_slice(),
+        }
     }
 
     /// Whether an odd number of ends of its lines stand at the point (06-103r4, 6.1.8.1: the mod 2 rule). It takes no memory.
@@ -118,15 +146,54 @@ pub fn check(alloc: Global, geometry: Geometry) -> Result<Valid, CheckFault>
     ensures stands { IfErr result (IsStandingFaultOf geometry) }
     ensures first { IfErr result (IsFirstFaultOf geometry) }
 {
+    match geometry.kind() {
+        Kind::Point => Ok(of_points(alloc, geometry)?),
+        Kind::Line | Kind::Area => of_edges(alloc, geometry),
+    }
+}
+
+/// Takes points as valid: they have no edges, and no fault (06-103r4, 6.1.4 and 6.1.5).
+fn of_points(alloc: Global, geometry: Geometry) -> Result<Valid, AllocError>
+    requires { spec.kind geometry ≡ kinds.Point }
+    ensures same { IfOk result (λ valid. valid ≡ geometry) }
+    ensures faultless { OnOk result (validity_fault geometry ≡ None) }
+{
+    let boxes = EdgeBoxes::build(alloc, &[])?;
+    Ok(Valid {
+        content: Content::Points(geometry, boxes),
+    })
+}
+
+/// Takes a geometry as valid where it has no fault, and otherwise answers its first one.
+fn of_edges(alloc: Global, geometry: Geometry) -> Result<Valid, CheckFault>
+    ensures same { IfOk result (λ valid. valid ≡ geometry) }
+    ensures faultless { OnOk result (validity_fault geometry ≡ None) }
+    ensures fault { IfErr result (IsFaultOf geometry) }
+    ensures stands { IfErr result (IsStandingFaultOf geometry) }
+    ensures first { IfErr result (IsFirstFaultOf geometry) }
+{
     let outline = Outline::of(alloc, geometry)?;
     let boxes = EdgeBoxes::build(alloc, outline.segments())?;
     let odd_ends = odd_ends(alloc, outline.geometry())?;
     match first_fault(alloc, &outline)? {
         Some(fault) => Err(CheckFault::of(fault)),
-        None => Ok(Valid {
-            outline,
-            boxes,
-            odd_ends,
-        }),
+        None => Ok(kept(
+            alloc,
+            Edged {
+                outline,
+                boxes,
+                odd_ends,
+            },
+        )?),
     }
+}
+
+/// Puts what is kept of a geometry of edges behind one pointer.
+fn kept(alloc: Global, edged: Edged) -> Result<Valid, AllocError>
+    requires { IsKept edged.outline edged.boxes edged.odd_ends.items }
+    ensures { IfOk result (λ valid. valid ≡ edged.outline) }
+{
+    Ok(Valid {
+        content: Content::Edged(Box::new(alloc, edged)?),
+    })
 }

@@ -1,14 +1,19 @@
-use Rattle.std.proofs.Common.{None, Ok, ◌∙◌, ◌≡◌, ap, map, rules, sym, tests}
-use Rattle.std.proofs.lemmas.Fn.{always_returns_same}
-use Rattle.feature_table.proofs.OrderLemmas.{the_order}
+use Rattle.std.proofs.Common.{None, Ok, ◌∙◌, ◌≡◌, ap, map, refl, subst, sym}
+use Rattle.std.specs.List.Sorted.{IsPermutation}
+use Rattle.feature_table.proofs.OrderLemmas.{the_keyed_order}
+use Rattle.feature_table.specs.KeyedRows.{keyed_row}
+use Rattle.feature_table.specs.declared.keys.KeyedRow.{KeyedRow}
 use Rattle.table_model.specs.Loading.{double_key, key_of}
 use Rattle.feature_table.proofs.keys.order_by_key.Goals as goal
 
-pub returns-in_ok-sort_by_key-in-None-clause-ok : goal.returns-in_ok-sort_by_key-in-None-clause-ok
-returns-in_ok-sort_by_key-in-None-clause-ok c =
+pub returns-in_ok-rows-in-None-clause-ok : goal.returns-in_ok-rows-in-None-clause-ok
+returns-in_ok-rows-in-None-clause-ok c =
     let key = c.args.key in
     let rows = c.args.rows.now.items in
+    let sorted = c.sort_keyed.new.keyed.items in
     let none : double_key (map (key_of key) rows) ≡ None =
     ap (λ rows. double_key (map (key_of key) rows)) (sym c.as_slice.ensures.value) ∙ sym c.in_ok-number.ensures ∙ c.in-None.is in
-    let sorted = c.in_ok-sort_by_key-in-None.ensures.sorted (λ row. key_of key row) (always_returns_same _ _ _ (λ a r q k. search (rules, tests))) in
-    rw none (ap Ok (the_order key rows c.sort_by_key.new.self.items none c.in_ok-sort_by_key-in-None.ensures.permutation sorted))
+    let given : c.in_ok-keyed-in-None.keyed.items ≡ map (keyed_row key) rows = rw c.replace-given.ensures.value at c.in_ok-keyed-in-None.ensures in
+    let moved = subst (λ l. IsPermutation l sorted) given c.sort_keyed.ensures.moved in
+    let order = the_keyed_order (λ (k : KeyedRow). k.number) (λ (k : KeyedRow). k.row) (keyed_row key) key rows sorted (λ r. refl) (λ r. refl) none moved c.sort_keyed.ensures.sorted in
+    rw none (ap Ok (order ∙ sym c.in_ok-rows-in-None.ensures))

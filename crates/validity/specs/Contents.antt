@@ -1,0 +1,17 @@
+-- What is kept of a valid geometry, of points and of others.
+use Rattle.std.specs.Prelude.{◌≡◌, []}
+use Rattle.geometry_model.specs.Geometries.{Geometry, kind}
+use Rattle.geometry_model.specs.declared.shapes.Kind.TheVariants as kinds
+use Rattle.validity.specs.ValidGeometries.{IsKept}
+use Rattle.validity.specs.declared.valid_geometry.Content.{Content}
+use Rattle.validity.specs.declared.valid_geometry.Content.TheVariants as content
+
+-- the geometry that a content is of (06-103r4, 6.1.4 to 6.1.14)
+abbrev pub geometry_of : Content → Geometry
+geometry_of (content.Points g boxes) = g
+geometry_of (content.Edged edged) = edged.value.outline
+
+-- it has no fault, and beside it stand the boxes of its edges and its odd ends, of which points have none (06-103r4, 6.1.4, 6.1.7 and 6.1.11)
+abbrev pub IsKeptIn : Content → Type 0
+IsKeptIn (content.Points g boxes) = (kind g ≡ kinds.Point) × IsKept g boxes []
+IsKeptIn (content.Edged edged) = IsKept edged.value.outline edged.value.boxes edged.value.odd_ends.items
