@@ -62,7 +62,8 @@ struct Words<'a> {
 /// a beginning of the line has been put.
 pub fn fault_line<S: Sink>(failure: &Failure<'_>, sink: &mut S) -> Result<(), SinkFault>
     ensures ok { OnOk result (Appends (S.taken sink.old) (S.taken sink.new) (failure_line failure.now)) }
-    ensures front { OnErr result (AppendsFront (S.taken sink.old) (S.taken sink.new) (failure_line failure.now)) }
+    ensures front { OnErr result
+        (AppendsFront (S.taken sink.old) (S.taken sink.new) (failure_line failure.now)) }
     ensures failures { CountsFailure (S.failures sink.old) (S.failures sink.new) result }
 {
     let words = failure_words(failure);
@@ -113,8 +114,12 @@ fn put_line<'l, S: Sink>(
     first: &'l str,
     second: &'l str,
 ) -> Result<(), SinkFault>
-    ensures ok { OnOk result (Appends (S.taken sink.old) (S.taken sink.new) (line_of (text_with words.now number.now first.now second.now))) }
-    ensures front { OnErr result (AppendsFront (S.taken sink.old) (S.taken sink.new) (line_of (text_with words.now number.now first.now second.now))) }
+    ensures ok { OnOk result
+        (Appends (S.taken sink.old) (S.taken sink.new)
+        (line_of (text_with words.now number.now first.now second.now))) }
+    ensures front { OnErr result
+        (AppendsFront (S.taken sink.old) (S.taken sink.new)
+        (line_of (text_with words.now number.now first.now second.now))) }
     ensures failures { CountsFailure (S.failures sink.old) (S.failures sink.new) result }
 {
     let parts = [
@@ -208,7 +213,8 @@ impl<'a> Words<'a> {
 
     // The words, a number and a geometry's fault, after a table's name or the empty one.
     fn with_fault(table: &'a str, words: &'a str, number: usize, fault: GeometryFault) -> Words<'a>
-        ensures { words_text result ≡ ((table.entry.now ++ words.entry.now) ++ decimal number) ++ (codes " " ++ geometry_text fault) }
+        ensures { words_text result
+            ≡ ((table.entry.now ++ words.entry.now) ++ decimal number) ++ (codes " " ++ geometry_text fault) }
     {
         Words {
             table,

@@ -27,7 +27,8 @@ use wkt::{WktFault, read};
 pub fn relate_texts(alloc: Global, first: &[u8], second: &[u8]) -> Result<Matrix, Failure<'static>>
     ensures ok { ByEveryMatrix (λ matrix. IfOk result (λ m. relation matrix first.now second.now ≡ Ok m)) }
     ensures point_sets { IfOk result (RelatesTexts first.now second.now) }
-    ensures failure { (matrix : MatrixOf) → IfErr result (IsFailureOf (relation matrix first.now second.now)) }
+    ensures failure { (matrix : MatrixOf)
+        → IfErr result (IsFailureOf (relation matrix first.now second.now)) }
 {
     let first = geometry_of(alloc, GeometryWord::First, first)?;
     let second = geometry_of(alloc, GeometryWord::Second, second)?;
@@ -53,7 +54,8 @@ fn geometry_of(alloc: Global, word: GeometryWord, text: &[u8]) -> Result<Valid, 
 
 // The failure that a fault of a geometry's text is.
 fn text_failure(word: GeometryWord, fault: WktFault) -> Failure<'static>
-    ensures failure { (read : Result Geometry TextFault) → IfSome (text_fault fault) (λ found. read ≡ Err found)
+    ensures failure { (read : Result Geometry TextFault)
+        → IfSome (text_fault fault) (λ found. read ≡ Err found)
         → IsFailureOf (or_refused word (tested read)) result }
     ensures exact { result ≡ refused_or_memory word (option_map g.Text (text_fault fault)) }
 {
@@ -65,7 +67,8 @@ fn text_failure(word: GeometryWord, fault: WktFault) -> Failure<'static>
 
 // The failure that a fault of a geometry is.
 fn validity_failure(word: GeometryWord, fault: CheckFault) -> Failure<'static>
-    ensures failure { (g : Geometry) → IsFaultOf g fault → IsFailureOf (or_refused word (tested (Ok g))) result }
+    ensures failure { (g : Geometry) → IsFaultOf g fault
+        → IsFailureOf (or_refused word (tested (Ok g))) result }
     ensures exact { result ≡ refused_or_memory word (option_map g.Invalid (fault_in fault)) }
 {
     match fault.validity_fault() {

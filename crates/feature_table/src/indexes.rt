@@ -43,7 +43,8 @@ impl<I: EnvelopeIndex + Drop> Indexes<I> {
 
     /// Lends the index of a column.
     pub(crate) fn get(&self, column: usize) -> &I
-        ensures { (rows : plain.Table GeometryValue) → AreIndexes I.indexed rows self.now.own.items self.now.bare
+        ensures { (rows : plain.Table GeometryValue)
+            → AreIndexes I.indexed rows self.now.own.items self.now.bare
             → I.indexed result.now ≡ column_envelopes column rows }
     {
         match self.own.get(column) {

@@ -32,7 +32,8 @@ fn access_cost(rows: &[u32], access: Access) -> u64
 
 // How many rows an access is expected to give.
 fn expected_rows(rows: &[u32], access: Access) -> u64
-    ensures expected { result ≡ spec.expected_rows (slice_index_or rows.now access.reference 0) access.method }
+    ensures expected { result
+        ≡ spec.expected_rows (slice_index_or rows.now access.reference 0) access.method }
     ensures fits { result < 2 ^ 32 }
 {
     let count = row_count(rows, access.reference);

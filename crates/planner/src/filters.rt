@@ -61,7 +61,8 @@ fn push_places<A>(
     conjuncts: &[Cond<A>],
     count: usize,
 ) -> Result<(), AllocError>
-    ensures { OnOk result (places.new ≡ places.old ++ spec.places_where (λ c. spec.predicate_count c == count) conjuncts.now) }
+    ensures { OnOk result
+        (places.new ≡ places.old ++ spec.places_where (λ c. spec.predicate_count c == count) conjuncts.now) }
 {
     for (place, conjunct) in conjuncts.iter().enumerate() {
         if has_count(conjunct, count) {

@@ -32,7 +32,8 @@ pub fn geometry_only<P: Drop>(at: usize, typed: Typed<P>) -> Result<P, QueryFaul
 /// ST_GeomFromText of a string: the geometry is read and tested here, once. `BadGeometry` at the string; the bytes of
 /// its fault are those of the string's value. (06-104r4, 7.2.)
 fn literal(alloc: Global, string: &Name<'_>) -> Result<Typed<Argument>, QueryFault>
-    ensures { Binds result (geometries.literal string.now.at (geometry_in_text (spec.unquoted string.now.text))) }
+    ensures { Binds result
+        (geometries.literal string.now.at (geometry_in_text (spec.unquoted string.now.text))) }
 {
     let bytes = unquoted(alloc, string.text.bytes())?;
     match read_valid(alloc, bytes.as_slice())? {

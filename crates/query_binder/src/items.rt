@@ -59,7 +59,8 @@ fn push_columns(
 
 /// All columns, those of the first reference first. (SQL, the asterisk.)
 fn all_items(alloc: Global, scope: Scope<'_>) -> Result<Items<Item>, AllocError>
-    ensures { IfOk result (λ items. items ≡ spec.all_items scope.entry.definitions.now scope.entry.references.now) }
+    ensures { IfOk result
+        (λ items. items ≡ spec.all_items scope.entry.definitions.now scope.entry.references.now) }
 {
     let mut items = Items::new(alloc);
     for (place, reference) in scope.references.iter().enumerate() {

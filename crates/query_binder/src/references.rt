@@ -52,7 +52,8 @@ fn bound_reference(
     definitions: &[TableDef],
     written: &WrittenReference<'_>,
 ) -> Result<Reference, QueryFault>
-    ensures { Gives QueryFault.OutOfMemory (λ r. r) result (spec.bound_reference definitions.now written.now) }
+    ensures { Gives QueryFault.OutOfMemory (λ r. r) result
+        (spec.bound_reference definitions.now written.now) }
 {
     let Some(table) = table_place(definitions, written.table.text.bytes()) else {
         return Err(QueryFault::UnknownTable(written.table.at));
@@ -68,7 +69,8 @@ pub fn bound_references(
     first: &WrittenReference<'_>,
     second: &Option<WrittenReference<'_>>,
 ) -> Result<Items<Reference>, QueryFault>
-    ensures { Gives QueryFault.OutOfMemory (λ r. r) result (spec.bound_references definitions.now first.now second.now) }
+    ensures { Gives QueryFault.OutOfMemory (λ r. r) result
+        (spec.bound_references definitions.now first.now second.now) }
 {
     let reference = bound_reference(alloc, definitions, first)?;
     let mut references = Items::new(alloc);

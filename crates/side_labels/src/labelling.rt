@@ -129,7 +129,9 @@ fn labels_of_pieces(
     pieces: &[Piece],
 ) -> Result<Vec<Label>, AllocError>
     requires { All (λ c. HasSample (piece_of c)) pieces.now }
-    ensures { IfOk result (λ labels. labels.items ≡ map (λ c. spec.label first.now second.now (sample (piece_of c))) pieces.now) }
+    ensures { IfOk result
+        (λ labels. labels.items
+        ≡ map (λ c. spec.label first.now second.now (sample (piece_of c))) pieces.now) }
 {
     let mut labels = Vec::with_capacity(alloc, pieces.len())?;
     for piece in pieces {
@@ -146,7 +148,8 @@ fn labels_of_sides(
     pieces: &[Piece],
 ) -> Result<Vec<Option<SideLabels>>, AllocError>
     requires { All (λ c. HasSample (piece_of c)) pieces.now }
-    ensures { IfOk result (λ labels. labels.items ≡ map (λ c. spec.side_labels first.now second.now (piece_of c)) pieces.now) }
+    ensures { IfOk result
+        (λ labels. labels.items ≡ map (λ c. spec.side_labels first.now second.now (piece_of c)) pieces.now) }
 {
     let mut labels = Vec::with_capacity(alloc, pieces.len())?;
     for piece in pieces {

@@ -48,7 +48,8 @@ pub(crate) fn relation(
     ensures counted { OnOk result (kept_count work.new
         ≡ kept_count (work.old + computed_of (option_copied first.entry) (option_copied second.entry))) }
     ensures kept { kept_count work.old ≤ kept_count work.new }
-    ensures no_memory { computed_of (option_copied first.entry) (option_copied second.entry) ≡ 0 → IsOk result }
+    ensures no_memory { computed_of (option_copied first.entry) (option_copied second.entry) ≡ 0
+        → IsOk result }
 {
     match (first, second) {
         (Some(first), Some(second)) => related(alloc, predicate, first, second, work),
