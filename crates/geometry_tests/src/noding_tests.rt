@@ -109,3 +109,22 @@ fn nodes_and_pieces_of_segments(rt: HostRuntime) -> Result<(), Fail> {
     }
     Ok(())
 }
+
+// A thousand segments that lie apart, from left to right.
+fn segments_apart(alloc: Global) -> Result<Vec<Segment>, Fail> {
+    let mut segments = Vec::new(alloc);
+    for place in 0..1000i32 {
+        let x = place.saturating_mul(3);
+        let start = GridPoint::new(x, 0).ok_or("off the grid")?;
+        let end = GridPoint::new(x.saturating_add(1), 1).ok_or("off the grid")?;
+        segments.push(Segment::new(start, end).ok_or("equal ends")?)?;
+    }
+    Ok(segments)
+}
+
+#[test]
+fn no_pair_is_tried_of_segments_apart(rt: HostRuntime) -> Result<(), Fail> {
+    let segments = segments_apart(rt.alloc())?;
+    assert!(rt; node(rt.alloc(), segments.as_slice(), &[])?.tests() == 0);
+    Ok(())
+}
