@@ -1,13 +1,12 @@
 -- Two rows of one key.
-use Rattle.std.proofs.Common.{◌≡◌, ◌∙◌, ◌||◌, ◌+◌, ◌<◌, ◌≤◌, ℕ, ℤ, Bool, true, false, List, [], ◌∷◌, Some, None, ap, cond, drop, get_or, length, map, not, refl, sym}
+use Rattle.std.proofs.Common.{◌≡◌, ◌∙◌, ◌||◌, ◌+◌, ◌<◌, ◌≤◌, ℕ, ℤ, Bool, true, false, List, [], ◌∷◌, Some, None, ap, cond, drop, get_or, length, not, refl, sym}
 use Rattle.std.proofs.lemmas.Bool.{false≢true}
 use Rattle.std.proofs.lemmas.Cmp.{int_eq_equiv}
-use Rattle.std.proofs.lemmas.List.{drop_all, drop_more, get_or-map}
+use Rattle.std.proofs.lemmas.List.{drop_all, drop_more}
 use Rattle.std.specs.BTreeSet.{BTreeSet, Updates, contains}
 use Rattle.std.specs.List.{list_any}
 use Rattle.std.specs.Ordering.{int_cmp, int_eq}
-use Rattle.table_model.specs.Loading.{double_from, double_key, key_of}
-use Rattle.table_model.specs.Meanings.{Row}
+use Rattle.table_model.specs.Loading.{double_from, double_key}
 
 or_cond : (a b : Bool) → cond a true b ≡ (a || b)
 or_cond true b = refl
@@ -21,12 +20,6 @@ not_false false c is e = absurd (false≢true (sym e ∙ is))
 pub not_true : (b c : Bool) → c ≡ not b → c ≡ true → b ≡ false
 not_true true c is e = absurd (false≢true (sym is ∙ e))
 not_true false c is e = refl
-
--- the key of the row at a place
-pub key_at : {G : Type 0} (key : ℕ) (rows : List (Row G)) (place : ℕ) (row : Row G) (k : ℤ) → place < length rows → row ≡ get_or rows place row → k ≡ key_of key row
-    → k ≡ get_or (map (key_of key) rows) place k
-key_at key rows place row k within is has =
-    has ∙ ap (key_of key) is ∙ sym (get_or-map (key_of key) rows place row k within)
 
 -- a set has just the keys before a place, no two of which are one
 pub record Searched (seen : BTreeSet ℤ) (keys : List ℤ) (place : ℕ) : Type 0 where

@@ -10,6 +10,7 @@ pub mod LoadLemmas
 pub mod GeometryFieldLemmas
 pub mod KeyLemmas
 pub mod OrderLemmas
+pub mod AscentLemmas
 pub mod ReaderRecords
 pub mod DatabaseLemmas
 pub mod IndexLemmas

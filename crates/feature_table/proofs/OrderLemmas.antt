@@ -16,7 +16,7 @@ use Rattle.table_model.specs.Loading.{by_key, double_from, double_key, insert_by
 use Rattle.table_model.specs.Meanings.{Row}
 
 -- the order of whole numbers, as a test
-less-order : (a b : ℤ) → int_lt a b ≡ true → int_cmp a b ≡ o.Less
+pub less-order : (a b : ℤ) → int_lt a b ≡ true → int_cmp a b ≡ o.Less
 less-order a b e = rw e refl
 
 order-less : (a b : ℤ) → int_cmp a b ≡ o.Less → int_lt a b ≡ true
@@ -42,7 +42,7 @@ else-greater a b e h = go (int_lt a b) (int_lt b a) e h
     go false true e h = refl
     go false false e h = absurd (false≢true (sym h))
 
-one-way : (a b : ℤ) → int_lt a b ≡ true → int_lt b a ≡ true → ⊥
+pub one-way : (a b : ℤ) → int_lt a b ≡ true → int_lt b a ≡ true → ⊥
 one-way a b p q =
     let first = less-order a b p in
     let second = less-order b a q in

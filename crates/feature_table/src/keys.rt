@@ -1,6 +1,7 @@
 //! Feature keys: two rows of one key, and the order of rows.
 
-ghost use Rattle.std.specs.Prelude.{◌≡◌, ◌≢◌, IfErr, IfOk, Ok, Err, OnOk, false, map};
+ghost use Rattle.std.specs.Prelude.{◌≡◌, ◌≢◌, IfErr, IfOk, Ok, Err, OnOk, false, int_lt, map};
+ghost use Rattle.std.specs.List.{IsAllAdjacentAnswer};
 ghost use Rattle.std.specs.List.Sorted.{IsPermutation, IsSortedByKey};
 ghost use Rattle.std.specs.Ordering.{int_cmp};
 ghost use Rattle.feature_table.specs.KeyedRows.{keyed_row};
@@ -26,18 +27,36 @@ fn key_of(row: &[Value<Geometry>], key: usize) -> i64
     }
 }
 
-/// The number, from 1, of the first row whose key an earlier one has.
-fn double_key(
+/// The keys of rows.
+fn keys_of(
     alloc: Global,
     rows: &[Items<Value<Geometry>>],
     key: usize,
-) -> Result<Option<usize>, AllocError>
-    ensures { IfOk result (λ number. number ≡ spec.double_key (map (spec.key_of key) rows.now)) }
+) -> Result<Vec<i64>, AllocError>
+    ensures { IfOk result (λ keys. keys.items ≡ map (spec.key_of key) rows.now) }
+{
+    let mut keys = Vec::with_capacity(alloc, rows.len())?;
+    for row in rows {
+        keys.push(key_of(row.as_slice(), key))?;
+    }
+    Ok(keys)
+}
+
+/// Whether each row's key is below the next row's.
+fn ascend(rows: &[Items<Value<Geometry>>], key: usize) -> bool
+    ensures { IsAllAdjacentAnswer
+        (λ row next below. below ≡ int_lt (spec.key_of key row) (spec.key_of key next)) rows.now result }
+{
+    rows.is_sorted_by(|row, next| key_of(row.as_slice(), key) < key_of(next.as_slice(), key))
+}
+
+/// The number, from 1, of the first of some keys that an earlier one equals.
+fn double_key(alloc: Global, keys: &[i64]) -> Result<Option<usize>, AllocError>
+    ensures { IfOk result (λ number. number ≡ spec.double_key keys.now) }
 {
     let mut seen = BTreeSet::new(alloc);
-    for place in 0..rows.len() {
-        let number = key_of(rows[place].as_slice(), key);
-        let is_new = seen.insert(number)?;
+    for place in 0..keys.len() {
+        let is_new = seen.insert(keys[place])?;
         if !is_new {
             return Ok(Some(place + 1));
         }
@@ -90,6 +109,29 @@ fn sort_keyed(keyed: &mut Vec<KeyedRow>)
     keyed.sort_unstable_by_key(|keyed_row| keyed_row.number);
 }
 
+/// Whether each key is below the next, of rows that stand beside their keys.
+fn keyed_ascend(keyed: &[KeyedRow]) -> bool
+    ensures { IsAllAdjacentAnswer (λ row next below. below ≡ int_lt row.number next.number) keyed.now result }
+{
+    keyed.is_sorted_by(|row, next| row.number < next.number)
+}
+
+/// The number, from 1, of the first of some keys that an earlier one equals, where rows stand beside the same
+/// keys in an order of their own. Where these ascend there is none, and no set is made.
+fn double_among(
+    alloc: Global,
+    keys: &[i64],
+    keyed: &[KeyedRow],
+) -> Result<Option<usize>, AllocError>
+    requires { IsPermutation keys.now (map (λ k. k.number) keyed.now) }
+    ensures { IfOk result (λ number. number ≡ spec.double_key keys.now) }
+{
+    if keyed_ascend(keyed) {
+        return Ok(None);
+    }
+    double_key(alloc, keys)
+}
+
 /// Puts rows into the order of their keys. The fault tells of two rows of one key.
 pub(crate) fn order_by_key(
     alloc: Global,
@@ -100,12 +142,18 @@ pub(crate) fn order_by_key(
     ensures not_reading { IfErr result (λ f. is_of_reading f ≡ false) }
     ensures fault { IfErr result (λ f. f ≢ fault.OutOfMemory → spec.keyed_rows key rows.old.items ≡ Err f) }
 {
-    match double_key(alloc, rows.as_slice(), key)? {
+    // Rows mostly come in the order of their keys, and stay as they are.
+    if ascend(rows.as_slice(), key) {
+        return Ok(());
+    }
+    // A fault names a record, so the keys are kept in the order of records.
+    let keys = keys_of(alloc, rows.as_slice(), key)?;
+    let given = mem::replace(rows, Vec::new(alloc));
+    let mut keyed = with_keys(alloc, given, key)?;
+    sort_keyed(&mut keyed);
+    match double_among(alloc, keys.as_slice(), keyed.as_slice())? {
         Some(number) => Err(LoadFault::DoubleKey(number)),
         None => {
-            let given = mem::replace(rows, Vec::new(alloc));
-            let mut keyed = with_keys(alloc, given, key)?;
-            sort_keyed(&mut keyed);
             *rows = without_keys(alloc, keyed)?;
             Ok(())
         }
