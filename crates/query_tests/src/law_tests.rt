@@ -1,12 +1,11 @@
-//! The laws at the types of tables without geometries.
+//! The laws of loaded tables, at plain types.
 
 use table_laws::loading::{required_are_filled, rows_are_permuted, rows_ascend, rows_fit};
-use table_model::values::NoGeometry;
 
 #[test]
-fn laws_stand_without_geometries() {
-    rows_ascend::<NoGeometry, NoGeometry>();
-    rows_are_permuted::<NoGeometry, NoGeometry>();
-    rows_fit::<NoGeometry, NoGeometry>();
-    required_are_filled::<NoGeometry, NoGeometry>();
+fn laws_stand_at_plain_types() {
+    rows_ascend::<u8, i64>();
+    rows_are_permuted::<u8, i64>();
+    rows_fit::<u8, i64>();
+    required_are_filled::<u8, i64>();
 }
