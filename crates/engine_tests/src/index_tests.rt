@@ -82,7 +82,9 @@ fn rows_are_put_as_they_come(rt: HostRuntime) -> Result<(), Fail> {
     let query = "SELECT a.id, b.id FROM big a JOIN big b ON ST_Equals(a.geom, b.geom)";
     let mut sink = MemorySink::new(rt.alloc());
     let answer = run_starved(rt.alloc(), query, &mut sink)?;
-    assert!(rt; answer == Err(Fault::Memory) && sink.bytes() == b"a.id,b.id\n1,1\n2,2\n3,3\n".as_slice());
+    assert!(rt;
+        answer == Err(Fault::Memory) && sink.bytes() == b"a.id,b.id\n1,1\n2,2\n3,3\n".as_slice()
+    );
     Ok(())
 }
 
