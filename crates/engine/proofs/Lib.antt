@@ -4,3 +4,4 @@ pub mod ReaderLemmas
 pub mod RunLemmas
 pub mod PutLemmas
 pub mod RelationLemmas
+pub mod RecordLemmas

@@ -7,8 +7,6 @@ use Rattle.std.specs.Io.KnownBytes.{Keeps}
 use Rattle.std.proofs.lemmas.List.{length-map}
 use Rattle.std.proofs.lemmas.Simd.{map-map}
 use Rattle.binding_laws.proofs.Filtering.{bound_of_statement, meaning_by_conjuncts}
-use Rattle.executor.specs.Pairs.{choice_of, choices_of, pair_rows}
-use Rattle.executor.specs.declared.execution.RowPair.{RowPair}
 use Rattle.geometry_model.specs.Geometries.{Geometry}
 use Rattle.sinks.specs.Sinks.{AppendsFront}
 use Rattle.table_model.proofs.PlaceFacts.{meant_gives_limited}
@@ -17,8 +15,7 @@ use Rattle.table_model.specs.Binding.{Checked, ◌>>=◌, binding, statement}
 use Rattle.table_model.specs.Databases.{Database, load_tables}
 use Rattle.table_model.specs.GeometryColumns.{ColumnShape}
 use Rattle.table_model.specs.Loading.{Record}
-use Rattle.table_model.specs.Meanings.{referenced}
-use Rattle.table_model.specs.Places.{meant, query_rows}
+use Rattle.table_model.specs.Places.{Choice, meant, query_rows}
 use Rattle.table_model.specs.Plans.{chosen}
 use Rattle.table_model.specs.QueryReading.{query_of}
 use Rattle.table_model.specs.ExplainTexts.{explain_text}
@@ -43,7 +40,7 @@ use Rattle.table_model.specs.declared.queries.WrittenGeometry.{WrittenGeometry}
 use Rattle.feature_table.specs.Outcomes.{IsFailure, is_of_reading}
 use Rattle.feature_table.specs.Tables.{EarlierLoad}
 use Rattle.engine.specs.Faults.{load_wants_memory, memory_or, of_put, of_query, of_table, wants_memory}
-use Rattle.engine.specs.Runs.{Counts, IsOfTables, IsReached, RefusesTable, Runs, answer_work, bound_text, count_text, loaded_work, none_reached, pair_text, planned_text, planned_work, query_work, rows_of_pairs, rows_text, work_outcome}
+use Rattle.engine.specs.Runs.{Counts, IsOfTables, IsReached, RefusesTable, Runs, answer_work, bound_text, choice_text, count_text, loaded_work, none_reached, planned_text, planned_work, query_work, rows_of_choices, rows_text, work_outcome}
 use Rattle.engine.specs.Serving.{record_text, serving}
 use Rattle.engine.specs.declared.run_fault.Fault.{Fault}
 use Rattle.engine.specs.declared.run_fault.Fault.TheVariants as faults
@@ -128,23 +125,23 @@ load-of-tables count f within = go (load_wants_memory f.fault)
 
 -- ---- texts
 
--- the header and the records of the pairs are the records of the answer
-pub listed-text : (database : Served) (bound : Joined) (pairs : List RowPair) → bound.counts ≡ false
-    → record_text (header serving.writing database.definitions bound) ++ concat (map (pair_text serving database bound) pairs)
-    ≡ rows_text serving database bound (rows_of_pairs database bound pairs)
-listed-text database bound pairs is =
-    let rows = pair_rows (referenced database.tables bound.references) in
+-- the header and the records of the rows are the records of the answer
+pub listed-text : (database : Served) (bound : Joined) (choices : List Choice) → bound.counts ≡ false
+    → record_text (header serving.writing database.definitions bound) ++ concat (map (choice_text serving database bound) choices)
+    ≡ rows_text serving database bound (rows_of_choices database bound choices)
+listed-text database bound choices is =
+    let rows = query_rows database.tables bound in
     let listed = record_of serving.writing bound in
-    let these : map (pair_text serving database bound) pairs ≡ map record_text (map listed (map rows pairs)) =
-    sym (map-map (λ r. record_text (listed r)) rows pairs)
-    ∙ sym (map-map record_text listed (map rows pairs)) in
+    let these : map (choice_text serving database bound) choices ≡ map record_text (map listed (map rows choices)) =
+    sym (map-map (λ r. record_text (listed r)) rows choices)
+    ∙ sym (map-map record_text listed (map rows choices)) in
     ap (λ l. record_text (header serving.writing database.definitions bound) ++ concat l) these ∙ rw is refl
 
 -- the header of COUNT(*) and the record of the number are the records of the answer
-pub counted-text : (database : Served) (bound : Joined) (pairs : List RowPair) → bound.counts ≡ true
-    → count_text bound.limit (length pairs) ≡ rows_text serving database bound (rows_of_pairs database bound pairs)
-counted-text database bound pairs is =
-    ap (count_text bound.limit) (sym (length-map pairs (pair_rows (referenced database.tables bound.references)))) ∙ rw is refl
+pub counted-text : (database : Served) (bound : Joined) (choices : List Choice) → bound.counts ≡ true
+    → count_text bound.limit (length choices) ≡ rows_text serving database bound (rows_of_choices database bound choices)
+counted-text database bound choices is =
+    ap (count_text bound.limit) (sym (length-map choices (query_rows database.tables bound))) ∙ rw is refl
 
 -- the record of the number, but under LIMIT 0
 pub number-text : (limit : Option ℕ) (count : ℕ) → limit ≢ Some 0 → record_text (codes "COUNT(*)" ∷ []) ++ record_text (decimal count ∷ []) ≡ count_text limit count
@@ -153,13 +150,12 @@ number-text (Some zero) count other = absurd (other refl)
 number-text (Some (suc n)) count other = ap (λ l. record_text (codes "COUNT(*)" ∷ []) ++ l) (sym (append-nil (record_text (decimal count ∷ []))))
 
 -- the rows at the places that a query means are those that its conjuncts pass, under LIMIT
-pub meant-text : (matrix : MatrixOf) (database : Served) (bound : Joined) (pairs : List RowPair)
-    → choices_of pairs ≡ meant (truth matrix serving.denotes) database.tables bound
-    → rows_text serving database bound (rows_of_pairs database bound pairs) ≡ bound_text serving matrix database bound
-meant-text matrix database bound pairs are =
+pub meant-text : (matrix : MatrixOf) (database : Served) (bound : Joined) (choices : List Choice)
+    → choices ≡ meant (truth matrix serving.denotes) database.tables bound
+    → rows_text serving database bound (rows_of_choices database bound choices) ≡ bound_text serving matrix database bound
+meant-text matrix database bound choices are =
     ap (rows_text serving database bound)
-    (sym (map-map (query_rows database.tables bound) choice_of pairs)
-    ∙ ap (map (query_rows database.tables bound)) are
+    (ap (map (query_rows database.tables bound)) are
     ∙ meant_gives_limited (truth matrix serving.denotes) database.tables bound)
 
 -- ---- queries

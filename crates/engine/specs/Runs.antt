@@ -9,8 +9,8 @@ use Rattle.table_model.specs.Binding.{statement}
 use Rattle.table_model.specs.Databases.{Database, load_tables}
 use Rattle.table_model.specs.ExplainTexts.{analyze_text, explain_text}
 use Rattle.table_model.specs.Loading.{Record}
-use Rattle.table_model.specs.Meanings.{Row, Table, passing_rows, referenced}
-use Rattle.table_model.specs.Places.{limited}
+use Rattle.table_model.specs.Meanings.{Row, Table, passing_rows}
+use Rattle.table_model.specs.Places.{Choice, limited, query_rows}
 use Rattle.table_model.specs.QueryReading.{query_of}
 use Rattle.table_model.specs.RunOutcomes.{ByEveryMatrix, MatrixOf, Refusal, OfQuery, OfTable, after, kept_count, outcome, query_outcome, records_text}
 use Rattle.table_model.specs.Served.{ServedQuery}
@@ -26,8 +26,6 @@ use Rattle.table_model.specs.declared.queries.Explain.{Explain}
 use Rattle.table_model.specs.declared.queries.Explain.TheVariants as explains
 use Rattle.feature_table.specs.Outcomes.{is_of_reading}
 use Rattle.feature_table.specs.Tables.{EarlierLoad}
-use Rattle.executor.specs.Pairs.{pair_rows}
-use Rattle.executor.specs.declared.execution.RowPair.{RowPair}
 use Rattle.engine.specs.Serving.{record_text}
 use Rattle.engine.specs.declared.run_fault.Fault.{Fault}
 use Rattle.engine.specs.declared.run_fault.Fault.TheVariants as faults
@@ -42,13 +40,13 @@ rows_text serving database query rows = records_text record_text (answer serving
 abbrev pub bound_text : {T G B D : Type 0} → Serving T G B D → MatrixOf → Database T G → Bound B D → List ℕ
 bound_text serving matrix database query = rows_text serving database query (limited query (passing_rows (truth matrix serving.denotes) database.tables query))
 
--- the rows of some pairs
-abbrev pub rows_of_pairs : {T G B D : Type 0} → Database T G → Bound B D → List RowPair → List (List (Row G))
-rows_of_pairs database query pairs = map (pair_rows (referenced database.tables query.references)) pairs
+-- the rows at some choices of places
+abbrev pub rows_of_choices : {T G B D : Type 0} → Database T G → Bound B D → List Choice → List (List (Row G))
+rows_of_choices database query choices = map (query_rows database.tables query) choices
 
--- the text of the record of a pair
-abbrev pub pair_text : {T G B D : Type 0} → Serving T G B D → Database T G → Bound B D → RowPair → List ℕ
-pair_text serving database query pair = record_text (record_of serving.writing query (pair_rows (referenced database.tables query.references) pair))
+-- the text of the record of a choice of places
+abbrev pub choice_text : {T G B D : Type 0} → Serving T G B D → Database T G → Bound B D → Choice → List ℕ
+choice_text serving database query choice = record_text (record_of serving.writing query (query_rows database.tables query choice))
 
 -- the text of COUNT(*) of so many rows
 abbrev pub count_text : Option ℕ → ℕ → List ℕ

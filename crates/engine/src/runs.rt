@@ -1,12 +1,13 @@
 //! A run: from a query's text and the tables' texts to the text of the answer.
 
-ghost use Rattle.std.specs.Prelude.{◌≡◌, ◌∷◌, [], ℕ, IfErr, IfOk, List, Some, All, length, map, OnOk};
+ghost use Rattle.std.specs.Prelude.{◌≡◌, ◌∷◌, [], ℕ, IfErr, IfOk, List, Some, length, map, OnOk};
 ghost use Rattle.csv.specs.Records.{fields_of};
 ghost use Rattle.std.specs.List.{concat};
 ghost use Rattle.engine.specs.Puts.{PutsText};
-ghost use Rattle.engine.specs.Runs.{AnswersQuery, CountsOver, CountsQuery, IsOfTables, RunsOver, bound_text, count_after, count_text, pair_text, planned_text, planned_work, rows_of_pairs, rows_text};
+ghost use Rattle.engine.specs.Runs.{AnswersQuery, CountsOver, CountsQuery, IsOfTables, RunsOver, bound_text, choice_text, count_after, count_text, planned_text, planned_work, rows_of_choices, rows_text};
 ghost use Rattle.engine.specs.Serving.{record_text, serving};
 ghost use Rattle.executor.specs.Pairs.{HasReferences, IsPlace, pair_rows};
+ghost use Rattle.executor.specs.Streams.{to_come, work_at_end};
 ghost use Rattle.feature_table.specs.Tables.{EachRecordsOf, records_in};
 ghost use Rattle.records.specs.RecordWriters.{CountsPut, IsReady};
 ghost use Rattle.table_model.specs.AnswerTexts.{record_of};
@@ -22,7 +23,7 @@ use crate::answer_records::{header_record, row_record};
 use crate::run_fault::Fault;
 use csv::ByteRecord;
 use de9im::Work;
-use executor::{RowPair, execute};
+use executor::{RowPair, Rows};
 use explain::{analyze, explain};
 use feature_table::{Database, Schema};
 use itoa::Buffer;
@@ -108,7 +109,7 @@ fn put_planned<I: EnvelopeIndex + Drop, S: Sink>(
     }
 }
 
-// Puts the rows that a bound query means, found by a lawful plan, and answers the work.
+// Puts the rows that a bound query means as a lawful plan finds them, and answers the work.
 fn put_rows<I: EnvelopeIndex + Drop, S: Sink>(
     alloc: Global,
     database: &Database<'_, I>,
@@ -125,10 +126,9 @@ fn put_rows<I: EnvelopeIndex + Drop, S: Sink>(
     ensures work { ByEveryMatrix (λ matrix. IfOk result (λ n. n
         ≡ kept_count (spec.work matrix serving.denotes database.now.tables query.now plan.now))) }
 {
-    let mut work = Work::new();
-    let pairs = execute(alloc, database, query, plan, &mut work)?;
-    put_answer(alloc, database, query, pairs.as_slice(), sink)?;
-    Ok(work)
+    let mut rows = Rows::new(alloc, database, query, plan, Work::new());
+    put_answer(alloc, database, query, &mut rows, sink)?;
+    Ok(rows.into_work())
 }
 
 // Puts what EXPLAIN tells of a plan. Nothing is executed, so there is no work.
@@ -158,41 +158,61 @@ fn put_analysis<I: EnvelopeIndex + Drop, S: Sink>(
     ensures work { ByEveryMatrix (λ matrix. IfOk result (λ n. n
         ≡ kept_count (spec.work matrix serving.denotes database.now.tables query.now plan.now))) }
 {
-    let mut work = Work::new();
-    execute(alloc, database, query, plan, &mut work)?;
+    let mut rows = Rows::new(alloc, database, query, plan, Work::new());
+    count_rows(&mut rows)?;
+    let work = rows.into_work();
     analyze(query, plan, work.count(), sink)?;
     Ok(work)
 }
 
-// Puts the answer of a query that means these pairs of rows: how many there are under COUNT(*), else the header and the
-// record of each pair.
+// Puts the answer of a query, of which these rows are still to come: how many there are under COUNT(*), else the header
+// and the record of each row, as it comes.
 fn put_answer<I: EnvelopeIndex + Drop, S: Sink>(
     alloc: Global,
     database: &Database<'_, I>,
     query: &Bound,
-    pairs: &[RowPair],
+    rows: &mut Rows<'_, I>,
     sink: &mut S,
 ) -> Result<(), PutFault>
     requires references { HasReferences database.now.definitions query.now.references }
-    requires places { All (IsPlace (referenced database.now.tables query.now.references)) pairs.now }
-    ensures { PutsText result
-        (rows_text serving database.now query.now (rows_of_pairs database.now query.now pairs.now))
-        (S.taken sink.old) (S.taken sink.new) (S.failures sink.old) (S.failures sink.new) }
+    requires tables { rows.old.tables ≡ referenced database.now.tables query.now.references }
+    ensures text { ByEveryMatrix (λ matrix. PutsText result
+        (rows_text serving database.now query.now
+        (rows_of_choices database.now query.now (to_come matrix rows.old)))
+        (S.taken sink.old) (S.taken sink.new) (S.failures sink.old) (S.failures sink.new)) }
+    ensures work { ByEveryMatrix (λ matrix. OnOk result (rows.new.work ≡ work_at_end matrix rows.old)) }
 {
     let mut writer = RecordWriter::new(alloc);
     if query.counts {
-        return put_count(alloc, query.limit, pairs.len(), &mut writer, sink);
+        let count = count_rows(rows)?;
+        return put_count(alloc, query.limit, count, &mut writer, sink);
     }
     let header = header_record(alloc, database.definitions(), query)?;
     writer.put(alloc, &header, sink)?;
-    put_pairs(alloc, database, query, pairs, &mut writer, sink)
+    put_records(alloc, database, query, rows, &mut writer, sink)
+}
+
+// Takes rows to their end, and tells how many there were. A number past 64 bits is told as want of memory.
+fn count_rows<I: EnvelopeIndex + Drop>(rows: &mut Rows<'_, I>) -> Result<u64, AllocError>
+    ensures count { ByEveryMatrix (λ matrix. IfOk result (λ n. n ≡ length (to_come matrix rows.old))) }
+    ensures work { ByEveryMatrix (λ matrix. OnOk result (rows.new.work ≡ work_at_end matrix rows.old)) }
+{
+    let mut count: u64 = 0;
+    while let Some(found) = rows.next() {
+        found?;
+        let Some(more) = count.checked_add(1) else {
+            return Err(AllocError);
+        };
+        count = more;
+    }
+    Ok(count)
 }
 
 // Puts the header of COUNT(*), and the record of the number; under LIMIT 0 there is none.
 fn put_count<S: Sink>(
     alloc: Global,
     limit: Option<u64>,
-    count: usize,
+    count: u64,
     writer: &mut RecordWriter,
     sink: &mut S,
 ) -> Result<(), PutFault>
@@ -233,24 +253,27 @@ fn put_field<S: Sink>(
     writer.put(alloc, &fields, sink)
 }
 
-// Puts the record of each pair.
-fn put_pairs<I: EnvelopeIndex + Drop, S: Sink>(
+// Puts the record of each row that is still to come, as it comes.
+fn put_records<I: EnvelopeIndex + Drop, S: Sink>(
     alloc: Global,
     database: &Database<'_, I>,
     query: &Bound,
-    pairs: &[RowPair],
+    rows: &mut Rows<'_, I>,
     writer: &mut RecordWriter,
     sink: &mut S,
 ) -> Result<(), PutFault>
     requires writer { IsReady writer.old }
     requires references { HasReferences database.now.definitions query.now.references }
-    requires places { All (IsPlace (referenced database.now.tables query.now.references)) pairs.now }
-    ensures { PutsText result (concat (map (pair_text serving database.now query.now) pairs.now))
-        (S.taken sink.old) (S.taken sink.new) (S.failures sink.old) (S.failures sink.new) }
+    requires tables { rows.old.tables ≡ referenced database.now.tables query.now.references }
+    ensures text { ByEveryMatrix (λ matrix. PutsText result
+        (concat (map (choice_text serving database.now query.now) (to_come matrix rows.old)))
+        (S.taken sink.old) (S.taken sink.new) (S.failures sink.old) (S.failures sink.new)) }
+    ensures work { ByEveryMatrix (λ matrix. OnOk result (rows.new.work ≡ work_at_end matrix rows.old)) }
 {
     let mut fields = ByteRecord::new(alloc);
-    for pair in pairs {
-        pair_record(alloc, database, query, *pair, &mut fields)?;
+    while let Some(row) = rows.next() {
+        let pair = row?;
+        pair_record(alloc, database, query, pair, &mut fields)?;
         writer.put(alloc, &fields, sink)?;
     }
     Ok(())

@@ -1,4 +1,4 @@
-//! Runs over an index that never has the memory for a search: only a probe meets it.
+//! Runs over an index that hasn't the memory for each search: only a probe meets it, and what was found before stays put.
 
 use engine::{Fault, run};
 use rtree::{Envelope, EnvelopeIndex, ListIndex};
@@ -19,7 +19,7 @@ const POINTS: &str = "id,geom
 7,POINT(7 1)
 ";
 
-/// An index whose searches all lack memory.
+/// An index whose searches from x = 4 on lack memory.
 #[derive(Drop)]
 struct Starved {
     list: ListIndex,
@@ -36,9 +36,14 @@ impl EnvelopeIndex for Starved {
         })
     }
 
-    fn search(&self, _asked: Option<Envelope>, found: &mut Vec<usize>) -> Result<(), AllocError> {
-        found.clear();
-        Err(AllocError)
+    fn search(&self, asked: Option<Envelope>, found: &mut Vec<usize>) -> Result<(), AllocError> {
+        if let Some(envelope) = asked {
+            if envelope.least_x() >= 4 {
+                found.clear();
+                return Err(AllocError);
+            }
+        }
+        self.list.search(asked, found)
     }
 }
 
@@ -60,11 +65,33 @@ fn run_starved(
     }
 }
 
-/// A probe is refused with its search, and nothing is put.
+/// A probe is refused with its search, which is made once the header was put.
 #[test]
 fn probes_search_their_index(rt: HostRuntime) -> Result<(), Fail> {
     let query =
-        "SELECT id FROM big WHERE ST_Intersects(geom, ST_GeomFromText('POLYGON((0 0,4 0,4 4,0 4,0 0))'))";
+        "SELECT id FROM big WHERE ST_Intersects(geom, ST_GeomFromText('POLYGON((4 0,8 0,8 4,4 4,4 0))'))";
+    let mut sink = MemorySink::new(rt.alloc());
+    let answer = run_starved(rt.alloc(), query, &mut sink)?;
+    assert!(rt; answer == Err(Fault::Memory) && sink.bytes() == b"id\n".as_slice());
+    Ok(())
+}
+
+/// Each row is put as it is found: those before a search that is refused have been put.
+#[test]
+fn rows_are_put_as_they_come(rt: HostRuntime) -> Result<(), Fail> {
+    let query = "SELECT a.id, b.id FROM big a JOIN big b ON ST_Equals(a.geom, b.geom)";
+    let mut sink = MemorySink::new(rt.alloc());
+    let answer = run_starved(rt.alloc(), query, &mut sink)?;
+    assert!(rt;
+        answer == Err(Fault::Memory) && sink.bytes() == b"a.id,b.id\n1,1\n2,2\n3,3\n".as_slice()
+    );
+    Ok(())
+}
+
+/// A number is put once all rows were counted.
+#[test]
+fn a_number_is_put_at_the_end(rt: HostRuntime) -> Result<(), Fail> {
+    let query = "SELECT COUNT(*) FROM big a JOIN big b ON ST_Equals(a.geom, b.geom)";
     let mut sink = MemorySink::new(rt.alloc());
     let answer = run_starved(rt.alloc(), query, &mut sink)?;
     assert!(rt; answer == Err(Fault::Memory) && sink.bytes().is_empty());

@@ -5,6 +5,6 @@ mod ProbeLemmas
 mod RowLemmas
 mod RunLemmas
 mod StandingLemmas
-mod StreamLemmas
-mod WalkLemmas
+pub mod StreamLemmas
+pub mod WalkLemmas
 pub mod OrderLemmas
