@@ -5,3 +5,4 @@ pub mod GapCells
 pub mod EdgePoints
 pub mod Passes
 pub mod OffEdges
+pub mod ListedPositions

@@ -1,8 +1,8 @@
 //! What listed positions and the ends of lines show of a matrix.
 
-ghost use Rattle.std.specs.Prelude.{◌≡◌, true, All};
+ghost use Rattle.std.specs.Prelude.{◌≡◌, true, All, Contains};
 ghost use Rattle.geometry_model.specs.Points.{IsPoint};
-ghost use Rattle.geometry_model.specs.Geometries.{edges, listed};
+ghost use Rattle.geometry_model.specs.Geometries.{Geometry, edges, listed};
 ghost use Rattle.geometry_model.specs.Locations.{locate, ends};
 ghost use Rattle.geometry_model.specs.Validity.{IsValid};
 ghost use Rattle.geometry_model.specs.declared.point_sets.Dimension.TheVariants.{Zero};
@@ -34,6 +34,16 @@ fn raise_position(first: &Valid, second: &Valid, at: GridPoint, matrix: &mut Mat
     raise_point(first, second, &RatPoint::of_grid(at), matrix);
 }
 
+/// The same of a listed position of a geometry, which is in its interior (OGC 06-103r4, 6.1.4 and 6.1.5): it is located in the
+/// second geometry alone.
+fn raise_listed_at(second: &Valid, at: GridPoint, matrix: &mut Matrix)
+    ensures grows { (a : Geometry) → Contains (listed a) at → Grows a second.now matrix.old matrix.new }
+    ensures shows { (a : Geometry) → Contains (listed a) at → CoversPosition a second.now matrix.new at }
+{
+    let part = locate(second, &RatPoint::of_grid(at));
+    matrix.raise(Location::Interior, part, Dimension::Zero);
+}
+
 /// Whether it is shown that a part of the first geometry shares a point with each part that a geometry of this kind has: points
 /// have no boundary (OGC 06-103r4, 6.1.4).
 fn shows_row(matrix: &Matrix, part: Location, kind: Kind) -> bool
@@ -53,7 +63,7 @@ fn raise_listed(first: &Valid, second: &Valid, matrix: &mut Matrix)
         if shows_row(matrix, Location::Interior, second.kind()) {
             return;
         }
-        raise_position(first, second, *position, matrix);
+        raise_listed_at(second, *position, matrix);
     }
 }
 
