@@ -139,18 +139,29 @@ def each(program, word, text, repeats):
     return max(best - idle, 1e-9) / turns, answer
 
 
-def main():
-    parser = argparse.ArgumentParser(description=__doc__.splitlines()[0])
-    parser.add_argument("--repeats", type=int, default=3, help="runs of each measure (3)")
-    parser.add_argument("--only", default="", help="the shapes whose name has this word")
-    options = parser.parse_args()
+def built_peer(folder):
+    """Compiles the peer over GEOS, and answers its path; ends the program where something that it needs isn't there."""
     if not GAUGE.exists():
         sys.exit("the program isn't built: run `rt run` in crates/gauge once")
     if shutil.which("gcc") is None:
         sys.exit("gcc isn't installed: apt-get install gcc libgeos-dev")
+    peer = pathlib.Path(folder) / "geos_peer"
+    subprocess.run(["gcc", "-O2", "-o", str(peer), str(PEER), "-lgeos_c"], check=True)
+    return peer
+
+
+def options_of(summary):
+    """The words that a measure of shapes takes."""
+    parser = argparse.ArgumentParser(description=summary)
+    parser.add_argument("--repeats", type=int, default=3, help="runs of each measure (3)")
+    parser.add_argument("--only", default="", help="the shapes whose name has this word")
+    return parser
+
+
+def main():
+    options = options_of(__doc__.splitlines()[0]).parse_args()
     with tempfile.TemporaryDirectory() as name:
-        peer = pathlib.Path(name) / "geos_peer"
-        subprocess.run(["gcc", "-O2", "-o", str(peer), str(PEER), "-lgeos_c"], check=True)
+        peer = built_peer(name)
         print(f"{'shape':22} {'size':>6} {'':7} {'sfq ns':>10} {'GEOS ns':>10} {'ratio':>7} {'growth':>7}")
         for label, shape, sizes in CASES:
             if options.only in label:

@@ -11,16 +11,11 @@ It needs Python's standard library, gcc and `libgeos-dev` from the distribution'
 `rt run` once in crates/gauge. It is no test: the gate doesn't run it.
 """
 
-import argparse
 import math
-import pathlib
 import random
-import shutil
-import subprocess
-import sys
 import tempfile
 
-from areas import GAUGE, PEER, SPAN, border, each, holed, ring, star
+from areas import GAUGE, SPAN, border, built_peer, each, holed, options_of, ring, star
 
 
 def polygon(rings, across=0, up=0):
@@ -117,18 +112,11 @@ CASES = (
 
 
 def main():
-    parser = argparse.ArgumentParser(description=__doc__.splitlines()[0])
-    parser.add_argument("--repeats", type=int, default=3, help="runs of each measure (3)")
-    parser.add_argument("--only", default="", help="the shapes whose name has this word")
+    parser = options_of(__doc__.splitlines()[0])
     parser.add_argument("--largest", type=int, default=3, help="how many sizes of each (3)")
     options = parser.parse_args()
-    if not GAUGE.exists():
-        sys.exit("the program isn't built: run `rt run` in crates/gauge once")
-    if shutil.which("gcc") is None:
-        sys.exit("gcc isn't installed: apt-get install gcc libgeos-dev")
     with tempfile.TemporaryDirectory() as name:
-        peer = pathlib.Path(name) / "geos_peer"
-        subprocess.run(["gcc", "-O2", "-o", str(peer), str(PEER), "-lgeos_c"], check=True)
+        peer = built_peer(name)
         print(f"{'shape':26} {'size':>6} {'sfq us':>12} {'GEOS us':>12} {'ratio':>8} {'growth':>7} matrix")
         for label, shape, sizes in CASES:
             if options.only in label:
