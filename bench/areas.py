@@ -10,19 +10,15 @@ It needs Python's standard library, gcc and `libgeos-dev` from the distribution'
 `rt run` once in crates/gauge. It is no test: the gate doesn't run it.
 """
 
-import argparse
 import math
 import pathlib
 import random
-import shutil
-import subprocess
 import sys
 import tempfile
-import time
 
-ROOT = pathlib.Path(__file__).resolve().parent.parent
-GAUGE = ROOT / "crates" / "gauge" / "out" / "gauge"
-PEER = pathlib.Path(__file__).resolve().parent / "geos_peer.c"
+from gauged import GAUGE, built_peer, each, options_of
+from timing import exponent
+
 SPAN = 1_000_000
 POINTS = 10_000
 
@@ -115,86 +111,44 @@ def points_for(rings):
     return points
 
 
-def seconds(program, word, times, text):
-    """The wall seconds of a run, and its answer."""
-    begun = time.perf_counter()
-    done = subprocess.run([str(program), word, str(times)], input=text, capture_output=True, text=True)
-    taken = time.perf_counter() - begun
-    if done.returncode != 0:
-        sys.exit(f"{program.name} {word} ended with status {done.returncode}")
-    return taken, done.stdout
-
-
-def each(program, word, text, repeats):
-    """The least seconds of one turn, start-up left out, and the answer. The turns take as long as start-up at least, since
-    its own noise would else be all that is measured."""
-    idle = min(seconds(program, word, 0, text)[0] for _ in range(repeats))
-    turns = 1
-    while True:
-        many, answer = seconds(program, word, turns, text)
-        if many - idle > max(0.4, idle) or turns >= 4096:
-            break
-        turns *= 4
-    best = min(seconds(program, word, turns, text)[0] for _ in range(repeats))
-    return max(best - idle, 1e-9) / turns, answer
-
-
-def built_peer(folder):
-    """Compiles the peer over GEOS, and answers its path; ends the program where something that it needs isn't there."""
-    if not GAUGE.exists():
-        sys.exit("the program isn't built: run `rt run` in crates/gauge once")
-    if shutil.which("gcc") is None:
-        sys.exit("gcc isn't installed: apt-get install gcc libgeos-dev")
-    peer = pathlib.Path(folder) / "geos_peer"
-    subprocess.run(["gcc", "-O2", "-o", str(peer), str(PEER), "-lgeos_c"], check=True)
-    return peer
-
-
-def options_of(summary):
-    """The words that a measure of shapes takes."""
-    parser = argparse.ArgumentParser(description=summary)
-    parser.add_argument("--repeats", type=int, default=3, help="runs of each measure (3)")
-    parser.add_argument("--only", default="", help="the shapes whose name has this word")
-    return parser
-
-
 def main():
     options = options_of(__doc__.splitlines()[0]).parse_args()
     with tempfile.TemporaryDirectory() as name:
-        peer = built_peer(name)
+        folder = pathlib.Path(name)
+        programs = ([str(GAUGE)], built_peer(folder))
         print(f"{'shape':22} {'size':>6} {'':7} {'sfq ns':>10} {'GEOS ns':>10} {'ratio':>7} {'growth':>7}")
         for label, shape, sizes in CASES:
-            if options.only in label:
-                measure_case(label, shape, sizes, peer, options.repeats)
+            before = None
+            for size in sizes if options.only in label else ():
+                rings = shape(size)
+                ours, theirs = (measures(program, rings, folder, options.repeats) for program in programs)
+                if ours["answers"] != theirs["answers"]:
+                    sys.exit(f"{label} of {size}: the answers differ: {ours} and {theirs}")
+                print_rows(label, size, sum(len(positions) + 1 for positions in rings), ours, theirs, before)
+                before = size, ours
 
 
-def measure_case(label, shape, sizes, peer, repeats):
-    """Measures one shape at its sizes, and prints its lines."""
-    before = {}
-    for size in sizes:
-        rings = shape(size)
-        count = sum(len(positions) + 1 for positions in rings)
-        text = "POLYGON(" + ",".join(map(ring, rings)) + ")\n"
-        asked = text + "".join(f"POINT({x} {y})\n" for x, y in points_for(rings))
-        ours, theirs = {}, {}
-        for taken, program in ((ours, GAUGE), (theirs, peer)):
-            taken["read"], _ = each(program, "read", text, repeats)
-            whole, taken["valid"] = each(program, "check", text, repeats)
-            taken["check"] = max(whole - taken["read"], 1e-9)
-            if taken["valid"] == "1\n":
-                taken["locate"], taken["inside"] = each(program, "locate", asked, repeats)
-        if ours["valid"] != theirs["valid"] or ours.get("inside") != theirs.get("inside"):
-            sys.exit(f"{label} of {size}: the answers differ: {ours} and {theirs}")
-        for word in ("read", "check", "locate"):
-            if word not in ours:
-                continue
+def measures(program, rings, folder, repeats):
+    """The seconds in which a program reads and checks an area, and locates in it if it is valid; and its answers."""
+    text = "POLYGON(" + ",".join(map(ring, rings)) + ")\n"
+    (folder / "input").write_text(text)
+    read, _, _ = each(program, "read", folder, repeats)
+    whole, valid, _ = each(program, "check", folder, repeats)
+    if valid != "1\n":
+        return {"read": read, "check": max(whole - read, 1e-9), "answers": valid}
+    (folder / "input").write_text(text + "".join(f"POINT({x} {y})\n" for x, y in points_for(rings)))
+    located, inside, _ = each(program, "locate", folder, repeats)
+    return {"read": read, "check": max(whole - read, 1e-9), "locate": located, "answers": valid + inside}
+
+
+def print_rows(label, size, count, ours, theirs, before):
+    """Prints what a position or a point takes, the ratios, and the exponents of growth since the size before."""
+    for word in ("read", "check", "locate"):
+        if word in ours:
             unit = 1e9 / (POINTS if word == "locate" else count)
-            growth = f"{ours[word] / before[word]:>7.1f}" if word in before else ""
-            print(
-                f"{label:22} {size:>6} {word:7} {ours[word] * unit:>10.1f} {theirs[word] * unit:>10.1f} "
-                f"{ours[word] / theirs[word]:>7.2f} {growth}"
-            )
-        before = ours
+            growth = exponent(before and (before[0], before[1][word]), (size, ours[word]))
+            here, there = ours[word] * unit, theirs[word] * unit
+            print(f"{label:22} {size:>6} {word:7} {here:>10.1f} {there:>10.1f} {here / there:>7.2f} {growth:>7}", flush=True)
 
 
 if __name__ == "__main__":

@@ -13,16 +13,15 @@ import argparse
 import pathlib
 import random
 import shutil
-import subprocess
 import sys
 import tempfile
+
+from timing import PROGRAM, best
 
 SIZES = (1_000, 10_000, 100_000)
 SCHEMA = "CREATE TABLE t (id INTEGER PRIMARY KEY, pop INTEGER, name TEXT);"
 QUERY = "SELECT id, name FROM t WHERE pop > 500000 AND NOT name = 'bern' OR pop IS NULL"
 NAMES = ("alma", "bern", "cork", "dale", "elm street", "fern, upper", "gull's rest", "hay")
-ROOT = pathlib.Path(__file__).resolve().parent.parent
-PROGRAM = ROOT / "crates" / "sfq" / "out" / "sfq"
 
 
 def make_table(folder, rows):
@@ -39,39 +38,6 @@ def make_table(folder, rows):
     table = folder / "t.csv"
     table.write_text("\n".join(lines) + "\n")
     return table.stat().st_size
-
-
-# Runs a command and prints its wall seconds, processor seconds, peak kilobytes and status. It is a process of its own,
-# since a process starts with its parent's peak: so a peak below that of this small one can't be told.
-PROBE = """
-import os, sys, time
-begun = time.perf_counter()
-child = os.posix_spawnp(sys.argv[2], sys.argv[2:], os.environ,
-    file_actions=[(os.POSIX_SPAWN_OPEN, 1, sys.argv[1], os.O_WRONLY | os.O_CREAT | os.O_TRUNC, 0o600)])
-_, status, usage = os.wait4(child, 0)
-wall = time.perf_counter() - begun
-print(wall, usage.ru_utime + usage.ru_stime, usage.ru_maxrss, os.waitstatus_to_exitcode(status))
-"""
-
-
-def measure(command, folder):
-    """Runs a command; answers wall seconds, processor seconds and peak kilobytes. Its output goes to a file."""
-    output = str(folder / "output")
-    probe = subprocess.run(
-        [sys.executable, "-S", "-E", "-c", PROBE, output, *command], cwd=folder, stdout=subprocess.PIPE, check=True
-    )
-    wall, processor, peak, status = probe.stdout.split()
-    if int(status) != 0:
-        sys.exit(f"{command[0]} ended with status {int(status)}")
-    return float(wall), float(processor), int(peak)
-
-
-def best(command, folder, repeats):
-    """The least times and the greatest memory of several runs, and the number of lines of the output."""
-    runs = [measure(command, folder) for _ in range(repeats)]
-    with open(folder / "output", "rb") as output:
-        lines = sum(1 for _ in output)
-    return min(r[0] for r in runs), min(r[1] for r in runs), max(r[2] for r in runs), lines
 
 
 def sqlite_command():

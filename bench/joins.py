@@ -1,11 +1,12 @@
 #!/usr/bin/env python3
 """Measures joins of `sfq run` beside `sqlite3` with SpatiaLite and an R*-tree, and beside GEOS and an STR-tree.
 
-Points in small polygons (1,000 in 100, 10,000 in 1,000), land parcels against themselves by ST_Touches (grids of 10,
-30 and 100 a side), and lines across polygons by ST_Crosses (300 across 100, 3,000 across 1,000). Each run is one
-process: start, load, index, answer. It compares the answers, and prints wall time, processor time and peak memory of
-each, the ratio to each peer, and the growth from size to size. Times are the least of several runs. The peers don't
-test validity.
+Points in small polygons (1,000 in 100, 10,000 in 1,000) and in land parcels (1,000 to 100,000 in grids of 10, 30 and 100 a
+side), the parcels against themselves by ST_Touches, and lines by ST_Crosses across the polygons (300 across 100, 3,000 across
+1,000) and across the parcels (300 to 30,000). Each run is one process: start, load, index, answer. It compares the answers, and
+prints a Markdown table: the processor time of each, its start-up left out (its run over tables without rows), the ratio to each
+peer and to the best, the exponent by which the time of `sfq` grows in rows of the first table, and peak memory. Times are the
+least of several runs. The peers don't test validity.
 
 It needs Python's standard library, the built program (run ./sfq once), and from the distribution's packages `gcc`,
 `libgeos-dev`, `sqlite3` and `libsqlite3-mod-spatialite`. It is no test: the gate doesn't run it.
@@ -16,9 +17,10 @@ import math
 import pathlib
 import random
 import tempfile
+from typing import Callable, NamedTuple, Optional
 
-from compare import PROGRAM
-from peers import build_geos, compare_runs, is_ready, spatialite_command
+from peers import Comparison, build_geos, is_ready, print_table_heads, spatialite_command
+from timing import PROGRAM
 
 SPAN = 1_000_000
 
@@ -84,20 +86,31 @@ def parcels(side):
     return texts
 
 
-# What is joined, by which predicate, and at which sizes.
+class Case(NamedTuple):
+    """What is joined, by which predicate, and at which sizes."""
+
+    label: str
+    first: Callable
+    first_type: str
+    second: Optional[Callable]
+    predicate: str
+    sizes: tuple
+
+
+# A second table that is None is the first one again; sizes are numbers of rows, and of parcels the parcels on a side.
 CASES = (
-    ("points in areas", points, "POINT", areas, "within", ((1_000, 100), (10_000, 1_000))),
-    ("parcels that touch", parcels, "POLYGON", None, "touches", ((10, 10), (30, 30), (100, 100))),
-    ("lines across areas", lines, "LINESTRING", areas, "crosses", ((300, 100), (3_000, 1_000))),
+    Case("points in areas", points, "POINT", areas, "within", ((1_000, 100), (10_000, 1_000))),
+    Case("points in parcels", points, "POINT", parcels, "within", ((1_000, 10), (10_000, 30), (100_000, 100))),
+    Case("parcels that touch", parcels, "POLYGON", None, "touches", ((10, 10), (30, 30), (100, 100))),
+    Case("lines across areas", lines, "LINESTRING", areas, "crosses", ((300, 100), (3_000, 1_000))),
+    Case("lines across parcels", lines, "LINESTRING", parcels, "crosses", ((300, 10), (3_000, 30), (30_000, 100))),
 )
 
 
 def write_table(folder, table, texts):
-    """Writes a table's CSV; answers its size in bytes."""
-    path = folder / f"{table}.csv"
+    """Writes a table's CSV."""
     rows = [f'{key},"{text}"' if "," in text else f"{key},{text}" for key, text in enumerate(texts, 1)]
-    path.write_text("\n".join(["id,geom", *rows]) + "\n")
-    return path.stat().st_size
+    (folder / f"{table}.csv").write_text("\n".join(["id,geom", *rows]) + "\n")
 
 
 def commands(geos, predicate, second):
@@ -125,34 +138,43 @@ def commands(geos, predicate, second):
 
 
 def make_tables(folder, case, size):
-    """Writes the schema and the tables of a case; answers the second table's name, and the bytes of all."""
-    _, first, first_type, areas_of, _, _ = case
-    schema = [f"CREATE TABLE first (id INTEGER PRIMARY KEY, geom {first_type})"]
-    total = write_table(folder, "first", first(size[0]))
-    if areas_of is not None:
+    """Makes a folder with the schema and the tables of a case, which are empty where no size is given; answers the rows of the first."""
+    folder.mkdir()
+    schema = [f"CREATE TABLE first (id INTEGER PRIMARY KEY, geom {case.first_type})"]
+    texts = case.first(size[0]) if size else []
+    write_table(folder, "first", texts)
+    if case.second is not None:
         schema.append("CREATE TABLE second (id INTEGER PRIMARY KEY, geom POLYGON)")
-        total += write_table(folder, "second", areas_of(size[1]))
+        write_table(folder, "second", case.second(size[1]) if size else [])
     (folder / "schema.sql").write_text(";\n".join(schema) + ";\n")
-    return "first" if areas_of is None else "second", total
+    return len(texts)
 
 
 def main():
     parser = argparse.ArgumentParser(description=__doc__.splitlines()[0])
-    parser.add_argument("--repeats", type=int, default=3, help="runs of each command (3)")
+    parser.add_argument("--repeats", type=int, default=9, help="runs of each command (9)")
     parser.add_argument("--only", default="", help="the joins whose name has this word")
-    parser.add_argument("--peers", action="store_true", help="measure the peers alone")
     options = parser.parse_args()
-    is_ready(options.peers)
+    is_ready()
     with tempfile.TemporaryDirectory() as name:
         geos = build_geos(pathlib.Path(name))
-        for case in CASES:
-            before = None
-            for size in case[5] if options.only in case[0] else ():
-                folder = pathlib.Path(name) / f"{case[4]}-{size[0]}"
+        print_table_heads("joins")
+        for number, case in enumerate(CASES):
+            if options.only in case.label:
+                folder = pathlib.Path(name) / str(number)
                 folder.mkdir()
-                second, total = make_tables(folder, case, size)
-                label = f"{case[0]}, {size[0]} by {size[1]}"
-                before = compare_runs(label, total, commands(geos, case[4], second), folder, options, before)
+                measure_case(case, geos, folder, options.repeats)
+
+
+def measure_case(case, geos, folder, repeats):
+    """Measures a join at its sizes, and prints its rows."""
+    runs = commands(geos, case.predicate, "first" if case.second is None else "second")
+    make_tables(folder / "bare", case, None)
+    comparison = Comparison(runs, folder / "bare", repeats)
+    for size in case.sizes:
+        tables = folder / str(size[0])
+        rows = make_tables(tables, case, size)
+        comparison.print_row(f"{case.label}, {size[0]:,} by {size[1]:,}", rows, runs, tables)
 
 
 if __name__ == "__main__":

@@ -16,7 +16,7 @@ import subprocess
 import sys
 import tempfile
 
-from compare import PROGRAM
+from timing import PROGRAM
 
 ROWS = 100_000
 LEVELS = 63

@@ -13,7 +13,7 @@ import random
 import subprocess
 import sys
 
-from areas import GAUGE
+from gauged import GAUGE
 
 GRID = 7
 

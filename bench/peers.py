@@ -5,15 +5,15 @@ import shutil
 import subprocess
 import sys
 
-from compare import PROGRAM, best
+from timing import PROGRAM, best, exponent, figure, print_columns, print_heads, ratios
 
 TABLES = pathlib.Path(__file__).resolve().parent / "geos_tables.c"
 
 
-def is_ready(only_peers):
+def is_ready():
     """Ends the program where something that it needs isn't there."""
-    if not only_peers and not PROGRAM.exists():
-        sys.exit("the program isn't built: run ./sfq --help once (or measure with --peers)")
+    if not PROGRAM.exists():
+        sys.exit("the program isn't built: run ./sfq --help once")
     for tool, package in (("gcc", "gcc libgeos-dev"), ("sqlite3", "sqlite3 libsqlite3-mod-spatialite")):
         if shutil.which(tool) is None:
             sys.exit(f"{tool} isn't installed: apt-get install {package}")
@@ -36,24 +36,33 @@ def spatialite_command(tables, *statements):
     return ["sqlite3", ":memory:", *script, *made, ".headers on", ".separator , \\n", answer]
 
 
-def compare_runs(label, size, commands, folder, options, before):
-    """Measures each command and prints its lines; answers the measures, for the growth of the next size."""
-    print(f"{label}, {size / 1024:.0f} KB of CSV")
-    runs, answers = {}, {}
-    for who, command in commands.items():
-        if who == "sfq" and options.peers:
-            continue
-        runs[who] = best(command, folder, options.repeats)
-        answers[who] = set((folder / "output").read_text().splitlines()[1:])
-    for who, (wall, processor, peak, lines) in runs.items():
-        growth = f" growth {processor / before[who][1]:>6.1f}" if before and before[who][1] else ""
-        print(f"  {who:10} wall {wall:>8.3f} s  processor {processor:>8.3f} s  peak {peak / 1024:>7.1f} MB  rows {lines - 1}{growth}")
-    first = next(iter(runs))
-    for who in list(runs)[1:]:
-        ours, theirs = runs[first], runs[who]
-        ratios = f"wall {ours[0] / theirs[0]:.2f}, processor {ours[1] / theirs[1]:.2f}, peak {ours[2] / theirs[2]:.2f}"
-        print(f"  {first} to {who}: {ratios}")
-        apart = answers[first] ^ answers[who]
-        if apart:
-            print(f"  {first} and {who} differ in {len(apart)} rows, such as {min(apart)}")
-    return runs
+def print_table_heads(title):
+    """Prints the heads of the columns that a comparison's rows have."""
+    print_heads([title, "sfq ms", "SpatiaLite ms", "ratio", "GEOS ms", "ratio", "to the best", "growth", "sfq, SpatiaLite, GEOS MB"])
+
+
+class Comparison:
+    """The rows of a case, from size to size: `sfq` beside its peers, each in one process, start-up left out."""
+
+    def __init__(self, commands, bare, repeats):
+        """Takes the start-up of each program: its run in a folder with tables without rows."""
+        self.repeats = repeats
+        self.start = {who: best(command, bare, repeats)[1] for who, command in commands.items()}
+        self.before = None
+
+    def print_row(self, label, rows, commands, folder):
+        """Measures each command in a folder, and prints processor times, ratios, the exponent of growth in rows, and memory."""
+        times, peaks, answers = {}, [], {}
+        for who, command in commands.items():
+            _, processor, peak, _ = best(command, folder, self.repeats)
+            times[who] = max(processor - self.start[who], 1e-5) * 1e3
+            peaks.append(f"{peak / 1024:.0f}")
+            answers[who] = set((folder / "output").read_text().splitlines()[1:])
+        ours, *peers = times.values()
+        growth = exponent(self.before, (rows, ours))
+        print_columns([label, figure(ours), *ratios(ours, peers), growth, ", ".join(peaks)])
+        self.before = rows, ours
+        for who in commands:
+            apart = answers["sfq"] ^ answers[who]
+            if apart:
+                print(f"sfq and {who} differ in {len(apart)} rows, such as {min(apart)}", file=sys.stderr)

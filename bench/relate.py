@@ -1,21 +1,28 @@
 #!/usr/bin/env python3
-"""Measures the matrix of two geometries beside GEOS's C interface, in one run.
+"""Measures the matrix of two geometries beside GEOS's C interface and JTS, in one run.
 
 Shapes: two stars that cross in few places or in many, two parcels with a ragged border in common, a line that crosses
 itself and an area, a MULTIPOINT and a star, two squares with holes that overlap, two grids of lines, a star of lines each of which
-crosses every other, two combs that cross. For each it prints the microseconds of one matrix here and in GEOS, their
-ratio, the growth from size to size, and the matrix, which has to be the same. Both geometries are read and tested once,
-before; start-up is left out. Times are the least of several runs.
+crosses every other, two combs that cross. For each it prints a row of a Markdown table: the processor microseconds of
+one matrix here, in GEOS and in JTS, their ratios and that to the best peer, the exponent by which time here grows from
+size to size, and the peak memory of each process. The matrices have to be the same; where one isn't, a line says so. Both
+geometries are read and tested once, before; start-up is left out, and of JTS the time until its just-in-time compiler has
+done its work. Times are the least of several runs.
 
 It needs Python's standard library, gcc and `libgeos-dev` from the distribution's packages, and the built program: run
-`rt run` once in crates/gauge. It is no test: the gate doesn't run it.
+`rt run` once in crates/gauge. JTS, from `libjts-java`, wants a JDK, and is left out where either isn't there. It is no
+test: the gate doesn't run it.
 """
 
 import math
+import pathlib
 import random
+import sys
 import tempfile
 
-from areas import GAUGE, SPAN, border, built_peer, each, holed, options_of, ring, star
+from areas import SPAN, border, holed, ring, star
+from gauged import GAUGE, JTS, built_peer, each, each_in_java, java_peer, options_of
+from timing import exponent, figure, print_columns, print_heads, ratios
 
 
 def polygon(rings, across=0, up=0):
@@ -114,27 +121,41 @@ CASES = (
 def main():
     parser = options_of(__doc__.splitlines()[0])
     parser.add_argument("--largest", type=int, default=3, help="how many sizes of each (3)")
+    parser.add_argument("--jts", default=JTS, help=f"the jar of JTS ({JTS})")
     options = parser.parse_args()
     with tempfile.TemporaryDirectory() as name:
-        peer = built_peer(name)
-        print(f"{'shape':26} {'size':>6} {'sfq us':>12} {'GEOS us':>12} {'ratio':>8} {'growth':>7} matrix")
+        folder = pathlib.Path(name)
+        programs = programs_of(folder, options.jts)
+        heads = [head for who in list(programs)[1:] for head in (f"{who} µs", "ratio")]
+        print_heads(["shapes", "size", "sfq µs", *heads, "to the best", "growth", ", ".join(programs) + " MB"])
         for label, shape, sizes in CASES:
-            if options.only in label:
-                measure_case(label, shape, sizes[: options.largest], peer, options.repeats)
+            before = None
+            for size in sizes[: options.largest] if options.only in label else ():
+                (folder / "input").write_text("\n".join(shape(size)) + "\n")
+                runs = {who: time(command, "relate", folder, options.repeats) for who, (command, time) in programs.items()}
+                print_row(label, size, runs, before)
+                before = size, runs["sfq"][0] * 1e6
 
 
-def measure_case(label, shape, sizes, peer, repeats):
-    """Measures one shape at its sizes, and prints its lines."""
-    before = None
-    for size in sizes:
-        text = "\n".join(shape(size)) + "\n"
-        ours, matrix = each(GAUGE, "relate", text, repeats)
-        theirs, other = each(peer, "relate", text, repeats)
-        if matrix != other:
-            print(f"{label} of {size}: {matrix.strip()} here, {other.strip()} in GEOS")
-        growth = f"{ours / before:>7.1f}" if before else " " * 7
-        print(f"{label:26} {size:>6} {ours * 1e6:>12.2f} {theirs * 1e6:>12.2f} {ours / theirs:>8.3f} {growth} {matrix.strip()}", flush=True)
-        before = ours
+def programs_of(folder, jar):
+    """The command of each program, and how it is timed."""
+    programs = {"sfq": ([str(GAUGE)], each), "GEOS": (built_peer(folder), each)}
+    java = java_peer(folder, jar)
+    if java is not None:
+        programs["JTS"] = (java, each_in_java)
+    return programs
+
+
+def print_row(label, size, runs, before):
+    """Prints a row of the table, and a line where a matrix differs."""
+    ours, *peers = (seconds * 1e6 for seconds, _, _ in runs.values())
+    growth = exponent(before, (size, ours))
+    peaks = ", ".join(f"{peak / 1024:.0f}" for _, _, peak in runs.values())
+    print_columns([label, f"{size:,}", figure(ours), *ratios(ours, peers), growth, peaks])
+    matrix = runs["sfq"][1].strip()
+    for who, (_, answer, _) in runs.items():
+        if answer.strip() != matrix:
+            print(f"{label} of {size}: {matrix} here, {answer.strip()} in {who}", file=sys.stderr)
 
 
 if __name__ == "__main__":

@@ -4,8 +4,10 @@
 For 1,000, 10,000 and 100,000 points and a polygon of 5, 100 and 2,000 positions it has the points within the polygon
 found by `sfq run`, by `sqlite3` with SpatiaLite importing the same CSV into memory, and by a C program over GEOS that
 reads the same CSV (`geos_tables.c`, the polygon prepared). Each run is one process: start, load, answer. It compares
-the answers, and prints wall time, processor time and peak memory of each, the ratio to each peer, and the growth from
-size to size. Times are the least of several runs. The peers don't test the points' or the polygon's validity.
+the answers, and prints a Markdown table: the processor time of each, its start-up left out (its run over a table without
+rows, beside a polygon of 5 positions), the ratio to each peer and to the best, the exponent by which the time of `sfq`
+grows in rows, and peak memory. Times are the least of several runs. The peers don't test the points' or the polygon's
+validity.
 
 It needs Python's standard library, the built program (run ./sfq once), and from the distribution's packages `gcc`,
 `libgeos-dev`, `sqlite3` and `libsqlite3-mod-spatialite`. It is no test: the gate doesn't run it.
@@ -17,8 +19,8 @@ import pathlib
 import random
 import tempfile
 
-from compare import PROGRAM
-from peers import build_geos, compare_runs, is_ready, spatialite_command
+from peers import Comparison, build_geos, is_ready, print_table_heads, spatialite_command
+from timing import PROGRAM
 
 SIZES = (1_000, 10_000, 100_000)
 POSITIONS = (5, 100, 2_000)
@@ -38,7 +40,7 @@ def window(positions):
 
 
 def make_points(folder, rows):
-    """Writes the schema and pt.csv, its rows in a shuffled order; answers the size of pt.csv in bytes."""
+    """Writes the schema and pt.csv, its rows in a shuffled order."""
     chance = random.Random(rows)
     keys = list(range(1, rows + 1))
     chance.shuffle(keys)
@@ -46,9 +48,7 @@ def make_points(folder, rows):
     for key in keys:
         lines.append(f"{key},POINT({chance.randint(-SPAN, SPAN)} {chance.randint(-SPAN, SPAN)})")
     (folder / "schema.sql").write_text(SCHEMA)
-    table = folder / "pt.csv"
-    table.write_text("\n".join(lines) + "\n")
-    return table.stat().st_size
+    (folder / "pt.csv").write_text("\n".join(lines) + "\n")
 
 
 def commands(folder, geos, text):
@@ -65,21 +65,27 @@ def commands(folder, geos, text):
 
 def main():
     parser = argparse.ArgumentParser(description=__doc__.splitlines()[0])
-    parser.add_argument("--repeats", type=int, default=3, help="runs of each command (3)")
-    parser.add_argument("--peers", action="store_true", help="measure the peers alone")
+    parser.add_argument("--repeats", type=int, default=9, help="runs of each command (9)")
     options = parser.parse_args()
-    is_ready(options.peers)
+    is_ready()
     with tempfile.TemporaryDirectory() as name:
         geos = build_geos(pathlib.Path(name))
+        print_table_heads("points in a polygon")
         for positions in POSITIONS:
-            before = None
+            bare = new_folder(name, positions, 0)
+            comparison = Comparison(commands(bare, geos, window(5)), bare, options.repeats)
             for rows in SIZES:
-                folder = pathlib.Path(name) / f"{positions}-{rows}"
-                folder.mkdir()
-                size = make_points(folder, rows)
+                folder = new_folder(name, positions, rows)
                 runs = commands(folder, geos, window(positions))
-                label = f"{rows} points, {positions} positions"
-                before = compare_runs(label, size, runs, folder, options, before)
+                comparison.print_row(f"{rows:,} points, {positions:,} positions", rows, runs, folder)
+
+
+def new_folder(name, positions, rows):
+    """A folder with the schema and a table of so many points."""
+    folder = pathlib.Path(name) / f"{positions}-{rows}"
+    folder.mkdir()
+    make_points(folder, rows)
+    return folder
 
 
 if __name__ == "__main__":

@@ -1,0 +1,72 @@
+"""What the measures share: how a process is timed, and how figures are printed."""
+
+import math
+import os
+import pathlib
+import subprocess
+import sys
+
+ROOT = pathlib.Path(__file__).resolve().parent.parent
+PROGRAM = ROOT / "crates" / "sfq" / "out" / "sfq"
+
+# Runs a command and prints its wall seconds, processor seconds, peak kilobytes and status. It is a process of its own,
+# since a process starts with its parent's peak: so a peak below that of this small one can't be told.
+PROBE = """
+import os, sys, time
+begun = time.perf_counter()
+child = os.posix_spawnp(sys.argv[3], sys.argv[3:], os.environ, file_actions=[
+    (os.POSIX_SPAWN_OPEN, 0, sys.argv[1], os.O_RDONLY, 0),
+    (os.POSIX_SPAWN_OPEN, 1, sys.argv[2], os.O_WRONLY | os.O_CREAT | os.O_TRUNC, 0o600)])
+_, status, usage = os.wait4(child, 0)
+wall = time.perf_counter() - begun
+print(wall, usage.ru_utime + usage.ru_stime, usage.ru_maxrss, os.waitstatus_to_exitcode(status))
+"""
+
+
+def measure(command, folder, given=os.devnull):
+    """Runs a command on a file; answers wall seconds, processor seconds and peak kilobytes. Its output goes to a file."""
+    files = [str(given), str(folder / "output")]
+    probe = subprocess.run(
+        [sys.executable, "-S", "-E", "-c", PROBE, *files, *command], cwd=folder, stdout=subprocess.PIPE, check=True
+    )
+    wall, processor, peak, status = probe.stdout.split()
+    if int(status) != 0:
+        sys.exit(f"{command[0]} ended with status {int(status)}")
+    return float(wall), float(processor), int(peak)
+
+
+def best(command, folder, repeats):
+    """The least times and the greatest memory of several runs, and the number of lines of the output."""
+    runs = [measure(command, folder) for _ in range(repeats)]
+    with open(folder / "output", "rb") as output:
+        lines = sum(1 for _ in output)
+    return min(r[0] for r in runs), min(r[1] for r in runs), max(r[2] for r in runs), lines
+
+
+def exponent(before, now):
+    """The exponent by which time grows, of two pairs of a size and a time; nothing where there was none before."""
+    if before is None:
+        return ""
+    return f"{math.log(now[1] / before[1]) / math.log(now[0] / before[0]):.2f}"
+
+
+def print_heads(heads):
+    """Prints the first two lines of a Markdown table."""
+    print_columns(heads)
+    print("|---" * len(heads) + "|")
+
+
+def print_columns(columns):
+    """Prints a line of a Markdown table."""
+    print("| " + " | ".join(columns) + " |", flush=True)
+
+
+def figure(number):
+    """A number in three digits at the least."""
+    return f"{number:.3g}" if number < 100 else f"{number:,.0f}"
+
+
+def ratios(ours, peers):
+    """The columns of each peer's time and the ratio of ours to it, and that to the best of them."""
+    columns = [column for time in peers for column in (figure(time), f"{ours / time:.2g}")]
+    return [*columns, f"{ours / min(peers):.2g}"]
