@@ -138,16 +138,17 @@ def commands(geos, predicate, second):
 
 
 def make_tables(folder, case, size):
-    """Makes a folder with the schema and the tables of a case, which are empty where no size is given; answers the rows of the first."""
+    """Makes a folder with the schema and the tables of a case, which are empty where no size is given; answers their numbers of rows."""
     folder.mkdir()
     schema = [f"CREATE TABLE first (id INTEGER PRIMARY KEY, geom {case.first_type})"]
-    texts = case.first(size[0]) if size else []
-    write_table(folder, "first", texts)
+    first = second = case.first(size[0]) if size else []
+    write_table(folder, "first", first)
     if case.second is not None:
         schema.append("CREATE TABLE second (id INTEGER PRIMARY KEY, geom POLYGON)")
-        write_table(folder, "second", case.second(size[1]) if size else [])
+        second = case.second(size[1]) if size else []
+        write_table(folder, "second", second)
     (folder / "schema.sql").write_text(";\n".join(schema) + ";\n")
-    return len(texts)
+    return len(first), len(second)
 
 
 def main():
@@ -173,8 +174,8 @@ def measure_case(case, geos, folder, repeats):
     comparison = Comparison(runs, folder / "bare", repeats)
     for size in case.sizes:
         tables = folder / str(size[0])
-        rows = make_tables(tables, case, size)
-        comparison.print_row(f"{case.label}, {size[0]:,} by {size[1]:,}", rows, runs, tables)
+        first, second = make_tables(tables, case, size)
+        comparison.print_row(f"{case.label}, {first:,} by {second:,}", first, runs, tables)
 
 
 if __name__ == "__main__":

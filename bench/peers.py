@@ -45,9 +45,9 @@ class Comparison:
     """The rows of a case, from size to size: `sfq` beside its peers, each in one process, start-up left out."""
 
     def __init__(self, commands, bare, repeats):
-        """Takes the start-up of each program: its run in a folder with tables without rows."""
+        """Takes the start-up of each program: its run in a folder with tables without rows, whose noise counts in each row."""
         self.repeats = repeats
-        self.start = {who: best(command, bare, repeats)[1] for who, command in commands.items()}
+        self.start = {who: best(command, bare, 3 * repeats)[1] for who, command in commands.items()}
         self.before = None
 
     def print_row(self, label, rows, commands, folder):
