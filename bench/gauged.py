@@ -29,7 +29,8 @@ def built_peer(folder):
 def java_peer(folder, jar):
     """Compiles the peer over JTS, and answers its command; None where the compiler or the jar isn't there, which it says."""
     if shutil.which("javac") is None or not pathlib.Path(jar).exists():
-        print(f"JTS is left out: javac or {jar} isn't there (apt-get install default-jdk-headless libjts-java)")
+        lacking = f"javac or {jar} isn't there (apt-get install default-jdk-headless libjts-java)"
+        print(f"JTS is left out: {lacking}", file=sys.stderr)
         return None
     subprocess.run(["javac", "-cp", jar, "-d", str(folder), str(PEERS / "JtsPeer.java")], check=True)
     return [*JAVA, "-cp", f"{jar}:{folder}", "JtsPeer"]

@@ -38,7 +38,8 @@ def spatialite_command(tables, *statements):
 
 def print_table_heads(title):
     """Prints the heads of the columns that a comparison's rows have."""
-    print_heads([title, "sfq ms", "SpatiaLite ms", "ratio", "GEOS ms", "ratio", "to the best", "growth", "sfq, SpatiaLite, GEOS MB"])
+    peers = ["SpatiaLite ms", "ratio", "GEOS ms", "ratio", "to the best"]
+    print_heads([title, "sfq ms", *peers, "growth", "sfq, SpatiaLite, GEOS MB"])
 
 
 class Comparison:
