@@ -26,9 +26,9 @@ loop-later-preserved c =
     let g = c.args.outline.now in
     let count = ap (λ (g : Geometry). length (elements g)) c.geometry.ensures in
     c.loop-later.invariant ∙ (elim c.else-element-later.branch [
-  | else-element-later-via-then-element-later+then-later-count+in_ok-elements_share+else-branch w ↦ passed_near g (validity.ElementsMeet c.args.element) (c.args.element + 1) (length (elements g)) c.args.near.now c.loop-later.later-index _ 0 c.loop-later-test.true refl
-      (elements_meet_at g c.args.element _ w.if-element-later.true ∙ (sym w.in_ok-elements_share.ensures ∙ w.if-branch.false))
-  | else-element-later-via-then-element-later+else-later-count w ↦ passed_late g (validity.ElementsMeet c.args.element) (c.args.element + 1) (length (elements g)) c.args.near.now c.loop-later.later-index _ 0 c.loop-later-test.true refl
-      (omega (arith, w.if-later-count.false, c.element_count-count.ensures, count))
-  | else-element-later-via-else-element-later w ↦ passed_early g (validity.ElementsMeet c.args.element) (c.args.element + 1) (length (elements g)) c.args.near.now c.loop-later.later-index _ 0 c.loop-later-test.true refl (omega (arith, w.if-element-later.false))
-])
+      | else-element-later-via-then-element-later+then-later-count+in_ok-elements_share+else-branch w ↦ passed_near g (validity.ElementsMeet c.args.element) (c.args.element + 1) (length (elements g)) c.args.near.now c.loop-later.later-index _ 0 c.loop-later-test.true refl
+          (elements_meet_at g c.args.element _ w.if-element-later.true ∙ (sym w.in_ok-elements_share.ensures ∙ w.if-branch.false))
+      | else-element-later-via-then-element-later+else-later-count w ↦ passed_late g (validity.ElementsMeet c.args.element) (c.args.element + 1) (length (elements g)) c.args.near.now c.loop-later.later-index _ 0 c.loop-later-test.true refl
+          (omega (arith, w.if-later-count.false, c.element_count-count.ensures, count))
+      | else-element-later-via-else-element-later w ↦ passed_early g (validity.ElementsMeet c.args.element) (c.args.element + 1) (length (elements g)) c.args.near.now c.loop-later.later-index _ 0 c.loop-later-test.true refl (omega (arith, w.if-element-later.false))
+    ])
