@@ -77,21 +77,31 @@ fn serve_run<R: Read + Drop, F: FnMut(&str) -> Option<R>, S: Sink, E: Sink>(
 ) -> u8
     requires { F.IsAlwaysCallable opener }
 {
-    let text = match schema_text(alloc, opener(paths.schema)) {
-        Ok(text) => text,
-        Err(failure) => return failed(&failure, err),
-    };
-    let schema = match read_schema(alloc, text.as_slice()) {
+    let schema = match schema_in(alloc, opener(paths.schema)) {
         Ok(schema) => schema,
-        Err(fault) => return failed(&Failure::Schema(fault), err),
-    };
-    let readers = match open_tables(alloc, &schema, paths.directory, opener) {
-        Ok(readers) => readers,
         Err(failure) => return failed(&failure, err),
     };
-    match run::<ColumnIndex, R, S>(alloc, &schema, readers, query, out) {
-        Ok(_) => 0,
-        Err(fault) => failed(&run_failure(&schema, fault), err),
+    match run_over(alloc, &schema, paths.directory, query, opener, out) {
+        Ok(()) => 0,
+        Err(failure) => failed(&failure, err),
+    }
+}
+
+// Opens the files of all tables, and runs a query over them.
+fn run_over<'s, R: Read + Drop, F: FnMut(&str) -> Option<R>, S: Sink>(
+    alloc: Global,
+    schema: &'s Schema,
+    directory: &str,
+    query: &str,
+    opener: F,
+    out: &mut S,
+) -> Result<(), Failure<'s>>
+    requires { F.IsAlwaysCallable opener }
+{
+    let readers = open_tables(alloc, schema, directory, opener)?;
+    match run::<ColumnIndex, R, S>(alloc, schema, readers, query, out) {
+        Ok(_) => Ok(()),
+        Err(fault) => Err(run_failure(schema, fault)),
     }
 }
 
@@ -106,25 +116,34 @@ fn serve_check<R: Read + Drop, F: FnMut(&str) -> Option<R>, S: Sink, E: Sink>(
 ) -> u8
     requires { F.IsAlwaysCallable opener }
 {
-    let text = match schema_text(alloc, opener(paths.schema)) {
-        Ok(text) => text,
-        Err(failure) => return failed(&failure, err),
-    };
-    let schema = match read_schema(alloc, text.as_slice()) {
+    let schema = match schema_in(alloc, opener(paths.schema)) {
         Ok(schema) => schema,
-        Err(fault) => return failed(&Failure::Schema(fault), err),
-    };
-    let readers = match open_tables(alloc, &schema, paths.directory, opener) {
-        Ok(readers) => readers,
         Err(failure) => return failed(&failure, err),
     };
-    let database: Database<'_, ColumnIndex> = match Database::load(alloc, &schema, readers) {
+    match check_over(alloc, &schema, paths.directory, opener, out) {
+        Ok(()) => 0,
+        Err(failure) => failed(&failure, err),
+    }
+}
+
+// Opens the files of all tables, loads these, and puts their lines.
+fn check_over<'s, R: Read + Drop, F: FnMut(&str) -> Option<R>, S: Sink>(
+    alloc: Global,
+    schema: &'s Schema,
+    directory: &str,
+    opener: F,
+    out: &mut S,
+) -> Result<(), Failure<'s>>
+    requires { F.IsAlwaysCallable opener }
+{
+    let readers = open_tables(alloc, schema, directory, opener)?;
+    let database: Database<'_, ColumnIndex> = match Database::load(alloc, schema, readers) {
         Ok(database) => database,
-        Err(fault) => return failed(&run_failure(&schema, Fault::from(fault)), err),
+        Err(fault) => return Err(run_failure(schema, Fault::from(fault))),
     };
     match put_counts(&database, out) {
-        Ok(()) => 0,
-        Err(_) => failed(&Failure::WriteFailed, err),
+        Ok(()) => Ok(()),
+        Err(_) => Err(Failure::WriteFailed),
     }
 }
 
@@ -183,6 +202,15 @@ fn schema_text<R: Read + Drop>(
         Ok(_) => Ok(text),
         Err(error) if error.kind() == ErrorKind::OutOfMemory => Err(Failure::OutOfMemory),
         Err(_) => Err(Failure::SchemaUnreadable),
+    }
+}
+
+// The schema that a file spells.
+fn schema_in<R: Read + Drop>(alloc: Global, file: Option<R>) -> Result<Schema, Failure<'static>> {
+    let text = schema_text(alloc, file)?;
+    match read_schema(alloc, text.as_slice()) {
+        Ok(schema) => Ok(schema),
+        Err(fault) => Err(Failure::Schema(fault)),
     }
 }
 

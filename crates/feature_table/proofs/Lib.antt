@@ -14,3 +14,4 @@ pub mod AscentLemmas
 pub mod ReaderRecords
 pub mod DatabaseLemmas
 pub mod IndexLemmas
+pub mod MapLemmas

@@ -146,16 +146,14 @@ pub read_end : {T G : Type 0} (geometry : GeometryReader T G) (table : TableDef 
 read_end geometry table header place rows a =
     (a.records ++ [], row_end geometry table header (a.records ++ []) place rows (a.passed []) (drop_front a.records [] place a.count))
 
--- a record past the most rows is none
-pub no_late_row : {T G : Type 0} (geometry : GeometryReader T G) (table : TableDef T) (header : Record) (number : ℕ) (fields : Record) (row : Row G) → row_limit < number
-    → checked_row geometry table header (number, fields) ≡ Ok row → ⊥
+-- the number of a record that gives a row is one of those that a table may have
+pub row_is_within : {T G : Type 0} (geometry : GeometryReader T G) (table : TableDef T) (header : Record) (number : ℕ) (fields : Record) (row : Row G)
+    → checked_row geometry table header (number, fields) ≡ Ok row → number ≤ row_limit
 unfolding checked_row
-no_late_row {G = G} geometry table header number fields row late = go (length fields == length header)
+row_is_within {G = G} geometry table header number fields row = go (length fields == length header) (nat_lt 100000 number) refl
   where
-    over : nat_lt 100000 number ≡ true
-    over = grind (arith, nat_tests)
-
-    go : (b : Bool) → ◌≡◌ {A = Result (Row G) LoadFault}
-        (cond (not b) (Err (fault.UnequalRecord number)) (cond (nat_lt 100000 number) (Err fault.TooManyRows) (row_of geometry table header number fields))) (Ok row) → ⊥
-    go true e = let f = rw over at e in cc f
-    go false e = cc e
+    go : (fits late : Bool) → nat_lt 100000 number ≡ late → ◌≡◌ {A = Result (Row G) LoadFault}
+        (cond (not fits) (Err (fault.UnequalRecord number)) (cond late (Err fault.TooManyRows) (row_of geometry table header number fields))) (Ok row) → number ≤ 100000
+    go true false is e = grind (arith, nat_tests)
+    go true true is e = cc e
+    go false late is e = cc e

@@ -75,14 +75,11 @@ pub(crate) fn read_rows<R: Read + Drop>(
 {
     let mut rows = Vec::new(alloc);
     let mut record = ByteRecord::new(alloc);
-    for place in 0..ROW_LIMIT {
+    for place in 0..ROW_LIMIT + 1 {
         match next_row(alloc, table, layout, place + 1, records, &mut record)? {
             Some(row) => rows.push(row)?,
             None => return Ok(rows),
         }
     }
-    match next_row(alloc, table, layout, ROW_LIMIT + 1, records, &mut record)? {
-        Some(_) => Err(LoadFault::TooManyRows),
-        None => Ok(rows),
-    }
+    Err(LoadFault::TooManyRows)
 }

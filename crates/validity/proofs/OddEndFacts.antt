@@ -10,6 +10,7 @@ use Rattle.std.specs.declared.cmp.Ordering.TheVariants.{Less, Equal, Greater}
 use Rattle.std.proofs.lemmas.Bool.Decides.{nat_tests}
 use Rattle.std.proofs.lemmas.Cmp.{int_cmp_total, on_total, then_total}
 use Rattle.std.proofs.Math.Seq.{take-length}
+use Rattle.std.proofs.lemmas.Grind.{flat_map-append}
 use Rattle.std.proofs.lemmas.List.{take_more, append-nil, take_all}
 use Rattle.std.proofs.lemmas.List.Sorted.{sorted_far, ranks_by, sum_by-IsPermutation}
 use Rattle.geometry_model.specs.Points.{Position, Point, IsPoint, same_point, point_at, compare}
@@ -198,6 +199,13 @@ two_ends old once twice (x ∷ rest) a b h ea eb e f = f ∙ ap (λ l. l ++ b �
 pub no_ends : (old line : List Position) → length line ≡ 0 → old ≡ old ++ ends line
 no_ends old [] h = sym (append-nil old)
 no_ends old (x ∷ rest) h = absurd (omega (arith, h))
+
+-- ---- one more of joined lists
+pub one_more_joined : {X Y : Type 0} (f : X → List Y) (xs : List X) (i : ℕ) (x : X) (items new more : List Y) → i < length xs → x ≡ get_or xs i x → items ≡ flat_map f (take i xs) → more ≡ f x → new ≡ items ++ more
+    → new ≡ flat_map f (take (i + 1) xs)
+one_more_joined f xs i x items new more within is before made grew =
+    grew ∙ ap₂ (λ l m. l ++ m) before (made ∙ sym (append-nil (f x))) ∙ sym (flat_map-append f (take i xs) (x ∷ []))
+    ∙ ap (flat_map f) (ap (λ y. take i xs ++ y ∷ []) is ∙ sym (take_more xs i x within))
 
 -- ---- a point stands at one of ascending positions at most
 apart : (p : Point) (a b : Position) → IsPoint p → position_order a b ≡ Less → stands_at p a ≡ true → stands_at p b ≡ false

@@ -173,27 +173,34 @@ fn of_edges(alloc: Global, geometry: Geometry) -> Result<Valid, CheckFault>
     ensures first { IfErr result (IsFirstFaultOf geometry) }
 {
     let outline = Outline::of(alloc, geometry)?;
-    let boxes = EdgeBoxes::build(alloc, outline.segments())?;
-    let odd_ends = odd_ends(alloc, outline.geometry())?;
     match first_fault(alloc, &outline)? {
         Some(fault) => Err(CheckFault::of(fault)),
-        None => Ok(kept(
-            alloc,
-            Edged {
-                outline,
-                boxes,
-                odd_ends,
-            },
-        )?),
+        None => Ok(kept(alloc, outline)?),
     }
 }
 
 /// Puts what is kept of a geometry of edges behind one pointer.
-fn kept(alloc: Global, edged: Edged) -> Result<Valid, AllocError>
-    requires { IsKept edged.outline edged.boxes edged.odd_ends.items }
-    ensures { IfOk result (λ valid. valid ≡ edged.outline) }
+fn kept(alloc: Global, outline: Outline) -> Result<Valid, AllocError>
+    requires { validity_fault outline ≡ None }
+    ensures { IfOk result (λ valid. valid ≡ outline) }
 {
+    let edged = with_boxes(alloc, outline)?;
     Ok(Valid {
         content: Content::Edged(Box::new(alloc, edged)?),
+    })
+}
+
+/// A geometry of edges with what these are asked by.
+fn with_boxes(alloc: Global, outline: Outline) -> Result<Edged, AllocError>
+    requires { validity_fault outline ≡ None }
+    ensures same { IfOk result (λ edged. edged.outline ≡ outline) }
+    ensures kept { IfOk result (λ edged. IsKept edged.outline edged.boxes edged.odd_ends.items) }
+{
+    let boxes = EdgeBoxes::build(alloc, outline.segments())?;
+    let odd_ends = odd_ends(alloc, outline.geometry())?;
+    Ok(Edged {
+        outline,
+        boxes,
+        odd_ends,
     })
 }

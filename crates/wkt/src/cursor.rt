@@ -11,7 +11,7 @@ use geometry_model::text_faults::TextFault;
 use std::marker::Model;
 
 /// The bytes that one run is made of.
-#[derive(Clone, Copy, Debug, PartialEq, Eq)]
+#[derive(Clone, Copy)]
 pub enum ByteClass {
     /// Space, tab, line feed and carriage return.
     White,

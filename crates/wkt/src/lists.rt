@@ -21,7 +21,7 @@ pub const POSITION_LIMIT: usize = 10_000;
 const PART_LIMIT: usize = 1_000;
 
 /// How many rings or elements and how many positions may still come.
-#[derive(Clone, Copy, Debug)]
+#[derive(Clone, Copy)]
 pub struct Room {
     pub parts: usize,
     pub positions: usize,

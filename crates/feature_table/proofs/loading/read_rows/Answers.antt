@@ -1,11 +1,11 @@
-use Rattle.std.proofs.Common.{Err, ◌+◌, ◌-◌, ◌∙◌, ◌≡◌, ℕ, ap, arith, drop}
+use Rattle.std.proofs.Common.{Err, ◌+◌, ◌-◌, ◌≡◌, arith, drop}
 use Rattle.std.proofs.lemmas.Result.{err_from_is_err_and}
 use Rattle.feature_table.proofs.EachLemmas.{passed_front}
 use Rattle.feature_table.specs.Records.{asked}
 use Rattle.feature_table.proofs.FailureLemmas.{of_fault}
-use Rattle.feature_table.proofs.LoadingLemmas.{midway_end, midway_fault, midway_more, no_late_row, read_end, read_fault, read_more}
+use Rattle.feature_table.proofs.LoadingLemmas.{midway_end, midway_fault, midway_more, read_end, read_fault, read_more, row_is_within}
 use Rattle.feature_table.specs.GeometryFields.{reading}
-use Rattle.table_model.specs.Loading.{checked_row, checked_rows, rows_of}
+use Rattle.table_model.specs.Loading.{checked_rows, rows_of}
 use Rattle.feature_table.proofs.loading.read_rows.Goals as goal
 
 pub returns-in_err-row-clause-loads : goal.returns-in_err-row-clause-loads
@@ -26,6 +26,9 @@ pub loop-place-preserved : goal.loop-place-preserved
 loop-place-preserved g c = record {
   ready = c.in_ok-row.ensures.ready;
   asked = omega (arith, c.next_row.ensures.asked, c.loop-place.invariant.asked);
+  within = λ header layout.
+      let t = rw c.in-Some.is at (c.in_ok-row.ensures.record header layout) in
+      row_is_within reading c.args.table.now header (c.loop-place.place + 1) t.0 c.in-Some.row t.1;
   midway = λ header records layout gives.
       let m = c.loop-place.invariant.midway header records layout gives in
       let t = rw c.in-Some.is at (c.in_ok-row.ensures.takes header (drop c.loop-place.place records) layout m.gives) in
@@ -35,28 +38,6 @@ loop-place-preserved g c = record {
       let t = rw c.in-Some.is at (c.in_ok-row.ensures.record header layout) in
       rw c.in_ok-push-in-Some.ensures.items (read_more reading c.args.table.now header c.loop-place.place c.loop-place.rows.items t.0 c.in-Some.row a t.1);
 }
-
-pub returns-in_err-next_row-clause-loads : goal.returns-in_err-next_row-clause-loads
-returns-in_err-next_row-clause-loads g c header records layout gives =
-    let m = c.loop-place.invariant.midway header records layout gives in
-    let took = c.in_err-next_row.ensures.takes header (drop c.loop-place.place records) layout m.gives in
-    let last : c.loop-place.place + 1 ≡ 100001 = omega arith in
-    let p = err_from_is_err_and c.from_residual-in_err-next_row.result c.from_residual-in_err-next_row.ensures.1 in
-    rw (p.1, p.2) (λ other. let t = took other in
-    midway_fault _ _ reading c.args.table.now header records c.loop-place.place c.loop-place.rows.items t.0 t.1 c.in_err-next_row.field-0.0 m t.2
-    (ap (λ (n : ℕ). checked_row reading c.args.table.now header (n, t.0)) last ∙ t.3))
-
-pub returns-in-Some-2-clause-loads : goal.returns-in-Some-2-clause-loads
-returns-in-Some-2-clause-loads g c header records layout gives =
-    let m = c.loop-place.invariant.midway header records layout gives in
-    let t = rw c.in-Some-2.is at (c.in_ok-next_row.ensures.takes header (drop c.loop-place.place records) layout m.gives) in
-    absurd (no_late_row reading c.args.table.now header 100001 t.0 _ (omega arith) t.3)
-
-pub returns-in-None-2-clause-loads : goal.returns-in-None-2-clause-loads
-returns-in-None-2-clause-loads g c header records layout gives =
-    let m = c.loop-place.invariant.midway header records layout gives in
-    let took = rw c.in-None-2.is at (c.in_ok-next_row.ensures.takes header (drop c.loop-place.place records) layout m.gives) in
-    midway_end _ _ reading c.args.table.now header records c.loop-place.place c.loop-place.rows.items m took
 
 pub returns-in_err-row-clause-records : goal.returns-in_err-row-clause-records
 returns-in_err-row-clause-records g c header layout =
@@ -70,25 +51,6 @@ pub returns-in-None-clause-records : goal.returns-in-None-clause-records
 returns-in-None-clause-records g c header layout =
     read_end reading c.args.table.now header c.loop-place.place c.loop-place.rows.items (c.loop-place.invariant.read header layout)
 
-pub returns-in_err-next_row-clause-records : goal.returns-in_err-next_row-clause-records
-returns-in_err-next_row-clause-records g c header layout =
-    let a = c.loop-place.invariant.read header layout in
-    let last : c.loop-place.place + 1 ≡ 100001 = omega arith in
-    let p = err_from_is_err_and c.from_residual-in_err-next_row.result c.from_residual-in_err-next_row.ensures.1 in
-    rw (p.1, p.2)
-    (of_fault c.in_err-next_row.field-0.0 (λ records. rows_of reading c.args.table.now header records ≡ Err c.in_err-next_row.field-0.0) (λ other. let t = c.in_err-next_row.ensures.record header layout other in
-    read_fault reading c.args.table.now header c.loop-place.place c.loop-place.rows.items t.0 c.in_err-next_row.field-0.0 a
-    (ap (λ (n : ℕ). checked_row reading c.args.table.now header (n, t.0)) last ∙ t.1)))
-
-pub returns-in-Some-2-clause-records : goal.returns-in-Some-2-clause-records
-returns-in-Some-2-clause-records g c header layout =
-    let t = rw c.in-Some-2.is at (c.in_ok-next_row.ensures.record header layout) in
-    absurd (no_late_row reading c.args.table.now header 100001 t.0 _ (omega arith) t.1)
-
-pub returns-in-None-2-clause-records : goal.returns-in-None-2-clause-records
-returns-in-None-2-clause-records g c header layout =
-    read_end reading c.args.table.now header c.loop-place.place c.loop-place.rows.items (c.loop-place.invariant.read header layout)
-
 pub returns-in_err-row-clause-before : goal.returns-in_err-row-clause-before
 returns-in_err-row-clause-before g c header records layout gives =
     let m = c.loop-place.invariant.midway header records layout gives in
@@ -97,10 +59,11 @@ returns-in_err-row-clause-before g c header records layout gives =
     let p = err_from_is_err_and c.from_residual.result c.from_residual.ensures.1 in
     rw (p.1, p.2, place) (λ failed. passed_front rows c.loop-place.place c.loop-place.rows.items m.passed)
 
-pub returns-in_err-next_row-clause-before : goal.returns-in_err-next_row-clause-before
-returns-in_err-next_row-clause-before g c header records layout gives =
-    let m = c.loop-place.invariant.midway header records layout gives in
-    let rows = checked_rows reading c.args.table.now header records in
-    let place : asked c.next_row-2.new.records - 2 ≡ c.loop-place.place = omega (arith, c.next_row-2.ensures.asked, c.loop-place.invariant.asked) in
-    let p = err_from_is_err_and c.from_residual-in_err-next_row.result c.from_residual-in_err-next_row.ensures.1 in
-    rw (p.1, p.2, place) (λ failed. passed_front rows c.loop-place.place c.loop-place.rows.items m.passed)
+-- no more rows are taken than a table may have
+pub returns-clause-loads : goal.returns-clause-loads
+returns-clause-loads g c header records layout gives =
+    let within = c.loop-place.invariant.within header layout in absurd (omega (arith, within, c.loop-place-test.false))
+
+pub returns-clause-records : goal.returns-clause-records
+returns-clause-records g c header layout =
+    let within = c.loop-place.invariant.within header layout in absurd (omega (arith, within, c.loop-place-test.false))

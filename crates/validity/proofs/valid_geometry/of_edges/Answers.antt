@@ -1,9 +1,6 @@
-use Rattle.std.proofs.Common.{sym, ap, subst, ◌∙◌}
+use Rattle.std.proofs.Common.{sym, ap, ◌∙◌}
 use Rattle.geometry_model.specs.FirstFaults.{validity_fault}
-use Rattle.geometry_model.specs.Geometries.{Geometry}
-use Rattle.validity.specs.OddEnds.{AreOddEnds, ended_lines}
 use Rattle.validity.proofs.Faults.{first_stands, found_is_told, found_stands}
-use Rattle.validity.proofs.Kept.{is_kept}
 use Rattle.validity.proofs.valid_geometry.of_edges.Goals as goal
 
 pub returns-in-Some-clause-first : goal.returns-in-Some-clause-first
@@ -19,8 +16,7 @@ returns-in-Some-clause-fault c = found_is_told c.args.geometry c.of-in-Some.resu
     (ap validity_fault (sym c.in_ok-outline.ensures) ∙ (sym c.in_ok-fault.ensures ∙ c.in-Some.is))
 
 pub kept-requires : goal.kept-requires
-kept-requires c = is_kept c.in_ok-outline.outline c.segments.result.now c.in_ok-boxes.boxes c.in_ok-odd_ends.odd_ends.items c.segments.ensures c.in_ok-boxes.ensures
-    (subst (λ (g : Geometry). AreOddEnds c.in_ok-odd_ends.odd_ends.items (ended_lines g)) c.geometry.ensures c.in_ok-odd_ends.ensures) (sym c.in_ok-fault.ensures ∙ c.in-None.is)
+kept-requires c = sym c.in_ok-fault.ensures ∙ c.in-None.is
 
 pub returns-in_ok-kept-in-None-clause-faultless : goal.returns-in_ok-kept-in-None-clause-faultless
 returns-in_ok-kept-in-None-clause-faultless c = ap validity_fault (sym c.in_ok-outline.ensures) ∙ (sym c.in_ok-fault.ensures ∙ c.in-None.is)
