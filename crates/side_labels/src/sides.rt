@@ -42,8 +42,10 @@ pub fn sides_at(valid: &Valid, p: &RatPoint) -> Sides
 
 /// The same, where it is known how the point lies to the geometry's edges.
 pub fn sides_by(valid: &Valid, found: &Crossings) -> Sides
-    ensures lower { (p : Point) → AreCrossings found.now (edges valid.now) p → result.lower ≡ spec.below valid.now p }
-    ensures upper { (p : Point) → AreCrossings found.now (edges valid.now) p → result.upper ≡ spec.above valid.now p }
+    ensures lower { (p : Point) → AreCrossings found.now (edges valid.now) p
+        → result.lower ≡ spec.below valid.now p }
+    ensures upper { (p : Point) → AreCrossings found.now (edges valid.now) p
+        → result.upper ≡ spec.above valid.now p }
 {
     match valid.kind() {
         Kind::Area => Sides {
