@@ -1,10 +1,9 @@
 -- What is left to show of the first geometry's edges where the matrix covers the second's: what lies off these.
-use Rattle.std.proofs.Common.{◌≡◌, ◌≢◌, ◌⊎◌, inl, inr, true, sym, subst, List, All, Contains}
-use Rattle.std.proofs.lemmas.List.Elements.{All-weaker}
-use Rattle.geometry_model.specs.Points.{Point, IsPoint, least_form, mediant}
+use Rattle.std.proofs.Common.{◌≡◌, ◌≢◌, ◌⊎◌, inl, inr, true, sym, subst, All, Contains}
+use Rattle.geometry_model.specs.Points.{Point, IsPoint}
 use Rattle.geometry_model.specs.Geometries.{Edge, Geometry, kind, edges}
 use Rattle.geometry_model.specs.Sides.{on}
-use Rattle.geometry_model.specs.Pieces.{Piece, stretches}
+use Rattle.geometry_model.specs.Pieces.{stretches}
 use Rattle.geometry_model.specs.Dimensions.{Matrix}
 use Rattle.geometry_model.specs.Validity.{IsValid}
 use Rattle.geometry_model.specs.declared.shapes.Kind.TheVariants as kinds
@@ -16,7 +15,7 @@ use Rattle.polygon_laws.proofs.Closing.{valid_rings_are_closed}
 use Rattle.cut_laws.proofs.Lists.{Some_of, some_from_any}
 use Rattle.cell_laws.specs.Cells.{ShowsPoint, IsNoCut, Covers}
 use Rattle.gap_laws.specs.Gaps.{EdgeGaps, AreGaps, IsGap, IsWithin, mostly}
-use Rattle.gap_laws.proofs.GapTheorems.{gap_has_mediant, gap_end_is_alike, off_edges_is_no_boundary}
+use Rattle.gap_laws.proofs.GapTheorems.{gap_end_is_alike, off_edges_is_no_boundary}
 use Rattle.cover_laws.specs.Covering.{IsOffEdges, ShowsOff, ShowsEnds}
 use Rattle.cover_laws.specs.CoveringLaws.{IsFullOff}
 use Rattle.cover_laws.proofs.Stretching.{SharesFurther, shares_further, spread, not_upright_either}
@@ -81,7 +80,7 @@ gaps_off_cover a b vb e c w g r m t covered s x hx k = go (on_or_off b x)
     go (inl p) = shown_by_covered a b m covered e c w x hx k p
     go (inr o) = off_shown a b vb m t e c x hx k (held a b e g r m s x hx k) o
 
--- what is full off the second's edges shows all that gaps off them can show
+-- and where it shows all that gaps off them can show
 full_off_at : (a b : Geometry) (m : Matrix) → IsFullOff a b m → (e : Edge) (x : Point) → IsOffEdges b x → ShowsOff a m e (mostly b x)
 full_off_at a b m h e x o = go (off_edges_is_no_boundary b x o)
   where
@@ -89,11 +88,6 @@ full_off_at a b m h e x o = go (off_edges_is_no_boundary b x o)
     go (inl q) = subst (ShowsOff a m e) (sym q) (h.in_exterior e)
     go (inr q) = subst (ShowsOff a m e) (sym q.1) (h.in_interior q.0 e)
 
-pub full_off_gaps : (a b : Geometry) (m : Matrix) → IsFullOff a b m → (e : Edge) (cs : List Piece) → All (λ c. IsGap e (edges b) c.lesser c.greater) cs → All (λ c. ShowsGapOff a b m e c.lesser c.greater) cs
-full_off_gaps a b m h e cs gaps = All-weaker (λ c. IsGap e (edges b) c.lesser c.greater) (λ c. ShowsGapOff a b m e c.lesser c.greater)
-    (λ c g. record { sample = least_form (mediant c.lesser c.greater); between = gap_has_mediant e (edges b) c.lesser c.greater g; shows = λ o. full_off_at a b m h e (least_form (mediant c.lesser c.greater)) o }) cs gaps
-
--- and covers each edge of the first, where it covers the second's
 pub full_off_is_enough : (a b : Geometry) → (e : Edge) → Contains (edges a) e → e.start ≢ e.end → (m : Matrix) → ShowsEnds a b m → All (Covers a b m) (edges b) → IsFullOff a b m → Covers a b m e
 full_off_is_enough a b e c w m t covered h x hx k = go (on_or_off b x)
   where

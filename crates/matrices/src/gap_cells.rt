@@ -10,7 +10,7 @@ ghost use Rattle.validity.specs.ValidGeometries.{HasLength};
 ghost use Rattle.fraction.specs.Ranges.{meeting_limit};
 ghost use Rattle.matrices.specs.Raising.{Grows, IsRaisedTo, ShowsOffAt, ShowsGapOff, with_sides, off_edges};
 
-use crate::fullness::{is_full_off, of_own_edges};
+use crate::fullness::of_own_edges;
 use crate::matrix::Matrix;
 use edge_boxes::Crossings;
 use fraction::RatPoint;
@@ -137,8 +137,7 @@ pub(crate) fn raise_gaps(
     }
 }
 
-/// Shows what those of the gaps between neighbouring stops of an edge of the first geometry show that lie off the second's edges,
-/// until nothing more can come.
+/// Shows what those of the gaps between neighbouring stops of an edge of the first geometry show that lie off the second's edges.
 pub(crate) fn raise_gaps_off(
     first: &Valid,
     second: &Valid,
@@ -155,9 +154,6 @@ pub(crate) fn raise_gaps_off(
         (stretches stops.now) }
 {
     for place in 1..stops.len() {
-        if is_full_off(first, second, matrix) {
-            return;
-        }
         let middle = RatPoint::mediant(&stops[place - 1], &stops[place]);
         raise_off_at(first, second, edge, &middle, matrix);
     }

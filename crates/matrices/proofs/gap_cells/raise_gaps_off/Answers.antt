@@ -5,11 +5,7 @@ use Rattle.geometry_model.specs.Pieces.{stretches}
 use Rattle.matrices.specs.Raising.{ShowsGapOff}
 use Rattle.matrices.proofs.Growth.{grows_through}
 use Rattle.matrices.proofs.GapCells.{gap_at, gap_off_grows, gaps_off_more}
-use Rattle.matrices.proofs.Rest.{full_off_gaps}
 use Rattle.matrices.proofs.gap_cells.raise_gaps_off.Goals as goal
-
-pub returns-then-is_full_off-clause-shows : goal.returns-then-is_full_off-clause-shows
-returns-then-is_full_off-clause-shows c = full_off_gaps c.args.first.now c.args.second.now c.loop-place.matrix (c.is_full_off.ensures c.if-is_full_off.true) c.args.edge.now (stretches c.args.stops.now) c.requires.gaps
 
 pub loop-place-preserved : goal.loop-place-preserved
 loop-place-preserved c =
