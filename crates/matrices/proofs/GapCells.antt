@@ -18,8 +18,9 @@ use Rattle.gap_laws.proofs.GapTheorems.{gap_has_mediant}
 use Rattle.cell_laws.specs.Cells.{Shows, raised, IsPartOf}
 use Rattle.cell_laws.proofs.Growing.{still_shown}
 use Rattle.cover_laws.specs.Covering.{IsOffEdges, ShowsOff, ShowsOn, ShowsAt, ShowsGap}
-use Rattle.matrices.specs.Raising.{IsRaisedTo, Grows}
-use Rattle.matrices.proofs.Growth.{raised_one, raised_two, raised_so, shown_kept, grows_raised}
+use Rattle.side_labels.specs.declared.sides.Sides.{Sides}
+use Rattle.matrices.specs.Raising.{IsRaisedTo, Grows, ShowsOffAt, ShowsGapOff, with_sides}
+use Rattle.matrices.proofs.Growth.{part_of_itself, raised_one, raised_two, raised_so, shown_kept, grows_raised}
 use Rattle.cover_laws.proofs.CoveringTheorems.{gap_is_there}
 
 both_kept : (P Q : Matrix → Type 0) → ((m n : Matrix) → IsPartOf m n → P m → P n) → ((m n : Matrix) → IsPartOf m n → Q m → Q n) → (m n : Matrix) → IsPartOf m n → P m × Q m → P n × Q n
@@ -63,6 +64,10 @@ on_slanted a b e y w v m n o r ew ev slant en eo er = raised_so (λ x. (Shows x 
     (raised_two (λ x. Shows x w v One) (λ x. Shows x (below a y) (below b y) Two) (shown_kept w v One) m n o (raised_one m n w v One en) (raised_one n o (below a y) (below b y) Two eo))
     (raised_one o r (above a y) (above b y) Two er))
 
+-- raised by the sides as they were found
+pub sides_are : (s t : Sides) (l k i j : Location) (m n : Matrix) → s.lower ≡ l → t.lower ≡ k → s.upper ≡ i → t.upper ≡ j → n ≡ with_sides s t m → n ≡ raised (raised m l k Two) i j Two
+sides_are s t l k i j m n el ek ei ej e = e ∙ (λ z. raised (raised m (el z) (ek z) Two) (ei z) (ej z) Two)
+
 -- ---- at a point
 pub at_off : (a b : Geometry) (e : Edge) (y : Point) (l : Location) (m n : Matrix) → IsOffEdges b y → l ≡ mostly b y → IsRaisedTo (λ o. ShowsOff a o e l) m n → IsRaisedTo (λ o. ShowsAt a b o e y) m n
 at_off a b e y l m n off el r = raised_so (λ o. ShowsOff a o e l) (λ o. ShowsAt a b o e y)
@@ -75,6 +80,12 @@ at_on a b e y m n on r = raised_so (λ o. ShowsOn a b o e y) (λ o. ShowsAt a b 
     (λ o s. record { off = λ h. absurd (on h); shared = λ _. s })
     (λ o s. s.shared on)
     m n r
+
+pub off_at_off : (a b : Geometry) (e : Edge) (y : Point) (l : Location) (m n : Matrix) → IsOffEdges b y → l ≡ mostly b y → IsRaisedTo (λ o. ShowsOff a o e l) m n → IsRaisedTo (λ o. ShowsOffAt a b o e y) m n
+off_at_off a b e y l m n off el r = raised_so (λ o. ShowsOff a o e l) (λ o. ShowsOffAt a b o e y) (λ o s _. subst (ShowsOff a o e) el s) (λ o s. subst (ShowsOff a o e) (sym el) (s off)) m n r
+
+pub off_at_on : (a b : Geometry) (e : Edge) (y : Point) (m : Matrix) → (IsOffEdges b y → ⊥) → IsRaisedTo (λ o. ShowsOffAt a b o e y) m m
+off_at_on a b e y m on = record { grown = part_of_itself m; shows = λ h. absurd (on h); least = λ o part s. part }
 
 -- ---- gap after gap
 pub shows_off_kept : (a : Geometry) (e : Edge) (l : Location) (m n : Matrix) → IsPartOf m n → ShowsOff a m e l → ShowsOff a n e l
@@ -150,3 +161,20 @@ gaps_more a b e stops j i p q y m n ei l ep eq gaps ey r all = All-same (λ c. S
 pub gap_grows : (a b : Geometry) (e : Edge) (p q y : Point) (m n : Matrix) → Contains (edges a) e → HasLength e → IsGap e (edges b) p q → y ≡ least_form (mediant p q) → IsRaisedTo (λ o. ShowsAt a b o e y) m n → Grows a b m n
 gap_grows a b e p q y m n own long gap ey r = grows_raised a b (λ o. ShowsAt a b o e y) m n r
     (λ va vb. gap_is_there a b va vb e own long p q y gap (subst (IsBetween e p q) (sym ey) (gap_has_mediant e (edges b) p q gap)))
+
+-- ---- the same off the second geometry's edges
+gaps_off_kept : (a b : Geometry) (e : Edge) (cs : List Piece) (m n : Matrix) → IsPartOf m n → All (λ c. ShowsGapOff a b m e c.lesser c.greater) cs → All (λ c. ShowsGapOff a b n e c.lesser c.greater) cs
+gaps_off_kept a b e cs m n part all = All-weaker (λ c. ShowsGapOff a b m e c.lesser c.greater) (λ c. ShowsGapOff a b n e c.lesser c.greater)
+    (λ c s. record { sample = s.sample; between = s.between; shows = λ h. shows_off_kept a e (mostly b s.sample) m n part (s.shows h) }) cs all
+
+pub gaps_off_more : (a b : Geometry) (e : Edge) (stops : List Point) (j i : ℕ) (p q y : Point) (m n : Matrix) → i ≡ j + 1 → i < length stops → p ≡ get_or stops j p → q ≡ get_or stops i q
+    → All (λ c. IsGap e (edges b) c.lesser c.greater) (stretches stops) → y ≡ least_form (mediant p q) → IsRaisedTo (λ o. ShowsOffAt a b o e y) m n
+    → All (λ c. ShowsGapOff a b m e c.lesser c.greater) (stretches (take i stops)) → All (λ c. ShowsGapOff a b n e c.lesser c.greater) (stretches (take (i + 1) stops))
+gaps_off_more a b e stops j i p q y m n ei l ep eq gaps ey r all = All-same (λ c. ShowsGapOff a b n e c.lesser c.greater) (stretches (take (i + 1) stops)) (stretches (take i stops) ++ record { lesser = p; greater = q } ∷ [])
+    (stretches_more stops j i p q ei l ep eq)
+    (All-push (λ c. ShowsGapOff a b n e c.lesser c.greater) (stretches (take i stops)) (record { lesser = p; greater = q }) (gaps_off_kept a b e (stretches (take i stops)) m n r.grown all)
+    (record { sample = y; between = subst (IsBetween e p q) (sym ey) (gap_has_mediant e (edges b) p q (gap_at e b stops j i p q ei l ep eq gaps)); shows = r.shows }))
+
+pub gap_off_grows : (a b : Geometry) (e : Edge) (p q y : Point) (m n : Matrix) → Contains (edges a) e → HasLength e → IsGap e (edges b) p q → y ≡ least_form (mediant p q) → IsRaisedTo (λ o. ShowsOffAt a b o e y) m n → Grows a b m n
+gap_off_grows a b e p q y m n own long gap ey r = grows_raised a b (λ o. ShowsOffAt a b o e y) m n r
+    (λ va vb. (gap_is_there a b va vb e own long p q y gap (subst (IsBetween e p q) (sym ey) (gap_has_mediant e (edges b) p q gap))).off)

@@ -6,3 +6,4 @@ pub mod EdgePoints
 pub mod Passes
 pub mod OffEdges
 pub mod ListedPositions
+pub mod Rest

@@ -54,6 +54,10 @@ ends_turned a b m t own part other = both_ends b a t other (own_kept a b m (tran
 pub ends_again : (a b : Geometry) (m s t : Matrix) → ShowsOwnEnds a b m → IsPartOf (transposed m) s → ShowsOwnEnds b a s → IsPartOf s t → ShowsEnds a b (transposed t)
 ends_again a b m s t own part other more = both_ends a b (transposed t) (own_kept a b m (transposed t) (part_turned (transposed m) t (part_through (transposed m) s t part more)) own) (own_kept b a s t more other)
 
+-- what the pass of the second's edges covers
+pub covered_turned : (a b : Geometry) (t : Matrix) → All (Covers b a t) (edges b) → All (Covers a b (transposed t)) (edges b)
+covered_turned a b t all = All-weaker (Covers b a t) (Covers a b (transposed t)) (covers_turned b a t).0 (edges b) all
+
 -- ---- the whole
 start_is_sound : (a b : Geometry) → IsSound a b of_exteriors
 start_is_sound a b Interior Interior = refl
@@ -74,7 +78,7 @@ pub passes_give : (a b : Geometry) (m s t n : Matrix) → IsValid a → IsValid 
     → Grows a b (transposed t) n → All (Covers a b n) (edges a)
     → n ≡ labelled_matrix a b
 passes_give a b m s t n va vb gm om gs os gt ct gn cn = covering_is_whole a b (valid_rings_are_closed a va) (valid_rings_are_closed b vb) n cn
-    (covers_kept a b (edges b) (transposed t) n gn.grown (All-weaker (Covers b a t) (Covers a b (transposed t)) (covers_turned b a t).0 (edges b) ct))
+    (covers_kept a b (edges b) (transposed t) n gn.grown (covered_turned a b t ct))
     (covered_kept a b (listed a) m n upto om.positions)
     (covered_kept a b (listed b) (transposed t) n gn.grown (All-weaker (CoversPosition b a t) (CoversPosition a b (transposed t)) (covers_turned b a t).1 (listed b) (covered_kept b a (listed b) s t gt.grown os.positions)))
     (still_shown of_exteriors n (part_through of_exteriors m n gm.grown upto) Exterior Exterior Two refl)

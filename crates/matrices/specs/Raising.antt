@@ -11,8 +11,10 @@ use Rattle.geometry_model.specs.declared.shapes.Kind.TheVariants as kinds
 use Rattle.geometry_model.specs.declared.point_sets.Location.{Location}
 use Rattle.geometry_model.specs.declared.point_sets.Location.TheVariants.{Interior, Boundary, Exterior}
 use Rattle.geometry_model.specs.declared.point_sets.Dimension.TheVariants.{Empty, Zero, Two}
-use Rattle.cell_laws.specs.Cells.{Shows, IsPartOf, IsSound, CoversPosition}
-use Rattle.cover_laws.specs.Covering.{ShowsOff}
+use Rattle.side_labels.specs.declared.sides.Sides.{Sides}
+use Rattle.gap_laws.specs.Gaps.{IsBetween, mostly}
+use Rattle.cell_laws.specs.Cells.{Shows, raised, IsPartOf, IsSound, CoversPosition}
+use Rattle.cover_laws.specs.Covering.{IsOffEdges, ShowsOff}
 
 -- the matrix that shows no more than that the exteriors share an area (06-103r4, 6.1.15.2)
 abbrev pub of_exteriors : Matrix
@@ -61,3 +63,17 @@ abbrev pub off_edges : Kind → Bool → Location
 off_edges kinds.Point odd = Exterior
 off_edges kinds.Line odd = Exterior
 off_edges kinds.Area odd = if odd then Interior else Exterior
+
+-- the matrix with the cells raised of two geometries' lower sides and of their upper ones (06-103r4, 6.1.15.2)
+abbrev pub with_sides : Sides → Sides → Matrix → Matrix
+with_sides s t m = raised (raised m s.lower t.lower Two) s.upper t.upper Two
+
+-- of a gap, by a point within it, the matrix shows what there is off the second geometry's edges
+abbrev pub ShowsOffAt : Geometry → Geometry → Matrix → Edge → Point → Type 0
+ShowsOffAt a b m e y = IsOffEdges b y → ShowsOff a m e (mostly b y)
+
+-- of a gap, by some point within it
+pub record ShowsGapOff (a b : Geometry) (m : Matrix) (e : Edge) (p q : Point) : Type 0 where
+  pub sample : Point
+  pub between : IsBetween e p q sample
+  pub shows : ShowsOffAt a b m e sample

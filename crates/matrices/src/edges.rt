@@ -13,7 +13,7 @@ ghost use Rattle.cover_laws.specs.Covering.{ShowsEnds};
 ghost use Rattle.matrices.specs.Raising.{Grows, IsOnBoth};
 
 use crate::fullness::{is_full_off, is_full_on, of_own_edges};
-use crate::gap_cells::raise_gaps;
+use crate::gap_cells::{raise_gaps, raise_gaps_off};
 use crate::matrix::Matrix;
 use crate::positions::raise_point;
 use edge_gaps::Gaps;
@@ -98,6 +98,54 @@ pub(crate) fn raise_edges(
             return Ok(());
         }
         raise_edge(first, second, edge, &mut gaps, matrix)?;
+    }
+    Ok(())
+}
+
+/// Shows what an edge of the first geometry shows off the second's edges. It may fail for want of memory.
+fn raise_edge_off(
+    first: &Valid,
+    second: &Valid,
+    edge: &Segment,
+    gaps: &mut Gaps,
+    matrix: &mut Matrix,
+) -> Result<(), AllocError>
+    requires first_valid { IsValid first.now }
+    requires second_valid { IsValid second.now }
+    requires own { Contains (edges first.now) edge.now }
+    requires length { HasLength edge.now }
+    requires ends { ShowsEnds first.now second.now matrix.old }
+    requires covered { All (Covers first.now second.now matrix.old) (edges second.now) }
+    ensures grows { OnOk result (Grows first.now second.now matrix.old matrix.new) }
+    ensures covers { OnOk result (Covers first.now second.now matrix.new edge.now) }
+{
+    gaps.find(edge, second.segments(), second.boxes())?;
+    raise_gaps_off(first, second, edge, gaps.stops(), matrix);
+    Ok(())
+}
+
+/// Shows what the edges of the first geometry show where the matrix covers those of the second: what they share is shown then,
+/// and only gaps off the second's edges can show more. It ends where nothing more can come, and may fail for want of memory.
+pub(crate) fn raise_edges_off(
+    alloc: Global,
+    first: &Valid,
+    second: &Valid,
+    matrix: &mut Matrix,
+) -> Result<(), AllocError>
+    requires first_valid { IsValid first.now }
+    requires second_valid { IsValid second.now }
+    requires lengths { All HasLength (edges first.now) }
+    requires ends { ShowsEnds first.now second.now matrix.old }
+    requires covered { All (Covers first.now second.now matrix.old) (edges second.now) }
+    ensures grows { OnOk result (Grows first.now second.now matrix.old matrix.new) }
+    ensures covers { OnOk result (All (Covers first.now second.now matrix.new) (edges first.now)) }
+{
+    let mut gaps = Gaps::new(alloc);
+    for edge in first.segments() {
+        if is_full_off(first, second, matrix) {
+            return Ok(());
+        }
+        raise_edge_off(first, second, edge, &mut gaps, matrix)?;
     }
     Ok(())
 }

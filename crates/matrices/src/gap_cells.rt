@@ -1,20 +1,22 @@
 //! What a gap of an edge shows of a matrix.
 
-ghost use Rattle.std.specs.Prelude.{◌≡◌, ◌↔◌, IsTrue, IsNone, IfSome, All, Contains, pos, ◌≤ℤ◌};
+ghost use Rattle.std.specs.Prelude.{◌≡◌, ◌↔◌, IsTrue, All, Contains, pos, ◌≤ℤ◌};
 ghost use Rattle.geometry_model.specs.Geometries.{edges};
 ghost use Rattle.geometry_model.specs.Pieces.{stretches};
-ghost use Rattle.gap_laws.specs.Gaps.{IsGap, mostly};
-ghost use Rattle.cover_laws.specs.Covering.{IsOffEdges, ShowsOff, ShowsOn, ShowsAt, ShowsGap};
+ghost use Rattle.edge_boxes.specs.EdgeCrossings.{AreCrossings};
+ghost use Rattle.gap_laws.specs.Gaps.{IsGap};
+ghost use Rattle.cover_laws.specs.Covering.{ShowsOff, ShowsAt, ShowsGap};
 ghost use Rattle.validity.specs.ValidGeometries.{HasLength};
 ghost use Rattle.fraction.specs.Ranges.{meeting_limit};
-ghost use Rattle.matrices.specs.Raising.{Grows, IsRaisedTo, off_edges};
+ghost use Rattle.matrices.specs.Raising.{Grows, IsRaisedTo, ShowsOffAt, ShowsGapOff, with_sides, off_edges};
 
 use crate::fullness::of_own_edges;
 use crate::matrix::Matrix;
+use edge_boxes::Crossings;
 use fraction::RatPoint;
 use geometry_model::{Dimension, Kind, Location};
 use orient::Segment;
-use side_labels::{above, below};
+use side_labels::{Sides, sides_at, sides_by};
 use validity::Valid;
 
 /// Whether both ends of an edge have one x.
@@ -24,16 +26,11 @@ fn is_upright(edge: &Segment) -> bool
     edge.start().x() == edge.end().x()
 }
 
-/// Where a point off a geometry's edges stands in it, but for listed positions; None where an edge holds the point.
-fn part_off_edges(valid: &Valid, p: &RatPoint) -> Option<Location>
-    ensures on { IsNone result → IsOffEdges valid.now p.now → ⊥ }
-    ensures off { IfSome result (λ part. IsOffEdges valid.now p.now × (part ≡ mostly valid.now p.now)) }
+/// How a point lies to the edges of a geometry.
+fn crossings(valid: &Valid, p: &RatPoint) -> Crossings
+    ensures { AreCrossings result (edges valid.now) p.now }
 {
-    let found = valid.boxes().crossings(valid.segments(), p);
-    if found.on {
-        return None;
-    }
-    Some(off_edges(valid.kind(), found.odd_above))
+    valid.boxes().crossings(valid.segments(), p)
 }
 
 /// Where a point off the edges of a geometry of this kind stands in it, by the parity of the edges above the point.
@@ -68,31 +65,54 @@ fn raise_off(first: &Valid, edge: &Segment, part: Location, matrix: &mut Matrix)
     }
 }
 
-/// Shows what a gap of an edge of the first geometry shows that an edge of the second shares: the gap itself and, where it isn't
-/// upright, its sides as they stand at a point of it in both geometries (OGC 06-103r4, 6.1.15.2).
-fn raise_on(first: &Valid, second: &Valid, edge: &Segment, p: &RatPoint, matrix: &mut Matrix)
-    ensures { IsRaisedTo (λ m. ShowsOn first.now second.now m edge.now p.now) matrix.old matrix.new }
+/// Shows that the lower sides of both geometries share an area, and the upper ones (OGC 06-103r4, 6.1.15.2).
+fn raise_sides(first: &Sides, second: &Sides, matrix: &mut Matrix)
+    ensures { matrix.new ≡ with_sides first.now second.now matrix.old }
 {
+    matrix.raise(first.lower, second.lower, Dimension::Two);
+    matrix.raise(first.upper, second.upper, Dimension::Two);
+}
+
+/// Shows what the point of a gap shows at which the gap is asked for. Off the second geometry's edges `raise_off` tells it. A gap
+/// that one of them shares shows itself and, where it isn't upright, its sides as they stand at the point in both geometries
+/// (OGC 06-103r4, 6.1.15.2).
+fn raise_at(first: &Valid, second: &Valid, edge: &Segment, p: &RatPoint, matrix: &mut Matrix)
+    ensures { IsRaisedTo (λ m. ShowsAt first.now second.now m edge.now p.now) matrix.old matrix.new }
+{
+    let found = crossings(second, p);
+    if !found.on {
+        raise_off(
+            first,
+            edge,
+            off_edges(second.kind(), found.odd_above),
+            matrix,
+        );
+        return;
+    }
     matrix.raise(
         of_own_edges(first.kind()),
         of_own_edges(second.kind()),
         Dimension::One,
     );
-    if is_upright(edge) {
-        return;
+    if !is_upright(edge) {
+        raise_sides(&sides_at(first, p), &sides_by(second, &found), matrix);
     }
-    matrix.raise(below(first, p), below(second, p), Dimension::Two);
-    matrix.raise(above(first, p), above(second, p), Dimension::Two);
 }
 
-/// Shows what the point of a gap shows at which the gap is asked for.
-fn raise_at(first: &Valid, second: &Valid, edge: &Segment, p: &RatPoint, matrix: &mut Matrix)
-    ensures { IsRaisedTo (λ m. ShowsAt first.now second.now m edge.now p.now) matrix.old matrix.new }
+/// Shows what the point of a gap shows, unless an edge of the second geometry holds it.
+fn raise_off_at(first: &Valid, second: &Valid, edge: &Segment, p: &RatPoint, matrix: &mut Matrix)
+    ensures { IsRaisedTo (λ m. ShowsOffAt first.now second.now m edge.now p.now) matrix.old matrix.new }
 {
-    match part_off_edges(second, p) {
-        Some(part) => raise_off(first, edge, part, matrix),
-        None => raise_on(first, second, edge, p, matrix),
+    let found = crossings(second, p);
+    if found.on {
+        return;
     }
+    raise_off(
+        first,
+        edge,
+        off_edges(second.kind(), found.odd_above),
+        matrix,
+    );
 }
 
 /// Shows what the gaps between neighbouring stops of an edge of the first geometry show.
@@ -114,5 +134,27 @@ pub(crate) fn raise_gaps(
     for place in 1..stops.len() {
         let sample = RatPoint::mediant(&stops[place - 1], &stops[place]);
         raise_at(first, second, edge, &sample, matrix);
+    }
+}
+
+/// Shows what those of the gaps between neighbouring stops of an edge of the first geometry show that lie off the second's edges.
+pub(crate) fn raise_gaps_off(
+    first: &Valid,
+    second: &Valid,
+    edge: &Segment,
+    stops: &[RatPoint],
+    matrix: &mut Matrix,
+)
+    requires own { Contains (edges first.now) edge.now }
+    requires length { HasLength edge.now }
+    requires gaps { All (λ c. IsGap edge.now (edges second.now) c.lesser c.greater) (stretches stops.now) }
+    requires limits { All (λ p. p.W ≤ℤ pos meeting_limit) stops.now }
+    ensures grows { Grows first.now second.now matrix.old matrix.new }
+    ensures shows { All (λ c. ShowsGapOff first.now second.now matrix.new edge.now c.lesser c.greater)
+        (stretches stops.now) }
+{
+    for place in 1..stops.len() {
+        let middle = RatPoint::mediant(&stops[place - 1], &stops[place]);
+        raise_off_at(first, second, edge, &middle, matrix);
     }
 }

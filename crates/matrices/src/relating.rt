@@ -4,7 +4,7 @@ ghost use Rattle.std.specs.Prelude.{◌≡◌, IfOk};
 ghost use Rattle.geometry_model.specs.Dimensions.{IsMatrix};
 ghost use Rattle.geometry_model.specs.Labels.{labelled_matrix};
 
-use crate::edges::raise_edges;
+use crate::edges::{raise_edges, raise_edges_off};
 use crate::matrix::Matrix;
 use crate::positions::raise_own_ends;
 use std::alloc::{AllocError, Global};
@@ -21,6 +21,6 @@ pub fn find_matrix(alloc: Global, first: &Valid, second: &Valid) -> Result<Matri
     raise_own_ends(second, first, &mut turned);
     raise_edges(alloc, second, first, &mut turned)?;
     matrix = turned.transposed();
-    raise_edges(alloc, first, second, &mut matrix)?;
+    raise_edges_off(alloc, first, second, &mut matrix)?;
     Ok(matrix)
 }

@@ -1,5 +1,5 @@
 -- The lines of a geometry of lines.
-use Rattle.std.proofs.Common.{◌≡◌, refl, sym, subst, List}
+use Rattle.std.proofs.Common.{◌≡◌, refl}
 use Rattle.geometry_model.specs.Geometries.{Geometry, kind, lines}
 use Rattle.geometry_model.specs.declared.shapes.Kind.TheVariants as kinds
 use Rattle.validity.specs.OddEnds.{ended_lines}

@@ -11,7 +11,7 @@ ghost use Rattle.side_labels.specs.Samples.{HasSample};
 
 use crate::label_lists::{Label, Labels, SideLabels};
 use crate::location::locate;
-use crate::sides::{above, below};
+use crate::sides::sides_at;
 use fraction::{GridPoint, RatPoint};
 use noding::node;
 use orient::Segment;
@@ -65,14 +65,16 @@ fn side_labels(first: &Valid, second: &Valid, piece: &Piece) -> Option<SideLabel
         return None;
     }
     let p = sample_of(piece);
+    let of_first = sides_at(first, &p);
+    let of_second = sides_at(second, &p);
     Some(SideLabels {
         lower: Label {
-            first: below(first, &p),
-            second: below(second, &p),
+            first: of_first.lower,
+            second: of_second.lower,
         },
         upper: Label {
-            first: above(first, &p),
-            second: above(second, &p),
+            first: of_first.upper,
+            second: of_second.upper,
         },
     })
 }

@@ -10,4 +10,4 @@ pub use geometry_model::Location;
 pub use label_lists::{Label, Labels, SideLabels};
 pub use labelling::labels;
 pub use location::locate;
-pub use sides::{above, below};
+pub use sides::{Sides, sides_at, sides_by};

@@ -1,6 +1,7 @@
 //! Where the two sides of a piece stand in a geometry, asked at a point within it.
 
 ghost use Rattle.std.specs.Prelude.{◌≡◌, if◌then◌else◌};
+ghost use Rattle.geometry_model.specs.Points.{Point};
 ghost use Rattle.geometry_model.specs.Geometries.{edges};
 ghost use Rattle.geometry_model.specs.Labels as spec;
 ghost use Rattle.edge_boxes.specs.EdgeCrossings.{AreCrossings};
@@ -10,26 +11,48 @@ use fraction::RatPoint;
 use geometry_model::{Kind, Location};
 use validity::Valid;
 
-/// Where what lies just below a point within a piece that isn't upright stands in a geometry: in the interior of an area
-/// where an odd number of its edges are at or above the point, else in the exterior (OGC 06-103r4, 6.1.15.2; sides: this
-/// project's choice). It takes no memory.
-pub fn below(valid: &Valid, p: &RatPoint) -> Location
-    ensures { result ≡ spec.below valid.now p.now }
+/// Where what lies just below a piece that isn't upright stands in a geometry, and what lies just above it.
+#[derive(Clone, Copy, Debug, PartialEq, Eq)]
+pub struct Sides {
+    /// Where what lies just below stands.
+    pub lower: Location,
+    /// Where what lies just above stands.
+    pub upper: Location,
+}
+
+/// The sides of what is no area.
+const EXTERIOR: Sides = Sides {
+    lower: Location::Exterior,
+    upper: Location::Exterior,
+};
+
+/// Where the two sides of a piece that isn't upright stand in a geometry, by a point within the piece: in the interior of an
+/// area where an odd number of its edges are, for the lower side, at or above the point, and for the upper one strictly above
+/// it, else in the exterior (OGC 06-103r4, 6.1.15.2; sides: this project's choice). It takes no memory, and looks for the
+/// edges of an area once.
+pub fn sides_at(valid: &Valid, p: &RatPoint) -> Sides
+    ensures lower { result.lower ≡ spec.below valid.now p.now }
+    ensures upper { result.upper ≡ spec.above valid.now p.now }
 {
     match valid.kind() {
-        Kind::Area => if_inside(crossings(valid, p).odd_at_or_above),
-        Kind::Point | Kind::Line => Location::Exterior,
+        Kind::Area => sides_by(valid, &crossings(valid, p)),
+        Kind::Point | Kind::Line => EXTERIOR,
     }
 }
 
-/// Where what lies just above such a point stands: in the interior of an area where an odd number of its edges are strictly
-/// above the point, else in the exterior (OGC 06-103r4, 6.1.15.2; sides: this project's choice). It takes no memory.
-pub fn above(valid: &Valid, p: &RatPoint) -> Location
-    ensures { result ≡ spec.above valid.now p.now }
+/// The same, where it is known how the point lies to the geometry's edges.
+pub fn sides_by(valid: &Valid, found: &Crossings) -> Sides
+    ensures lower { (p : Point) → AreCrossings found.now (edges valid.now) p
+        → result.lower ≡ spec.below valid.now p }
+    ensures upper { (p : Point) → AreCrossings found.now (edges valid.now) p
+        → result.upper ≡ spec.above valid.now p }
 {
     match valid.kind() {
-        Kind::Area => if_inside(crossings(valid, p).odd_above),
-        Kind::Point | Kind::Line => Location::Exterior,
+        Kind::Area => Sides {
+            lower: if_inside(found.odd_at_or_above),
+            upper: if_inside(found.odd_above),
+        },
+        Kind::Point | Kind::Line => EXTERIOR,
     }
 }
 
