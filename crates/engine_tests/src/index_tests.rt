@@ -65,46 +65,37 @@ fn run_starved(
     }
 }
 
-/// A probe is refused with its search, which is made once the header was put.
+/// A probe is refused with its search, which is made once the header was put; rows are put as they are found, those before
+/// a search that is refused among them; a number is put once all rows were counted; a scan asks no index. The work
+/// answered is the number of matrices.
 #[test]
-fn probes_search_their_index(rt: HostRuntime) -> Result<(), Fail> {
-    let query =
-        "SELECT id FROM big WHERE ST_Intersects(geom, ST_GeomFromText('POLYGON((4 0,8 0,8 4,4 4,4 0))'))";
-    let mut sink = MemorySink::new(rt.alloc());
-    let answer = run_starved(rt.alloc(), query, &mut sink)?;
-    assert!(rt; answer == Err(Fault::Memory) && sink.bytes() == b"id\n".as_slice());
-    Ok(())
-}
-
-/// Each row is put as it is found: those before a search that is refused have been put.
-#[test]
-fn rows_are_put_as_they_come(rt: HostRuntime) -> Result<(), Fail> {
-    let query = "SELECT a.id, b.id FROM big a JOIN big b ON ST_Equals(a.geom, b.geom)";
-    let mut sink = MemorySink::new(rt.alloc());
-    let answer = run_starved(rt.alloc(), query, &mut sink)?;
-    assert!(rt;
-        answer == Err(Fault::Memory) && sink.bytes() == b"a.id,b.id\n1,1\n2,2\n3,3\n".as_slice()
-    );
-    Ok(())
-}
-
-/// A number is put once all rows were counted.
-#[test]
-fn a_number_is_put_at_the_end(rt: HostRuntime) -> Result<(), Fail> {
-    let query = "SELECT COUNT(*) FROM big a JOIN big b ON ST_Equals(a.geom, b.geom)";
-    let mut sink = MemorySink::new(rt.alloc());
-    let answer = run_starved(rt.alloc(), query, &mut sink)?;
-    assert!(rt; answer == Err(Fault::Memory) && sink.bytes().is_empty());
-    Ok(())
-}
-
-/// A scan asks no index; the work answered is the number of matrices.
-#[test]
-fn scans_ask_no_index(rt: HostRuntime) -> Result<(), Fail> {
-    let query =
-        "SELECT id FROM big WHERE id > 6 OR ST_Intersects(geom, ST_GeomFromText('POLYGON((0 0,4 0,4 4,0 4,0 0))'))";
-    let mut sink = MemorySink::new(rt.alloc());
-    let answer = run_starved(rt.alloc(), query, &mut sink)?;
-    assert!(rt; answer == Ok(7) && sink.bytes() == b"id\n1\n2\n3\n4\n7\n".as_slice());
+fn plans_meet_their_index(rt: HostRuntime) -> Result<(), Fail> {
+    for (query, wanted, text) in [
+        (
+            "SELECT id FROM big WHERE ST_Intersects(geom, ST_GeomFromText('POLYGON((4 0,8 0,8 4,4 4,4 0))'))",
+            Err(Fault::Memory),
+            "id\n",
+        ),
+        (
+            "SELECT a.id, b.id FROM big a JOIN big b ON ST_Equals(a.geom, b.geom)",
+            Err(Fault::Memory),
+            "a.id,b.id\n1,1\n2,2\n3,3\n",
+        ),
+        (
+            "SELECT COUNT(*) FROM big a JOIN big b ON ST_Equals(a.geom, b.geom)",
+            Err(Fault::Memory),
+            "",
+        ),
+        (
+            "SELECT id FROM big \
+             WHERE id > 6 OR ST_Intersects(geom, ST_GeomFromText('POLYGON((0 0,4 0,4 4,0 4,0 0))'))",
+            Ok(7),
+            "id\n1\n2\n3\n4\n7\n",
+        ),
+    ] {
+        let mut sink = MemorySink::new(rt.alloc());
+        let answer = run_starved(rt.alloc(), query, &mut sink)?;
+        assert!(rt; answer == wanted && sink.bytes() == text.as_bytes());
+    }
     Ok(())
 }

@@ -1,10 +1,9 @@
 //! The land register of examples/parcels: the texts of its files, and each query of its README with its answer.
 
+use crate::commands::{Printed, check_order, run_order};
 use command_line::Order;
-use engine::serve;
-use std::alloc::{AllocError, Global};
+use std::alloc::Global;
 use std::test::Fail;
-use wkt::MemorySink;
 
 const SCHEMA: &str = "\
 -- The land register of a small town: its parcels and who owns them, and what stands, runs and lies on them.
@@ -129,50 +128,50 @@ fn text_at(path: &str) -> Option<&'static str> {
     None
 }
 
-// The order to answer a query over the register.
-fn run_order(alloc: Global, query: &str) -> Result<Order, AllocError> {
-    Ok(Order::Run {
-        schema: String::from_str(alloc, "s")?,
-        directory: String::from_str(alloc, "d")?,
-        query: String::from_str(alloc, query)?,
-    })
+// What an order prints over the register.
+fn printed(alloc: Global, order: &Order) -> Printed {
+    Printed::of(
+        alloc,
+        order,
+        |path: &str| text_at(path).map(|text| text.as_bytes()),
+    )
 }
 
-// Whether a command over the register prints this on standard output, nothing on standard error, and ends with 0.
-fn prints(rt: &HostRuntime, order: &Order, answer: &str) -> bool {
-    let alloc = rt.alloc();
-    let mut out = MemorySink::new(alloc);
-    let mut err = MemorySink::new(alloc);
-    let opener = |path: &str| text_at(path).map(|text| text.as_bytes());
-    let status = serve(alloc, order, opener, &mut out, &mut err);
-    out.bytes() == answer.as_bytes() && err.bytes().is_empty() && status == 0
+// Whether each query has the answer beside it.
+fn are_answered(alloc: Global, rows: &[(&str, &str)]) -> Result<bool, Fail> {
+    for (query, answer) in rows {
+        if !printed(alloc, &run_order(alloc, query)?).is(answer, "", 0) {
+            return Ok(false);
+        }
+    }
+    Ok(true)
 }
 
 #[test]
 fn the_tables_are_checked(rt: HostRuntime) -> Result<(), Fail> {
-    let order = Order::Check {
-        schema: String::from_str(rt.alloc(), "s")?,
-        directory: String::from_str(rt.alloc(), "d")?,
-    };
+    let order = check_order(rt.alloc())?;
     let rows = "owner 5\nparcel 13\nbuilding 6\nwater 2\npath 4\nwell 8\n";
-    assert!(rt; prints(&rt, &order, rows));
+    assert!(rt; printed(rt.alloc(), &order).is(rows, "", 0));
     Ok(())
 }
 
 #[test]
 fn questions_about_one_table(rt: HostRuntime) -> Result<(), Fail> {
-    for (query, answer) in [
+    let rows = [
         (
             "SELECT id, name FROM parcel WHERE ST_Intersects(geom, ST_GeomFromText('POINT(6 2)'))",
             "id,name\n101,Mill\n102,Quay House\n",
         ),
         (
-            "SELECT id, name FROM parcel WHERE ST_Within(geom, ST_GeomFromText('POLYGON((8 3,21 3,21 15,8 15,8 3))'))",
+            "SELECT id, name FROM parcel \
+             WHERE ST_Within(geom, ST_GeomFromText('POLYGON((8 3,21 3,21 15,8 15,8 3))'))",
             "id,name\n106,Common\n107,Middle Meadow\n108,Boatyard\n110,Hill Field\n",
         ),
         (
-            "SELECT id, name FROM parcel WHERE NOT ST_Within(geom, ST_GeomFromText('POLYGON((8 3,21 3,21 15,8 15,8 3))'))",
-            "id,name\n101,Mill\n102,Quay House\n103,Long Garden\n104,Church Green\n105,Churchyard\n109,Old Claim\n112,Bleach Green\n113,Glebe\n",
+            "SELECT id, name FROM parcel \
+             WHERE NOT ST_Within(geom, ST_GeomFromText('POLYGON((8 3,21 3,21 15,8 15,8 3))'))",
+            "id,name\n101,Mill\n102,Quay House\n103,Long Garden\n104,Church Green\n105,Churchyard\n\
+             109,Old Claim\n112,Bleach Green\n113,Glebe\n",
         ),
         (
             "SELECT id, name FROM parcel WHERE geom IS NULL",
@@ -186,27 +185,27 @@ fn questions_about_one_table(rt: HostRuntime) -> Result<(), Fail> {
             "SELECT * FROM owner WHERE name = 'O''Connor' OR since < 1970",
             "id,name,since\n1,Alder family,1962\n3,O'Connor,1988\n",
         ),
-    ] {
-        let order = run_order(rt.alloc(), query)?;
-        assert!(rt; prints(&rt, &order, answer));
-    }
+    ];
+    assert!(rt; are_answered(rt.alloc(), &rows)?);
     Ok(())
 }
 
 #[test]
 fn questions_about_two_tables(rt: HostRuntime) -> Result<(), Fail> {
-    for (query, answer) in [
+    let rows = [
         (
             "SELECT b.id, b.name FROM parcel a JOIN parcel b ON ST_Touches(a.geom, b.geom) WHERE a.id = 103",
             "b.id,b.name\n102,Quay House\n108,Boatyard\n",
         ),
         (
-            "SELECT b.name FROM parcel a JOIN parcel b ON ST_Relate(a.geom, b.geom, 'F***1****') WHERE a.name = 'Middle Meadow'",
+            "SELECT b.name FROM parcel a JOIN parcel b ON ST_Relate(a.geom, b.geom, 'F***1****') \
+             WHERE a.name = 'Middle Meadow'",
             "b.name\nCommon\nHill Field\n",
         ),
         (
             "SELECT b.purpose, p.id, p.name FROM building b JOIN parcel p ON ST_Within(b.geom, p.geom)",
-            "b.purpose,p.id,p.name\nmill,101,Mill\ndwelling,102,Quay House\nchapel,105,Churchyard\nchapel,113,Glebe\n",
+            "b.purpose,p.id,p.name\nmill,101,Mill\ndwelling,102,Quay House\nchapel,105,Churchyard\n\
+             chapel,113,Glebe\n",
         ),
         (
             "SELECT b.purpose, p.id, p.name FROM building b JOIN parcel p ON ST_Overlaps(b.geom, p.geom)",
@@ -217,60 +216,62 @@ fn questions_about_two_tables(rt: HostRuntime) -> Result<(), Fail> {
             "a.name,b.name\nMill,Old Claim\nQuay House,Old Claim\nChurch Green,Old Claim\n",
         ),
         (
-            "SELECT a.id, a.name, b.id, b.name FROM parcel a, parcel b WHERE a.id < b.id AND ST_Equals(a.geom, b.geom)",
+            "SELECT a.id, a.name, b.id, b.name FROM parcel a, parcel b \
+             WHERE a.id < b.id AND ST_Equals(a.geom, b.geom)",
             "a.id,a.name,b.id,b.name\n105,Churchyard,113,Glebe\n",
         ),
         (
             "SELECT w.name, p.name FROM path w JOIN parcel p ON ST_Crosses(w.geom, p.geom)",
-            "w.name,p.name\nMill Lane,Old Claim\nChurch Walk,Church Green\nChurch Walk,Churchyard\nChurch Walk,Glebe\nRidge Path,Common\nRidge Path,Middle Meadow\nRidge Path,Hill Field\n",
+            "w.name,p.name\nMill Lane,Old Claim\nChurch Walk,Church Green\nChurch Walk,Churchyard\n\
+             Church Walk,Glebe\nRidge Path,Common\nRidge Path,Middle Meadow\nRidge Path,Hill Field\n",
         ),
         (
-            "SELECT p.name, o.name FROM parcel p JOIN owner o ON p.owner = o.id WHERE ST_Intersects(p.geom, ST_GeomFromText('LINESTRING(-1 5,11 5,19 3)'))",
+            "SELECT p.name, o.name FROM parcel p JOIN owner o ON p.owner = o.id \
+             WHERE ST_Intersects(p.geom, ST_GeomFromText('LINESTRING(-1 5,11 5,19 3)'))",
             "p.name,o.name\nBoatyard,Dale Carpentry\nOld Claim,Alder family\n",
         ),
         (
-            "SELECT b.purpose, p.name FROM building b JOIN parcel p ON ST_Within(b.geom, p.geom) WHERE b.built > 1900",
+            "SELECT b.purpose, p.name FROM building b JOIN parcel p ON ST_Within(b.geom, p.geom) \
+             WHERE b.built > 1900",
             "b.purpose,p.name\ndwelling,Quay House\n",
         ),
-    ] {
-        let order = run_order(rt.alloc(), query)?;
-        assert!(rt; prints(&rt, &order, answer));
-    }
+    ];
+    assert!(rt; are_answered(rt.alloc(), &rows)?);
     Ok(())
 }
 
 #[test]
 fn counts_and_first_rows(rt: HostRuntime) -> Result<(), Fail> {
-    for (query, answer) in [
+    let rows = [
         (
             "SELECT COUNT(*) FROM well w JOIN parcel p ON ST_Touches(w.geom, p.geom)",
             "COUNT(*)\n7\n",
         ),
         (
             "SELECT id, ST_AsText(geom) FROM parcel LIMIT 4",
-            "id,ST_AsText(geom)\n101,\"POLYGON((0 0,6 0,6 4,0 4,0 0))\"\n102,\"POLYGON((6 0,10 0,10 4,6 4,6 0))\"\n103,\"POLYGON((10 0,14 0,14 4,10 4,10 0))\"\n104,\"POLYGON((0 6,8 6,8 14,0 14,0 6),(2 8,6 8,6 12,2 12,2 8))\"\n",
+            "id,ST_AsText(geom)\n101,\"POLYGON((0 0,6 0,6 4,0 4,0 0))\"\n\
+             102,\"POLYGON((6 0,10 0,10 4,6 4,6 0))\"\n103,\"POLYGON((10 0,14 0,14 4,10 4,10 0))\"\n\
+             104,\"POLYGON((0 6,8 6,8 14,0 14,0 6),(2 8,6 8,6 12,2 12,2 8))\"\n",
         ),
-    ] {
-        let order = run_order(rt.alloc(), query)?;
-        assert!(rt; prints(&rt, &order, answer));
-    }
+    ];
+    assert!(rt; are_answered(rt.alloc(), &rows)?);
     Ok(())
 }
 
 #[test]
 fn plans_are_told(rt: HostRuntime) -> Result<(), Fail> {
-    for (query, answer) in [
+    let rows = [
         (
-            "EXPLAIN SELECT b.purpose, p.name FROM building b JOIN parcel p ON ST_Within(b.geom, p.geom) WHERE b.built > 1900",
+            "EXPLAIN SELECT b.purpose, p.name FROM building b JOIN parcel p ON ST_Within(b.geom, p.geom) \
+             WHERE b.built > 1900",
             "cost 36\nouter b scan\ninner p probe 1\nfilter 2 1\n",
         ),
         (
-            "EXPLAIN ANALYZE SELECT b.purpose, p.name FROM building b JOIN parcel p ON ST_Within(b.geom, p.geom) WHERE b.built > 1900",
+            "EXPLAIN ANALYZE SELECT b.purpose, p.name FROM building b \
+             JOIN parcel p ON ST_Within(b.geom, p.geom) WHERE b.built > 1900",
             "cost 36\nouter b scan\ninner p probe 1\nfilter 2 1\nwork 6\n",
         ),
-    ] {
-        let order = run_order(rt.alloc(), query)?;
-        assert!(rt; prints(&rt, &order, answer));
-    }
+    ];
+    assert!(rt; are_answered(rt.alloc(), &rows)?);
     Ok(())
 }

@@ -1,11 +1,9 @@
 //! Queries with geometries over memory: the rows that they print, their plans and their work.
 
-use crate::tests::{Printed, run_order};
+use crate::commands::{Printed, check_order, run_order};
 use command_line::Order;
-use engine::serve;
 use std::alloc::{AllocError, Global};
 use std::test::Fail;
-use wkt::MemorySink;
 
 // What `$S` stands for in a query.
 pub(crate) const SQUARE: &str = "ST_GeomFromText('POLYGON((0 0,4 0,4 4,0 4,0 0))')";
@@ -92,22 +90,27 @@ fn keys_between(alloc: Global, first: u32, last: u32) -> Result<String, AllocErr
     Ok(text)
 }
 
-// Does what an order says over some files.
-fn serve_over<'a>(rt: &HostRuntime, files: &Files<'a>, order: &Order) -> Printed {
-    let alloc = rt.alloc();
+// What an order prints over some files.
+fn printed_over<'a>(alloc: Global, files: &Files<'a>, order: &Order) -> Printed {
     let files = *files;
-    let mut out = MemorySink::new(alloc);
-    let mut err = MemorySink::new(alloc);
-    let opener = move |path: &str| text_at(files, path);
-    let status = serve(alloc, order, opener, &mut out, &mut err);
-    Printed { out, err, status }
+    Printed::of(alloc, order, move |path: &str| text_at(files, path))
 }
 
 // Runs a query, in which `$S` stands for the square, over some files.
-fn run_over<'a>(rt: &HostRuntime, files: &Files<'a>, query: &str) -> Result<Printed, Fail> {
-    let whole = query.replace(rt.alloc(), "$S", SQUARE)?;
-    let order = run_order(rt.alloc(), whole.as_str())?;
-    Ok(serve_over(rt, files, &order))
+fn run_over<'a>(alloc: Global, files: &Files<'a>, query: &str) -> Result<Printed, Fail> {
+    let whole = query.replace(alloc, "$S", SQUARE)?;
+    let order = run_order(alloc, whole.as_str())?;
+    Ok(printed_over(alloc, files, &order))
+}
+
+// Whether each query prints the text beside it over some files.
+fn are_answered<'a>(alloc: Global, files: &Files<'a>, rows: &[(&str, &str)]) -> Result<bool, Fail> {
+    for (query, out) in rows {
+        if !run_over(alloc, files, query)?.is(out, "", 0) {
+            return Ok(false);
+        }
+    }
+    Ok(true)
 }
 
 // Files without tables.
@@ -126,7 +129,7 @@ fn files_of<'a>(schema: &'a str) -> Files<'a> {
 fn geometries_stand_in_rows(rt: HostRuntime) -> Result<(), Fail> {
     let mut files = files_of(MIXED_SCHEMA);
     files.mixed = MIXED;
-    for (query, out) in [
+    let rows = [
         ("SELECT id FROM t WHERE NOT ST_Within(geom, $S)", "id\n3\n"),
         (
             "SELECT id FROM t WHERE NOT ST_Within(geom, $S) OR geom IS NULL",
@@ -137,9 +140,8 @@ fn geometries_stand_in_rows(rt: HostRuntime) -> Result<(), Fail> {
             "SELECT * FROM t",
             "id,pop,geom\n1,2,POINT(1 1)\n2,7,\n3,9,POINT(9 9)\n",
         ),
-    ] {
-        assert!(rt; run_over(&rt, &files, query)?.is(out, "", 0));
-    }
+    ];
+    assert!(rt; are_answered(rt.alloc(), &files, &rows)?);
     Ok(())
 }
 
@@ -150,7 +152,7 @@ fn points_are_found(rt: HostRuntime) -> Result<(), Fail> {
     let mut files = files_of(POINTS_SCHEMA);
     files.points = points.as_str();
     let apart = keys_between(rt.alloc(), 5, 100)?;
-    for (query, out) in [
+    let rows = [
         (
             "SELECT id FROM big WHERE ST_Intersects(geom, $S)",
             "id\n1\n2\n3\n4\n",
@@ -173,9 +175,8 @@ fn points_are_found(rt: HostRuntime) -> Result<(), Fail> {
         ),
         ("SELECT id FROM big LIMIT 0", "id\n"),
         ("SELECT COUNT(*) FROM big LIMIT 0", "COUNT(*)\n"),
-    ] {
-        assert!(rt; run_over(&rt, &files, query)?.is(out, "", 0));
-    }
+    ];
+    assert!(rt; are_answered(rt.alloc(), &files, &rows)?);
     Ok(())
 }
 
@@ -185,7 +186,7 @@ fn plans_are_told(rt: HostRuntime) -> Result<(), Fail> {
     let points = points_up_to(rt.alloc(), 100)?;
     let mut files = files_of(POINTS_SCHEMA);
     files.points = points.as_str();
-    for (query, out) in [
+    let rows = [
         (
             "EXPLAIN SELECT id FROM big WHERE ST_Intersects(geom, $S)",
             "cost 14\nouter big probe 1\nfilter 1\n",
@@ -222,9 +223,8 @@ fn plans_are_told(rt: HostRuntime) -> Result<(), Fail> {
             "EXPLAIN ANALYZE SELECT COUNT(*) FROM big WHERE ST_Intersects(geom, $S)",
             "cost 14\nouter big probe 1\nfilter 1\ncount\nwork 4\n",
         ),
-    ] {
-        assert!(rt; run_over(&rt, &files, query)?.is(out, "", 0));
-    }
+    ];
+    assert!(rt; are_answered(rt.alloc(), &files, &rows)?);
     Ok(())
 }
 
@@ -233,7 +233,7 @@ fn plans_are_told(rt: HostRuntime) -> Result<(), Fail> {
 fn squares_touch(rt: HostRuntime) -> Result<(), Fail> {
     let mut files = files_of(SQUARES_SCHEMA);
     files.squares = SQUARES;
-    for (query, out) in [
+    let rows = [
         (
             "SELECT a.id, b.id FROM sq a, sq b WHERE ST_Touches(a.geom, b.geom)",
             "a.id,b.id\n1,2\n2,1\n",
@@ -251,9 +251,8 @@ fn squares_touch(rt: HostRuntime) -> Result<(), Fail> {
             "cost 6\nouter a scan\ninner b scan\nfilter none\n",
         ),
         ("SELECT * FROM sq a CROSS JOIN sq b", SQUARES_PAIRED),
-    ] {
-        assert!(rt; run_over(&rt, &files, query)?.is(out, "", 0));
-    }
+    ];
+    assert!(rt; are_answered(rt.alloc(), &files, &rows)?);
     Ok(())
 }
 
@@ -265,7 +264,7 @@ fn few_rows_are_scanned(rt: HostRuntime) -> Result<(), Fail> {
     files.points = points.as_str();
     let query = "EXPLAIN SELECT id FROM big WHERE ST_Intersects(geom, $S)";
     let told = "cost 4\nouter big scan\nfilter 1\n";
-    assert!(rt; run_over(&rt, &files, query)?.is(told, "", 0));
+    assert!(rt; run_over(rt.alloc(), &files, query)?.is(told, "", 0));
     Ok(())
 }
 
@@ -300,7 +299,7 @@ fn points_are_joined_with_squares(rt: HostRuntime) -> Result<(), Fail> {
         let mut files = files_of(TWO_SCHEMA);
         files.points = text;
         files.squares = squares;
-        assert!(rt; run_over(&rt, &files, query)?.is(out, "", 0));
+        assert!(rt; run_over(rt.alloc(), &files, query)?.is(out, "", 0));
     }
     Ok(())
 }
@@ -310,7 +309,7 @@ fn points_are_joined_with_squares(rt: HostRuntime) -> Result<(), Fail> {
 fn empty_geometries_are_equal(rt: HostRuntime) -> Result<(), Fail> {
     let mut files = files_of(EMPTY_SCHEMA);
     files.empty = EMPTY;
-    for (query, out) in [
+    let rows = [
         (
             "SELECT id FROM e WHERE ST_Equals(geom, ST_GeomFromText('MULTIPOINT EMPTY'))",
             "id\n1\n2\n5\n",
@@ -319,9 +318,8 @@ fn empty_geometries_are_equal(rt: HostRuntime) -> Result<(), Fail> {
             "EXPLAIN ANALYZE SELECT id FROM e WHERE ST_Equals(geom, ST_GeomFromText('MULTIPOINT EMPTY'))",
             "cost 4\nouter e probe 1\nfilter 1\nwork 3\n",
         ),
-    ] {
-        assert!(rt; run_over(&rt, &files, query)?.is(out, "", 0));
-    }
+    ];
+    assert!(rt; are_answered(rt.alloc(), &files, &rows)?);
     Ok(())
 }
 
@@ -348,7 +346,7 @@ fn functions_are_printed(rt: HostRuntime) -> Result<(), Fail> {
     ] {
         let mut files = files_of(EMPTY_SCHEMA);
         files.empty = table;
-        assert!(rt; run_over(&rt, &files, query)?.is(out, "", 0));
+        assert!(rt; run_over(rt.alloc(), &files, query)?.is(out, "", 0));
     }
     Ok(())
 }
@@ -408,7 +406,7 @@ fn rows_and_queries_are_refused(rt: HostRuntime) -> Result<(), Fail> {
     ] {
         let mut files = files_of(MIXED_SCHEMA);
         files.mixed = table;
-        assert!(rt; run_over(&rt, &files, query)?.is(out, line, status));
+        assert!(rt; run_over(rt.alloc(), &files, query)?.is(out, line, status));
     }
     Ok(())
 }
@@ -419,10 +417,7 @@ fn tables_with_geometries_are_checked(rt: HostRuntime) -> Result<(), Fail> {
     let mut files = files_of(TWO_SCHEMA);
     files.points = points.as_str();
     files.squares = SQUARES;
-    let order = Order::Check {
-        schema: String::from_str(rt.alloc(), "s")?,
-        directory: String::from_str(rt.alloc(), "d")?,
-    };
-    assert!(rt; serve_over(&rt, &files, &order).is("big 100\nsq 2\n", "", 0));
+    let order = check_order(rt.alloc())?;
+    assert!(rt; printed_over(rt.alloc(), &files, &order).is("big 100\nsq 2\n", "", 0));
     Ok(())
 }

@@ -99,7 +99,8 @@ pub fn sides_of_edges()
 /// Cut points and pieces of two lines that cross, of two that share a stretch, and of an upright one.
 pub fn cut_points_and_pieces()
     ensures crossing { cuts (codes "LINESTRING(0 0,3 1)") (codes "LINESTRING(0 1,2 0)")
-        ≡ Some (point (pos 0) (pos 0) (pos 1) ∷ point (pos 0) (pos 1) (pos 1) ∷ point (pos 6) (pos 2) (pos 5) ∷ point (pos 2) (pos 0) (pos 1) ∷ point (pos 3) (pos 1) (pos 1) ∷ []) }
+        ≡ Some (point (pos 0) (pos 0) (pos 1) ∷ point (pos 0) (pos 1) (pos 1) ∷ point (pos 6) (pos 2) (pos 5)
+        ∷ point (pos 2) (pos 0) (pos 1) ∷ point (pos 3) (pos 1) (pos 1) ∷ []) }
     ensures four_pieces { pieces_of_both (codes "LINESTRING(0 0,3 1)") (codes "LINESTRING(0 1,2 0)")
         ≡ Some (from_to (point (pos 0) (pos 0) (pos 1)) (point (pos 6) (pos 2) (pos 5))
         ∷ from_to (point (pos 0) (pos 1) (pos 1)) (point (pos 6) (pos 2) (pos 5))
@@ -116,7 +117,8 @@ pub fn cut_points_and_pieces()
         ∷ from_to (point (pos 2) (pos 0) (pos 1)) (point (pos 2) (pos 1) (pos 1)) ∷ []) }
     ensures at_the_limit { cuts (codes "LINESTRING(-10000000 -10000000,10000000 9999999)")
         (codes "LINESTRING(-10000000 10000000,9999999 -10000000)")
-        ≡ Some (point (negsuc 9999999) (negsuc 9999999) (pos 1) ∷ point (negsuc 9999999) (pos 10000000) (pos 1)
+        ≡ Some (point (negsuc 9999999) (negsuc 9999999) (pos 1)
+        ∷ point (negsuc 9999999) (pos 10000000) (pos 1)
         ∷ point (negsuc 9999999) (negsuc 399999989999999) (pos 799999960000001)
         ∷ point (pos 9999999) (negsuc 9999999) (pos 1) ∷ point (pos 10000000) (pos 9999999) (pos 1) ∷ []) }
 {}

@@ -46,7 +46,8 @@ pub fn repeated_positions()
     ensures ring { read_text (codes "POLYGON((0 0,0 0,1 0,0 0))")
         ≡ Ok (Polygon ((at (pos 0) (pos 0) ∷ at (pos 1) (pos 0) ∷ at (pos 0) (pos 0) ∷ []) ∷ [])) }
     ensures elements { read_text (codes "MULTILINESTRING((0 0,0 0),(0 0,1 0,0 0))")
-        ≡ Ok (MultiLineString ((at (pos 0) (pos 0) ∷ []) ∷ (at (pos 0) (pos 0) ∷ at (pos 1) (pos 0) ∷ at (pos 0) (pos 0) ∷ []) ∷ [])) }
+        ≡ Ok (MultiLineString ((at (pos 0) (pos 0) ∷ [])
+        ∷ (at (pos 0) (pos 0) ∷ at (pos 1) (pos 0) ∷ at (pos 0) (pos 0) ∷ []) ∷ [])) }
 {}
 
 /// Texts of several polygons: a hole in the first, repeats in any ring, white space, none at all (06-103r4, 7.2).
@@ -109,7 +110,10 @@ pub fn counted_parts()
 /// on what is left of both.
 pub fn counted_polygons()
     ensures as_many { body (polygons 2 2 9) (input (codes "(((1 1)),((2 2)))"))
-        ≡ Ok (((at (pos 1) (pos 1) ∷ []) ∷ []) ∷ ((at (pos 2) (pos 2) ∷ []) ∷ []) ∷ [], record { left = []; at = 17 }) }
+        ≡ Ok (
+          ((at (pos 1) (pos 1) ∷ []) ∷ []) ∷ ((at (pos 2) (pos 2) ∷ []) ∷ []) ∷ [],
+          record { left = []; at = 17 },
+        ) }
     ensures third_polygon { body (polygons 2 2 9) (input (codes "(((1 1)),((2 2)),((3 3)))")) ≡ Err TooLong }
     ensures ring_behind_two { body (polygons 2 2 9) (input (codes "(((1 1),(2 2)),((3.5 3)))"))
         ≡ Err TooLong }

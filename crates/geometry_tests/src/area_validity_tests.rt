@@ -13,8 +13,8 @@ fn fault_of(alloc: Global, text: &[u8]) -> Result<Option<CheckFault>, Fail> {
 #[test]
 fn first_faults(rt: HostRuntime) -> Result<(), Fail> {
     let cases: [(&[u8], Option<CheckFault>); 29] = [
-        // Rings that are short, open or not simple: one that crosses itself, neighbours that overlap, a repeat that is dropped, an open
-        // one, a spike, one that passes a position twice, a flat one; none.
+        // Rings that are short, open or not simple: one that crosses itself, neighbours that overlap, a
+        // repeat that is dropped, an open one, a spike, one that passes a position twice, a flat one; none.
         (
             b"POLYGON((0 0,4 4,4 0,0 4,0 0))",
             Some(CheckFault::RingNotSimple(0)),
@@ -44,8 +44,8 @@ fn first_faults(rt: HostRuntime) -> Result<(), Fail> {
             Some(CheckFault::RingNotSimple(0)),
         ),
         (b"POLYGON EMPTY", None),
-        // Two holes with a common corner, a hole that touches the outer ring in a point, in a stretch, everywhere, a hole outside,
-        // nested holes in either order; two holes apart.
+        // Two holes with a common corner, a hole that touches the outer ring in a point, in a stretch,
+        // everywhere, a hole outside, nested holes in either order; two holes apart.
         (
             b"POLYGON((0 0,9 0,9 9,0 9,0 0),(1 1,4 1,4 4,1 1),(4 4,7 4,7 7,4 4))",
             Some(CheckFault::RingsMeet(1, 2)),
@@ -78,8 +78,8 @@ fn first_faults(rt: HostRuntime) -> Result<(), Fail> {
             b"POLYGON((0 0,9 0,9 9,0 9,0 0),(1 1,2 1,2 2,1 1),(5 5,6 5,6 6,5 5))",
             None,
         ),
-        // The first of two faults: an open ring that is outside too, a ring that crosses itself before two that meet, two that meet
-        // before a hole outside, a short element behind one that is long enough.
+        // The first of two faults: an open ring that is outside too, a ring that crosses itself before two
+        // that meet, two that meet before a hole outside, a short element behind one that is long enough.
         (
             b"POLYGON((0 0,9 0,9 9,0 9,0 0),(1 1,2 1,2 2,1 1),(20 20,21 20,21 21,20 21))",
             Some(CheckFault::RingNotClosed(2)),
@@ -96,8 +96,8 @@ fn first_faults(rt: HostRuntime) -> Result<(), Fail> {
             b"MULTILINESTRING((0 0,1 1),(2 2))",
             Some(CheckFault::TooFewPoints(1)),
         ),
-        // Polygons: a common corner, two that are equal, one inside another in either order, a hole of the second one outside; one
-        // in a hole of another, none.
+        // Polygons: a common corner, two that are equal, one inside another in either order, a hole of the
+        // second one outside; one in a hole of another, none.
         (
             b"MULTIPOLYGON(((0 0,4 0,4 4,0 4,0 0)),((4 4,5 4,5 5,4 4)))",
             Some(CheckFault::ElementsMeet(0, 1)),

@@ -1,8 +1,7 @@
 //! The boxes over many edges.
 
+use crate::shapes::segment;
 use edge_boxes::{Bounds, EdgeBoxes};
-use fraction::GridPoint;
-use orient::Segment;
 use std::test::Fail;
 
 #[test]
@@ -10,9 +9,7 @@ fn edges_near_an_edge(rt: HostRuntime) -> Result<(), Fail> {
     // A level line of edges of length 1.
     let mut edges = Vec::new(rt.alloc());
     for x in 0..80 {
-        let start = GridPoint::new(x, 0).ok_or("past the limit")?;
-        let end = GridPoint::new(x + 1, 0).ok_or("past the limit")?;
-        edges.push(Segment::new(start, end).ok_or("equal ends")?)?;
+        edges.push(segment((x, 0), (x + 1, 0))?)?;
     }
     let edges = edges.as_slice();
     let bounds = Bounds::of(edges.get(2).ok_or("no edge")?);

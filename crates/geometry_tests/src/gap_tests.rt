@@ -1,28 +1,19 @@
 //! Edges that cross, touch, overlap and miss an edge, with the points and stops worked out by hand.
 
+use crate::shapes::{self, Numbers, Place, segment};
 use edge_boxes::EdgeBoxes;
 use edge_gaps::Gaps;
-use fraction::{GridPoint, RatPoint};
+use fraction::RatPoint;
 use orient::Segment;
 use std::alloc::Global;
 use std::test::Fail;
 
-type Line = ((i32, i32), (i32, i32));
-
-type Numbers = (i128, i128, i64);
-
-fn position((x, y): (i32, i32)) -> Result<GridPoint, Fail> {
-    Ok(GridPoint::new(x, y).ok_or("past the limit")?)
-}
-
-fn segment((a, b): Line) -> Result<Segment, Fail> {
-    Ok(Segment::new(position(a)?, position(b)?).ok_or("equal ends")?)
-}
+type Line = (Place, Place);
 
 fn segments(alloc: Global, lines: &[Line]) -> Result<Vec<Segment>, Fail> {
     let mut segments = Vec::new(alloc);
-    for line in lines {
-        segments.push(segment(*line)?)?;
+    for (a, b) in lines {
+        segments.push(segment(*a, *b)?)?;
     }
     Ok(segments)
 }
@@ -30,11 +21,7 @@ fn segments(alloc: Global, lines: &[Line]) -> Result<Vec<Segment>, Fail> {
 fn numbers(alloc: Global, points: &[RatPoint]) -> Result<Vec<Numbers>, Fail> {
     let mut numbers = Vec::new(alloc);
     for point in points {
-        numbers.push((
-            point.numerator_x(),
-            point.numerator_y(),
-            point.denominator(),
-        ))?;
+        numbers.push(shapes::numbers(point))?;
     }
     Ok(numbers)
 }
@@ -136,14 +123,14 @@ fn gaps(rt: HostRuntime) -> Result<(), Fail> {
     ];
     let mut gaps = Gaps::new(alloc);
     for (edge, others, shared, stops, may_share) in cases {
-        let edge = segment(edge)?;
+        let edge = segment(edge.0, edge.1)?;
         let others = segments(alloc, others)?;
-        assert_eq!(rt;
-            fill(alloc, &mut gaps, &edge, others.as_slice())?,
-            may_share
+        let told = fill(alloc, &mut gaps, &edge, others.as_slice())?;
+        assert!(rt;
+            told == may_share
+                && numbers(alloc, gaps.shared())?.as_slice() == shared
+                && numbers(alloc, gaps.stops())?.as_slice() == stops
         );
-        assert!(rt; numbers(alloc, gaps.shared())?.as_slice() == shared);
-        assert!(rt; numbers(alloc, gaps.stops())?.as_slice() == stops);
     }
     Ok(())
 }

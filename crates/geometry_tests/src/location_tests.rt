@@ -1,12 +1,11 @@
 //! Where points stand in geometries.
 
 use crate::rows::{number, parts_of, position};
+use crate::shapes::valid;
 use fraction::RatPoint;
 use side_labels::{Labels, Location, labels, locate};
 use std::alloc::Global;
 use std::test::Fail;
-use validity::check;
-use wkt::read;
 
 // A geometry, a point by both numerators and the denominator, and where it stands. A closed line has no boundary, two ends at
 // one point cancel, and three don't.
@@ -51,8 +50,7 @@ fn point(text: &str) -> Result<RatPoint, Fail> {
 
 // Where a point stands in the geometry of a text.
 fn located(alloc: Global, text: &str, point: &RatPoint) -> Result<&'static str, Fail> {
-    let valid = check(alloc, read(alloc, text.as_bytes())?)?;
-    Ok(match locate(&valid, point) {
+    Ok(match locate(&valid(alloc, text)?, point) {
         Location::Interior => "interior",
         Location::Boundary => "boundary",
         Location::Exterior => "exterior",
@@ -70,9 +68,7 @@ fn points_in_geometries(rt: HostRuntime) -> Result<(), Fail> {
 
 // The labels of two texts.
 fn labelled(alloc: Global, first: &str, second: &str) -> Result<Labels, Fail> {
-    let first = check(alloc, read(alloc, first.as_bytes())?)?;
-    let second = check(alloc, read(alloc, second.as_bytes())?)?;
-    Ok(labels(alloc, &first, &second)?)
+    Ok(labels(alloc, &valid(alloc, first)?, &valid(alloc, second)?)?)
 }
 
 #[test]

@@ -2,6 +2,7 @@
 //! numerators and the denominator.
 
 use crate::rows::{parts_of, position, segment};
+use crate::shapes::{self, numbers};
 use fraction::{GridPoint, RatPoint};
 use noding::{Meet, meet, node};
 use orient::Segment;
@@ -37,8 +38,8 @@ const NODED: &str =
 
 // Appends a point's text.
 fn tell(told: &mut String, point: &RatPoint) -> Result<(), Fail> {
-    let (x, y) = (point.numerator_x(), point.numerator_y());
-    write!(told, "{x} {y} {},", point.denominator())?;
+    let (x, y, w) = numbers(point);
+    write!(told, "{x} {y} {w},")?;
     Ok(())
 }
 
@@ -115,9 +116,7 @@ fn segments_apart(alloc: Global) -> Result<Vec<Segment>, Fail> {
     let mut segments = Vec::new(alloc);
     for place in 0..1000i32 {
         let x = place.saturating_mul(3);
-        let start = GridPoint::new(x, 0).ok_or("off the grid")?;
-        let end = GridPoint::new(x.saturating_add(1), 1).ok_or("off the grid")?;
-        segments.push(Segment::new(start, end).ok_or("equal ends")?)?;
+        segments.push(shapes::segment((x, 0), (x.saturating_add(1), 1))?)?;
     }
     Ok(segments)
 }

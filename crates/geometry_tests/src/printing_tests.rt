@@ -4,7 +4,7 @@ use geometry_model::{GeometryType, Kind, TextFault};
 use std::alloc::{AllocError, Global};
 use std::test::Fail;
 use wkt::devices::StopSink;
-use wkt::{SinkFault, WktFault, print, read};
+use wkt::{WktFault, print, read};
 
 type Shown = (GeometryType, Kind, bool, usize, usize, usize);
 
@@ -60,7 +60,7 @@ fn geometries_show_their_parts(rt: HostRuntime) -> Result<(), Fail> {
             (MultiPolygon, Kind::Area, false, 0, 2, 3),
         ),
     ] {
-        assert!(rt; shown(rt.alloc(), text)? == wanted, "{text}");
+        assert!(rt; shown(rt.alloc(), text)? == wanted);
     }
     Ok(())
 }
@@ -71,13 +71,11 @@ fn a_failed_put_leaves_a_beginning(rt: HostRuntime) -> Result<(), Fail> {
     let geometry = read(rt.alloc(), text)?;
     for place in 0..text.len() {
         let mut sink = StopSink::new(rt.alloc(), 1 + place as u64, 1);
-        assert_eq!(rt; print(&geometry, &mut sink), Err(SinkFault));
-        assert_eq!(rt; sink.bytes(), &text[..place]);
-        assert_eq!(rt; sink.failures(), 1);
+        let printed = print(&geometry, &mut sink);
+        assert!(rt; printed.is_err() && sink.bytes() == &text[..place] && sink.failures() == 1);
     }
     let mut sink = StopSink::new(rt.alloc(), 1 + text.len() as u64, 1);
-    assert_eq!(rt; print(&geometry, &mut sink), Ok(()));
-    assert_eq!(rt; sink.bytes(), text.as_slice());
+    assert!(rt; print(&geometry, &mut sink).is_ok() && sink.bytes() == text.as_slice());
     Ok(())
 }
 
@@ -90,7 +88,7 @@ fn a_fault_of_reading_tells_of_the_text(rt: HostRuntime) {
         (WktFault::TooLong, Some(TextFault::TooLong)),
         (WktFault::OutOfMemory, None),
     ] {
-        assert_eq!(rt; fault.text_fault(), told);
+        assert!(rt; fault.text_fault() == told);
     }
-    assert_eq!(rt; WktFault::from(AllocError), WktFault::OutOfMemory);
+    assert!(rt; WktFault::from(AllocError) == WktFault::OutOfMemory);
 }

@@ -74,12 +74,12 @@ fn first_wrong(alloc: Global, rows: &str) -> Result<Option<usize>, Fail> {
 
 #[test]
 fn worked_matrices_both_ways(rt: HostRuntime) -> Result<(), Fail> {
-    assert_eq!(rt; first_wrong(rt.alloc(), WORKED)?, None);
+    assert!(rt; first_wrong(rt.alloc(), WORKED)?.is_none());
     Ok(())
 }
 
 #[test]
 fn matrices_that_are_told_otherwise_elsewhere(rt: HostRuntime) -> Result<(), Fail> {
-    assert_eq!(rt; first_wrong(rt.alloc(), ELSEWHERE)?, None);
+    assert!(rt; first_wrong(rt.alloc(), ELSEWHERE)?.is_none());
     Ok(())
 }

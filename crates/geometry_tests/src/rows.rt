@@ -1,13 +1,12 @@
 //! Tables of tests, a row a line, and what their parts tell.
 
+use crate::shapes::{self, valid};
 use de9im::{Matrix, Work, relate};
 use fraction::GridPoint;
 use geometry_model::Kind;
 use orient::Segment;
 use std::alloc::Global;
 use std::test::Fail;
-use validity::check;
-use wkt::read;
 
 /// The three parts of a row.
 pub(crate) fn parts_of(row: &str) -> Result<(&str, &str, &str), Fail> {
@@ -27,8 +26,7 @@ pub(crate) fn number(text: &str) -> Result<i32, Fail> {
 /// The position of two numbers.
 pub(crate) fn position(text: &str) -> Result<GridPoint, Fail> {
     let (x, y) = text.split_once(" ").ok_or("a position has two numbers")?;
-    let position = GridPoint::new(number(x)?, number(y)?);
-    Ok(position.ok_or("past the limit")?)
+    shapes::position((number(x)?, number(y)?))
 }
 
 /// The segment from one position to another.
@@ -45,8 +43,7 @@ pub(crate) fn related(
     second: &str,
     work: &mut Work,
 ) -> Result<(Matrix, Kind, Kind), Fail> {
-    let first = check(alloc, read(alloc, first.as_bytes())?)?;
-    let second = check(alloc, read(alloc, second.as_bytes())?)?;
+    let (first, second) = (valid(alloc, first)?, valid(alloc, second)?);
     let matrix = relate(alloc, &first, &second, work)?;
     Ok((matrix, first.kind(), second.kind()))
 }

@@ -72,6 +72,24 @@ module _ {X : Type 0} (lt : X → X → Bool) (o : IsStrictWeakOrder lt) where
       let left = sum_by-cons f x xs in let right = sum_by-cons f y ys in let heads = ap f same in omega (arith, sums f, left, right, heads) in
       ap (λ z. z ∷ xs) same ∙ ap (λ zs. y ∷ zs) (only-order P ties xs ys a.1 b.1 p.1 q.1 rest)
 
+-- ---- what is level in an order
+
+-- two of which none is less are equal in it
+pub level_keys : (r s : Ordering) → r ≡ ordering_reverse s → is_lt r ≡ false → is_lt s ≡ false → r ≡ Equal
+level_keys Less s e a b = cc
+level_keys Equal s e a b = refl
+level_keys Greater Less e a b = cc
+level_keys Greater Equal e a b = cc
+level_keys Greater Greater e a b = cc
+
+pub both_level : (r s : Ordering) → ordering_then r s ≡ Equal → (r ≡ Equal) × (s ≡ Equal)
+both_level Less s e = cc
+both_level Equal s e = (refl, e)
+both_level Greater s e = cc
+
+pub same_number : (a b : ℕ) → nat_cmp a b ≡ Equal → a ≡ b
+same_number a b e = subst (λ r. MatchOrdering r (a < b) (a ≡ b) (b < a)) e (ranks a b)
+
 -- ---- entries in order
 
 key_total : IsTotalOrder key_order
@@ -121,25 +139,10 @@ sum-in_order f [] = refl
 sum-in_order f (e ∷ es) = sum-with_entry f e (in_order es) ∙ ap (λ n. f e + n) (sum-in_order f es) ∙ sym (sum_by-cons f e es)
 
 -- entries of which none comes before the other have the same position
-level_keys : (r s : Ordering) → r ≡ ordering_reverse s → is_lt r ≡ false → is_lt s ≡ false → r ≡ Equal
-level_keys Less s e a b = cc
-level_keys Equal s e a b = refl
-level_keys Greater Less e a b = cc
-level_keys Greater Equal e a b = cc
-level_keys Greater Greater e a b = cc
-
-last_level : (r s : Ordering) → ordering_then r s ≡ Equal → s ≡ Equal
-last_level Less s e = cc
-last_level Equal s e = e
-last_level Greater s e = cc
-
-same_number : (a b : ℕ) → nat_cmp a b ≡ Equal → a ≡ b
-same_number a b e = subst (λ r. MatchOrdering r (a < b) (a ≡ b) (b < a)) e (ranks a b)
-
 pub same_place : (a b : Entry) → comes_before a b ≡ false → comes_before b a ≡ false → a.0 ≡ b.0
 same_place a b h k =
     let level = level_keys (key_order (packing_key a) (packing_key b)) (key_order (packing_key b) (packing_key a)) (key_total.antisymm (packing_key a) (packing_key b)) h k in
-    same_number a.0 b.0 (last_level _ (nat_cmp a.0 b.0) level)
+    same_number a.0 b.0 (both_level _ (nat_cmp a.0 b.0) level).1
 
 -- ---- numbers in order
 

@@ -19,7 +19,8 @@ pub fn points_near_a_square()
     ensures near { answered (definition (codes "big") ∷ []) big (listing (0 ∷ []) near)
         ≡ (codes "id" ∷ []) ∷ (codes "1" ∷ []) ∷ (codes "2" ∷ []) ∷ (codes "3" ∷ []) ∷ (codes "4" ∷ []) ∷ [] }
     ensures far_or_near { answered (definition (codes "big") ∷ []) big (listing (0 ∷ []) far_or_near)
-        ≡ (codes "id" ∷ []) ∷ (codes "1" ∷ []) ∷ (codes "2" ∷ []) ∷ (codes "3" ∷ []) ∷ (codes "4" ∷ []) ∷ (codes "100" ∷ []) ∷ [] }
+        ≡ (codes "id" ∷ []) ∷ (codes "1" ∷ []) ∷ (codes "2" ∷ []) ∷ (codes "3" ∷ []) ∷ (codes "4" ∷ [])
+        ∷ (codes "100" ∷ []) ∷ [] }
 {}
 
 /// Empty geometries of any type are equal, and null is equal to none.
@@ -31,5 +32,6 @@ pub fn equal_empty_geometries()
 /// Two squares that touch, as two pairs of one table with itself.
 pub fn touching_squares()
     ensures { answered (definition (codes "sq") ∷ []) (squares ∷ []) (listing (0 ∷ 1 ∷ []) touching)
-        ≡ (codes "a.id" ∷ codes "b.id" ∷ []) ∷ (codes "1" ∷ codes "2" ∷ []) ∷ (codes "2" ∷ codes "1" ∷ []) ∷ [] }
+        ≡ (codes "a.id" ∷ codes "b.id" ∷ []) ∷ (codes "1" ∷ codes "2" ∷ [])
+        ∷ (codes "2" ∷ codes "1" ∷ []) ∷ [] }
 {}

@@ -29,12 +29,15 @@ ghost use Rattle.table_model.specs.declared.queries.WrittenPredicate.TheVariants
 pub fn plans_are_asked_for()
     ensures explain { read
         (codes "EXPLAIN SELECT id FROM big WHERE ST_Intersects(geom, ST_GeomFromText('POLYGON((0 0,4 0,4 4,0 4,0 0))'))")
-        ≡ joined explains.Plan (selections.Items (items.Column (bare (codes "id") 15) ∷ [])) (table (codes "big") 23) None None (Some
-        (conds.Relates 33 (predicates.Named Intersects) (geometry_column (codes "geom") 47) (from_text (codes "POLYGON((0 0,4 0,4 4,0 4,0 0))") 69))) }
+        ≡ joined explains.Plan (selections.Items (items.Column (bare (codes "id") 15) ∷ []))
+        (table (codes "big") 23) None None
+        (Some (conds.Relates 33 (predicates.Named Intersects) (geometry_column (codes "geom") 47)
+        (from_text (codes "POLYGON((0 0,4 0,4 4,0 4,0 0))") 69))) }
     ensures analyze { read (codes "explain analyze SELECT * FROM t;")
         ≡ joined explains.Analyze selections.All (table (codes "t") 30) None None None }
     ensures names { read (codes "SELECT * FROM explain analyze")
-        ≡ joined explains.No selections.All (aliased (name (codes "explain") 14) (name (codes "analyze") 22)) None None None }
+        ≡ joined explains.No selections.All (aliased (name (codes "explain") 14) (name (codes "analyze") 22))
+        None None None }
 {}
 
 /// A second table, in each of the ways in which it is written.
@@ -42,16 +45,22 @@ pub fn tables_are_joined()
     ensures inner { read
         (codes "SELECT b.id, s.id FROM big b JOIN sq s ON ST_Intersects(b.geom, s.geom) WHERE b.id <> 2")
         ≡ joined explains.No
-        (selections.Items (items.Column (of (name (codes "b") 7) (name (codes "id") 9)) ∷ items.Column (of (name (codes "s") 13) (name (codes "id") 15)) ∷ []))
-        (aliased (name (codes "big") 23) (name (codes "b") 27)) (Some (aliased (name (codes "sq") 34) (name (codes "s") 37)))
-        (Some (conds.Relates 42 (predicates.Named Intersects) (geometries.Column (of (name (codes "b") 56) (name (codes "geom") 58)))
+        (selections.Items (items.Column (of (name (codes "b") 7) (name (codes "id") 9))
+        ∷ items.Column (of (name (codes "s") 13) (name (codes "id") 15)) ∷ []))
+        (aliased (name (codes "big") 23) (name (codes "b") 27))
+        (Some (aliased (name (codes "sq") 34) (name (codes "s") 37)))
+        (Some (conds.Relates 42 (predicates.Named Intersects)
+        (geometries.Column (of (name (codes "b") 56) (name (codes "geom") 58)))
         (geometries.Column (of (name (codes "s") 64) (name (codes "geom") 66)))))
-        (Some (conds.Compare 78 NotEqual (operands.Column (of (name (codes "b") 78) (name (codes "id") 80))) (operands.Integer (pos 2)))) }
+        (Some (conds.Compare 78 NotEqual (operands.Column (of (name (codes "b") 78) (name (codes "id") 80)))
+        (operands.Integer (pos 2)))) }
     ensures inner_word { read (codes "SELECT * FROM t INNER JOIN u AS v ON id = 1")
-        ≡ joined explains.No selections.All (table (codes "t") 14) (Some (aliased (name (codes "u") 27) (name (codes "v") 32)))
+        ≡ joined explains.No selections.All (table (codes "t") 14)
+        (Some (aliased (name (codes "u") 27) (name (codes "v") 32)))
         (Some (conds.Compare 37 Equal (operand_column (codes "id") 37) (operands.Integer (pos 1)))) None }
     ensures cross { read (codes "SELECT * FROM sq a CROSS JOIN sq b")
-        ≡ joined explains.No selections.All (aliased (name (codes "sq") 14) (name (codes "a") 17)) (Some (aliased (name (codes "sq") 30) (name (codes "b") 33))) None None }
+        ≡ joined explains.No selections.All (aliased (name (codes "sq") 14) (name (codes "a") 17))
+        (Some (aliased (name (codes "sq") 30) (name (codes "b") 33))) None None }
     ensures comma { read (codes "SELECT * FROM t, u")
         ≡ joined explains.No selections.All (table (codes "t") 14) (Some (table (codes "u") 17)) None None }
 {}
@@ -60,24 +69,29 @@ pub fn tables_are_joined()
 pub fn items_are_functions()
     ensures { read (codes "SELECT ST_AsText(geom), ST_Dimension(geom), ST_IsEmpty(geom) FROM e")
         ≡ joined explains.No
-        (selections.Items (items.AsText 7 (bare (codes "geom") 17) ∷ items.Dimension 24 (bare (codes "geom") 37) ∷ items.IsEmpty 44 (bare (codes "geom") 55) ∷ []))
+        (selections.Items (items.AsText 7 (bare (codes "geom") 17)
+        ∷ items.Dimension 24 (bare (codes "geom") 37) ∷ items.IsEmpty 44 (bare (codes "geom") 55) ∷ []))
         (table (codes "e") 66) None None None }
 {}
 
 /// Functions in conditions: predicates, alone or compared with 1 or 0 in any spelling, and operands.
 pub fn conditions_are_functions()
     ensures relate { read_where (codes "ST_Relate(geom, geom, 'T*F**F***') = 0")
-        ≡ all_where (conds.Not (conds.Relates 22 (predicates.Relate (name (codes "T*F**F***") 44)) (geometry_column (codes "geom") 32) (geometry_column (codes "geom") 38))) }
+        ≡ all_where (conds.Not (conds.Relates 22 (predicates.Relate (name (codes "T*F**F***") 44))
+        (geometry_column (codes "geom") 32) (geometry_column (codes "geom") 38))) }
     ensures negated { read_where (codes "not st_within (geom, geom)")
-        ≡ all_where (conds.Not (conds.Relates 26 (predicates.Named Within) (geometry_column (codes "geom") 37) (geometry_column (codes "geom") 43))) }
+        ≡ all_where (conds.Not (conds.Relates 26 (predicates.Named Within) (geometry_column (codes "geom") 37)
+        (geometry_column (codes "geom") 43))) }
     ensures one { read_where (codes "ST_IsEmpty(geom) = 01")
         ≡ all_where (conds.IsEmpty 22 (geometry_column (codes "geom") 33)) }
     ensures zero { read_where (codes "ST_IsEmpty(geom) = 00")
         ≡ all_where (conds.Not (conds.IsEmpty 22 (geometry_column (codes "geom") 33))) }
     ensures operands { read_where
         (codes "ST_AsText(geom) = 'x' AND 0 < ST_Dimension(ST_GeomFromText('POINT EMPTY'))")
-        ≡ all_where (conds.And (conds.Compare 22 Equal (operands.AsText 22 (geometry_column (codes "geom") 32)) (operands.Text (name (codes "x") 40))
-        ∷ conds.Compare 48 Less (operands.Integer (pos 0)) (operands.Dimension 52 (from_text (codes "POINT EMPTY") 81)) ∷ [])) }
+        ≡ all_where (conds.And (conds.Compare 22 Equal
+        (operands.AsText 22 (geometry_column (codes "geom") 32)) (operands.Text (name (codes "x") 40))
+        ∷ conds.Compare 48 Less (operands.Integer (pos 0))
+        (operands.Dimension 52 (from_text (codes "POINT EMPTY") 81)) ∷ [])) }
 {}
 
 /// What may stand after a predicate: no sign, no number but 1 and 0, and no other comparison.
@@ -129,7 +143,8 @@ pub fn rows_are_counted()
     ensures spaced { read (codes "select count ( * ) from big;")
         ≡ under selections.Count (table (codes "big") 24) None None }
     ensures limited { read (codes "SELECT COUNT(*) FROM t WHERE id = 1 LIMIT 0;")
-        ≡ under selections.Count (table (codes "t") 21) (Some (conds.Compare 29 Equal (operand_column (codes "id") 29) (operands.Integer (pos 1)))) (Some 0) }
+        ≡ under selections.Count (table (codes "t") 21)
+        (Some (conds.Compare 29 Equal (operand_column (codes "id") 29) (operands.Integer (pos 1)))) (Some 0) }
     ensures explained { read (codes "EXPLAIN SELECT COUNT(*) FROM t")
         ≡ joined explains.Plan selections.Count (table (codes "t") 29) None None None }
     ensures name { read (codes "SELECT count FROM t")
@@ -142,13 +157,17 @@ pub fn rows_are_counted()
 /// LIMIT, with WHERE and without, up to the greatest number of 64 bits with a sign.
 pub fn rows_are_limited()
     ensures alone { read (codes "SELECT id FROM big LIMIT 2")
-        ≡ under (selections.Items (items.Column (bare (codes "id") 7) ∷ [])) (table (codes "big") 15) None (Some 2) }
+        ≡ under (selections.Items (items.Column (bare (codes "id") 7) ∷ [])) (table (codes "big") 15) None
+        (Some 2) }
     ensures ended { read (codes "SELECT id FROM big LIMIT 2;")
-        ≡ under (selections.Items (items.Column (bare (codes "id") 7) ∷ [])) (table (codes "big") 15) None (Some 2) }
+        ≡ under (selections.Items (items.Column (bare (codes "id") 7) ∷ [])) (table (codes "big") 15) None
+        (Some 2) }
     ensures none { read (codes "select * from t limit 0")
         ≡ under selections.All (table (codes "t") 14) None (Some 0) }
     ensures filtered { read (codes "SELECT * FROM t WHERE id > 1 LIMIT 0010;")
-        ≡ under selections.All (table (codes "t") 14) (Some (conds.Compare 22 Greater (operand_column (codes "id") 22) (operands.Integer (pos 1)))) (Some 10) }
+        ≡ under selections.All (table (codes "t") 14)
+        (Some (conds.Compare 22 Greater (operand_column (codes "id") 22) (operands.Integer (pos 1))))
+        (Some 10) }
     ensures aliased { read (codes "SELECT * FROM t a LIMIT 1")
         ≡ under selections.All (aliased (name (codes "t") 14) (name (codes "a") 16)) None (Some 1) }
     ensures greatest { read (codes "SELECT * FROM t LIMIT 9223372036854775807")

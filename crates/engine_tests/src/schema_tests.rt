@@ -15,7 +15,8 @@ fn faults_of_schemas(rt: HostRuntime) {
         ),
         ("CREATE TABLE t (id REAL)", Some(SchemaFault::Syntax(19))),
         (
-            "CREATE TABLE t (a INT PRIMARY KEY, g geometry, b POINT, c MultiPoint, d linestring, e MULTILINESTRING, f POLYGON, h MULTIPOLYGON NOT NULL)",
+            "CREATE TABLE t (a INT PRIMARY KEY, g geometry, b POINT, \
+             c MultiPoint, d linestring, e MULTILINESTRING, f POLYGON, h MULTIPOLYGON NOT NULL)",
             None,
         ),
         (

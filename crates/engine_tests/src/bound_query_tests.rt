@@ -6,7 +6,7 @@ use query_reader::read_query;
 use spatial_sql::read_schema;
 use std::alloc::Global;
 use std::test::Fail;
-use table_model::conditions::{ColumnPlace, Cond, GeometryArgument, Item, Operand};
+use table_model::conditions::{ColumnPlace, Cond, GeometryArgument, Item, Operand, Reference};
 
 const SCHEMA: &[u8] =
     b"CREATE TABLE t (id INTEGER PRIMARY KEY, pop INTEGER, name TEXT, geom GEOMETRY);";
@@ -22,9 +22,10 @@ fn refused_names_and_types(rt: HostRuntime) -> Result<(), Fail> {
     for (text, fault) in [
         ("SELECT id FROM t, t", QueryFault::SameName(18)),
         ("SELECT nope FROM t", QueryFault::UnknownColumn(7)),
+        ("SELECT nope FROM u", QueryFault::UnknownTable(17)),
         ("SELECT id FROM t a, t b", QueryFault::AmbiguousColumn(7)),
         (
-            "SELECT id FROM t WHERE pop = 'x'",
+            "SELECT id FROM t WHERE pop = 'x' AND nope = 1",
             QueryFault::TypeMismatch(23),
         ),
         (
@@ -44,7 +45,7 @@ fn refused_names_and_types(rt: HostRuntime) -> Result<(), Fail> {
             QueryFault::BadPattern(45),
         ),
     ] {
-        assert!(rt; bound(rt.alloc(), text)?.err() == Some(fault), "at {text}");
+        assert!(rt; bound(rt.alloc(), text)?.err() == Some(fault));
     }
     Ok(())
 }
@@ -66,30 +67,41 @@ fn refused_constants(rt: HostRuntime) -> Result<(), Fail> {
             QueryFault::BadGeometry(50, GeometryFault::Invalid(ValidityFault::TooFewPoints(0))),
         ),
     ] {
-        assert!(rt; bound(rt.alloc(), text)?.err() == Some(fault), "at {text}");
+        assert!(rt; bound(rt.alloc(), text)?.err() == Some(fault));
     }
     Ok(())
 }
 
+// Whether this is the name of the first reference.
+fn names_first(references: &[Reference], name: &str) -> bool {
+    match references {
+        [first, ..] => first.name.as_slice() == name.as_bytes(),
+        [] => false,
+    }
+}
+
+// Whether a column and the text of another one are selected, each told by its reference and its place.
+fn selects(items: &[Item<ColumnPlace>], column: (usize, usize), text: (usize, usize)) -> bool {
+    match items {
+        [Item::Column(first), Item::AsText(second)] => {
+            (first.reference, first.column) == column && (second.reference, second.column) == text
+        }
+        _ => false,
+    }
+}
+
+/// Aliases as they are spelled, places of columns, conjuncts one after another, and a quote in a string.
 #[test]
 fn binds_every_part(rt: HostRuntime) -> Result<(), Fail> {
     let query = bound(
         rt.alloc(),
-        "SELECT a.id, ST_AsText(b.geom) FROM t a JOIN t b \
+        "SELECT a.NAME, ST_AsText(b.geom) FROM T AS A JOIN t b \
          ON ST_Within(a.geom, ST_GeomFromText('POINT(1 2)')) = 0 \
          WHERE ST_Relate(a.geom, b.geom, 't0*******') = 1 AND (a.name = 'o''k' AND b.pop > 2) LIMIT 3",
     )??;
     assert!(rt; query.limit == Some(3));
-    let last = ColumnPlace {
-        reference: 1,
-        column: 3,
-    };
-    assert!(rt;
-        matches!(
-            query.items.as_slice(),
-            [Item::Column(_), Item::AsText(place)] if *place == last
-        )
-    );
+    assert!(rt; names_first(query.references.as_slice(), "A"));
+    assert!(rt; selects(query.items.as_slice(), (0, 2), (1, 3)));
     let [
         Cond::Not(within),
         Cond::Relates(Predicate::Relate(_), _, _),

@@ -1,5 +1,6 @@
 //! Commands over memory: what they print, and their status.
 
+use crate::commands::{Printed, check_order, run_order};
 use command_line::Order;
 use engine::{Failure, GeometryWord, fault_line, serve, status};
 use geometry_model::{GeometryFault, ValidityFault};
@@ -20,38 +21,12 @@ const NO_TEXT: &str = "";
 
 const QUERY: &str = "SELECT id, name FROM t WHERE pop > 5 AND NOT name = 'b'";
 
-// The order to run a query over the schema `s` and the directory `d`.
-pub(crate) fn run_order(alloc: Global, query: &str) -> Result<Order, AllocError> {
-    Ok(Order::Run {
-        schema: String::from_str(alloc, "s")?,
-        directory: String::from_str(alloc, "d")?,
-        query: String::from_str(alloc, query)?,
-    })
-}
-
 // The order to relate two geometries.
 fn relate_order(alloc: Global, first: &str, second: &str) -> Result<Order, AllocError> {
     Ok(Order::Relate {
         first: String::from_str(alloc, first)?,
         second: String::from_str(alloc, second)?,
     })
-}
-
-// What a command prints on standard output and on standard error, and its status.
-#[derive(Drop)]
-pub(crate) struct Printed {
-    pub(crate) out: MemorySink,
-    pub(crate) err: MemorySink,
-    pub(crate) status: u8,
-}
-
-impl Printed {
-    // Whether these are the two outputs and the status.
-    pub(crate) fn is(&self, out: &str, err: &str, status: u8) -> bool {
-        self.out.bytes() == out.as_bytes()
-            && self.err.bytes() == err.as_bytes()
-            && self.status == status
-    }
 }
 
 // The file at a path: the schema, or the table t.
@@ -72,44 +47,29 @@ fn run_over<'a>(
     table: &'a [u8],
     query: &str,
 ) -> Result<Printed, Fail> {
-    let alloc = rt.alloc();
-    let order = run_order(alloc, query)?;
-    let mut out = MemorySink::new(alloc);
-    let mut err = MemorySink::new(alloc);
+    let order = run_order(rt.alloc(), query)?;
     let opener = move |path: &str| file_at(path, schema, table);
-    let status = serve(alloc, &order, opener, &mut out, &mut err);
-    Ok(Printed { out, err, status })
+    Ok(Printed::of(rt.alloc(), &order, opener))
 }
 
 // Relates two geometries in well-known text.
 fn relate(rt: &HostRuntime, first: &str, second: &str) -> Result<Printed, Fail> {
-    let alloc = rt.alloc();
-    let order = relate_order(alloc, first, second)?;
-    let mut out = MemorySink::new(alloc);
-    let mut err = MemorySink::new(alloc);
+    let order = relate_order(rt.alloc(), first, second)?;
     let text = NO_TEXT.as_bytes();
     let opener = move |path: &str| file_at(path, text, text);
-    let status = serve(alloc, &order, opener, &mut out, &mut err);
-    Ok(Printed { out, err, status })
+    Ok(Printed::of(rt.alloc(), &order, opener))
 }
 
 // Checks two tables: t as ever, and u with this text.
 fn check_over<'a>(rt: &HostRuntime, other: Option<&'a [u8]>) -> Result<Printed, Fail> {
-    let alloc = rt.alloc();
-    let order = Order::Check {
-        schema: String::from_str(alloc, "s")?,
-        directory: String::from_str(alloc, "d")?,
-    };
-    let mut out = MemorySink::new(alloc);
-    let mut err = MemorySink::new(alloc);
+    let order = check_order(rt.alloc())?;
     let opener = move |path: &str| {
         if path == "d/u.csv" {
             return other;
         }
         file_at(path, CHECKED_TABLES.as_bytes(), TABLE.as_bytes())
     };
-    let status = serve(alloc, &order, opener, &mut out, &mut err);
-    Ok(Printed { out, err, status })
+    Ok(Printed::of(rt.alloc(), &order, opener))
 }
 
 #[test]
@@ -300,7 +260,7 @@ fn limits(rt: HostRuntime) -> Result<(), Fail> {
     let blanks = 65_536_usize.saturating_sub(SCHEMA.len());
     let longest = followed(rt.alloc(), SCHEMA, blanks, " ")?;
     let run = run_over(&rt, longest.as_bytes(), TABLE.as_bytes(), QUERY)?;
-    assert!(rt; run.status == 0);
+    assert!(rt; run.is("id,name\n1,a\n", "", 0));
     let longer = followed(rt.alloc(), longest.as_str(), 1, " ")?;
     let run = run_over(&rt, longer.as_bytes(), TABLE.as_bytes(), QUERY)?;
     assert!(rt; run.is("", "sfq: S6\n", 3));
@@ -407,12 +367,8 @@ fn a_failed_reading_is_told_of_its_table(rt: HostRuntime) -> Result<(), Fail> {
         ("id\nx\n", "sfq: t L5 record 1\n", 4),
     ] {
         let order = run_order(rt.alloc(), "SELECT id FROM t")?;
-        let mut out = MemorySink::new(rt.alloc());
-        let mut err = MemorySink::new(rt.alloc());
         let opener = move |path: &str| unread_second(path, table.as_bytes());
-        let status = serve(rt.alloc(), &order, opener, &mut out, &mut err);
-        let printed = Printed { out, err, status };
-        assert!(rt; printed.is("", line, wanted));
+        assert!(rt; Printed::of(rt.alloc(), &order, opener).is("", line, wanted));
     }
     Ok(())
 }

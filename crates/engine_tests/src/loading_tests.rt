@@ -36,13 +36,25 @@ fn definition(alloc: Global) -> Result<TableDef, AllocError> {
     })
 }
 
-/// A schema of that table.
+/// A schema of it.
 fn schema(alloc: Global) -> Result<Schema, Fail> {
     let tables = vec![in alloc; definition(alloc)?]?;
     if !lawful(&tables) {
         return Err(Fail::from("unlawful"));
     }
     Ok(Schema::of(tables))
+}
+
+/// What is loaded of the first table of a schema.
+fn loaded(
+    alloc: Global,
+    schema: &Schema,
+    text: &[u8],
+) -> Result<Result<Table<ListIndex>, LoadFault>, Fail> {
+    if schema.tables().is_empty() {
+        return Err(Fail::from("no table"));
+    }
+    Ok(Table::load(alloc, schema.table(0), text))
 }
 
 /// The number in the first column of a row.
@@ -62,11 +74,8 @@ fn key_at(table: &Table<ListIndex>, i: usize) -> Option<i64>
 #[test]
 fn first_run_loads(rt: HostRuntime) -> Result<(), Fail> {
     let schema = schema(rt.alloc())?;
-    assert!(rt; !schema.tables().is_empty());
-    let text = b"id,pop,name\n1,8,a\n2,9,b\n3,,c\n4,7,\n".as_slice();
-    let table = Table::<ListIndex>::load(rt.alloc(), schema.table(0), text)
-        .ok()
-        .ok_or("not loaded")?;
+    let text = b"id,pop,name\n1,8,a\n2,9,b\n3,,c\n4,7,\n";
+    let table = loaded(rt.alloc(), &schema, text)??;
     let mut keys = Vec::new(rt.alloc());
     for i in 0..table.rows() {
         keys.push(key_at(&table, i))?;
@@ -78,7 +87,6 @@ fn first_run_loads(rt: HostRuntime) -> Result<(), Fail> {
 #[test]
 fn each_fault(rt: HostRuntime) -> Result<(), Fail> {
     let schema = schema(rt.alloc())?;
-    assert!(rt; !schema.tables().is_empty());
     let cases: [(&[u8], Option<LoadFault>); 8] = [
         (b"id,name\n", Some(LoadFault::MissingColumn)),
         (b"id,pop,name,POP\n1\n", Some(LoadFault::DoubleHeader)),
@@ -93,7 +101,7 @@ fn each_fault(rt: HostRuntime) -> Result<(), Fail> {
         ),
     ];
     for (text, want) in cases {
-        assert!(rt; Table::<ListIndex>::load(rt.alloc(), schema.table(0), text).err() == want);
+        assert!(rt; loaded(rt.alloc(), &schema, text)?.err() == want);
     }
     Ok(())
 }
@@ -125,7 +133,6 @@ fn shapes(alloc: Global) -> Result<Schema, Fail> {
 #[test]
 fn each_fault_of_a_geometry(rt: HostRuntime) -> Result<(), Fail> {
     let schema = shapes(rt.alloc())?;
-    assert!(rt; !schema.tables().is_empty());
     let off_grid = GeometryFault::Text(TextFault::OffGrid(6));
     let not_simple = GeometryFault::Invalid(ValidityFault::RingNotSimple(0));
     let cases: [(&[u8], Option<LoadFault>); 4] = [
@@ -141,7 +148,7 @@ fn each_fault_of_a_geometry(rt: HostRuntime) -> Result<(), Fail> {
         (b"id,geom\n1,\n2,POLYGON EMPTY\n", None),
     ];
     for (text, want) in cases {
-        assert!(rt; Table::<ListIndex>::load(rt.alloc(), schema.table(0), text).err() == want);
+        assert!(rt; loaded(rt.alloc(), &schema, text)?.err() == want);
     }
     Ok(())
 }
@@ -150,11 +157,8 @@ fn each_fault_of_a_geometry(rt: HostRuntime) -> Result<(), Fail> {
 #[test]
 fn columns_are_indexed(rt: HostRuntime) -> Result<(), Fail> {
     let schema = shapes(rt.alloc())?;
-    assert!(rt; !schema.tables().is_empty());
-    let text = b"id,geom\n1,\n2,\"POLYGON((0 0,4 0,4 4,0 0))\"\n3,POLYGON EMPTY\n".as_slice();
-    let table = Table::<ListIndex>::load(rt.alloc(), schema.table(0), text)
-        .ok()
-        .ok_or("not loaded")?;
+    let text = b"id,geom\n1,\n2,\"POLYGON((0 0,4 0,4 4,0 0))\"\n3,POLYGON EMPTY\n";
+    let table = loaded(rt.alloc(), &schema, text)??;
     let mut found = Vec::new(rt.alloc());
     table.index(1).search(None, &mut found)?;
     assert!(rt; found.as_slice() == [0, 2].as_slice());

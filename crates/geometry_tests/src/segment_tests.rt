@@ -1,22 +1,13 @@
 //! Points beside, on and off segments, with values worked out by hand.
 
-use fraction::{GridPoint, RatPoint};
-use orient::{Segment, at_or_above, crosses_up, on, side, side_number};
+use crate::shapes::{Place, position, segment};
+use fraction::RatPoint;
+use orient::{at_or_above, crosses_up, on, side, side_number};
 use std::cmp::Ordering;
 use std::test::Fail;
 
-type Place = (i32, i32);
-
-fn position((x, y): Place) -> Result<GridPoint, Fail> {
-    Ok(GridPoint::new(x, y).ok_or("past the limit")?)
-}
-
 fn at(x: i32, y: i32) -> Result<RatPoint, Fail> {
     Ok(RatPoint::of_grid(position((x, y))?))
-}
-
-fn segment(a: Place, b: Place) -> Result<Segment, Fail> {
-    Ok(Segment::new(position(a)?, position(b)?).ok_or("equal ends")?)
 }
 
 /// A point beside a segment, on it, past its end, and one between the grid at which two segments cross.

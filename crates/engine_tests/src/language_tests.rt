@@ -9,6 +9,24 @@ use table_model::queries::{Explain, WrittenCond, WrittenGeometry, WrittenPredica
 #[test]
 fn texts_are_taken_or_refused(rt: HostRuntime) {
     for (text, fault) in [
+        ("SELECT id FROM t WHERE", Some(QueryFault::Syntax(22))),
+        ("SELECT id -- c\n", Some(QueryFault::Syntax(15))),
+        (
+            "SELECT id FROM t WHERE name = 'b",
+            Some(QueryFault::Lex(30)),
+        ),
+        (
+            "SELECT id FROM t WHERE a = - 9223372036854775809",
+            Some(QueryFault::NumberTooBig(29)),
+        ),
+        (
+            "SELECT id FROM t AS explain WHERE NOT a IS NOT NULL -- all",
+            None,
+        ),
+        (
+            "SELECT a.id FROM t a WHERE (a.id <> 1 OR name != 'it''s') AND +5 < 6;",
+            None,
+        ),
         ("ANALYZE SELECT id FROM t", Some(QueryFault::Syntax(0))),
         ("SELECT id FROM t, u, v", Some(QueryFault::Syntax(19))),
         (
@@ -66,5 +84,26 @@ fn has_every_part(rt: HostRuntime) -> Result<(), Fail> {
     let condition = query.condition.as_ref().ok_or("no WHERE")?;
     assert!(rt; query.explain == Explain::Analyze && query.limit == Some(2));
     assert!(rt; predicate_at(on) == Some(74) && relate_at(condition) == Some((145, 171)));
+    Ok(())
+}
+
+// Where the comparison starts that is the first part of a conjunction.
+fn compared_at(cond: &WrittenCond<'_, WrittenGeometry<'_>>) -> Option<usize> {
+    let WrittenCond::And(parts) = cond else {
+        return None;
+    };
+    match parts.get(0)? {
+        WrittenCond::Compare(at, _, _, _) => Some(*at),
+        _ => None,
+    }
+}
+
+/// The tree of a condition, with the byte at which its comparison starts.
+#[test]
+fn becomes_a_tree(rt: HostRuntime) -> Result<(), Fail> {
+    let text = "SELECT id, name FROM t WHERE pop > 5 AND NOT name = 'b'";
+    let query = read_query(rt.alloc(), text)?;
+    let condition = query.condition.as_ref().ok_or("no condition")?;
+    assert!(rt; compared_at(condition) == Some(29));
     Ok(())
 }

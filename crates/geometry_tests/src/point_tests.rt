@@ -1,5 +1,6 @@
 //! Positions, points and fractions worked by hand.
 
+use crate::shapes::numbers;
 use fraction::{GridPoint, RatPoint};
 use std::cmp::Ordering;
 
@@ -19,23 +20,14 @@ fn a_position_is_within_the_limit(rt: HostRuntime) {
     }
 }
 
-// The three numbers of a point.
-fn triple(point: &RatPoint) -> (i128, i128, i64) {
-    (
-        point.numerator_x(),
-        point.numerator_y(),
-        point.denominator(),
-    )
-}
-
 /// A point is kept in least form, and its own position has the denominator 1.
 #[test]
 fn least_forms(rt: HostRuntime) {
-    assert!(rt; triple(&RatPoint::reduced(12, 4, 10)) == (6, 2, 5));
+    assert!(rt; numbers(&RatPoint::reduced(12, 4, 10)) == (6, 2, 5));
     let steep = RatPoint::reduced(-20_000_000, -799_999_980_000_000, 1_599_999_920_000_002);
-    assert!(rt; triple(&steep) == (-10_000_000, -399_999_990_000_000, 799_999_960_000_001));
+    assert!(rt; numbers(&steep) == (-10_000_000, -399_999_990_000_000, 799_999_960_000_001));
     if let Some(position) = GridPoint::new(-7, 10_000_000) {
-        assert!(rt; triple(&RatPoint::of_grid(position)) == (-7, 10_000_000, 1));
+        assert!(rt; numbers(&RatPoint::of_grid(position)) == (-7, 10_000_000, 1));
         assert!(rt; position.cmp(&position).is_eq());
     }
 }

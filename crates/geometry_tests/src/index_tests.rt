@@ -1,24 +1,20 @@
 //! Envelopes and what an index finds, with values worked out by hand.
 
-use fraction::GridPoint;
+use crate::shapes::{Place, position};
 use rtree::{Envelope, EnvelopeIndex, ListIndex, RTree, meets};
 use std::alloc::{AllocError, Global};
 use std::process::Abort;
 use std::test::Fail;
 
-fn position(x: i32, y: i32) -> Result<GridPoint, Fail> {
-    Ok(GridPoint::new(x, y).ok_or("past the limit")?)
-}
-
 // The envelope of two corners.
-fn framed(a: (i32, i32), b: (i32, i32)) -> Result<Option<Envelope>, Fail> {
-    Ok(Envelope::of_positions(&[position(a.0, a.1)?, position(b.0, b.1)?]))
+fn framed(a: Place, b: Place) -> Result<Option<Envelope>, Fail> {
+    Ok(Envelope::of_positions(&[position(a)?, position(b)?]))
 }
 
 /// The envelope of some positions, and which envelopes meet: an edge in common, one step apart, a cross with no corner within.
 #[test]
 fn envelopes_of_positions(rt: HostRuntime) -> Result<(), Fail> {
-    let corners = [position(3, -2)?, position(-1, 5)?, position(2, 7)?];
+    let corners = [position((3, -2))?, position((-1, 5))?, position((2, 7))?];
     let envelope = Envelope::of_positions(&corners).ok_or("absent")?;
     let across = (envelope.least_x(), envelope.greatest_x());
     let up = (envelope.least_y(), envelope.greatest_y());
@@ -77,7 +73,7 @@ fn the_tree_finds(rt: HostRuntime) -> Result<(), Fail> {
 fn on_a_line(alloc: Global) -> Result<Vec<Option<Envelope>>, Fail> {
     let mut envelopes = Vec::new(alloc);
     for k in 0..100u8 {
-        envelopes.push(Envelope::of_positions(&[position(100 - i32::from(k), 1)?]))?;
+        envelopes.push(Envelope::of_positions(&[position((100 - i32::from(k), 1))?]))?;
     }
     envelopes.push(None)?;
     Ok(envelopes)
@@ -88,11 +84,15 @@ fn on_a_line(alloc: Global) -> Result<Vec<Option<Envelope>>, Fail> {
 fn opened_nodes(rt: HostRuntime) -> Result<(), Fail> {
     let envelopes = on_a_line(rt.alloc())?;
     let tree = RTree::build(rt.alloc(), envelopes.as_slice())?;
-    assert!(rt; tree.opened(framed((0, 0), (4, 4))?) == 3);
-    assert!(rt; tree.opened(framed((500, 500), (500, 500))?) == 0);
-    assert!(rt; tree.opened(framed((8, 1), (9, 1))?) == 4);
-    assert!(rt; tree.opened(framed((0, 0), (100, 9))?) == 16);
-    assert!(rt; tree.opened(None) == 0);
+    for (asked, opened) in [
+        (framed((0, 0), (4, 4))?, 3),
+        (framed((500, 500), (500, 500))?, 0),
+        (framed((8, 1), (9, 1))?, 4),
+        (framed((0, 0), (100, 9))?, 16),
+        (None, 0),
+    ] {
+        assert!(rt; tree.opened(asked) == opened);
+    }
     let mut places = Vec::new(rt.alloc());
     tree.search(framed((0, 0), (4, 4))?, &mut places)?;
     assert!(rt; places.as_slice() == [96, 97, 98, 99].as_slice());
