@@ -8,3 +8,4 @@ mod StandingLemmas
 pub mod StreamLemmas
 pub mod WalkLemmas
 pub mod OrderLemmas
+mod MemoryLemmas
