@@ -126,4 +126,13 @@ impl Strip {
         (rise(self.direction, cell.floor_x, cell.ceiling_y) < self.least)
             & (rise(self.direction, cell.ceiling_x, cell.ceiling_y) < self.least)
     }
+
+    /// Whether an edge is wholly below it, or wholly above it: then it shares no point with what lies in it.
+    pub(crate) fn is_beside(&self, edge: &Segment) -> bool
+        ensures { result ≡ spec.lies_beside self.now edge.now }
+    {
+        let start = rise(self.direction, edge.start().x(), edge.start().y());
+        let end = rise(self.direction, edge.end().x(), edge.end().y());
+        (start < self.least) & (end < self.least) | (self.greatest < start) & (self.greatest < end)
+    }
 }
