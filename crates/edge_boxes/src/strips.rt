@@ -1,6 +1,6 @@
 //! Strips: what lies between two lines of one direction. A long thin run that goes askew has wide bounds and a narrow strip.
 
-ghost use Rattle.std.specs.Prelude.{◌≡◌, ◌<ℤ◌, ◌*ℤ◌, pos, IfSome};
+ghost use Rattle.std.specs.Prelude.{◌≡◌, ◌&&◌, ◌||◌, ◌<ℤ◌, ◌*ℤ◌, pos, int_lt, IfSome};
 ghost use Rattle.edge_boxes.specs.Strips as spec;
 ghost use Rattle.edge_boxes.specs.Strips.{IsInStrip, IsStripOf, IsWider};
 
@@ -36,6 +36,13 @@ fn rise(direction: Direction, x: i32, y: i32) -> i64
     ensures { result ≡ spec.rise direction x y }
 {
     product(direction.dx, y) - product(direction.dy, x)
+}
+
+/// Whether two numbers are both below what is least, or both above what is greatest.
+fn are_beside(one: i64, other: i64, least: i64, greatest: i64) -> bool
+    ensures { result ≡ (int_lt one least && int_lt other least || int_lt greatest one && int_lt greatest other) }
+{
+    (one < least) & (other < least) | (greatest < one) & (greatest < other)
 }
 
 /// The direction between two positions, to the right; none where one stands above the other.
@@ -133,6 +140,6 @@ impl Strip {
     {
         let start = rise(self.direction, edge.start().x(), edge.start().y());
         let end = rise(self.direction, edge.end().x(), edge.end().y());
-        (start < self.least) & (end < self.least) | (self.greatest < start) & (self.greatest < end)
+        are_beside(start, end, self.least, self.greatest)
     }
 }
