@@ -1,5 +1,5 @@
 -- An edge far from a run, by the run's bounds or its strip, shares no point with the run's edges.
-use Rattle.std.proofs.Common.{ℤ, pos, ◌+ℤ◌, ◌-ℤ◌, ◌*ℤ◌, ◌≤ℤ◌, ◌<ℤ◌, int_lt, ◌≡◌, ◌⊎◌, inl, inr, Bool, true, false, ◌&&◌, ◌||◌, refl, sym, ap, ◌∙◌, subst, List, [], ◌∷◌, Option, Some, None, IfSome, arith}
+use Rattle.std.proofs.Common.{ℤ, pos, ◌+ℤ◌, ◌-ℤ◌, ◌*ℤ◌, ◌≤ℤ◌, ◌<ℤ◌, int_lt, ◌≡◌, ◌⊎◌, inl, inr, Bool, true, false, ◌&&◌, ◌||◌, refl, sym, ap, ◌∙◌, subst, List, [], ◌∷◌, Option, Some, IfSome, arith}
 use borrow.Author.Differences.{ints}
 use Rattle.std.specs.List.{AllByRecursion, list_any}
 use Rattle.geometry_model.specs.Points.{Position, Point, IsPoint}
@@ -15,7 +15,7 @@ use Rattle.validity_laws.proofs.ElementFacts.{or_from}
 use Rattle.validity_laws.proofs.SharedPoints.{shared_point_is_decided}
 use Rattle.ring_tests.specs.RunLaws.{box_of}
 use Rattle.ring_tests.proofs.Boxes.{sharing_boxes_overlap}
-use Rattle.edge_boxes.specs.Runs.{LiesIn, SumsUp}
+use Rattle.edge_boxes.specs.Runs.{LiesIn}
 use Rattle.edge_boxes.specs.Strips.{rise, LiesInStrip, IsStripOf, lies_beside}
 use Rattle.edge_boxes.specs.OneLine.{SharesNone}
 use Rattle.edge_boxes.specs.declared.runs.Run.{Run}

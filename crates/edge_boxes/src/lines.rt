@@ -49,11 +49,7 @@ pub(crate) fn is_far(run: &Run, edge: &Segment, bounds: &Bounds) -> bool
 }
 
 /// Whether one of the edges is on one line with another and shares a point with it, from the last box to the first.
-pub(crate) fn is_one_on_line_among(
-    boxes: &[EdgeBox],
-    edges: &[Segment],
-    edge: &Segment,
-) -> bool
+pub(crate) fn is_one_on_line_among(boxes: &[EdgeBox], edges: &[Segment], edge: &Segment) -> bool
     requires { AreBoxes boxes.now edges.now }
     ensures { result ≡ list_any (meet_on_one_line edge.now) edges.now }
 {

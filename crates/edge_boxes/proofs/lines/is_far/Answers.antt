@@ -1,6 +1,5 @@
-use Rattle.std.proofs.Common.{subst, sym, rules, ◌≡◌, ◌∙◌, false}
+use Rattle.std.proofs.Common.{sym, rules, ◌≡◌, ◌∙◌, false}
 use Rattle.geometry_model.specs.Envelopes.{overlap}
-use Rattle.ring_tests.specs.RunLaws.{box_of}
 use Rattle.edge_boxes.proofs.Far.{far_by_bounds, far_by_strip}
 use Rattle.edge_boxes.proofs.lines.is_far.Goals as goal
 
