@@ -182,11 +182,11 @@ lower dx dy a p hx e h = no_less p.Y (a.y *ℤ p.W) (cancel_negative dx (p.Y -�
     no_less : (x y : ℤ) → (x -ℤ y) <ℤ pos 0 → int_le y x ≡ false
     no_less x y h = at_most_no y x (omega (arith, ints, h))
 
-on_off_beyond : (dx dy : ℤ) (e : Edge) (p : Point) → pos 0 <ℤ dx → pos 0 <ℤ beyond dx dy e.start p → pos 0 <ℤ beyond dx dy e.end p → on e p ≡ false
+pub on_off_beyond : (dx dy : ℤ) (e : Edge) (p : Point) → pos 0 <ℤ dx → pos 0 <ℤ beyond dx dy e.start p → pos 0 <ℤ beyond dx dy e.end p → on e p ≡ false
 on_off_beyond dx dy e p hx h k = off_in_y (int_eq (side e.start e.end p) (pos 0)) (between e.start.x e.end.x p.X p.W) (between e.start.y e.end.y p.Y p.W)
     (λ f g. let zeros = stands_upright dx dy e p f g (inl (h, k)) in past e.start.y e.end.y p.Y p.W (higher dx dy e.start p hx zeros.0 h) (higher dx dy e.end p hx zeros.1 k))
 
-on_off_short : (dx dy : ℤ) (e : Edge) (p : Point) → pos 0 <ℤ dx → beyond dx dy e.start p <ℤ pos 0 → beyond dx dy e.end p <ℤ pos 0 → on e p ≡ false
+pub on_off_short : (dx dy : ℤ) (e : Edge) (p : Point) → pos 0 <ℤ dx → beyond dx dy e.start p <ℤ pos 0 → beyond dx dy e.end p <ℤ pos 0 → on e p ≡ false
 on_off_short dx dy e p hx h k = off_in_y (int_eq (side e.start e.end p) (pos 0)) (between e.start.x e.end.x p.X p.W) (between e.start.y e.end.y p.Y p.W)
     (λ f g. let zeros = stands_upright dx dy e p f g (inr (h, k)) in ahead e.start.y e.end.y p.Y p.W (lower dx dy e.start p hx zeros.0 h) (lower dx dy e.end p hx zeros.1 k))
 

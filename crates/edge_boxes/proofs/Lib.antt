@@ -9,3 +9,5 @@ pub mod Steps
 pub mod Growing
 pub mod StripTaking
 pub mod Meeting
+pub mod Far
+pub mod OneLine

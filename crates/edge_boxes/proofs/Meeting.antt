@@ -30,7 +30,7 @@ places_joined asked n (x ∷ xs) ys =
     go false whole own rest e = e
 
 -- ---- none asked for
-edge_apart : (b c : Envelope) (e : Edge) → LiesIn b e → overlap b c ≡ false → overlap (box_of e) c ≡ false
+pub edge_apart : (b c : Envelope) (e : Edge) → LiesIn b e → overlap b c ≡ false → overlap (box_of e) c ≡ false
 edge_apart b c e l far = go (overlap (box_of e) c) refl
   where
     least : (m s t g : ℤ) → m ≤ℤ s → m ≤ℤ t → int_le (int_min s t) g ≡ true → int_le m g ≡ true
@@ -55,7 +55,7 @@ edge_apart b c e l far = go (overlap (box_of e) c) refl
     go true h = absurd (let y : true ≡ false = sym (meet h) ∙ far in cc)
     go false h = h
 
-and_none : (a b : Bool) → b ≡ false → a && b ≡ false
+pub and_none : (a b : Bool) → b ≡ false → a && b ≡ false
 and_none true b e = e
 and_none false b e = refl
 

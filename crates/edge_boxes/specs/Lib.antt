@@ -7,3 +7,4 @@ pub mod Walks
 pub mod Builds
 pub mod Meetings
 pub mod LineCrossings
+pub mod OneLine

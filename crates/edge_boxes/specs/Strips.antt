@@ -1,5 +1,5 @@
 -- Strips: what lies between two lines of one direction.
-use Rattle.std.specs.Prelude.{◌≡◌, Bool, ◌&&◌, List, ℤ, pos, ◌-ℤ◌, ◌*ℤ◌, ◌≤ℤ◌, ◌<ℤ◌, int_lt}
+use Rattle.std.specs.Prelude.{◌≡◌, Bool, ◌&&◌, ◌||◌, List, ℤ, pos, ◌-ℤ◌, ◌*ℤ◌, ◌≤ℤ◌, ◌<ℤ◌, int_lt}
 use Rattle.std.specs.List.{AllByRecursion}
 use Rattle.geometry_model.specs.Points.{Position}
 use Rattle.geometry_model.specs.Geometries.{Edge}
@@ -38,3 +38,9 @@ lies_under s c = int_lt s.greatest (rise s.direction c.floor_x c.floor_y) && int
 -- the strip is wholly above the upper side of the cell
 abbrev pub lies_over : Strip → Cell → Bool
 lies_over s c = int_lt (rise s.direction c.floor_x c.ceiling_y) s.least && int_lt (rise s.direction c.ceiling_x c.ceiling_y) s.least
+
+-- the edge is wholly below the strip, or wholly above it
+abbrev pub lies_beside : Strip → Edge → Bool
+lies_beside s e =
+    int_lt (rise s.direction e.start.x e.start.y) s.least && int_lt (rise s.direction e.end.x e.end.y) s.least
+    || int_lt s.greatest (rise s.direction e.start.x e.start.y) && int_lt s.greatest (rise s.direction e.end.x e.end.y)

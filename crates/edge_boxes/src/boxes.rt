@@ -1,17 +1,20 @@
 //! The list of boxes over consecutive edges, and what is asked of it.
 
 ghost use Rattle.std.specs.Prelude.{◌≡◌, ◌≤◌, ◌<◌, length, List, IfOk, OnOk, slice_range};
+ghost use Rattle.std.specs.List.{list_any};
 ghost use Rattle.geometry_model.specs.Geometries.{Edge};
 ghost use Rattle.edge_boxes.specs.Cells.{IsCellOf};
 ghost use Rattle.edge_boxes.specs.EdgeCrossings.{AreCrossings, on_any};
 ghost use Rattle.edge_boxes.specs.BoxLists.{AreBoxes, BoxesOf, covered};
 ghost use Rattle.edge_boxes.specs.Meetings.{places_meeting};
+ghost use Rattle.edge_boxes.specs.OneLine.{meet_on_one_line};
 ghost use Rattle.edge_boxes.specs.Walks.{IsStep};
 
 use crate::bounds::Bounds;
 use crate::building::boxes_over;
 use crate::cells::Cell;
 use crate::crossings::{Crossings, none, of_edges, told};
+use crate::lines::is_one_on_line_among;
 use crate::meetings::{Asked, push_asked};
 use crate::runs::Run;
 use fraction::RatPoint;
@@ -59,6 +62,15 @@ impl EdgeBoxes {
         ensures { result ≡ on_any edges.now point.now }
     {
         is_held_among(self.boxes.as_slice(), edges, point)
+    }
+
+    /// Whether one of the edges is on one line with another edge and shares a point with it: where none is, none shares a
+    /// stretch with it (OGC 06-103r4, 6.1.15.2: intersection). It takes no memory.
+    pub fn meets_on_line(&self, edges: &[Segment], edge: &Segment) -> bool
+        requires { BoxesOf self.now edges.now }
+        ensures { result ≡ list_any (meet_on_one_line edge.now) edges.now }
+    {
+        is_one_on_line_among(self.boxes.as_slice(), edges, edge)
     }
 
     /// Leaves in the vector the places, from one on, of the edges whose bounds meet these, ascending. It may fail for want

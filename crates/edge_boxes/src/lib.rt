@@ -8,6 +8,7 @@ mod building;
 mod cells;
 pub mod crossings;
 pub mod laws;
+mod lines;
 mod meetings;
 mod runs;
 mod strips;

@@ -1,6 +1,6 @@
 //! Strips: what lies between two lines of one direction. A long thin run that goes askew has wide bounds and a narrow strip.
 
-ghost use Rattle.std.specs.Prelude.{◌≡◌, ◌<ℤ◌, ◌*ℤ◌, pos, IfSome};
+ghost use Rattle.std.specs.Prelude.{◌≡◌, ◌&&◌, ◌||◌, ◌<ℤ◌, ◌*ℤ◌, pos, int_lt, IfSome};
 ghost use Rattle.edge_boxes.specs.Strips as spec;
 ghost use Rattle.edge_boxes.specs.Strips.{IsInStrip, IsStripOf, IsWider};
 
@@ -36,6 +36,13 @@ fn rise(direction: Direction, x: i32, y: i32) -> i64
     ensures { result ≡ spec.rise direction x y }
 {
     product(direction.dx, y) - product(direction.dy, x)
+}
+
+/// Whether two numbers are both below what is least, or both above what is greatest.
+fn are_beside(one: i64, other: i64, least: i64, greatest: i64) -> bool
+    ensures { result ≡ (int_lt one least && int_lt other least || int_lt greatest one && int_lt greatest other) }
+{
+    (one < least) & (other < least) | (greatest < one) & (greatest < other)
 }
 
 /// The direction between two positions, to the right; none where one stands above the other.
@@ -125,5 +132,14 @@ impl Strip {
     {
         (rise(self.direction, cell.floor_x, cell.ceiling_y) < self.least)
             & (rise(self.direction, cell.ceiling_x, cell.ceiling_y) < self.least)
+    }
+
+    /// Whether an edge is wholly below it, or wholly above it: then it shares no point with what lies in it.
+    pub(crate) fn is_beside(&self, edge: &Segment) -> bool
+        ensures { result ≡ spec.lies_beside self.now edge.now }
+    {
+        let start = rise(self.direction, edge.start().x(), edge.start().y());
+        let end = rise(self.direction, edge.end().x(), edge.end().y());
+        are_beside(start, end, self.least, self.greatest)
     }
 }

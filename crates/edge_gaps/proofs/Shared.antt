@@ -1,15 +1,20 @@
 -- The points that an edge shares with others, as they are found one edge after the other.
 use Rattle.std.proofs.Common.{◌≡◌, ◌⊎◌, inl, inr, ℕ, suc, ◌+◌, ◌<◌, ◌≤◌, true, false, refl, sym, ap, subst, ◌∙◌, List, [], ◌∷◌, ◌++◌, length, get_or, All, Contains, pos, ◌≤ℤ◌, arith}
 use Rattle.std.proofs.lemmas.List.{get_or_default}
+use Rattle.std.specs.List.{list_any}
+use Rattle.std.proofs.lemmas.List.Folds.{list_any_at}
 use Rattle.std.proofs.lemmas.List.Elements.{All-contains, Contains-append_cases}
 use Rattle.geometry_model.specs.Points.{Point, IsPoint, same_point}
 use Rattle.geometry_model.specs.Geometries.{Edge}
 use Rattle.geometry_model.specs.Sides.{on, on_one_line}
-use Rattle.geometry_laws.proofs.Scaling.{and_parts}
+use Rattle.geometry_model.specs.FirstFaults.{share_point}
+use Rattle.geometry_laws.proofs.Scaling.{and_parts, and_from}
+use Rattle.validity_laws.proofs.SharedPoints.{shared_point_is_decided}
 use Rattle.fraction.specs.Ranges.{meeting_limit}
 use Rattle.cut_laws.proofs.Lists.{among_from_contains, any_from_some}
 use Rattle.ring_tests.specs.RunLaws.{box_of}
 use Rattle.edge_boxes.specs.Meetings.{places_meeting}
+use Rattle.edge_boxes.specs.OneLine.{meet_on_one_line}
 use Rattle.noding.specs.Meetings.{on_both, named, is_common_cut}
 use Rattle.noding.specs.Nodings.{ListsPoint, PutsPointsInOrder}
 use Rattle.noding.specs.declared.answers.Meet.{Meet}
@@ -91,23 +96,9 @@ shared_in_order e others points ordered h o = record {
   found = λ f c p hp k. point_kept points ordered (shared_points e others points h) o p (h.found f c p hp k);
 }
 
--- ---- none of the edges near is on one line with the edge
-abbrev pub NoneOnItsLine : Edge → List Edge → List ℕ → ℕ → Type 0
-NoneOnItsLine e others near count = (k d : ℕ) (f : Edge) → k < count → on_one_line e (get_or others (get_or near k d) f) ≡ false
-
-pub none_more : (e : Edge) (others : List Edge) (near : List ℕ) (n j : ℕ) (f : Edge) → n < length near → j ≡ get_or near n j → j < length others → f ≡ get_or others j f → on_one_line e f ≡ false
-    → NoneOnItsLine e others near n → NoneOnItsLine e others near (n + 1)
-none_more e others near n j f hn hj lj hf off h k d g l = go (earlier_or_last k n l)
-  where
-    at_last : k ≡ n → get_or others (get_or near k d) g ≡ f
-    at_last is = ap (λ i. get_or others (get_or near i d) g) is ∙ ap (λ i. get_or others i g) (element_stands near n j d hn hj) ∙ element_stands others j f g lj hf
-
-    go : (k < n) ⊎ (k ≡ n) → on_one_line e (get_or others (get_or near k d) g) ≡ false
-    go (inl b) = h k d g b
-    go (inr b) = ap (on_one_line e) (at_last b) ∙ off
-
-pub none_shares : (e : Edge) (others : List Edge) (near : List ℕ) (n : ℕ) → near ≡ places_meeting (box_of e) 0 others → length near ≤ n → NoneOnItsLine e others near n → SharesNoStretch e others
-none_shares e others near n is past h f c one x y hx hy kx lx ky ly = at (sharing_is_near e others near f x is c hx kx lx)
-  where
-    at : IsNearAt near others f → same_point x y ≡ true
-    at a = absurd (let clash : true ≡ false = sym one ∙ sym (ap (on_one_line e) a.stands) ∙ h a.index a.place f (omega (arith, a.within, past)) in cc)
+-- ---- none of the others is on one line with the edge and shares a point with it
+pub none_shares : (e : Edge) (others : List Edge) → list_any (meet_on_one_line e) others ≡ false → SharesNoStretch e others
+none_shares e others none f c one x y hx hy kx lx ky ly =
+    let shares : share_point e f ≡ true = (shared_point_is_decided e f).1 (record { at = x; is_point = hx; on_first = kx; on_second = lx }) in
+    let found = list_any_at (meet_on_one_line e) others c.0 f c.1 (ap (meet_on_one_line e) c.2 ∙ and_from (on_one_line e f) (share_point e f) one shares) in
+    absurd (let clash : true ≡ false = sym found ∙ none in cc)

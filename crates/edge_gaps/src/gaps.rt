@@ -4,7 +4,6 @@ ghost use Rattle.std.specs.Prelude.{◌≡◌, false, [], OnOk, IfOk};
 ghost use Rattle.edge_boxes.specs.BoxLists.{BoxesOf};
 ghost use Rattle.gap_laws.specs.Gaps.{AreGaps, SharesNoStretch};
 
-use crate::lines::is_one_on_its_line;
 use crate::sharing::{find_shared, put_in_order};
 use crate::stops::set_stops;
 use edge_boxes::{Bounds, EdgeBoxes};
@@ -70,8 +69,7 @@ impl Gaps {
         requires { BoxesOf boxes.now others.now }
         ensures { IfOk result (λ may. may ≡ false → SharesNoStretch edge.now others.now) }
     {
-        boxes.meeting(others, &Bounds::of(edge), 0, &mut self.near)?;
-        Ok(is_one_on_its_line(edge, others, self.near.as_slice()))
+        Ok(boxes.meets_on_line(others, edge))
     }
 
     /// Lends the points that the edge shares with others.

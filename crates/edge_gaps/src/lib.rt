@@ -2,7 +2,6 @@
 #![tactic(auto)]
 
 pub mod gaps;
-mod lines;
 mod places;
 mod sharing;
 mod stops;

@@ -1,0 +1,95 @@
+//! Which edges are on one line with another and share a point with it.
+
+ghost use Rattle.std.specs.Prelude.{◌≡◌, ◌≤◌, ◌<◌, true, length};
+ghost use Rattle.std.specs.List.{list_any};
+ghost use Rattle.geometry_model.specs.Sides.{on_one_line};
+ghost use Rattle.ring_tests.specs.RunLaws.{box_of};
+ghost use Rattle.edge_boxes.specs.BoxLists.{AreBoxes};
+ghost use Rattle.edge_boxes.specs.OneLine.{meet_on_one_line, SharesNone, IsLineStep};
+
+use crate::bounds::Bounds;
+use crate::boxes::{EdgeBox, covered, run_of};
+use crate::runs::Run;
+use orient::{Segment, side_number};
+use ring_tests::share_point;
+
+/// Whether two edges are on one line.
+fn are_on_one_line(edge: &Segment, other: &Segment) -> bool
+    ensures { result ≡ on_one_line edge.now other.now }
+{
+    side_number(edge, other.start()) == 0 && side_number(edge, other.end()) == 0
+}
+
+/// Whether two edges are on one line and share a point.
+fn meet_on_one_line(edge: &Segment, other: &Segment) -> bool
+    ensures { result ≡ meet_on_one_line edge.now other.now }
+{
+    are_on_one_line(edge, other) && share_point(edge, other)
+}
+
+/// Whether one of the edges is on one line with another and shares a point with it.
+fn is_one_on_line(edges: &[Segment], edge: &Segment) -> bool
+    ensures { result ≡ list_any (meet_on_one_line edge.now) edges.now }
+{
+    edges.iter().any(|other| meet_on_one_line(edge, other))
+}
+
+/// Whether an edge is far from a run, by the run's bounds or its strip. The bounds are the edge's.
+pub(crate) fn is_far(run: &Run, edge: &Segment, bounds: &Bounds) -> bool
+    requires { bounds.now ≡ box_of edge.now }
+    ensures { result ≡ true → SharesNone run.now edge.now }
+{
+    if !run.bounds.overlap(bounds) {
+        return true;
+    }
+    match &run.strip {
+        Some(strip) => strip.is_beside(edge),
+        None => false,
+    }
+}
+
+/// Whether one of the edges is on one line with another and shares a point with it, from the last box to the first.
+pub(crate) fn is_one_on_line_among(boxes: &[EdgeBox], edges: &[Segment], edge: &Segment) -> bool
+    requires { AreBoxes boxes.now edges.now }
+    ensures { result ≡ list_any (meet_on_one_line edge.now) edges.now }
+{
+    let bounds = Bounds::of(edge);
+    let mut place = boxes.len();
+    let uncovered = run_of(edges, covered(boxes, place), edges.len());
+    if is_one_on_line(uncovered, edge) {
+        return true;
+    }
+    while place > 0 {
+        let (next, own) = line_step(boxes, edges, place, edge, &bounds);
+        if own {
+            return true;
+        }
+        place = next;
+    }
+    false
+}
+
+/// Whether there is one between the place before this one that is looked at next and this one. The bounds are the edge's.
+fn line_step(
+    boxes: &[EdgeBox],
+    edges: &[Segment],
+    place: usize,
+    edge: &Segment,
+    bounds: &Bounds,
+) -> (usize, bool)
+    requires boxes { AreBoxes boxes.now edges.now }
+    requires first { 0 < place }
+    requires last { place ≤ length boxes.now }
+    requires bounds { bounds.now ≡ box_of edge.now }
+    ensures { IsLineStep boxes.now edges.now edge.now place result.0 result.1 }
+{
+    let last = &boxes[place - 1];
+    if is_far(&last.run, edge, bounds) {
+        return (place - 1 - last.size as usize, false);
+    }
+    if last.size == 0 {
+        let leaf = run_of(edges, covered(boxes, place - 1), last.end as usize);
+        return (place - 1, is_one_on_line(leaf, edge));
+    }
+    (place - 1, false)
+}

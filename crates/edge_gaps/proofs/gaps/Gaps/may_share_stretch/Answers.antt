@@ -1,0 +1,6 @@
+use Rattle.std.proofs.Common.{sym, ◌∙◌}
+use Rattle.edge_gaps.proofs.Shared.{none_shares}
+use Rattle.edge_gaps.proofs.gaps.Gaps.may_share_stretch.Goals as goal
+
+pub returns : goal.returns
+returns c none = none_shares c.args.edge.now c.args.others.now (sym c.meets_on_line.ensures ∙ none)
