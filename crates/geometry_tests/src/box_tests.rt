@@ -1,7 +1,9 @@
 //! The boxes over many edges.
 
-use crate::shapes::segment;
+use crate::shapes::{Place, segment};
 use edge_boxes::{Bounds, EdgeBoxes};
+use orient::Segment;
+use std::alloc::Global;
 use std::test::Fail;
 
 #[test]
@@ -21,31 +23,26 @@ fn edges_near_an_edge(rt: HostRuntime) -> Result<(), Fail> {
     Ok(())
 }
 
+// Whether one of the edges lies on the line of the segment between two places and shares a point with it.
+fn meets_on_line(alloc: Global, edges: &[Segment], a: Place, b: Place) -> Result<bool, Fail> {
+    let boxes = EdgeBoxes::build(alloc, edges)?;
+    Ok(boxes.meets_on_line(edges, &segment(a, b)?))
+}
+
 #[test]
 fn edges_on_the_line_of_an_edge(rt: HostRuntime) -> Result<(), Fail> {
     // A slanted line of edges, from (0 0) to (80 80).
     let mut edges = Vec::new(rt.alloc());
     for x in 0..80 {
-        let start = GridPoint::new(x, x).ok_or("past the limit")?;
-        let end = GridPoint::new(x + 1, x + 1).ok_or("past the limit")?;
-        edges.push(Segment::new(start, end).ok_or("equal ends")?)?;
+        edges.push(segment((x, x), (x + 1, x + 1))?)?;
     }
     let edges = edges.as_slice();
-    let boxes = EdgeBoxes::build(rt.alloc(), edges)?;
-    let cases = [
-        // Along one of the edges, and one that touches the last.
-        (((10, 10), (11, 11)), true),
-        (((80, 80), (90, 90)), true),
-        // On the line beyond its end, across it, and along it at its side.
-        (((81, 81), (90, 90)), false),
-        (((0, 80), (80, 0)), false),
-        (((0, 1), (79, 80)), false),
-    ];
-    for ((start, end), expected) in cases {
-        let start = GridPoint::new(start.0, start.1).ok_or("past the limit")?;
-        let end = GridPoint::new(end.0, end.1).ok_or("past the limit")?;
-        let edge = Segment::new(start, end).ok_or("equal ends")?;
-        assert!(rt; boxes.meets_on_line(edges, &edge) == expected);
-    }
+    // Along one of the edges, and one that touches the last.
+    assert!(rt; meets_on_line(rt.alloc(), edges, (10, 10), (11, 11))?);
+    assert!(rt; meets_on_line(rt.alloc(), edges, (80, 80), (90, 90))?);
+    // On the line beyond its end, across it, and along it at its side.
+    assert!(rt; !meets_on_line(rt.alloc(), edges, (81, 81), (90, 90))?);
+    assert!(rt; !meets_on_line(rt.alloc(), edges, (0, 80), (80, 0))?);
+    assert!(rt; !meets_on_line(rt.alloc(), edges, (0, 1), (79, 80))?);
     Ok(())
 }
