@@ -34,6 +34,7 @@ or_else x (Some y) = y
 
 -- ---- what lists of places have
 
+-- joined lists list what either lists, and nothing else
 listed_left : (xs ys : List ColumnPlace) (v : ColumnPlace) → IsListed xs v → IsListed (xs ++ ys) v
 listed_left [] ys v is = absurd is
 listed_left (x ∷ xs) ys v (inl is) = inl is
@@ -51,6 +52,7 @@ listed_joined (x ∷ xs) ys v (inr is) = elim (listed_joined xs ys v is) [
   | inr right ↦ inr right
 ]
 
+-- lists in order, of which each place of the first stands before each of the second, are in order when joined
 in_order_joined : (xs ys : List ColumnPlace) → AreInOrder xs → AreInOrder ys → ((a b : ColumnPlace) → IsListed xs a → IsListed ys b → StandsBefore a b) → AreInOrder (xs ++ ys)
 in_order_joined [] ys are too apart = too
 in_order_joined (x ∷ xs) ys are too apart = (
@@ -66,6 +68,7 @@ in_order_joined (x ∷ xs) ys are too apart = (
 places_in : {T : Type 0} → ℕ → ℕ → List (ColumnDef T) → List ColumnPlace
 places_in r k columns = map (λ c. at r c.0) (enumerate_from k columns)
 
+-- each place that is listed for a reference is that of a column of its table
 there_in : {T : Type 0} (r k : ℕ) (columns : List (ColumnDef T)) (v : ColumnPlace) → IsListed (places_in r k columns) v
     → (v.reference ≡ r) × (i : ℕ) × (column : ColumnDef T) × (v.column ≡ i + k) × (slice_get columns i ≡ Some column)
 unfolding places_in at
@@ -74,12 +77,14 @@ there_in r k (c ∷ columns) v (inl is) = (ap (λ (p : ColumnPlace). p.reference
 there_in r k (c ∷ columns) v (inr is) =
     (let more = there_in r (k + 1) columns v is in (more.0, suc more.1, more.2, more.3 ∙ one_on more.1 k, more.4))
 
+-- and each column of the table is listed
 all_in : {T : Type 0} (r k i : ℕ) (columns : List (ColumnDef T)) (column : ColumnDef T) → slice_get columns i ≡ Some column → IsListed (places_in r k columns) (at r (i + k))
 unfolding places_in at
 all_in r k i [] column is = absurd (none_some column is)
 all_in r k zero (c ∷ columns) column is = inl (ap (at r) (start k))
 all_in r k (suc i) (c ∷ columns) column is = inr (subst (λ n. IsListed (places_in r (k + 1) columns) (at r n)) (one_on i k) (all_in r (k + 1) i columns column is))
 
+-- in the order of the table
 order_in : {T : Type 0} (r k : ℕ) (columns : List (ColumnDef T)) → AreInOrder (places_in r k columns)
 unfolding places_in at
 order_in r k [] = tt
@@ -93,6 +98,7 @@ order_in r k (c ∷ columns) = (λ v is. let more = there_in r (k + 1) columns v
 places_of : {T : Type 0} → List (TableDef T) → ℕ → List Reference → List ColumnPlace
 places_of schema k references = flat_map (λ r. places_in r.0 0 (columns_of schema r.1)) (enumerate_from k references)
 
+-- each place that is listed for some references is that of a column of one of them
 there_of : {T : Type 0} (schema : List (TableDef T)) (k : ℕ) (references : List Reference) (v : ColumnPlace) → IsListed (places_of schema k references) v
     → (i : ℕ) × (reference : Reference) × (column : ColumnDef T) × (v.reference ≡ i + k) × (slice_get references i ≡ Some reference) × (slice_get (columns_of schema reference) v.column ≡ Some column)
 unfolding places_of
@@ -109,6 +115,7 @@ there_of {T} schema k (reference ∷ references) v is = elim (listed_joined (pla
         end : (n : ℕ) → n ≡ n + 0
         end n = omega arith
 
+-- and each column of each is listed
 all_of : {T : Type 0} (schema : List (TableDef T)) (k i c : ℕ) (references : List Reference) (reference : Reference) (column : ColumnDef T) → slice_get references i ≡ Some reference
     → slice_get (columns_of schema reference) c ≡ Some column → IsListed (places_of schema k references) (at (i + k) c)
 unfolding places_of or_else
@@ -127,6 +134,7 @@ all_of schema k (suc i) c (first ∷ references) reference column is too =
     listed_right (places_in k 0 (columns_of schema first)) (places_of schema (k + 1) references) (at (suc i + k) c)
     (subst (λ n. IsListed (places_of schema (k + 1) references) (at n c)) (one_on i k) (all_of schema (k + 1) i c references reference column is too))
 
+-- by references, then by columns
 order_of : {T : Type 0} (schema : List (TableDef T)) (k : ℕ) (references : List Reference) → AreInOrder (places_of schema k references)
 unfolding places_of
 order_of schema k [] = tt
@@ -137,6 +145,7 @@ order_of schema k (reference ∷ references) =
     below : (m n i : ℕ) → m ≡ k → n ≡ i + (k + 1) → m < n
     below m n i is too = omega arith
 
+-- so the list is what the rules ask of the asterisk: these places, all of them, in order
 all_columns : {T : Type 0} (schema : List (TableDef T)) (references : List Reference) → AreAllColumns schema references (places_of schema 0 references)
 unfolding at
 all_columns {T} schema references = record {
@@ -151,6 +160,7 @@ all_columns {T} schema references = record {
 
 -- ---- no other list is
 
+-- no two places stand before one another
 never_both : (a b : ColumnPlace) → StandsBefore a b → StandsBefore b a → ⊥
 never_both a b (inl is) (inl too) = omega arith
 never_both a b (inl is) (inr too) = less a.reference b.reference is too.0
@@ -166,6 +176,7 @@ never_both a b (inr is) (inr too) = less a.column b.column is.1 too.1
     less : (m n : ℕ) → m < n → n < m → ⊥
     less m n is too = omega arith
 
+-- two lists in order with the same places are one: were their first places two, each would stand before the other
 one_order : (xs ys : List ColumnPlace) → AreInOrder xs → AreInOrder ys → ((v : ColumnPlace) → IsListed xs v → IsListed ys v) → ((v : ColumnPlace) → IsListed ys v → IsListed xs v) → xs ≡ ys
 one_order [] [] are too to from = refl
 one_order [] (y ∷ ys) are too to from = absurd (from y (inl refl))
@@ -202,11 +213,13 @@ map_joined f (x ∷ xs) ys = ap (λ zs. f x ∷ zs) (map_joined f xs ys)
 items_in : {T D : Type 0} → ℕ → ℕ → List (ColumnDef T) → List (Item D)
 items_in r k columns = map (λ c. items.Column (at r c.0)) (enumerate_from k columns)
 
+-- the items of a reference's columns are those of the places listed for it
 own_items : {T D : Type 0} (r k : ℕ) (columns : List (ColumnDef T)) → items_in {D = D} r k columns ≡ map items.Column (places_in r k columns)
 unfolding places_in items_in
 own_items r k [] = refl
 own_items r k (c ∷ columns) = ap (λ is. items.Column (at r k) ∷ is) (own_items r (k + 1) columns)
 
+-- and so are the items of all references
 items_are : {T D : Type 0} (schema : List (TableDef T)) (k : ℕ) (references : List Reference)
     → flat_map (λ r. items_of {D = D} r.0 (columns_of schema r.1)) (enumerate_from k references) ≡ map items.Column (places_of schema k references)
 unfolding places_of items_in at
@@ -215,6 +228,7 @@ items_are schema k (reference ∷ references) =
     ap₂ (λ is more. is ++ more) (own_items k 0 (columns_of schema reference)) (items_are schema (k + 1) references)
     ∙ sym (map_joined items.Column (places_in k 0 (columns_of schema reference)) (places_of schema (k + 1) references))
 
+-- the asterisk is answered a list that the rules allow, and they allow just one
 pub all_agree : {T D : Type 0} (schema : List (TableDef T)) (references : List Reference)
     → Agrees (Then (AreAllColumns schema references) (λ places listed. listed ≡ map items.Column places)) (λ fault. ⊥) (Ok (all_items {D = D} schema references))
 all_agree schema references = record {

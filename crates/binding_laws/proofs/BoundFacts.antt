@@ -111,6 +111,7 @@ named name all k (column ∷ columns) stands =
 abbrev pub HasType : {T : Type 0} → List (TableDef T) → List Reference → Found → Type 0
 HasType schema references found = place_type schema references found.place ≡ Some found.column_type
 
+-- a column that is found in a reference's table has its type at that place
 in_reference : {T : Type 0} (schema : List (TableDef T)) (references : List Reference) (k : ℕ) (r : Reference) (o : Option (ℕ × OperandType)) → slice_get references k ≡ Some r
     → IfSome o (λ f. column_type (slice_get (columns_of schema r) f.0) ≡ Some f.1) → IfSome (found_in k o) (HasType schema references)
 in_reference schema references k r None is has = tt
@@ -120,6 +121,7 @@ each_kept : {X : Type 0} (P : X → Type 0) (o : Option X) (xs : List X) → IfS
 each_kept P None xs is are = are
 each_kept P (Some x) xs is are = (is, are)
 
+-- so each column that is meant in some references has its type at its place
 meant : {T : Type 0} (schema : List (TableDef T)) (references : List Reference) (w : WrittenColumn) (k : ℕ) (rs : List Reference) → ((i : ℕ) → slice_get references (i + k) ≡ slice_get rs i)
     → Each (HasType schema references) (columns_meant schema w k rs)
 meant schema references w k [] stands = tt
@@ -139,6 +141,7 @@ meant schema references w k (r ∷ rs) stands =
     one_on : (i n : ℕ) → i + (n + 1) ≡ suc i + n
     one_on i n = omega arith
 
+-- where all columns that are meant have it, the only one has
 the_one_ok : (P : Found → Type 0) (at : ℕ) (fs : List Found) → Each P fs → IfOk (the_one at fs) P
 the_one_ok P at [] are = tt
 the_one_ok P at (f ∷ []) are = are.0
@@ -162,6 +165,7 @@ pub record Fitting {T A B C D : Type 0} (how : GeometryBinding T A B C D) (fits 
   pub item_argument : (schema : List (TableDef T)) (references : List Reference) (c : C)
       → IfOk (how.item_argument schema references c) (λ t. t.part_type ≡ types.Geometry → fits.item_argument schema references t.part ≡ true)
 
+-- the part that passes the test for a geometry is the part that was tested, and a geometry
 only_geometry : {X : Type 0} (at : ℕ) (part : X) (type : OperandType) → IfOk (geometry_of_type at part type) (λ x. (x ≡ part) × (type ≡ types.Geometry))
 only_geometry at part types.Geometry = (refl, refl)
 only_geometry at part types.Integer = tt
@@ -178,6 +182,7 @@ checked_ok : {X : Type 0} (b : Bool) (at : ℕ) (x : X) (P : X → Type 0) → (
 checked_ok true at x P is = is refl
 checked_ok false at x P is = tt
 
+-- an operand has the type that it is bound with: its column's, its literal's or that of its function
 operand_ok : {T A B C D : Type 0} (how : GeometryBinding T A B C D) (fits : GeometryFits T B D) → Fitting how fits → (schema : List (TableDef T)) (references : List Reference) (w : WrittenOperand A)
     → IfOk (bound_operand how schema references w) (λ t. operand_type fits schema references t.part ≡ Some t.part_type)
 operand_ok how fits fitting schema references (written_operand.Column w) =
@@ -272,6 +277,7 @@ single false = refl
 alone : {A : Type 0} (p : Cond A → Bool) (c : Cond A) → conjuncts_of c ≡ c ∷ [] → list_all p (conjuncts_of c) ≡ p c
 alone p c is = ap (list_all p) is ∙ single (p c)
 
+-- where it is so with each part, the conjuncts of all parts pass where the parts do
 all_in : {A : Type 0} (p : Cond A → Bool) (parts : List (Cond A)) → Each (λ c. list_all p (conjuncts_of c) ≡ p c) parts → list_all p (flat_map conjuncts_of parts) ≡ list_all p parts
 all_in p [] are = refl
 all_in p (c ∷ parts) are = all_split p (conjuncts_of c) (flat_map conjuncts_of parts) ∙ ap₂ (λ a b. a && b) are.0 (all_in p parts are.1)
@@ -288,6 +294,7 @@ conjuncts_pass p of_and = by_parts (λ c. list_all p (conjuncts_of c) ≡ p c) (
   relates = λ predicate a b. alone p (conds.Relates predicate a b) (conjuncts-Relates predicate a b);
 })
 
+-- a condition that fits has conjuncts that fit, since an AND fits where its parts do
 condition_ok : {T A B C D : Type 0} (how : GeometryBinding T A B C D) (fits : GeometryFits T B D) → Fitting how fits → (schema : List (TableDef T)) (references : List Reference) (w : Option (WrittenCond A))
     → IfOk (bound_condition how schema references w) (λ cs. list_all (cond_fits fits schema references) cs ≡ true)
 condition_ok how fits fitting schema references None = refl
@@ -300,6 +307,7 @@ condition_ok {B = B} how fits fitting schema references (Some w) =
 
 -- ---- the select list
 
+-- an item is a column that is there or a function of a geometry that fits
 item_ok : {T A B C D : Type 0} (how : GeometryBinding T A B C D) (fits : GeometryFits T B D) → Fitting how fits → (schema : List (TableDef T)) (references : List Reference) (w : WrittenItem C)
     → IfOk (bound_item how schema references w) (λ i. item_fits fits schema references i ≡ true)
 item_ok how fits fitting schema references (written_item.Column w) =
@@ -334,6 +342,7 @@ in_columns fits schema references k r is j (column ∷ columns) stands =
     one_on : (i n : ℕ) → i + (n + 1) ≡ suc i + n
     one_on i n = omega arith
 
+-- so all that the asterisk lists is there, reference by reference
 in_references : {T A D : Type 0} (fits : GeometryFits T A D) (schema : List (TableDef T)) (references : List Reference) (k : ℕ) (rs : List Reference) → ((i : ℕ) → slice_get references (i + k) ≡ slice_get rs i)
     → list_all (item_fits fits schema references) (flat_map (λ r. items_of r.0 (columns_of schema r.1)) (enumerate_from k rs)) ≡ true
 in_references fits schema references k [] stands = refl
@@ -359,6 +368,7 @@ never : {X : Type 0} → false ≡ true → X
 unfolding OrNothing
 never {X} e = subst (OrNothing X) e tt
 
+-- the items of a select list fit, and a count lists none
 items_ok : {T A B C D : Type 0} (how : GeometryBinding T A B C D) (fits : GeometryFits T B D) → Fitting how fits → (schema : List (TableDef T)) (references : List Reference) (s : Selection C)
     → IfOk (bound_items how schema references s) (λ listed. (list_all (item_fits fits schema references) listed ≡ true) × (counts s ≡ true → listed ≡ []))
 items_ok how fits fitting schema references selections.All =
@@ -373,18 +383,22 @@ items_ok how fits fitting schema references selections.Count = (refl, λ e. refl
 
 -- ---- references
 
+-- a table that is found by its name is one of the schema's
 placed : {T : Type 0} (schema : List (TableDef T)) (w : WrittenReference) (o : Option ℕ) → table_place schema w.table.text ≡ o
     → IfOk (reference_at schema w o) (λ r. r.table < length schema)
 placed schema w None found = tt
 placed schema w (Some place) found =
     (position-Some (λ table. same_name table.name w.table.text) schema place (record { name = []; columns = []; key = 0 }) found).0
 
+-- so a reference that is bound is to a table of the schema
 one_reference : {T : Type 0} (schema : List (TableDef T)) (w : WrittenReference) → IfOk (bound_reference schema w) (λ r. r.table < length schema)
 one_reference schema w = placed schema w (table_place schema w.table.text) refl
 
+-- one reference to a table of the schema is what FROM may have
 one_ok : {T : Type 0} (schema : List (TableDef T)) (r : Reference) → r.table < length schema → AreReferences schema (r ∷ [])
 one_ok schema r there = record { few = inl refl; there = All-cons (λ (x : Reference). x.table < length schema) r [] there (All-nil (λ (x : Reference). x.table < length schema)); differ = refl }
 
+-- two are, where their names differ; with one name they are refused
 chosen : {T : Type 0} (schema : List (TableDef T)) (r s : Reference) (at : ℕ) (same : Bool) → same_name r.name s.name ≡ same → r.table < length schema → s.table < length schema
     → IfOk (if same then Err (query_fault.SameName at) else Ok (r ∷ s ∷ [])) (AreReferences schema)
 chosen schema r s at true is there too = tt
@@ -397,12 +411,14 @@ chosen schema r s at false is there too = record {
     P : Reference → Type 0
     P x = x.table < length schema
 
+-- so it is with an absent second reference, and with a bound one
 second_ok : {T : Type 0} (schema : List (TableDef T)) (first : Reference) (o : Option WrittenReference) → first.table < length schema → IfOk (with_second schema first o) (AreReferences schema)
 second_ok schema first None there = one_ok schema first there
 second_ok schema first (Some w) there =
     then_ok (bound_reference schema w) (λ s. two_references first s (name_start w.table w.alias)) (λ r. r.table < length schema) (AreReferences schema)
     (one_reference schema w) (λ s too. chosen schema first s (name_start w.table w.alias) (same_name first.name s.name) refl there too)
 
+-- and with all that FROM is bound to
 references_ok : {T : Type 0} (schema : List (TableDef T)) (one : WrittenReference) (other : Option WrittenReference) → IfOk (bound_references schema one other) (AreReferences schema)
 references_ok schema one other =
     then_ok (bound_reference schema one) (λ first. with_second schema first other) (λ r. r.table < length schema) (AreReferences schema)
@@ -410,6 +426,7 @@ references_ok schema one other =
 
 -- ---- queries
 
+-- a query is bound part by part, and each part fits the definitions
 pub binding_ok : {T A B C D : Type 0} (how : GeometryBinding T A B C D) (fits : GeometryFits T B D) → Fitting how fits → (schema : List (TableDef T)) (query : Query A C)
     → IfOk (binding how schema query) (IsBound fits schema)
 binding_ok how fits fitting schema query =
@@ -426,6 +443,7 @@ binding_ok how fits fitting schema query =
 
 -- ---- what a geometry is
 
+-- a geometry that passes the test of validity has no fault
 valid : (r : Result Geometry TextFault) → IfOk (tested r) (λ g. validity_fault g ≡ None)
 valid (Err e) = tt
 valid (Ok g) = go (validity_fault g) refl
@@ -434,15 +452,18 @@ valid (Ok g) = go (validity_fault g) refl
     go None is = is
     go (Some f) is = tt
 
+-- so the geometry that a text is taken for is valid
 valid_text : (bytes : List ℕ) → IfOk (geometry_in_text bytes) (λ g. validity_fault g ≡ None)
 unfolding geometry_in_text
 valid_text bytes = valid (read_text bytes)
 
+-- and a literal fits
 literal_ok : (schema : List (TableDef ColumnShape)) (references : List Reference) (at : ℕ) (r : Result Geometry GeometryFault) → IfOk r (λ g. validity_fault g ≡ None)
     → IfOk (literal at r) (λ t. t.part_type ≡ types.Geometry → argument_fits schema references t.part ≡ true)
 literal_ok schema references at (Ok g) is = λ geometry. ap is_none is
 literal_ok schema references at (Err e) is = tt
 
+-- an argument of type geometry fits: a column of geometries, or a valid literal
 argument_ok : (schema : List (TableDef ColumnShape)) (references : List Reference) (a : WrittenGeometry)
     → IfOk (bound_argument schema references a) (λ t. t.part_type ≡ types.Geometry → argument_fits schema references t.part ≡ true)
 argument_ok schema references (written_geometry.Column w) =
@@ -450,6 +471,7 @@ argument_ok schema references (written_geometry.Column w) =
     (λ found is geometry. ap is_geometry is ∙ ap (λ t. is_geometry (Some t)) geometry)
 argument_ok schema references (written_geometry.FromText string) = literal_ok schema references string.at (geometry_in_text (unquoted string.text)) (valid_text (unquoted string.text))
 
+-- so arguments of conditions and of items fit where they are geometries
 geometry_fitting : Fitting geometry_binding geometry_fits
 geometry_fitting = record {
   argument = argument_ok;
@@ -457,9 +479,11 @@ geometry_fitting = record {
       (λ found is geometry. ap is_geometry is ∙ ap (λ t. is_geometry (Some t)) geometry);
 }
 
+-- which is all that the binding of a query asks of its geometries
 pub geometry_queries_are_bound : GeometryQueriesAreBound
 geometry_queries_are_bound definitions query = binding_ok geometry_binding geometry_fits geometry_fitting definitions query
 
+-- where a call that may run out of memory answers, its answer is the one that was to be given
 answered : {X : Type 0} (r s : Checked X) (P : X → Type 0) → IfOk s P → Gives query_fault.OutOfMemory (λ x. x) r s → IfOk r P
 answered (Ok x) s P is gives = subst (λ t. IfOk t P) gives is
 answered (Err e) s P is gives = tt

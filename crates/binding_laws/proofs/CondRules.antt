@@ -28,6 +28,7 @@ use Rattle.binding_laws.proofs.WrittenInduction.{by_written}
 
 -- ---- operands and predicates
 
+-- an operand is a column, a literal or a function, whose argument has to be a geometry
 operand_agrees : {T A B C D : Type 0} (rules : GeometryRules T A B C D) (how : GeometryBinding T A B C D) → GeometryAgrees rules how → (schema : List (TableDef T)) (references : List Reference) (w : WrittenOperand A)
     → Agrees (IsBoundOperand rules schema references w) (IsRefusedOperand rules schema references w) (bound_operand how schema references w)
 operand_agrees {T = T} rules how agrees schema references (written_operand.Column w) =
@@ -48,12 +49,14 @@ operand_agrees rules how agrees schema references (written_operand.Dimension at 
     (how.argument schema references a) (λ argument. geometry_only at argument >>= (λ x. Ok (record { part = operands.Dimension x; part_type = types.Integer }))) (agrees.argument schema references a)
     (λ argument is. answered (IsGeometryPart argument) (IsNoGeometry at argument) (geometry_only at argument) (λ x. record { part = operands.Dimension x; part_type = types.Integer }) (geometry_agrees at argument))
 
+-- a predicate is a named one, or Relate with a pattern, which is bound
 predicate_agrees : {T A B C D : Type 0} (rules : GeometryRules T A B C D) (how : GeometryBinding T A B C D) → GeometryAgrees rules how → (w : WrittenPredicate)
     → Agrees (IsBoundPredicate rules w) (IsRefusedPredicate rules w) (bound_predicate how.pattern w)
 predicate_agrees rules how agrees (written_predicate.Named p) = pure p
 predicate_agrees rules how agrees (written_predicate.Relate string) =
     answered (rules.IsPattern string) (rules.IsRefusedPattern string) (how.pattern string) predicates.Relate (agrees.pattern string)
 
+-- a comparison binds its left operand, then its right one, then tests whether their types compare
 comparison_agrees : {T A B C D : Type 0} (rules : GeometryRules T A B C D) (how : GeometryBinding T A B C D) → GeometryAgrees rules how → (schema : List (TableDef T)) (references : List Reference) (at : ℕ) (sign : Comparison) (a b : WrittenOperand A)
     → Agrees (IsCompared rules schema references sign a b) (IsRefusedComparison rules schema references at a b) (bound_comparison how schema references at sign a b)
 comparison_agrees rules how agrees schema references at sign a b =
@@ -61,11 +64,13 @@ comparison_agrees rules how agrees schema references at sign a b =
     (λ left left_is. sequence (IsBoundOperand rules schema references b) (IsRefusedOperand rules schema references b) _ _ (bound_operand how schema references b) _ (operand_agrees rules how agrees schema references b)
     (λ right right_is. types_tested (comparable left.part_type right.part_type) at (conds.Compare sign left.part right.part)))
 
+-- a test for NULL binds its operand, of whatever type
 null_agrees : {T A B C D : Type 0} (rules : GeometryRules T A B C D) (how : GeometryBinding T A B C D) → GeometryAgrees rules how → (schema : List (TableDef T)) (references : List Reference) (a : WrittenOperand A)
     → Agrees (Then (IsBoundOperand rules schema references a) (λ operand cond. cond ≡ conds.IsNull operand.part)) (FirstFault (IsBoundOperand rules schema references a) (IsRefusedOperand rules schema references a) (λ operand f. ⊥)) (bound_null_test how schema references a)
 null_agrees rules how agrees schema references a =
     answered (IsBoundOperand rules schema references a) (IsRefusedOperand rules schema references a) (bound_operand how schema references a) (λ operand. conds.IsNull operand.part) (operand_agrees rules how agrees schema references a)
 
+-- a test for emptiness binds its argument, which has to be a geometry
 emptiness_agrees : {T A B C D : Type 0} (rules : GeometryRules T A B C D) (how : GeometryBinding T A B C D) → GeometryAgrees rules how → (schema : List (TableDef T)) (references : List Reference) (at : ℕ) (a : A)
     → Agrees (Then (rules.IsArgument schema references a) (λ argument. Then (IsGeometryPart argument) (λ x cond. cond ≡ conds.IsEmpty x)))
     (FirstFault (rules.IsArgument schema references a) (rules.IsRefusedArgument schema references a) (λ argument. FirstFault (IsGeometryPart argument) (IsNoGeometry at argument) (λ x f. ⊥))) (bound_emptiness how schema references at a)
@@ -73,6 +78,7 @@ emptiness_agrees rules how agrees schema references at a =
     sequence (rules.IsArgument schema references a) (rules.IsRefusedArgument schema references a) _ _ (how.argument schema references a) _ (agrees.argument schema references a)
     (λ argument is. answered (IsGeometryPart argument) (IsNoGeometry at argument) (geometry_only at argument) conds.IsEmpty (geometry_agrees at argument))
 
+-- a relation binds its arguments and its predicate, then tests that both arguments are geometries
 relation_agrees : {T A B C D : Type 0} (rules : GeometryRules T A B C D) (how : GeometryBinding T A B C D) → GeometryAgrees rules how → (schema : List (TableDef T)) (references : List Reference) (at : ℕ) (w : WrittenPredicate) (a b : A)
     → Agrees (IsRelated rules schema references w a b) (IsRefusedRelation rules schema references at w a b) (bound_relation how schema references at w a b)
 relation_agrees rules how agrees schema references at w a b =
@@ -91,6 +97,7 @@ weaker : {X : Type 0} (r : Checked X) (P Q : X → Type 0) (R S : QueryFault →
 weaker (Ok x) P Q R S to and_to is other = (to x is, tt)
 weaker (Err e) P Q R S to and_to other is = (tt, and_to e is)
 
+-- a condition and more: bound where all of them are, or refused for the first that is refused
 one_more : {T A B C D : Type 0} (rules : GeometryRules T A B C D) (schema : List (TableDef T)) (references : List Reference) (p : WrittenCond A) (ps : List (WrittenCond A)) (r : Checked (Cond B)) (s : Checked (List (Cond B)))
     → IfOk r (IsCond rules schema references p) → IfErr r (IsRefusedCond rules schema references p) → IfOk s (AreConds rules schema references ps) → IfErr s (AreRefused rules schema references ps)
     → IfOk (and_then r (λ x. and_then s (λ xs. Ok (x ∷ xs)))) (AreConds rules schema references (p ∷ ps)) × IfErr (and_then r (λ x. and_then s (λ xs. Ok (x ∷ xs)))) (AreRefused rules schema references (p ∷ ps))
@@ -98,6 +105,7 @@ one_more rules schema references p ps (Ok c) (Ok cs) is a are b = (rule.Before p
 one_more rules schema references p ps (Ok c) (Err e) is a b refused = (tt, rule.InLater p ps c e is refused)
 one_more rules schema references p ps (Err e) s a refused b d = (tt, rule.InFirst p ps e refused)
 
+-- so what parts are bound to, or refused for, from left to right, the rules say
 all_forward : {T A B C D : Type 0} (rules : GeometryRules T A B C D) (how : GeometryBinding T A B C D) (schema : List (TableDef T)) (references : List Reference) (parts : List (WrittenCond A))
     → Each (λ w. Forward rules how schema references w (bound_cond how schema references w)) parts
     → IfOk (each (map (bound_cond how schema references) parts)) (AreConds rules schema references parts) × IfErr (each (map (bound_cond how schema references) parts)) (AreRefused rules schema references parts)
@@ -112,6 +120,7 @@ made : {X Y : Type 0} (r : Checked X) (v : X → Y) (P : X → Type 0) (Q : Y �
 made (Ok x) v P Q R S to and_to is other = (to x is, tt)
 made (Err e) v P Q R S to and_to other is = (tt, and_to e is)
 
+-- what a condition is bound to, or refused for, the rules say, where they say it of its parts
 conds_forward : {T A B C D : Type 0} (rules : GeometryRules T A B C D) (how : GeometryBinding T A B C D) → GeometryAgrees rules how → (schema : List (TableDef T)) (references : List Reference) (w : WrittenCond A)
     → Forward rules how schema references w (bound_cond how schema references w)
 unfolding Forward
@@ -138,6 +147,7 @@ conds_forward {T} {A} {B} {C} {D} rules how agrees schema references = by_writte
 
 -- ---- what the rules say, is answered
 
+-- by induction over the rules: the parts that they bind are answered so, and with them the condition
 mutual
   cond_answers : {T A B C D : Type 0} (rules : GeometryRules T A B C D) (how : GeometryBinding T A B C D) (agrees : GeometryAgrees rules how) (schema : List (TableDef T)) (references : List Reference) (w : WrittenCond A) (c : Cond B)
       → IsCond rules schema references w c → bound_cond how schema references w ≡ Ok c
@@ -162,6 +172,7 @@ mutual
   conds_answer rules how agrees schema references ws cs (rule.Before part parts bound more is are) =
       ap₂ (λ r s. and_then r (λ x. and_then s (λ xs. Ok (x ∷ xs)))) (cond_answers rules how agrees schema references part bound is) (conds_answer rules how agrees schema references parts more are)
 
+-- and where they refuse a part, its fault is the condition's, since the parts before it are bound
 mutual
   cond_refuses : {T A B C D : Type 0} (rules : GeometryRules T A B C D) (how : GeometryBinding T A B C D) (agrees : GeometryAgrees rules how) (schema : List (TableDef T)) (references : List Reference) (w : WrittenCond A) (f : QueryFault)
       → IsRefusedCond rules schema references w f → bound_cond how schema references w ≡ Err f
@@ -187,6 +198,7 @@ mutual
   conds_refuse rules how agrees schema references ws f (rule.InLater part parts bound fault is are) =
       ap₂ (λ r s. and_then r (λ x. and_then s (λ xs. Ok (x ∷ xs)))) (cond_answers rules how agrees schema references part bound is) (conds_refuse rules how agrees schema references parts fault are)
 
+-- what is answered the rules say, and what they say is answered
 pub cond_agrees : {T A B C D : Type 0} (rules : GeometryRules T A B C D) (how : GeometryBinding T A B C D) → GeometryAgrees rules how → (schema : List (TableDef T)) (references : List Reference) (w : WrittenCond A)
     → Agrees (IsCond rules schema references w) (IsRefusedCond rules schema references w) (bound_cond how schema references w)
 unfolding Forward

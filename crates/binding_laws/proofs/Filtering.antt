@@ -19,6 +19,7 @@ use Rattle.table_model.proofs.ConjunctFacts.{conjuncts-Or, conjuncts-And, conjun
 use Rattle.table_model.proofs.TruthFacts.{of_parts, are_true}
 use Rattle.binding_laws.specs.FilterLaws.{ConjunctsByParts, BoundOfStatement, ConjunctsAreTrue, ConjunctsAreFiltered, MeaningByConjuncts}
 
+-- the conjuncts, computed at each kind of condition
 pub conjuncts_by_parts : (A : Type 0) → ConjunctsByParts A
 conjuncts_by_parts A = record {
   and = conjuncts-And;
@@ -47,6 +48,7 @@ then_then : {X Y Z : Type 0} (r : Checked X) (f : X → Checked Y) (g : Y → Ch
 then_then (Ok x) f g = refl
 then_then (Err e) f g = refl
 
+-- steps that go on alike answer alike
 same_then : {X Y : Type 0} (r : Checked X) (f g : X → Checked Y) → ((x : X) → f x ≡ g x) → (r >>= f) ≡ (r >>= g)
 same_then (Ok x) f g same = same x
 same_then (Err e) f g same = refl
@@ -55,6 +57,7 @@ same_then (Err e) f g same = refl
 in_form : {X Y Z : Type 0} (s : Checked Y) (r : Checked X) (v : X → Y) (f : Y → Checked Z) → s ≡ (r >>= (λ x. Ok (v x))) → (s >>= f) ≡ (r >>= (λ x. f (v x)))
 in_form s r v f is = ap (λ q. q >>= f) is ∙ then_then r (λ x. Ok (v x)) f
 
+-- both bindings take the same steps; taking the conjuncts of ON and WHERE refuses nothing and may come last
 pub bound_of_statement : (T A B C D : Type 0) → BoundOfStatement T A B C D
 bound_of_statement T A B C D how schema query =
     same_then (bound_references schema query.first query.second) _ _ (λ references.
@@ -73,6 +76,7 @@ single : (b : Bool) → (b && true) ≡ b
 single true = refl
 single false = refl
 
+-- all of two joined lists pass where all of both do
 all_joined : {X : Type 0} (p : X → Bool) (xs ys : List X) → list_all p (xs ++ ys) ≡ (list_all p xs && list_all p ys)
 all_joined p [] ys = refl
 all_joined p (x ∷ xs) ys = ap (λ b. p x && b) (all_joined p xs ys) ∙ associates (p x) (list_all p xs) (list_all p ys)
@@ -94,10 +98,12 @@ all_true_in value (c ∷ parts) each =
 alone : {A : Type 0} (value : Cond A → Truth) (c : Cond A) → conjuncts_of c ≡ c ∷ [] → list_all (λ x. is_true (value x)) (conjuncts_of c) ≡ is_true (value c)
 alone value c is = ap (list_all (λ x. is_true (value x))) is ∙ single (is_true (value c))
 
+-- an AND is true exactly where all its parts are (SQL's three-valued logic)
 and_is_true : {A G : Type 0} (matrix : Geometry → Geometry → Matrix) (denotes : Rows G → A → Option Geometry) (rows : Rows G) (parts : List (Cond A))
     → is_true (truth matrix denotes rows (conds.And parts)) ≡ list_all (λ x. is_true (truth matrix denotes rows x)) parts
 and_is_true matrix denotes rows parts = ap is_true (of_parts matrix denotes rows parts) ∙ are_true (truth matrix denotes rows) parts
 
+-- an AND is true where its parts' conjuncts are, and any other condition is its own only conjunct
 pub conjuncts_are_true : (G A : Type 0) → ConjunctsAreTrue G A
 conjuncts_are_true G A matrix denotes rows = by_parts (λ c. list_all (λ x. is_true (value x)) (conjuncts_of c) ≡ is_true (value c)) (record {
   or = λ parts each. alone value (conds.Or parts) (conjuncts-Or parts);
@@ -118,6 +124,7 @@ in_option : {A : Type 0} (value : Cond A → Truth) → ((c : Cond A) → list_a
 in_option value are None = refl
 in_option value are (Some c) = are c ∙ sym (single (is_true (value c)))
 
+-- the conjuncts of ON and those of WHERE are true where both are, and so where their AND is
 pub conjuncts_are_filtered : (G A C : Type 0) → ConjunctsAreFiltered G A C
 conjuncts_are_filtered G A C matrix denotes rows query =
     all_joined test (conjuncts_in query.on) (conjuncts_in query.condition)
@@ -131,6 +138,7 @@ conjuncts_are_filtered G A C matrix denotes rows query =
     test : Cond A → Bool
     test x = is_true (truth matrix denotes rows x)
 
+-- both tests are one at every choice of rows, so they filter the same rows
 pub meaning_by_conjuncts : (G A C : Type 0) → MeaningByConjuncts G A C
 meaning_by_conjuncts G A C matrix denotes tables query =
     ap (λ test. let rows = filter test (product (referenced tables query.references)) in if query.counts then rows else up_to query.limit rows)

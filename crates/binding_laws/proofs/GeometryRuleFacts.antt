@@ -20,6 +20,7 @@ use Rattle.binding_laws.proofs.CondRules.{cond_agrees}
 use Rattle.binding_laws.proofs.NameFacts.{columns_agree}
 use Rattle.binding_laws.proofs.RuleFacts.{answered}
 
+-- a geometry's text is bound to the geometry that is read from it, or refused with the fault of the text or of the geometry
 literal_agrees : (at : ℕ) (r : Result Geometry GeometryFault)
     → Agrees (λ typed. (g : Geometry) × (r ≡ Ok g) × (typed ≡ record { part = arguments.Literal g; part_type = types.Geometry }))
     (λ fault. (reason : GeometryFault) × (r ≡ Err reason) × (fault ≡ faults.BadGeometry at reason)) (literal at r)
@@ -36,6 +37,7 @@ literal_agrees at (Err e) = record {
   refuses = λ fault is. ap (literal at) is.1 ∙ ap Err (sym is.2);
 }
 
+-- a pattern's text is bound to its pattern, or refused where it writes none
 pattern_agrees : (at : ℕ) (o : Option Pattern) → Agrees (λ pattern. o ≡ Some pattern) (λ fault. (o ≡ None) × (fault ≡ faults.BadPattern at)) (pattern_or at o)
 pattern_agrees at (Some p) = record {
   stands = refl;
@@ -50,12 +52,14 @@ pattern_agrees at None = record {
   refuses = λ fault is. ap (pattern_or at) is.0 ∙ ap Err (sym is.1);
 }
 
+-- a geometry argument is a column, bound by its name, or a text
 argument_agrees : (schema : List (TableDef ColumnShape)) (references : List Reference) (a : WrittenGeometry)
     → Agrees (IsGeometryArgument schema references a) (IsRefusedGeometryArgument schema references a) (bound_argument schema references a)
 argument_agrees schema references (written_geometry.Column w) =
     answered (IsBoundColumn schema references w) (IsRefusedColumn schema references w) (bound_column schema references w) (λ found. record { part = arguments.Column found.place; part_type = found.column_type }) (columns_agree ColumnShape schema references w)
 argument_agrees schema references (written_geometry.FromText string) = literal_agrees string.at (geometry_in_text (unquoted string.text))
 
+-- so arguments of conditions, arguments of items and patterns all agree with their rules
 pub geometry_agrees : GeometryAgrees geometry_rules geometry_binding
 geometry_agrees = record {
   argument = argument_agrees;
@@ -63,5 +67,6 @@ geometry_agrees = record {
   pattern = λ string. pattern_agrees string.at (pattern_of_text (unquoted string.text));
 }
 
+-- conditions agree with the rules wherever arguments and patterns do
 pub conditions_agree : ConditionsAgree
 conditions_agree schema references w = cond_agrees geometry_rules geometry_binding geometry_agrees schema references w

@@ -21,6 +21,7 @@ use Rattle.binding_laws.proofs.RuleFacts.{answered, geometry_agrees, pure, seque
 
 -- ---- one item
 
+-- a function of a geometry binds its argument, which then has to be a geometry
 function_agrees : {T A B C D : Type 0} (rules : GeometryRules T A B C D) (how : GeometryBinding T A B C D) → GeometryAgrees rules how → (schema : List (TableDef T)) (references : List Reference) (at : ℕ) (a : C) (made : D → Item D)
     → Agrees (Then (rules.IsItemArgument schema references a) (λ argument. Then (IsGeometryPart argument) (λ x item. item ≡ made x))) (IsRefusedFunction rules schema references at a)
     (how.item_argument schema references a >>= (λ typed. geometry_only at typed >>= (λ x. Ok (made x))))
@@ -28,6 +29,7 @@ function_agrees rules how agrees schema references at a made =
     sequence (rules.IsItemArgument schema references a) (rules.IsRefusedItemArgument schema references a) _ _ (how.item_argument schema references a) _ (agrees.item_argument schema references a)
     (λ argument is. answered (IsGeometryPart argument) (IsNoGeometry at argument) (geometry_only at argument) made (geometry_agrees at argument))
 
+-- an item is a column or one of the three functions of a geometry
 item_agrees : {T A B C D : Type 0} (rules : GeometryRules T A B C D) (how : GeometryBinding T A B C D) → GeometryAgrees rules how → (schema : List (TableDef T)) (references : List Reference) (w : WrittenItem C)
     → Agrees (IsBoundItem rules schema references w) (IsRefusedItem rules schema references w) (bound_item how schema references w)
 item_agrees {T = T} rules how agrees schema references (written_item.Column w) =
@@ -52,6 +54,7 @@ IsErr (Err e) = Unit {0}
 not_both : {Y : Type 0} (y : Y) (e : QueryFault) → Ok y ≡ Err e → ⊥
 not_both y e h = subst IsErr (sym h) tt
 
+-- the first item's fault is the fault of all; where it is bound, the fault is the first one behind it
 one_refused : {X Y : Type 0} (Is : X → Y → Type 0) (Refused : X → QueryFault → Type 0) (x : X) (xs : List X) (r : Checked Y) (s : Checked (List Y))
     → Agrees (Is x) (Refused x) r → IfErr s (FirstOf Refused xs) → IfErr (both r s) (FirstOf Refused (x ∷ xs))
 unfolding FirstOf both
@@ -59,6 +62,7 @@ one_refused Is Refused x xs (Ok y) (Ok ys) a b = tt
 one_refused Is Refused x xs (Ok y) (Err e) a b = (suc b.0, b.1, ((λ f. not_both y f.0 (a.refuses f.0 f.1)), b.2), b.3)
 one_refused Is Refused x xs (Err e) s a b = (zero, x, (refl, (e, a.refused)), a.refused)
 
+-- where it and all behind it are bound, so are all
 one_stands : {X Y : Type 0} (Is : X → Y → Type 0) (Refused : X → QueryFault → Type 0) (x : X) (xs : List X) (r : Checked Y) (s : Checked (List Y))
     → IfOk r (Is x) → IfOk s (AllZip Is xs) → IfOk (both r s) (AllZip Is (x ∷ xs))
 unfolding both
@@ -66,12 +70,14 @@ one_stands Is Refused x xs (Ok y) (Ok ys) a b = (a, b)
 one_stands Is Refused x xs (Ok y) (Err e) a b = tt
 one_stands Is Refused x xs (Err e) s a b = tt
 
+-- the other way round: what the rules bind all to, item by item, is answered
 one_answers : {X Y : Type 0} (Is : X → Y → Type 0) (Refused : X → QueryFault → Type 0) (x : X) (xs : List X) (r : Checked Y) (s : Checked (List Y)) → Agrees (Is x) (Refused x) r
     → Agrees (AllZip Is xs) (FirstOf Refused xs) s → (ys : List Y) → AllZip Is (x ∷ xs) ys → both r s ≡ Ok ys
 unfolding both
 one_answers Is Refused x xs r s a b [] is = absurd is
 one_answers Is Refused x xs r s a b (y ∷ ys) is = ap₂ (λ q t. and_then q (λ z. and_then t (λ zs. Ok (z ∷ zs)))) (a.answers y is.0) (b.answers ys is.1)
 
+-- and the fault of the first item that the rules refuse is answered, since those before it are bound
 one_refuses : {X Y : Type 0} (Is : X → Y → Type 0) (Refused : X → QueryFault → Type 0) (x : X) (xs : List X) (r : Checked Y) (s : Checked (List Y)) → Agrees (Is x) (Refused x) r
     → Agrees (AllZip Is xs) (FirstOf Refused xs) s → (fault : QueryFault) (place : ℕ) (item : X) → IsFirst (λ w. (f : QueryFault) × Refused w f) (x ∷ xs) place item → Refused item fault → both r s ≡ Err fault
 unfolding both FirstOf
@@ -97,6 +103,7 @@ each_agrees Is Refused f agrees (x ∷ xs) = record {
 
 -- ---- the select list
 
+-- the asterisk lists all columns, a list is bound item by item, and a count lists nothing
 pub items_agree : {T A B C D : Type 0} (rules : GeometryRules T A B C D) (how : GeometryBinding T A B C D) → GeometryAgrees rules how → (schema : List (TableDef T)) (references : List Reference) (selection : Selection C)
     → Agrees (AreItems rules schema references selection) (AreRefusedItems rules schema references selection) (bound_items how schema references selection)
 items_agree rules how agrees schema references selections.All = all_agree schema references

@@ -31,6 +31,7 @@ Looked : {T : Type 0} → List ℕ → ℕ → List (ColumnDef T) → Option (�
 Looked name k columns (Some found) = FirstNamed name k columns found
 Looked name k columns None = IsNowhere (IsColumnNamed name) columns
 
+-- a column of another name in front moves the first one of the name by a place, and it stays the first
 further : {T : Type 0} (name : List ℕ) (k : ℕ) (column : ColumnDef T) (columns : List (ColumnDef T)) (o : Option (ℕ × OperandType)) → (IsColumnNamed name column → ⊥)
     → Looked name (k + 1) columns o → Looked name k (column ∷ columns) o
 unfolding Looked FirstNamed
@@ -40,6 +41,7 @@ further name k column columns (Some found) other is = (suc is.0, is.1, is.2 ∙ 
     one_on : (i n : ℕ) → i + (n + 1) ≡ suc i + n
     one_on i n = omega arith
 
+-- looking from the first column on finds the first one of the name, or there is none
 looked : {T : Type 0} (name : List ℕ) (k : ℕ) (columns : List (ColumnDef T)) → Looked name k columns (column_named name k columns)
 unfolding Looked FirstNamed
 looked name k [] = tt
@@ -53,6 +55,7 @@ looked name k (column ∷ columns) = at_name (same_name column.name name) refl (
     at_name true is more = (zero, column, start k, (refl, is), refl)
     at_name false is more = further name k column columns (column_named name (k + 1) columns) (λ h. differ (sym is ∙ h)) more
 
+-- what stands first, alone or twice stands somewhere
 pub somewhere : {X : Type 0} (P : X → Type 0) (xs : List X) (place : ℕ) (x : X) → IsFirst P xs place x → IsSomewhere P xs
 somewhere P [] place x is = is
 somewhere P (y ∷ ys) zero x is = inl is.1
@@ -73,6 +76,7 @@ not_nowhere P [] is none = is
 not_nowhere P (x ∷ xs) (inl is) none = none.0 is
 not_nowhere P (x ∷ xs) (inr is) none = not_nowhere P xs is none.1
 
+-- what stands just once doesn't stand twice
 not_twice : {X : Type 0} (P : X → Type 0) (xs : List X) (place : ℕ) (x : X) → IsOnly P xs place x → IsTwice P xs → ⊥
 not_twice P [] place x is two = two
 not_twice P (y ∷ ys) zero x is (inl two) = not_nowhere P ys two.1 is.2
@@ -88,6 +92,7 @@ first_is_one P (z ∷ zs) zero (suc j) x y is too = absurd (too.0 is.1)
 first_is_one P (z ∷ zs) (suc i) zero x y is too = absurd (is.0 too.1)
 first_is_one P (z ∷ zs) (suc i) (suc j) x y is too = (ap suc (first_is_one P zs i j x y is.1 too.1).0, (first_is_one P zs i j x y is.1 too.1).1)
 
+-- what stands just once has one place
 only_is_one : {X : Type 0} (P : X → Type 0) (xs : List X) (i j : ℕ) (x y : X) → IsOnly P xs i x → IsOnly P xs j y → (i ≡ j) × (x ≡ y)
 only_is_one P [] i j x y is too = absurd is
 only_is_one P (z ∷ zs) zero zero x y is too = (refl, sym is.0 ∙ too.0)
@@ -116,6 +121,7 @@ Meant schema w k references [] = IsNowhere (HasColumn schema w) references
 Meant schema w k references (found ∷ []) = OnlyMeant schema w k references found
 Meant schema w k references (found ∷ other ∷ more) = IsTwice (HasColumn schema w) references
 
+-- a written name may mean a reference where the test passes; a column without one may be of every reference
 may_be : (written : Option Name) (reference : Reference) (b : Bool) → refers_to written reference.name ≡ b → IfTrue b (MayBeOf written reference) (MayBeOf written reference → ⊥)
 unfolding IfTrue
 may_be None reference true is = tt
@@ -123,6 +129,7 @@ may_be None reference false is = absurd (differ (sym is))
 may_be (Some name) reference true is = is
 may_be (Some name) reference false is = λ h. differ (sym is ∙ h)
 
+-- a reference has the column where the written name may mean it and its table has one of that name, the first of which is found
 in_one : {T : Type 0} (schema : List (TableDef T)) (w : WrittenColumn) (k : ℕ) (reference : Reference) → InOne schema w k reference (column_meant schema w k reference)
 unfolding InOne Looked FirstNamed IfTrue
 in_one {T} schema w k reference = at_reference (refers_to w.reference reference.name) (may_be w.reference reference (refers_to w.reference reference.name) refl)
@@ -140,6 +147,7 @@ in_one {T} schema w k reference = at_reference (refers_to w.reference reference.
     at_reference true may = at_column may (column_named w.name.text zero (columns_of schema reference)) (looked w.name.text zero (columns_of schema reference))
     at_reference false may = λ h. may h.0
 
+-- a reference in front adds its column, if it has one, to those that the others have: none, one or several
 joined : {T : Type 0} (schema : List (TableDef T)) (w : WrittenColumn) (k : ℕ) (reference : Reference) (references : List Reference) (o : Option Found) (fs : List Found)
     → InOne schema w k reference o → Meant schema w (k + 1) references fs → Meant schema w k (reference ∷ references) (cons_option o fs)
 unfolding InOne Meant OnlyMeant
@@ -159,6 +167,7 @@ joined schema w k reference references (Some f) (g ∷ []) one are =
 joined schema w k reference references (Some f) (g ∷ h ∷ fs) one are =
     inl ((one.1, somewhere (IsColumnNamed w.name.text) (columns_of schema reference) f.place.column one.0 one.3), twice_somewhere (HasColumn schema w) references are)
 
+-- so what all references have is no column, the only one, or two at least
 meant : {T : Type 0} (schema : List (TableDef T)) (w : WrittenColumn) (k : ℕ) (references : List Reference) → Meant schema w k references (columns_meant schema w k references)
 unfolding Meant
 meant schema w k [] = tt
@@ -167,6 +176,7 @@ meant schema w k (reference ∷ references) =
 
 -- ---- agreement
 
+-- none and two at least are refused, each with its fault, and the only one is bound
 total : {T : Type 0} (schema : List (TableDef T)) (references : List Reference) (w : WrittenColumn) (fs : List Found) → Meant schema w zero references fs
     → IfOk (the_one (name_start w.name w.reference) fs) (IsBoundColumn schema references w) × IfErr (the_one (name_start w.name w.reference) fs) (IsRefusedColumn schema references w)
 unfolding Meant OnlyMeant
@@ -177,6 +187,7 @@ total schema references w (f ∷ []) is = ((is.1, is.2, subst (λ n. IsOnly (Has
     end n = omega arith
 total schema references w (f ∷ g ∷ fs) is = (tt, inr (is, refl))
 
+-- the rules bind a column to one place: the only reference that has it, and the first of its name there
 same_found : {T : Type 0} (schema : List (TableDef T)) (references : List Reference) (w : WrittenColumn) (f g : Found) → IsBoundColumn schema references w f → IsBoundColumn schema references w g → f ≡ g
 same_found {T} schema references w f g is too =
     λ i. record { place = record { reference = at.0 i; column = (column_at at.1).0 i }; column_type = (is.4 ∙ ap (λ (c : ColumnDef T). type_of c.column_type) (column_at at.1).1 ∙ sym too.4) i }
@@ -188,10 +199,12 @@ same_found {T} schema references w f g is too =
     column_at e = first_is_one (IsColumnNamed w.name.text) (columns_of schema too.0) f.place.column g.place.column is.1 too.1
         (subst (λ r. IsFirst (IsColumnNamed w.name.text) (columns_of schema r) f.place.column is.1) e is.3) too.3
 
+-- they don't both bind a column and refuse it: one isn't none, and once isn't twice
 one_or_refused : {T : Type 0} (schema : List (TableDef T)) (references : List Reference) (w : WrittenColumn) (f : Found) (e : QueryFault) → IsBoundColumn schema references w f → IsRefusedColumn schema references w e → ⊥
 one_or_refused schema references w f e is (inl none) = not_nowhere (HasColumn schema w) references (only_somewhere (HasColumn schema w) references f.place.reference is.0 is.2) none.0
 one_or_refused schema references w f e is (inr two) = not_twice (HasColumn schema w) references f.place.reference is.0 is.2 two.0
 
+-- and they refuse it for one fault: what no reference has, not two of them have
 same_fault : {T : Type 0} (schema : List (TableDef T)) (references : List Reference) (w : WrittenColumn) (d e : QueryFault) → IsRefusedColumn schema references w d → IsRefusedColumn schema references w e → d ≡ e
 same_fault schema references w d e (inl is) (inl too) = is.1 ∙ sym too.1
 same_fault schema references w d e (inl is) (inr two) = absurd (not_nowhere (HasColumn schema w) references (twice_somewhere (HasColumn schema w) references two.0) is.0)
@@ -204,6 +217,7 @@ pub agreed : {X : Type 0} (Is : X → Type 0) (Refused : QueryFault → Type 0) 
 agreed Is Refused (Ok x) is none one either fault = record { stands = is; refused = tt; answers = λ y too. ap Ok (one x y is too); refuses = λ e refused. absurd (either x e is refused) }
 agreed Is Refused (Err d) none is one either fault = record { stands = tt; refused = is; answers = λ y too. absurd (either y d too is); refuses = λ e refused. ap Err (fault d e is refused) }
 
+-- what is answered the rules say, and they say one thing at most
 pub columns_agree : (T : Type 0) → ColumnsAgree T
 columns_agree T schema references w =
     agreed (IsBoundColumn schema references w) (IsRefusedColumn schema references w) (bound_column schema references w)

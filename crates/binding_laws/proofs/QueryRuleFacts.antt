@@ -28,6 +28,7 @@ restated P Q Refused r to from a = record { stands = if_ok r P Q to a.stands; re
 
 -- ---- the whole query
 
+-- an ON or WHERE that is absent binds to none, any other to its condition
 whole_agrees : {T A B C D : Type 0} (rules : GeometryRules T A B C D) (how : GeometryBinding T A B C D) → GeometryAgrees rules how → (schema : List (TableDef T)) (references : List Reference) (w : Option (WrittenCond A))
     → Agrees (IsWhole rules schema references w) (IsRefusedWhole rules schema references w) (bound_whole how schema references w)
 whole_agrees rules how agrees schema references None = pure None
@@ -45,6 +46,7 @@ InSteps rules schema query =
     (λ listed. Then (IsWhole rules schema references query.on) (λ on. Then (IsWhole rules schema references query.condition)
     (λ condition s. s ≡ stated query references listed on condition))))
 
+-- FROM, the select list, ON and WHERE are bound one after another, and the first fault is the query's
 steps_agree : {T A B C D : Type 0} (rules : GeometryRules T A B C D) (how : GeometryBinding T A B C D) → GeometryAgrees rules how → (schema : List (TableDef T)) (query : Query A C)
     → Agrees (InSteps rules schema query) (IsRefusedQuery rules schema query) (statement how schema query)
 unfolding InSteps stated
@@ -57,11 +59,13 @@ steps_agree rules how agrees schema query =
     (λ on on_is. answered (IsWhole rules schema references query.condition) (IsRefusedWhole rules schema references query.condition) (bound_whole how schema references query.condition)
     (λ condition. stated query references listed on condition) (whole_agrees rules how agrees schema references query.condition))))
 
+-- what the steps answer is what the rules say of a query, part by part
 of_steps : {T A B C D : Type 0} (rules : GeometryRules T A B C D) (schema : List (TableDef T)) (query : Query A C) (s : Statement B D) → InSteps rules schema query s → IsStatement rules schema query s
 unfolding InSteps stated
 of_steps rules schema query s is =
     subst (IsStatement rules schema query) (sym is.2.2.2.2) (record { references = is.1; items = is.2.1; on = is.2.2.1; condition = is.2.2.2.1; explain = refl; counts = refl; limit = refl })
 
+-- and what the rules say, the steps answer
 to_steps : {T A B C D : Type 0} (rules : GeometryRules T A B C D) (schema : List (TableDef T)) (query : Query A C) (s : Statement B D) → IsStatement rules schema query s → InSteps rules schema query s
 unfolding InSteps stated
 to_steps rules schema query s is = (
@@ -82,6 +86,7 @@ to_steps rules schema query s is = (
   ),
 )
 
+-- so a query as it stands agrees with the rules
 statement_agrees : {T A B C D : Type 0} (rules : GeometryRules T A B C D) (how : GeometryBinding T A B C D) → GeometryAgrees rules how → (schema : List (TableDef T)) (query : Query A C)
     → Agrees (IsStatement rules schema query) (IsRefusedQuery rules schema query) (statement how schema query)
 statement_agrees rules how agrees schema query =
@@ -102,9 +107,11 @@ with_conjuncts Is Refused r a = record {
     none_later e (inl is) = is
     none_later e (inr is) = absurd is.2
 
+-- geometries and patterns agree, so queries with them do
 pub statements_agree : StatementsAgree
 statements_agree schema query = statement_agrees geometry_rules geometry_binding geometry_agrees schema query
 
+-- binding to conjuncts is binding as it stands with the conjuncts taken last, which refuses nothing
 pub bindings_agree : BindingsAgree
 bindings_agree schema query =
     subst (Agrees (IsBinding geometry_rules schema query) (IsRefusedQuery geometry_rules schema query)) (sym (bound_of_statement _ _ _ _ _ geometry_binding schema query))

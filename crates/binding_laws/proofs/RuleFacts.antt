@@ -30,11 +30,13 @@ differ h = subst IsNot h tt
 pub pure : {X : Type 0} (v : X) → Agrees (λ x. x ≡ v) (λ fault. ⊥) (Ok v)
 pure v = record { stands = refl; refused = tt; answers = λ x is. ap Ok (sym is); refuses = λ fault is. absurd is }
 
+-- what a second step answers behind what the first one answered, the rules of both say
 answers_then : {X Y : Type 0} (First : X → Type 0) (Refused : QueryFault → Type 0) (Second : X → Y → Type 0) (then_refused : X → QueryFault → Type 0) (r : Checked X) (f : X → Checked Y)
     → Agrees First Refused r → ((x : X) → First x → Agrees (Second x) (then_refused x) (f x)) → IfOk (r >>= f) (Then First Second)
 answers_then First Refused Second then_refused (Ok x) f a next = if_ok (f x) (Second x) (Then First Second) (λ y is. (x, a.stands, is)) (next x a.stands).stands
 answers_then First Refused Second then_refused (Err e) f a next = tt
 
+-- a fault is the first step's, or the second's behind what the first one answered
 faults_then : {X Y : Type 0} (First : X → Type 0) (Refused : QueryFault → Type 0) (Second : X → Y → Type 0) (then_refused : X → QueryFault → Type 0) (r : Checked X) (f : X → Checked Y)
     → Agrees First Refused r → ((x : X) → First x → Agrees (Second x) (then_refused x) (f x)) → IfErr (r >>= f) (FirstFault First Refused then_refused)
 faults_then First Refused Second then_refused (Ok x) f a next = if_err (f x) (then_refused x) (FirstFault First Refused then_refused) (λ e is. inr (x, a.stands, is)) (next x a.stands).refused
@@ -76,6 +78,7 @@ IsOther types.Integer = Unit {0}
 IsOther types.Text = Unit {0}
 IsOther types.Null = Unit {0}
 
+-- any type but geometry is refused
 of_other : {X : Type 0} (at : ℕ) (part : X) (type : OperandType) → (type ≡ types.Geometry → ⊥) → geometry_of_type at part type ≡ Err (faults.TypeMismatch at)
     → Agrees (λ x. (type ≡ types.Geometry) × (x ≡ part)) (λ fault. (type ≡ types.Geometry → ⊥) × (fault ≡ faults.TypeMismatch at)) (geometry_of_type at part type)
 of_other at part type other is = record {
@@ -85,6 +88,7 @@ of_other at part type other is = record {
   refuses = λ fault has. is ∙ ap Err (sym has.1);
 }
 
+-- so the test for a geometry agrees with its rule at each of the four types
 of_type : {X : Type 0} (at : ℕ) (part : X) (type : OperandType)
     → Agrees (λ x. (type ≡ types.Geometry) × (x ≡ part)) (λ fault. (type ≡ types.Geometry → ⊥) × (fault ≡ faults.TypeMismatch at)) (geometry_of_type at part type)
 of_type at part types.Geometry = record { stands = (refl, refl); refused = tt; answers = λ x is. ap Ok (sym is.1); refuses = λ fault is. absurd (is.0 refl) }
@@ -92,5 +96,6 @@ of_type at part types.Integer = of_other at part types.Integer (λ h. subst IsOt
 of_type at part types.Text = of_other at part types.Text (λ h. subst IsOther h tt) refl
 of_type at part types.Null = of_other at part types.Null (λ h. subst IsOther h tt) refl
 
+-- an argument is taken where its type is geometry, and any other is a mismatch of types
 pub geometry_agrees : {X : Type 0} (at : ℕ) (typed : Typed X) → Agrees (IsGeometryPart typed) (IsNoGeometry at typed) (geometry_only at typed)
 geometry_agrees at typed = of_type at typed.part typed.part_type

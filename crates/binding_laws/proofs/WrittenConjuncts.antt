@@ -28,9 +28,11 @@ after_all : {X B : Type 0} (r : Checked X) (f : X → Checked (Cond B)) → ((x 
 after_all (Ok x) f alone = alone x
 after_all (Err e) f alone = refl
 
+-- a last step that makes a condition of an answer, which is its own only conjunct
 made : {X B : Type 0} (r : Checked X) (v : X → Cond B) → ((x : X) → conjuncts_of (v x) ≡ v x ∷ []) → IsAlone (r >>= (λ x. Ok (v x)))
 made r v one = after_all r (λ x. Ok (v x)) (λ x. ap Ok (one x))
 
+-- likewise where a test of types comes first
 checked : {B : Type 0} (fits : Bool) (at : ℕ) (cond : Cond B) → conjuncts_of cond ≡ cond ∷ [] → IsAlone (checked_types fits at cond)
 checked true at cond one = ap Ok one
 checked false at cond one = refl
@@ -50,6 +52,7 @@ map_twice : {X Y Z : Type 0} (f : Y → Z) (g : X → Y) (xs : List X) → map f
 map_twice f g [] = refl
 map_twice f g (x ∷ xs) = ap (λ ys. f (g x) ∷ ys) (map_twice f g xs)
 
+-- the conjuncts of a condition that is made last are made last
 split_after : {X B : Type 0} (r : Checked X) (v : X → Cond B) → split (r >>= (λ x. Ok (v x))) ≡ (r >>= (λ x. Ok (conjuncts_of (v x))))
 split_after (Ok x) v = refl
 split_after (Err e) v = refl
@@ -58,12 +61,15 @@ then_same : {X Y : Type 0} (r : Checked X) (f g : X → Checked Y) → ((x : X) 
 then_same (Ok x) f g same = same x
 then_same (Err e) f g same = refl
 
+-- so an AND of bound parts has the conjuncts of its parts, in order
 and_split : {B : Type 0} (rs : List (Checked (Cond B))) → split (each rs >>= (λ parts. Ok (conds.And parts))) ≡ joined_in_order (map split rs)
 and_split rs = split_after (each rs) conds.And ∙ then_same (each rs) _ _ (λ parts. ap Ok (conjuncts-And parts)) ∙ parts_split rs
 
+-- two steps before one conjunct change nothing about it
 by_operand : {X Y B : Type 0} (left : Checked X) (right : Checked Y) (f : X → Y → Checked (Cond B)) → ((x : X) (y : Y) → IsAlone (f x y)) → IsAlone (left >>= (λ x. right >>= (λ y. f x y)))
 by_operand left right f alone = after_all left _ (λ x. after_all right (f x) (λ y. alone x y))
 
+-- at each kind of condition: AND has its parts' conjuncts, any other kind makes one conjunct in its last step
 pub by_written_parts : {T A B C D : Type 0} (how : GeometryBinding T A B C D) (schema : List (TableDef T)) (references : List Reference) → BoundByParts how schema references
 by_written_parts {A = A} {B = B} how schema references = record {
   and = λ parts. ap split (fold-And A (Checked (Cond B)) step parts) ∙ and_split (map bound parts) ∙ ap joined_in_order (map_twice split bound parts);

@@ -25,6 +25,7 @@ pub record WrittenCases (A : Type 0) (P : WrittenCond A → Type 0) : Type 0 whe
   pub is_empty : (at : ℕ) (a : A) → P (written.IsEmpty at a)
   pub relates : (at : ℕ) (predicate : WrittenPredicate) (a b : A) → P (written.Relates at predicate a b)
 
+-- a condition by its outermost kind, where the claim is known of its parts
 layer : {A S : Type 0} (P : WrittenCond A → Type 0) (f : S → WrittenCond A) (g : (s : S) → P (f s)) → WrittenCases A P → (y : WrittenCond-F A S) → P (roll-WrittenCond A (map-WrittenCond A S (WrittenCond A) f y))
 unfolding roll-WrittenCond roll
 layer P f g cases (WrittenCond-F.Or ys) = cases.or (map f ys) (each_mapped P f g ys)
@@ -35,5 +36,6 @@ layer P f g cases (WrittenCond-F.IsNull a) = cases.is_null a
 layer P f g cases (WrittenCond-F.IsEmpty at a) = cases.is_empty at a
 layer P f g cases (WrittenCond-F.Relates at predicate a b) = cases.relates at predicate a b
 
+-- what each kind of condition has once its parts have it, every condition has
 pub by_written : {A : Type 0} (P : WrittenCond A → Type 0) → WrittenCases A P → (w : WrittenCond A) → P w
 by_written {A = A} P cases = ind-WrittenCond A P (λ x y e. subst (λ z. P (roll-WrittenCond A z)) e (layer P (λ s. s.0) (λ s. s.1) cases y))

@@ -29,10 +29,12 @@ use Rattle.cell_laws.proofs.Growing.{cell_of, part_of_both, shows_at}
 use Rattle.cell_laws.proofs.There.{AreOut, out_or_apart, cell_is, out_is_two}
 
 -- ---- all edges and positions covered
+-- it covers all edges and all listed positions of both geometries
 pub record CoversAll (a b : Geometry) (m : Matrix) : Type 0 where
   pub edge : (e : Edge) → Among e (edges_of_both a b) → Covers a b m e
   pub position : (p : Position) → Among p (listed a ++ listed b) → CoversPosition a b m p
 
+-- so it does where it covers those of each
 all_covered : (a b : Geometry) (m : Matrix) → All (Covers a b m) (edges a) → All (Covers a b m) (edges b) → All (CoversPosition a b m) (listed a) → All (CoversPosition a b m) (listed b) → CoversAll a b m
 all_covered a b m ea eb pa pb = record { edge = λ e i. edge e (among_either e (edges a) (edges b) i); position = λ p i. position p (among_either p (listed a) (listed b) i) }
   where
@@ -45,6 +47,7 @@ all_covered a b m ea eb pa pb = record { edge = λ e i. edge e (among_either e (
     position p (inr i) = each_at (CoversPosition a b m) (listed b) p (each_from_all (CoversPosition a b m) (listed b) pb) i
 
 -- ---- a piece's sample is a point of its edge that is no cut
+-- so the matrix shows what there is at a sample and beside it
 sample_shown : (a b : Geometry) (m : Matrix) → CoversAll a b m → (c : Piece) (p : IsListedPiece a b c) → ShowsPoint a b m p.is_piece.edge (sample c) × IsNoCut a b (sample c)
 sample_shown a b m h c p = go (sample_inside (edges' a b) (listed' a b) c p.is_piece p.ends)
   where
@@ -54,6 +57,7 @@ sample_shown a b m h c p = go (sample_inside (edges' a b) (listed' a b) c p.is_p
       λ k. p.is_piece.neighbours (sample c) i.is_point i.is_on k i.after i.before,
     )
 
+-- what a side of some piece shows is shown
 side_shown : (a b : Geometry) (m : Matrix) → CoversAll a b m → (l k : Location) → some_side a b l k ≡ true → Shows m l k Two
 side_shown a b m h l k e = go (passing_of (side_labels a b) (is_side_pair l k) (pieces' a b) e)
   where
@@ -71,6 +75,7 @@ side_shown a b m h l k e = go (passing_of (side_labels a b) (is_side_pair l k) (
     go : Passing (λ c. is_side_pair l k (side_labels a b c)) (pieces' a b) → Shows m l k Two
     go p = let q : IsListedPiece a b p.found = listed_piece a b p.found p.among in pick p.found q (sample_shown a b m h p.found q) (is_upright p.found) refl p.passes
 
+-- what some piece shows is shown
 piece_shown : (a b : Geometry) (m : Matrix) → CoversAll a b m → (l k : Location) → some_piece a b l k ≡ true → Shows m l k One
 piece_shown a b m h l k e = go (passing_of (λ c. label a b (sample c)) (is_pair l k) (pieces' a b) e)
   where
@@ -81,6 +86,7 @@ piece_shown a b m h l k e = go (passing_of (λ c. label a b (sample c)) (is_pair
         shows_at m One (locate a (sample p.found)) l (locate b (sample p.found)) k (sym q.0) (sym q.1) ((s.0).piece s.1)
 
 -- ---- a cut is a point of an edge or a listed position
+-- an edge holds its ends
 pub end_is_on_it : (e : Edge) (x : Point) → IsPoint x → is_end e x ≡ true → on e x ≡ true
 end_is_on_it e x hx h = go (or_cases (same_point (point_at e.start) x) (same_point (point_at e.end) x) h)
   where
@@ -88,12 +94,14 @@ end_is_on_it e x hx h = go (or_cases (same_point (point_at e.start) x) (same_poi
     go (inl f) = start_is_on e x hx f
     go (inr f) = end_is_on e x hx f
 
+-- an end or a crossing is a point of a covered edge, and a listed position is covered itself
 cut_shown : (a b : Geometry) (m : Matrix) → CoversAll a b m → (x : Point) → IsCut (edges' a b) (listed' a b) x → Shows m (locate a x) (locate b x) Zero
 cut_shown a b m h x (AtEnd hx e c k) = (h.edge e (among_from_contains (edges' a b) e c) x hx (end_is_on_it e x hx k)).point
 cut_shown a b m h x (Listed hx p c k) = shows_at m Zero (locate a (point_at p)) (locate a x) (locate b (point_at p)) (locate b x)
     (locate_respects a (point_at p) x (position_is_point p) hx k) (locate_respects b (point_at p) x (position_is_point p) hx k) (h.position p (among_from_contains (listed' a b) p c))
 cut_shown a b m h x (AtCrossing hx e f c d n s t) = (h.edge e (among_from_contains (edges' a b) e c) x hx s).point
 
+-- so what some cut shows is shown
 some_cut_shown : (a b : Geometry) (m : Matrix) → CoversAll a b m → (l k : Location) → some_cut a b l k ≡ true → Shows m l k Zero
 some_cut_shown a b m h l k e = go (passing_of (label a b) (is_pair l k) (cuts' a b) e)
   where
@@ -102,6 +110,7 @@ some_cut_shown a b m h l k e = go (passing_of (label a b) (is_pair l k) (cuts' a
         shows_at m Zero (locate a p.found) l (locate b p.found) k (sym q.0) (sym q.1) (cut_shown a b m h p.found ((listed_is_cut (edges' a b) (listed' a b) p.found p.among).is_cut))
 
 -- ---- so it shows all
+-- each cell of the label matrix is that of a side, a piece or a cut, or of the exteriors, and all these are shown
 all_shown : (a b : Geometry) (m : Matrix) → CoversAll a b m → Shows m Exterior Exterior Two → IsPartOf (labelled_matrix a b) m
 all_shown a b m h o l k = go (out_or_apart l k)
   where
@@ -115,6 +124,7 @@ all_shown a b m h o l k = go (out_or_apart l k)
     go (inl u) = ap (λ (d : Dimension). at_most d (cell m l k)) (out_is_two a b l k u) ∙ shows_at m Two Exterior l Exterior k (sym u.0) (sym u.1) o
     go (inr n) = ap (λ (d : Dimension). at_most d (cell m l k)) (cell_is a b l k n) ∙ by_labels (some_side a b l k) refl (some_piece a b l k) refl (some_cut a b l k) refl
 
+-- being sound it is part of the label matrix, which is part of it, so they are the same
 pub covering_is_whole : (a b : Geometry) → HasClosedRings a → HasClosedRings b → (m : Matrix) → All (Covers a b m) (edges a) → All (Covers a b m) (edges b) → All (CoversPosition a b m) (listed a) → All (CoversPosition a b m) (listed b)
     → Shows m Exterior Exterior Two → IsSound a b m → m ≡ labelled_matrix a b
 covering_is_whole a b ca cb m ea eb pa pb o s = part_of_both m (labelled_matrix a b) s (all_shown a b m (all_covered a b m ea eb pa pb) o)
@@ -127,14 +137,17 @@ turned_member xs ys z c = go (among_either z xs ys (among_from_contains (xs ++ y
     go (inl i) = contains_of_among z (ys ++ xs) (among_right z ys xs i)
     go (inr i) = contains_of_among z (ys ++ xs) (among_left z ys xs i)
 
+-- a cut is a cut whichever geometry comes first
 turned_cut : (a b : Geometry) (x : Point) → IsCut (edges_of_both b a) (listed b ++ listed a) x → IsCut (edges_of_both a b) (listed a ++ listed b) x
 turned_cut a b x (AtEnd hx e c k) = AtEnd hx e (turned_member (edges b) (edges a) e c) k
 turned_cut a b x (Listed hx p c k) = Listed hx p (turned_member (listed b) (listed a) p c) k
 turned_cut a b x (AtCrossing hx e f c d n s t) = AtCrossing hx e f (turned_member (edges b) (edges a) e c) (turned_member (edges b) (edges a) f d) n s t
 
+-- the transposed matrix shows the same of the parts the other way round
 pub shows_turned : (m : Matrix) (l k : Location) (d : Dimension) → Shows m l k d → Shows (transposed m) k l d
 shows_turned m l k d s = ap (at_most d) (cell_of (λ i j. cell m j i) k l) ∙ s
 
+-- so it shows the same of each point, each listed position and each cell
 pub covers_turned : (a b : Geometry) (m : Matrix) → ((e : Edge) → Covers a b m e → Covers b a (transposed m) e) × ((p : Position) → CoversPosition a b m p → CoversPosition b a (transposed m) p) × (IsSound a b m → IsSound b a (transposed m))
 covers_turned a b m = (edge, λ p s. shows_turned m (locate a (point_at p)) (locate b (point_at p)) Zero s, sound)
   where

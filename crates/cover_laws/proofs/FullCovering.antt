@@ -22,6 +22,7 @@ use Rattle.cover_laws.proofs.Stretching.{SharesFurther, shares_further, spread}
 use Rattle.cover_laws.proofs.Located.{Side, lower_side, upper_side, on_or_off, off_is_shown, ShowsShared, shared_is_shown, Overlaps, overlaps}
 
 -- ---- off b's edges
+-- off b's edges a point is in b's exterior, or in the interior of an area, and the matrix shows what either wants
 full_off_at : (a b : Geometry) (m : Matrix) → IsFullOff a b m → (e : Edge) (x : Point) → IsOffEdges b x → ShowsOff a m e (mostly b x)
 full_off_at a b m h e x o = go (off_edges_is_no_boundary b x o)
   where
@@ -36,6 +37,7 @@ full_on_sides a b m h l k (inl s) (inr t) = shows_at m Two Exterior l Interior k
 full_on_sides a b m h l k (inr s) (inl t) = shows_at m Two Interior l Exterior k (sym s.1) (sym t) (h.first s.0)
 full_on_sides a b m h l k (inr s) (inr t) = shows_at m Two Interior l Interior k (sym s.1) (sym t.1) (h.inner s.0 t.0)
 
+-- so the matrix shows what a point on an edge of b wants
 full_on_at : (a b : Geometry) (m : Matrix) → IsFullOn a b m → (e : Edge) (x : Point) → ShowsShared a b m e x
 full_on_at a b m h e x = record {
   point = inr (shows_less m (of_own_edges (kind a)) (of_own_edges (kind b)) One Zero refl h.piece);
@@ -44,6 +46,7 @@ full_on_at a b m h e x = record {
   upper = λ u n. full_on_sides a b m h (above a x) (above b x) (upper_side a x) (upper_side b x);
 }
 
+-- each point of the edge is on an edge of b or off all of them
 pub full_covers : (a b : Geometry) → IsValid a → IsValid b → (e : Edge) → Contains (edges a) e → e.start ≢ e.end → (m : Matrix) → ShowsEnds a b m → IsFullOff a b m → IsFullOn a b m → Covers a b m e
 full_covers a b va vb e c w m t h k x hx l = go (on_or_off b x)
   where
@@ -52,6 +55,7 @@ full_covers a b va vb e c w m t h k x hx l = go (on_or_off b x)
     go (inr o) = off_is_shown a b m t e c x hx l o (full_off_at a b m h e x o)
 
 -- ---- where no edge of b shares a stretch, each point that one holds is a cut
+-- a point of both that is no cut would be within both edges, on one line, so they would share a stretch
 shared_is_cut : (a b : Geometry) (e : Edge) → Contains (edges a) e → e.start ≢ e.end → SharesNoStretch e (edges b) → (f : Edge) → Contains (edges b) f → (x : Point) → IsPoint x → on e x ≡ true → on f x ≡ true → IsNoCut a b x → ⊥
 shared_is_cut a b e c w n f d x hx k l u = go (overlaps a b e f c d x hx k l u)
   where
@@ -61,6 +65,7 @@ shared_is_cut a b e c w n f d x hx k l u = go (overlaps a b e f c d x hx k l u)
     go : Overlaps e f x → ⊥
     go o = further o (shares_further e f w (one_line e f o.one_line) x hx (spread e x hx k o.no_end) (spread f x hx l o.no_other_end))
 
+-- so a point on an edge of b is a cut, of which only a point is to be shown, and all others lie off b's edges
 pub full_off_covers : (a b : Geometry) → IsValid a → IsValid b → (e : Edge) → Contains (edges a) e → e.start ≢ e.end → (m : Matrix) → ShowsEnds a b m → IsFullOff a b m → Shows m (of_own_edges (kind a)) (of_own_edges (kind b)) Zero
     → SharesNoStretch e (edges b) → Covers a b m e
 full_off_covers a b va vb e c w m t h z n x hx l = go (on_or_off b x)

@@ -38,6 +38,7 @@ ends_among (p ∷ []) c m = absurd m
 ends_among (p ∷ q ∷ rest) c (inl e) = (inl (ap (λ (d : Piece). d.lesser) e), inr (inl (ap (λ (d : Piece). d.greater) e)))
 ends_among (p ∷ q ∷ rest) c (inr m) = let r : Among c.lesser (q ∷ rest) × Among c.greater (q ∷ rest) = ends_among (q ∷ rest) c m in (inr r.0, inr r.1)
 
+-- a gap of the edge that the matrix shows and in which the point lies, ends counted
 pub record Held (a b : Geometry) (m : Matrix) (e : Edge) (x : Point) : Type 0 where
   pub p : Point
   pub q : Point
@@ -47,6 +48,7 @@ pub record Held (a b : Geometry) (m : Matrix) (e : Edge) (x : Point) : Type 0 wh
   pub lesser_is_cut : IsCut (e ∷ edges b) [] p
   pub greater_is_cut : IsCut (e ∷ edges b) [] q
 
+-- the stretches between the stops hold the whole edge, and each is a gap that the matrix shows
 held : (a b : Geometry) (e : Edge) (g : EdgeGaps) → AreGaps e (edges b) g → (m : Matrix) → All (λ c. ShowsGap a b m e c.lesser c.greater) (stretches g.stops) → (x : Point) → IsPoint x → on e x ≡ true → Held a b m e x
 held a b e g h m s x hx k = go (some_from_any (λ c. IsWithin c x) (stretches g.stops) (h.whole x hx k))
   where
@@ -69,6 +71,7 @@ member a b e c f d = go (among_from_contains (e ∷ edges b) f d)
     go (inl k) = subst (Contains (edges_of_both a b)) (sym k) (contains_left (edges a) (edges b) e c)
     go (inr k) = contains_right (edges a) (edges b) f (contains_of_among f (edges b) k)
 
+-- since that edge and b's are edges of both
 cut_of_both : (a b : Geometry) (e : Edge) → Contains (edges a) e → (x : Point) → IsCut (e ∷ edges b) [] x → IsCut (edges_of_both a b) (listed a ++ listed b) x
 cut_of_both a b e c x (AtEnd hx f d k) = AtEnd hx f (member a b e c f d) k
 cut_of_both a b e c x (Listed hx p d k) = absurd (among_from_contains [] p d)
@@ -84,6 +87,7 @@ between a b m e c x hx k h f = go (stands e h.p h.q x (h.gap).lesser_is_point (h
     go (Stands.Amid i) = i
 
 -- ---- off b's edges the point stands as the gap's sample
+-- so what the matrix shows by the sample it shows of the point too
 off_shown : (a b : Geometry) → IsValid b → (m : Matrix) → ShowsEnds a b m → (e : Edge) → Contains (edges a) e → (x : Point) → IsPoint x → on e x ≡ true → Held a b m e x → IsOffEdges b x → ShowsPoint a b m e x
 off_shown a b vb m t e c x hx k h o = go (gap_end_is_alike b (valid_rings_are_closed b vb) e h.p h.q h.gap x (h.shows).sample (h.shows).between hx k h.within o)
   where
@@ -107,6 +111,7 @@ sample_held a b m e x hx h ke f d k l n = go (all_at (λ r. IsClear e h.p h.q r 
     go (inl u) (Stands.AtGreater r) = goes_back e f h.p h.q meeting u x hx (spread f x hx k n) r (h.shows).sample (h.shows).between
     go (inl u) (Stands.Amid i) = absurd (let z : true ≡ false = sym k ∙ u x i in cc)
 
+-- a point that is one of the shared points, in whatever triple, is shown as that one is
 shared_shown : (a b : Geometry) (m : Matrix) (x : Point) → IsPoint x → (ps : List Point) → All IsPoint ps → All (λ p. Shows m (locate a p) (locate b p) Zero) ps → Any (λ p. same_point p x ≡ true) ps → Shows m (locate a x) (locate b x) Zero
 shared_shown a b m x hx ps hp s r = go (some_from_any (λ p. same_point p x ≡ true) ps r)
   where
@@ -118,6 +123,7 @@ shared_shown a b m x hx ps hp s r = go (some_from_any (λ p. same_point p x ≡ 
 points_of : (e : Edge) (fs : List Edge) (ps : List Point) → All (λ p. IsPoint p × (on e p ≡ true) × Any (λ f. on f p ≡ true) fs) ps → All IsPoint ps
 points_of e fs ps h k d l = (h k d l).0
 
+-- where one of the edges ends or they cross it is one of the shared points; elsewhere the gap is shared, and shows it
 on_shown : (a b : Geometry) → IsValid a → IsValid b → (e : Edge) → Contains (edges a) e → (g : EdgeGaps) → AreGaps e (edges b) g → (m : Matrix) → All (λ p. Shows m (locate a p) (locate b p) Zero) g.shared
     → (x : Point) → IsPoint x → on e x ≡ true → Held a b m e x → (f : Edge) → Contains (edges b) f → on f x ≡ true → ShowsShared a b m e x
 on_shown a b va vb e c g r m s x hx k h f d l = record {
@@ -151,6 +157,7 @@ on_shown a b va vb e c g r m s x hx k h f d l = record {
     sides : IsNoCut a b x → e.start.x ≢ e.end.x → SameSides a b x (h.shows).sample
     sides u n = same_sides a b va vb e c n h.p h.q h.gap f d (shared_gap u) x (h.shows).sample (between a b m e c x hx k h u) (h.shows).between
 
+-- a point of the edge is off b's edges or on one, and in both cases it is shown
 pub gaps_cover : (a b : Geometry) → IsValid a → IsValid b → (e : Edge) → Contains (edges a) e → e.start ≢ e.end → (g : EdgeGaps) → AreGaps e (edges b) g → (m : Matrix) → ShowsEnds a b m
     → All (λ c. ShowsGap a b m e c.lesser c.greater) (stretches g.stops) → All (λ p. Shows m (locate a p) (locate b p) Zero) g.shared → Covers a b m e
 gaps_cover a b va vb e c w g r m t s u x hx k = go (on_or_off b x)

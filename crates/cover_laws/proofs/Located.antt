@@ -55,6 +55,7 @@ on_or_off b x = go (list_any (λ f. on f x) (edges b)) refl
     go true e = inl (some_passed (λ f. on f x) (edges b) e)
     go false e = inr (all_from_each (λ f. on f x ≡ false) (edges b) (none_passed (λ f. on f x) (edges b) e))
 
+-- a point on an edge isn't off all of them
 pub not_off : (b : Geometry) (f : Edge) → Contains (edges b) f → (y : Point) → on f y ≡ true → IsOffEdges b y → ⊥
 not_off b f c y h o = let z : true ≡ false = sym h ∙ all_at (λ g. on g y ≡ false) (edges b) f o c in absurd (cc)
 
@@ -62,6 +63,7 @@ not_off b f c y h o = let z : true ≡ false = sym h ∙ all_at (λ g. on g y �
 abbrev pub Side : Geometry → Location → Type 0
 Side g l = (l ≡ Exterior) ⊎ ((kind g ≡ kinds.Area) × (l ≡ Interior))
 
+-- the lower side of what is no area is exterior, and an area's is interior or exterior by parity
 pub lower_side : (g : Geometry) (x : Point) → Side g (below g x)
 lower_side g x = go (is_area (kind g)) (odd_at_or_above (rings g) x) refl
   where
@@ -70,6 +72,7 @@ lower_side g x = go (is_area (kind g)) (odd_at_or_above (rings g) x) refl
     go (inl k) true e = inr (k, ap (λ (t : Bool). if t then Interior else Exterior) e)
     go (inl k) false e = inl (ap (λ (t : Bool). if t then Interior else Exterior) e)
 
+-- and so is the upper one
 pub upper_side : (g : Geometry) (x : Point) → Side g (above g x)
 upper_side g x = go (is_area (kind g)) (odd_above (rings g) x) refl
   where
@@ -79,6 +82,7 @@ upper_side g x = go (is_area (kind g)) (odd_above (rings g) x) refl
     go (inl k) false e = inl (ap (λ (t : Bool). if t then Interior else Exterior) e)
 
 -- ---- a point of an edge of a is shown as an end, or stands where almost all points do
+-- a geometry with an edge isn't of points, so it has no listed position
 no_listed : (a : Geometry) (e : Edge) → Contains (edges a) e → (p : Position) → Among p (listed a) → ⊥
 no_listed (Geometry.Point o) e c p m = among_from_contains [] e c
 no_listed (Geometry.MultiPoint ps) e c p m = among_from_contains [] e c
@@ -87,6 +91,7 @@ no_listed (Geometry.MultiLineString ls) e c p m = m
 no_listed (Geometry.Polygon rs) e c p m = m
 no_listed (Geometry.MultiPolygon es) e c p m = m
 
+-- so none stands at the point
 none_listed : (a : Geometry) (e : Edge) → Contains (edges a) e → (x : Point) → All (λ p. stands_at x p ≡ false) (listed a)
 none_listed a e c x = all_from_each (λ p. stands_at x p ≡ false) (listed a) (each_none (listed a) (no_listed a e c))
   where
@@ -94,6 +99,7 @@ none_listed a e c x = all_from_each (λ p. stands_at x p ≡ false) (listed a) (
     each_none [] f = tt
     each_none (p ∷ ps) f = absurd (f p (inl refl))
 
+-- the point is an odd end of lines, or it isn't
 odd_end_or_not : (g : Geometry) (x : Point) → ((kind g ≡ kinds.Line) × (is_odd_end (lines g) x ≡ true)) ⊎ (kind g ≡ kinds.Line → is_odd_end (lines g) x ≡ false)
 odd_end_or_not g x = go (is_line (kind g)) (is_odd_end (lines g) x) refl
   where
@@ -102,6 +108,7 @@ odd_end_or_not g x = go (is_line (kind g)) (is_odd_end (lines g) x) refl
     go (inl k) false e = inr (λ l. e)
     go (inr n) t e = inr (λ l. absurd (n l))
 
+-- a listed position stands at the point, or none does
 listed_or_not : (b : Geometry) (x : Point) → Passing (stands_at x) (listed b) ⊎ All (λ p. stands_at x p ≡ false) (listed b)
 listed_or_not b x = go (list_any (stands_at x) (listed b)) refl
   where
@@ -113,6 +120,7 @@ listed_or_not b x = go (list_any (stands_at x) (listed b)) refl
 abbrev pub StandsMostly : Geometry → Geometry → Point → Type 0
 StandsMostly a b x = (locate a x ≡ of_own_edges (kind a)) × (locate b x ≡ mostly b x)
 
+-- an odd end or a listed position is among the ends that are shown, and any other point stands where almost all do
 pub shown_or_mostly : (a b : Geometry) (m : Matrix) → ShowsEnds a b m → (e : Edge) → Contains (edges a) e → (x : Point) → IsPoint x → on e x ≡ true → Shows m (locate a x) (locate b x) Zero ⊎ StandsMostly a b x
 shown_or_mostly a b m s e c x hx h = go (odd_end_or_not a x) (odd_end_or_not b x) (listed_or_not b x)
   where
@@ -134,10 +142,12 @@ pub no_cut_stands : (a b : Geometry) (e : Edge) → Contains (edges a) e → (x 
 no_cut_stands a b e c x hx h f = ((no_cut_is_mostly a b x hx f).0 ∙ own_edges_are_mostly a e c x h, (no_cut_is_mostly a b x hx f).1)
 
 -- ---- a point of an edge of a that no edge of b holds
+-- the gap's sides are shown as exterior and, of an area, as interior, so each side is shown
 side_off : (a : Geometry) (m : Matrix) (e : Edge) (k l : Location) → e.start.x ≢ e.end.x → ShowsOff a m e k → Side a l → Shows m l k Two
 side_off a m e k l n s (inl q) = shows_at m Two Exterior l k k (sym q) refl (s.outer n)
 side_off a m e k l n s (inr q) = shows_at m Two Interior l k k (sym q.1) refl (s.inner q.0 n)
 
+-- where the gap's piece and sides are shown the point is: it stands as the gap does, or it is an end that is shown
 pub off_is_shown : (a b : Geometry) (m : Matrix) → ShowsEnds a b m → (e : Edge) → Contains (edges a) e → (x : Point) → IsPoint x → on e x ≡ true → IsOffEdges b x → ShowsOff a m e (mostly b x) → ShowsPoint a b m e x
 off_is_shown a b m t e c x hx h o s = record {
   point = point (shown_or_mostly a b m t e c x hx h);
@@ -160,6 +170,7 @@ pub record ShowsShared (a b : Geometry) (m : Matrix) (e : Edge) (x : Point) : Ty
   pub lower : IsNoCut a b x → e.start.x ≢ e.end.x → Shows m (below a x) (below b x) Two
   pub upper : IsNoCut a b x → e.start.x ≢ e.end.x → Shows m (above a x) (above b x) Two
 
+-- what is shown of the shared point is all that is to be shown, ends being shown by themselves
 pub shared_is_shown : (a b : Geometry) (m : Matrix) → ShowsEnds a b m → (e : Edge) → Contains (edges a) e → (f : Edge) → Contains (edges b) f → (x : Point) → IsPoint x → on e x ≡ true → on f x ≡ true → ShowsShared a b m e x → ShowsPoint a b m e x
 shared_is_shown a b m t e c f d x hx h k s = record {
   point = point (shown_or_mostly a b m t e c x hx h) s.point;
@@ -179,6 +190,7 @@ pub record Overlaps (e f : Edge) (x : Point) : Type 0 where
   pub no_end : is_end e x ≡ false
   pub no_other_end : is_end f x ≡ false
 
+-- otherwise one of the edges would end at the point or they would cross there, and it would be a cut
 pub overlaps : (a b : Geometry) (e f : Edge) → Contains (edges a) e → Contains (edges b) f → (x : Point) → IsPoint x → on e x ≡ true → on f x ≡ true → IsNoCut a b x → Overlaps e f x
 overlaps a b e f c d x hx h k u = record {
   one_line = yes_by (on_one_line e f) (λ n. u (AtCrossing hx e f first second n h k));

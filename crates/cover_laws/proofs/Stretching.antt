@@ -40,12 +40,15 @@ pub record Spread (f : Edge) (x : Point) : Type 0 where
   pub along : (a b : Position) → side a b (point_at f.start) ≡ pos 0 → side a b (point_at f.end) ≡ pos 0 → (side a b lo ≡ pos 0) × (side a b hi ≡ pos 0)
   pub holds : (y : Point) → IsPoint y → side f.start f.end y ≡ pos 0 → compare lo y ≡ Less → compare y hi ≡ Less → on f y ≡ true
 
+-- an edge holds its start
 start_on : (f : Edge) → on f (point_at f.start) ≡ true
 start_on f = start_is_on f (point_at f.start) (position_is_point f.start) (same_end f.start)
 
+-- and its end
 end_on : (f : Edge) → on f (point_at f.end) ≡ true
 end_on f = end_is_on f (point_at f.end) (position_is_point f.end) (same_end f.end)
 
+-- the start lies before the point and the end after it ..
 forth : (f : Edge) (x : Point) → IsPoint x → compare (point_at f.start) x ≡ Less → compare x (point_at f.end) ≡ Less → Spread f x
 forth f x hx g k = record {
   lo = point_at f.start;
@@ -62,6 +65,7 @@ forth f x hx g k = record {
       (less_transitive (point_at f.start) y (point_at f.end) (position_is_point f.start) hy (position_is_point f.end) u v)));
 }
 
+-- .. or the other way round ..
 back : (f : Edge) (x : Point) → IsPoint x → compare (point_at f.end) x ≡ Less → compare x (point_at f.start) ≡ Less → Spread f x
 back f x hx g k = record {
   lo = point_at f.end;
@@ -81,6 +85,7 @@ back f x hx g k = record {
     nothing : pos 0 -ℤ pos 0 ≡ pos 0
     nothing = omega (arith, ints)
 
+-- .. since the edge holds the point and neither end stands at it
 pub spread : (f : Edge) (x : Point) → IsPoint x → on f x ≡ true → is_end f x ≡ false → Spread f x
 spread f x hx h n = go (compare (point_at f.start) x) refl (compare (point_at f.end) x) refl
   where
@@ -110,6 +115,7 @@ pub record SharesFurther (e f : Edge) (x : Point) : Type 0 where
   pub on_second : on f point ≡ true
   pub further : compare x point ≡ Less
 
+-- the nearer of the two edges' greater ends is on both
 pub shares_further : (e f : Edge) → e.start ≢ e.end → OneLine e f → (x : Point) → IsPoint x → Spread e x → Spread f x → SharesFurther e f x
 shares_further e f n o x hx s t = go (compare s.hi t.hi) refl
   where
@@ -137,10 +143,12 @@ shares_further e f n o x hx s t = go (compare s.hi t.hi) refl
     }
 
 -- ---- an edge that goes on beyond an end of a stretch, and holds nothing within it or all, holds all
+-- the other edge is on the same line, on which the stretch lies between these points
 pub record Meeting (e f : Edge) (p q : Point) : Type 0 where
   pub one_line : OneLine e f
   pub span : Span e p q
 
+-- its own greater end isn't within the stretch, which it is clear of, so it is past it, and the edge holds all between
 pub goes_on : (e f : Edge) (p q : Point) → Meeting e f p q → IsClear e p q f → (x : Point) → IsPoint x → Spread f x → same_point p x ≡ true → (y : Point) → IsBetween e p q y → on f y ≡ true
 goes_on e f p q h c x hx t g y i = go (compare t.hi q) refl
   where
@@ -169,6 +177,7 @@ goes_on e f p q h c x hx t g y i = go (compare t.hi q) refl
     go Equal k = held (less_right y q t.hi (h.span).greater t.hi_is_point i.before (same_symmetric q t.hi ∙ (equal_is_same t.hi q).0 k))
     go Greater k = held (less_transitive y q t.hi i.is_point (h.span).greater t.hi_is_point i.before (turn_less t.hi q k))
 
+-- the same towards the lesser end
 pub goes_back : (e f : Edge) (p q : Point) → Meeting e f p q → IsClear e p q f → (x : Point) → IsPoint x → Spread f x → same_point x q ≡ true → (y : Point) → IsBetween e p q y → on f y ≡ true
 goes_back e f p q h c x hx t g y i = go (compare p t.lo) refl
   where
@@ -198,6 +207,7 @@ goes_back e f p q h c x hx t g y i = go (compare p t.lo) refl
     go Greater k = held (less_transitive t.lo p y t.lo_is_point (h.span).lesser i.is_point (turn_less p t.lo k) i.after)
 
 -- ---- of two edges that share two points none is upright where the other isn't
+-- each point of an upright edge has its x
 upright_coordinate : (f : Edge) → f.start.x ≡ f.end.x → (p : Point) → IsPoint p → on f p ≡ true → f.start.x *ℤ p.W ≡ p.X *ℤ pos 1
 upright_coordinate f e p hp k = by_hull (hull_from_on f p hp k)
   where
@@ -213,6 +223,7 @@ same_column s px pw qx qw e f = nothing (px *ℤ qw) (qx *ℤ pw) (turned px pw 
     nothing : (u v : ℤ) → u ≡ v → v -ℤ u ≡ pos 0
     nothing u v e = omega (arith, ints)
 
+-- two points of an edge that isn't upright differ in x, and an upright edge holds no two such points
 pub not_upright_either : (e f : Edge) (p q : Point) → e.start.x ≢ e.end.x → Span e p q → on f p ≡ true → on f q ≡ true → f.start.x ≢ f.end.x
 not_upright_either e f p q n s fp fq k = clash (right p q) (same_column f.start.x p.X p.W q.X q.W (upright_coordinate f k p s.lesser fp) (upright_coordinate f k q s.greater fq)) (strictly_right e.start e.end p q n (on_line e p s.lesser_on) (on_line e q s.greater_on) s.in_order)
   where

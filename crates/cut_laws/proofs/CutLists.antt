@@ -26,6 +26,7 @@ pub record IsCrossing (e f : Edge) (q : Point) : Type 0 where
   pub on_first : on e q ≡ true
   pub on_second : on f q ≡ true
 
+-- of edges on one line both ends of the second have side 0 of the first, so the W of the meeting point, their difference, is 0
 one_line_meets_nowhere : (e f : Edge) → on_one_line e f ≡ true → (before_turning e f).W ≡ pos 0
 one_line_meets_nowhere e f h = difference s t (equal_from s (pos 0) both.0) (equal_from t (pos 0) both.1)
   where
@@ -41,6 +42,7 @@ one_line_meets_nowhere e f h = difference s t (equal_from s (pos 0) both.0) (equ
     both : (int_eq s (pos 0) ≡ true) × (int_eq t (pos 0) ≡ true)
     both = and_parts (int_eq s (pos 0)) (int_eq t (pos 0)) h
 
+-- the tests that let a crossing through show it: a W above 0 is that of lines not parallel, and it is on both edges
 pub crossing_is : (e f : Edge) (q : Point) → Among q (crossings e f) → IsCrossing e f q
 crossing_is e f q a = go (int_lt (pos 0) m.W && on e m && on f m) refl a
   where
@@ -81,6 +83,7 @@ pub record IsLeastCut (es : List Edge) (ps : List Position) (q : Point) : Type 0
 position_is_point : (a : Position) → IsPoint (point_at a)
 position_is_point a = omega (arith, ints)
 
+-- a position's W is 1, which nothing but 1 divides
 position_is_least : (a : Position) → IsLeast (point_at a)
 position_is_least a = λ d hx hy hw. eq-one_of_dvd-one hw
 
@@ -96,6 +99,7 @@ pub or_either : (a b : Bool) → (a || b) ≡ true → (a ≡ true) ⊎ (b ≡ t
 or_either true b e = inl refl
 or_either false b e = inr e
 
+-- the ends of an edge are cuts
 end_is_cut : (es : List Edge) (ps : List Position) (e : Edge) → Among e es → (q : Point) → Among q (end_points e) → IsLeastCut es ps q
 end_is_cut es ps e a q (inl g) = subst (IsLeastCut es ps) (sym g) record {
   is_point = position_is_point e.start;
@@ -109,6 +113,7 @@ end_is_cut es ps e a q (inr (inl g)) = subst (IsLeastCut es ps) (sym g) record {
 }
 end_is_cut es ps e a q (inr (inr c)) = absurd c
 
+-- the listed positions are cuts
 listed_is_cut : (es : List Edge) (ps : List Position) (a : Position) → Among a ps → (q : Point) → q ≡ point_at a → IsLeastCut es ps q
 listed_is_cut es ps a h q g = subst (IsLeastCut es ps) (sym g) record {
   is_point = position_is_point a;
@@ -116,6 +121,7 @@ listed_is_cut es ps a h q g = subst (IsLeastCut es ps) (sym g) record {
   is_cut = IsCut.Listed (position_is_point a) a (contains_from_among ps a h) (same_reflexive (point_at a));
 }
 
+-- the crossings are cuts: each is shared by two edges not on one line
 crossing_is_cut : (es : List Edge) (ps : List Position) (e f : Edge) → Among e es → Among f es → (q : Point) → IsCrossing e f q → IsLeastCut es ps q
 crossing_is_cut es ps e f a b q h = record {
   is_point = h.is_point;
@@ -148,6 +154,7 @@ cut_is_cut es ps q a = outer (among_either q (flat_map end_points es ++ map poin
     outer (inr b) = at_crossing (among_flat_map (λ e. flat_map (crossings e) es) es q b)
 
 -- ---- each cut is among them
+-- the ends, the listed positions and the crossings are all among the cuts before they are put in order
 in_ends : (es : List Edge) (ps : List Position) (q : Point) → Among q (flat_map end_points es) → Among q (all_cuts es ps)
 in_ends es ps q a = among_left q (flat_map end_points es ++ map point_at ps) _ (among_left q (flat_map end_points es) (map point_at ps) a)
 

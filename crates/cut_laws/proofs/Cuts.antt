@@ -18,6 +18,7 @@ use Rattle.cut_laws.proofs.Lists.{Some_of}
 use Rattle.cut_laws.proofs.Meeting.{before_turning, SharesPoint, shares_point}
 
 -- ---- the meeting point of two edges, turned up
+-- turning up a triple whose W isn't 0 makes W positive, so it stands for a point
 pub turned_is_point : (p : Point) → p.W ≢ pos 0 → IsPoint (turned_up p)
 turned_is_point p h = go (int_lt p.W (pos 0)) refl
   where
@@ -31,6 +32,7 @@ turned_is_point p h = go (int_lt p.W (pos 0)) refl
     go true e = up p.W (less_from p.W (pos 0) e)
     go false e = there p.W (not_less_from p.W (pos 0) e) h
 
+-- and where W is 0 it stays so
 pub turned_is_nothing : (p : Point) → p.W ≡ pos 0 → (turned_up p).W ≡ pos 0
 turned_is_nothing p h = go (int_lt p.W (pos 0))
   where
@@ -38,6 +40,7 @@ turned_is_nothing p h = go (int_lt p.W (pos 0))
     go true = ap (λ (z : ℤ). pos 0 -ℤ z) h
     go false = h
 
+-- a triple whose coordinates agree with a point's stands for that point when it is turned up
 pub turned_is_same : (p q : Point) → p.X *ℤ q.W ≡ q.X *ℤ p.W → p.Y *ℤ q.W ≡ q.Y *ℤ p.W → same_point (turned_up p) q ≡ true
 turned_is_same p q e f = go (int_lt p.W (pos 0))
   where
@@ -49,6 +52,7 @@ turned_is_same p q e f = go (int_lt p.W (pos 0))
     go true = same_from (record { X = pos 0 -ℤ p.X; Y = pos 0 -ℤ p.Y; W = pos 0 -ℤ p.W }) q (both p.X q.W q.X p.W e) (both p.Y q.W q.Y p.W f)
     go false = same_from p q e f
 
+-- nor does the least form make a point where W is 0
 pub least_is_nothing : (p : Point) → p.W ≡ pos 0 → (least_form p).W ≡ pos 0
 least_is_nothing p h = ap (λ (z : ℤ). int_div z (pos g)) h ∙ ap pos (zero-div g)
   where
@@ -56,6 +60,7 @@ least_is_nothing p h = ap (λ (z : ℤ). int_div z (pos g)) h ∙ ap pos (zero-d
     g = gcd (gcd (unsigned_abs p.X) (unsigned_abs p.Y)) (unsigned_abs p.W)
 
 -- ---- a shared point is found, and a found one is shared
+-- a point on both edges is where their lines meet, and the test on both edges passes there, so it is found in least form
 pub crossing_found : (e f : Edge) (p : Point) → IsPoint p → on_one_line e f ≡ false → on e p ≡ true → on f p ≡ true → Some_of (λ q. same_point q p ≡ true) (crossings e f)
 crossing_found e f p hp apart he hf = record { found = least_form (meeting_point e f); among = there; has = same }
   where

@@ -32,6 +32,7 @@ coordinate k m n s t a b x w e f =
     ∙ ap₂ (λ (y v : ℤ). (s *ℤ b -ℤ t *ℤ a) *ℤ v -ℤ y *ℤ (s -ℤ t)) e f
     ∙ solve (m ∷ n ∷ s ∷ t ∷ a ∷ b ∷ []) ((var 2 ⊗ var 5 ⊖ var 3 ⊗ var 4) ⊗ (var 0 ⊕ var 1) ⊖ (var 0 ⊗ var 4 ⊕ var 1 ⊗ var 5) ⊗ (var 2 ⊖ var 3)) ((var 0 ⊗ var 2 ⊕ var 1 ⊗ var 3) ⊗ (var 5 ⊖ var 4)) tt
 
+-- where the weighted sum of both sides is 0, the coordinates agree
 agrees : (k m n s t a b x w : ℤ) → pos 0 <ℤ k → k *ℤ x ≡ m *ℤ a +ℤ n *ℤ b → k *ℤ w ≡ m +ℤ n → m *ℤ s +ℤ n *ℤ t ≡ pos 0 → (s *ℤ b -ℤ t *ℤ a) *ℤ w ≡ x *ℤ (s -ℤ t)
 agrees k m n s t a b x w h e f z = same _ _ (cancel_zero k _ h (coordinate k m n s t a b x w e f ∙ ap (λ (y : ℤ). y *ℤ (b -ℤ a)) z ∙ nothing (b -ℤ a)))
   where
@@ -72,6 +73,8 @@ pub record SharesPoint (e f : Edge) (p : Point) : Type 0 where
 not_both : (a b : Bool) → (a && b) ≡ false → (a ≡ true) → (b ≡ true) → ⊥
 not_both a b e g h = let k : true ≡ false = sym (and_from a b g h) ∙ e in cc
 
+-- the shared point is a weighted sum of f's ends and its side of e is 0, so the same weights give the meeting point;
+-- were both sides equal, both would be 0 and the edges on one line
 pub shares_point : (e f : Edge) (p : Point) → IsPoint p → on_one_line e f ≡ false → on e p ≡ true → on f p ≡ true → SharesPoint e f p
 shares_point e f p hp apart he hf = record {
   x_is = agrees h.k h.m h.n s t f.start.x f.end.x p.X p.W h.from_k h.x_is h.w_is sides;

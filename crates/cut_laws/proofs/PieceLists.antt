@@ -21,15 +21,18 @@ use Rattle.cut_laws.proofs.Stretches.{Neighbours, stretch_is, stretch_found, les
 abbrev cuts_on : List Edge → List Position → Edge → List Point
 cuts_on es ps e = filter (on e) (cut_points es ps)
 
+-- the listed points on an edge are cuts in least form, and on the edge
 on_edge_is_cut : (es : List Edge) (ps : List Position) (e : Edge) (p : Point) → Among p (cuts_on es ps e) → IsLeastCut es ps p × (on e p ≡ true)
 on_edge_is_cut es ps e p a = go (among_filter (on e) (cut_points es ps) p a)
   where
     go : Among p (cut_points es ps) × (on e p ≡ true) → IsLeastCut es ps p × (on e p ≡ true)
     go h = (listed_is_cut es ps p h.0, h.1)
 
+-- so they are points
 points_on : (es : List Edge) (ps : List Position) (e : Edge) → Each IsPoint (cuts_on es ps e)
 points_on es ps e = each_of IsPoint (cuts_on es ps e) (λ p a. (on_edge_is_cut es ps e p a).0.is_point)
 
+-- and they ascend, since a filter leaves the order as it is
 sorted_on : (es : List Edge) (ps : List Position) (e : Edge) → Sorted compare (cuts_on es ps e)
 sorted_on es ps e = filter-sorted compare (on e) (cut_points es ps) (cut_points-sorted es ps)
 
@@ -42,6 +45,7 @@ itself_listed es ps p hp least c = go (cut_is_listed es ps p hp c)
         subst (λ q. Among q (cut_points es ps)) (least_is_unique s.found p k.is_point hp k.is_least least s.has) s.among
 
 -- ---- the pieces of one edge
+-- a stretch between neighbours of the cuts on an edge is a piece: any cut between its ends would be listed, in least form
 piece_of_edge_is : (es : List Edge) (ps : List Position) (e : Edge) → Among e es → (c : Piece) → Among c (pieces_of_edge (cut_points es ps) e) → IsPiece es ps c
 piece_of_edge_is es ps e a c b = made (stretch_is (cuts_on es ps e) (points_on es ps e) (sorted_on es ps e) c b)
   where
@@ -67,6 +71,7 @@ piece_of_edge_is es ps e a c b = made (stretch_is (cuts_on es ps e) (points_on e
             (less_right c.lesser p s.found hp hq x (sym (same_symmetric s.found p) ∙ s.has))
             (less_left s.found p c.greater hq hp s.has y)
 
+-- a piece on an edge has both ends among the edge's cuts and none between, so it is one of its stretches
 edge_has_piece : (es : List Edge) (ps : List Position) (c : Piece) → IsPoint c.lesser → IsPoint c.greater → IsLeast c.lesser → IsLeast c.greater → (h : IsPiece es ps c) → Among c (pieces_of_edge (cut_points es ps) h.edge)
 edge_has_piece es ps c hl hg ll lg h = stretch_found (cuts_on es ps h.edge) (points_on es ps h.edge) (sorted_on es ps h.edge) c.lesser c.greater
     (filter_among (on h.edge) (cut_points es ps) c.lesser (itself_listed es ps c.lesser hl ll h.lesser_is_cut) h.lesser_on)
@@ -86,12 +91,14 @@ pub record IsLeastPiece (es : List Edge) (ps : List Position) (c : Piece) : Type
   pub greater_is : IsPoint c.greater × IsLeast c.greater
   pub is_piece : IsPiece es ps c
 
+-- the cuts on an edge are points in least form
 least_pair : (es : List Edge) (ps : List Position) (e : Edge) (p : Point) → Among p (cuts_on es ps e) → IsPoint p × IsLeast p
 least_pair es ps e p a = go (on_edge_is_cut es ps e p a)
   where
     go : IsLeastCut es ps p × (on e p ≡ true) → IsPoint p × IsLeast p
     go k = (k.0.is_point, k.0.is_least)
 
+-- each piece of each edge is a piece, its ends in least form
 any_piece_is : (es : List Edge) (ps : List Position) (c : Piece) → Among c (all_pieces es ps) → IsLeastPiece es ps c
 any_piece_is es ps c a = go (among_flat_map (pieces_of_edge (cut_points es ps)) es c a)
   where
@@ -103,6 +110,7 @@ any_piece_is es ps c a = go (among_flat_map (pieces_of_edge (cut_points es ps)) 
         let both : (IsPoint c.lesser × IsLeast c.lesser) × (IsPoint c.greater × IsLeast c.greater) = ends s.found (stretch_is (cuts_on es ps s.found) (points_on es ps s.found) (sorted_on es ps s.found) c s.has) in
         record { lesser_is = both.0; greater_is = both.1; is_piece = piece_of_edge_is es ps s.found s.among c s.has }
 
+-- putting pieces in order adds none
 pub piece_is : (es : List Edge) (ps : List Position) (c : Piece) → Among c (pieces (cut_points es ps) es) → IsLeastPiece es ps c
 piece_is es ps c a = any_piece_is es ps c (among_ascending compare_pieces (all_pieces es ps) c a)
 
@@ -124,6 +132,7 @@ piece_is_listed es ps c hl hg ll lg h = go (ascending_among compare_pieces (all_
     go : Some_of (Ties compare_pieces c) (pieces (cut_points es ps) es) → Among c (pieces (cut_points es ps) es)
     go s = subst (λ d. Among d (pieces (cut_points es ps) es)) (tied s.found (piece_is es ps s.found s.among) s.has) s.among
 
+-- a listed piece is a piece, and each piece with its ends in least form is listed
 pub pieces_are_pieces : (es : List Edge) (ps : List Position) (c : Piece) → IsLeast c.lesser → IsLeast c.greater
     → IsPiece es ps c ↔ Contains (pieces (cut_points es ps) es) c
 pieces_are_pieces es ps c ll lg = (
@@ -131,6 +140,7 @@ pieces_are_pieces es ps c ll lg = (
   λ h. (piece_is es ps c (among_from_contains (pieces (cut_points es ps) es) c h)).is_piece,
 )
 
+-- the comparison of pieces is an order, so the pieces that are put in it ascend
 pub pieces-sorted : (es : List Edge) (ps : List Position) → Sorted compare_pieces (pieces (cut_points es ps) es)
 pieces-sorted es ps = ascending-sorted HasPoints compare_pieces pieces_are_ordered (all_pieces es ps) (each_of HasPoints (all_pieces es ps) (λ c a. points c (any_piece_is es ps c a)))
   where

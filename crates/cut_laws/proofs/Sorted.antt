@@ -17,6 +17,7 @@ pairs_from_sorted order [] h = λ i j d l m. absurd (omega (arith, m))
 pairs_from_sorted order (x ∷ xs) h = AllPairs-cons (λ y z. order y z ≡ Less) x xs (all_from_each (λ y. order x y ≡ Less) xs h.0) (pairs_from_sorted order xs h.1)
 
 -- ---- which are there
+-- a value put in its place adds itself at most
 pub among_with : {X : Type 0} (order : X → X → Ordering) (x : X) (ys : List X) (z : X) → Among z (with_value order x ys) → (z ≡ x) ⊎ Among z ys
 among_with order x [] z (inl e) = inl e
 among_with order x [] z (inr a) = absurd a
@@ -33,6 +34,7 @@ among_with order x (y ∷ ys) z a = go (λ b. among_with order x ys z b) (order 
     go rest Greater (inl e) = inr (inl e)
     go rest Greater (inr b) = behind (rest b)
 
+-- and takes nothing away
 pub with_among : {X : Type 0} (order : X → X → Ordering) (x : X) (ys : List X) (z : X) → Among z ys → Among z (with_value order x ys)
 with_among order x [] z a = absurd a
 with_among order x (y ∷ ys) z a = go (λ b. with_among order x ys z b) (order x y) a
@@ -47,6 +49,7 @@ with_among order x (y ∷ ys) z a = go (λ b. with_among order x ys z b) (order 
 abbrev pub Ties : {X : Type 0} → (X → X → Ordering) → X → X → Type 0
 Ties order x z = (z ≡ x) ⊎ (order x z ≡ Equal)
 
+-- it is there then, or one that ties with it is
 pub with_itself : {X : Type 0} (order : X → X → Ordering) (x : X) (ys : List X) → Some_of (Ties order x) (with_value order x ys)
 with_itself order x [] = record { found = x; among = inl refl; has = inl refl }
 with_itself order x (y ∷ ys) = go (with_itself order x ys) (order x y) refl
@@ -59,6 +62,7 @@ with_itself order x (y ∷ ys) = go (with_itself order x ys) (order x y) refl
     go rest Equal e = record { found = y; among = inl refl; has = inr e }
     go rest Greater e = behind rest
 
+-- so putting values in order adds none
 pub among_ascending : {X : Type 0} (order : X → X → Ordering) (xs : List X) (z : X) → Among z (ascending order xs) → Among z xs
 among_ascending order [] z a = absurd a
 among_ascending order (x ∷ xs) z a = go (λ b. among_ascending order xs z b) (among_with order x (ascending order xs) z a)
@@ -67,6 +71,7 @@ among_ascending order (x ∷ xs) z a = go (λ b. among_ascending order xs z b) (
     go rest (inl e) = inl e
     go rest (inr b) = inr (rest b)
 
+-- and each value is there, or one that ties with it
 pub ascending_among : {X : Type 0} (order : X → X → Ordering) (xs : List X) (z : X) → Among z xs → Some_of (Ties order z) (ascending order xs)
 ascending_among order [] z a = absurd a
 ascending_among order (x ∷ xs) z (inl e) = subst (λ w. Some_of (Ties order w) (ascending order (x ∷ xs))) (sym e) (with_itself order x (ascending order xs))
@@ -80,6 +85,7 @@ pub record IsOrder {X : Type 0} (V : X → Type 0) (order : X → X → Ordering
   pub through : (x y z : X) → V x → V y → V z → order x y ≡ Less → order y z ≡ Less → order x z ≡ Less
   pub turned : (x y : X) → order x y ≡ Greater → order y x ≡ Less
 
+-- put before the first that is greater, a value leaves the list ascending
 pub with-sorted : {X : Type 0} (V : X → Type 0) (order : X → X → Ordering) → IsOrder V order → (x : X) (ys : List X) → V x → Each V ys → Sorted order ys → Sorted order (with_value order x ys)
 with-sorted V order o x [] v vs s = (tt, tt)
 with-sorted {X} V order o x (y ∷ ys) v vs s = go (with-sorted V order o x ys v vs.1 s.1) (order x y) refl
@@ -99,12 +105,14 @@ with-sorted {X} V order o x (y ∷ ys) v vs s = go (with-sorted V order o x ys v
     go rest Equal e = s
     go rest Greater e = (before_each (o.turned x y e), rest)
 
+-- so values put in order, one by one, ascend
 pub ascending-sorted : {X : Type 0} (V : X → Type 0) (order : X → X → Ordering) → IsOrder V order → (xs : List X) → Each V xs → Sorted order (ascending order xs)
 ascending-sorted V order o [] vs = tt
 ascending-sorted V order o (x ∷ xs) vs = with-sorted V order o x (ascending order xs) vs.0
     (each_of V (ascending order xs) (λ z a. each_at V xs z vs.1 (among_ascending order xs z a)))
     (ascending-sorted V order o xs vs.1)
 
+-- a filter leaves the order as it is
 pub filter-sorted : {X : Type 0} (order : X → X → Ordering) (f : X → Bool) (xs : List X) → Sorted order xs → Sorted order (filter f xs)
 filter-sorted order f [] s = tt
 filter-sorted order f (x ∷ xs) s = go (filter-sorted order f xs s.1) (f x)

@@ -12,12 +12,15 @@ use Rattle.geometry_laws.proofs.Each.{Each, Among, each_at}
 use Rattle.cut_laws.proofs.Sorted.{Sorted, IsOrder}
 
 -- ---- points in order
+-- no point is before itself
 pub not_before_itself : (p : Point) → compare p p ≡ Less → ⊥
 not_before_itself p e = let k : Equal ≡ Less = sym ((equal_is_same p p).1 (same_reflexive p)) ∙ e in cc
 
+-- the order of points sees only where they are: the later one may be written by another triple
 pub less_right : (p q r : Point) → IsPoint q → IsPoint r → compare p q ≡ Less → same_point q r ≡ true → compare p r ≡ Less
 less_right p q r hq hr e same = compare_reversed r p ∙ ap reversed (sym (compare_respects p q r hq hr same) ∙ compare_reversed p q ∙ ap reversed e)
 
+-- and so may the earlier one
 pub less_left : (p q r : Point) → IsPoint p → IsPoint q → same_point p q ≡ true → compare q r ≡ Less → compare p r ≡ Less
 less_left p q r hp hq same e = compare_respects r p q hp hq same ∙ e
 
@@ -28,6 +31,7 @@ pub record Neighbours (xs : List Point) (c : Piece) : Type 0 where
   pub in_order : compare c.lesser c.greater ≡ Less
   pub none : (z : Point) → Among z xs → compare c.lesser z ≡ Less → compare z c.greater ≡ Less → ⊥
 
+-- the first two points of an ascending list are neighbours: any other is behind the second
 first_two : (p q : Point) (rest : List Point) → Each IsPoint (p ∷ q ∷ rest) → Sorted compare (p ∷ q ∷ rest) → Neighbours (p ∷ q ∷ rest) (record { lesser = p; greater = q })
 first_two p q rest v s = record { lesser = inl refl; greater = inr (inl refl); in_order = s.0.0; none = between }
   where
@@ -36,6 +40,7 @@ first_two p q rest v s = record { lesser = inl refl; greater = inr (inl refl); i
     between z (inr (inl g)) e f = not_before_itself q (ap (λ w. compare w q) (sym g) ∙ f)
     between z (inr (inr a)) e f = not_before_itself q (less_transitive q z q v.1.0 (each_at IsPoint rest z v.1.1 a) v.1.0 (each_at (λ w. compare q w ≡ Less) rest z s.1.0 a) f)
 
+-- neighbours stay neighbours behind a lesser point
 behind_first : (p : Point) (xs : List Point) (c : Piece) → IsPoint p → Each IsPoint xs → Each (λ y. compare p y ≡ Less) xs → Neighbours xs c → Neighbours (p ∷ xs) c
 behind_first p xs c hp v s n = record { lesser = inr n.lesser; greater = inr n.greater; in_order = n.in_order; none = between }
   where
@@ -43,6 +48,7 @@ behind_first p xs c hp v s n = record { lesser = inr n.lesser; greater = inr n.g
     between z (inl g) e f = not_before_itself p (less_transitive p c.lesser p hp (each_at IsPoint xs c.lesser v n.lesser) hp (each_at (λ y. compare p y ≡ Less) xs c.lesser s n.lesser) (ap (compare c.lesser) (sym g) ∙ e))
     between z (inr a) e f = n.none z a e f
 
+-- so each stretch of an ascending list is between neighbours
 pub stretch_is : (xs : List Point) → Each IsPoint xs → Sorted compare xs → (c : Piece) → Among c (stretches xs) → Neighbours xs c
 stretch_is [] v s c a = absurd a
 stretch_is (p ∷ []) v s c a = absurd a
@@ -66,16 +72,19 @@ stretch_found (p ∷ q ∷ rest) v s x y (inr a) (inr b) e none = inr (stretch_f
 abbrev pub HasPoints : Piece → Type 0
 HasPoints c = IsPoint c.lesser × IsPoint c.greater
 
+-- two orders, one after the other, are Less where the first is, or where it is Equal and the second is Less
 pub then_less : (a b : Ordering) → ordering_then a b ≡ Less → (a ≡ Less) ⊎ ((a ≡ Equal) × (b ≡ Less))
 then_less Less b e = inl refl
 then_less Equal b e = inr (refl, e)
 then_less Greater b e = absurd (let k : Greater ≡ Less = e in cc)
 
+-- and Equal where both are
 pub then_equal : (a b : Ordering) → ordering_then a b ≡ Equal → (a ≡ Equal) × (b ≡ Equal)
 then_equal Less b e = absurd (let k : Less ≡ Equal = e in cc)
 then_equal Equal b e = (refl, e)
 then_equal Greater b e = absurd (let k : Greater ≡ Equal = e in cc)
 
+-- and reversed where both are
 reversed-then : (a b : Ordering) → ordering_then (reversed a) (reversed b) ≡ reversed (ordering_then a b)
 reversed-then Less b = refl
 reversed-then Equal b = refl
@@ -87,6 +96,7 @@ by_first c d e = ap (λ o. ordering_then o (compare c.greater d.greater)) e
 by_second : (c d : Piece) → compare c.lesser d.lesser ≡ Equal → compare c.greater d.greater ≡ Less → compare_pieces c d ≡ Less
 by_second c d e f = ap (λ o. ordering_then o (compare c.greater d.greater)) e ∙ f
 
+-- the comparison of pieces is an order too: it compares their lesser ends, then their greater ends
 pub pieces_are_ordered : IsOrder HasPoints compare_pieces
 pieces_are_ordered = record { through = through; turned = turned }
   where

@@ -51,6 +51,7 @@ below-first a b e = go (int_lt b a) refl
 pub ascending_alone : {G : Type 0} (key : ℕ) (xs : List (Row G)) → Ascend (key_of key) xs → double_key (map (key_of key) xs) ≡ None
 ascending_alone key xs up = no_double (key_of key) (map (key_of key) xs) xs (IsPermutation-refl (map (key_of key) xs)) up
 
+-- and they are the rows by key already
 pub ascending_order : {G : Type 0} (key : ℕ) (xs : List (Row G)) → Ascend (key_of key) xs → by_key key xs ≡ xs
 ascending_order key xs up =
     the_order key xs xs (ascending_alone key xs up) (IsPermutation-refl xs)

@@ -28,6 +28,7 @@ length-loaded geometry definitions records same =
     let pairs = length-zip_same definitions records same in
     simp (length-map, length-enumerate_from) pairs
 
+-- the same where the tables are given as texts
 pub length-tables : {T G : Type 0} (geometry : GeometryReader T G) (definitions : List (TableDef T)) (texts : List (List ℕ)) → length definitions ≡ length texts
     → length (loaded_tables geometry definitions (map records_in texts)) ≡ length definitions
 length-tables geometry definitions texts same =
@@ -106,6 +107,7 @@ pub record HaveLoaded {T G : Type 0} (geometry : GeometryReader T G) (definition
   pub count : length records ≡ n
   pub passed : (more : List (List Record)) → length definitions ≡ length (records ++ more) → Passed (loaded_tables geometry definitions (records ++ more)) n tables
 
+-- before the first table none has loaded
 pub loaded_none : {T G : Type 0} (geometry : GeometryReader T G) (definitions : List (TableDef T)) (known : List (Option (List ℕ))) → HaveLoaded geometry definitions known 0 []
 loaded_none geometry definitions known = record { records = []; are_of = tt; count = refl; passed = λ more same. refl }
 

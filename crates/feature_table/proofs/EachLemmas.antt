@@ -25,6 +25,7 @@ passed_fault (a ∷ answers) (suc i) (x ∷ front) f d within so_far here =
     let fault = passed_fault answers i front f d (omega arith) rest here in
     rw (first, fault) refl
 
+-- answers without a fault, taken in turn, are their values
 all-ok : {A F : Type 0} (front : List A) → ◌≡◌ {A = Result (List A) F} (each (map Ok front)) (Ok front)
 all-ok [] = refl
 all-ok {F = F} (x ∷ front) = rw (all-ok {F = F} front) refl

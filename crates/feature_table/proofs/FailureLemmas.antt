@@ -4,6 +4,7 @@ use Rattle.feature_table.specs.Outcomes.{IsFailure}
 use Rattle.table_model.specs.declared.faults.LoadFault.{LoadFault}
 use Rattle.table_model.specs.declared.faults.LoadFault.TheVariants as fault
 
+-- each fault is one or the other
 pub failure_or_not : (f : LoadFault) → IsFailure f ⊎ ¬ (IsFailure f)
 failure_or_not fault.ReadFailed = inl (inl refl)
 failure_or_not fault.OutOfMemory = inl (inr refl)

@@ -16,6 +16,7 @@ use Rattle.table_model.specs.declared.definitions.ColumnType.TheVariants as colu
 use Rattle.table_model.specs.declared.faults.LoadFault.TheVariants as fault
 use Rattle.table_model.specs.declared.values.Value.TheVariants as value
 
+-- decimal digits spell a number, and their value is it
 numerals : IsNumeralModel (λ ds. all_ascii_digits ds ≡ true) (digits_value 10)
 numerals = numerals_by_value _ tells_all_ascii_digits
 
@@ -25,6 +26,7 @@ lt-true m n h = grind (arith, nat_tests)
 true-lt : (m n : ℕ) → nat_lt m n ≡ true → m < n
 true-lt m n h = grind (arith, nat_tests)
 
+-- the test of 64 bits passes the numbers that fit, and no others
 fits-true : (z : ℤ) → FitsSigned w64 z → fits_64_bits z ≡ true
 fits-true (pos n) h = lt-true n (2 ^ 63) h.sfits
 fits-true (negsuc n) h = lt-true n (2 ^ 63) h.sfits
@@ -44,6 +46,7 @@ and-both true true false h = absurd (false≢true h)
 and-both true false c h = absurd (false≢true h)
 and-both false b c h = absurd (false≢true h)
 
+-- and what is a number, `parse` takes
 true-number : (text : List ℕ) → is_number text ≡ true → IsNumeral 10 (without_leading_sign text) × FitsSigned w64 (signed_digits_value 10 text)
 true-number text h =
     let digits = without_leading_sign text in
@@ -63,6 +66,7 @@ ascii-cons : (c : ℕ) (cs : List ℕ) → c < 128 → IsAscii cs → IsAscii (c
 ascii-cons c cs low rest zero = low
 ascii-cons c cs low rest (suc i) = rest i
 
+-- a text whose digits are ASCII is ASCII, since its sign is
 ascii-signed : (text : List ℕ) → IsAscii (without_leading_sign text) → IsAscii text
 ascii-signed [] h = h
 ascii-signed (c ∷ cs) h = minus (c == 45) refl h
@@ -103,6 +107,7 @@ pub text_value : {T G : Type 0} (geometry : GeometryReader T G) (number : ℕ) (
     → kind ≡ column.Text → false ≡ (length bytes == 0) → IsUtf8 bytes → value_of geometry number required kind bytes ≡ Ok (value.Text bytes)
 text_value geometry number required kind bytes is_text some is = rw (filled geometry number required kind bytes some, is_text, is_utf8-from_IsUtf8 bytes is) refl
 
+-- a field that isn't UTF-8 has no value in a text column
 pub no_text_value : {T G : Type 0} (geometry : GeometryReader T G) (number : ℕ) (required : Bool) (kind : ColumnType T) (bytes : List ℕ)
     → kind ≡ column.Text → false ≡ (length bytes == 0) → ¬ (IsUtf8 bytes) → value_of geometry number required kind bytes ≡ Err (fault.NotUtf8 number)
 no_text_value geometry number required kind bytes is_text some other = rw (filled geometry number required kind bytes some, is_text, utf8-false bytes other) refl

@@ -48,6 +48,7 @@ first_place p (x ∷ xs) (suc i) d none within here = go (p x) refl (sym (count-
         let place = more (omega (arith, rest)) (omega arith) here in
         rw e (omega (arith, place))
 
+-- an element that passes, where none did before it, is the first, and the only one so far
 found_first : {X : Type 0} (p : X → Bool) (xs : List X) (i : ℕ) (d : X) → i < length xs → IsFound p xs i None → p (get_or xs i d) ≡ true
     → IsFound p xs (i + 1) (Some i)
 found_first p xs i d within none here =
@@ -55,6 +56,7 @@ found_first p xs i d within none here =
     let inside : nat_lt i (length xs) ≡ true = grind (arith, nat_tests) in
     (omega (arith, count_by_more_yes p xs i d within here), rw (place, inside) refl, within)
 
+-- an element that doesn't pass changes nothing of what was found
 pub found_kept : {X : Type 0} (p : X → Bool) (xs : List X) (i : ℕ) (d : X) (o : Option ℕ) → i < length xs → IsFound p xs i o
     → p (get_or xs i d) ≡ false → IsFound p xs (i + 1) o
 found_kept p xs i d None within found here = omega (arith, count_by_more_no p xs i d within here)
@@ -76,6 +78,7 @@ name_missing header name i past none =
     let count : count_by (same_name name) header ≡ 0 = rw (take_all i header past) at none in
     rw count refl
 
+-- a name that is found again stands twice in the header
 name_twice : (header : Record) (name d : List ℕ) (i k : ℕ) → i < length header → IsFound (same_name name) header i (Some k)
     → same_name name (get_or header i d) ≡ true → name_fault header name ≡ Some fault.DoubleHeader
 name_twice header name d i k within found here =
@@ -86,6 +89,7 @@ name_twice header name d i k within found here =
     let one : (n == 1) ≡ false = ne_eqb n 1 (λ e. absurd (omega arith)) in
     rw (no, one) refl
 
+-- a name that is found once has no fault, and this is its place
 pub name_there : (header : Record) (name : List ℕ) (i k : ℕ) → length header ≤ i → IsFound (same_name name) header i (Some k)
     → (name_fault header name ≡ None) × (k ≡ place_in header name)
 name_there header name i k past found =

@@ -71,6 +71,7 @@ pub record IsKept {I : Type 0} (indexed : I → List (Option Envelope)) (table :
 abbrev pub EachKept : {X : Type 0} → (ℕ → X → Type 0) → List X → Type 0
 EachKept {X = X} P xs = (i : ℕ) (x : X) → slice_get xs i ≡ Some x → P i x
 
+-- one more is kept, at the end
 pub one_more_kept : {X : Type 0} (P : ℕ → X → Type 0) (xs : List X) (y : X) → EachKept P xs → P (length xs) y → EachKept P (xs ++ y ∷ [])
 one_more_kept P [] y h p zero x e = let same : y ≡ x = cc e in subst (P 0) same p
 one_more_kept P [] y h p (suc i) x e = cc e

@@ -8,6 +8,7 @@ use Rattle.std.specs.List.{list_any}
 use Rattle.std.specs.Ordering.{int_cmp, int_eq}
 use Rattle.table_model.specs.Loading.{double_from, double_key}
 
+-- to find it first, or else to look on, is to find it in one of the two
 or_cond : (a b : Bool) → cond a true b ≡ (a || b)
 or_cond true b = refl
 or_cond false b = refl
@@ -27,10 +28,12 @@ pub record Searched (seen : BTreeSet ℤ) (keys : List ℤ) (place : ℕ) : Type
   pub left : double_from earlier (place + 1) (drop place keys) ≡ double_key keys
   pub has : (q : ℤ) → contains int_cmp seen q ≡ list_any (int_eq q) earlier
 
+-- before the first key nothing was seen
 pub searched_start : (seen : BTreeSet ℤ) (keys : List ℤ) → seen.keys ≡ [] → Searched seen keys 0
 unfolding double_key
 searched_start seen keys none = record { earlier = []; left = refl; has = λ q. rw none refl }
 
+-- a key that the set has came before, and none came twice earlier: this record is the first to repeat one
 pub searched_here : (seen : BTreeSet ℤ) (keys : List ℤ) (place : ℕ) (k : ℤ) → place < length keys → k ≡ get_or keys place k → Searched seen keys place
     → contains int_cmp seen k ≡ true → double_key keys ≡ Some (place + 1)
 searched_here seen keys place k within is s there =
@@ -39,6 +42,7 @@ searched_here seen keys place k within is s there =
     let found : double_from s.earlier (place + 1) (k ∷ drop (place + 1) keys) ≡ Some (place + 1) = rw had refl in
     sym s.left ∙ ap (double_from s.earlier (place + 1)) first ∙ found
 
+-- a key that the set doesn't have is put into it
 pub searched_more : (seen new : BTreeSet ℤ) (keys : List ℤ) (place : ℕ) (k : ℤ) → place < length keys → k ≡ get_or keys place k → Searched seen keys place
     → contains int_cmp seen k ≡ false → Updates int_cmp seen new k true → Searched new keys (place + 1)
 searched_more seen new keys place k within is s there puts =
@@ -52,5 +56,6 @@ searched_more seen new keys place k within is s there puts =
           ∙ ap (λ (b : Bool). cond (int_eq q k) true b) (s.has q) ∙ or_cond (int_eq q k) (list_any (int_eq q) s.earlier);
     }
 
+-- past the last key none came twice
 pub searched_end : (seen : BTreeSet ℤ) (keys : List ℤ) (place : ℕ) → length keys ≤ place → Searched seen keys place → double_key keys ≡ None
 searched_end seen keys place past s = sym s.left ∙ ap (double_from s.earlier (place + 1)) (drop_all place keys past)

@@ -36,10 +36,12 @@ last-true true true c h = h
 last-true true false c h = absurd (false≢true h)
 last-true false b c h = absurd (false≢true h)
 
+-- a lawful schema of one table has that table lawful
 alone : {T : Type 0} (table : TableDef T) → lawful (table ∷ []) ≡ true → lawful_table table ≡ true
 unfolding lawful
 alone table is = first-true (lawful_table table) is
 
+-- a table with a key has a column, and an empty header lacks it
 keyed_columns : {T : Type 0} (columns : List (ColumnDef T)) (key : ℕ) → may_be_key (slice_get columns key) ≡ true → header_fault columns [] ≡ Some fault.MissingColumn
 unfolding header_fault
 keyed_columns [] zero h = absurd (false≢true h)

@@ -25,6 +25,7 @@ at_place (z ∷ zs) (suc i) x ys h =
     let next : suc i + 1 ≡ suc (i + 1) = omega arith in
     (omega (arith, more.0), more.1, rw next more.2)
 
+-- where nothing is left the end is reached
 past_end : {X : Type 0} (xs : List X) (i : ℕ) → drop i xs ≡ [] → length xs ≤ i
 past_end [] i h = omega arith
 past_end (z ∷ zs) zero h = cc h
@@ -37,6 +38,7 @@ drop_front [] ys (suc n) h = absurd (omega (arith, h))
 drop_front (x ∷ xs) ys zero h = absurd (omega (arith, h))
 drop_front (x ∷ xs) ys (suc n) h = drop_front xs ys n (omega (arith, h))
 
+-- there are as many answers as records
 length-rows : {T G : Type 0} (geometry : GeometryReader T G) (table : TableDef T) (header : Record) (records : List Record)
     → length (checked_rows geometry table header records) ≡ length records
 length-rows geometry table header records = simp (length-map, length-enumerate_from)
@@ -91,6 +93,7 @@ pub record Midway {R T G : Type 0} (remaining : R → Option (List ℕ)) (reader
   pub gives : Gives remaining reader (drop place records)
   pub passed : Passed (checked_rows geometry table header records) place rows
 
+-- the next record is a row: it is kept, and the reader gives the rest
 pub midway_more : {R T G : Type 0} (remaining : R → Option (List ℕ)) (old new : Records R) (geometry : GeometryReader T G) (table : TableDef T) (header : Record) (records : List Record)
     (place : ℕ) (rows : List (Row G)) (first : Record) (more : List Record) (row : Row G) → Midway remaining old geometry table header records place rows
     → drop place records ≡ first ∷ more → checked_row geometry table header (place + 1, first) ≡ Ok row → Gives remaining new more
@@ -99,6 +102,7 @@ midway_more remaining old new geometry table header records place rows first mor
     let at = at_place records place first more takes in
     record { gives = rw at.2 gives; passed = row_more geometry table header records place rows first more row m.passed takes is }
 
+-- the next record has a fault: that is the first one, since all before it are rows
 pub midway_fault : {R T G : Type 0} (remaining : R → Option (List ℕ)) (old : Records R) (geometry : GeometryReader T G) (table : TableDef T) (header : Record) (records : List Record)
     (place : ℕ) (rows : List (Row G)) (first : Record) (more : List Record) (f : LoadFault) → Midway remaining old geometry table header records place rows
     → drop place records ≡ first ∷ more → checked_row geometry table header (place + 1, first) ≡ Err f
@@ -106,6 +110,7 @@ pub midway_fault : {R T G : Type 0} (remaining : R → Option (List ℕ)) (old :
 midway_fault remaining old geometry table header records place rows first more f m takes is =
     row_fault geometry table header records place rows first more f m.passed takes is
 
+-- no record is left: all are rows
 pub midway_end : {R T G : Type 0} (remaining : R → Option (List ℕ)) (old : Records R) (geometry : GeometryReader T G) (table : TableDef T) (header : Record) (records : List Record)
     (place : ℕ) (rows : List (Row G)) → Midway remaining old geometry table header records place rows → drop place records ≡ []
     → rows_of geometry table header records ≡ Ok rows
@@ -119,9 +124,11 @@ pub record AreRead {T G : Type 0} (geometry : GeometryReader T G) (table : Table
   pub count : length records ≡ place
   pub passed : (more : List Record) → Passed (checked_rows geometry table header (records ++ more)) place rows
 
+-- before the first record nothing was read
 pub read_none : {T G : Type 0} (geometry : GeometryReader T G) (table : TableDef T) (header : Record) → AreRead geometry table header 0 []
 read_none geometry table header = record { records = []; count = refl; passed = λ more. refl }
 
+-- one record more was read, and it is a row
 pub read_more : {T G : Type 0} (geometry : GeometryReader T G) (table : TableDef T) (header : Record) (place : ℕ) (rows : List (Row G)) (fields : Record) (row : Row G)
     → AreRead geometry table header place rows → checked_row geometry table header (place + 1, fields) ≡ Ok row
     → AreRead geometry table header (place + 1) (rows ++ row ∷ [])
@@ -133,6 +140,7 @@ read_more geometry table header place rows fields row a is = record {
       (row_more geometry table header (a.records ++ fields ∷ more) place rows fields more row (a.passed (fields ∷ more)) (drop_front a.records (fields ∷ more) place a.count) is);
 }
 
+-- the next record that was read has a fault: the records so far and this one have it first
 pub read_fault : {T G : Type 0} (geometry : GeometryReader T G) (table : TableDef T) (header : Record) (place : ℕ) (rows : List (Row G)) (fields : Record) (f : LoadFault)
     → AreRead geometry table header place rows → checked_row geometry table header (place + 1, fields) ≡ Err f
     → (records : List Record) × (rows_of geometry table header records ≡ Err f)
@@ -141,6 +149,7 @@ read_fault geometry table header place rows fields f a is = (
   row_fault geometry table header (a.records ++ fields ∷ []) place rows fields [] f (a.passed (fields ∷ [])) (drop_front a.records (fields ∷ []) place a.count) is,
 )
 
+-- nothing more is read: the records so far give these rows
 pub read_end : {T G : Type 0} (geometry : GeometryReader T G) (table : TableDef T) (header : Record) (place : ℕ) (rows : List (Row G))
     → AreRead geometry table header place rows → (records : List Record) × (rows_of geometry table header records ≡ Ok rows)
 read_end geometry table header place rows a =

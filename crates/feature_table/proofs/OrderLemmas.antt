@@ -49,6 +49,7 @@ one-way a b p q =
     let back = int_cmp_total.antisymm a b in
     cc (first, rw second at back)
 
+-- a number below one that is below a third is below the third
 chain : (a b c : ℤ) → int_lt a b ≡ true → int_lt b c ≡ true → int_lt a c ≡ true
 chain a b c p q = order-less a c (int_cmp_total.trans a b c (less-order a b p) (less-order b c q))
 
@@ -57,6 +58,7 @@ abbrev IsIn : {X : Type 0} → List X → X → Type 0
 IsIn [] r = ⊥
 IsIn (x ∷ xs) r = (x ≡ r) ⊎ IsIn xs r
 
+-- an element that stands at a place is in the list
 in-at : {X : Type 0} (xs : List X) (k : ℕ) (r : X) → k < length xs → get_or xs k r ≡ r → IsIn xs r
 in-at [] k r within e = absurd (omega arith)
 in-at (x ∷ xs) zero r within e = inl e
@@ -97,6 +99,7 @@ only_one {G = G} key (x ∷ xs) (y ∷ ys) a b f g =
 abbrev Once : {G : Type 0} → ℕ → List (Row G) → Type 0
 Once key rows = (k : ℤ) → count_by (λ r. int_eq k (key_of key r)) rows ≤ 1
 
+-- an element that passes is counted
 some-counted : {X : Type 0} (p : X → Bool) (xs : List X) (r : X) → IsIn xs r → p r ≡ true → 1 ≤ count_by p xs
 some-counted p [] r h is = absurd h
 some-counted {X = X} p (x ∷ xs) r h is = rw (count-cons p x xs) (go (some-counted p xs r) h)
@@ -104,6 +107,7 @@ some-counted {X = X} p (x ∷ xs) r h is = rw (count-cons p x xs) (go (some-coun
     go : (IsIn xs r → p r ≡ true → 1 ≤ count_by p xs) → (x ≡ r) ⊎ IsIn xs r → 1 ≤ cond (p x) 1 0 + count_by p xs
     go more h = ⊎_elim (λ (e : x ≡ r). let yes : p x ≡ true = ap p e ∙ is in rw yes (omega arith)) (λ (i : IsIn xs r). let m = more i is in omega (arith, m)) h
 
+-- where each key comes once at most no later row has the first one's key
 once-apart : {G : Type 0} (key : ℕ) (x : Row G) (xs : List (Row G)) → Once key (x ∷ xs) → (r : Row G) → IsIn xs r → int_eq (key_of key x) (key_of key r) ≡ false
 once-apart {G = G} key x xs once r i = go (int_eq (key_of key x) (key_of key r)) refl
   where
@@ -116,6 +120,7 @@ once-apart {G = G} key x xs once r i = go (int_eq (key_of key x) (key_of key r))
         absurd (omega (arith, more, whole))
     go false e = refl
 
+-- and each key comes once at most among the later rows
 once-tail : {G : Type 0} (key : ℕ) (x : Row G) (xs : List (Row G)) → Once key (x ∷ xs) → Once key xs
 once-tail {G = G} key x xs once k =
     let p = λ (z : Row G). int_eq k (key_of key z) in
@@ -133,6 +138,7 @@ in-insert {G = G} key x (z ∷ zs) r h = go (int_lt (key_of key x) (key_of key z
     go false i more =
         ⊎_elim (λ (e : z ≡ r). inr (inl e)) (λ (j : IsIn (insert_by_key key x zs) r). ⊎_elim (λ (e : x ≡ r). inl e) (λ (t : IsIn zs r). inr (inr t)) (more j)) i
 
+-- a row that is put in its place, and all others, are there
 insert-in : {G : Type 0} (key : ℕ) (x : Row G) (zs : List (Row G)) (r : Row G) → (x ≡ r) ⊎ IsIn zs r → IsIn (insert_by_key key x zs) r
 insert-in key x [] r h = h
 insert-in {G = G} key x (z ∷ zs) r h = go (int_lt (key_of key x) (key_of key z)) h (insert-in key x zs r)
@@ -143,6 +149,7 @@ insert-in {G = G} key x (z ∷ zs) r h = go (int_lt (key_of key x) (key_of key z
     go false i more =
         ⊎_elim (λ (e : x ≡ r). inr (more (inl e))) (λ (j : IsIn (z ∷ zs) r). ⊎_elim (λ (e : z ≡ r). inl e) (λ (t : IsIn zs r). inr (more (inr t))) j) i
 
+-- a row of another key than all, put in its place, leaves the keys ascending
 ascends-insert : {G : Type 0} (key : ℕ) (x : Row G) (zs : List (Row G)) → Ascends key zs
     → ((r : Row G) → IsIn zs r → int_eq (key_of key x) (key_of key r) ≡ false) → Ascends key (insert_by_key key x zs)
 ascends-insert key x [] a apart = ((λ r i. absurd i), tt)
@@ -170,12 +177,14 @@ in-by_key key [] r h = h
 in-by_key {G = G} key (x ∷ xs) r h =
     ⊎_elim (λ (e : x ≡ r). inl e) (λ (i : IsIn (by_key key xs) r). inr (in-by_key key xs r i)) (in-insert key x (by_key key xs) r h)
 
+-- each row is among the rows by key
 by_key-in : {G : Type 0} (key : ℕ) (xs : List (Row G)) (r : Row G) → IsIn xs r → IsIn (by_key key xs) r
 unfolding by_key
 by_key-in key [] r h = h
 by_key-in {G = G} key (x ∷ xs) r h =
     insert-in key x (by_key key xs) r (⊎_elim (λ (e : x ≡ r). inl e) (λ (i : IsIn xs r). inr (by_key-in key xs r i)) h)
 
+-- rows of different keys ascend when they are put in order
 ascends-by_key : {G : Type 0} (key : ℕ) (xs : List (Row G)) → Once key xs → Ascends key (by_key key xs)
 unfolding by_key
 ascends-by_key key [] once = tt
@@ -186,6 +195,7 @@ ascends-by_key key (x ∷ xs) once =
 sorted-tail : {X : Type 0} (lt : X → X → Bool) (y : X) (ys : List X) → IsSortedBy lt (y ∷ ys) → IsSortedBy lt ys
 sorted-tail lt y ys up k d low high = let n : suc k + 1 ≡ suc (k + 1) = omega arith in rw n at (up (suc k) d (omega arith) (omega arith))
 
+-- a sorted list of rows of different keys ascends: no two neighbours have one key
 ascends-sorted : {G : Type 0} (key : ℕ) (ys : List (Row G)) → IsSortedByKey (key_of key) int_cmp ys → Once key ys → Ascends key ys
 ascends-sorted key [] up once = tt
 ascends-sorted {G = G} key (y ∷ ys) up once =
@@ -214,6 +224,7 @@ absent k earlier n (q ∷ qs) e h = go (list_any (int_eq q) earlier) refl e (int
         let rest = more e had in
         rw (count-cons (int_eq k) q qs, same) (omega (arith, rest))
 
+-- where no key is found to repeat one each comes once at most
 once-keys : (k : ℤ) (earlier : List ℤ) (n : ℕ) (keys : List ℤ) → double_from earlier n keys ≡ None → count_by (int_eq k) keys ≤ 1
 once-keys k earlier n [] e = omega arith
 once-keys k earlier n (q ∷ qs) e = go (list_any (int_eq q) earlier) e (int_eq k q) refl (once-keys k (q ∷ earlier) (n + 1) qs)
@@ -249,6 +260,7 @@ the_order {G = G} key xs ys none moved up =
 abbrev Tells : {G K : Type 0} → (K → ℤ) → (K → Row G) → ℕ → K → Type 0
 Tells number row key k = number k ≡ key_of key (row k)
 
+-- rows that were put beside their keys are the rows again when the keys are left out
 rows-of-made : {G K : Type 0} (row : K → Row G) (make : Row G → K) → ((r : Row G) → row (make r) ≡ r) → (xs : List (Row G)) → map row (map make xs) ≡ xs
 rows-of-made row make back [] = refl
 rows-of-made row make back (x ∷ xs) = rw (back x, rows-of-made row make back xs) refl

@@ -22,6 +22,7 @@ length-each [] (r ∷ rs) h = absurd h
 length-each (k ∷ ks) [] h = absurd h
 length-each (k ∷ ks) (r ∷ rs) h = ap suc (length-each ks rs h.1)
 
+-- the records of some readers and of others, put together, are those of all
 pub each-append : (known others : List (Option (List ℕ))) (records more : List (List Record)) → EachRecordsOf known records → EachRecordsOf others more
     → EachRecordsOf (known ++ others) (records ++ more)
 each-append [] others [] more h k = k
@@ -39,6 +40,7 @@ some-of : (known : Option (List ℕ)) → (records : List Record) × AreRecordsO
 some-of None = ([], tt)
 some-of (Some text) = (records_in text, refl)
 
+-- each reader has records: those of its bytes where they are known, or any
 pub fill : (known : List (Option (List ℕ))) → (records : List (List Record)) × EachRecordsOf known records
 fill [] = ([], tt)
 fill (k ∷ ks) = let first = some-of k in let more = fill ks in (first.0 ∷ more.0, (first.1, more.1))

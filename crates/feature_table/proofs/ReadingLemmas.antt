@@ -16,6 +16,7 @@ use Rattle.feature_table.specs.Reading.{IsSteady, StillGives, TakesFirst, record
 abbrev EndsBetween : State × Action → Type 0
 EndsBetween r = is_end r.1 ≡ true → ends_at_end r.0 ≡ false
 
+-- a choice between two steps ends between records where both do
 either : (b : Bool) (x y : State × Action) → EndsBetween x → EndsBetween y → EndsBetween (cond b x y)
 either true x y p q = p
 either false x y p q = q
@@ -24,13 +25,16 @@ after-between : (b : Bool) → ends_at_end (cond b st.AfterCr st.StartRecord) �
 after-between true = refl
 after-between false = refl
 
+-- state by state: within a field only a terminator ends the record
 field-between : (c : ℕ) → EndsBetween (in_field default_config c)
 field-between c =
     either (c == 44) _ _ (λ e. absurd (false≢true e)) (either (ends_with term.CRLF c) _ _ (λ e. after-between (c == 13)) (λ e. absurd (false≢true e)))
 
+-- at the start of a field a quote opens it, and any other byte is as within one
 start-between : (c : ℕ) → EndsBetween (start_field default_config c)
 start-between c = either (c == 34) _ _ (λ e. absurd (false≢true e)) (field-between c)
 
+-- at the start of a record a terminator is passed over, and any other byte starts a field
 record-between : (c : ℕ) → EndsBetween (start_record default_config c)
 record-between c = either (ends_with term.CRLF c) _ _ (λ e. absurd (false≢true e)) (start-between c)
 
@@ -118,6 +122,7 @@ left_some s xs p between e =
     let shorter = next-shorter s [] [] xs p between e in
     rw (add-one (length xs), e) (ap (λ (rest : List Record). p.0 ∷ rest) (enough (length xs) (length p.2 + 1) p.1 p.2 leaves.0 shorter (omega arith)))
 
+-- where there is no record more none is left
 left_none : (s : State) (xs : List ℕ) → next_record default_config s [] [] xs ≡ None → records_left s xs ≡ []
 unfolding records_left records_from
 left_none s xs e = rw (add-one (length xs), e) refl
@@ -133,6 +138,7 @@ found_record s bytes (Some ys) fields s2 h = go (next_record default_config s []
     go None e n = absurd (false≢true (sym n))
     go (Some p) e n = (p, ap Some n.3, e, n.1, n.2)
 
+-- a read that found nothing says that there is no record more
 found_nothing : (s : State) (bytes : List ℕ) (k : Option (List ℕ)) (fields : Record) (s2 : State) → ReadsNext default_config s (Some bytes) k false fields s2
     → next_record default_config s [] [] bytes ≡ None
 found_nothing s bytes None fields s2 h = absurd h

@@ -41,6 +41,7 @@ pub unequal_row : {T G : Type 0} (geometry : GeometryReader T G) (table : TableD
 unfolding checked_row
 unequal_row geometry table header number fields other = let no : (length fields == length header) ≡ false = ne_eqb _ _ other in rw no refl
 
+-- a record behind the most rows that a table may have
 pub late_row : {T G : Type 0} (geometry : GeometryReader T G) (table : TableDef T) (header : Record) (number : ℕ) (fields : Record)
     → length fields ≡ length header → row_limit < number → checked_row geometry table header (number, fields) ≡ Err fault.TooManyRows
 unfolding checked_row
@@ -49,6 +50,7 @@ late_row geometry table header number fields same late =
     let over : nat_lt 100000 number ≡ true = grind (arith, nat_tests) in
     rw (yes, over) refl
 
+-- any other record is read as a row
 pub plain_row : {T G : Type 0} (geometry : GeometryReader T G) (table : TableDef T) (header : Record) (number : ℕ) (fields : Record)
     → length fields ≡ length header → number ≤ row_limit → checked_row geometry table header (number, fields) ≡ row_of geometry table header number fields
 unfolding checked_row

@@ -15,6 +15,7 @@ list_all-get p [] i d within h = absurd (omega arith)
 list_all-get p (x ∷ xs) zero d within h = (both (p x) (list_all p xs) h).0
 list_all-get p (x ∷ xs) (suc i) d within h = list_all-get p xs i d (omega arith) (both (p x) (list_all p xs) h).1
 
+-- each table of a lawful schema is lawful as a schema of its own
 pub lawful_one : {T : Type 0} (tables : List (TableDef T)) (i : ℕ) (d : TableDef T) → i < length tables → lawful tables ≡ true
     → lawful (get_or tables i d ∷ []) ≡ true
 unfolding lawful

@@ -29,16 +29,19 @@ use Rattle.gap_laws.proofs.Shared.{clash, span_of_gap, clear_or_shared, point_sh
 use Rattle.gap_laws.proofs.Mostly.{own_edges_are_mostly, sides_off_edges}
 
 -- ---- along a stretch that misses all edges
+-- a stretch that misses all edges crosses none of them, so both its ends mostly stand alike
 stays : (g : Geometry) → HasClosedRings g → (x y : Point) → IsPoint x → IsPoint y → Each (λ f. on f x ≡ false) (edges g) → Each (λ f. on f y ≡ false) (edges g) → Each (Misses x y) (edges g) → mostly g x ≡ mostly g y
 stays g c x y hx hy h k m = sym ((sides_off_edges g x hx (all_from_each (λ f. on f x ≡ false) (edges g) h)).1)
     ∙ above_kept g x y hx hy (each_from_all IsClosed (rings g) c) m
     ∙ (sides_off_edges g y hy (all_from_each (λ f. on f y ≡ false) (edges g) k)).1
 
 -- ---- strictly between the ends
+-- an edge that misses one point of a gap holds none of them
 clear_by : (e f : Edge) (p q x : Point) → IsClear e p q f ⊎ IsShared e p q f → IsBetween e p q x → on f x ≡ false → IsClear e p q f
 clear_by e f p q x (inl c) i n = c
 clear_by e f p q x (inr s) i n = absurd (clash (on f x) (s.1 x i) n)
 
+-- an edge that holds the one point holds both, and they are on own edges; where none does, the stretch between misses all
 pub gap_is_alike : (b : Geometry) → HasClosedRings b → (e : Edge) (p q : Point) → IsGap e (edges b) p q → (x y : Point) → IsBetween e p q x → IsBetween e p q y → mostly b x ≡ mostly b y
 gap_is_alike b c e p q g x y i j = decide (list_any (λ f. on f x) (edges b)) refl
   where
@@ -60,6 +63,7 @@ gap_is_alike b c e p q g x y i j = decide (list_any (λ f. on f x) (edges b)) re
     decide false h = free (none_passed (λ f. on f x) (edges b) h)
 
 -- ---- from an end inwards
+-- a sum in which the other weight is 0 is the point itself
 alone : (m : ℕ) (x y : Point) → same_point (weighted m x 0 y) x ≡ true
 alone m x y = same_from (weighted m x 0 y) x (coordinate x.X y.X) (coordinate x.Y y.Y)
   where
@@ -86,6 +90,7 @@ forth x m n y h = less_of_lex x (weighted m x (suc n) y) (carry _ _ _ _ (linear 
     linear : (a w b v : ℤ) → (pos m *ℤ a +ℤ pos (suc n) *ℤ b) *ℤ w -ℤ a *ℤ (pos m *ℤ w +ℤ pos (suc n) *ℤ v) ≡ pos (suc n) *ℤ (b *ℤ w -ℤ a *ℤ v)
     linear a w b v = solve (a ∷ w ∷ b ∷ v ∷ pos m ∷ pos (suc n) ∷ []) ((var 4 ⊗ var 0 ⊕ var 5 ⊗ var 2) ⊗ var 1 ⊖ var 0 ⊗ (var 4 ⊗ var 1 ⊕ var 5 ⊗ var 3)) (var 5 ⊗ (var 2 ⊗ var 1 ⊖ var 0 ⊗ var 3)) tt
 
+-- and before x where the other lies before it
 back : (x : Point) (m n : ℕ) (y : Point) → compare y x ≡ Less → compare (weighted m x (suc n) y) x ≡ Less
 back x m n y h = less_of_lex (weighted m x (suc n) y) x (carry _ _ _ _ (linear x.X x.W y.X y.W) (linear x.Y x.W y.Y y.W) (part_of n (right y x) (up y x) (lex_of_less y x h)))
   where
@@ -130,6 +135,7 @@ inwards e fs p q x y g hx h j m n l (AtGreater k) = record {
   before = sym (compare_respects_last (weighted m x (suc n) y) x q hx g.greater_is_point k) ∙ back x m n y (compare_respects_last y x q hx g.greater_is_point k ∙ j.before);
 }
 
+-- an edge that held a point on the way in would hold the end too, so the stretch from the end inwards misses all edges
 pub gap_end_is_alike : (b : Geometry) → HasClosedRings b → (e : Edge) (p q : Point) → IsGap e (edges b) p q → (x y : Point) → IsBetween e p q y → IsPoint x → on e x ≡ true → IsWithin (record { lesser = p; greater = q }) x
     → All (λ f. on f x ≡ false) (edges b) → (mostly b x ≡ mostly b y) × All (λ f. on f y ≡ false) (edges b)
 gap_end_is_alike b c e p q g x y j hx h w off = (

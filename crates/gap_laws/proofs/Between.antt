@@ -38,6 +38,7 @@ wide e p q s k = not_less_self p q (same_transitive p (point_at e.start) q (posi
     is_dot : e ≡ dot e.start
     is_dot = λ i. record { start = e.start; end = sym k i }
 
+-- what an edge holds is on its line
 pub on_line : (e : Edge) (x : Point) → on e x ≡ true → side e.start e.end x ≡ pos 0
 on_line e x h = (on_parts e x h).on_line
 
@@ -47,9 +48,11 @@ on_within e p q s x hx l f g = on_from_hull e x (on_sum e p q x (hull_from_on e 
     (sum_between p q x s.lesser s.greater hx (area_on_line e.start e.end p q x (wide e p q s) (on_line e p s.lesser_on) (on_line e q s.greater_on) l) f g s.in_order))
 
 -- ---- sums
+-- an edge is straight, so it holds the sums of any two of its points
 pub on_weighted : (e : Edge) (x y : Point) (m n : ℕ) → IsPoint x → IsPoint y → on e x ≡ true → on e y ≡ true → on e (weighted m x n y) ≡ true
 on_weighted e x y m n hx hy k l = on_from_hull e (weighted m x n y) (on_sum e x y (weighted m x n y) (hull_from_on e x hx k) (hull_from_on e y hy l) (weighted_is_sum m x n y))
 
+-- the sums of two points between lie between
 pub between_sum : (e : Edge) (p q x y : Point) (m n : ℕ) → 0 < m + n → IsBetween e p q x → IsBetween e p q y → IsBetween e p q (weighted m x n y)
 between_sum e p q x y m n k i j = record {
   is_point = weighted_is_point m x n y i.is_point j.is_point k;
@@ -59,6 +62,7 @@ between_sum e p q x y m n k i j = record {
 }
 
 -- ---- the mediant
+-- the mediant weighs both points by 1
 mediant_is_sum : (p q : Point) → IsSum p q (mediant p q)
 mediant_is_sum p q = record {
   k = pos 1;
@@ -75,9 +79,11 @@ mediant_is_sum p q = record {
     one : (x y : ℤ) → pos 1 *ℤ (x +ℤ y) ≡ pos 1 *ℤ x +ℤ pos 1 *ℤ y
     one x y = omega (arith, ints)
 
+-- so an edge holds the mediant of two of its points
 pub on_mediant : (e : Edge) (p q : Point) → IsPoint p → IsPoint q → on e p ≡ true → on e q ≡ true → on e (mediant p q) ≡ true
 on_mediant e p q hp hq k l = on_from_hull e (mediant p q) (on_sum e p q (mediant p q) (hull_from_on e p hp k) (hull_from_on e q hq l) (mediant_is_sum p q))
 
+-- and that lies strictly between them
 pub mediant_is_between : (e : Edge) (p q : Point) → Span e p q → IsBetween e p q (mediant p q)
 mediant_is_between e p q s = go (mediant_between p q s.lesser s.greater s.in_order)
   where
@@ -88,6 +94,7 @@ mediant_is_between e p q s = go (mediant_between p q s.lesser s.greater s.in_ord
 pub compare_respects_last : (p x y : Point) → IsPoint x → IsPoint y → same_point x y ≡ true → compare p x ≡ compare p y
 compare_respects_last p x y hx hy e = compare_reversed x p ∙ ap reversed (compare_respects p x y hx hy e) ∙ sym (compare_reversed y p)
 
+-- so a point between is between in each of its triples
 pub between_respects : (e : Edge) (p q x y : Point) → IsPoint y → same_point y x ≡ true → IsBetween e p q x → IsBetween e p q y
 between_respects e p q x y hy s i = record {
   is_point = hy;
@@ -96,6 +103,7 @@ between_respects e p q x y hy s i = record {
   before = compare_respects q y x hy i.is_point s ∙ i.before;
 }
 
+-- so the mediant in least form lies between as well
 pub least_mediant_between : (e : Edge) (p q : Point) → Span e p q → IsBetween e p q (least_form (mediant p q))
 least_mediant_between e p q s = go (mediant_is_between e p q s)
   where
@@ -103,6 +111,7 @@ least_mediant_between e p q s = go (mediant_is_between e p q s)
     go i = between_respects e p q (mediant p q) (least_form (mediant p q)) (least_is_point (mediant p q) i.is_point) (least_is_same (mediant p q)) i
 
 -- ---- a point between is no end of the edge
+-- points of the edge stand before it and after it, and none stands before an edge's lesser end or after its greater
 pub no_end_between : (e : Edge) (p q x : Point) → Span e p q → IsBetween e p q x → (stands_at x e.start ≡ false) × (stands_at x e.end ≡ false)
 no_end_between e p q x s i = (by_contraries (stands_at x e.start) false (λ k. absurd (at_start k)) refl, by_contraries (stands_at x e.end) false (λ k. absurd (at_end k)) refl)
   where
@@ -141,6 +150,7 @@ pub record After (e : Edge) (p q a : Point) : Type 0 where
   pub between : IsBetween e p q point
   pub nearer : compare point a ≡ Less
 
+-- the mediant of the lesser point and the nearer of the two others is one
 pub after_lesser : (e : Edge) (p q a : Point) → Span e p q → IsPoint a → side e.start e.end a ≡ pos 0 → compare p a ≡ Less → After e p q a
 after_lesser e p q a s ha l f = go (compare a q) refl
   where
@@ -168,6 +178,7 @@ pub record Before (e : Edge) (p q a : Point) : Type 0 where
   pub between : IsBetween e p q point
   pub nearer : compare a point ≡ Less
 
+-- the mediant of the greater point and the nearer of the two others is one
 pub before_greater : (e : Edge) (p q a : Point) → Span e p q → IsPoint a → side e.start e.end a ≡ pos 0 → compare a q ≡ Less → Before e p q a
 before_greater e p q a s ha l f = go (compare p a) refl
   where

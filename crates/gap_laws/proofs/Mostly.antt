@@ -21,6 +21,7 @@ use Rattle.geometry_laws.proofs.CoverTheorems.{all_from_each}
 use Rattle.gap_laws.specs.Gaps.{mostly, of_own_edges}
 
 -- ---- on own edges
+-- a point on one edge of the lines is on some
 some_edge : (g : Edge) (ls : List (List Position)) (x : Point) → Contains (edges_of_lines ls) g → on g x ≡ true → on_some ls x ≡ true
 some_edge g ls x c h = one_passes (λ e. on e x) (edges_of_lines ls) g (among_from_contains (edges_of_lines ls) g c) h
 
@@ -30,6 +31,7 @@ in_lines_of s e = ap (λ (t : Bool). if t then Interior else Exterior) e
 in_rings_of : (s t : Bool) → s ≡ true → (if s then Boundary else if t then Interior else Exterior) ≡ Boundary
 in_rings_of s t e = ap (λ (u : Bool). if u then Boundary else if t then Interior else Exterior) e
 
+-- on its own edges a geometry of lines is interior, odd ends set aside, and an area is boundary
 pub own_edges_are_mostly : (g : Geometry) (e : Edge) → Contains (edges g) e → (x : Point) → on e x ≡ true → mostly g x ≡ of_own_edges (kind g)
 own_edges_are_mostly (Geometry.Point o) e c x h = refl
 own_edges_are_mostly (Geometry.MultiPoint qs) e c x h = refl
@@ -39,12 +41,14 @@ own_edges_are_mostly (Geometry.Polygon rs) e c x h = in_rings_of (on_some rs x) 
 own_edges_are_mostly (Geometry.MultiPolygon es) e c x h = in_rings_of (on_some (joined_rings es) x) (odd_above (joined_rings es) x) (some_edge e (joined_rings es) x c h)
 
 -- ---- where a point stands that isn't listed and no odd end
+-- a point at which no listed position stands is exterior to points
 unlisted : (ps : List Position) (x : Point) → All (λ a. stands_at x a ≡ false) ps → in_points ps x ≡ Exterior
 unlisted ps x h = ap (λ (t : Bool). if t then Interior else Exterior) (none_passes (stands_at x) ps (each_from_all (λ a. stands_at x a ≡ false) ps h))
 
 in_lines_unless : (s t : Bool) → s ≡ false → (if s then Boundary else if t then Interior else Exterior) ≡ (if t then Interior else Exterior)
 in_lines_unless s t e = ap (λ (u : Bool). if u then Boundary else if t then Interior else Exterior) e
 
+-- in points only the listed ones differ, in lines only the odd ends, and in areas no point does
 pub mostly_is_located : (g : Geometry) (x : Point) → IsPoint x → (kind g ≡ kinds.Line → is_odd_end (lines g) x ≡ false) → All (λ a. stands_at x a ≡ false) (listed g) → locate g x ≡ mostly g x
 mostly_is_located (Geometry.Point o) x hx f h = unlisted (option_to_list o) x h
 mostly_is_located (Geometry.MultiPoint qs) x hx f h = unlisted qs x h
@@ -61,12 +65,15 @@ no_odd_end es ps x hx f ls b = odd_count (stands_at x) (flat_map ends ls) ∙ al
   by_contraries (stands_at x e.end) false (λ k. absurd (f (AtEnd hx e (contains_of_among e es (b e m)) (or_last (stands_at x e.start) (stands_at x e.end) k)))) refl,
 )))
 
+-- nor does a listed position
 no_listed : (es : List Edge) (ps : List Position) (x : Point) → IsPoint x → (IsCut es ps x → ⊥) → (qs : List Position) → ((a : Position) → Among a qs → Among a ps) → All (λ a. stands_at x a ≡ false) qs
 no_listed es ps x hx f qs b = all_from_each (λ a. stands_at x a ≡ false) qs (each_of (λ a. stands_at x a ≡ false) qs (λ a m. by_contraries (stands_at x a) false (λ k. absurd (f (Listed hx a (contains_of_among a ps (b a m)) k))) refl))
 
+-- so it stands where almost all points do
 no_cut_stands : (es : List Edge) (ps : List Position) (x : Point) → IsPoint x → (IsCut es ps x → ⊥) → (g : Geometry) → ((e : Edge) → Among e (edges g) → Among e es) → ((a : Position) → Among a (listed g) → Among a ps) → locate g x ≡ mostly g x
 no_cut_stands es ps x hx f g b p = mostly_is_located g x hx (λ k. no_odd_end es ps x hx f (lines g) b) (no_listed es ps x hx f (listed g) p)
 
+-- in both geometries, since the cuts are those of both
 pub no_cut_is_mostly : (a b : Geometry) (x : Point) → IsPoint x → (IsCut (edges_of_both a b) (listed a ++ listed b) x → ⊥) → (locate a x ≡ mostly a x) × (locate b x ≡ mostly b x)
 no_cut_is_mostly a b x hx f = (
   no_cut_stands (edges_of_both a b) (listed a ++ listed b) x hx f a (λ e m. among_left e (edges a) (edges b) m) (λ p m. among_left p (listed a) (listed b) m),
@@ -74,6 +81,7 @@ no_cut_is_mostly a b x hx f = (
 )
 
 -- ---- off all edges
+-- a point off all edges of the lines is on none
 off_some : (ls : List (List Position)) (x : Point) → All (λ f. on f x ≡ false) (edges_of_lines ls) → on_some ls x ≡ false
 off_some ls x h = none_passes (λ e. on e x) (edges_of_lines ls) (each_from_all (λ e. on e x ≡ false) (edges_of_lines ls) h)
 
@@ -87,6 +95,7 @@ either_part : (t : Bool) (l : Location) → l ≡ (if t then Interior else Exter
 either_part true l e = inr e
 either_part false l e = inl e
 
+-- an area's boundary is its rings, and lines have an interior on their edges alone
 pub off_edges_is_no_boundary : (g : Geometry) (x : Point) → All (λ f. on f x ≡ false) (edges g) → (mostly g x ≡ Exterior) ⊎ ((kind g ≡ kinds.Area) × (mostly g x ≡ Interior))
 off_edges_is_no_boundary (Geometry.Point o) x h = inl refl
 off_edges_is_no_boundary (Geometry.MultiPoint qs) x h = inl refl
@@ -109,6 +118,7 @@ both_parities rs x hx h = parity_at_or_above rs x ∙ ap (xor (odd_above rs x)) 
     (each_map (λ e. on e x ≡ false) (λ e. touches e x ≡ false) (edges_of_lines rs) (λ e n. by_contraries (touches e x) (on e x) (on_from_touch e x hx) n) (each_from_all (λ e. on e x ≡ false) (edges_of_lines rs) h)))
     ∙ xor_false (odd_above rs x)
 
+-- off the rings both sides have the point's own parity, so they are where it is
 rings_sides : (rs : List (List Position)) (x : Point) → IsPoint x → All (λ f. on f x ≡ false) (edges_of_lines rs)
     → ((if odd_at_or_above rs x then Interior else Exterior) ≡ in_rings rs x) × ((if odd_above rs x then Interior else Exterior) ≡ in_rings rs x)
 rings_sides rs x hx h = (ap (λ (t : Bool). if t then Interior else Exterior) (both_parities rs x hx h) ∙ here, here)
@@ -116,6 +126,7 @@ rings_sides rs x hx h = (ap (λ (t : Bool). if t then Interior else Exterior) (b
     here : (if odd_above rs x then Interior else Exterior) ≡ in_rings rs x
     here = sym (off_rings (on_some rs x) (odd_above rs x) (off_some rs x h))
 
+-- so off its edges both sides of a point are where the point mostly is
 pub sides_off_edges : (g : Geometry) (x : Point) → IsPoint x → All (λ f. on f x ≡ false) (edges g) → (below g x ≡ mostly g x) × (above g x ≡ mostly g x)
 sides_off_edges (Geometry.Point o) x hx h = (refl, refl)
 sides_off_edges (Geometry.MultiPoint qs) x hx h = (refl, refl)
@@ -125,6 +136,7 @@ sides_off_edges (Geometry.Polygon rs) x hx h = rings_sides rs x hx h
 sides_off_edges (Geometry.MultiPolygon es) x hx h = rings_sides (joined_rings es) x hx h
 
 -- ---- what is no area
+-- only areas have sides in the interior
 pub sides_of_no_area : (g : Geometry) (x : Point) → kind g ≢ kinds.Area → (below g x ≡ Exterior) × (above g x ≡ Exterior)
 sides_of_no_area (Geometry.Point o) x n = (refl, refl)
 sides_of_no_area (Geometry.MultiPoint qs) x n = (refl, refl)

@@ -46,6 +46,7 @@ record RingPlace (a : Geometry) (e : Edge) : Type 0 where
   j : ℕ
   edge_at : slice_get (edges_of_line ring) j ≡ Some e
 
+-- each edge of the rings stands at some place of some ring
 ring_place : (a : Geometry) (e : Edge) → Among e (edges_of_lines (rings a)) → RingPlace a e
 ring_place a e m = go (ring_of e (rings a) m)
   where
@@ -56,9 +57,11 @@ ring_place a e m = go (ring_of e (rings a) m)
     go r = both r (place_of r.ring (rings a) r.among) (place_of e (edges_of_line r.ring) r.holds)
 
 -- ---- one side interior, the other exterior
+-- strictly within an edge of a valid area's ring one side is interior and the other exterior
 parted : (a : Geometry) → IsValid a → (e : Edge) → RingPlace a e → e.start.x ≢ e.end.x → (x : Point) → IsPoint x → on e x ≡ true → (stands_at x e.start ≡ false) × (stands_at x e.end ≡ false) → ArePartedAs (below a x) (above a x)
 parted a v e r u x hx h n = (sides_of_a_ring a v r.i r.ring r.ring_at r.j e r.edge_at x hx h n.0 n.1 u).0
 
+-- a point that is no cut is no end of the edge, so it is strictly within it
 pub sides_of_own_edge : (a b : Geometry) → IsValid a → kind a ≡ kinds.Area → (e : Edge) → Contains (edges a) e → e.start.x ≢ e.end.x → (x : Point) → IsPoint x → on e x ≡ true
     → (IsCut (edges_of_both a b) (listed a ++ listed b) x → ⊥) → ArePartedAs (below a x) (above a x)
 sides_of_own_edge a b v k e c u x hx h f = parted a v e (ring_place a e (ring_edge a k e c)) u x hx h (
@@ -69,14 +72,17 @@ sides_of_own_edge a b v k e c u x hx h f = parted a v e (ring_place a e (ring_ed
     among : Contains (edges_of_both a b) e
     among = contains_of_among e (edges_of_both a b) (among_left e (edges a) (edges b) (among_from_contains (edges a) e c))
 
+-- two points of an edge with another between them are in order
 span_of : (e : Edge) (p q x : Point) → IsPoint p → IsPoint q → on e p ≡ true → on e q ≡ true → IsBetween e p q x → Span e p q
 span_of e p q x hp hq k l i = record { lesser = hp; greater = hq; lesser_on = k; greater_on = l; in_order = less_transitive p x q hp i.is_point hq i.after i.before }
 
+-- a point between two others of the edge is no end of it, so it is strictly within it
 pub sides_within_own_edge : (a : Geometry) → IsValid a → kind a ≡ kinds.Area → (e : Edge) → Contains (edges a) e → e.start.x ≢ e.end.x → (p q x : Point) → IsPoint p → IsPoint q → on e p ≡ true → on e q ≡ true → IsBetween e p q x
     → ArePartedAs (below a x) (above a x)
 sides_within_own_edge a v k e c u p q x hp hq l m i = parted a v e (ring_place a e (ring_edge a k e c)) u x i.is_point i.is_on (no_end_between e p q x (span_of e p q x hp hq l m i) i)
 
 -- ---- the same at each point
+-- an edge that goes through the point isn't strictly above it
 not_above : (e : Edge) (x : Point) → on e x ≡ true → strictly_above e x ≡ false
 not_above e x h = ap (λ (z : ℤ). spans e x && int_lt z (pos 0)) (flat e x (on_line e x h)) ∙ none (spans e x)
   where
@@ -120,9 +126,11 @@ steps a v e r p q x y s i j = each_ring (Step x y) (rings a) (λ k t tk m d dm. 
     at_ring k t tk m d dm (inl w) = at_edge k t w tk m d dm (equal_or_not m r.j)
     at_ring k t tk m d dm (inr n) = missed d (λ z b. no_edge_of_others a v r.i r.ring r.ring_at r.j e r.edge_at z b.is_point b.is_on k t n tk m d dm)
 
+-- so the parity of the edges strictly above is the same at both points
 odd_along : (a : Geometry) → IsValid a → (e : Edge) → RingPlace a e → (p q x y : Point) → Span e p q → IsBetween e p q x → IsBetween e p q y → odd_above (rings a) x ≡ odd_above (rings a) y
 odd_along a v e r p q x y s i j = parity_by_steps (rings a) x y (each_from_all IsClosed (rings a) (valid_rings_are_closed a v)) (steps a v e r p q x y s i j)
 
+-- of two parities of which exactly one is odd, one tells the other
 other_parity : (s t u w : Bool) → xor s t ≡ true → xor u w ≡ true → s ≡ u → t ≡ w
 other_parity true false true false e f g = refl
 other_parity false true false true e f g = refl
@@ -133,9 +141,11 @@ other_parity s t false false e f g = absurd (let z : false ≡ true = f in cc)
 other_parity true false false true e f g = absurd (cc)
 other_parity false true true false e f g = absurd (cc)
 
+-- at each point between exactly one of the two parities is odd, since the rings part there
 part_at : (a : Geometry) → IsValid a → (e : Edge) → RingPlace a e → e.start.x ≢ e.end.x → (p q x : Point) → Span e p q → IsBetween e p q x → xor (odd_above (rings a) x) (odd_at_or_above (rings a) x) ≡ true
 part_at a v e r u p q x s i = let n : (stands_at x e.start ≡ false) × (stands_at x e.end ≡ false) = no_end_between e p q x s i in rings_part a v r.i r.ring r.ring_at r.j e r.edge_at x i.is_point i.is_on n.0 n.1 u
 
+-- so both parities, and with them both sides, are the same at both points
 along_area : (a : Geometry) → IsValid a → (e : Edge) → RingPlace a e → e.start.x ≢ e.end.x → (p q x y : Point) → Span e p q → IsBetween e p q x → IsBetween e p q y
     → (below a x ≡ below a y) × (above a x ≡ above a y)
 along_area a v e r u p q x y s i j = (
@@ -144,6 +154,7 @@ along_area a v e r u p q x y s i j = (
   ap (λ (t : Bool). if t then Interior else Exterior) (odd_along a v e r p q x y s i j),
 )
 
+-- what is no area has exterior sides everywhere
 along_others : (a : Geometry) (x y : Point) → kind a ≢ kinds.Area → (below a x ≡ below a y) × (above a x ≡ above a y)
 along_others a x y n = ((sides_of_no_area a x n).0 ∙ sym (sides_of_no_area a y n).0, (sides_of_no_area a x n).1 ∙ sym (sides_of_no_area a y n).1)
 
@@ -156,6 +167,7 @@ area_or_not (Geometry.MultiLineString ls) = inr (λ k. let z : kinds.Line ≡ ki
 area_or_not (Geometry.Polygon rs) = inl refl
 area_or_not (Geometry.MultiPolygon es) = inl refl
 
+-- so each side stands alike all along, whatever the kind
 pub sides_along_own_edge : (a : Geometry) → IsValid a → (e : Edge) → Contains (edges a) e → e.start.x ≢ e.end.x → (p q x y : Point) → IsPoint p → IsPoint q → on e p ≡ true → on e q ≡ true → IsBetween e p q x → IsBetween e p q y
     → (below a x ≡ below a y) × (above a x ≡ above a y)
 sides_along_own_edge a v e c u p q x y hp hq l m i j = go (area_or_not a)

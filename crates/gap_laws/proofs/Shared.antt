@@ -23,6 +23,7 @@ use Rattle.gap_laws.proofs.Between.{Span, wide, on_line, on_within, between_sum,
 pub clash : (t : Bool) → t ≡ true → t ≡ false → ⊥
 clash t k l = let z : true ≡ false = sym k ∙ l in absurd (cc)
 
+-- a gap's ends are two points of its edge, in order
 pub span_of_gap : (e : Edge) (fs : List Edge) (p q : Point) → IsGap e fs p q → Span e p q
 span_of_gap e fs p q g = record { lesser = g.lesser_is_point; greater = g.greater_is_point; lesser_on = g.lesser_on; greater_on = g.greater_on; in_order = g.in_order }
 
@@ -30,6 +31,7 @@ span_of_gap e fs p q g = record { lesser = g.lesser_is_point; greater = g.greate
 pub clear_or_shared : (e : Edge) (fs : List Edge) (p q : Point) (f : Edge) → IsGap e fs p q → Among f fs → IsClear e p q f ⊎ IsShared e p q f
 clear_or_shared e fs p q f g a = each_at (λ d. IsClear e p q d ⊎ IsShared e p q d) fs f (each_from_all (λ d. IsClear e p q d ⊎ IsShared e p q d) fs g.whole) a
 
+-- an edge that holds a point of the gap isn't clear of it, so it holds all
 pub point_shares : (e : Edge) (fs : List Edge) (p q x : Point) (f : Edge) → IsGap e fs p q → Among f fs → IsBetween e p q x → on f x ≡ true → IsShared e p q f
 point_shares e fs p q x f g a i h = go (clear_or_shared e fs p q f g a)
   where
@@ -37,19 +39,24 @@ point_shares e fs p q x f g a i h = go (clear_or_shared e fs p q f g a)
     go (inl c) = absurd (clash (on f x) h (c x i))
     go (inr s) = s
 
+-- so it is for each of the other edges
 pub shared_point_shares_gap : (e : Edge) (fs : List Edge) (p q x : Point) (f : Edge) → IsGap e fs p q → Contains fs f → IsBetween e p q x → on f x ≡ true → IsShared e p q f
 shared_point_shares_gap e fs p q x f g c i h = point_shares e fs p q x f g (among_from_contains fs f c) i h
 
 -- ---- an edge that holds all points between two holds the two
+-- an edge holds its start
 start_on : (f : Edge) → on f (point_at f.start) ≡ true
 start_on f = on_from_hull f (point_at f.start) (hull_of_start f)
 
+-- and its end
 end_on : (f : Edge) → on f (point_at f.end) ≡ true
 end_on f = on_from_hull f (point_at f.end) (hull_of_end f)
 
+-- an edge's start and end, in order where the start is less ..
 span_forth : (f : Edge) → compare (point_at f.start) (point_at f.end) ≡ Less → Span f (point_at f.start) (point_at f.end)
 span_forth f k = record { lesser = position_is_point f.start; greater = position_is_point f.end; lesser_on = start_on f; greater_on = end_on f; in_order = k }
 
+-- .. and its end and start where the end is
 span_back : (f : Edge) → compare (point_at f.end) (point_at f.start) ≡ Less → Span f (point_at f.end) (point_at f.start)
 span_back f k = record { lesser = position_is_point f.end; greater = position_is_point f.start; lesser_on = end_on f; greater_on = start_on f; in_order = k }
 
@@ -57,12 +64,15 @@ span_back f k = record { lesser = position_is_point f.end; greater = position_is
 on_forth : (f : Edge) (x : Point) → IsPoint x → side f.start f.end x ≡ pos 0 → compare (point_at f.start) x ≡ Less → compare x (point_at f.end) ≡ Less → on f x ≡ true
 on_forth f x hx l k m = on_within f (point_at f.start) (point_at f.end) (span_forth f (less_transitive (point_at f.start) x (point_at f.end) (position_is_point f.start) hx (position_is_point f.end) k m)) x hx l k m
 
+-- the same where its end is the lesser one
 on_back : (f : Edge) (x : Point) → IsPoint x → side f.start f.end x ≡ pos 0 → compare (point_at f.end) x ≡ Less → compare x (point_at f.start) ≡ Less → on f x ≡ true
 on_back f x hx l k m = on_within f (point_at f.end) (point_at f.start) (span_back f (less_transitive (point_at f.end) x (point_at f.start) (position_is_point f.end) hx (position_is_point f.start) k m)) x hx l k m
 
+-- a point of the one edge is on the line of the other, both being on one line
 line_of : (e f : Edge) (p q x : Point) → Span e p q → OneLine e f → on e x ≡ true → side f.start f.end x ≡ pos 0
 line_of e f p q x s o h = side_is_area f.start f.end x ∙ area_on_line e.start e.end (point_at f.start) (point_at f.end) x (wide e p q s) o.start o.end (on_line e x h)
 
+-- were the lesser point off the other edge, that would miss points right after it too
 holds_lesser : (e f : Edge) (p q : Point) → Span e p q → OneLine e f → ((x : Point) → IsBetween e p q x → on f x ≡ true) → on f p ≡ true
 holds_lesser e f p q s o h = go (compare p (point_at f.start)) refl (compare p (point_at f.end)) refl
   where
@@ -92,6 +102,7 @@ holds_lesser e f p q s o h = go (compare p (point_at f.start)) refl (compare p (
     go Greater k Less l = on_forth f p s.lesser line (turn_less p (point_at f.start) k) l
     go Greater k Greater l = absurd (behind (turn_less p (point_at f.start) k) (turn_less p (point_at f.end) l) (mediant_is_between e p q s))
 
+-- were the greater point off it, it would miss points right before it
 holds_greater : (e f : Edge) (p q : Point) → Span e p q → OneLine e f → ((x : Point) → IsBetween e p q x → on f x ≡ true) → on f q ≡ true
 holds_greater e f p q s o h = go (compare q (point_at f.start)) refl (compare q (point_at f.end)) refl
   where
@@ -121,13 +132,16 @@ holds_greater e f p q s o h = go (compare q (point_at f.start)) refl (compare q 
     go Greater k Less l = on_forth f q s.greater line (turn_less q (point_at f.start) k) l
     go Greater k Greater l = absurd (first (turn_less q (point_at f.end) l) (before_greater e p q (point_at f.start) s (position_is_point f.start) o.start (turn_less q (point_at f.start) k)))
 
+-- so it holds both
 pub shared_holds_ends : (e f : Edge) (p q : Point) → Span e p q → IsShared e p q f → (on f p ≡ true) × (on f q ≡ true)
 shared_holds_ends e f p q s h = (holds_lesser e f p q s (one_line e f h.0) h.1, holds_greater e f p q s (one_line e f h.0) h.1)
 
+-- so an edge that shares a gap holds the gap's ends
 pub shared_gap_holds_ends : (e : Edge) (fs : List Edge) (p q : Point) (f : Edge) → IsGap e fs p q → Contains fs f → IsShared e p q f → (on f p ≡ true) × (on f q ≡ true)
 shared_gap_holds_ends e fs p q f g c h = shared_holds_ends e f p q (span_of_gap e fs p q g) h
 
 -- ---- points of a gap
+-- a gap's ends are two points of its edge, so their mediant lies strictly between
 pub gap_has_mediant : (e : Edge) (fs : List Edge) (p q : Point) → IsGap e fs p q → IsBetween e p q (least_form (mediant p q))
 gap_has_mediant e fs p q g = least_mediant_between e p q (span_of_gap e fs p q g)
 
@@ -135,6 +149,7 @@ gap_has_mediant e fs p q g = least_mediant_between e p q (span_of_gap e fs p q g
 abbrev pub FreeBetween : Edge → Point → Point → List Edge → List Position → Type 0
 FreeBetween e p q es ps = (x : Point) × IsBetween e p q x × (IsCut es ps x → ⊥)
 
+-- two points between span a stretch, and that isn't covered by finitely many cuts
 free_between : (e : Edge) (p q : Point) → Span e p q → (es : List Edge) (ps : List Position) → FreeBetween e p q es ps
 free_between e p q s es ps = two (mediant_is_between e p q s)
   where
@@ -166,5 +181,6 @@ free_between e p q s es ps = two (mediant_is_between e p q s)
         then j = second (mediant p q) (mediant (mediant p q) q) i
             (record { is_point = j.is_point; is_on = j.is_on; after = less_transitive p (mediant p q) (mediant (mediant p q) q) s.lesser i.is_point j.is_point i.after j.after; before = j.before }) j.after
 
+-- so each gap has a point that is no cut
 pub gap_has_no_cut : (e : Edge) (fs : List Edge) (p q : Point) → IsGap e fs p q → (es : List Edge) (ps : List Position) → FreeBetween e p q es ps
 gap_has_no_cut e fs p q g es ps = free_between e p q (span_of_gap e fs p q g) es ps

@@ -16,6 +16,7 @@ use Rattle.geometry_laws.proofs.Lines.{value_weighted_three}
 use Rattle.geometry_laws.proofs.LineOrder.{up}
 
 -- ---- 1 s + t q + t t r isn't 0 in the end, where some of the three isn't 0
+-- where the highest coefficient is above 0 the sum is above 0 in the end
 quadratic_up : (p q r : ℤ) → pos 0 <ℤ r → Eventually (λ t. pos 0 <ℤ (pos 1 *ℤ p +ℤ pos t *ℤ q +ℤ pos (t * t) *ℤ r))
 quadratic_up p q r h = weaker (λ t. (pos 0 <ℤ (pos t *ℤ r +ℤ q)) × (pos 0 <ℤ (pos t *ℤ pos 1 +ℤ p))) (λ t. pos 0 <ℤ (pos 1 *ℤ p +ℤ pos t *ℤ q +ℤ pos (t * t) *ℤ r))
     (λ t k. joined t k.0 k.1) (both (λ t. pos 0 <ℤ (pos t *ℤ r +ℤ q)) (λ t. pos 0 <ℤ (pos t *ℤ pos 1 +ℤ p)) (grows r q h) (grows (pos 1) p (omega (arith, ints))))
@@ -43,6 +44,7 @@ not_zero z h e = omega (arith, ints)
 not_zero_turned : (z w : ℤ) → w ≡ pos 0 -ℤ z → pos 0 <ℤ w → z ≢ pos 0
 not_zero_turned z w e h f = omega (arith, ints)
 
+-- a linear sum whose coefficients aren't both 0 isn't 0 in the end
 linear_soon : (p q : ℤ) → (p ≡ pos 0 → q ≡ pos 0 → ⊥) → Eventually (λ t. pos 1 *ℤ p +ℤ pos t *ℤ q ≢ pos 0)
 linear_soon p q f = go (three_ways (pos 0) q)
   where
@@ -64,6 +66,7 @@ linear_soon p q f = go (three_ways (pos 0) q)
     go (inr (inr h)) = weaker (λ t. pos 0 <ℤ (pos t *ℤ (pos 0 -ℤ q) +ℤ (pos 0 -ℤ p))) (λ t. pos 1 *ℤ p +ℤ pos t *ℤ q ≢ pos 0)
         (λ t k. carried_back (pos 1 *ℤ p +ℤ pos t *ℤ q) p (pos t *ℤ q) (pos t *ℤ (pos 0 -ℤ q)) refl (solve (pos t ∷ q ∷ []) (var 0 ⊗ (lit (pos 0) ⊖ var 1)) (lit (pos 0) ⊖ var 0 ⊗ var 1) tt) k) (grows (pos 0 -ℤ q) (pos 0 -ℤ p) (turned_positive q h))
 
+-- nor is a quadratic one whose coefficients aren't all 0: the highest that isn't 0 decides
 quadratic_soon : (p q r : ℤ) → (p ≡ pos 0 → q ≡ pos 0 → r ≡ pos 0 → ⊥) → Eventually (λ t. pos 1 *ℤ p +ℤ pos t *ℤ q +ℤ pos (t * t) *ℤ r ≢ pos 0)
 quadratic_soon p q r f = go (three_ways (pos 0) r)
   where
@@ -83,6 +86,7 @@ quadratic_soon p q r f = go (three_ways (pos 0) r)
         (quadratic_up (pos 0 -ℤ p) (pos 0 -ℤ q) (pos 0 -ℤ r) (turned_positive r h))
 
 -- ---- lines and a triangle
+-- by Cramer's rule: a line's values at three points give its first coefficient times their area
 cramer_a : (l : Line) (p q r : Point) → l.a *ℤ area p q r ≡ value l p *ℤ (q.Y *ℤ r.W -ℤ r.Y *ℤ q.W) -ℤ p.Y *ℤ (value l q *ℤ r.W -ℤ value l r *ℤ q.W) +ℤ p.W *ℤ (value l q *ℤ r.Y -ℤ value l r *ℤ q.Y)
 cramer_a l p q r = solve (l.a ∷ l.b ∷ l.c ∷ p.X ∷ p.Y ∷ p.W ∷ q.X ∷ q.Y ∷ q.W ∷ r.X ∷ r.Y ∷ r.W ∷ [])
     (var 0 ⊗ (var 3 ⊗ (var 7 ⊗ var 11 ⊖ var 10 ⊗ var 8) ⊖ var 4 ⊗ (var 6 ⊗ var 11 ⊖ var 9 ⊗ var 8) ⊕ var 5 ⊗ (var 6 ⊗ var 10 ⊖ var 9 ⊗ var 7)))
@@ -90,6 +94,7 @@ cramer_a l p q r = solve (l.a ∷ l.b ∷ l.c ∷ p.X ∷ p.Y ∷ p.W ∷ q.X �
     ⊖ var 4 ⊗ ((var 0 ⊗ var 6 ⊕ var 1 ⊗ var 7 ⊕ var 2 ⊗ var 8) ⊗ var 11 ⊖ (var 0 ⊗ var 9 ⊕ var 1 ⊗ var 10 ⊕ var 2 ⊗ var 11) ⊗ var 8)
     ⊕ var 5 ⊗ ((var 0 ⊗ var 6 ⊕ var 1 ⊗ var 7 ⊕ var 2 ⊗ var 8) ⊗ var 10 ⊖ (var 0 ⊗ var 9 ⊕ var 1 ⊗ var 10 ⊕ var 2 ⊗ var 11) ⊗ var 7)) tt
 
+-- and its second
 cramer_b : (l : Line) (p q r : Point) → l.b *ℤ area p q r ≡ p.X *ℤ (value l q *ℤ r.W -ℤ value l r *ℤ q.W) -ℤ value l p *ℤ (q.X *ℤ r.W -ℤ r.X *ℤ q.W) +ℤ p.W *ℤ (q.X *ℤ value l r -ℤ r.X *ℤ value l q)
 cramer_b l p q r = solve (l.a ∷ l.b ∷ l.c ∷ p.X ∷ p.Y ∷ p.W ∷ q.X ∷ q.Y ∷ q.W ∷ r.X ∷ r.Y ∷ r.W ∷ [])
     (var 1 ⊗ (var 3 ⊗ (var 7 ⊗ var 11 ⊖ var 10 ⊗ var 8) ⊖ var 4 ⊗ (var 6 ⊗ var 11 ⊖ var 9 ⊗ var 8) ⊕ var 5 ⊗ (var 6 ⊗ var 10 ⊖ var 9 ⊗ var 7)))
@@ -97,6 +102,7 @@ cramer_b l p q r = solve (l.a ∷ l.b ∷ l.c ∷ p.X ∷ p.Y ∷ p.W ∷ q.X �
     ⊖ (var 0 ⊗ var 3 ⊕ var 1 ⊗ var 4 ⊕ var 2 ⊗ var 5) ⊗ (var 6 ⊗ var 11 ⊖ var 9 ⊗ var 8)
     ⊕ var 5 ⊗ (var 6 ⊗ (var 0 ⊗ var 9 ⊕ var 1 ⊗ var 10 ⊕ var 2 ⊗ var 11) ⊖ var 9 ⊗ (var 0 ⊗ var 6 ⊕ var 1 ⊗ var 7 ⊕ var 2 ⊗ var 8))) tt
 
+-- so no line goes through three points that span an area
 not_all : (l : Line) (p q r : Point) → IsLine l → area p q r ≢ pos 0 → value l p ≡ pos 0 → value l q ≡ pos 0 → value l r ≡ pos 0 → ⊥
 not_all l p q r h f e g k = go h
   where
@@ -141,9 +147,11 @@ pub record OffPoints (cs : List Point) (p q : Point) : Type 0 where
   pub t : ℕ
   pub off : Each (λ c. same_point c (weighted 1 p t q) ≡ false) cs
 
+-- the distance to the right of a weighted point is the weighted sum of the distances
 right_sum : (c p q : Point) (t : ℕ) → right c (weighted 1 p t q) ≡ pos 1 *ℤ right c p +ℤ pos t *ℤ right c q
 right_sum c p q t = solve (c.X ∷ c.W ∷ p.X ∷ p.W ∷ q.X ∷ q.W ∷ pos t ∷ []) ((lit (pos 1) ⊗ var 2 ⊕ var 6 ⊗ var 4) ⊗ var 1 ⊖ var 0 ⊗ (lit (pos 1) ⊗ var 3 ⊕ var 6 ⊗ var 5)) (lit (pos 1) ⊗ (var 2 ⊗ var 1 ⊖ var 0 ⊗ var 3) ⊕ var 6 ⊗ (var 4 ⊗ var 1 ⊖ var 0 ⊗ var 5)) tt
 
+-- and so is the distance upwards
 up_sum : (c p q : Point) (t : ℕ) → up c (weighted 1 p t q) ≡ pos 1 *ℤ up c p +ℤ pos t *ℤ up c q
 up_sum c p q t = solve (c.Y ∷ c.W ∷ p.Y ∷ p.W ∷ q.Y ∷ q.W ∷ pos t ∷ []) ((lit (pos 1) ⊗ var 2 ⊕ var 6 ⊗ var 4) ⊗ var 1 ⊖ var 0 ⊗ (lit (pos 1) ⊗ var 3 ⊕ var 6 ⊗ var 5)) (lit (pos 1) ⊗ (var 2 ⊗ var 1 ⊖ var 0 ⊗ var 3) ⊕ var 6 ⊗ (var 4 ⊗ var 1 ⊖ var 0 ⊗ var 5)) tt
 

@@ -39,6 +39,7 @@ pub record Clear (p : Point) (e : Edge) (n : ℕ) : Type 0 where
   pub at_east : pos 0 <ℤ value line (moved n p east)
   pub at_north : pos 0 <ℤ value line (moved n p north)
 
+-- off an edge a line parts it from the point, and soon from both moved points
 clear_soon : (p : Point) (e : Edge) → on e p ≡ false → Eventually (Clear p e)
 clear_soon p e f = go (parted e p f)
   where
@@ -56,6 +57,7 @@ pub record Corners (p : Point) (es : List Edge) : Type 0 where
   pub wide : area p q r ≢ pos 0
   pub off : (k m n : ℕ) → 0 < k + m + n → Each (λ e. on e (weighted_three k p m q n r) ≡ false) es
 
+-- the area of the three corners is the point's denominator, so they aren't on one line
 corner_area : (p : Point) (n : ℕ) → area p (moved n p east) (moved n p north) ≡ p.W
 unfolding east north
 corner_area p n = solve (p.X ∷ p.Y ∷ p.W ∷ pos n ∷ [])
@@ -64,6 +66,7 @@ corner_area p n = solve (p.X ∷ p.Y ∷ p.W ∷ pos n ∷ [])
     ⊕ var 2 ⊗ ((var 3 ⊗ var 0 ⊕ lit (pos 1) ⊗ lit (pos 1)) ⊗ (var 3 ⊗ var 1 ⊕ lit (pos 1) ⊗ lit (pos 1)) ⊖ (var 3 ⊗ var 0 ⊕ lit (pos 1) ⊗ lit (pos 0)) ⊗ (var 3 ⊗ var 1 ⊕ lit (pos 1) ⊗ lit (pos 0))))
     (var 2) tt
 
+-- moved to the right it is a point
 moved_is_point : (p : Point) (n : ℕ) → 0 < n → IsPoint p → IsPoint (moved n p east)
 unfolding east
 moved_is_point p n h hp = carried (pos n *ℤ p.W) (strict_plus_plus (pos n) p.W (natural n h) hp)
@@ -74,6 +77,7 @@ moved_is_point p n h hp = carried (pos n *ℤ p.W) (strict_plus_plus (pos n) p.W
     carried : (x : ℤ) → pos 0 <ℤ x → pos 0 <ℤ (x +ℤ pos 0)
     carried x h = omega (arith, ints)
 
+-- and moved up
 moved_up_is_point : (p : Point) (n : ℕ) → 0 < n → IsPoint p → IsPoint (moved n p north)
 unfolding north
 moved_up_is_point p n h hp = carried (pos n *ℤ p.W) (strict_plus_plus (pos n) p.W (natural n h) hp)
@@ -84,6 +88,7 @@ moved_up_is_point p n h hp = carried (pos n *ℤ p.W) (strict_plus_plus (pos n) 
     carried : (x : ℤ) → pos 0 <ℤ x → pos 0 <ℤ (x +ℤ pos 0)
     carried x h = omega (arith, ints)
 
+-- where a line parts an edge from all three corners, no point of the triangle is on the edge
 off_by_clear : (p : Point) (n : ℕ) → IsPoint p → IsPoint (moved n p east) → IsPoint (moved n p north) → (k m l : ℕ) → 0 < k + m + l → (e : Edge) → Clear p e n → on e (weighted_three k p m (moved n p east) l (moved n p north)) ≡ false
 off_by_clear p n hp hq hr k m l h e c = off_beyond c.line e (weighted_three k p m (moved n p east) l (moved n p north)) (weighted_three_is_point k p m (moved n p east) l (moved n p north) hp hq hr h) c.parts
     (carried _ _ (value_weighted_three c.line k p m (moved n p east) l (moved n p north)) (sum_positive_three k m l (value c.line p) (value c.line (moved n p east)) (value c.line (moved n p north)) h c.at_p c.at_east c.at_north))
@@ -112,6 +117,7 @@ box p es hp h = go (both (λ n. 0 < n) (λ n. Each (λ e. Clear p e n) es) (from
     go v = at v.start (v.holds v.start (omega arith))
 
 -- ---- the stretch from the point to a point of the triangle lies in the triangle
+-- a point between p and a point of the triangle is a sum of the three corners
 weighted_within : (s k m l t : ℕ) (p q r : Point) → weighted s p t (weighted_three k p m q l r) ≡ weighted_three (s + t * k) p (t * m) q (t * l) r
 weighted_within s k m l t p q r = λ i. record { X = coordinate p.X q.X r.X i; Y = coordinate p.Y q.Y r.Y i; W = coordinate p.W q.W r.W i }
   where
@@ -119,6 +125,7 @@ weighted_within s k m l t p q r = λ i. record { X = coordinate p.X q.X r.X i; Y
     coordinate x y z = solve (x ∷ y ∷ z ∷ pos s ∷ pos t ∷ pos k ∷ pos m ∷ pos l ∷ [])
         (var 3 ⊗ var 0 ⊕ var 4 ⊗ (var 5 ⊗ var 0 ⊕ var 6 ⊗ var 1 ⊕ var 7 ⊗ var 2)) ((var 3 ⊕ var 4 ⊗ var 5) ⊗ var 0 ⊕ (var 4 ⊗ var 6) ⊗ var 1 ⊕ (var 4 ⊗ var 7) ⊗ var 2) tt
 
+-- and its weights aren't all 0
 some_weight : (s t k m l : ℕ) → 0 < s + t → 0 < k + m + l → 0 < (s + t * k) + t * m + t * l
 some_weight s zero k m l h g = omega arith
 some_weight s (suc t) k m l h g = omega arith

@@ -48,6 +48,7 @@ lines_dont_cover ls p q r h f = go (avoid_lines ls p q r f (each_from_all IsLine
     go : OffLines ls p q r → (k m n : ℕ) × (0 < k + m + n) × All (λ l. value l (weighted_three k p m q n r) ≢ pos 0) ls
     go o = (1, o.t, o.t * o.t, some o.t, all_from_each (λ l. value l (weighted_three 1 p o.t q (o.t * o.t) r) ≢ pos 0) ls o.off)
 
+-- the point of an edge over x is straight above x
 pub over_straight : (f : Edge) (x : Point) → (over_point f x).X *ℤ x.W ≡ x.X *ℤ (over_point f x).W
 unfolding over_point
 over_straight f x = crosswise (breadth f) x.X x.W
@@ -83,10 +84,12 @@ first_is_above es x hx = go (first es x hx)
       alike = all_from_each (λ e. at_or_above e (over_point r.edge x) ≡ strictly_above e x) es (each_of (λ e. at_or_above e (over_point r.edge x) ≡ strictly_above e x) es (λ g m. label_of_first es x hx r g m));
     })
 
+-- a dot counts as upright, but no dot of these positions goes through the point
 pub slant_dots : (ps : List Position) (p : Point) → IsPoint p → Each (λ a. stands_at p a ≡ false) ps → Each (IsSlant p) (dots ps)
 slant_dots [] p hp h = tt
 slant_dots (a ∷ ps) p hp h = (λ k e. let z : true ≡ false = sym (dot_stands a p hp k) ∙ h.0 in absurd (cc), slant_dots ps p hp h.1)
 
+-- so nothing upright among the marks of both geometries goes through the point
 slant_marks : (a b : Geometry) (s : Point) → IsPoint s → IsSlantAt a s → IsSlantAt b s → Each (IsSlant s) (marks a b)
 slant_marks a b s hs h k = each_append (IsSlant s) (edges_of_both a b) (dots (listed a ++ listed b))
     (each_append (IsSlant s) (edges a) (edges b) (each_from_all (IsSlant s) (edges a) h.edges) (each_from_all (IsSlant s) (edges b) k.edges))
@@ -100,6 +103,7 @@ sides_have_triangles a b ca cb s hs h k = (
   upper_triangle a b (each_from_all IsClosed (rings a) ca) (each_from_all IsClosed (rings b) cb) s hs (slant_marks a b s hs h k),
 )
 
+-- straight below and above the point, as near as asked for, points stand as its sides say
 pub sides_are_near : (g : Geometry) (s : Point) → IsPoint s → IsSlantAt g s → (k : ℕ) → NearSides g s k
 sides_are_near g s hs h k = near_sides g s hs (slant_marks g g s hs h h) k
 

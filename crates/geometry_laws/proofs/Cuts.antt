@@ -51,18 +51,22 @@ pub record Ends (c : Piece) : Type 0 where
   pub lesser : IsPoint c.lesser
   pub greater : IsPoint c.greater
 
+-- each kind of cut is a point
 cut_is_point : (es : List Edge) (ps : List Position) (p : Point) → IsCut es ps p → IsPoint p
 cut_is_point es ps p (AtEnd hp e c h) = hp
 cut_is_point es ps p (Listed hp a c h) = hp
 cut_is_point es ps p (AtCrossing hp e f c d apart he hf) = hp
 
+-- so both ends of a piece are points
 pub piece_ends : (es : List Edge) (ps : List Position) (c : Piece) → IsPiece es ps c → Ends c
 piece_ends es ps c h = record { lesser = cut_is_point es ps c.lesser h.lesser_is_cut; greater = cut_is_point es ps c.greater h.greater_is_cut }
 
 -- ---- points strictly within a piece
+-- what is before a point has it behind: Greater turned is Less
 pub turn_less : (p q : Point) → compare p q ≡ Greater → compare q p ≡ Less
 turn_less p q e = compare_reversed p q ∙ ap reversed e
 
+-- a point isn't before itself
 pub not_less_self : (p q : Point) → same_point p q ≡ true → compare p q ≡ Less → ⊥
 not_less_self p q e f = let g : Equal ≡ Less = sym ((equal_is_same p q).1 e) ∙ f in absurd (cc)
 
@@ -75,6 +79,7 @@ edge_is_wide es ps c h d e = not_less_self c.lesser c.greater (same_transitive c
     is_dot : h.edge ≡ dot h.edge.start
     is_dot = λ i. record { start = h.edge.start; end = sym e i }
 
+-- a sum of two points within a piece is within it
 pub inside_sum : (es : List Edge) (ps : List Position) (c : Piece) (h : IsPiece es ps c) (x y : Point) (m n : ℕ) → 0 < m + n → Inside es ps c h x → Inside es ps c h y → Inside es ps c h (weighted m x n y)
 inside_sum es ps c h x y m n k i j = record {
   is_point = weighted_is_point m x n y i.is_point j.is_point k;
@@ -84,9 +89,11 @@ inside_sum es ps c h x y m n k i j = record {
 }
 
 -- ---- an edge not on the piece's line has no point within it
+-- such a point would be a crossing, and no cut lies strictly between the ends of a piece
 pub off_within : (es : List Edge) (ps : List Position) (c : Piece) (h : IsPiece es ps c) (g : Edge) (x : Point) → Among g es → on_one_line h.edge g ≡ false → Inside es ps c h x → on g x ≡ false
 off_within es ps c h g x a f i = by_contraries (on g x) false (λ k. absurd (h.neighbours x i.is_point i.is_on (AtCrossing i.is_point h.edge g h.among (contains_of_among g es a) f i.is_on k) i.after i.before)) refl
 
+-- so the stretch between two points within the piece misses the edge
 pub misses_within_piece : (es : List Edge) (ps : List Position) (c : Piece) (h : IsPiece es ps c) (g : Edge) (x y : Point) → Among g es → on_one_line h.edge g ≡ false → Inside es ps c h x → Inside es ps c h y → Misses x y g
 misses_within_piece es ps c h g x y a f i j m n k = off_within es ps c h g (weighted m x n y) a f (inside_sum es ps c h x y m n k i j)
 
@@ -95,10 +102,12 @@ pub record OneLine (e g : Edge) : Type 0 where
   pub start : side e.start e.end (point_at g.start) ≡ pos 0
   pub end : side e.start e.end (point_at g.end) ≡ pos 0
 
+-- both ends of the edge are on the line
 pub one_line : (e g : Edge) → on_one_line e g ≡ true → OneLine e g
 one_line e g f = let both : (int_eq (side e.start e.end (point_at g.start)) (pos 0) ≡ true) × (int_eq (side e.start e.end (point_at g.end)) (pos 0) ≡ true) = and_parts (int_eq (side e.start e.end (point_at g.start)) (pos 0)) (int_eq (side e.start e.end (point_at g.end)) (pos 0)) f in
     record { start = equal_from (side e.start e.end (point_at g.start)) (pos 0) both.0; end = equal_from (side e.start e.end (point_at g.end)) (pos 0) both.1 }
 
+-- a point within a piece is on the line of the piece's edge
 pub inside_on_line : (es : List Edge) (ps : List Position) (c : Piece) (h : IsPiece es ps c) (x : Point) → Inside es ps c h x → side h.edge.start h.edge.end x ≡ pos 0
 inside_on_line es ps c h x i = (on_parts h.edge x i.is_on).on_line
 
@@ -106,9 +115,11 @@ inside_on_line es ps c h x i = (on_parts h.edge x i.is_on).on_line
 pub side_on_line : (es : List Edge) (ps : List Position) (c : Piece) (h : IsPiece es ps c) → Ends c → (g : Edge) (x : Point) → OneLine h.edge g → Inside es ps c h x → side g.start g.end x ≡ pos 0
 side_on_line es ps c h d g x o i = side_is_area g.start g.end x ∙ area_on_line h.edge.start h.edge.end (point_at g.start) (point_at g.end) x (edge_is_wide es ps c h d) o.start o.end (inside_on_line es ps c h x i)
 
+-- nor taken from its end to its start
 side_back_on_line : (es : List Edge) (ps : List Position) (c : Piece) (h : IsPiece es ps c) → Ends c → (g : Edge) (x : Point) → OneLine h.edge g → Inside es ps c h x → side g.end g.start x ≡ pos 0
 side_back_on_line es ps c h d g x o i = side_is_area g.end g.start x ∙ area_on_line h.edge.start h.edge.end (point_at g.end) (point_at g.start) x (edge_is_wide es ps c h d) o.end o.start (inside_on_line es ps c h x i)
 
+-- so its side is 0 from left to right too
 pub rightward_on_line : (es : List Edge) (ps : List Position) (c : Piece) (h : IsPiece es ps c) → Ends c → (g : Edge) (x : Point) → OneLine h.edge g → Inside es ps c h x → side_rightward g x ≡ pos 0
 rightward_on_line es ps c h d g x o i = go (int_le g.start.x g.end.x)
   where
@@ -116,6 +127,7 @@ rightward_on_line es ps c h d g x o i = go (int_le g.start.x g.end.x)
     go true = side_on_line es ps c h d g x o i
     go false = side_back_on_line es ps c h d g x o i
 
+-- and the edge isn't strictly above the point
 not_above_on_line : (es : List Edge) (ps : List Position) (c : Piece) (h : IsPiece es ps c) → Ends c → (g : Edge) (x : Point) → OneLine h.edge g → Inside es ps c h x → strictly_above g x ≡ false
 not_above_on_line es ps c h d g x o i = ap (λ (z : ℤ). spans g x && int_lt z (pos 0)) (rightward_on_line es ps c h d g x o i) ∙ none (spans g x)
   where
@@ -124,6 +136,7 @@ not_above_on_line es ps c h d g x o i = ap (λ (z : ℤ). spans g x && int_lt z 
     none false = refl
 
 -- ---- from one point within the piece to another each edge adds what its ends add
+-- an edge on the line is strictly above neither point, and any other is missed by the stretch between them
 pub step_within : (es : List Edge) (ps : List Position) (c : Piece) (h : IsPiece es ps c) → Ends c → (g : Edge) (x y : Point) → Among g es → Inside es ps c h x → Inside es ps c h y → Step x y g
 step_within es ps c h d g x y a i j = go (on_one_line h.edge g) refl
   where
@@ -141,12 +154,15 @@ step_within es ps c h d g x y a i j = go (on_one_line h.edge g) refl
 abbrev pub Apart : Point → Point → Point → Type 0
 Apart u x y = ((compare u x ≡ Less) × (compare u y ≡ Less)) ⊎ ((compare x u ≡ Less) × (compare y u ≡ Less))
 
+-- what is the same as a point before x is before x
 less_by_same : (u v x : Point) → IsPoint u → IsPoint v → compare u v ≡ Equal → compare v x ≡ Less → compare u x ≡ Less
 less_by_same u v x hu hv e f = compare_respects x u v hu hv ((equal_is_same u v).0 e) ∙ f
 
+-- and what is the same as a point after x is after x
 less_by_same_last : (u v x : Point) → IsPoint u → IsPoint v → compare u v ≡ Equal → compare x v ≡ Less → compare x u ≡ Less
 less_by_same_last u v x hu hv e f = compare_reversed u x ∙ ap reversed (compare_respects x u v hu hv ((equal_is_same u v).0 e) ∙ compare_reversed x v ∙ ap reversed f)
 
+-- the end is a cut, and no cut on the edge lies strictly between the ends of the piece
 pub apart : (es : List Edge) (ps : List Position) (c : Piece) (h : IsPiece es ps c) → Ends c → (u : Point) → IsPoint u → side h.edge.start h.edge.end u ≡ pos 0 → IsCut es ps u → (x y : Point) → Inside es ps c h x → Inside es ps c h y → Apart u x y
 apart es ps c h d u hu s k x y i j = go (compare u c.lesser) refl (compare u c.greater) refl
   where
@@ -174,16 +190,20 @@ pub or_last : (s t : Bool) → t ≡ true → s || t ≡ true
 or_last true t e = refl
 or_last false t e = e
 
+-- the start of an edge is a cut
 pub start_is_cut : (es : List Edge) (ps : List Position) (g : Edge) → Among g es → IsCut es ps (point_at g.start)
 start_is_cut es ps g a = AtEnd (position_is_point g.start) g (contains_of_among g es a) (or_first (same_point (point_at g.start) (point_at g.start)) (same_point (point_at g.end) (point_at g.start)) (same_end g.start))
 
+-- and so is its end
 pub end_is_cut : (es : List Edge) (ps : List Position) (g : Edge) → Among g es → IsCut es ps (point_at g.end)
 end_is_cut es ps g a = AtEnd (position_is_point g.end) g (contains_of_among g es a) (or_last (same_point (point_at g.start) (point_at g.end)) (same_point (point_at g.end) (point_at g.end)) (same_end g.end))
 
 -- ---- an edge holds all points within the piece or none
+-- the start of an edge is a sum of its ends
 pub hull_of_start : (g : Edge) → OnHull g (point_at g.start)
 hull_of_start g = hull_from_on g (point_at g.start) (position_is_point g.start) (start_is_on g (point_at g.start) (position_is_point g.start) (same_end g.start))
 
+-- and so is its end
 pub hull_of_end : (g : Edge) → OnHull g (point_at g.end)
 hull_of_end g = hull_from_on g (point_at g.end) (position_is_point g.end) (end_is_on g (point_at g.end) (position_is_point g.end) (same_end g.end))
 
@@ -197,6 +217,7 @@ pub record Weighs (g : Edge) (x : Point) : Type 0 where
   pub some : 0 < m + n
   pub same : same_point (weighted m (point_at g.start) n (point_at g.end)) x ≡ true
 
+-- a point of an edge is a weighted sum of its ends
 pub weighs : (g : Edge) (x : Point) → IsPoint x → OnHull g x → Weighs g x
 weighs g x hx o = go (natural o.m o.from_m) (natural o.n o.from_n)
   where
@@ -217,26 +238,31 @@ weighs g x hx o = go (natural o.m o.from_m) (natural o.n o.from_n)
       same = same_from (weighted a.n (point_at g.start) b.n (point_at g.end)) x (coordinate a.n b.n a.is b.is g.start.x g.end.x x.X o.x_is) (coordinate a.n b.n a.is b.is g.start.y g.end.y x.Y o.y_is);
     }
 
+-- a point after both ends isn't on the edge, since all sums of the ends are before it
 pub not_after_both : (g : Edge) (x : Point) → IsPoint x → compare (point_at g.start) x ≡ Less → compare (point_at g.end) x ≡ Less → on g x ≡ false
 not_after_both g x hx e f = by_contraries (on g x) false (λ k. absurd (go (weighs g x hx (hull_from_on g x hx k)))) refl
   where
     go : Weighs g x → ⊥
     go w = not_less_self (weighted w.m (point_at g.start) w.n (point_at g.end)) x w.same (before_sum x w.m (point_at g.start) w.n (point_at g.end) w.some e f)
 
+-- nor is one before both
 pub not_before_both : (g : Edge) (x : Point) → IsPoint x → compare x (point_at g.start) ≡ Less → compare x (point_at g.end) ≡ Less → on g x ≡ false
 not_before_both g x hx e f = by_contraries (on g x) false (λ k. absurd (go (weighs g x hx (hull_from_on g x hx k)))) refl
   where
     go : Weighs g x → ⊥
     go w = not_less_self x (weighted w.m (point_at g.start) w.n (point_at g.end)) (same_symmetric x (weighted w.m (point_at g.start) w.n (point_at g.end)) ∙ w.same) (after_sum x w.m (point_at g.start) w.n (point_at g.end) w.some e f)
 
+-- a point on the line of an edge, after its start and before its end, is on the edge
 on_between : (g : Edge) (x : Point) → IsPoint x → area (point_at g.start) (point_at g.end) x ≡ pos 0 → compare (point_at g.start) x ≡ Less → compare x (point_at g.end) ≡ Less → on g x ≡ true
 on_between g x hx a e f = on_from_hull g x (on_sum g (point_at g.start) (point_at g.end) x (hull_of_start g) (hull_of_end g)
     (sum_between (point_at g.start) (point_at g.end) x (position_is_point g.start) (position_is_point g.end) hx a e f (less_transitive (point_at g.start) x (point_at g.end) (position_is_point g.start) hx (position_is_point g.end) e f)))
 
+-- and so is one after its end and before its start
 on_between_back : (g : Edge) (x : Point) → IsPoint x → area (point_at g.end) (point_at g.start) x ≡ pos 0 → compare (point_at g.end) x ≡ Less → compare x (point_at g.start) ≡ Less → on g x ≡ true
 on_between_back g x hx a e f = on_from_hull g x (on_sum g (point_at g.end) (point_at g.start) x (hull_of_end g) (hull_of_start g)
     (sum_between (point_at g.end) (point_at g.start) x (position_is_point g.end) (position_is_point g.start) hx a e f (less_transitive (point_at g.end) x (point_at g.start) (position_is_point g.end) hx (position_is_point g.start) e f)))
 
+-- an edge off the line holds neither point; one on it has each end before both or after both, so it holds both or neither
 pub same_on : (es : List Edge) (ps : List Position) (c : Piece) (h : IsPiece es ps c) → Ends c → (g : Edge) (x y : Point) → Among g es → Inside es ps c h x → Inside es ps c h y → on g x ≡ on g y
 same_on es ps c h d g x y a i j = decide (on_one_line h.edge g) refl
   where

@@ -103,6 +103,7 @@ abbrev pub parity : {X : Type 0} → (X → Bool) → List X → Bool
 parity f [] = false
 parity f (x ∷ xs) = xor (f x) (parity f xs)
 
+-- one more turns odd and even
 odd_more : (b : Bool) (n : ℕ) → odd (cond b 1 0 + n) ≡ xor b (odd n)
 odd_more true n = one n
   where
@@ -113,10 +114,12 @@ odd_more false n = none n
     none : (n : ℕ) → odd (0 + n) ≡ odd n
     none n = ap odd (omega arith)
 
+-- a count is odd exactly where the exclusive or of the single tests is true
 pub odd_count : {X : Type 0} (f : X → Bool) (xs : List X) → odd (count_by f xs) ≡ parity f xs
 odd_count f [] = refl
 odd_count f (x ∷ xs) = ap odd (sum_by-cons (λ y. cond (f y) 1 0) x xs) ∙ odd_more (f x) (count_by f xs) ∙ ap (xor (f x)) (odd_count f xs)
 
+-- the parity over two lists together is the exclusive or of the parities over each
 pub parity_append : {X : Type 0} (f : X → Bool) (xs ys : List X) → parity f (xs ++ ys) ≡ xor (parity f xs) (parity f ys)
 parity_append f [] ys = refl
 parity_append f (x ∷ xs) ys = ap (xor (f x)) (parity_append f xs ys) ∙ sym (xor_assoc (f x) (parity f xs) (parity f ys))
@@ -125,6 +128,7 @@ pub same_parity : {X : Type 0} (f g : X → Bool) (xs : List X) → Each (λ x. 
 same_parity f g [] h = refl
 same_parity f g (x ∷ xs) h = ap₂ xor h.0 (same_parity f g xs h.1)
 
+-- the parity of the exclusive or of two tests is the exclusive or of their parities
 pub parity_xor : {X : Type 0} (f g : X → Bool) (xs : List X) → parity (λ x. xor (f x) (g x)) xs ≡ xor (parity f xs) (parity g xs)
 parity_xor f g [] = refl
 parity_xor f g (x ∷ xs) = ap (xor (xor (f x) (g x))) (parity_xor f g xs) ∙ xor_cross (f x) (g x) (parity f xs) (parity g xs)

@@ -11,6 +11,7 @@ use Rattle.geometry_laws.proofs.FourSigns.{Areas, Crosses, CrossesBack, edge_spa
 use Rattle.geometry_laws.proofs.LeftToRight.{right_trans, right_trans_first, right_trans_last, reaches_means, not_reaches_means, not_reaches_turned}
 
 -- ---- opposite signs both ways: the stretches meet
+-- the areas, turned to be at least 0, are the weights of a point that is on both
 meets : (u v p q : Point) → Crosses (area u v p) (area u v q) (area p q u) (area p q v) → Meets u v p q
 meets u v p q c = record {
   m = area u v q;
@@ -33,6 +34,7 @@ meets u v p q c = record {
     sum : (x y : ℤ) → pos 0 <ℤ (y -ℤ x) → pos 0 <ℤ (y +ℤ (pos 0 -ℤ x))
     sum x y h = omega (arith, ints)
 
+-- the same with all signs turned
 meets_back : (u v p q : Point) → CrossesBack (area u v p) (area u v q) (area p q u) (area p q v) → Meets u v p q
 meets_back u v p q c = record {
   m = pos 0 -ℤ area u v q;
@@ -56,16 +58,20 @@ meets_back u v p q c = record {
     sum x y h = omega (arith, ints)
 
 -- ---- tests that agree because the other two cases are ruled out
+-- both areas are below 0 or neither is
 same_sign : (a b : ℤ) → (a <ℤ pos 0 → pos 0 ≤ℤ b → ⊥) → (pos 0 ≤ℤ a → b <ℤ pos 0 → ⊥) → int_lt a (pos 0) ≡ int_lt b (pos 0)
 same_sign a b f g = grind (arith, ints)
 
+-- both are above 0 or neither is
 same_plus : (c d : ℤ) → (pos 0 <ℤ c → d ≤ℤ pos 0 → ⊥) → (c ≤ℤ pos 0 → pos 0 <ℤ d → ⊥) → int_lt (pos 0) c ≡ int_lt (pos 0) d
 same_plus c d f g = grind (arith, ints)
 
+-- the one is below 0 where the other is above 0
 opposite : (b c : ℤ) → (pos 0 ≤ℤ b → pos 0 <ℤ c → ⊥) → (b <ℤ pos 0 → c ≤ℤ pos 0 → ⊥) → int_lt b (pos 0) ≡ int_lt (pos 0) c
 opposite b c f g = grind (arith, ints)
 
 -- ---- the table of the four positions from left to right
+-- u being before v and p before q, six orders of the four are left; in each both sides of the equation agree
 table : (up uq vp vq : Bool) (a a' b b' c c' d d' : Bool)
     → (vp ≡ true → up ≡ true) → (up ≡ true → uq ≡ true) → (vp ≡ true → vq ≡ true) → (vq ≡ true → uq ≡ true)
     → (up ≡ true → uq ≡ true → vp ≡ false → vq ≡ false → a ≡ b)
@@ -86,6 +92,7 @@ table false false true vq a a' b b' c c' d d' f g h k e1 e2 e3 e4 = absurd (let 
 table false false false true a a' b b' c c' d d' f g h k e1 e2 e3 e4 = absurd (let e : false ≡ true = k refl in cc)
 
 -- ---- the lemma where u isn't to the right of v, nor p of q
+-- the areas and distances of edge and stretch satisfy the four identities
 areas : (u v p q : Point) → Areas (area u v p) (area u v q) (area p q u) (area p q v) (right u p) (right u q) (right p v) (right q v) (right u v) (right p q)
 areas u v p q = record { by_v = by_v u v p q; by_u = by_u u v p q; by_q = by_q u v p q; by_p = by_p u v p q }
 
@@ -101,9 +108,11 @@ back_at_most a b e = turned (right a b) (right b a) (right_turned a b) (reaches_
 reaches_from : (a b : Point) → pos 0 ≤ℤ right a b → reaches a b ≡ true
 reaches_from a b h = grind (arith, ints)
 
+-- not being to the right of a point is transitive
 reaches_trans : (a b c : Point) → IsPoint a → IsPoint b → IsPoint c → reaches a b ≡ true → reaches b c ≡ true → reaches a c ≡ true
 reaches_trans a b c ha hb hc e f = reaches_from a c (right_trans a b c ha hb hc (reaches_means a b e) (reaches_means b c f))
 
+-- order by order: where the tests differed, the areas would have the signs that make edge and stretch meet
 sorted : (u v p q : Point) → IsPoint u → IsPoint v → IsPoint p → IsPoint q → reaches u v ≡ true → reaches p q ≡ true → (Meets u v p q → ⊥)
     → xor (above u v p) (above u v q) ≡ xor (over p q u) (over p q v)
 sorted u v p q hu hv hp hq e f apart = table (reaches u p) (reaches u q) (reaches v p) (reaches v q)
@@ -124,6 +133,7 @@ sorted u v p q hu hv hp hq e f apart = table (reaches u p) (reaches u q) (reache
     (λ a d. apart (meets u v p q (v_between _ _ _ _ _ _ _ _ _ _ (areas u v p q) (reaches_means u p up) (not_reaches_means v p vp) (back_at_most v q vq) (right_trans_last u p v hu hp hv (reaches_means u p up) (not_reaches_means v p vp)) (reaches_means p q f) a d))))
 
 -- ---- any order, by turning the edge and the stretch
+-- turning a line swaps its ends and the area's sign, which leaves the test as it is
 turned_test : (r s : Bool) (x y : ℤ) → y ≡ pos 0 -ℤ x → cond s (not r && int_lt y (pos 0)) (r && int_lt (pos 0) y) ≡ cond r (not s && int_lt x (pos 0)) (s && int_lt (pos 0) x)
 turned_test true true x y e = refl
 turned_test false false x y e = refl
@@ -136,15 +146,18 @@ turned_test false true x y e = plus x y e
     plus : (x y : ℤ) → y ≡ pos 0 -ℤ x → int_lt y (pos 0) ≡ int_lt (pos 0) x
     plus x y e = grind (arith, ints)
 
+-- so it doesn't matter in which direction the edge is taken
 pub above_turned : (u v p : Point) → above v u p ≡ above u v p
 above_turned u v p = turned_test (reaches u p) (reaches v p) (area u v p) (area v u p) (area_turned u v p)
 
+-- nor in which the stretch is
 pub over_turned : (p q u : Point) → over q p u ≡ over p q u
 over_turned p q u = turned_test (reaches u p) (reaches u q) (area p q u) (area q p u) (area_turned p q u)
 
 swap_sum : (x y : ℤ) → x +ℤ y ≡ y +ℤ x
 swap_sum x y = omega (arith, ints)
 
+-- an edge that meets a stretch meets it in the other direction too
 pub meets_turned : (u v p q : Point) → Meets v u p q → Meets u v p q
 meets_turned u v p q c = record {
   m = c.m;
@@ -161,6 +174,7 @@ meets_turned u v p q c = record {
   in_w = c.in_w ∙ swap_sum (c.k *ℤ v.W) (c.l *ℤ u.W);
 }
 
+-- and so does a stretch
 pub meets_back_to_front : (u v p q : Point) → Meets u v q p → Meets u v p q
 meets_back_to_front u v p q c = record {
   m = c.n;
@@ -188,6 +202,7 @@ either_way a b = go (reaches a b) refl
     go true e = inl e
     go false e = inr (reaches_from b a (not_reaches_turned a b e))
 
+-- the lemma for a stretch in either direction
 by_stretch : (u v p q : Point) → IsPoint u → IsPoint v → IsPoint p → IsPoint q → reaches u v ≡ true → (Meets u v p q → ⊥)
     → xor (above u v p) (above u v q) ≡ xor (over p q u) (over p q v)
 by_stretch u v p q hu hv hp hq e apart = go (either_way p q)

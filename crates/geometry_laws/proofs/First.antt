@@ -29,9 +29,11 @@ pub record First (es : List Edge) (x : Point) : Type 0 where
   pub is_above : strictly_above edge x ≡ true
   pub least : (g : Edge) → Among g es → strictly_above g x ≡ true → (height edge x *ℤ breadth g) ≤ℤ (height g x *ℤ breadth edge)
 
+-- an edge strictly above a point spans it, so it has breadth
 wide : (e : Edge) (x : Point) → IsPoint x → strictly_above e x ≡ true → pos 0 <ℤ breadth e
 wide e x hx h = breadth_positive e x hx ((and_parts (spans e x) (int_lt (side_rightward e x) (pos 0)) h).0)
 
+-- and it is higher than the point
 high : (e : Edge) (x : Point) → strictly_above e x ≡ true → pos 0 <ℤ height e x
 high e x h = turned (side_rightward e x) (less_from (side_rightward e x) (pos 0) ((and_parts (spans e x) (int_lt (side_rightward e x) (pos 0)) h).1))
   where
@@ -89,6 +91,7 @@ first (e ∷ es) x hx = go (strictly_above e x) refl (first es x hx)
 unfoldable pub over_point : Edge → Point → Point
 over_point f x = record { X = breadth f *ℤ x.X; Y = breadth f *ℤ x.Y +ℤ height f x; W = breadth f *ℤ x.W }
 
+-- its denominator is above 0, since the edge has breadth
 pub over_is_point : (f : Edge) (x : Point) → IsPoint x → strictly_above f x ≡ true → IsPoint (over_point f x)
 unfolding over_point
 over_is_point f x hx h = strict_plus_plus (breadth f) x.W (wide f x hx h) hx
@@ -96,12 +99,14 @@ over_is_point f x hx h = strict_plus_plus (breadth f) x.W (wide f x hx h) hx
 raised : Point → ℤ → ℤ → Point
 raised x d h = record { X = d *ℤ x.X; Y = d *ℤ x.Y +ℤ h; W = d *ℤ x.W }
 
+-- raising a point changes its side by the rise times the breadth of the line
 side_raised : (a b : Position) (d h : ℤ) (x : Point) → side a b (raised x d h) ≡ d *ℤ side a b x +ℤ h *ℤ (b.x -ℤ a.x)
 unfolding raised
 side_raised a b d h x = solve (a.x ∷ a.y ∷ b.x ∷ b.y ∷ x.X ∷ x.Y ∷ x.W ∷ d ∷ h ∷ [])
     ((var 2 ⊖ var 0) ⊗ ((var 7 ⊗ var 5 ⊕ var 8) ⊖ var 1 ⊗ (var 7 ⊗ var 6)) ⊖ (var 3 ⊖ var 1) ⊗ (var 7 ⊗ var 4 ⊖ var 0 ⊗ (var 7 ⊗ var 6)))
     (var 7 ⊗ side' ⊕ var 8 ⊗ (var 2 ⊖ var 0)) tt
 
+-- and so it does for an edge taken from left to right
 rightward_raised : (g : Edge) (d h : ℤ) (x : Point) → side_rightward g (raised x d h) ≡ d *ℤ side_rightward g x +ℤ h *ℤ breadth g
 rightward_raised g d h x = go (int_le g.start.x g.end.x)
   where
@@ -109,13 +114,16 @@ rightward_raised g d h x = go (int_le g.start.x g.end.x)
     go true = side_raised g.start g.end d h x
     go false = side_raised g.end g.start d h x
 
+-- raising a point leaves alone which positions are to the right of it
 reaches_raised : (a : Position) (d h : ℤ) (x : Point) → pos 0 <ℤ d → reaches a (raised x d h) ≡ reaches a x
 unfolding raised
 reaches_raised a d h x k = ap (λ (z : ℤ). int_le z (d *ℤ x.X)) (solve (a.x ∷ d ∷ x.W ∷ []) (var 0 ⊗ (var 1 ⊗ var 2)) (var 1 ⊗ (var 0 ⊗ var 2)) tt) ∙ at_most_scaled d (a.x *ℤ x.W) x.X k
 
+-- and so which edges span it
 spans_raised : (g : Edge) (d h : ℤ) (x : Point) → pos 0 <ℤ d → spans g (raised x d h) ≡ spans g x
 spans_raised g d h x k = ap₂ xor (reaches_raised g.start d h x k) (reaches_raised g.end d h x k)
 
+-- the point of an edge straight above x is x raised by the edge's height
 over_is_raised : (f : Edge) (x : Point) → over_point f x ≡ raised x (breadth f) (height f x)
 unfolding over_point raised
 over_is_raised f x = refl

@@ -44,6 +44,7 @@ edge_spans a b c d up uq pv qv uv pq r hup huq hpv hqv huv ha hb = record {
   some = omega (arith, ints);
 }
 
+-- the same with all signs turned
 pub edge_spans_back : (a b c d up uq pv qv uv pq : ℤ) → Areas a b c d up uq pv qv uv pq → Weak up → Weak uq → Strict pv → Strict qv → Strict uv → pos 0 ≤ℤ a → b <ℤ pos 0 → CrossesBack a b c d
 edge_spans_back a b c d up uq pv qv uv pq r hup huq hpv hqv huv ha hb = record {
   of_a = ha;
@@ -64,6 +65,7 @@ stretch_spans a b c d up uq pv qv uv pq r hup huq hpv hqv hpq hc hd =
       some = let high : pos 0 ≤ℤ b = cancel_nonnegative pq b hpq (omega (arith, ints, r.by_q, minus_plus qv c hqv (weaken c hc), plus_minus uq d huq hd)) in omega (arith, ints);
     }
 
+-- the same with all signs turned
 pub stretch_spans_back : (a b c d up uq pv qv uv pq : ℤ) → Areas a b c d up uq pv qv uv pq → up <ℤ pos 0 → Weak uq → Strict pv → qv ≤ℤ pos 0 → Strict pq → c ≤ℤ pos 0 → pos 0 <ℤ d → CrossesBack a b c d
 stretch_spans_back a b c d up uq pv qv uv pq r hup huq hpv hqv hpq hc hd =
     let high : pos 0 <ℤ a = cancel_positive pq a (weaken pq hpq) (omega (arith, ints, r.by_p, plus_minus pv c (weaken pv hpv) hc, strict_minus_plus up d hup hd)) in
@@ -87,6 +89,7 @@ u_between a b c d up uq pv qv uv pq r hup huq hpv hqv hpq hb hc =
       some = omega (arith, ints);
     }
 
+-- the same with all signs turned
 pub u_between_back : (a b c d up uq pv qv uv pq : ℤ) → Areas a b c d up uq pv qv uv pq → up <ℤ pos 0 → Weak uq → Strict pv → Strict qv → Strict pq → b <ℤ pos 0 → c ≤ℤ pos 0 → CrossesBack a b c d
 u_between_back a b c d up uq pv qv uv pq r hup huq hpv hqv hpq hb hc =
     let high : pos 0 <ℤ d = cancel_positive uq d huq (omega (arith, ints, r.by_q, plus_minus qv c (weaken qv hqv) hc, strict_plus_minus pq b hpq hb)) in
@@ -110,6 +113,7 @@ v_between a b c d up uq pv qv uv pq r hup hpv hqv huv hpq ha hd =
       some = omega (arith, ints);
     }
 
+-- the same with all signs turned
 pub v_between_back : (a b c d up uq pv qv uv pq : ℤ) → Areas a b c d up uq pv qv uv pq → Weak up → Strict pv → qv ≤ℤ pos 0 → Strict uv → Weak pq → pos 0 ≤ℤ a → pos 0 <ℤ d → CrossesBack a b c d
 v_between_back a b c d up uq pv qv uv pq r hup hpv hqv huv hpq ha hd =
     let low : b <ℤ pos 0 = cancel_negative pv b (weaken pv hpv) (omega (arith, ints, r.by_v, minus_plus qv a hqv ha, strict_plus_plus uv d huv hd)) in

@@ -24,10 +24,12 @@ pub record OnHull (e : Edge) (p : Point) : Type 0 where
   pub w_is : k *ℤ p.W ≡ m +ℤ n
 
 -- ---- one coordinate
+-- the distance of a weighted sum from the first end is the range times the second's weight
 from_first : (a b x w k m n : ℤ) → k *ℤ x ≡ m *ℤ a +ℤ n *ℤ b → k *ℤ w ≡ m +ℤ n → k *ℤ (x -ℤ a *ℤ w) ≡ n *ℤ (b -ℤ a)
 from_first a b x w k m n e f = solve (k ∷ x ∷ a ∷ w ∷ []) (var 0 ⊗ (var 1 ⊖ var 2 ⊗ var 3)) (var 0 ⊗ var 1 ⊖ var 2 ⊗ (var 0 ⊗ var 3)) tt
     ∙ ap₂ (λ (s t : ℤ). s -ℤ a *ℤ t) e f ∙ solve (a ∷ b ∷ m ∷ n ∷ []) ((var 2 ⊗ var 0 ⊕ var 3 ⊗ var 1) ⊖ var 0 ⊗ (var 2 ⊕ var 3)) (var 3 ⊗ (var 1 ⊖ var 0)) tt
 
+-- and its distance to the second end is the range times the first's weight
 to_last : (a b x w k m n : ℤ) → k *ℤ x ≡ m *ℤ a +ℤ n *ℤ b → k *ℤ w ≡ m +ℤ n → k *ℤ (b *ℤ w -ℤ x) ≡ m *ℤ (b -ℤ a)
 to_last a b x w k m n e f = solve (k ∷ x ∷ b ∷ w ∷ []) (var 0 ⊗ (var 2 ⊗ var 3 ⊖ var 1)) (var 2 ⊗ (var 0 ⊗ var 3) ⊖ var 0 ⊗ var 1) tt
     ∙ ap₂ (λ (s t : ℤ). b *ℤ t -ℤ s) e f ∙ solve (a ∷ b ∷ m ∷ n ∷ []) (var 1 ⊗ (var 2 ⊕ var 3) ⊖ (var 2 ⊗ var 0 ⊕ var 3 ⊗ var 1)) (var 2 ⊗ (var 1 ⊖ var 0)) tt
@@ -39,6 +41,7 @@ or_right : (a b : Bool) → b ≡ true → a || b ≡ true
 or_right true b e = refl
 or_right false b e = e
 
+-- so with weights of at least 0 a sum lies between the ends in each coordinate
 pub between_from : (a b x w k m n : ℤ) → pos 0 <ℤ k → pos 0 ≤ℤ m → pos 0 ≤ℤ n → k *ℤ x ≡ m *ℤ a +ℤ n *ℤ b → k *ℤ w ≡ m +ℤ n → between a b x w ≡ true
 between_from a b x w k m n hk hm hn e f = go (at_most_or_less a b)
   where
@@ -69,6 +72,7 @@ between_from a b x w k m n hk hm hn e f = go (at_most_or_less a b)
         (at_most_yes x (a *ℤ w) (back (a *ℤ w) x (cancel_nonpositive k (x -ℤ a *ℤ w) hk (weak_back _ _ (from_first a b x w k m n e f) (plus_minus n (b -ℤ a) hn (apart_back b a h)))))))
 
 -- ---- a sum of the ends is on the edge
+-- its side is 0, and it lies between the ends in both coordinates
 pub on_from_hull : (e : Edge) (p : Point) → OnHull e p → on e p ≡ true
 on_from_hull e p h = and_from (int_eq (side e.start e.end p) (pos 0) && between e.start.x e.end.x p.X p.W) (between e.start.y e.end.y p.Y p.W)
     (and_from (int_eq (side e.start e.end p) (pos 0)) (between e.start.x e.end.x p.X p.W)
@@ -82,15 +86,18 @@ pub record OnParts (e : Edge) (p : Point) : Type 0 where
   pub in_x : between e.start.x e.end.x p.X p.W ≡ true
   pub in_y : between e.start.y e.end.y p.Y p.W ≡ true
 
+-- what being on an edge says: on its line, and between its ends in x and in y
 pub on_parts : (e : Edge) (p : Point) → on e p ≡ true → OnParts e p
 on_parts e p h =
     let outer : (int_eq (side e.start e.end p) (pos 0) && between e.start.x e.end.x p.X p.W ≡ true) × (between e.start.y e.end.y p.Y p.W ≡ true) = and_parts (int_eq (side e.start e.end p) (pos 0) && between e.start.x e.end.x p.X p.W) (between e.start.y e.end.y p.Y p.W) h in
     let inner : (int_eq (side e.start e.end p) (pos 0) ≡ true) × (between e.start.x e.end.x p.X p.W ≡ true) = and_parts (int_eq (side e.start e.end p) (pos 0)) (between e.start.x e.end.x p.X p.W) outer.0 in
     record { on_line = equal_from (side e.start e.end p) (pos 0) inner.0; in_x = inner.1; in_y = outer.1 }
 
+-- between two numbers: from the one up to the other, or the other way round
 between_cases : (a b x : ℤ) → (int_le a x && int_le x b) || (int_le b x && int_le x a) ≡ true → ((a ≤ℤ x) × (x ≤ℤ b)) ⊎ ((b ≤ℤ x) × (x ≤ℤ a))
 between_cases a b x e = grind (arith, ints)
 
+-- two numbers in order stay so where a denominator above 0 cancels
 pub ordered : (a b w : ℤ) → pos 0 <ℤ w → (a *ℤ w) ≤ℤ (b *ℤ w) → pos 0 ≤ℤ (b -ℤ a)
 ordered a b w hw h = cancel_nonnegative w (b -ℤ a) hw (apart (a *ℤ w) (b *ℤ w) (w *ℤ (b -ℤ a)) (solve (a ∷ b ∷ w ∷ []) (var 1 ⊗ var 2 ⊖ var 0 ⊗ var 2) (var 2 ⊗ (var 1 ⊖ var 0)) tt) h)
   where
@@ -126,15 +133,18 @@ weight_low e p hp o = sum _ _ ((products e.start.x e.end.x p.X p.W hp o.in_x).0)
     sum : (s t : ℤ) → pos 0 ≤ℤ s → pos 0 ≤ℤ t → pos 0 ≤ℤ (s +ℤ t)
     sum s t h k = omega (arith, ints)
 
+-- what is left for the start is the distances to the end, each times the range of its coordinate
 rest_is : (a b : Position) (p : Point) → square a b *ℤ p.W -ℤ weight a b p ≡ (b.x -ℤ a.x) *ℤ (b.x *ℤ p.W -ℤ p.X) +ℤ (b.y -ℤ a.y) *ℤ (b.y *ℤ p.W -ℤ p.Y)
 rest_is a b p = solve (a.x ∷ a.y ∷ b.x ∷ b.y ∷ p.X ∷ p.Y ∷ p.W ∷ []) (square' ⊗ var 6 ⊖ weight') ((var 2 ⊖ var 0) ⊗ (var 2 ⊗ var 6 ⊖ var 4) ⊕ (var 3 ⊖ var 1) ⊗ (var 3 ⊗ var 6 ⊖ var 5)) tt
 
+-- so it is at least 0 where the point is on the edge
 pub weight_high : (e : Edge) (p : Point) → IsPoint p → OnParts e p → pos 0 ≤ℤ (square e.start e.end *ℤ p.W -ℤ weight e.start e.end p)
 weight_high e p hp o = sum _ _ _ (rest_is e.start e.end p) ((products e.start.x e.end.x p.X p.W hp o.in_x).1) ((products e.start.y e.end.y p.Y p.W hp o.in_y).1)
   where
     sum : (s t r : ℤ) → r ≡ s +ℤ t → pos 0 ≤ℤ s → pos 0 ≤ℤ t → pos 0 ≤ℤ r
     sum s t r e h k = omega (arith, ints)
 
+-- between two equal numbers there is no other
 single : (a b x w : ℤ) → between a b x w ≡ true → b -ℤ a ≡ pos 0 → pos 1 *ℤ x ≡ w *ℤ a +ℤ pos 0 *ℤ b
 single a b x w h e = solve (x ∷ []) (lit (pos 1) ⊗ var 0) (var 0) tt ∙ go (between_cases (a *ℤ w) (b *ℤ w) x h) ∙ solve (a ∷ b ∷ w ∷ []) (var 0 ⊗ var 2) (var 2 ⊗ var 0 ⊕ lit (pos 0) ⊗ var 1) tt
   where

@@ -23,6 +23,7 @@ up a b = b.Y *ℤ a.W -ℤ a.Y *ℤ b.W
 abbrev pub Lex : ℤ → ℤ → Type 0
 Lex s t = (pos 0 <ℤ s) ⊎ ((s ≡ pos 0) × (pos 0 <ℤ t))
 
+-- Less says that the second point is further right, or straight above
 pub lex_of_less : (p q : Point) → compare p q ≡ Less → Lex (right p q) (up p q)
 lex_of_less p q e = go (before p q e)
   where
@@ -36,6 +37,7 @@ lex_of_less p q e = go (before p q e)
     go (inl h) = inl (apart (p.X *ℤ q.W) (q.X *ℤ p.W) h)
     go (inr h) = inr (nothing (p.X *ℤ q.W) (q.X *ℤ p.W) h.0, apart (p.Y *ℤ q.W) (q.Y *ℤ p.W) h.1)
 
+-- and where it is so, the points compare as Less
 pub less_of_lex : (p q : Point) → Lex (right p q) (up p q) → compare p q ≡ Less
 less_of_lex p q l = less_from_before p q (go l)
   where
@@ -50,6 +52,7 @@ less_of_lex p q l = less_from_before p q (go l)
     go (inr h) = inr (same (p.X *ℤ q.W) (q.X *ℤ p.W) h.0, joined (p.Y *ℤ q.W) (q.Y *ℤ p.W) h.1)
 
 -- ---- sums
+-- a weighted sum of two pairs that are above 0 in this order is above 0 in it
 lex_sum : (m n : ℕ) (a a' b b' : ℤ) → 0 < m + n → Lex a a' → Lex b b' → Lex (pos m *ℤ a +ℤ pos n *ℤ b) (pos m *ℤ a' +ℤ pos n *ℤ b')
 lex_sum m n a a' b b' h (inl s) (inl t) = inl (sum_positive m n a b h s t)
 lex_sum zero n a a' b b' h (inl s) (inr t) = inr (nothing, only)
@@ -103,9 +106,11 @@ lex_sum m n a a' b b' h (inr s) (inr t) = inr (zeros (pos m) (pos n) a b s.0 t.0
     zeros : (m n a b : ℤ) → a ≡ pos 0 → b ≡ pos 0 → m *ℤ a +ℤ n *ℤ b ≡ pos 0
     zeros m n a b e f = ap₂ (λ (x y : ℤ). m *ℤ x +ℤ n *ℤ y) e f ∙ solve (m ∷ n ∷ []) (var 0 ⊗ lit (pos 0) ⊕ var 1 ⊗ lit (pos 0)) (lit (pos 0)) tt
 
+-- the difference to a weighted sum is the weighted sum of the differences
 after_linear : (x w a b m n p q : ℤ) → (m *ℤ a +ℤ n *ℤ b) *ℤ w -ℤ x *ℤ (m *ℤ p +ℤ n *ℤ q) ≡ m *ℤ (a *ℤ w -ℤ x *ℤ p) +ℤ n *ℤ (b *ℤ w -ℤ x *ℤ q)
 after_linear x w a b m n p q = solve (x ∷ w ∷ a ∷ b ∷ m ∷ n ∷ p ∷ q ∷ []) ((var 4 ⊗ var 2 ⊕ var 5 ⊗ var 3) ⊗ var 1 ⊖ var 0 ⊗ (var 4 ⊗ var 6 ⊕ var 5 ⊗ var 7)) (var 4 ⊗ (var 2 ⊗ var 1 ⊖ var 0 ⊗ var 6) ⊕ var 5 ⊗ (var 3 ⊗ var 1 ⊖ var 0 ⊗ var 7)) tt
 
+-- and so is the difference from it
 before_linear : (x w a b m n p q : ℤ) → x *ℤ (m *ℤ p +ℤ n *ℤ q) -ℤ (m *ℤ a +ℤ n *ℤ b) *ℤ w ≡ m *ℤ (x *ℤ p -ℤ a *ℤ w) +ℤ n *ℤ (x *ℤ q -ℤ b *ℤ w)
 before_linear x w a b m n p q = solve (x ∷ w ∷ a ∷ b ∷ m ∷ n ∷ p ∷ q ∷ []) (var 0 ⊗ (var 4 ⊗ var 6 ⊕ var 5 ⊗ var 7) ⊖ (var 4 ⊗ var 2 ⊕ var 5 ⊗ var 3) ⊗ var 1) (var 4 ⊗ (var 0 ⊗ var 6 ⊖ var 2 ⊗ var 1) ⊕ var 5 ⊗ (var 0 ⊗ var 7 ⊖ var 3 ⊗ var 1)) tt
 
@@ -118,6 +123,7 @@ after_sum c m x n y h e f = less_of_lex c (weighted m x n y) (carry_lex _ _ _ _
     (after_linear c.X c.W x.X y.X (pos m) (pos n) x.W y.W) (after_linear c.Y c.W x.Y y.Y (pos m) (pos n) x.W y.W)
     (lex_sum m n (right c x) (up c x) (right c y) (up c y) h (lex_of_less c x e) (lex_of_less c y f)))
 
+-- and sums of two points that are before it are before it
 pub before_sum : (c : Point) (m : ℕ) (x : Point) (n : ℕ) (y : Point) → 0 < m + n → compare x c ≡ Less → compare y c ≡ Less → compare (weighted m x n y) c ≡ Less
 before_sum c m x n y h e f = less_of_lex (weighted m x n y) c (carry_lex _ _ _ _
     (before_linear c.X c.W x.X y.X (pos m) (pos n) x.W y.W) (before_linear c.Y c.W x.Y y.Y (pos m) (pos n) x.W y.W)
@@ -140,21 +146,27 @@ abbrev side_of : ℕ → ℕ → ℕ → Expr
 side_of x y w = (var 2 ⊖ var 0) ⊗ (var y ⊖ var 1 ⊗ var w) ⊖ (var 3 ⊖ var 1) ⊗ (var x ⊖ var 0 ⊗ var w)
 
 -- p is U, q is V, x is P
+-- on one line a multiple of x is a sum of p and q, the distances to the right being the weights: X
 pub x_across : (p q x : Point) → right p q *ℤ x.X ≡ right x q *ℤ p.X +ℤ right p x *ℤ q.X
 x_across p q x = solve (values p q x x) (right' U V ⊗ P.X) (right' P V ⊗ U.X ⊕ right' U P ⊗ V.X) tt
 
+-- and the denominators
 pub w_across : (p q x : Point) → right p q *ℤ x.W ≡ right x q *ℤ p.W +ℤ right p x *ℤ q.W
 w_across p q x = solve (values p q x x) (right' U V ⊗ P.W) (right' P V ⊗ U.W ⊕ right' U P ⊗ V.W) tt
 
+-- and Y, up to the area of the three, which is 0 on one line
 pub y_across : (p q x : Point) → right p q *ℤ x.Y ≡ (right x q *ℤ p.Y +ℤ right p x *ℤ q.Y) +ℤ area p q x
 y_across p q x = solve (values p q x x) (right' U V ⊗ P.Y) ((right' P V ⊗ U.Y ⊕ right' U P ⊗ V.Y) ⊕ area' U V P) tt
 
+-- the same with the distances upwards, for an upright line: Y
 y_upright : (p q x : Point) → up p q *ℤ x.Y ≡ up x q *ℤ p.Y +ℤ up p x *ℤ q.Y
 y_upright p q x = solve (p.Y ∷ p.W ∷ q.Y ∷ q.W ∷ x.Y ∷ x.W ∷ []) ((var 2 ⊗ var 1 ⊖ var 0 ⊗ var 3) ⊗ var 4) ((var 2 ⊗ var 5 ⊖ var 4 ⊗ var 3) ⊗ var 0 ⊕ (var 4 ⊗ var 1 ⊖ var 0 ⊗ var 5) ⊗ var 2) tt
 
+-- and the denominators
 w_upright : (p q x : Point) → up p q *ℤ x.W ≡ up x q *ℤ p.W +ℤ up p x *ℤ q.W
 w_upright p q x = solve (p.Y ∷ p.W ∷ q.Y ∷ q.W ∷ x.Y ∷ x.W ∷ []) ((var 2 ⊗ var 1 ⊖ var 0 ⊗ var 3) ⊗ var 5) ((var 2 ⊗ var 5 ⊖ var 4 ⊗ var 3) ⊗ var 1 ⊕ (var 4 ⊗ var 1 ⊖ var 0 ⊗ var 5) ⊗ var 3) tt
 
+-- and X, up to the area of the three
 x_upright : (p q x : Point) → up p q *ℤ x.X ≡ (up x q *ℤ p.X +ℤ up p x *ℤ q.X) -ℤ area p q x
 x_upright p q x = solve (values p q x x) ((V.Y ⊗ U.W ⊖ U.Y ⊗ V.W) ⊗ P.X) (((V.Y ⊗ P.W ⊖ P.Y ⊗ V.W) ⊗ U.X ⊕ (P.Y ⊗ U.W ⊖ U.Y ⊗ P.W) ⊗ V.X) ⊖ area' U V P) tt
 
@@ -164,6 +176,7 @@ drop_area s t a e f = omega (arith, ints)
 drop_area_back : (s t a : ℤ) → s ≡ t -ℤ a → a ≡ pos 0 → s ≡ t
 drop_area_back s t a e f = omega (arith, ints)
 
+-- the first of such two numbers is at least 0
 pub lex_weak : (s t : ℤ) → Lex s t → pos 0 ≤ℤ s
 lex_weak s t (inl h) = weak s h
   where
@@ -174,6 +187,7 @@ lex_weak s t (inr h) = weak s h.0
     weak : (s : ℤ) → s ≡ pos 0 → pos 0 ≤ℤ s
     weak s h = omega (arith, ints)
 
+-- a point on the line of p and q, after p and before q, is a sum of both: by the distances to the right, or upwards
 pub sum_between : (p q x : Point) → IsPoint p → IsPoint q → IsPoint x → area p q x ≡ pos 0 → compare p x ≡ Less → compare x q ≡ Less → compare p q ≡ Less → IsSum p q x
 sum_between p q x hp hq hx a e f g = go (lex_of_less p q g) (lex_of_less p x e) (lex_of_less x q f)
   where
@@ -216,6 +230,7 @@ sum_between p q x hp hq hx a e f g = go (lex_of_less p q g) (lex_of_less p x e) 
     go (inr h) (inr s) (inr t) = upright h.1 (weak (up x q) t.1) (weak (up p x) s.1)
 
 -- ---- an edge holds the sums of its points
+-- sums put into a sum are a sum, the weights being multiplied
 linear : (k m n kp kq a b mp np mq nq x p q : ℤ) → k *ℤ x ≡ m *ℤ p +ℤ n *ℤ q → kp *ℤ p ≡ mp *ℤ a +ℤ np *ℤ b → kq *ℤ q ≡ mq *ℤ a +ℤ nq *ℤ b
     → (k *ℤ kp *ℤ kq) *ℤ x ≡ (m *ℤ kq *ℤ mp +ℤ n *ℤ kp *ℤ mq) *ℤ a +ℤ (m *ℤ kq *ℤ np +ℤ n *ℤ kp *ℤ nq) *ℤ b
 linear k m n kp kq a b mp np mq nq x p q e f g =
@@ -227,6 +242,7 @@ linear k m n kp kq a b mp np mq nq x p q e f g =
     ((var 0 ⊗ var 3) ⊗ (var 4 ⊗ var 8 ⊕ var 5 ⊗ var 9) ⊕ (var 1 ⊗ var 2) ⊗ (var 6 ⊗ var 8 ⊕ var 7 ⊗ var 9))
     ((var 0 ⊗ var 3 ⊗ var 4 ⊕ var 1 ⊗ var 2 ⊗ var 6) ⊗ var 8 ⊕ (var 0 ⊗ var 3 ⊗ var 5 ⊕ var 1 ⊗ var 2 ⊗ var 7) ⊗ var 9) tt
 
+-- and the denominators, the sums of the weights, come out alike
 linear_one : (k m n kp kq mp np mq nq x p q : ℤ) → k *ℤ x ≡ m *ℤ p +ℤ n *ℤ q → kp *ℤ p ≡ mp +ℤ np → kq *ℤ q ≡ mq +ℤ nq
     → (k *ℤ kp *ℤ kq) *ℤ x ≡ (m *ℤ kq *ℤ mp +ℤ n *ℤ kp *ℤ mq) +ℤ (m *ℤ kq *ℤ np +ℤ n *ℤ kp *ℤ nq)
 linear_one k m n kp kq mp np mq nq x p q e f g =
@@ -241,6 +257,7 @@ linear_one k m n kp kq mp np mq nq x p q e f g =
 three : (a b c : ℤ) → pos 0 ≤ℤ a → pos 0 ≤ℤ b → pos 0 ≤ℤ c → pos 0 ≤ℤ (a *ℤ b *ℤ c)
 three a b c h k l = plus_plus (a *ℤ b) c (plus_plus a b h k) l
 
+-- so a sum of two points of an edge is a sum of its ends
 pub on_sum : (e : Edge) (p q x : Point) → OnHull e p → OnHull e q → IsSum p q x → OnHull e x
 on_sum e p q x h g s = record {
   k = s.k *ℤ h.k *ℤ g.k;
@@ -260,6 +277,7 @@ on_sum e p q x h g s = record {
     sum : (s t : ℤ) → pos 0 ≤ℤ s → pos 0 ≤ℤ t → pos 0 ≤ℤ (s +ℤ t)
     sum s t h k = omega (arith, ints)
 
+-- a weighted point is such a sum
 pub weighted_is_sum : (m : ℕ) (p : Point) (n : ℕ) (q : Point) → IsSum p q (weighted m p n q)
 weighted_is_sum m p n q = record {
   k = pos 1;
@@ -280,16 +298,19 @@ weighted_is_sum m p n q = record {
     one x = omega (arith, ints)
 
 -- ---- three points on the line of an edge that has two different ends
+-- the area of three points, times the breadth of an edge, is a sum of multiples of their sides at it
 by_breadth : (a b : Position) (p q r : Point) → (b.x -ℤ a.x) *ℤ area p q r ≡ p.X *ℤ (side a b q *ℤ r.W -ℤ side a b r *ℤ q.W) -ℤ side a b p *ℤ (q.X *ℤ r.W -ℤ r.X *ℤ q.W) +ℤ p.W *ℤ (q.X *ℤ side a b r -ℤ r.X *ℤ side a b q)
 by_breadth a b p q r = solve (a.x ∷ a.y ∷ b.x ∷ b.y ∷ p.X ∷ p.Y ∷ p.W ∷ q.X ∷ q.Y ∷ q.W ∷ r.X ∷ r.Y ∷ r.W ∷ [])
     ((var 2 ⊖ var 0) ⊗ (var 4 ⊗ (var 8 ⊗ var 12 ⊖ var 11 ⊗ var 9) ⊖ var 5 ⊗ (var 7 ⊗ var 12 ⊖ var 10 ⊗ var 9) ⊕ var 6 ⊗ (var 7 ⊗ var 11 ⊖ var 10 ⊗ var 8)))
     (var 4 ⊗ (side_of 7 8 9 ⊗ var 12 ⊖ side_of 10 11 12 ⊗ var 9) ⊖ side_of 4 5 6 ⊗ (var 7 ⊗ var 12 ⊖ var 10 ⊗ var 9) ⊕ var 6 ⊗ (var 7 ⊗ side_of 10 11 12 ⊖ var 10 ⊗ side_of 7 8 9)) tt
 
+-- and so it is times the edge's height
 by_height : (a b : Position) (p q r : Point) → (a.y -ℤ b.y) *ℤ area p q r ≡ side a b p *ℤ (q.Y *ℤ r.W -ℤ r.Y *ℤ q.W) -ℤ p.Y *ℤ (side a b q *ℤ r.W -ℤ side a b r *ℤ q.W) +ℤ p.W *ℤ (side a b q *ℤ r.Y -ℤ side a b r *ℤ q.Y)
 by_height a b p q r = solve (a.x ∷ a.y ∷ b.x ∷ b.y ∷ p.X ∷ p.Y ∷ p.W ∷ q.X ∷ q.Y ∷ q.W ∷ r.X ∷ r.Y ∷ r.W ∷ [])
     ((var 1 ⊖ var 3) ⊗ (var 4 ⊗ (var 8 ⊗ var 12 ⊖ var 11 ⊗ var 9) ⊖ var 5 ⊗ (var 7 ⊗ var 12 ⊖ var 10 ⊗ var 9) ⊕ var 6 ⊗ (var 7 ⊗ var 11 ⊖ var 10 ⊗ var 8)))
     (side_of 4 5 6 ⊗ (var 8 ⊗ var 12 ⊖ var 11 ⊗ var 9) ⊖ var 5 ⊗ (side_of 7 8 9 ⊗ var 12 ⊖ side_of 10 11 12 ⊗ var 9) ⊕ var 6 ⊗ (side_of 7 8 9 ⊗ var 11 ⊖ side_of 10 11 12 ⊗ var 8)) tt
 
+-- three points on the line of an edge span no area, since its breadth or its height isn't 0
 pub area_on_line : (a b : Position) (p q r : Point) → (a ≡ b → ⊥) → side a b p ≡ pos 0 → side a b q ≡ pos 0 → side a b r ≡ pos 0 → area p q r ≡ pos 0
 area_on_line a b p q r d e f g = go (is_or_not (b.x -ℤ a.x)) (is_or_not (a.y -ℤ b.y))
   where

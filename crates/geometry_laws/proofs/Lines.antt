@@ -14,11 +14,13 @@ use Rattle.geometry_laws.proofs.LineSides.{side', side_turned}
 use Rattle.geometry_laws.proofs.Hulls.{OnHull, hull_from_on}
 
 -- ---- at sums
+-- the value of a line at a weighted sum of two points is the weighted sum of its values at them
 pub value_weighted : (l : Line) (m : ℕ) (p : Point) (n : ℕ) (q : Point) → value l (weighted m p n q) ≡ pos m *ℤ value l p +ℤ pos n *ℤ value l q
 value_weighted l m p n q = solve (l.a ∷ l.b ∷ l.c ∷ p.X ∷ p.Y ∷ p.W ∷ q.X ∷ q.Y ∷ q.W ∷ pos m ∷ pos n ∷ [])
     (var 0 ⊗ (var 9 ⊗ var 3 ⊕ var 10 ⊗ var 6) ⊕ var 1 ⊗ (var 9 ⊗ var 4 ⊕ var 10 ⊗ var 7) ⊕ var 2 ⊗ (var 9 ⊗ var 5 ⊕ var 10 ⊗ var 8))
     (var 9 ⊗ (var 0 ⊗ var 3 ⊕ var 1 ⊗ var 4 ⊕ var 2 ⊗ var 5) ⊕ var 10 ⊗ (var 0 ⊗ var 6 ⊕ var 1 ⊗ var 7 ⊕ var 2 ⊗ var 8)) tt
 
+-- and at one of three points
 pub value_weighted_three : (l : Line) (k : ℕ) (p : Point) (m : ℕ) (q : Point) (n : ℕ) (r : Point) → value l (weighted_three k p m q n r) ≡ pos k *ℤ value l p +ℤ pos m *ℤ value l q +ℤ pos n *ℤ value l r
 value_weighted_three l k p m q n r = solve (l.a ∷ l.b ∷ l.c ∷ p.X ∷ p.Y ∷ p.W ∷ q.X ∷ q.Y ∷ q.W ∷ r.X ∷ r.Y ∷ r.W ∷ pos k ∷ pos m ∷ pos n ∷ [])
     (var 0 ⊗ (var 12 ⊗ var 3 ⊕ var 13 ⊗ var 6 ⊕ var 14 ⊗ var 9) ⊕ var 1 ⊗ (var 12 ⊗ var 4 ⊕ var 13 ⊗ var 7 ⊕ var 14 ⊗ var 10) ⊕ var 2 ⊗ (var 12 ⊗ var 5 ⊕ var 13 ⊗ var 8 ⊕ var 14 ⊗ var 11))
@@ -47,6 +49,7 @@ sum_positive m n x y h hx hy = go (at_most_or_less (pos m) (pos 0))
     go (inl k) = last (pos m *ℤ x) (pos n *ℤ y) (plus_plus (pos m) x (natural m) (weak x hx)) (strict_plus_plus (pos n) y (rest m n h k) hy)
     go (inr k) = first (pos m *ℤ x) (pos n *ℤ y) (strict_plus_plus (pos m) x k hx) (plus_plus (pos n) y (natural n) (weak y hy))
 
+-- and of three
 pub sum_positive_three : (k m n : ℕ) (x y z : ℤ) → 0 < k + m + n → pos 0 <ℤ x → pos 0 <ℤ y → pos 0 <ℤ z → pos 0 <ℤ (pos k *ℤ x +ℤ pos m *ℤ y +ℤ pos n *ℤ z)
 sum_positive_three k m n x y z h hx hy hz = go (at_most_or_less (pos n) (pos 0))
   where
@@ -69,9 +72,11 @@ sum_positive_three k m n x y z h hx hy hz = go (at_most_or_less (pos n) (pos 0))
     go (inl l) = first (pos k *ℤ x +ℤ pos m *ℤ y) (pos n *ℤ z) (sum_positive k m x y (rest (k + m) n h l) hx hy) (plus_plus (pos n) z (natural n) (weak z hz))
     go (inr l) = last (pos k *ℤ x) (pos m *ℤ y) (pos n *ℤ z) (plus_plus (pos k) x (natural k) (weak x hx)) (plus_plus (pos m) y (natural m) (weak y hy)) (strict_plus_plus (pos n) z l hz)
 
+-- a weighted sum of points is a point where not all weights are 0: its denominator is above 0
 pub weighted_is_point : (m : ℕ) (p : Point) (n : ℕ) (q : Point) → IsPoint p → IsPoint q → 0 < m + n → IsPoint (weighted m p n q)
 weighted_is_point m p n q hp hq h = sum_positive m n p.W q.W h hp hq
 
+-- and of three points
 pub weighted_three_is_point : (k : ℕ) (p : Point) (m : ℕ) (q : Point) (n : ℕ) (r : Point) → IsPoint p → IsPoint q → IsPoint r → 0 < k + m + n → IsPoint (weighted_three k p m q n r)
 weighted_three_is_point k p m q n r hp hq hr h = sum_positive_three k m n p.W q.W r.W h hp hq hr
 
@@ -85,6 +90,7 @@ pub record Parted (e : Edge) (p : Point) : Type 0 where
   pub above_at : pos 0 <ℤ value line p
   pub parts : Parts e line
 
+-- at a point of an edge a line's value is a sum of those at the ends, with weights of at least 0
 hull_value : (l : Line) (e : Edge) (z : Point) (h : OnHull e z) → h.k *ℤ value l z ≡ h.m *ℤ value l (point_at e.start) +ℤ h.n *ℤ value l (point_at e.end)
 hull_value l e z h = solve (l.a ∷ l.b ∷ l.c ∷ z.X ∷ z.Y ∷ z.W ∷ h.k ∷ []) (var 6 ⊗ (var 0 ⊗ var 3 ⊕ var 1 ⊗ var 4 ⊕ var 2 ⊗ var 5)) (var 0 ⊗ (var 6 ⊗ var 3) ⊕ var 1 ⊗ (var 6 ⊗ var 4) ⊕ var 2 ⊗ (var 6 ⊗ var 5)) tt
     ∙ ap₂ (λ (x y : ℤ). l.a *ℤ x +ℤ l.b *ℤ y +ℤ l.c *ℤ (h.k *ℤ z.W)) h.x_is h.y_is
@@ -112,37 +118,45 @@ off_beyond l e z hz s h = decide (on e z) refl
 pub line_side : (a b : Position) → Line
 line_side a b = record { a = a.y -ℤ b.y; b = b.x -ℤ a.x; c = (b.y -ℤ a.y) *ℤ a.x -ℤ (b.x -ℤ a.x) *ℤ a.y }
 
+-- the value of that line is the side
 pub value_is_side : (a b : Position) (p : Point) → value (line_side a b) p ≡ side a b p
 unfolding line_side
 value_is_side a b p = solve (a.x ∷ a.y ∷ b.x ∷ b.y ∷ p.X ∷ p.Y ∷ p.W ∷ []) ((var 1 ⊖ var 3) ⊗ var 4 ⊕ (var 2 ⊖ var 0) ⊗ var 5 ⊕ ((var 3 ⊖ var 1) ⊗ var 0 ⊖ (var 2 ⊖ var 0) ⊗ var 1) ⊗ var 6) side' tt
 
+-- both positions are on it: the first
 side_at_start : (a b : Position) → side a b (point_at a) ≡ pos 0
 side_at_start a b = solve (a.x ∷ a.y ∷ b.x ∷ b.y ∷ []) ((var 2 ⊖ var 0) ⊗ (var 1 ⊖ var 1 ⊗ lit (pos 1)) ⊖ (var 3 ⊖ var 1) ⊗ (var 0 ⊖ var 0 ⊗ lit (pos 1))) (lit (pos 0)) tt
 
+-- and the second
 side_at_end : (a b : Position) → side a b (point_at b) ≡ pos 0
 side_at_end a b = solve (a.x ∷ a.y ∷ b.x ∷ b.y ∷ []) ((var 2 ⊖ var 0) ⊗ (var 3 ⊖ var 1 ⊗ lit (pos 1)) ⊖ (var 3 ⊖ var 1) ⊗ (var 2 ⊖ var 0 ⊗ lit (pos 1))) (lit (pos 0)) tt
 
+-- a number that isn't between two is below both or above both
 not_between : (a b x : ℤ) → (int_le a x && int_le x b) || (int_le b x && int_le x a) ≡ false → ((x <ℤ a) × (x <ℤ b)) ⊎ ((a <ℤ x) × (b <ℤ x))
 not_between a b x e = grind (arith, ints)
 
+-- upright and level lines on one side of which an edge lies: it is at m or to the right
 x_low : (m : ℤ) (e : Edge) → m ≤ℤ e.start.x → m ≤ℤ e.end.x → Parts e (record { a = pos 0 -ℤ pos 1; b = pos 0; c = m })
 x_low m e h k = record { at_start = low m e.start.x e.start.y h; at_end = low m e.end.x e.end.y k }
   where
     low : (m x y : ℤ) → m ≤ℤ x → ((pos 0 -ℤ pos 1) *ℤ x +ℤ pos 0 *ℤ y +ℤ m *ℤ pos 1) ≤ℤ pos 0
     low m x y h = omega (arith, ints)
 
+-- at m or to the left
 x_high : (m : ℤ) (e : Edge) → e.start.x ≤ℤ m → e.end.x ≤ℤ m → Parts e (record { a = pos 1; b = pos 0; c = pos 0 -ℤ m })
 x_high m e h k = record { at_start = high m e.start.x e.start.y h; at_end = high m e.end.x e.end.y k }
   where
     high : (m x y : ℤ) → x ≤ℤ m → (pos 1 *ℤ x +ℤ pos 0 *ℤ y +ℤ (pos 0 -ℤ m) *ℤ pos 1) ≤ℤ pos 0
     high m x y h = omega (arith, ints)
 
+-- at m or higher
 y_low : (m : ℤ) (e : Edge) → m ≤ℤ e.start.y → m ≤ℤ e.end.y → Parts e (record { a = pos 0; b = pos 0 -ℤ pos 1; c = m })
 y_low m e h k = record { at_start = low m e.start.x e.start.y h; at_end = low m e.end.x e.end.y k }
   where
     low : (m x y : ℤ) → m ≤ℤ y → (pos 0 *ℤ x +ℤ (pos 0 -ℤ pos 1) *ℤ y +ℤ m *ℤ pos 1) ≤ℤ pos 0
     low m x y h = omega (arith, ints)
 
+-- at m or lower
 y_high : (m : ℤ) (e : Edge) → e.start.y ≤ℤ m → e.end.y ≤ℤ m → Parts e (record { a = pos 0; b = pos 1; c = pos 0 -ℤ m })
 y_high m e h k = record { at_start = high m e.start.x e.start.y h; at_end = high m e.end.x e.end.y k }
   where
@@ -172,6 +186,7 @@ range a b = go (at_most_or_less a b)
     go (inl h) = record { low = a; high = b; low_a = same a; low_b = h; high_a = h; high_b = same b; is_end = inl (refl, refl) }
     go (inr h) = record { low = b; high = a; low_a = weak b a h; low_b = same b; high_a = same a; high_b = weak b a h; is_end = inr (refl, refl) }
 
+-- a point outside an edge's range of x is parted from it by the upright line through the nearer end
 by_x : (e : Edge) (p : Point) → between e.start.x e.end.x p.X p.W ≡ false → Parted e p
 by_x e p f = go (not_between (e.start.x *ℤ p.W) (e.end.x *ℤ p.W) p.X f) (range e.start.x e.end.x)
   where
@@ -202,6 +217,7 @@ by_x e p f = go (not_between (e.start.x *ℤ p.W) (e.end.x *ℤ p.W) p.X f) (ran
     go (inl h) r = record { line = record { a = pos 0 -ℤ pos 1; b = pos 0; c = r.low }; above_at = over r.low p.X p.Y p.W (r.low *ℤ p.W) (low r h) refl; parts = x_low r.low e r.low_a r.low_b }
     go (inr h) r = record { line = record { a = pos 1; b = pos 0; c = pos 0 -ℤ r.high }; above_at = under r.high p.X p.Y p.W (r.high *ℤ p.W) (pos 0) (high r h) refl (turned r.high p.W); parts = x_high r.high e r.high_a r.high_b }
 
+-- one outside its range of y by the level line through the nearer end
 by_y : (e : Edge) (p : Point) → between e.start.y e.end.y p.Y p.W ≡ false → Parted e p
 by_y e p f = go (not_between (e.start.y *ℤ p.W) (e.end.y *ℤ p.W) p.Y f) (range e.start.y e.end.y)
   where
@@ -235,6 +251,7 @@ by_y e p f = go (not_between (e.start.y *ℤ p.W) (e.end.y *ℤ p.W) p.Y f) (ran
 at_most_zero : (x y : ℤ) → x ≡ y → y ≡ pos 0 → x ≤ℤ pos 0
 at_most_zero x y e f = omega (arith, ints)
 
+-- and one off its line by that line, taken so that the point is on the side above 0
 by_side : (e : Edge) (p : Point) → (side e.start e.end p ≡ pos 0 → ⊥) → Parted e p
 by_side e p f = go (three_ways (pos 0) (side e.start e.end p))
   where
@@ -267,6 +284,7 @@ parted e p h = go (int_eq (side e.start e.end p) (pos 0)) refl (between e.start.
     go true f true g false k z = by_y e p k
     go true f true g true k z = absurd (let w : true ≡ false = z in cc)
 
+-- how the value of the line through two positions grows upwards: by their difference in x
 pub line_side_slope : (a b : Position) → (line_side a b).b ≡ b.x -ℤ a.x
 unfolding line_side
 line_side_slope a b = refl

@@ -34,6 +34,7 @@ positive_natural n h = omega (arith, ints)
 weak : (z : ℤ) → pos 0 <ℤ z → pos 0 ≤ℤ z
 weak z h = omega (arith, ints)
 
+-- two things that hold near enough hold together where the point is nearer than both bounds ask
 both_near : (e w : ℤ) (P Q : ℤ → ℕ → Type 0) → Nearly e w P → Nearly e w Q → Nearly e w (λ d n. P d n × Q d n)
 both_near e w P Q p q = record { bound = p.bound + q.bound; holds = λ m n hm hn h. (p.holds m n hm hn (first m n hm h), q.holds m n hm hn (second m n hm h)) }
   where
@@ -52,6 +53,7 @@ both_near e w P Q p q = record { bound = p.bound + q.bound; holds = λ m n hm hn
     second : (m : ℤ) (n : ℕ) → pos 0 <ℤ m → (pos (p.bound + q.bound) *ℤ m) <ℤ (pos n *ℤ w) → (pos q.bound *ℤ m) <ℤ (pos n *ℤ w)
     second m n hm h = part_last (pos p.bound *ℤ m) (pos q.bound *ℤ m) (pos n *ℤ w) (plus_plus (pos p.bound) m (from_natural p.bound) (weak m hm)) (spread p.bound q.bound m (pos n *ℤ w) h)
 
+-- and so do finitely many
 each_near : {X : Type 0} (e w : ℤ) (P : X → ℤ → ℕ → Type 0) (xs : List X) → Each (λ x. Nearly e w (P x)) xs → Nearly e w (λ d n. Each (λ x. P x d n) xs)
 each_near e w P [] h = record { bound = 0; holds = λ m n hm hn k. tt }
 each_near e w P (x ∷ xs) h = both_near e w (P x) (λ d n. Each (λ y. P y d n) xs) h.0 (each_near e w P xs h.1)
@@ -61,6 +63,7 @@ at_most_some : (z : ℤ) → (k : ℕ) × (z ≤ℤ pos k)
 at_most_some (pos n) = (n, omega (arith, ints))
 at_most_some (negsuc n) = (0, omega (arith, ints))
 
+-- a value above 0 outweighs what a small enough move takes from it
 outweighs : (b u w m : ℤ) (k n : ℕ) → pos 0 <ℤ u → pos 0 <ℤ w → pos 0 <ℤ m → (b *ℤ w) ≤ℤ pos k → (pos k *ℤ m) <ℤ (pos n *ℤ w) → pos 0 <ℤ (pos n *ℤ u -ℤ b *ℤ m)
 outweighs b u w m k n hu hw hm hk h = cancel_positive w (pos n *ℤ u -ℤ b *ℤ m) (weak w hw) (sum (w *ℤ (pos n *ℤ u -ℤ b *ℤ m)) ((pos n *ℤ w) *ℤ (u -ℤ pos 1)) (pos n *ℤ w -ℤ pos k *ℤ m) ((pos k -ℤ b *ℤ w) *ℤ m)
     (solve (b ∷ u ∷ w ∷ m ∷ pos k ∷ pos n ∷ []) (var 2 ⊗ (var 5 ⊗ var 1 ⊖ var 0 ⊗ var 3)) ((var 5 ⊗ var 2) ⊗ (var 1 ⊖ lit (pos 1)) ⊕ (var 5 ⊗ var 2 ⊖ var 4 ⊗ var 3) ⊕ (var 4 ⊖ var 0 ⊗ var 2) ⊗ var 3) tt)
@@ -79,6 +82,7 @@ outweighs b u w m k n hu hw hm hk h = cancel_positive w (pos n *ℤ u -ℤ b *�
     sum t x y z e h k l = omega (arith, ints)
 
 -- ---- off the edges
+-- near enough, the moved point is beyond a line that parts the edge from it, or off the slanted edge that it left
 off_near : (e : ℤ) (s : Point) → (e ≡ pos 0 → ⊥) → IsPoint s → (g : Edge) → IsSlant s g → Nearly e s.W (λ d n. on g (lifted d n s) ≡ false)
 off_near e s he hs g f = go (on g s) refl
   where
@@ -105,6 +109,7 @@ off_near e s he hs g f = go (on g s) refl
     go false h = beside (parted g s h)
 
 -- ---- what is above
+-- straight below and near enough, an edge is strictly above where it was at or above the point
 sinks_at : (g : Edge) (s : Point) → IsPoint s → Nearly down s.W (λ d n. strictly_above g (lifted d n s) ≡ at_or_above g s)
 sinks_at g s hs = go (spans g s) refl
   where
@@ -131,6 +136,7 @@ sinks_at g s hs = go (spans g s) refl
           (ap (λ (z : ℤ). int_lt z (pos 0)) (rightward_lifted (down *ℤ m) g n s) ∙ number (side_rightward g s) (breadth g) m k.0 n (breadth_positive g s hs h) hm k.1 l);
     }
 
+-- straight above and near enough, an edge is strictly above where it was strictly above the point
 rises_at : (g : Edge) (s : Point) → IsPoint s → Nearly (pos 1) s.W (λ d n. strictly_above g (lifted d n s) ≡ strictly_above g s)
 rises_at g s hs = go (spans g s) refl
   where
@@ -162,6 +168,7 @@ rises_at g s hs = go (spans g s) refl
     }
 
 -- ---- any point straight below or above is the point moved so
+-- its denominator is the n, and its difference in height the d
 same_moved : (t s : Point) (d : ℤ) (n : ℕ) → t.W ≡ pos n → t.X *ℤ s.W ≡ s.X *ℤ t.W → t.Y *ℤ s.W -ℤ s.Y *ℤ t.W ≡ d → same_point t (lifted d n s) ≡ true
 same_moved t s d n e f g = same_from t (lifted d n s)
     (solve (t.X ∷ s.W ∷ pos n ∷ []) (var 0 ⊗ (var 2 ⊗ var 1 ⊕ lit (pos 1) ⊗ lit (pos 0))) (var 2 ⊗ (var 0 ⊗ var 1)) tt ∙ ap₂ (λ (x y : ℤ). x *ℤ y) (sym e) f
@@ -174,6 +181,7 @@ record Kept (f h : Edge → Point → Bool) (g : Geometry) (s : Point) (d : ℤ)
   off : Each (λ e. on e (lifted d n s) ≡ false) (marks g g)
   alike : Each (λ e. f e (lifted d n s) ≡ h e s) (edges g)
 
+-- near enough all of it holds at once, the edges being finitely many
 kept_near : (e : ℤ) (f h : Edge → Point → Bool) (g : Geometry) (s : Point) → (e ≡ pos 0 → ⊥) → IsPoint s → Each (IsSlant s) (marks g g) → ((k : Edge) → Nearly e s.W (λ d n. f k (lifted d n s) ≡ h k s)) → Nearly e s.W (Kept f h g s)
 kept_near e f h g s he hs slant near = go (both_near e s.W (λ d n. Each (λ k. on k (lifted d n s) ≡ false) (marks g g)) (λ d n. Each (λ k. f k (lifted d n s) ≡ h k s) (edges g))
     (each_near e s.W (λ k d n. on k (lifted d n s) ≡ false) (marks g g) (each_map (IsSlant s) (λ k. Nearly e s.W (λ d n. on k (lifted d n s) ≡ false)) (marks g g) (off_near e s he hs) slant))
@@ -191,6 +199,8 @@ not_up e = omega (arith, ints)
 some_natural : (z : ℤ) (n : ℕ) → z ≡ pos n → pos 0 <ℤ z → 0 < n
 some_natural z n e h = omega (arith, ints)
 
+-- near enough, a point straight below or above is off all edges, so it stands by the parity above it,
+-- and that is the parity of the point's own lower or upper side
 pub all_near_stand : (g : Geometry) (s : Point) → IsPoint s → Each (IsSlant s) (marks g g) → AllNearStand g s
 all_near_stand g s hs h = go (kept_near down strictly_above at_or_above g s not_down hs h (λ k. sinks_at k s hs)) (kept_near (pos 1) strictly_above strictly_above g s not_up hs h (λ k. rises_at k s hs))
   where

@@ -23,6 +23,7 @@ lifted d n p = weighted n p 1 (record { X = pos 0; Y = d; W = pos 0 })
 natural : (n : ℕ) → 0 < n → pos 0 <ℤ pos n
 natural n h = omega (arith, ints)
 
+-- moved up or down it is a point
 pub lifted_is_point : (d : ℤ) (n : ℕ) (p : Point) → 0 < n → IsPoint p → IsPoint (lifted d n p)
 lifted_is_point d n p h hp = carried (pos n *ℤ p.W) (strict_plus_plus (pos n) p.W (natural n h) hp)
   where
@@ -30,6 +31,7 @@ lifted_is_point d n p h hp = carried (pos n *ℤ p.W) (strict_plus_plus (pos n) 
     carried x h = omega (arith, ints)
 
 -- ---- off the edges
+-- moving a point upwards changes its side by the breadth of the line
 pub side_lifted : (a b : Position) (d : ℤ) (n : ℕ) (p : Point) → side a b (lifted d n p) ≡ pos n *ℤ side a b p +ℤ d *ℤ (b.x -ℤ a.x)
 side_lifted a b d n p = solve (a.x ∷ a.y ∷ b.x ∷ b.y ∷ p.X ∷ p.Y ∷ p.W ∷ pos n ∷ d ∷ [])
     ((var 2 ⊖ var 0) ⊗ ((var 7 ⊗ var 5 ⊕ lit (pos 1) ⊗ var 8) ⊖ var 1 ⊗ (var 7 ⊗ var 6 ⊕ lit (pos 1) ⊗ lit (pos 0))) ⊖ (var 3 ⊖ var 1) ⊗ ((var 7 ⊗ var 4 ⊕ lit (pos 1) ⊗ lit (pos 0)) ⊖ var 0 ⊗ (var 7 ⊗ var 6 ⊕ lit (pos 1) ⊗ lit (pos 0))))
@@ -59,6 +61,7 @@ off_by_breadth d e n p hd h f = by_contraries (on e (lifted d n p)) false (λ k.
     apart : side e.start e.end (lifted d n p) ≡ pos 0 → ⊥
     apart g = pick (zero_product d (e.end.x -ℤ e.start.x) (drop (pos n) (side e.start e.end p) (d *ℤ (e.end.x -ℤ e.start.x)) (side e.start e.end (lifted d n p)) (side_lifted e.start e.end d n p) ((on_parts e p h).on_line) g))
 
+-- off an edge a line parts it from the point, and soon from the moved point
 off_by_line : (d : ℤ) (e : Edge) (p : Point) → IsPoint p → on e p ≡ false → Eventually (λ n. on e (lifted d n p) ≡ false)
 off_by_line d e p hp f = go (parted e p f)
   where
@@ -79,10 +82,12 @@ off_soon d e p hd hp s = go (on e p) refl
     go false h = off_by_line d e p hp h
 
 -- ---- what is above
+-- moving a point upwards leaves alone which positions are to the right of it
 reaches_lifted : (d : ℤ) (a : Position) (n : ℕ) (p : Point) → 0 < n → reaches a (lifted d n p) ≡ reaches a p
 reaches_lifted d a n p h = ap₂ int_le (solve (a.x ∷ pos n ∷ p.W ∷ []) (var 0 ⊗ (var 1 ⊗ var 2 ⊕ lit (pos 1) ⊗ lit (pos 0))) (var 1 ⊗ (var 0 ⊗ var 2)) tt) (solve (pos n ∷ p.X ∷ []) (var 0 ⊗ var 1 ⊕ lit (pos 1) ⊗ lit (pos 0)) (var 0 ⊗ var 1) tt)
     ∙ at_most_scaled (pos n) (a.x *ℤ p.W) p.X (natural n h)
 
+-- and so which edges span it
 pub spans_lifted : (d : ℤ) (e : Edge) (n : ℕ) (p : Point) → 0 < n → spans e (lifted d n p) ≡ spans e p
 spans_lifted d e n p h = ap₂ xor (reaches_lifted d e.start n p h) (reaches_lifted d e.end n p h)
 
@@ -90,6 +95,7 @@ spans_lifted d e n p h = ap₂ xor (reaches_lifted d e.start n p h) (reaches_lif
 abbrev pub breadth : Edge → ℤ
 breadth e = if int_le e.start.x e.end.x then e.end.x -ℤ e.start.x else e.start.x -ℤ e.end.x
 
+-- the side of an edge taken from left to right grows by the edge's breadth
 pub rightward_lifted : (d : ℤ) (e : Edge) (n : ℕ) (p : Point) → side_rightward e (lifted d n p) ≡ pos n *ℤ side_rightward e p +ℤ d *ℤ breadth e
 rightward_lifted d e n p = go (int_le e.start.x e.end.x)
   where
@@ -107,6 +113,7 @@ strict_order s t x w hw e f = cancel_positive w (t -ℤ s) (weak w hw) (apart (s
     apart : (s t x r : ℤ) → t -ℤ s ≡ r → s ≤ℤ x → x <ℤ t → pos 0 <ℤ r
     apart s t x r e h k = omega (arith, ints)
 
+-- the breadth is taken from the lesser x to the greater
 positive_breadth : (s t : ℤ) → (pos 0 <ℤ (t -ℤ s)) ⊎ (pos 0 <ℤ (s -ℤ t)) → pos 0 <ℤ (if int_le s t then t -ℤ s else s -ℤ t)
 positive_breadth s t h = go (int_le s t) refl h
   where
@@ -122,6 +129,7 @@ positive_breadth s t h = go (int_le s t) refl h
     go false e (inl k) = absurd (clash_back e k)
     go false e (inr k) = k
 
+-- one end isn't to the right of the point and the other is, so the edge has breadth
 pub breadth_positive : (e : Edge) (p : Point) → IsPoint p → spans e p ≡ true → pos 0 <ℤ breadth e
 breadth_positive e p hp h = positive_breadth e.start.x e.end.x (go (reaches e.start p) refl (reaches e.end p) refl h)
   where
@@ -135,6 +143,7 @@ breadth_positive e p hp h = positive_breadth e.start.x e.end.x (go (reaches e.st
 abbrev pub down : ℤ
 down = pos 0 -ℤ pos 1
 
+-- a little lower a side of at most 0 is below 0, and one above 0 is still above it
 sinks_number : (s d : ℤ) → pos 0 <ℤ d → Eventually (λ n. int_lt (pos n *ℤ s +ℤ down *ℤ d) (pos 0) ≡ int_le s (pos 0))
 sinks_number s d hd = go (at_most_or_less s (pos 0))
   where
@@ -152,6 +161,7 @@ sinks_number s d hd = go (at_most_or_less s (pos 0))
     go (inr h) = weaker (λ n. pos 0 <ℤ (pos n *ℤ s +ℤ (pos 0 -ℤ d))) (λ n. int_lt (pos n *ℤ s +ℤ down *ℤ d) (pos 0) ≡ int_le s (pos 0))
         (λ n k. less_no (pos n *ℤ s +ℤ down *ℤ d) (pos 0) (beyond (pos n *ℤ s) d k) ∙ sym (at_most_no s (pos 0) h)) (grows s (pos 0 -ℤ d) h)
 
+-- a little higher a side below 0 is still below 0, and one of at least 0 isn't below it
 rises_number : (s d : ℤ) → pos 0 <ℤ d → Eventually (λ n. int_lt (pos n *ℤ s +ℤ pos 1 *ℤ d) (pos 0) ≡ int_lt s (pos 0))
 rises_number s d hd = go (at_most_or_less (pos 0) s)
   where

@@ -21,9 +21,11 @@ and_from a b e f = ap₂ (λ (x y : Bool). x && y) e f
 pub same_x : (p q : Point) → same_point p q ≡ true → p.X *ℤ q.W ≡ q.X *ℤ p.W
 same_x p q e = equal_from (p.X *ℤ q.W) (q.X *ℤ p.W) ((and_parts (int_eq (p.X *ℤ q.W) (q.X *ℤ p.W)) (int_eq (p.Y *ℤ q.W) (q.Y *ℤ p.W)) e).0)
 
+-- and of y
 pub same_y : (p q : Point) → same_point p q ≡ true → p.Y *ℤ q.W ≡ q.Y *ℤ p.W
 same_y p q e = equal_from (p.Y *ℤ q.W) (q.Y *ℤ p.W) ((and_parts (int_eq (p.X *ℤ q.W) (q.X *ℤ p.W)) (int_eq (p.Y *ℤ q.W) (q.Y *ℤ p.W)) e).1)
 
+-- triples that agree in both coordinates, multiplied across, stand for one point
 pub same_from : (p q : Point) → p.X *ℤ q.W ≡ q.X *ℤ p.W → p.Y *ℤ q.W ≡ q.Y *ℤ p.W → same_point p q ≡ true
 same_from p q e f = and_from (int_eq (p.X *ℤ q.W) (q.X *ℤ p.W)) (int_eq (p.Y *ℤ q.W) (q.Y *ℤ p.W)) (equal_yes (p.X *ℤ q.W) (q.X *ℤ p.W) e) (equal_yes (p.Y *ℤ q.W) (q.Y *ℤ p.W) f)
 

@@ -19,6 +19,7 @@ use Rattle.integers.proofs.Ring.{solve, var, lit, ◌⊕◌, ◌⊖◌, ◌⊗�
 use Rattle.integers.proofs.Signs.{strict_plus_plus, plus_plus}
 use Rattle.geometry_laws.proofs.Nudge.{lifted, lifted_is_point, IsSlant, off_soon, down, sinks, rises}
 
+-- where just the edges at or above s are strictly above t, what is above t is what is below s
 pub below_from : (g : Geometry) (s t : Point) → Each (λ e. strictly_above e t ≡ at_or_above e s) (edges g) → above g t ≡ below g s
 below_from (Geometry.Point o) s t h = refl
 below_from (Geometry.MultiPoint qs) s t h = refl
@@ -27,6 +28,7 @@ below_from (Geometry.MultiLineString ls) s t h = refl
 below_from (Geometry.Polygon rs) s t h = ap (λ (b : Bool). if b then Interior else Exterior) (parity_of_rings rs t ∙ same_parity (λ e. strictly_above e t) (λ e. at_or_above e s) (edges_of_lines rs) h ∙ sym (odd_count (λ e. at_or_above e s) (edges_of_lines rs)))
 below_from (Geometry.MultiPolygon es) s t h = ap (λ (b : Bool). if b then Interior else Exterior) (parity_of_rings (joined_rings es) t ∙ same_parity (λ e. strictly_above e t) (λ e. at_or_above e s) (edges_of_lines (joined_rings es)) h ∙ sym (odd_count (λ e. at_or_above e s) (edges_of_lines (joined_rings es))))
 
+-- where just the edges strictly above s are strictly above t, what is above t is what is above s
 pub above_from : (g : Geometry) (s t : Point) → Each (λ e. strictly_above e t ≡ strictly_above e s) (edges g) → above g t ≡ above g s
 above_from (Geometry.Point o) s t h = refl
 above_from (Geometry.MultiPoint qs) s t h = refl
@@ -47,6 +49,7 @@ pub record Moved (least : ℕ) (d : ℤ) (f g : Edge → Point → Bool) (ms es 
   pub off : Each (λ e. on e (lifted d n s) ≡ false) ms
   pub alike : Each (λ e. f e (lifted d n s) ≡ g e s) es
 
+-- for some n, as great as asked for, the moved point is off all marks, and f answers there as g does at s
 moved_soon : (least : ℕ) (d : ℤ) (f g : Edge → Point → Bool) (ms es : List Edge) (s : Point) → (d ≡ pos 0 → ⊥) → IsPoint s → Each (IsSlant s) ms → ((e : Edge) → Eventually (λ n. f e (lifted d n s) ≡ g e s)) → (n : ℕ) × Moved least d f g ms es s n
 moved_soon least d f g ms es s hd hs h k = go
     (both (λ n. Each (λ e. on e (lifted d n s) ≡ false) ms) (λ n. Each (λ e. f e (lifted d n s) ≡ g e s) es)
@@ -85,6 +88,7 @@ upper_triangle a b ca cb s hs h = go (moved_soon 0 (pos 1) strictly_above strict
         (above_from b s (lifted (pos 1) r.0 s) (each_right (λ e. strictly_above e (lifted (pos 1) r.0 s) ≡ strictly_above e s) (edges a) (edges b) ((r.1).alike)))
 
 -- ---- straight below and straight above
+-- a point moved up or down stays on its upright line
 straight_lifted : (d : ℤ) (n : ℕ) (s : Point) → (lifted d n s).X *ℤ s.W ≡ s.X *ℤ (lifted d n s).W
 straight_lifted d n s = solve (s.X ∷ s.W ∷ pos n ∷ []) ((var 2 ⊗ var 0 ⊕ lit (pos 1) ⊗ lit (pos 0)) ⊗ var 1) (var 0 ⊗ (var 2 ⊗ var 1 ⊕ lit (pos 1) ⊗ lit (pos 0))) tt
 
@@ -113,6 +117,7 @@ nearer k n w h hw = from (pos k *ℤ w) ((pos n *ℤ w) *ℤ w) (w *ℤ ((pos n 
     sum : (s t : ℤ) → pos 0 <ℤ s → pos 0 ≤ℤ t → pos 0 <ℤ (s +ℤ t)
     sum s t h k = omega (arith, ints)
 
+-- moved down with an n greater than k it is straight below, nearer than 1/k
 just_below : (k n : ℕ) (s : Point) → IsPoint s → k < n → IsJustBelow k (lifted down n s) s
 just_below k n s hs h = record {
   straight = straight_lifted down n s;
@@ -131,6 +136,7 @@ just_below k n s hs h = record {
     close : (a b c d : ℤ) → a ≡ b → c ≡ d → b <ℤ d → a <ℤ c
     close a b c d e f h = omega (arith, ints)
 
+-- and moved up it is straight above, as near
 just_above : (k n : ℕ) (s : Point) → IsPoint s → k < n → IsJustBelow k s (lifted (pos 1) n s)
 just_above k n s hs h = record {
   straight = sym (straight_lifted (pos 1) n s);
@@ -149,6 +155,7 @@ just_above k n s hs h = record {
     close : (a b c d : ℤ) → a ≡ b → c ≡ d → b <ℤ d → a <ℤ c
     close a b c d e f h = omega (arith, ints)
 
+-- so on either side some moved point is near enough, off all edges, and stands as the side says
 pub near_sides : (g : Geometry) (s : Point) → IsPoint s → Each (IsSlant s) (marks g g) → (k : ℕ) → NearSides g s k
 near_sides g s hs h k = go (moved_soon k down strictly_above at_or_above (marks g g) (edges g) s not_zero_down hs h (λ e. sinks e s hs)) (moved_soon k (pos 1) strictly_above strictly_above (marks g g) (edges g) s not_zero_one hs h (λ e. rises e s hs))
   where

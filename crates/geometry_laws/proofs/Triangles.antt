@@ -27,9 +27,11 @@ dot a = record { start = a; end = a }
 abbrev pub dots : List Position → List Edge
 dots ps = map dot ps
 
+-- a point off the dot of a position isn't at the position
 dot_off : (a : Position) (p : Point) → IsPoint p → on (dot a) p ≡ false → stands_at p a ≡ false
 dot_off a p hp h = by_contraries (stands_at p a) (on (dot a) p) (start_is_on (dot a) p hp) h
 
+-- a sum of one number with itself, over the sum of the weights, is that number
 pub dot_coordinate : (k m n a x w : ℤ) → pos 0 <ℤ k → k *ℤ x ≡ m *ℤ a +ℤ n *ℤ a → k *ℤ w ≡ m +ℤ n → a *ℤ w ≡ x *ℤ pos 1
 dot_coordinate k m n a x w h e f = same (a *ℤ w) (x *ℤ pos 1) (cancel_zero k (a *ℤ w -ℤ x *ℤ pos 1) h
     (solve (k ∷ a ∷ x ∷ w ∷ []) (var 0 ⊗ (var 1 ⊗ var 3 ⊖ var 2 ⊗ lit (pos 1))) (var 1 ⊗ (var 0 ⊗ var 3) ⊖ var 0 ⊗ var 2) tt
@@ -52,16 +54,19 @@ marks a b = edges_of_both a b ++ dots (listed a ++ listed b)
 abbrev OffAll : List Edge → Point → Type 0
 OffAll es p = Each (λ e. on e p ≡ false) es
 
+-- so a point off all dots is at none of the positions
 dots_off : (ps : List Position) (p : Point) → IsPoint p → OffAll (dots ps) p → Each (λ a. stands_at p a ≡ false) ps
 dots_off [] p hp h = tt
 dots_off (a ∷ ps) p hp h = (dot_off a p hp h.0, dots_off ps p hp h.1)
 
+-- a point off all marks of two geometries is off the first
 pub off_first : (a b : Geometry) (p : Point) → IsPoint p → OffAll (marks a b) p → Off a p
 off_first a b p hp h = record {
   edges_off = each_left (λ e. on e p ≡ false) (edges a) (edges b) (each_left (λ e. on e p ≡ false) (edges_of_both a b) (dots (listed a ++ listed b)) h);
   listed_off = each_left (λ q. stands_at p q ≡ false) (listed a) (listed b) (dots_off (listed a ++ listed b) p hp (each_right (λ e. on e p ≡ false) (edges_of_both a b) (dots (listed a ++ listed b)) h));
 }
 
+-- and off the second
 pub off_second : (a b : Geometry) (p : Point) → IsPoint p → OffAll (marks a b) p → Off b p
 off_second a b p hp h = record {
   edges_off = each_right (λ e. on e p ≡ false) (edges a) (edges b) (each_left (λ e. on e p ≡ false) (edges_of_both a b) (dots (listed a ++ listed b)) h);
@@ -69,6 +74,7 @@ off_second a b p hp h = record {
 }
 
 -- ---- the parity of a geometry's rings along a stretch that misses its edges
+-- other types have no rings; an area's parity is the same at both ends of the stretch
 pub above_kept : (g : Geometry) (p z : Point) → IsPoint p → IsPoint z → Each IsClosed (rings g) → Each (Misses p z) (edges g) → above g p ≡ above g z
 above_kept (Geometry.Point o) p z hp hz c h = refl
 above_kept (Geometry.MultiPoint ps) p z hp hz c h = refl
@@ -78,6 +84,8 @@ above_kept (Geometry.Polygon rs) p z hp hz c h = ap (λ (t : Bool). if t then In
 above_kept (Geometry.MultiPolygon es) p z hp hz c h = ap (λ (t : Bool). if t then Interior else Exterior) (parity_by_missing (joined_rings es) p z hp hz c h)
 
 -- ---- the triangle
+-- a small triangle at the point misses all marks, so its points stand by the parity above them,
+-- which no stretch from the point changes
 pub triangle_of_off : (a b : Geometry) (p : Point) (l k : Location) → Each IsClosed (rings a) → Each IsClosed (rings b) → IsPoint p → OffAll (marks a b) p → above a p ≡ l → above b p ≡ k → HasTriangle (common a l b k)
 triangle_of_off a b p l k ca cb hp h e f = go (box p (marks a b) hp h)
   where

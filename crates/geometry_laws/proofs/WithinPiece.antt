@@ -31,9 +31,11 @@ use Rattle.geometry_laws.proofs.LineOrder.{up, Lex, lex_of_less, lex_weak, IsSum
 use Rattle.geometry_laws.proofs.Cuts.{Ends, contains_of_among, OneLine, one_line, off_within, rightward_on_line, step_within, same_on, Apart, apart, start_is_cut, end_is_cut, inside_on_line, hull_of_start, hull_of_end, or_first, or_last}
 
 -- ---- what stands at a point within
+-- a listed position is a cut, so none stands at a point strictly within a piece
 pub no_position_within : (es : List Edge) (ps : List Position) (c : Piece) (h : IsPiece es ps c) (x : Point) → Inside es ps c h x → (a : Position) → Among a ps → stands_at x a ≡ false
 no_position_within es ps c h x i a m = by_contraries (stands_at x a) false (λ k. absurd (h.neighbours x i.is_point i.is_on (Listed i.is_point a (contains_of_among a ps m) k) i.after i.before)) refl
 
+-- and so is an end of an edge
 no_end_within : (es : List Edge) (ps : List Position) (c : Piece) (h : IsPiece es ps c) (x : Point) → Inside es ps c h x → (g : Edge) → Among g es → (stands_at x g.start ≡ false) × (stands_at x g.end ≡ false)
 no_end_within es ps c h x i g m = (
   by_contraries (stands_at x g.start) false (λ k. absurd (h.neighbours x i.is_point i.is_on (AtEnd i.is_point g (contains_of_among g es m) (or_first (stands_at x g.start) (stands_at x g.end) k)) i.after i.before)) refl,
@@ -46,21 +48,27 @@ pub record Belongs (es : List Edge) (ps : List Position) (g : Geometry) : Type 0
   pub position : (a : Position) → Among a (listed g) → Among a ps
 
 -- ---- where two points within stand
+-- so a point within a piece is exterior to point types
 points_within : (es : List Edge) (ps : List Position) (c : Piece) (h : IsPiece es ps c) (x : Point) → Inside es ps c h x → (qs : List Position) → ((a : Position) → Among a qs → Among a ps) → in_points qs x ≡ Exterior
 points_within es ps c h x i qs f = ap (λ (t : Bool). if t then Interior else Exterior) (none_passes (stands_at x) qs (each_of (λ a. stands_at x a ≡ false) qs (λ a m. no_position_within es ps c h x i a (f a m))))
 
+-- lines and rings hold both points or neither, as each of their edges does
 on_some_within : (es : List Edge) (ps : List Position) (c : Piece) (h : IsPiece es ps c) → Ends c → (x y : Point) → Inside es ps c h x → Inside es ps c h y → (ls : List (List Position)) → ((e : Edge) → Among e (edges_of_lines ls) → Among e es) → on_some ls x ≡ on_some ls y
 on_some_within es ps c h d x y i j ls f = same_any (λ e. on e x) (λ e. on e y) (edges_of_lines ls) (each_of (λ e. on e x ≡ on e y) (edges_of_lines ls) (λ e m. same_on es ps c h d e x y (f e m) i j))
 
+-- no end of an edge is at a point within, so the number of the lines' ends there is even
 ends_within : (es : List Edge) (ps : List Position) (c : Piece) (h : IsPiece es ps c) (x : Point) → Inside es ps c h x → (ls : List (List Position)) → ((e : Edge) → Among e (edges_of_lines ls) → Among e es) → odd (count_by (stands_at x) (flat_map ends ls)) ≡ false
 ends_within es ps c h x i ls f = odd_count (stands_at x) (flat_map ends ls) ∙ all_ends_even ls x (each_of (λ e. (stands_at x e.start ≡ false) × (stands_at x e.end ≡ false)) (edges_of_lines ls) (λ e m. no_end_within es ps c h x i e (f e m)))
 
+-- so both points stand alike in lines
 lines_within : (es : List Edge) (ps : List Position) (c : Piece) (h : IsPiece es ps c) → Ends c → (x y : Point) → Inside es ps c h x → Inside es ps c h y → (ls : List (List Position)) → ((e : Edge) → Among e (edges_of_lines ls) → Among e es) → in_lines ls x ≡ in_lines ls y
 lines_within es ps c h d x y i j ls f = ap₂ (λ (s t : Bool). if s then Boundary else if t then Interior else Exterior) (ends_within es ps c h x i ls f ∙ sym (ends_within es ps c h y j ls f)) (on_some_within es ps c h d x y i j ls f)
 
+-- from one point within to another each edge adds what its ends add, so the parity above is kept
 pub odd_within : (es : List Edge) (ps : List Position) (c : Piece) (h : IsPiece es ps c) → Ends c → (x y : Point) → Inside es ps c h x → Inside es ps c h y → (rs : List (List Position)) → Each IsClosed rs → ((e : Edge) → Among e (edges_of_lines rs) → Among e es) → odd_above rs x ≡ odd_above rs y
 odd_within es ps c h d x y i j rs k f = parity_by_steps rs x y k (each_of (Step x y) (edges_of_lines rs) (λ e m. step_within es ps c h d e x y (f e m) i j))
 
+-- so two points within a piece stand alike in a geometry of closed rings whose edges and positions are among those cut
 pub locate_within : (es : List Edge) (ps : List Position) (c : Piece) (h : IsPiece es ps c) → Ends c → (x y : Point) → Inside es ps c h x → Inside es ps c h y → (g : Geometry) → Each IsClosed (rings g) → Belongs es ps g → locate g x ≡ locate g y
 locate_within es ps c h d x y i j (Geometry.Point o) k b = points_within es ps c h x i (option_to_list o) b.position ∙ sym (points_within es ps c h y j (option_to_list o) b.position)
 locate_within es ps c h d x y i j (Geometry.MultiPoint qs) k b = points_within es ps c h x i qs b.position ∙ sym (points_within es ps c h y j qs b.position)
@@ -73,6 +81,7 @@ locate_within es ps c h d x y i j (Geometry.MultiPolygon qs) k b = ap₂ (λ (s 
 abbrev pub touches : Edge → Point → Bool
 touches e p = spans e p && int_eq (side_rightward e p) (pos 0)
 
+-- at most 0 is below 0 or equal to it, and not both
 le_is : (s : ℤ) → int_le s (pos 0) ≡ xor (int_lt s (pos 0)) (int_eq s (pos 0))
 le_is s = go (three_ways s (pos 0))
   where
@@ -99,6 +108,7 @@ le_is s = go (three_ways s (pos 0))
     go (inr (inl h)) = at_most_yes s (pos 0) (equal h) ∙ sym (ap₂ xor (less_no s (pos 0) (equal_back h)) (equal_yes s (pos 0) h))
     go (inr (inr h)) = at_most_no s (pos 0) h ∙ sym (ap₂ xor (less_no s (pos 0) (weak_back h)) (equal_no s (pos 0) (more_apart h)))
 
+-- an edge is at or above a point where it is strictly above it or touches it, and not both
 pub at_or_above_is : (e : Edge) (p : Point) → at_or_above e p ≡ xor (strictly_above e p) (touches e p)
 at_or_above_is e p = ap (λ (t : Bool). spans e p && t) (le_is (side_rightward e p)) ∙ over (spans e p) (int_lt (side_rightward e p) (pos 0)) (int_eq (side_rightward e p) (pos 0))
   where
@@ -123,6 +133,7 @@ sum_rightward u v x h k l a = record {
     weak : (s : ℤ) → pos 0 <ℤ s → pos 0 ≤ℤ s
     weak s h = omega (arith, ints)
 
+-- an edge that touches a point is on it: the point is between its ends, and on its line
 pub on_from_touch : (g : Edge) (x : Point) → IsPoint x → touches g x ≡ true → on g x ≡ true
 on_from_touch g x hx f = go (position_reaches g.start x) refl (position_reaches g.end x) refl (both.0)
   where
@@ -155,6 +166,7 @@ on_from_touch g x hx f = go (position_reaches g.start x) refl (position_reaches 
     go false s false t k = absurd (let z : false ≡ true = sym (ap₂ xor s t) ∙ k in cc)
 
 -- ---- on a line that isn't upright a later point is to the right
+-- between two points of a line the rise, times the line's breadth, is its height times the run, up to their sides
 by_slope : (a b : Position) (p q : Point) → (b.x -ℤ a.x) *ℤ up p q ≡ (b.y -ℤ a.y) *ℤ right p q +ℤ (side a b q *ℤ p.W -ℤ side a b p *ℤ q.W)
 by_slope a b p q = solve (a.x ∷ a.y ∷ b.x ∷ b.y ∷ p.X ∷ p.Y ∷ p.W ∷ q.X ∷ q.Y ∷ q.W ∷ [])
     ((var 2 ⊖ var 0) ⊗ (var 8 ⊗ var 6 ⊖ var 5 ⊗ var 9))
@@ -162,6 +174,7 @@ by_slope a b p q = solve (a.x ∷ a.y ∷ b.x ∷ b.y ∷ p.X ∷ p.Y ∷ p.W �
     ⊕ (((var 2 ⊖ var 0) ⊗ (var 8 ⊖ var 1 ⊗ var 9) ⊖ (var 3 ⊖ var 1) ⊗ (var 7 ⊖ var 0 ⊗ var 9)) ⊗ var 6
     ⊖ ((var 2 ⊖ var 0) ⊗ (var 5 ⊖ var 1 ⊗ var 6) ⊖ (var 3 ⊖ var 1) ⊗ (var 4 ⊖ var 0 ⊗ var 6)) ⊗ var 9)) tt
 
+-- a later point straight above would make the line upright
 pub strictly_right : (a b : Position) (p q : Point) → (a.x ≡ b.x → ⊥) → side a b p ≡ pos 0 → side a b q ≡ pos 0 → compare p q ≡ Less → pos 0 <ℤ right p q
 strictly_right a b p q f s t l = go (lex_of_less p q l)
   where
@@ -203,19 +216,23 @@ slant_edge es ps c h d f e = not_equal_from (c.lesser.X *ℤ c.greater.W) (c.gre
         ∙ sym (turned c.greater.X c.greater.W c.lesser.W h.edge.start.x t)
 
 -- ---- edges go through all points within the piece or none
+-- a position isn't to the right of a point that is at least 0 to its own right
 reaches_yes : (a : Position) (x : Point) → pos 0 ≤ℤ right (point_at a) x → position_reaches a x ≡ true
 reaches_yes a x h = reaches_is a x ∙ at_most_yes (pos 0) (right (point_at a) x) h
 
+-- and it is to the right of one that is to its left
 reaches_no : (a : Position) (x : Point) → pos 0 <ℤ right x (point_at a) → position_reaches a x ≡ false
 reaches_no a x h = reaches_is a x ∙ at_most_no (pos 0) (right (point_at a) x) (turned (right x (point_at a)) (right (point_at a) x) (right_turned x (point_at a)) h)
   where
     turned : (s t : ℤ) → t ≡ pos 0 -ℤ s → pos 0 <ℤ s → t <ℤ pos 0
     turned s t e h = omega (arith, ints)
 
+-- an end of an edge on the line is to the right of both points within or of neither, being after both or before both
 same_reach : (es : List Edge) (ps : List Position) (c : Piece) (h : IsPiece es ps c) → (h.edge.start.x ≡ h.edge.end.x → ⊥) → (a : Position) (x y : Point) → side h.edge.start h.edge.end (point_at a) ≡ pos 0 → Inside es ps c h x → Inside es ps c h y → Apart (point_at a) x y → position_reaches a x ≡ position_reaches a y
 same_reach es ps c h f a x y s i j (inl k) = reaches_yes a x (lex_weak (right (point_at a) x) (up (point_at a) x) (lex_of_less (point_at a) x k.0)) ∙ sym (reaches_yes a y (lex_weak (right (point_at a) y) (up (point_at a) y) (lex_of_less (point_at a) y k.1)))
 same_reach es ps c h f a x y s i j (inr k) = reaches_no a x (strictly_right h.edge.start h.edge.end x (point_at a) f (inside_on_line es ps c h x i) s k.0) ∙ sym (reaches_no a y (strictly_right h.edge.start h.edge.end y (point_at a) f (inside_on_line es ps c h y j) s k.1))
 
+-- so an edge touches both or neither
 pub same_touches : (es : List Edge) (ps : List Position) (c : Piece) (h : IsPiece es ps c) → Ends c → (h.edge.start.x ≡ h.edge.end.x → ⊥) → (g : Edge) (x y : Point) → Among g es → Inside es ps c h x → Inside es ps c h y → touches g x ≡ touches g y
 same_touches es ps c h d f g x y a i j = decide (on_one_line h.edge g) refl
   where
@@ -234,16 +251,19 @@ same_touches es ps c h d f g x y a i j = decide (on_one_line h.edge g) refl
     decide false e = none x i e ∙ sym (none y j e)
 
 -- ---- the sides
+-- the parity at or above differs from the one strictly above by the parity of the edges that touch the point
 pub parity_at_or_above : (rs : List (List Position)) (p : Point) → odd_at_or_above rs p ≡ xor (odd_above rs p) (parity (λ e. touches e p) (edges_of_lines rs))
 parity_at_or_above rs p = odd_count (λ e. at_or_above e p) (edges_of_lines rs)
     ∙ same_parity (λ e. at_or_above e p) (λ e. xor (strictly_above e p) (touches e p)) (edges_of_lines rs) (each_of (λ e. at_or_above e p ≡ xor (strictly_above e p) (touches e p)) (edges_of_lines rs) (λ e m. at_or_above_is e p))
     ∙ parity_xor (λ e. strictly_above e p) (λ e. touches e p) (edges_of_lines rs)
     ∙ ap (λ (t : Bool). xor t (parity (λ e. touches e p) (edges_of_lines rs))) (sym (parity_of_rings rs p))
 
+-- so within a piece that isn't upright it is kept as well
 pub odd_at_or_above_within : (es : List Edge) (ps : List Position) (c : Piece) (h : IsPiece es ps c) → Ends c → (h.edge.start.x ≡ h.edge.end.x → ⊥) → (x y : Point) → Inside es ps c h x → Inside es ps c h y → (rs : List (List Position)) → Each IsClosed rs → ((e : Edge) → Among e (edges_of_lines rs) → Among e es) → odd_at_or_above rs x ≡ odd_at_or_above rs y
 odd_at_or_above_within es ps c h d s x y i j rs k f = parity_at_or_above rs x ∙ ap₂ xor (odd_within es ps c h d x y i j rs k f)
     (same_parity (λ e. touches e x) (λ e. touches e y) (edges_of_lines rs) (each_of (λ e. touches e x ≡ touches e y) (edges_of_lines rs) (λ e m. same_touches es ps c h d s e x y (f e m) i j))) ∙ sym (parity_at_or_above rs y)
 
+-- what is just above is the same at all points within a piece
 pub above_within : (es : List Edge) (ps : List Position) (c : Piece) (h : IsPiece es ps c) → Ends c → (x y : Point) → Inside es ps c h x → Inside es ps c h y → (g : Geometry) → Each IsClosed (rings g) → Belongs es ps g → above g x ≡ above g y
 above_within es ps c h d x y i j (Geometry.Point o) k b = refl
 above_within es ps c h d x y i j (Geometry.MultiPoint qs) k b = refl
@@ -252,6 +272,7 @@ above_within es ps c h d x y i j (Geometry.MultiLineString ls) k b = refl
 above_within es ps c h d x y i j (Geometry.Polygon rs) k b = ap (λ (t : Bool). if t then Interior else Exterior) (odd_within es ps c h d x y i j rs k b.edge)
 above_within es ps c h d x y i j (Geometry.MultiPolygon qs) k b = ap (λ (t : Bool). if t then Interior else Exterior) (odd_within es ps c h d x y i j (joined_rings qs) k b.edge)
 
+-- and what is just below, where the piece isn't upright
 pub below_within : (es : List Edge) (ps : List Position) (c : Piece) (h : IsPiece es ps c) → Ends c → (h.edge.start.x ≡ h.edge.end.x → ⊥) → (x y : Point) → Inside es ps c h x → Inside es ps c h y → (g : Geometry) → Each IsClosed (rings g) → Belongs es ps g → below g x ≡ below g y
 below_within es ps c h d s x y i j (Geometry.Point o) k b = refl
 below_within es ps c h d s x y i j (Geometry.MultiPoint qs) k b = refl

@@ -14,10 +14,12 @@ abbrev pub AsciiWords : List Token → Type 0
 AsciiWords [] = Unit {0}
 AsciiWords (t ∷ ts) = (t.kind ≡ k.Word → is_ascii t.text ≡ true) × AsciiWords ts
 
+-- where the words of tokens are ASCII, so are those of a front of them
 pub words_before : (a b : List Token) → AsciiWords (a ++ b) → AsciiWords a
 words_before [] b h = tt
 words_before (t ∷ a) b h = (h.0, words_before a b h.1)
 
+-- and those of the tokens behind it
 pub words_behind : (a b : List Token) → AsciiWords (a ++ b) → AsciiWords b
 words_behind [] b h = h
 words_behind (t ∷ a) b h = words_behind a b h.1
@@ -28,9 +30,11 @@ one_of : (a b : Bool) → (a || b) ≡ true → (a ≡ true) ⊎ (b ≡ true)
 one_of true b h = inl refl
 one_of false b h = inr h
 
+-- the bytes up to one below 128 are ASCII
 in_range : (low high b : ℕ) → high < 128 → is_in_range low high b ≡ true → b < 128
 in_range low high b few h = omega (arith, leb-true b high (and_parts _ _ h).1)
 
+-- letters are ASCII, and so are all bytes that begin a word or go on with it: _ and the digits
 letter : (b : ℕ) → is_ascii_alphabetic b ≡ true → b < 128
 letter b h = elim (one_of _ _ h) [ inl upper ↦ in_range 65 90 b (omega arith) upper | inr lower ↦ in_range 97 122 b (omega arith) lower ]
 
@@ -47,19 +51,23 @@ one_more b z n true h rest =
     let more : 1 + n ≡ suc n = omega arith in
     rw (more, lt-ltb b 128 (h refl), rest) refl
 
+-- the bytes at the front of a text that a word consists of are ASCII, one by one
 word_ascii : (z : List ℕ) → is_ascii (take (prefix_len continues_word z) z) ≡ true
 word_ascii [] = refl
 word_ascii (b ∷ z) = one_more b z (prefix_len continues_word z) (continues_word b) (continues_ascii b) (word_ascii z)
 
 -- ---- the kinds of token
 
+-- a choice between two kinds that aren't a word isn't one
 either_sized : (b : Bool) (x y : TokenKind × ℕ) → (x.0 ≡ k.Word → ⊥) → (y.0 ≡ k.Word → ⊥) → (cond b x y).0 ≡ k.Word → ⊥
 either_sized true x y p q = p
 either_sized false x y p q = q
 
+-- no symbol of one byte is a word
 one_other : (b : ℕ) → symbol_of_one b ≡ k.Word → ⊥
 one_other b = λ e. grind arith
 
+-- no symbol is a word, of two bytes or of one
 symbol_other : (b next : ℕ) → (symbol b next).0 ≡ k.Word → ⊥
 unfolding symbol
 symbol_other b next =
@@ -72,6 +80,7 @@ symbol_other b next =
     (either_sized (b == 62 && next == 61) (k.GreaterOrEqual, 2) differs (λ e. cc)
     (either_sized (b == 33 && next == 61) (k.NotEqual, 2) one (λ e. cc) (one_other b))))
 
+-- a string is Text, or Bad where it isn't closed: never a word
 string_other : (end : Option ℕ) → (string_to end).0 ≡ k.Word → ⊥
 string_other None = λ e. cc
 string_other (Some n) = λ e. cc
@@ -85,6 +94,7 @@ either_found : (z : List ℕ) (b : Bool) (x y : Option TokenKind × ℕ) → IfW
 either_found z true x y p q = p
 either_found z false x y p q = q
 
+-- case by case, blank, comment, word, digits, string or symbol: only the third may be a word, and its bytes are ASCII
 front_ascii : (s : Bool) (z : List ℕ) → IfWord z (front s z).0 (front s z).1
 unfolding front
 front_ascii s z =
@@ -103,10 +113,12 @@ front_ascii s z =
     (either_found z (is_ascii_digit first) digits last (λ e. cc)
     (either_found z (s && first == 39) found one (λ e. absurd (string_other (closing 1 false (drop 1 z)) e)) (λ e. absurd (symbol_other first (slice_index z 1) e))))))
 
+-- a word's text is all its bytes: only a string's leaves its quotes out
 text_of_word : (kind : TokenKind) (len : ℕ) (z : List ℕ) → kind ≡ k.Word → text_of kind len z ≡ take len z
 unfolding same_kind
 text_of_word kind len z e = rw e refl
 
+-- a token put before others: its text is ASCII where it is a word, and theirs stays so
 at_front_ascii : (found : Option TokenKind) (len at : ℕ) (z : List ℕ) (more : List Token) → IfWord z found len → AsciiWords more → AsciiWords (at_front found len at z more)
 at_front_ascii None len at z more word words = words
 at_front_ascii (Some kind) len at z more word words = ((λ e. ap is_ascii (text_of_word kind len z e) ∙ word e), go (same_kind kind k.Bad))
@@ -115,6 +127,7 @@ at_front_ascii (Some kind) len at z more word words = ((λ e. ap is_ascii (text_
     go true = tt
     go false = words
 
+-- byte by byte: the rest of a token that began before is passed over, and what begins here is put in front
 tokens_from_ascii : (s : Bool) (left at : ℕ) (z : List ℕ) → AsciiWords (tokens_from s left at z)
 tokens_from_ascii s left at [] = ((λ e. cc), tt)
 tokens_from_ascii s (suc left) at (b ∷ z) = tokens_from_ascii s left (at + 1) z

@@ -54,6 +54,7 @@ abbrev pub IfRead : {A : Type 0} → Outcome SchemaFault A → (A → Type 0) �
 IfRead (Ok p) Q = Q p.0
 IfRead (Err e) Q = Unit {0}
 
+-- what two readers in a row read, from what is known of the first's answer; a fault has nothing to show
 then_read : {A B : Type 0} (r : Outcome SchemaFault A) (f : A → Parser SchemaFault B) (Q : A → Type 0) (R : B → Type 0)
     → ((x : A) (ts : List Token) → Q x → IfRead (f x ts) R) → IfRead r Q → IfRead (and_then r f) R
 then_read (Ok p) f Q R step h = step p.0 p.1 h
@@ -83,6 +84,7 @@ new_name-read full taken ts = go _ full taken
 abbrev IsKeyType : {T : Type 0} → ColumnType T → Bool → Type 0
 IsKeyType type is_key = is_key ≡ true → is_integer type ≡ true
 
+-- PRIMARY KEY is read on INTEGER columns alone: on another it is refused
 key_mark-read : {T : Type 0} (has_key : Bool) (type : ColumnType T) (ts : List Token) → IfRead (key_mark has_key type ts) (IsKeyType type)
 unfolding key_mark
 key_mark-read has_key type ts = go _ (is_integer type) has_key refl
@@ -109,6 +111,7 @@ marks_from_key has_key type before = do
 abbrev AreMarks : {T : Type 0} → ColumnType T → Bool × Bool → Type 0
 AreMarks type m = IsKeyType type m.1
 
+-- whatever marks are read, with PRIMARY KEY among them the column is INTEGER
 marks-read : {T : Type 0} (has_key : Bool) (type : ColumnType T) (ts : List Token) → IfRead (marks has_key type ts) (AreMarks type)
 unfolding marks
 marks-read has_key type ts =
@@ -139,6 +142,7 @@ column_typed geometry has_key name = do
 abbrev IsNewName : {T : Type 0} → List (ColumnDef T) → List Token → List ℕ → Type 0
 IsNewName found ts name = (nat_le 32 (length found) ≡ false) × (has_column found (spelling ts) ≡ false) × (name ≡ spelling ts)
 
+-- a column that is read is one of at most 32, has a name that none before it has, and is INTEGER where it is the key
 column-read : {T : Type 0} (geometry : List ℕ → Option T) (found : List (ColumnDef T)) (has_key : Bool) (ts : List Token) → IfRead (column geometry found has_key ts) (IsNext found)
 unfolding column
 column-read geometry found has_key ts =
@@ -166,18 +170,22 @@ may_be_key-append [] more place h = absurd (false≢true h)
 may_be_key-append (c ∷ found) more zero h = h
 may_be_key-append (c ∷ found) more (suc place) h = may_be_key-append found more place h
 
+-- an INTEGER column put behind others may be the key, at the place behind theirs
 may_be_key-last : {T : Type 0} (found : List (ColumnDef T)) (c : ColumnDef T) → is_integer c.column_type ≡ true → may_be_key (slice_get (found ++ c ∷ []) (length found)) ≡ true
 may_be_key-last [] c h = h
 may_be_key-last (x ∷ found) c h = may_be_key-last found c h
 
+-- after one more column the key is that of before, or this column, which is INTEGER then
 IsKey-after : {T : Type 0} (found : List (ColumnDef T)) (key : Option ℕ) (c : ColumnDef T) (is_key : Bool) → IsKey found key → IsKeyType c.column_type is_key → IsKey (found ++ c ∷ []) (key_after key (length found) is_key)
 IsKey-after found key c true keyed is = may_be_key-last found c (is refl)
 IsKey-after found None c false keyed is = tt
 IsKey-after found (Some place) c false keyed is = may_be_key-append found (c ∷ []) place keyed
 
+-- whether a column has a name is whether the name is among theirs
 has_column-names : {T : Type 0} (found : List (ColumnDef T)) (name : List ℕ) → list_any (λ n. same_name n name) (column_names found) ≡ has_column found name
 has_column-names found name = list_any-map (λ n. same_name n name) (λ c. c.name) found
 
+-- one more column that was read leaves at most 32, with names that differ and a key that may be one
 AreColumns-more : {T : Type 0} (found : List (ColumnDef T)) (key : Option ℕ) (read : ColumnDef T × Bool) → AreColumns found key → IsNext found read → AreColumns (found ++ read.0 ∷ []) (key_after key (length found) read.1)
 AreColumns-more found key read are is = record {
   few = omega (arith, length-append found (read.0 ∷ []), is.room);
@@ -202,6 +210,7 @@ columns_behind geometry n found key read = do
   more ← eat k.Comma
   more_columns geometry n found key read more
 
+-- behind a comma further columns are read; without one, these are all
 more_columns-read : {T : Type 0} (geometry : List ℕ → Option T) (n : ℕ) (found : List (ColumnDef T)) (key : Option ℕ) (read : ColumnDef T × Bool) (more : Bool) (ts : List Token)
     → AreColumns (found ++ read.0 ∷ []) (key_after key (length found) read.1)
     → IfRead (columns_from geometry n (found ++ read.0 ∷ []) (key_after key (length found) read.1) ts) Columns
@@ -209,6 +218,7 @@ more_columns-read : {T : Type 0} (geometry : List ℕ → Option T) (n : ℕ) (f
 more_columns-read geometry n found key read true ts are rest = rest
 more_columns-read geometry n found key read false ts are rest = are
 
+-- column by column, what was read so far stays within the limits, and so does the whole list
 columns_from-read : {T : Type 0} (geometry : List ℕ → Option T) (n : ℕ) (found : List (ColumnDef T)) (key : Option ℕ) (ts : List Token) → AreColumns found key → IfRead (columns_from geometry n found key ts) Columns
 unfolding columns_from
 columns_from-read geometry zero found key ts are = tt
@@ -223,6 +233,7 @@ columns_from-read geometry (suc n) found key ts are =
 
 -- ---- tables
 
+-- a parenthesis closes a table with a key alone, so a table that is closed is lawful
 closed-read : {T : Type 0} (name : List ℕ) (columns : List (ColumnDef T)) (key : Option ℕ) (at : ℕ) (ts : List Token) → AreColumns columns key
     → IfRead (closed name columns key at ts) (λ t. (t.name ≡ name) × (lawful_table t ≡ true))
 closed-read name columns None at ts are = tt
@@ -237,6 +248,7 @@ pub record IsNextTable {T : Type 0} (found : List (TableDef T)) (read : TableDef
 abbrev IsNewTableName : {T : Type 0} → List (TableDef T) → List ℕ → Type 0
 IsNewTableName found name = (nat_le 16 (length found) ≡ false) × (has_table found name ≡ false)
 
+-- a table's name that is read is one of at most 16, and no table before it has the name
 table_name-read : {T : Type 0} (found : List (TableDef T)) (ts : List Token) → IfRead (table_name found ts) (IsNewTableName found)
 unfolding table_name
 table_name-read found ts = weaker (new_name _ _ ts) (new_name-read (nat_le 16 (length found)) (has_table found (spelling ts)) ts)
@@ -266,6 +278,7 @@ table_after_create geometry tables = do
   expect_word (codes "TABLE")
   table_named geometry tables
 
+-- the name, which is new, and the columns, which keep to the limits, make a lawful table
 close-read : {T : Type 0} (found : List (TableDef T)) (name : List ℕ) (read : List (ColumnDef T) × Option ℕ) (ts : List Token) → IsNewTableName found name → Columns read
     → IfRead (close name read ts) (IsNextTable found)
 close-read {T = T} found name read ts new are =
@@ -277,6 +290,7 @@ close-read {T = T} found name read ts new are =
     weaker (Ok p) h = record { room = leb-false _ _ new.0; fresh = ap (has_table found) h.0 ∙ new.1; lawful = h.1 }
     weaker (Err e) h = tt
 
+-- a table that is read is one of at most 16, has a name that none before it has, and is lawful
 table-read : {T : Type 0} (geometry : List ℕ → Option T) (found : List (TableDef T)) (ts : List Token) → IfRead (table geometry found ts) (IsNextTable found)
 unfolding table
 table-read geometry found ts =
@@ -298,6 +312,7 @@ pub record AreTables {T : Type 0} (found : List (TableDef T)) : Type 0 where
   pub differ : names_differ (map (λ t. t.name) found) ≡ true
   pub lawful : list_all lawful_table found ≡ true
 
+-- one more table that was read leaves at most 16, with names that differ, each of them lawful
 AreTables-more : {T : Type 0} (found : List (TableDef T)) (read : TableDef T) → AreTables found → IsNextTable found read → AreTables (found ++ read ∷ [])
 AreTables-more found read are is = record {
   few = omega (arith, length-append found (read ∷ []), is.room);
@@ -316,11 +331,13 @@ tables_behind geometry n found read = do
   more ← goes_on
   more_tables geometry n found read more
 
+-- behind a semicolon further tables are read; without one, these are all
 more_tables-read : {T : Type 0} (geometry : List ℕ → Option T) (n : ℕ) (found : List (TableDef T)) (read : TableDef T) (more : Bool) (ts : List Token)
     → AreTables (found ++ read ∷ []) → IfRead (tables_from geometry n (found ++ read ∷ []) ts) AreTables → IfRead (more_tables geometry n found read more ts) AreTables
 more_tables-read geometry n found read true ts are rest = rest
 more_tables-read geometry n found read false ts are rest = are
 
+-- table by table, what was read so far stays within the limits, and so does the whole list
 tables_from-read : {T : Type 0} (geometry : List ℕ → Option T) (n : ℕ) (found : List (TableDef T)) (ts : List Token) → AreTables found → IfRead (tables_from geometry n found ts) AreTables
 unfolding tables_from
 tables_from-read geometry zero found ts are = tt
@@ -333,9 +350,11 @@ tables_from-read geometry (suc n) found ts are =
     (any_read _))
     (table-read geometry found ts)
 
+-- a schema without tables keeps to all limits
 no_tables : {T : Type 0} → AreTables {T = T} []
 no_tables = record { few = omega arith; differ = refl; lawful = refl }
 
+-- whichever tables a text has, they keep to the limits
 all_tables-read : {T : Type 0} (geometry : List ℕ → Option T) (ts : List Token) → IfRead (all_tables geometry ts) AreTables
 all_tables-read {T = T} geometry ts = go (sees k.End ts)
   where
@@ -343,6 +362,7 @@ all_tables-read {T = T} geometry ts = go (sees k.End ts)
     go true = no_tables
     go false = tables_from-read geometry (length ts) [] ts no_tables
 
+-- tables are lawful by these limits: their number, their names, and each of them
 lawful-from : {T : Type 0} (found : List (TableDef T)) → AreTables found → lawful found ≡ true
 unfolding lawful
 lawful-from found are = and_both _ _ (le-leb _ _ are.few) (and_both _ _ are.differ are.lawful)
@@ -352,6 +372,7 @@ end_of_tables tables = do
   expect fault.Syntax k.End
   pure tables
 
+-- the tables are all that a schema is read as, so it is lawful
 schema-read : {T : Type 0} (geometry : List ℕ → Option T) (ts : List Token) → IfRead (schema geometry ts) (λ tables. lawful tables ≡ true)
 unfolding schema
 schema-read geometry ts =

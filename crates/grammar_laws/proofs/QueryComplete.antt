@@ -46,36 +46,44 @@ same_itself _ = refl
 pub is_kind : (kind known : TokenKind) → kind ≡ known → same_kind kind known ≡ true
 is_kind kind known e = rw e (same_itself known)
 
+-- a phrase that begins with one token: that token, and the tokens of the rest
 pub one_first : (P : Token → Type 0) (Q : Phrase) (ts : List Token) → (IsOne P ▸ Q) ts → (m : Token) × (d : List Token) × (ts ≡ m ∷ d) × P m × Q d
 one_first P Q ts ([], d, e, p, q) = absurd p
 one_first P Q ts (m ∷ [], d, e, p, q) = (m, d, e, p, q)
 one_first P Q ts (m ∷ n ∷ more, d, e, p, q) = absurd p
 
+-- a phrase that ends with one token: the tokens of the rest, and that token
 pub one_last : (P : Phrase) (Q : Token → Type 0) (ts : List Token) → (P ▸ IsOne Q) ts → (a : List Token) × (m : Token) × (ts ≡ a ++ m ∷ []) × P a × Q m
 one_last P Q ts (a, [], e, p, q) = absurd q
 one_last P Q ts (a, m ∷ [], e, p, q) = (a, m, e, p, q)
 one_last P Q ts (a, m ∷ n ∷ more, e, p, q) = absurd q
 
+-- a phrase of one token is a list of one
 pub one_only : (P : Token → Type 0) (ts : List Token) → IsOne P ts → (n : Token) × (ts ≡ n ∷ []) × P n
 one_only P [] p = absurd p
 one_only P (n ∷ []) p = (n, refl, p)
 one_only P (n ∷ v ∷ more) p = absurd p
 
+-- with others behind them, tokens in two parts are the first part, the token that begins the second, and what stands behind it
 pub split : (used a b d tail : List Token) (m : Token) → used ≡ a ++ b → b ≡ m ∷ d → used ++ tail ≡ a ++ m ∷ (d ++ tail)
 split used a b d tail m e f = ap (λ l. l ++ tail) e ∙ append_assoc a b tail ∙ ap (λ l. a ++ (l ++ tail)) f
 
+-- the kind of the next token is that of the phrase's first one, whatever follows
 pub kind_after : (known : TokenKind) (used tail : List Token) → Begins (λ kind. kind ≡ known) used → kind (used ++ tail) ≡ known
 unfolding kind
 kind_after known used tail (t, more, e, f) = rw e f
 
 -- ---- names and columns
 
+-- what may stand behind a name: no `(`, with which the word would be a function
 abbrev pub EndsName : TokenKind → Type 0
 EndsName kind = same_kind kind k.LeftParenthesis ≡ false
 
+-- what may stand behind a column: no `(`, and no point, with which the name would be that of a table reference
 abbrev pub EndsColumn : TokenKind → Type 0
 EndsColumn kind = (same_kind kind k.LeftParenthesis ≡ false) × (same_kind kind k.Point ≡ false)
 
+-- a word with no `(` behind it is read as that name
 name_complete : Complete name IsName EndsName
 unfolding name sees kind next spelling place
 name_complete x [] t rest p f = absurd p
@@ -85,17 +93,20 @@ name_complete x (u ∷ v ∷ more) t rest p f = absurd p
 pub ends_by : (F : TokenKind → Type 0) (kind known : TokenKind) → kind ≡ known → F known → F kind
 ends_by F kind known e h = subst F (sym e) h
 
+-- two names with a point between are read as a column of a table reference, since a point doesn't make the first a function
 qualified_complete : (first second : Name) (a d : List Token) (m t : Token) (rest : List Token) → IsName first a → m.kind ≡ k.Point → IsName second d → EndsColumn t.kind
     → column (a ++ m ∷ (d ++ t ∷ rest)) ≡ Ok (record { reference = Some first; name = second }, t ∷ rest)
 unfolding column after sees kind next same_kind
 qualified_complete first second a d m t rest p e q f =
     rw (name_complete first a m (d ++ t ∷ rest) p (ends_by EndsName m.kind k.Point e refl), is_kind m.kind k.Point e, name_complete second d t rest q f.0) refl
 
+-- a name with neither `(` nor a point behind it is read as a column without a table reference
 single_complete : (only : Name) (a : List Token) (t : Token) (rest : List Token) → IsName only a → EndsColumn t.kind
     → column (a ++ t ∷ rest) ≡ Ok (record { reference = None; name = only }, t ∷ rest)
 unfolding column after sees kind next
 single_complete only a t rest p f = rw (name_complete only a t rest p f.0, f.1) refl
 
+-- both forms of a column are read as that column
 column_complete : Complete column IsColumn EndsColumn
 column_complete x used t rest (inl (only, ex, p)) f = single_complete only used t rest p f ∙ ap (λ y. Ok (y, t ∷ rest)) (sym ex)
 column_complete x used t rest (inr (first, second, ex, (a, b, e, p, q))) f = go (one_first _ (IsName second) b q)
@@ -106,18 +117,21 @@ column_complete x used t rest (inr (first, second, ex, (a, b, e, p, q))) f = go 
 
 -- ---- functions
 
--- names that are the same as a third are the same as one another
+-- bytes that compare as equal are equal
 bytes_eq-true : (a b : List ℕ) → bytes_eq a b ≡ true → a ≡ b
 bytes_eq-true a b h = (bytes_eq-Decides a b).0 h
 
+-- where a word is the same as a name, in any ASCII case, it is the same as no other: it has that name's lower case
 differs : (text word function : List ℕ) → same_name text word ≡ true → same_name word function ≡ false → same_name text function ≡ false
 unfolding same_name
 differs text word function h e = ap (λ lower. bytes_eq lower (map to_ascii_lowercase function)) (bytes_eq-true _ _ h) ∙ e
 
+-- a word that is a function's name, with `(` behind it, calls that function
 hit : (m n : Token) (ts : List Token) (word : List ℕ) → m.kind ≡ k.Word → n.kind ≡ k.LeftParenthesis → same_name m.text word ≡ true → calls word (m ∷ n ∷ ts) ≡ true
 unfolding calls sees kind next spelling
 hit m n ts word e f h = rw (is_kind m.kind k.Word e, is_kind n.kind k.LeftParenthesis f, h) refl
 
+-- and calls no function of another name
 miss : (m n : Token) (ts : List Token) (word function : List ℕ) → m.kind ≡ k.Word → n.kind ≡ k.LeftParenthesis → same_name m.text word ≡ true → same_name word function ≡ false
     → calls function (m ∷ n ∷ ts) ≡ false
 unfolding calls sees kind next spelling
@@ -127,14 +141,17 @@ and_none : (a b c : Bool) → b ≡ false → ((a && b) && c) ≡ false
 and_none true b c e = rw e refl
 and_none false b c e = refl
 
+-- with no `(` behind the next token, no function is called
 uncalled : (function : List ℕ) (ts : List Token) → sees k.LeftParenthesis (next ts) ≡ false → calls function ts ≡ false
 unfolding calls
 uncalled function ts e = and_none (sees k.Word ts) (sees k.LeftParenthesis (next ts)) (same_name (spelling ts) function) e
 
+-- where no word is next, no function is called
 pub unnamed : (function : List ℕ) (ts : List Token) → sees k.Word ts ≡ false → calls function ts ≡ false
 unfolding calls
 unnamed function ts e = rw e refl
 
+-- where no function is called next, a choice by name reads what the other reader does
 pub none_called : {A : Type 0} (functions : Functions A) (other : Reader A) (ts : List Token) → ((function : List ℕ) → calls function ts ≡ false) → called_or functions other ts ≡ other ts
 none_called [] other ts none = refl
 none_called (f ∷ more) other ts none = rw (none f.0) (none_called more other ts none)
@@ -144,6 +161,7 @@ abbrev pub IsFirst : {A : Type 0} → Functions A → List Token → Reader A �
 IsFirst [] ts rest = ⊥
 IsFirst (f ∷ more) ts rest = ((calls f.0 ts ≡ true) × (f.1 ≡ rest)) ⊎ ((calls f.0 ts ≡ false) × IsFirst more ts rest)
 
+-- where a function is called next and none before it in the list is, its reader reads what stands behind the name
 first_called : {A : Type 0} (functions : Functions A) (other : Reader A) (ts : List Token) (rest : Reader A) → IsFirst functions ts rest → called_or functions other ts ≡ rest (next ts)
 first_called [] other ts rest first = absurd first
 first_called (f ∷ more) other ts rest (inl (here, e)) = rw (here, e) refl
@@ -158,6 +176,7 @@ abbrev pub CallParts : List ℕ → Phrase → List Token → Type 0
 CallParts function P used = (m n r : Token) × (a : List Token) × (m.kind ≡ k.Word) × (same_name m.text function ≡ true) × (n.kind ≡ k.LeftParenthesis) × P a
     × (r.kind ≡ k.RightParenthesis) × ((tail : List Token) → used ++ tail ≡ m ∷ n ∷ (a ++ r ∷ tail))
 
+-- a call is taken apart into the tokens that it is written with
 call_parts : (function : List ℕ) (P : Phrase) (used : List Token) → IsCall function P used → CallParts function P used
 call_parts function P used call = with_name (one_first _ (IsToken k.LeftParenthesis ▸ P ▸ IsToken k.RightParenthesis) used call)
   where
@@ -177,26 +196,31 @@ call_parts function P used call = with_name (one_first _ (IsToken k.LeftParenthe
         → CallParts function P used
     with_name (m, d, e, word, h) = with_left m d e word.0 word.1 (one_first _ (P ▸ IsToken k.RightParenthesis) d h)
 
+-- the tokens of a call call that function, whatever follows
 call_hit : (function : List ℕ) (P : Phrase) (used tail : List Token) → IsCall function P used → calls function (used ++ tail) ≡ true
 call_hit function P used tail call = go (call_parts function P used call)
   where
     go : CallParts function P used → calls function (used ++ tail) ≡ true
     go (m, n, r, a, word, same, left, p, right, cut) = ap (calls function) (cut tail) ∙ hit m n (a ++ r ∷ tail) function word left same
 
+-- and none of another name
 call_miss : (word function : List ℕ) (P : Phrase) (used tail : List Token) → IsCall word P used → same_name word function ≡ false → calls function (used ++ tail) ≡ false
 call_miss word function P used tail call d = go (call_parts word P used call)
   where
     go : CallParts word P used → calls function (used ++ tail) ≡ false
     go (m, n, r, a, named, same, left, p, right, cut) = ap (calls function) (cut tail) ∙ miss m n (a ++ r ∷ tail) word function named left same d
 
+-- what stands behind the last argument of a function: the parenthesis that closes it
 abbrev pub EndsArgument : TokenKind → Type 0
 EndsArgument kind = kind ≡ k.RightParenthesis
 
+-- what is read up to `)` is read between parentheses
 enclosed_read : {A : Type 0} (inside : Reader A) (x : A) (n r : Token) (a tail : List Token) → n.kind ≡ k.LeftParenthesis → r.kind ≡ k.RightParenthesis
     → inside (a ++ r ∷ tail) ≡ Ok (x, r ∷ tail) → enclosed inside (n ∷ (a ++ r ∷ tail)) ≡ Ok (x, tail)
 unfolding expect sees kind next
 enclosed_read inside x n r a tail left right e = rw (is_kind n.kind k.LeftParenthesis left, e, is_kind r.kind k.RightParenthesis right) refl
 
+-- behind a function's name, what stands in the parentheses is read where its reader reads it before `)`
 call_read : {A : Type 0} (function : List ℕ) (inside : Reader A) (P : A → Phrase) → Complete inside P EndsArgument
     → (x : A) (used tail : List Token) → IsCall function (P x) used → enclosed inside (next (used ++ tail)) ≡ Ok (x, tail)
 unfolding next
@@ -206,6 +230,7 @@ call_read function inside P whole x used tail call = go (call_parts function (P 
     go (m, n, r, a, word, same, left, p, right, cut) =
         ap (λ l. enclosed inside (next l)) (cut tail) ∙ enclosed_read inside x n r a tail left right (whole x a r tail p right)
 
+-- a token of text is read as that string, whatever follows
 string_complete : (F : TokenKind → Type 0) → Complete string IsString F
 unfolding string sees kind next spelling place
 string_complete F x [] t rest p f = absurd p
@@ -224,6 +249,7 @@ point_left : (u : Token) → u.kind ≡ k.Point → same_kind u.kind k.LeftParen
 unfolding same_kind
 point_left u e = rw e refl
 
+-- a column calls no function: behind its first name stands a point or what may stand behind a column, so no `(`
 column_uncalled : (x : WrittenColumn) (used : List Token) (t : Token) (rest : List Token) → IsColumn x used → EndsColumn t.kind → (function : List ℕ) → calls function (used ++ t ∷ rest) ≡ false
 column_uncalled x used t rest p f function = uncalled function (used ++ t ∷ rest) (alone p)
   where
@@ -237,6 +263,7 @@ column_uncalled x used t rest p f function = uncalled function (used ++ t ∷ re
         ap (λ l. sees k.LeftParenthesis (next (l ++ t ∷ rest))) (name.2 ∙ ap (λ l. name.0 ∷ l) dot.2)
         ∙ left_after name.0 (dot.0 ∷ (dot.1 ++ t ∷ rest)) (left_first dot.0 (dot.1 ++ t ∷ rest) (point_left dot.0 dot.3))
 
+-- both forms of a geometry are read: a column calls no function, and a call of ST_GeomFromText calls that one
 geometry_complete : Complete geometry IsGeometry EndsColumn
 unfolding geometry
 geometry_complete x used t rest (inl (y, e, p)) f =
@@ -252,44 +279,54 @@ geometry_complete x used t rest (inr (y, e, p)) f =
 
 -- ---- operands
 
+-- digits with a number within 64 bits are read as that integer, whatever follows
 digits_complete : (A : Type 0) (negative : Bool) (n : ℤ) (used tail : List Token) → IsDigits negative n used → integer {A = A} negative (used ++ tail) ≡ Ok (o.Integer n, tail)
 unfolding integer sees kind next place spelling
 digits_complete A negative n [] tail p = absurd p
 digits_complete A negative n (u ∷ []) tail (digits, is) = rw (is_kind u.kind k.Integer digits, is) refl
 digits_complete A negative n (u ∷ v ∷ more) tail p = absurd p
 
+-- The kind of the next token alone tells how an operand is read; for each kind that one begins with. A word: a function or a column
 operand_of_word : (functions : Bool) (ts : List Token) → kind ts ≡ k.Word
     → operand functions ts ≡ called_or (operand_functions functions (place ts)) (λ l. and_then (column l) (λ x rest. Ok (o.Column x, rest))) ts
 unfolding operand sees same_kind
 operand_of_word functions ts e = rw e refl
 
+-- digits: an integer without a sign
 pub operand_of_digits : (functions : Bool) (ts : List Token) → kind ts ≡ k.Integer → operand functions ts ≡ integer false ts
 unfolding operand sees same_kind
 operand_of_digits functions ts e = rw e refl
 
+-- a plus: the digits behind it
 pub operand_of_plus : (functions : Bool) (ts : List Token) → kind ts ≡ k.Plus → operand functions ts ≡ integer false (next ts)
 unfolding operand sees same_kind
 operand_of_plus functions ts e = rw e refl
 
+-- a minus: the digits behind it, negated
 pub operand_of_minus : (functions : Bool) (ts : List Token) → kind ts ≡ k.Minus → operand functions ts ≡ integer true (next ts)
 unfolding operand sees same_kind
 operand_of_minus functions ts e = rw e refl
 
+-- a string is the operand itself
 operand_of_text : (functions : Bool) (ts : List Token) → kind ts ≡ k.Text → operand functions ts ≡ Ok (o.Text (written ts), next ts)
 unfolding operand sees same_kind
 operand_of_text functions ts e = rw e refl
 
+-- so is NULL
 operand_of_null : (functions : Bool) (ts : List Token) → kind ts ≡ k.Null → operand functions ts ≡ Ok (o.Null, next ts)
 unfolding operand sees same_kind
 operand_of_null functions ts e = rw e refl
 
+-- a column begins with a word
 column_word : (x : WrittenColumn) (ts : List Token) → IsColumn x ts → Begins (λ kind. kind ≡ k.Word) ts
 column_word x ts (inl (only, e, p)) = one_begins (λ kind. kind ≡ k.Word) _ (λ t q. q.0) ts p
 column_word x ts (inr (first, second, e, p)) = seq_begins (λ kind. kind ≡ k.Word) _ _ (one_begins (λ kind. kind ≡ k.Word) _ (λ t q. q.0)) ts p
 
+-- a call begins with a word, the function's name
 call_word : (function : List ℕ) (P : Phrase) (ts : List Token) → IsCall function P ts → Begins (λ kind. kind ≡ k.Word) ts
 call_word function P ts p = seq_begins (λ kind. kind ≡ k.Word) (IsWord function) _ (one_begins (λ kind. kind ≡ k.Word) _ (λ t q. q.0)) ts p
 
+-- a column is read as an operand: it begins with a word and calls no function
 column_operand : (functions : Bool) (x : WrittenColumn) (used : List Token) (t : Token) (rest : List Token) → IsColumn x used → EndsColumn t.kind
     → operand functions (used ++ t ∷ rest) ≡ Ok (o.Column x, t ∷ rest)
 column_operand functions x used t rest p f =
@@ -311,31 +348,37 @@ signed_complete functions sign negative n used tail begins p = go (one_first _ (
     go (m, d, e, signs, q) =
         ap (λ ts. operand functions (ts ++ tail)) e ∙ begins (m ∷ (d ++ tail)) signs ∙ digits_complete (Argument functions) negative n d tail q
 
+-- an integer is read as an operand, without a sign or with either
 integer_operand : (functions : Bool) (n : ℤ) (used tail : List Token) → IsInteger n used → operand functions (used ++ tail) ≡ Ok (o.Integer n, tail)
 integer_operand functions n used tail (inl p) =
     operand_of_digits functions (used ++ tail) (kind_after k.Integer used tail (digits_begin false n used p)) ∙ digits_complete (Argument functions) false n used tail p
 integer_operand functions n used tail (inr (inl p)) = signed_complete functions k.Plus false n used tail (operand_of_plus functions) p
 integer_operand functions n used tail (inr (inr p)) = signed_complete functions k.Minus true n used tail (operand_of_minus functions) p
 
+-- a string is read as an operand
 text_operand : (functions : Bool) (x : Name) (used tail : List Token) → IsString x used → operand functions (used ++ tail) ≡ Ok (o.Text x, tail)
 unfolding kind next place spelling
 text_operand functions x [] tail p = absurd p
 text_operand functions x (u ∷ []) tail (text, is) = operand_of_text functions (u ∷ tail) text ∙ ap (λ y. Ok (o.Text y, tail)) (sym is)
 text_operand functions x (u ∷ v ∷ more) tail p = absurd p
 
+-- NULL is read as an operand
 null_operand : (functions : Bool) (used tail : List Token) → IsToken k.Null used → operand functions (used ++ tail) ≡ Ok (o.Null, tail)
 unfolding kind next
 null_operand functions [] tail p = absurd p
 null_operand functions (u ∷ []) tail p = operand_of_null functions (u ∷ tail) p
 null_operand functions (u ∷ v ∷ more) tail p = absurd p
 
+-- where a reader reads an argument, the tree that is made of it is read too
 made_whole : {A B : Type 0} (f : B → A) (reader : Reader B) (P : B → Phrase) → Complete reader P EndsArgument → Complete (λ l. and_then (reader l) (λ y rest. Ok (f y, rest))) (IsMade f P) EndsArgument
 made_whole f reader P whole x used t rest (y, e, p) right = ap (λ r. and_then r (λ y rest. Ok (f y, rest))) (whole y used t rest p right) ∙ ap (λ z. Ok (z, t ∷ rest)) (sym e)
 
+-- a reader that goes up to what may stand behind a column goes up to `)`, which is such a token
 ends_argument : {A : Type 0} (reader : Reader A) (P : A → Phrase) → Complete reader P EndsColumn → Complete reader P EndsArgument
 unfolding same_kind
 ends_argument reader P whole x used t rest p right = whole x used t rest p (ends_by EndsColumn t.kind k.RightParenthesis right (refl, refl))
 
+-- a call stands at the place of its name, whatever follows
 call_begins : (function : List ℕ) (P : Phrase) (used tail : List Token) → IsCall function P used → place (used ++ tail) ≡ place used
 call_begins function P used tail p = place_is used tail (word_begins function _ used p)
 
@@ -351,9 +394,11 @@ made_called functions other function f reader P y used tail whole p first =
     (call_but function (P y) (IsMade (f at) P (f at y)) used (λ a q. (y, refl, q)) p)
     ∙ ap (λ n. Ok (f n y, tail)) (call_begins function (P y) used tail p)
 
+-- a geometry is read as the argument of a function
 geometry_whole : Complete geometry IsGeometry EndsArgument
 geometry_whole = ends_argument geometry IsGeometry geometry_complete
 
+-- ST_AsText and ST_Dimension are read as operands: each is called by its own name and the other isn't
 function_operand : (functions : Bool) (x : ServedOperand functions) (used : List Token) (t : Token) (rest : List Token) → IsOperandFunction functions x used
     → operand functions (used ++ t ∷ rest) ≡ Ok (x, t ∷ rest)
 unfolding same_name
@@ -372,6 +417,7 @@ function_operand true x used t rest (inr (y, e, p)) =
     ))
     ∙ ap (λ z. Ok (z, t ∷ rest)) (sym e)
 
+-- each alternative of an operand is read as that operand: the kind of its first token tells them apart, and for a word, what it calls
 pub operand_complete : (functions : Bool) → Complete (operand functions) (IsOperand functions) EndsColumn
 operand_complete functions x used t rest (inl (column, e, p)) f = column_operand functions column used t rest p f ∙ ap (λ y. Ok (y, t ∷ rest)) (sym e)
 operand_complete functions x used t rest (inr (inl (n, e, p))) f = integer_operand functions n used (t ∷ rest) p ∙ ap (λ y. Ok (y, t ∷ rest)) (sym e)
@@ -381,6 +427,7 @@ operand_complete functions x used t rest (inr (inr (inr (inr p)))) f = function_
 
 -- ---- comparisons
 
+-- the sign of a comparison is a token that may stand behind a column, and isn't IS
 pub compares_ends : (kind : TokenKind) (comparison : Comparison) → comparison_of kind ≡ Some comparison → EndsColumn kind × (same_kind kind k.Is ≡ false)
 unfolding same_kind
 compares_ends k.LeftParenthesis comparison e = absurd (cc)
@@ -388,6 +435,7 @@ compares_ends k.Point comparison e = absurd (cc)
 compares_ends k.Is comparison e = absurd (cc)
 compares_ends _ comparison e = ((refl, refl), refl)
 
+-- an operand, a sign and an operand are read as that comparison: the sign ends the left side
 compare_complete : (functions : Bool) (sign : Comparison) (left right : ServedOperand functions) (a d : List Token) (m t : Token) (rest : List Token)
     → IsOperand functions left a → comparison_of m.kind ≡ Some sign → IsOperand functions right d → EndsColumn t.kind
     → comparison functions (a ++ m ∷ (d ++ t ∷ rest)) ≡ Ok (c.Compare (place (a ++ m ∷ (d ++ t ∷ rest))) sign left right, t ∷ rest)
@@ -396,12 +444,14 @@ compare_complete functions sign left right a d m t rest p e q f =
     let ends = compares_ends m.kind sign e in
     rw (operand_complete functions left a m (d ++ t ∷ rest) p ends.0, ends.1, e, operand_complete functions right d t rest q f) refl
 
+-- an operand with IS NULL is read as a test for NULL: IS ends the operand
 null_complete : (functions : Bool) (operand : ServedOperand functions) (a : List Token) (m n t : Token) (rest : List Token)
     → IsOperand functions operand a → m.kind ≡ k.Is → n.kind ≡ k.Null → comparison functions (a ++ m ∷ n ∷ t ∷ rest) ≡ Ok (c.IsNull operand, t ∷ rest)
 unfolding comparison null_test expect after sees kind next same_kind
 null_complete functions operand a m n t rest p is null =
     rw (operand_complete functions operand a m (n ∷ t ∷ rest) p (ends_by EndsColumn m.kind k.Is is (refl, refl)), is, null) refl
 
+-- with IS NOT NULL it is read as the NOT of that test
 not_null_complete : (functions : Bool) (operand : ServedOperand functions) (a : List Token) (m v n t : Token) (rest : List Token)
     → IsOperand functions operand a → m.kind ≡ k.Is → v.kind ≡ k.Not → n.kind ≡ k.Null → comparison functions (a ++ m ∷ v ∷ n ∷ t ∷ rest) ≡ Ok (c.Not (c.IsNull operand), t ∷ rest)
 unfolding comparison null_test expect after sees kind next same_kind
@@ -410,9 +460,11 @@ not_null_complete functions operand a m v n t rest p is isnt null =
 
 -- ---- predicates
 
+-- what may stand behind a predicate: what may behind a column, and no '=', with which it would be tested
 abbrev pub EndsPredicate : TokenKind → Type 0
 EndsPredicate kind = EndsColumn kind × (same_kind kind k.Equal ≡ false)
 
+-- tokens that begin with another kind have no word next
 pub not_word : (used tail : List Token) (known : TokenKind) → same_kind known k.Word ≡ false → Begins (λ kind. kind ≡ known) used → sees k.Word (used ++ tail) ≡ false
 unfolding sees kind
 not_word used tail known other (t, more, e, f) = rw (e, f) other
@@ -425,6 +477,7 @@ IsOtherName word =
     × (same_name word (codes "ST_Contains") ≡ false) × (same_name word (codes "ST_Overlaps") ≡ false) × (same_name word (codes "ST_Relate") ≡ false)
     × (same_name word (codes "ST_IsEmpty") ≡ false)
 
+-- a call of a function that is no predicate is read as the beginning of a comparison or a test for NULL
 other_call : (word : List ℕ) (P : Phrase) (a tail : List Token) → IsOtherName word → IsCall word P a → predicate true (a ++ tail) ≡ comparison true (a ++ tail)
 unfolding predicate
 other_call word P a tail d p = rw (
@@ -461,22 +514,27 @@ no_predicate true x a m tail (inr (inr (inr (inr (inr (y, e, p)))))) f = other_c
 
 -- ---- predicates that are functions
 
+-- 1 behind '=' means the predicate
 value_one : {A : Type 0} (x : WrittenCond A) (u : Token) (ts : List Token) → u.kind ≡ k.Integer → digits_value 10 u.text ≡ 1 → truth_value x (u ∷ ts) ≡ Ok (x, ts)
 unfolding truth_value sees kind next spelling
 value_one x u ts e n = rw (is_kind u.kind k.Integer e, n) refl
 
+-- 0 behind '=' means its NOT
 value_zero : {A : Type 0} (x : WrittenCond A) (u : Token) (ts : List Token) → u.kind ≡ k.Integer → digits_value 10 u.text ≡ 0 → truth_value x (u ∷ ts) ≡ Ok (c.Not x, ts)
 unfolding truth_value sees kind next spelling
 value_zero x u ts e n = rw (is_kind u.kind k.Integer e, n) refl
 
+-- without '=' behind a predicate nothing is tested
 test_of_none : {A : Type 0} (bool : WrittenCond A) (t : Token) (rest : List Token) → same_kind t.kind k.Equal ≡ false → truth_test bool (t ∷ rest) ≡ Ok (bool, t ∷ rest)
 unfolding truth_test after sees kind next
 test_of_none bool t rest f = rw f refl
 
+-- with it, the number is read
 test_of_value : {A : Type 0} (bool : WrittenCond A) (m : Token) (ts : List Token) → m.kind ≡ k.Equal → truth_test bool (m ∷ ts) ≡ truth_value bool ts
 unfolding truth_test after sees kind next
 test_of_value bool m ts e = rw (is_kind m.kind k.Equal e) refl
 
+-- each form of the test is read: none, with 1 and with 0
 test_complete : {A : Type 0} (bool : WrittenCond A) → Complete (truth_test bool) (IsTest bool) EndsPredicate
 test_complete bool x used t rest (inl (e, none)) f =
     ap (λ l. truth_test bool (l ++ t ∷ rest)) none ∙ test_of_none bool t rest f.1 ∙ ap (λ z. Ok (z, t ∷ rest)) (sym e)
@@ -491,23 +549,28 @@ test_complete bool x used t rest (inr (inr (e, p))) f =
     ap (λ l. truth_test bool (l ++ t ∷ rest)) (equal.2 ∙ ap (λ l. equal.0 ∷ l) number.1) ∙ test_of_value bool equal.0 (number.0 ∷ t ∷ rest) equal.3
     ∙ value_zero bool number.0 (t ∷ rest) number.2.0 number.2.1 ∙ ap (λ z. Ok (z, t ∷ rest)) (sym e)
 
+-- `)` may stand behind a column
 ends_column : (kind : TokenKind) → kind ≡ k.RightParenthesis → EndsColumn kind
 unfolding same_kind
 ends_column kind e = ends_by EndsColumn kind k.RightParenthesis e (refl, refl)
 
+-- a comma may stand behind a column
 comma_ends : (kind : TokenKind) → kind ≡ k.Comma → EndsColumn kind
 unfolding same_kind
 comma_ends kind e = ends_by EndsColumn kind k.Comma e (refl, refl)
 
+-- a token that is demanded and is next is taken
 pub expect_read : (wanted : TokenKind) (m : Token) (ts : List Token) → m.kind ≡ wanted → expect fault.Syntax wanted (m ∷ ts) ≡ Ok (tt, ts)
 unfolding expect sees kind next
 expect_read wanted m ts e = rw (is_kind m.kind wanted e) refl
 
+-- the arguments of a named predicate, where each step of their reader reads its part
 relates_by_steps : (at : ℕ) (predicate : Predicate) (x y : WrittenGeometry) (ts ts1 ts2 ts3 : List Token) → geometry ts ≡ Ok (x, ts1) → expect fault.Syntax k.Comma ts1 ≡ Ok (tt, ts2)
     → geometry ts2 ≡ Ok (y, ts3) → relates at predicate ts ≡ Ok (named predicate at (x, y), ts3)
 unfolding relates
 relates_by_steps at predicate x y ts ts1 ts2 ts3 e1 e2 e3 = rw (e1, e2, e3) refl
 
+-- two geometries are read as the arguments of a named predicate: the comma ends the first, `)` the second
 relates_complete : (at : ℕ) (predicate : Predicate) → Complete (relates at predicate) (IsMade (named predicate at) IsTwo) EndsArgument
 relates_complete at predicate x used t rest (two, ex, (a, b, e, p, q)) right = go (one_first _ (IsGeometry two.1) b q)
   where
@@ -519,11 +582,13 @@ relates_complete at predicate x used t rest (two, ex, (a, b, e, p, q)) right = g
         (geometry_complete two.1 d t rest r (ends_column t.kind right))
         ∙ ap (λ z. Ok (z, t ∷ rest)) (sym ex)
 
+-- the arguments of ST_Relate, where each step of their reader reads its part
 patterned_by_steps : (at : ℕ) (x y : WrittenGeometry) (pattern : Name) (ts ts1 ts2 ts3 ts4 ts5 : List Token) → geometry ts ≡ Ok (x, ts1) → expect fault.Syntax k.Comma ts1 ≡ Ok (tt, ts2)
     → geometry ts2 ≡ Ok (y, ts3) → expect fault.Syntax k.Comma ts3 ≡ Ok (tt, ts4) → string ts4 ≡ Ok (pattern, ts5) → relates_by at ts ≡ Ok (patterned at (x, y, pattern), ts5)
 unfolding relates_by
 patterned_by_steps at x y pattern ts ts1 ts2 ts3 ts4 ts5 e1 e2 e3 e4 e5 = rw (e1, e2, e3, e4, e5) refl
 
+-- two geometries and a string are read as the arguments of ST_Relate: a comma ends each geometry
 relates_by_complete : (at : ℕ) → Complete (relates_by at) (IsMade (patterned at) IsThree) EndsArgument
 relates_by_complete at x used t rest (three, ex, (a, b, e, p, q)) right = with_second (one_first _ (IsGeometry three.1 ▸ IsToken k.Comma ▸ IsString three.2) b q)
   where
@@ -613,6 +678,7 @@ first_of_names at p.Overlaps word P a tail e call =
     inr (m _ refl, inr (m _ refl, inr (m _ refl, inr (m _ refl, inr (m _ refl, inr (m _ refl, inr (m _ refl, inl (hit, refl))))))))
 first_of_names at (p.Relate pattern) word P a tail e call = absurd (cc)
 
+-- a call of ST_Relate calls it, and none of the named predicates that stand before it in the list
 first_relate : (at : ℕ) (P : Phrase) (a tail : List Token) → IsCall (codes "ST_Relate") P a → IsFirst (predicates_at at) (a ++ tail) (truth_tested (relates_by at))
 unfolding same_name
 first_relate at P a tail call =
@@ -620,6 +686,7 @@ first_relate at P a tail call =
     let hit : calls (codes "ST_Relate") (a ++ tail) ≡ true = call_hit (codes "ST_Relate") P a tail call in
     inr (m _ refl, inr (m _ refl, inr (m _ refl, inr (m _ refl, inr (m _ refl, inr (m _ refl, inr (m _ refl, inr (m _ refl, inl (hit, refl)))))))))
 
+-- a call of ST_IsEmpty calls it, and none of the functions that stand before it in the list
 first_empty : (at : ℕ) (P : Phrase) (a tail : List Token) → IsCall (codes "ST_IsEmpty") P a → IsFirst (predicates_at at) (a ++ tail) (truth_tested (empties at))
 unfolding same_name
 first_empty at P a tail call =
@@ -627,6 +694,7 @@ first_empty at P a tail call =
     let hit : calls (codes "ST_IsEmpty") (a ++ tail) ≡ true = call_hit (codes "ST_IsEmpty") P a tail call in
     inr (m _ refl, inr (m _ refl, inr (m _ refl, inr (m _ refl, inr (m _ refl, inr (m _ refl, inr (m _ refl, inr (m _ refl, inr (m _ refl, inl (hit, refl))))))))))
 
+-- each function that is a predicate is read with its test: its name chooses its reader, and its tree stands at the place of the name
 bool_complete : (bool x : ServedCond true) (a b : List Token) (t : Token) (rest : List Token) → IsBool true bool a → IsTest bool x b → EndsPredicate t.kind
     → predicate true (a ++ (b ++ t ∷ rest)) ≡ Ok (x, t ∷ rest)
 bool_complete bool x a b t rest (inl (predicate, function, y, z, names, ex, call)) test f =
@@ -648,22 +716,27 @@ bool_complete bool x a b t rest (inr (inr (y, ex, call))) test f =
     (ap (λ n. c.IsEmpty n y) (call_begins (codes "ST_IsEmpty") (IsGeometry y) a (b ++ t ∷ rest) call) ∙ sym ex) test f
     (first_empty at (IsGeometry y) a (b ++ t ∷ rest) call)
 
+-- a predicate that is a function begins with its name
 pub bool_begins : (functions : Bool) (x : ServedCond functions) (ts : List Token) → IsBool functions x ts → Begins BeginsOperand ts
 bool_begins false x ts p = absurd p
 bool_begins true x ts (inl (predicate, function, y, z, names, ex, call)) = word_begins function _ ts call
 bool_begins true x ts (inr (inl (y, z, pattern, ex, call))) = word_begins (codes "ST_Relate") _ ts call
 bool_begins true x ts (inr (inr (y, ex, call))) = word_begins (codes "ST_IsEmpty") _ ts call
 
+-- a predicate begins with an operand or a name, so neither with NOT nor with `(`
 predicate_begins : (functions : Bool) (x : ServedCond functions) (ts : List Token) → IsPredicate functions x ts → Begins BeginsOperand ts
 predicate_begins functions x ts (inl (comparison, left, right, e, p)) = seq_begins BeginsOperand (IsOperand functions left) _ (operand_begins functions left) ts p
 predicate_begins functions x ts (inr (inl (operand, e, p))) = seq_begins BeginsOperand (IsOperand functions operand) _ (operand_begins functions operand) ts p
 predicate_begins functions x ts (inr (inr (inl (operand, e, p)))) = seq_begins BeginsOperand (IsOperand functions operand) _ (operand_begins functions operand) ts p
 predicate_begins functions x ts (inr (inr (inr (bool, p)))) = seq_begins BeginsOperand (IsBool functions bool) _ (bool_begins functions bool) ts p
 
+-- IS may stand behind a column
 pub is_ends : (kind : TokenKind) → kind ≡ k.Is → EndsColumn kind
 unfolding same_kind
 is_ends kind e = ends_by EndsColumn kind k.Is e (refl, refl)
 
+-- Each form of a predicate is read: an operand in front calls none that is a function, and the token behind it is IS or the sign
+-- of a comparison
 predicate_complete : (functions : Bool) → Complete (predicate functions) (IsPredicate functions) EndsPredicate
 predicate_complete functions x used t rest (inl (sign, left, right, ex, (a, b, e, p, q))) f = go (one_first _ (IsOperand functions right) b q)
   where
@@ -702,18 +775,21 @@ predicate_complete true x used t rest (inr (inr (inr (bool, (a, b, e, p, q))))) 
 
 -- ---- conditions
 
+-- where the token between parts stands behind a part, the next part is read
 pub part_then : {A : Type 0} (between : TokenKind) (part : Reader A) (n : ℕ) (found : List A) (x : A) (ts : List Token) (m : Token) (rest : List Token)
     → part ts ≡ Ok (x, m ∷ rest) → m.kind ≡ between
     → parts_from fault.Syntax between part (suc n) found ts ≡ parts_from fault.Syntax between part n (found ++ x ∷ []) rest
 unfolding parts_from after sees kind next
 part_then between part n found x ts m rest e g = rw (e, is_kind m.kind between g) refl
 
+-- where it doesn't, that part is the last
 part_last : {A : Type 0} (between : TokenKind) (part : Reader A) (n : ℕ) (found : List A) (x : A) (ts : List Token) (t : Token) (rest : List Token)
     → part ts ≡ Ok (x, t ∷ rest) → same_kind t.kind between ≡ false
     → parts_from fault.Syntax between part (suc n) found ts ≡ Ok (found ++ x ∷ [], t ∷ rest)
 unfolding parts_from after sees kind next
 part_last between part n found x ts t rest e g = rw (e, g) refl
 
+-- parts are read one behind the other, since the token between them ends each, if more turns are left than parts follow the first
 pub parts_complete : {A : Type 0} (between : TokenKind) (part : Reader A) (P : A → Phrase) (F : TokenKind → Type 0) → F between → Complete part P F
     → (more : List A) (x : A) (n : ℕ) (found : List A) (used : List Token) (t : Token) (rest : List Token)
     → IsParts between P x more used → F t.kind → same_kind t.kind between ≡ false → length more < n
@@ -743,6 +819,7 @@ turns_suffice {A} between P (y ∷ more) x used t rest (a, b, e, p, q) = go (λ 
     go others (m, d, g, is, h) =
         omega (arith, others d h, ap length (split used a b d (t ∷ rest) m e g), length-append a (m ∷ (d ++ t ∷ rest)))
 
+-- a chain is read: the token behind its first part tells a part alone from several, and what may follow it isn't that token
 pub chain_complete : {A : Type 0} (between : TokenKind) (join : List (WrittenCond A) → WrittenCond A) (part : Reader (WrittenCond A)) (P : WrittenCond A → Phrase) (F : TokenKind → Type 0)
     → F between → Complete part P F → Complete (chain between join part) (IsChain between join P) (λ kind. F kind × (same_kind kind between ≡ false))
 unfolding after sees kind next
@@ -759,43 +836,52 @@ chain_complete {A} between join part P F mid whole x used t rest (inr (first, se
           parts_complete between part P F mid whole more second (length (d ++ t ∷ rest)) (first ∷ []) d t rest h f.0 f.1 (turns_suffice between P more second d t rest h),
         ) refl
 
+-- what may stand behind parts with AND between them: what may behind a predicate, and no AND
 abbrev pub EndsConjunction : TokenKind → Type 0
 EndsConjunction kind = EndsPredicate kind × (same_kind kind k.And ≡ false)
 
+-- what may stand behind a condition: what may behind parts with AND between them, and no OR
 abbrev pub EndsCondition : TokenKind → Type 0
 EndsCondition kind = EndsConjunction kind × (same_kind kind k.Or ≡ false)
 
+-- a condition is a chain by OR of chains by AND, and OR ends a chain by AND, so it is read where its parts are
 pub condition_of_complete : {A : Type 0} (part : Reader (WrittenCond A)) (P : WrittenCond A → Phrase) → Complete part P EndsPredicate
     → Complete (condition_of part) (IsConditionOf P) EndsCondition
 unfolding same_kind
 condition_of_complete part P whole =
     chain_complete k.Or c.Or (conjunction part) (IsConjunction P) EndsConjunction (((refl, refl), refl), refl) (chain_complete k.And c.And part P EndsPredicate ((refl, refl), refl) whole)
 
+-- a condition in parentheses is read, since `)` may stand behind a condition
 group_complete : {A : Type 0} (part : Reader (WrittenCond A)) (P : WrittenCond A → Phrase) → Complete part P EndsPredicate
     → (x : WrittenCond A) (a : List Token) (n t : Token) (rest : List Token) → IsConditionOf P x a → n.kind ≡ k.RightParenthesis → group part (a ++ n ∷ t ∷ rest) ≡ Ok (x, t ∷ rest)
 unfolding expect sees kind next same_kind
 group_complete part P whole x a n t rest p right =
     rw (condition_of_complete part P whole x a n (t ∷ rest) p (ends_by EndsCondition n.kind k.RightParenthesis right ((((refl, refl), refl), refl), refl)), right) refl
 
+-- what begins like an operand has neither NOT nor `(` next
 pub not_seen : (used tail : List Token) → Begins BeginsOperand used → (sees k.Not (used ++ tail) ≡ false) × (sees k.LeftParenthesis (used ++ tail) ≡ false)
 unfolding sees kind
 not_seen used tail (t, more, e, f) = rw e f
 
+-- where neither NOT nor `(` is next, a predicate is read, whatever levels are left
 pub negation_predicate : (functions : Bool) (levels : ℕ) (ts : List Token) → sees k.Not ts ≡ false → sees k.LeftParenthesis ts ≡ false → negation functions levels ts ≡ predicate functions ts
 unfolding negation
 negation_predicate functions zero ts g h = rw (g, h) refl
 negation_predicate functions (suc levels) ts g h = rw (g, h) refl
 
+-- NOT uses up one level
 pub negation_not : (functions : Bool) (levels : ℕ) (m : Token) (ts : List Token) → m.kind ≡ k.Not
     → negation functions (suc levels) (m ∷ ts) ≡ and_then (negation functions levels ts) (λ y rest. Ok (c.Not y, rest))
 unfolding negation sees kind next
 negation_not functions levels m ts e = rw (is_kind m.kind k.Not e) refl
 
+-- so does `(`
 pub negation_group : (functions : Bool) (levels : ℕ) (m : Token) (ts : List Token) → m.kind ≡ k.LeftParenthesis
     → negation functions (suc levels) (m ∷ ts) ≡ group (negation functions levels) ts
 unfolding negation sees kind next same_kind
 negation_group functions levels m ts e = rw e refl
 
+-- NOT is read with what stands behind it, where that is read with one level less
 nested_not : (functions : Bool) (levels : ℕ) (x y : ServedCond functions) (used : List Token) (t : Token) (rest : List Token) → x ≡ c.Not y
     → Complete (negation functions levels) (IsNegation functions levels) EndsPredicate → EndsPredicate t.kind
     → ((m : Token) × (d : List Token) × (used ≡ m ∷ d) × (m.kind ≡ k.Not) × IsNegation functions levels y d) → negation functions (suc levels) (used ++ t ∷ rest) ≡ Ok (x, t ∷ rest)
@@ -803,6 +889,7 @@ nested_not functions levels x y used t rest ex whole f (m, d, e, isnt, h) =
     ap (λ l. negation functions (suc levels) (l ++ t ∷ rest)) e ∙ negation_not functions levels m (d ++ t ∷ rest) isnt
     ∙ ap (λ r. and_then r (λ y rest. Ok (c.Not y, rest))) (whole y d t rest h f) ∙ ap (λ z. Ok (z, t ∷ rest)) (sym ex)
 
+-- parentheses are read with the condition in them, where its parts are read with one level less
 nested_group : (functions : Bool) (levels : ℕ) (x : ServedCond functions) (used : List Token) (t : Token) (rest : List Token)
     → Complete (negation functions levels) (IsNegation functions levels) EndsPredicate
     → ((m : Token) × (d : List Token) × (used ≡ m ∷ d) × (m.kind ≡ k.LeftParenthesis) × (IsConditionOf (IsNegation functions levels) x ▸ IsToken k.RightParenthesis) d)
@@ -813,12 +900,14 @@ nested_group functions levels x used t rest whole (m, d, e, left, h) =
     ∙ ap (λ l. group (negation functions levels) (l ++ t ∷ rest)) inner.2 ∙ ap (group (negation functions levels)) (append_assoc inner.0 (inner.1 ∷ []) (t ∷ rest))
     ∙ group_complete (negation functions levels) (IsNegation functions levels) whole x inner.0 inner.1 t rest inner.3 inner.4
 
+-- a predicate is read whatever levels are left, since it begins neither with NOT nor with `(`
 predicate_alone : (functions : Bool) (levels : ℕ) (x : ServedCond functions) (used : List Token) (t : Token) (rest : List Token) → IsPredicate functions x used → EndsPredicate t.kind
     → negation functions levels (used ++ t ∷ rest) ≡ Ok (x, t ∷ rest)
 predicate_alone functions levels x used t rest p f =
     let unseen = not_seen used (t ∷ rest) (predicate_begins functions x used p) in
     negation_predicate functions levels (used ++ t ∷ rest) unseen.0 unseen.1 ∙ predicate_complete functions x used t rest p f
 
+-- by induction on the levels: NOT and `(` use up one both in the grammar and in the reader, and a predicate uses none
 pub negation_complete : (functions : Bool) (levels : ℕ) → Complete (negation functions levels) (IsNegation functions levels) EndsPredicate
 unfolding IsNegationOf
 negation_complete functions zero x used t rest p f = predicate_alone functions 0 x used t rest p f
@@ -827,17 +916,21 @@ negation_complete functions (suc levels) x used t rest (inr (inl p)) f =
     nested_group functions levels x used t rest (negation_complete functions levels) (one_first _ (IsConditionOf (IsNegation functions levels) x ▸ IsToken k.RightParenthesis) used p)
 negation_complete functions (suc levels) x used t rest (inr (inr p)) f = predicate_alone functions (suc levels) x used t rest p f
 
+-- a condition that nests to no more levels than may be is read
 pub condition_complete : (functions : Bool) → Complete (condition functions) (IsCondition functions) EndsCondition
 condition_complete functions = condition_of_complete (negation functions 64) (IsNegation functions 64) (negation_complete functions 64)
 
 -- ---- queries
 
+-- a phrase is read where the tokens that follow begin with one that may
 pub complete_at : {A : Type 0} (p : Reader A) (P : A → Phrase) (F : TokenKind → Type 0) → Complete p P F → (x : A) (used tail : List Token) → P x used → Begins F tail → p (used ++ tail) ≡ Ok (x, tail)
 complete_at p P F whole x used tail h (t, r, e, f) = ap (λ l. p (used ++ l)) e ∙ whole x used t r h f ∙ ap (λ l. Ok (x, l)) (sym e)
 
+-- a column is read as the argument of a function
 column_whole : Complete column IsColumn EndsArgument
 column_whole = ends_argument column IsColumn column_complete
 
+-- each function of the select list is read: it is called by its own name, and those before it in the list aren't
 function_item : (functions : Bool) (x : ServedItem functions) (used : List Token) (t : Token) (rest : List Token) → IsItemFunction functions x used
     → item functions (used ++ t ∷ rest) ≡ Ok (x, t ∷ rest)
 unfolding item same_name
@@ -864,6 +957,7 @@ function_item true x used t rest (inr (inr (y, e, p))) =
     ))
     ∙ ap (λ z. Ok (z, t ∷ rest)) (sym e)
 
+-- each form of an item is read: a column calls no function
 item_complete : (functions : Bool) → Complete (item functions) (IsItem functions) EndsColumn
 unfolding item
 item_complete functions x used t rest (inl (y, e, p)) f =
@@ -871,6 +965,7 @@ item_complete functions x used t rest (inl (y, e, p)) f =
     ∙ ap (λ r. and_then r (λ z rest. Ok (i.Column z, rest))) (column_complete y used t rest p f) ∙ ap (λ z. Ok (z, t ∷ rest)) (sym e)
 item_complete functions x used t rest (inr p) f = function_item functions x used t rest p
 
+-- an item begins with a word
 item_word : (functions : Bool) (x : ServedItem functions) (ts : List Token) → IsItem functions x ts → Begins (λ kind. kind ≡ k.Word) ts
 item_word functions x ts (inl (column, e, p)) = column_word column ts p
 item_word false x ts (inr p) = absurd p
@@ -878,6 +973,7 @@ item_word true x ts (inr (inl (y, e, p))) = call_word (codes "ST_AsText") (IsCol
 item_word true x ts (inr (inr (inl (y, e, p)))) = call_word (codes "ST_Dimension") (IsColumn y) ts p
 item_word true x ts (inr (inr (inr (y, e, p)))) = call_word (codes "ST_IsEmpty") (IsColumn y) ts p
 
+-- so do items, with their first
 items_word : (functions : Bool) (more : List (ServedItem functions)) (x : ServedItem functions) (ts : List Token) → IsParts k.Comma (IsItem functions) x more ts → Begins (λ kind. kind ≡ k.Word) ts
 items_word functions [] x ts p = item_word functions x ts p
 items_word functions (y ∷ more) x ts p = seq_begins (λ kind. kind ≡ k.Word) (IsItem functions x) _ (λ used q. item_word functions x used q) ts p
@@ -886,14 +982,17 @@ items_word functions (y ∷ more) x ts p = seq_begins (λ kind. kind ≡ k.Word)
 abbrev pub worded : (served : Served) → Bool → Reader (Selection (ItemArgument served.functions))
 worded served count = called_or (count_function count) (λ ts. and_then (items served.functions ts) (λ xs rest. Ok (l.Items xs, rest)))
 
+-- a selection that begins with a word isn't the star
 selection_of_word : (served : Served) (ts : List Token) → kind ts ≡ k.Word → selection served ts ≡ worded served served.count ts
 unfolding selection sees same_kind
 selection_of_word served ts e = rw e refl
 
+-- where COUNT isn't called, items are read
 worded_uncounted : (served : Served) (count : Bool) (ts : List Token) → calls (codes "COUNT") ts ≡ false → worded served count ts ≡ and_then (items served.functions ts) (λ xs rest. Ok (l.Items xs, rest))
 worded_uncounted served false ts e = refl
 worded_uncounted served true ts e = rw e refl
 
+-- a star is read as the selection of all columns
 selection_of_star : (served : Served) (u : Token) (ts : List Token) → u.kind ≡ k.Star → selection served (u ∷ ts) ≡ Ok (l.All, ts)
 unfolding selection sees kind next
 selection_of_star served u ts e = rw (is_kind u.kind k.Star e) refl
@@ -908,6 +1007,7 @@ item_uncounted true x used t rest (inr (inl (y, e, p))) f = call_miss (codes "ST
 item_uncounted true x used t rest (inr (inr (inl (y, e, p)))) f = call_miss (codes "ST_Dimension") (codes "COUNT") (IsColumn y) used (t ∷ rest) p refl
 item_uncounted true x used t rest (inr (inr (inr (y, e, p)))) f = call_miss (codes "ST_IsEmpty") (codes "COUNT") (IsColumn y) used (t ∷ rest) p refl
 
+-- items don't begin with a call of COUNT, since their first one isn't such a call
 items_uncounted : (functions : Bool) (more : List (ServedItem functions)) (x : ServedItem functions) (used : List Token) (t : Token) (rest : List Token)
     → IsParts k.Comma (IsItem functions) x more used → EndsColumn t.kind → calls (codes "COUNT") (used ++ t ∷ rest) ≡ false
 unfolding same_kind
@@ -917,6 +1017,7 @@ items_uncounted functions (y ∷ more) x used t rest (a, b, e, p, q) f =
     ap (calls (codes "COUNT")) (split used a b m.1 (t ∷ rest) m.0 e m.2)
     ∙ item_uncounted functions x a m.0 (m.1 ++ t ∷ rest) p (ends_by EndsColumn m.0.kind k.Comma m.3 (refl, refl))
 
+-- behind COUNT, the star in parentheses is read
 star_read : {C : Type 0} (used tail : List Token) → IsCall (codes "COUNT") (IsToken k.Star) used → enclosed (counted {C = C}) (next (used ++ tail)) ≡ Ok (l.Count, tail)
 star_read {C} used tail p =
     call_read (codes "COUNT") (counted {C = C}) (IsCounted {C = C}) whole l.Count used tail (call_but (codes "COUNT") (IsToken k.Star) (IsCounted {C = C} l.Count) used (λ a q. (tt, refl, q)) p)
@@ -926,6 +1027,7 @@ star_read {C} used tail p =
         let star = one_only _ a q in
         ap (λ l. counted {C = C} (l ++ r ∷ tail)) star.1 ∙ ap (λ o. and_then o (λ _ rest. Ok (l.Count, rest))) (expect_read k.Star star.0 (r ∷ tail) star.2) ∙ ap (λ y. Ok (y, r ∷ tail)) (sym e)
 
+-- COUNT(*) is read where it is served
 counted_complete : (served : Served) (count : Bool) → count ≡ true → (used : List Token) (t : Token) (rest : List Token) → IsCall (codes "COUNT") (IsToken k.Star) used
     → worded served count (used ++ t ∷ rest) ≡ Ok (l.Count, t ∷ rest)
 counted_complete served false is_served used t rest p = absurd (cc)
@@ -934,9 +1036,11 @@ counted_complete served true is_served used t rest p =
     first_called (count_function {C = C} true) (λ ts. and_then (items served.functions ts) (λ xs rest. Ok (l.Items xs, rest))) (used ++ t ∷ rest) (enclosed counted)
     (inl (call_hit (codes "COUNT") (IsToken k.Star) used (t ∷ rest) p, refl)) ∙ star_read {C = C} used (t ∷ rest) p
 
+-- what may stand behind a selection: what may behind a column, and no comma
 abbrev pub EndsItems : TokenKind → Type 0
 EndsItems kind = EndsColumn kind × (same_kind kind k.Comma ≡ false)
 
+-- items are read: there are turns enough, since there are no more items than tokens
 items_complete : (functions : Bool) (first : ServedItem functions) (more : List (ServedItem functions)) (used : List Token) (t : Token) (rest : List Token)
     → IsParts k.Comma (IsItem functions) first more used → EndsItems t.kind → items functions (used ++ t ∷ rest) ≡ Ok (first ∷ more, t ∷ rest)
 unfolding same_kind
@@ -944,6 +1048,7 @@ items_complete functions first more used t rest p f =
     parts_complete k.Comma (item functions) (IsItem functions) EndsColumn (refl, refl) (item_complete functions) more first (length (used ++ t ∷ rest)) [] used t rest p f.0 f.1
     (turns_suffice k.Comma (IsItem functions) more first used t rest p)
 
+-- each form of a selection is read: the star by its kind, COUNT(*) by its name, and items since they don't begin with COUNT
 pub selection_complete : (served : Served) → Complete (selection served) (IsSelection served) EndsItems
 selection_complete served x used t rest (inl (e, p)) f =
     let star = one_only _ used p in
@@ -957,38 +1062,47 @@ selection_complete served x used t rest (inr (inr (is_served, e, p))) f =
     selection_of_word served (used ++ t ∷ rest) (kind_after k.Word used (t ∷ rest) (call_word (codes "COUNT") (IsToken k.Star) used p))
     ∙ counted_complete served served.count is_served used t rest p ∙ ap (λ y. Ok (y, t ∷ rest)) (sym e)
 
+-- what may stand behind a table reference: no `(`, and neither AS nor a word, which would be its alias
 abbrev pub EndsReference : TokenKind → Type 0
 EndsReference kind = (same_kind kind k.LeftParenthesis ≡ false) × (same_kind kind k.As ≡ false) × (same_kind kind k.Word ≡ false)
 
+-- where neither AS nor a word is next, there is no alias
 alias_of_none : (t : Token) (rest : List Token) → EndsReference t.kind → alias (t ∷ rest) ≡ Ok (None, t ∷ rest)
 unfolding alias sees kind
 alias_of_none t rest f = rw (f.1, f.2) refl
 
+-- where a word is next, it is read as the alias
 alias_of_word : (ts : List Token) → kind ts ≡ k.Word → alias ts ≡ and_then (name ts) (λ x rest. Ok (Some x, rest))
 unfolding alias sees same_kind
 alias_of_word ts e = rw e refl
 
+-- behind AS, a name is read as the alias
 alias_of_as : (m : Token) (ts : List Token) → m.kind ≡ k.As → alias (m ∷ ts) ≡ and_then (name ts) (λ x rest. Ok (Some x, rest))
 unfolding alias sees kind next
 alias_of_as m ts e = rw (is_kind m.kind k.As e) refl
 
+-- a name is a word
 name_word : (x : Name) (ts : List Token) → IsName x ts → Begins (λ kind. kind ≡ k.Word) ts
 name_word x ts p = one_begins (λ kind. kind ≡ k.Word) _ (λ t q. q.0) ts p
 
+-- an alias without AS is read
 named_alias : (given : Name) (used : List Token) (t : Token) (rest : List Token) → IsName given used → EndsReference t.kind → alias (used ++ t ∷ rest) ≡ Ok (Some given, t ∷ rest)
 named_alias given used t rest p f =
     alias_of_word (used ++ t ∷ rest) (kind_after k.Word used (t ∷ rest) (name_word given used p))
     ∙ ap (λ r. and_then r (λ x rest. Ok (Some x, rest))) (name_complete given used t rest p f.0)
 
+-- an alias behind AS is read
 as_alias : (given : Name) (m : Token) (d : List Token) (t : Token) (rest : List Token) → m.kind ≡ k.As → IsName given d → EndsReference t.kind
     → alias (m ∷ (d ++ t ∷ rest)) ≡ Ok (Some given, t ∷ rest)
 as_alias given m d t rest e p f = alias_of_as m (d ++ t ∷ rest) e ∙ ap (λ r. and_then r (λ x rest. Ok (Some x, rest))) (name_complete given d t rest p f.0)
 
+-- a reference, where its table's name and its alias are read
 reference_by : (table : Name) (given : Option Name) (ts mid rest : List Token) → name ts ≡ Ok (table, mid) → alias mid ≡ Ok (given, rest)
     → reference ts ≡ Ok (record { table = table; alias = given }, rest)
 unfolding reference
 reference_by table given ts mid rest e g = rw (e, g) refl
 
+-- each form of a reference is read: behind the table's name stands AS, a word, or what ends the reference
 pub reference_complete : Complete reference IsReference EndsReference
 unfolding same_kind
 reference_complete x used t rest (inl (table, ex, p)) f =
@@ -1020,42 +1134,51 @@ pub and_false : (a b : Bool) → b ≡ false → (a && b) ≡ false
 and_false true b e = e
 and_false false b e = refl
 
+-- The next token tells the form of a second reference, where one is served; for each form. None of its tokens: there is none
 pub second_of_none : (served : Served) (t : Token) (rest : List Token) → EndsSecond t.kind → second served (t ∷ rest) ≡ Ok ((None, None), t ∷ rest)
 unfolding sees kind
 second_of_none served t rest f = rw (f.2, f.3, f.4, f.5, and_false served.second_reference false refl) refl
 
+-- a comma: a reference without a condition
 pub second_of_comma : (served : Served) (m : Token) (ts : List Token) → served.second_reference ≡ true → m.kind ≡ k.Comma → second served (m ∷ ts) ≡ crossed served.functions ts
 unfolding sees kind next
 second_of_comma served m ts is_served e = rw (is_served, is_kind m.kind k.Comma e) refl
 
+-- CROSS: the same behind JOIN
 pub second_of_cross : (served : Served) (m : Token) (ts : List Token) → served.second_reference ≡ true → m.kind ≡ k.Cross
     → second served (m ∷ ts) ≡ and_then (expect fault.Syntax k.Join ts) (λ _ l. crossed served.functions l)
 unfolding sees kind next same_kind
 second_of_cross served m ts is_served e = rw (is_served, e) refl
 
+-- INNER: from JOIN on, with a reference and a condition
 pub second_of_inner : (served : Served) (m : Token) (ts : List Token) → served.second_reference ≡ true → m.kind ≡ k.Inner → second served (m ∷ ts) ≡ joined_on served.functions ts
 unfolding after sees kind next same_kind
 second_of_inner served m ts is_served e = rw (is_served, e) refl
 
+-- JOIN: the same without INNER
 pub second_of_join : (served : Served) (m : Token) (ts : List Token) → served.second_reference ≡ true → m.kind ≡ k.Join → second served (m ∷ ts) ≡ joined_on served.functions (m ∷ ts)
 unfolding after sees kind next same_kind
 second_of_join served m ts is_served e = rw (is_served, e) refl
 
+-- a second reference without a condition is read
 crossed_complete : (functions : Bool) (given : WrittenReference) (used : List Token) (t : Token) (rest : List Token) → IsReference given used → EndsReference t.kind
     → crossed functions (used ++ t ∷ rest) ≡ Ok ((Some given, None), t ∷ rest)
 unfolding crossed
 crossed_complete functions given used t rest p f = rw (reference_complete given used t rest p f) refl
 
+-- JOIN with its reference and condition, where each step of the reader reads its part
 joined_by_steps : (functions : Bool) (given : WrittenReference) (x : ServedCond functions) (ts ts1 ts2 ts3 ts4 : List Token)
     → expect fault.Syntax k.Join ts ≡ Ok (tt, ts1) → reference ts1 ≡ Ok (given, ts2) → expect fault.Syntax k.On ts2 ≡ Ok (tt, ts3) → condition functions ts3 ≡ Ok (x, ts4)
     → joined_on functions ts ≡ Ok ((Some given, Some x), ts4)
 unfolding joined_on
 joined_by_steps functions given x ts ts1 ts2 ts3 ts4 e1 e2 e3 e4 = rw (e1, e2, e3, e4) refl
 
+-- ON may stand behind a reference
 pub on_ends : (kind : TokenKind) → kind ≡ k.On → EndsReference kind
 unfolding same_kind
 on_ends kind e = ends_by EndsReference kind k.On e (refl, refl, refl)
 
+-- JOIN with its reference and condition is read: ON ends the reference
 joined_complete : (functions : Bool) (given : WrittenReference) (x : ServedCond functions) (used : List Token) (t : Token) (rest : List Token) → IsJoin functions given x used → EndsCondition t.kind
     → joined_on functions (used ++ t ∷ rest) ≡ Ok ((Some given, Some x), t ∷ rest)
 joined_complete functions given x used t rest p f = with_join (one_first _ (IsReference given ▸ IsToken k.On ▸ IsCondition functions x) used p)
@@ -1087,6 +1210,7 @@ crossed_second served given used t rest is_served (inr p) f =
     ∙ ap (λ r. and_then r (λ _ l. crossed served.functions l)) (expect_read k.Join join.0 (join.1 ++ t ∷ rest) join.3)
     ∙ crossed_complete served.functions given join.1 t rest join.4 f
 
+-- two tables with a condition between them, with INNER or without
 joined_second : (served : Served) (given : WrittenReference) (x : ServedCond served.functions) (used : List Token) (t : Token) (rest : List Token) → served.second_reference ≡ true
     → IsJoined served.functions given x used → EndsCondition t.kind → second served (used ++ t ∷ rest) ≡ Ok ((Some given, Some x), t ∷ rest)
 joined_second served given x used t rest is_served (a, b, e, inl none, q) f =
@@ -1099,6 +1223,7 @@ joined_second served given x used t rest is_served (a, b, e, inr p, q) f =
     let same : used ≡ inner.0 ∷ b = e ∙ ap (λ l. l ++ b) inner.1 in
     ap (λ l. second served (l ++ t ∷ rest)) same ∙ second_of_inner served inner.0 (b ++ t ∷ rest) is_served inner.2 ∙ joined_complete served.functions given x b t rest q f
 
+-- each form of a second reference is read, and none where none is written
 pub second_complete : (served : Served) → Complete (second served) (IsBoth served) EndsSecond
 second_complete served (x, y) used t rest (inl (ex, ey, none)) f =
     ap (λ l. second served (l ++ t ∷ rest)) none ∙ second_of_none served t rest f ∙ ap (λ z. Ok ((z, None), t ∷ rest)) (sym ex) ∙ ap (λ z. Ok ((x, z), t ∷ rest)) (sym ey)
@@ -1109,10 +1234,12 @@ second_complete served (x, y) used t rest (inr (inr (is_served, given, z, ex, ey
 
 -- ---- EXPLAIN
 
+-- SELECT is reserved, so it isn't such a word as EXPLAIN or ANALYZE
 says_select : (word : List ℕ) (t : Token) (rest : List Token) → t.kind ≡ k.Select → says word (t ∷ rest) ≡ false
 unfolding says sees kind same_kind
 says_select word t rest e = rw e refl
 
+-- a word with no `(` behind it says what it spells, in any ASCII case
 says_word : (word : List ℕ) (m n : Token) (ts : List Token) → m.kind ≡ k.Word → same_name m.text word ≡ true → same_kind n.kind k.LeftParenthesis ≡ false → says word (m ∷ n ∷ ts) ≡ true
 unfolding says sees kind next spelling
 says_word word m n ts e same other = rw (is_kind m.kind k.Word e, other, same) refl
@@ -1120,6 +1247,7 @@ says_word word m n ts e same other = rw (is_kind m.kind k.Word e, other, same) r
 no_left : (kind known : TokenKind) → kind ≡ known → same_kind known k.LeftParenthesis ≡ false → same_kind kind k.LeftParenthesis ≡ false
 no_left kind known e h = rw e h
 
+-- EXPLAIN and ANALYZE are read as they are written and served: SELECT, which follows, is neither
 pub explained_complete : (served : Served) (told : Explain) (used : List Token) (t : Token) (rest : List Token) → IsExplain served told used → t.kind ≡ k.Select
     → explained served (used ++ t ∷ rest) ≡ Ok (told, t ∷ rest)
 unfolding same_kind next
@@ -1150,17 +1278,21 @@ explained_complete served told used t rest (inr (inr (is_served, is_analyzed, e,
 
 -- ---- WHERE
 
+-- what may stand behind the condition of WHERE, or in its place: what may behind a condition, and no WHERE
 abbrev pub EndsWhere : TokenKind → Type 0
 EndsWhere kind = EndsCondition kind × (same_kind kind k.Where ≡ false)
 
+-- where WHERE isn't next there is no condition
 pub where_of_none : (functions : Bool) (t : Token) (rest : List Token) → same_kind t.kind k.Where ≡ false → where_condition functions (t ∷ rest) ≡ Ok (None, t ∷ rest)
 unfolding where_condition after sees kind next
 where_of_none functions t rest f = rw f refl
 
+-- behind WHERE a condition is read
 pub where_of_word : (functions : Bool) (m : Token) (ts : List Token) → m.kind ≡ k.Where → where_condition functions (m ∷ ts) ≡ and_then (condition functions ts) (λ x rest. Ok (Some x, rest))
 unfolding where_condition after sees kind next
 where_of_word functions m ts e = rw (is_kind m.kind k.Where e) refl
 
+-- WHERE with its condition is read, and none where none is written
 where_complete : (functions : Bool) → Complete (where_condition functions) (IsWhere functions) EndsWhere
 where_complete functions x used t rest (inl (ex, none)) f =
     ap (λ l. where_condition functions (l ++ t ∷ rest)) none ∙ where_of_none functions t rest f.1 ∙ ap (λ y. Ok (y, t ∷ rest)) (sym ex)
@@ -1173,21 +1305,26 @@ where_complete functions x used t rest (inr (y, ex, p)) f = go (one_first _ (IsC
 
 -- ---- LIMIT
 
+-- where LIMIT isn't next there is no limit
 limit_of_none : (served : Served) (t : Token) (rest : List Token) → same_kind t.kind k.Limit ≡ false → limited served (t ∷ rest) ≡ Ok (None, t ∷ rest)
 unfolding sees kind
 limit_of_none served t rest f = rw (f, and_false served.limit false refl) refl
 
+-- behind LIMIT, where it is served, its number is read
 pub limit_of_word : (served : Served) (m : Token) (ts : List Token) → served.limit ≡ true → m.kind ≡ k.Limit → limited served (m ∷ ts) ≡ limit_number ts
 unfolding sees kind next
 limit_of_word served m ts is_served e = rw (is_served, is_kind m.kind k.Limit e) refl
 
+-- digits with a number within 64 bits are read as LIMIT's number
 count_complete : (n : ℕ) (u : Token) (rest : List Token) → u.kind ≡ k.Integer → limit_value u.text ≡ Some n → limit_number (u ∷ rest) ≡ Ok (Some n, rest)
 unfolding limit_number sees kind next place spelling
 count_complete n u rest e g = rw (is_kind u.kind k.Integer e, g) refl
 
+-- what may stand behind LIMIT's number, or in its place: anything but LIMIT
 abbrev pub EndsLimit : TokenKind → Type 0
 EndsLimit kind = same_kind kind k.Limit ≡ false
 
+-- LIMIT with its number is read where it is served, and none where none is written
 limit_complete : (served : Served) → Complete (limited served) (IsLimit served) EndsLimit
 limit_complete served x used t rest (inl (e, none)) f = ap (λ l. limited served (l ++ t ∷ rest)) none ∙ limit_of_none served t rest f ∙ ap (λ y. Ok (y, t ∷ rest)) (sym e)
 limit_complete served x used t rest (inr (is_served, n, e, p)) f =
@@ -1202,14 +1339,17 @@ limit_complete served x used t rest (inr (is_served, n, e, p)) f =
 abbrev pub IsTail : Phrase
 IsTail = IsOptional k.Semicolon ▸ IsToken k.End
 
+-- the end is read without a semicolon before it
 end_read : (n : Token) → n.kind ≡ k.End → expect fault.Syntax k.End (after k.Semicolon (n ∷ [])) ≡ Ok (tt, [])
 unfolding expect after sees kind next same_kind
 end_read n e = rw e refl
 
+-- and with one
 semicolon_read : (m n : Token) → m.kind ≡ k.Semicolon → n.kind ≡ k.End → expect fault.Syntax k.End (after k.Semicolon (m ∷ n ∷ [])) ≡ Ok (tt, [])
 unfolding expect after sees kind next same_kind
 semicolon_read m n e g = rw (e, g) refl
 
+-- what stands at the end of a query is read in both forms
 tail_read : (ts : List Token) → IsTail ts → expect fault.Syntax k.End (after k.Semicolon ts) ≡ Ok (tt, [])
 tail_read ts (semi, last, e, inl none, p) =
     let end = one_only _ last p in
@@ -1227,18 +1367,22 @@ EndsBoth kind = EndsWhere kind × EndsSecond kind
 abbrev pub EndsAll : TokenKind → Type 0
 EndsAll kind = EndsBoth kind × EndsLimit kind
 
+-- the end may stand behind a second reference, the condition of WHERE and LIMIT's number, and in the place of each
 end_ends : (kind : TokenKind) → kind ≡ k.End → EndsAll kind
 unfolding same_kind
 end_ends kind e = ends_by EndsAll kind k.End e (((((((refl, refl), refl), refl), refl), refl), (((((refl, refl), refl), refl), refl), (refl, refl, refl), refl, refl, refl, refl)), refl)
 
+-- so may a semicolon
 semicolon_ends : (kind : TokenKind) → kind ≡ k.Semicolon → EndsAll kind
 unfolding same_kind
 semicolon_ends kind e = ends_by EndsAll kind k.Semicolon e (((((((refl, refl), refl), refl), refl), refl), (((((refl, refl), refl), refl), refl), (refl, refl, refl), refl, refl, refl, refl)), refl)
 
+-- LIMIT may stand behind the condition of WHERE and in its place, and behind a second reference and in its place
 pub limit_ends : (kind : TokenKind) → kind ≡ k.Limit → EndsBoth kind
 unfolding same_kind
 limit_ends kind e = ends_by EndsBoth kind k.Limit e ((((((refl, refl), refl), refl), refl), refl), (((((refl, refl), refl), refl), refl), (refl, refl, refl), refl, refl, refl, refl))
 
+-- what stands at the end begins with a semicolon or the end, which both may stand there
 tail_begins : (ts : List Token) → IsTail ts → Begins EndsAll ts
 tail_begins ts (semi, last, e, inl none, p) =
     let end = one_only _ last p in
@@ -1250,10 +1394,12 @@ tail_begins ts (semi, last, e, inr s, p) =
 pub begins_but : (F G : TokenKind → Type 0) (ts : List Token) → ((kind : TokenKind) → F kind → G kind) → Begins F ts → Begins G ts
 begins_but F G ts h (t, more, e, f) = (t, more, e, h t.kind f)
 
+-- WHERE may stand behind a second reference, or in its place
 pub where_ends : (kind : TokenKind) → kind ≡ k.Where → EndsSecond kind
 unfolding same_kind
 where_ends kind e = ends_by EndsSecond kind k.Where e (((((refl, refl), refl), refl), refl), (refl, refl, refl), refl, refl, refl, refl)
 
+-- from LIMIT on, the next token may stand behind the condition of WHERE: it is LIMIT, or what stands at the end
 limit_begins : (served : Served) (most : Option ℕ) (a b ts : List Token) → ts ≡ a ++ b → IsLimit served most a → IsTail b → Begins EndsBoth ts
 limit_begins served most a b ts e (inl (ex, none)) q =
     let tail : Begins EndsBoth b = begins_but EndsAll EndsBoth b (λ kind f. f.0) (tail_begins b q) in
@@ -1262,6 +1408,7 @@ limit_begins served most a b ts e (inr (is_served, n, ex, p)) q =
     let m = one_first _ (IsRowCount n) a p in
     (m.0, m.1 ++ b, e ∙ ap (λ l. l ++ b) m.2, limit_ends m.0.kind m.3)
 
+-- from WHERE on, the next token may stand behind a second reference: it is WHERE, or what may stand in its place
 where_begins : (functions : Bool) (filter : Option (ServedCond functions)) (a b ts : List Token) → ts ≡ a ++ b → IsWhere functions filter a → Begins EndsBoth b → Begins EndsSecond ts
 where_begins functions filter a b ts e (inl (ex, none)) tail = (tail.0, tail.1, e ∙ ap (λ l. l ++ b) none ∙ tail.2, tail.3.1)
 where_begins functions filter a b ts e (inr (y, ex, p)) tail = go (one_first _ (IsCondition functions y) a p)
@@ -1272,6 +1419,7 @@ where_begins functions filter a b ts e (inr (y, ex, p)) tail = go (one_first _ (
 pub ends_reference : (kind known : TokenKind) → kind ≡ known → EndsReference known → EndsReference kind
 ends_reference kind known e h = ends_by EndsReference kind known e h
 
+-- from the second reference on, the next token may stand behind the first: a comma, CROSS, INNER, JOIN, or what may in their place
 second_begins : (served : Served) (both : Second served.functions) (a b ts : List Token) → ts ≡ a ++ b → IsBoth served both a → Begins EndsSecond b → Begins EndsReference ts
 unfolding same_kind
 second_begins served both a b ts e (inl (ex, ey, none)) (t, more, g, f) = (t, more, e ∙ ap (λ l. l ++ b) none ∙ g, f.1)
@@ -1290,6 +1438,7 @@ second_begins served both a b ts e (inr (inr (is_served, given, x, ex, ey, (a1, 
 
 -- ---- queries as a whole
 
+-- a query, where each step of its reader reads its part
 query_by_steps : (served : Served) (told : Explain) (listed : Selection (ItemArgument served.functions)) (first : WrittenReference) (both : Second served.functions)
     (filter : Option (ServedCond served.functions)) (most : Option ℕ) (ts ts0 ts1 ts2 ts3 ts4 ts5 ts6 tail : List Token)
     → explained served ts ≡ Ok (told, ts0) → expect fault.Syntax k.Select ts0 ≡ Ok (tt, ts1) → selection served ts1 ≡ Ok (listed, ts2) → expect fault.Syntax k.From ts2 ≡ Ok (tt, ts3)
@@ -1303,6 +1452,7 @@ query_by_steps served told listed first both filter most ts ts0 ts1 ts2 ts3 ts4 
 abbrev pub Rest6 : Served → Option ℕ → List Token → Type 0
 Rest6 served most ts = (tail : List Token) × (limited served ts ≡ Ok (most, tail)) × (expect fault.Syntax k.End (after k.Semicolon tail) ≡ Ok (tt, [])) × Begins EndsBoth ts
 
+-- The rest of a query is read part by part from its end, since each part is read by the token that stands behind it. From LIMIT on
 rest6 : (served : Served) (most : Option ℕ) (ts : List Token) → (IsLimit served most ▸ IsTail) ts → Rest6 served most ts
 rest6 served most ts (a, b, e, p, q) = (
   b,
@@ -1315,6 +1465,7 @@ rest6 served most ts (a, b, e, p, q) = (
 abbrev pub Rest5 : (served : Served) → Option (ServedCond served.functions) → Option ℕ → List Token → Type 0
 Rest5 served filter most ts = (mid : List Token) × (where_condition served.functions ts ≡ Ok (filter, mid)) × Rest6 served most mid × Begins EndsSecond ts
 
+-- from WHERE on: what follows begins with a token that may stand behind its condition
 rest5 : (served : Served) (filter : Option (ServedCond served.functions)) (most : Option ℕ) (ts : List Token) → (IsWhere served.functions filter ▸ IsLimit served most ▸ IsTail) ts
     → Rest5 served filter most ts
 rest5 served filter most ts (a, b, e, p, q) =
@@ -1330,6 +1481,7 @@ rest5 served filter most ts (a, b, e, p, q) =
 abbrev pub Rest4 : (served : Served) → Second served.functions → Option (ServedCond served.functions) → Option ℕ → List Token → Type 0
 Rest4 served both filter most ts = (mid : List Token) × (second served ts ≡ Ok (both, mid)) × Rest5 served filter most mid × Begins EndsReference ts
 
+-- from the second reference on: what follows begins with a token that may stand behind it
 rest4 : (served : Served) (both : Second served.functions) (filter : Option (ServedCond served.functions)) (most : Option ℕ) (ts : List Token)
     → (IsBoth served both ▸ IsWhere served.functions filter ▸ IsLimit served most ▸ IsTail) ts → Rest4 served both filter most ts
 rest4 served both filter most ts (a, b, e, p, q) =
@@ -1340,6 +1492,7 @@ rest4 served both filter most ts (a, b, e, p, q) =
       second_begins served both a b ts e p more.3,
     )
 
+-- FROM may stand behind a selection
 pub from_ends : (kind : TokenKind) → kind ≡ k.From → EndsItems kind
 unfolding same_kind
 from_ends kind e = ends_by EndsItems kind k.From e ((refl, refl), refl)

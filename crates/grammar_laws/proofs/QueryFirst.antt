@@ -39,17 +39,20 @@ Meets {A} p P used = ((x : A) × P x used) ⊎ Stops p used
 abbrev pub Hits : {A : Type 0} → Reader A → List Token → Token → Type 0
 Hits p used u = (f : QueryFault) × (is_at_token f ≡ true) × ((rest : List Token) → p (used ++ u ∷ rest) ≡ Err f)
 
+-- a reader stops where another does whose fault it answers
 stops_by : {A B : Type 0} (p : Reader A) (q : Reader B) (used more : List Token)
     → ((f : QueryFault) (t : Token) (rest : List Token) → ((u : Token) (others : List Token) → p (used ++ u ∷ others) ≡ Err f) → q (more ++ t ∷ rest) ≡ Err f) → Stops p used → Stops q more
 stops_by p q used more g (f, is, h) = (f, is, λ t rest. g f t rest h)
 
 -- ---- operands
 
+-- digits whose number, with its sign, isn't within 64 bits are refused as too big
 integer_big : (A : Type 0) (negative : Bool) (u : Token) (rest : List Token) → u.kind ≡ k.Integer → integer_value negative u.text ≡ None
     → integer {A = A} negative (u ∷ rest) ≡ Err (fault.NumberTooBig u.at)
 unfolding integer sees kind next place spelling
 integer_big A negative u rest e none = rw (is_kind u.kind k.Integer e, none) refl
 
+-- digits are an integer, or are refused as too big: with their sign they are within 64 bits or not
 digits_meet : (A : Type 0) (negative : Bool) (used : List Token) → IsToken k.Integer used → ((n : ℤ) × IsDigits negative n used) ⊎ Stops (integer {A = A} negative) used
 digits_meet A negative [] p = absurd p
 digits_meet A negative (u ∷ []) p = go (integer_value negative u.text) refl
@@ -72,6 +75,7 @@ signed_meet functions sign negative used begins p = go (one_first _ (IsToken k.I
         with_digits (inl (n, digits)) = inl (n, (m ∷ [], d, e, signs, digits))
         with_digits (inr (f, is, h)) = inr (f, is, λ t rest. ap (λ l. operand functions (l ++ t ∷ rest)) e ∙ begins (m ∷ (d ++ t ∷ rest)) signs ∙ h t rest)
 
+-- an integer of any size, without a sign or with either, is an operand of the grammar or is refused as too big
 integer_meets : (functions : Bool) (used : List Token) → IsAnyInteger used → Meets (operand functions) (IsOperand functions) used
 integer_meets functions used (inl p) = go (digits_meet (Argument functions) false used p)
   where
@@ -89,36 +93,43 @@ integer_meets functions used (inr (inr p)) = go (signed_meet functions k.Minus t
     go (inl (n, q)) = inl (o.Integer n, inr (inl (n, refl, inr (inr q))))
     go (inr h) = inr h
 
+-- so is what is an operand, or an integer of any size in its place
 operand_meets : (functions : Bool) (x : ServedOperand functions) (used : List Token) → IsAnyOperand functions x used → Meets (operand functions) (IsOperand functions) used
 operand_meets functions x used (inl p) = inl (x, p)
 operand_meets functions x used (inr p) = integer_meets functions used p
 
 -- ---- predicates
 
+-- an integer of any size begins with digits or a sign, so neither with NOT nor with `(`
 any_integer_begins : (ts : List Token) → IsAnyInteger ts → Begins BeginsOperand ts
 unfolding same_kind
 any_integer_begins ts (inl p) = one_begins BeginsOperand _ (λ t q. ends_by BeginsOperand t.kind k.Integer q (refl, refl)) ts p
 any_integer_begins ts (inr (inl p)) = seq_begins BeginsOperand _ _ (one_begins BeginsOperand _ (λ t q. ends_by BeginsOperand t.kind k.Plus q (refl, refl))) ts p
 any_integer_begins ts (inr (inr p)) = seq_begins BeginsOperand _ _ (one_begins BeginsOperand _ (λ t q. ends_by BeginsOperand t.kind k.Minus q (refl, refl))) ts p
 
+-- nor does what is an operand, or an integer of any size in its place, begin with NOT or `(`
 any_operand_begins : (functions : Bool) (x : ServedOperand functions) (ts : List Token) → IsAnyOperand functions x ts → Begins BeginsOperand ts
 any_operand_begins functions x ts (inl p) = operand_begins functions x ts p
 any_operand_begins functions x ts (inr p) = any_integer_begins ts p
 
+-- an integer of any size doesn't begin with a word
 unworded : (used tail : List Token) → IsAnyInteger used → sees k.Word (used ++ tail) ≡ false
 unfolding same_kind
 unworded used tail (inl p) = not_word used tail k.Integer refl (one_begins (λ kind. kind ≡ k.Integer) _ (λ t q. q) used p)
 unworded used tail (inr (inl p)) = not_word used tail k.Plus refl (seq_begins (λ kind. kind ≡ k.Plus) _ _ (one_begins (λ kind. kind ≡ k.Plus) _ (λ t q. q)) used p)
 unworded used tail (inr (inr p)) = not_word used tail k.Minus refl (seq_begins (λ kind. kind ≡ k.Minus) _ _ (one_begins (λ kind. kind ≡ k.Minus) _ (λ t q. q)) used p)
 
+-- where no word is next, no predicate that is a function is called
 predicate_uncalled : (functions : Bool) (ts : List Token) → sees k.Word ts ≡ false → predicate functions ts ≡ comparison functions ts
 unfolding predicate
 predicate_uncalled functions ts e = none_called (predicate_functions functions (place ts)) (comparison functions) ts (λ function. unnamed function ts e)
 
+-- a fault in the left side is what a comparison is refused for
 left_refused : (functions : Bool) (ts : List Token) (f : QueryFault) → operand functions ts ≡ Err f → comparison functions ts ≡ Err f
 unfolding comparison
 left_refused functions ts f e = rw e refl
 
+-- so is one in the right side, once the left side and the sign are read
 right_refused : (functions : Bool) (sign : Comparison) (left : ServedOperand functions) (a : List Token) (m : Token) (tail : List Token) (f : QueryFault)
     → IsOperand functions left a → comparison_of m.kind ≡ Some sign → operand functions tail ≡ Err f → comparison functions (a ++ m ∷ tail) ≡ Err f
 unfolding comparison compared after sees kind next
@@ -140,6 +151,7 @@ left_stops functions used a m d e p (f, is, h) = (
       ∙ left_refused functions (a ++ m ∷ (d ++ t ∷ rest)) f (h m (d ++ t ∷ rest)),
 )
 
+-- a right side that is too big, behind a left side and a sign that are read
 right_stops : (functions : Bool) (sign : Comparison) (left : ServedOperand functions) (used a : List Token) (m : Token) (d : List Token) → used ≡ a ++ m ∷ d → IsOperand functions left a
     → comparison_of m.kind ≡ Some sign → Stops (operand functions) d → Stops (predicate functions) used
 right_stops functions sign left used a m d e p g (f, is, h) = (
@@ -154,6 +166,7 @@ right_stops functions sign left used a m d e p g (f, is, h) = (
 abbrev pub LeftMeets : (functions : Bool) → List Token → List Token → Token → List Token → Type 0
 LeftMeets functions used a m d = ((left : ServedOperand functions) × IsOperand functions left a) ⊎ Stops (predicate functions) used
 
+-- a left side is an operand, or too big, and then the predicate is refused for it whatever stands behind
 left_meets : (functions : Bool) (x : ServedOperand functions) (used a : List Token) (m : Token) (d : List Token) → used ≡ a ++ m ∷ d → IsAnyOperand functions x a → LeftMeets functions used a m d
 left_meets functions x used a m d e (inl p) = inl (x, p)
 left_meets functions x used a m d e (inr p) = go (integer_meets functions a p)
@@ -162,6 +175,7 @@ left_meets functions x used a m d e (inr p) = go (integer_meets functions a p)
     go (inl h) = inl h
     go (inr h) = inr (left_stops functions used a m d e p h)
 
+-- a predicate with integers of any size is one of the grammar, or is refused for its first integer that is too big
 predicate_meets : (functions : Bool) (x : ServedCond functions) (used : List Token) → IsPredicateOf functions (IsAnyOperand functions) x used → Meets (predicate functions) (IsPredicate functions) used
 predicate_meets functions x used (inl (sign, left, right, ex, (a, b, e, p, q))) = with_sign (one_first _ (IsAnyOperand functions right) b q)
   where
@@ -198,6 +212,7 @@ predicate_meets functions x used (inr (inr (inr p))) = inl (x, inr (inr (inr p))
 
 -- ---- parts
 
+-- a fault in the next part is what parts are refused for, while a turn is left
 part_refused : {A : Type 0} (between : TokenKind) (part : Reader A) (n : ℕ) (found : List A) (ts : List Token) (f : QueryFault) → part ts ≡ Err f → parts_from fault.Syntax between part (suc n) found ts ≡ Err f
 unfolding parts_from
 part_refused between part n found ts f e = rw e refl
@@ -206,13 +221,16 @@ part_refused between part n found ts f e = rw e refl
 abbrev pub PartsRefused : {A : Type 0} → TokenKind → Reader A → ℕ → List Token → QueryFault → Type 0
 PartsRefused {A} between part turns ts f = (n : ℕ) (found : List A) → turns < n → parts_from fault.Syntax between part n found ts ≡ Err f
 
+-- parts are refused so within some tokens, of which others stand behind
 abbrev pub PartsStop : {A : Type 0} → TokenKind → Reader A → ℕ → List Token → Type 0
 PartsStop between part turns used = (f : QueryFault) × (is_at_token f ≡ true) × ((t : Token) (rest : List Token) → PartsRefused between part turns (used ++ t ∷ rest) f)
 
+-- a fault in the first part is answered
 first_refused : {A : Type 0} (between : TokenKind) (part : Reader A) (turns : ℕ) (ts : List Token) (f : QueryFault) → part ts ≡ Err f → PartsRefused between part turns ts f
 first_refused between part turns ts f e zero found enough = absurd (omega (arith, enough))
 first_refused between part turns ts f e (suc n) found enough = part_refused between part n found ts f e
 
+-- a fault behind a part and the token between is answered, with one turn more
 later_refused : {A : Type 0} (between : TokenKind) (part : Reader A) (turns : ℕ) (x : A) (ts : List Token) (m : Token) (rest : List Token) (f : QueryFault)
     → part ts ≡ Ok (x, m ∷ rest) → m.kind ≡ between → PartsRefused between part turns rest f → PartsRefused between part (suc turns) ts f
 later_refused between part turns x ts m rest f e g h zero found enough = absurd (omega (arith, enough))
@@ -222,6 +240,8 @@ later_refused between part turns x ts m rest f e g h (suc n) found enough = part
 abbrev pub PartsMeet : {A : Type 0} → TokenKind → Reader A → (A → Phrase) → ℕ → List Token → Type 0
 PartsMeet {A} between part S turns used = ((x : A) × (more : List A) × IsParts between S x more used) ⊎ PartsStop between part turns used
 
+-- Where each part is one of the grammar or is refused, so are they all: the parts before the first that is refused are read,
+-- and its fault is what they are refused for
 parts_meet : {A : Type 0} (between : TokenKind) (part : Reader A) (P S : A → Phrase) (F : TokenKind → Type 0) → F between → Complete part S F → ((x : A) (used : List Token) → P x used → Meets part S used)
     → (more : List A) (x : A) (used : List Token) → IsParts between P x more used → PartsMeet between part S (length more) used
 parts_meet {A} between part P S F mid whole meets [] x used p = go (meets x used p)
@@ -260,15 +280,18 @@ parts_meet {A} between part P S F mid whole meets (y ∷ more) x used (a, b, e, 
 
 -- ---- chains
 
+-- a fault in the first part is what a chain is refused for
 chain_refused : {A : Type 0} (between : TokenKind) (join : List (WrittenCond A) → WrittenCond A) (part : Reader (WrittenCond A)) (ts : List Token) (f : QueryFault)
     → part ts ≡ Err f → chain between join part ts ≡ Err f
 chain_refused between join part ts f e = rw e refl
 
+-- so is one in a later part, since there are turns enough
 chain_later_refused : {A : Type 0} (between : TokenKind) (join : List (WrittenCond A) → WrittenCond A) (part : Reader (WrittenCond A)) (turns : ℕ) (x : WrittenCond A) (ts : List Token) (m : Token) (rest : List Token)
     (f : QueryFault) → part ts ≡ Ok (x, m ∷ rest) → m.kind ≡ between → turns < length rest → PartsRefused between part turns rest f → chain between join part ts ≡ Err f
 unfolding after sees kind next
 chain_later_refused between join part turns x ts m rest f e g enough h = rw (e, is_kind m.kind between g, h (length rest) (x ∷ []) enough) refl
 
+-- where each part is one of the grammar or is refused, so is a chain of them
 chain_meets : {A : Type 0} (between : TokenKind) (join : List (WrittenCond A) → WrittenCond A) (part : Reader (WrittenCond A)) (P S : WrittenCond A → Phrase) (F : TokenKind → Type 0)
     → F between → Complete part S F → ((x : WrittenCond A) (used : List Token) → P x used → Meets part S used)
     → (x : WrittenCond A) (used : List Token) → IsChain between join P x used → Meets (chain between join part) (IsChain between join S) used
@@ -305,15 +328,18 @@ chain_meets {A} between join part P S F mid whole meets x used (inr (one, two, m
     with_token : ((m : Token) × (d : List Token) × (b ≡ m ∷ d) × (m.kind ≡ between) × IsParts between P two more d) → M
     with_token (m, d, g, is, h) = first m d g is h (meets one a p)
 
+-- parts with AND between them are read where each is
 conjunction_complete : {A : Type 0} (part : Reader (WrittenCond A)) (S : WrittenCond A → Phrase) → Complete part S EndsPredicate → Complete (conjunction part) (IsConjunction S) EndsConjunction
 unfolding same_kind
 conjunction_complete part S whole = chain_complete k.And c.And part S EndsPredicate ((refl, refl), refl) whole
 
+-- parts with AND between them are of the grammar or refused, where each is
 conjunction_meets : {A : Type 0} (part : Reader (WrittenCond A)) (P S : WrittenCond A → Phrase) → Complete part S EndsPredicate → ((x : WrittenCond A) (used : List Token) → P x used → Meets part S used)
     → (x : WrittenCond A) (used : List Token) → IsConjunction P x used → Meets (conjunction part) (IsConjunction S) used
 unfolding same_kind
 conjunction_meets part P S whole meets = chain_meets k.And c.And part P S EndsPredicate ((refl, refl), refl) whole meets
 
+-- so are those with AND and OR between them
 condition_of_meets : {A : Type 0} (part : Reader (WrittenCond A)) (P S : WrittenCond A → Phrase) → Complete part S EndsPredicate → ((x : WrittenCond A) (used : List Token) → P x used → Meets part S used)
     → (x : WrittenCond A) (used : List Token) → IsConditionOf P x used → Meets (condition_of part) (IsConditionOf S) used
 unfolding same_kind
@@ -322,17 +348,21 @@ condition_of_meets part P S whole meets =
 
 -- ---- NOT and parentheses
 
+-- with no level left, NOT is refused as too deep
 too_deep_not : (functions : Bool) (m : Token) (ts : List Token) → m.kind ≡ k.Not → negation functions 0 (m ∷ ts) ≡ Err (fault.TooDeep m.at)
 unfolding negation sees kind place same_kind
 too_deep_not functions m ts e = rw e refl
 
+-- so is `(`
 too_deep_left : (functions : Bool) (m : Token) (ts : List Token) → m.kind ≡ k.LeftParenthesis → negation functions 0 (m ∷ ts) ≡ Err (fault.TooDeep m.at)
 unfolding negation sees kind place same_kind
 too_deep_left functions m ts e = rw e refl
 
+-- a fault in a condition is what its parentheses are refused for
 group_refused : {A : Type 0} (part : Reader (WrittenCond A)) (ts : List Token) (f : QueryFault) → condition_of part ts ≡ Err f → group part ts ≡ Err f
 group_refused part ts f e = rw e refl
 
+-- a predicate with integers of any size begins neither with NOT nor with `(`
 any_predicate_begins : (functions : Bool) (x : ServedCond functions) (ts : List Token) → IsPredicateOf functions (IsAnyOperand functions) x ts → Begins BeginsOperand ts
 any_predicate_begins functions x ts (inl (sign, left, right, e, p)) = seq_begins BeginsOperand (IsAnyOperand functions left) _ (any_operand_begins functions left) ts p
 any_predicate_begins functions x ts (inr (inl (operand, e, p))) = seq_begins BeginsOperand (IsAnyOperand functions operand) _ (any_operand_begins functions operand) ts p
@@ -345,6 +375,7 @@ unfolding IsNegationOf
 nested_none functions zero x used p = p
 nested_none functions (suc n) x used p = inr (inr p)
 
+-- such a predicate is one of the grammar or is refused, whatever levels are left, since it uses none
 bare_meets : (functions : Bool) (n : ℕ) (x : ServedCond functions) (used : List Token) → IsPredicateOf functions (IsAnyOperand functions) x used → Meets (negation functions n) (IsNegation functions n) used
 bare_meets functions n x used p = go (predicate_meets functions x used p)
   where
@@ -356,15 +387,19 @@ bare_meets functions n x used p = go (predicate_meets functions x used p)
       λ t rest. let unseen = not_seen used (t ∷ rest) (any_predicate_begins functions x used p) in negation_predicate functions n (used ++ t ∷ rest) unseen.0 unseen.1 ∙ h t rest,
     )
 
+-- NOT nests one level more than what stands behind it
 negated : (functions : Bool) (n : ℕ) (y : ServedCond functions) (used : List Token) → (IsToken k.Not ▸ IsNegation functions n y) used → IsNegation functions (suc n) (c.Not y) used
 unfolding IsNegationOf
 negated functions n y used p = inl (y, refl, p)
 
+-- so do parentheses
 grouped : (functions : Bool) (n : ℕ) (x : ServedCond functions) (used : List Token) → (IsToken k.LeftParenthesis ▸ IsConditionOf (IsNegation functions n) x ▸ IsToken k.RightParenthesis) used
     → IsNegation functions (suc n) x used
 unfolding IsNegationOf
 grouped functions n x used p = inr (inl p)
 
+-- Whatever its depth, a nested condition is one of the grammar within the levels left, or is refused for an integer that is too big or
+-- for the NOT or `(` at which no level is left
 negation_meets : (functions : Bool) (levels n : ℕ) (x : ServedCond functions) (used : List Token) → IsNegationOf (IsPredicateOf functions (IsAnyOperand functions)) levels x used
     → Meets (negation functions n) (IsNegation functions n) used
 unfolding IsNegationOf
@@ -425,11 +460,14 @@ negation_meets functions (suc levels) (suc n) x used (inr (inl p)) =
         let last = one_last (IsConditionOf L x) _ d h in
         inner m d last.0 last.1 e left last.2 last.4 (condition_of_meets (negation functions n) L N (negation_complete functions n) meets x last.0 last.3)
 
+-- the same where the depth isn't given
 any_negation_meets : (functions : Bool) (n : ℕ) (x : ServedCond functions) (used : List Token) → IsAnyNegation functions x used → Meets (negation functions n) (IsNegation functions n) used
 any_negation_meets functions n x used (levels, p) = negation_meets functions levels n x used p
 
 -- ---- parts that stand before one more
 
+-- Behind parts with their token, a fault in the next part is answered, or one before it: each part in front is read or is refused
+-- itself
 ended_hits : {A : Type 0} (between : TokenKind) (part : Reader A) (P S : A → Phrase) (F : TokenKind → Type 0) → F between → Complete part S F → ((x : A) (used : List Token) → P x used → Meets part S used)
     → (xs : List A) (used v : List Token) (u : Token) → AreEnded (IsToken between) P xs used → Hits part v u
     → (f : QueryFault) × (is_at_token f ≡ true) × ((rest : List Token) → PartsRefused between part (length xs) (used ++ (v ++ u ∷ rest)) f)
@@ -475,6 +513,7 @@ ended_turns {A} between P (x ∷ xs) used v u rest (a, b, e, p, q) = go (λ d h.
         → ((m : Token) × (d : List Token) × (b ≡ m ∷ d) × (m.kind ≡ between) × AreEnded (IsToken between) P xs d) → length (x ∷ xs) < length (used ++ (v ++ u ∷ rest))
     go others (m, d, g, is, h) = omega (arith, others d h, ap length (split used a b d (v ++ u ∷ rest) m e g), length-append a (m ∷ (d ++ (v ++ u ∷ rest))))
 
+-- so is it by a chain of them: the parts in front leave turns enough
 chain_hits : {A : Type 0} (between : TokenKind) (join : List (WrittenCond A) → WrittenCond A) (part : Reader (WrittenCond A)) (P S : WrittenCond A → Phrase) (F : TokenKind → Type 0)
     → F between → Complete part S F → ((x : WrittenCond A) (used : List Token) → P x used → Meets part S used)
     → (xs : List (WrittenCond A)) (used v : List Token) (u : Token) → AreEnded (IsToken between) P xs used → Hits part v u → Hits (chain between join part) (used ++ v) u
@@ -530,6 +569,7 @@ finish served told listed first both = λ ts. and_then (where_condition served.f
     and_then (expect fault.Syntax k.End (after k.Semicolon tail))
     (λ _ last. Ok (record { explain = told; selection = listed; first = first; second = both.0; on = both.1; condition = condition; limit = most }, last))))
 
+-- a query up to its first reference, where each step of the reader reads its part: what is left is the second reference and the rest
 query_steps : (served : Served) (told : Explain) (listed : Selection (ItemArgument served.functions)) (first : WrittenReference) (ts ts0 ts1 ts2 ts3 ts4 : List Token)
     → explained served ts ≡ Ok (told, ts0) → expect fault.Syntax k.Select ts0 ≡ Ok (tt, ts1) → selection served ts1 ≡ Ok (listed, ts2) → expect fault.Syntax k.From ts2 ≡ Ok (tt, ts3)
     → reference ts3 ≡ Ok (first, ts4) → query served ts ≡ and_then (second served ts4) (finish served told listed first)
@@ -541,6 +581,7 @@ abbrev pub Prefix : Served → List Token → Type 0
 Prefix served a = (told : Explain) × (listed : Selection (ItemArgument served.functions)) × (first : WrittenReference)
     × ((t : Token) (rest : List Token) → EndsReference t.kind → query served (a ++ t ∷ rest) ≡ and_then (second served (t ∷ rest)) (finish served told listed first))
 
+-- a front up to the first reference is read, since each part is read by the token that stands behind it
 prefix_read : (served : Served) (a : List Token) → BeforeSecond served a → Prefix served a
 prefix_read served a (told, listed, first, (x, b, e, p, q)) = (told, listed, first, with_select (one_first _ (IsSelection served listed ▸ IsToken k.From ▸ IsReference first) b q))
   where
@@ -567,17 +608,21 @@ prefix_at : (served : Served) (a ts : List Token) (p : Prefix served a) → Begi
 prefix_at served a ts (told, listed, first, read) (t, more, e, f) =
     ap (λ l. query served (a ++ l)) e ∙ read t more f ∙ ap (λ l. and_then (second served l) (finish served told listed first)) (sym e)
 
+-- behind such a front, a fault in the second reference is what a query is refused for
 second_refused : (served : Served) (a ts : List Token) (f : QueryFault) → Prefix served a → Begins EndsReference ts → second served ts ≡ Err f → query served (a ++ ts) ≡ Err f
 second_refused served a ts f p begins h = prefix_at served a ts p begins ∙ ap (λ r. and_then r (finish served p.0 p.1 p.2)) h
 
+-- what WHERE is refused for, the rest of the query is
 finish_refused : (served : Served) (told : Explain) (listed : Selection (ItemArgument served.functions)) (first : WrittenReference) (both : Second served.functions) (ts : List Token) (f : QueryFault)
     → where_condition served.functions ts ≡ Err f → finish served told listed first both ts ≡ Err f
 finish_refused served told listed first both ts f e = rw e refl
 
+-- so is one of LIMIT, once the condition of WHERE is read
 limit_refused : (served : Served) (told : Explain) (listed : Selection (ItemArgument served.functions)) (first : WrittenReference) (both : Second served.functions) (ts rest : List Token)
     (filter : Option (ServedCond served.functions)) (f : QueryFault) → where_condition served.functions ts ≡ Ok (filter, rest) → limited served rest ≡ Err f → finish served told listed first both ts ≡ Err f
 limit_refused served told listed first both ts rest filter f e g = rw (e, g) refl
 
+-- a fault in the condition behind WHERE is what the rest of the query is refused for
 filter_refused : (served : Served) (told : Explain) (listed : Selection (ItemArgument served.functions)) (first : WrittenReference) (both : Second served.functions) (m : Token) (tail : List Token) (f : QueryFault)
     → m.kind ≡ k.Where → condition served.functions tail ≡ Err f → finish served told listed first both (m ∷ tail) ≡ Err f
 filter_refused served told listed first both m tail f word h =
@@ -587,11 +632,13 @@ filter_refused served told listed first both m tail f word h =
 abbrev pub IsOn : WrittenReference → Phrase
 IsOn given = IsOptional k.Inner ▸ IsToken k.Join ▸ IsReference given ▸ IsToken k.On
 
+-- a fault in the condition of ON is what JOIN is refused for, once what stands before the condition is read
 on_steps : (functions : Bool) (given : WrittenReference) (ts ts1 ts2 ts3 : List Token) (f : QueryFault) → expect fault.Syntax k.Join ts ≡ Ok (tt, ts1) → reference ts1 ≡ Ok (given, ts2)
     → expect fault.Syntax k.On ts2 ≡ Ok (tt, ts3) → condition functions ts3 ≡ Err f → joined_on functions ts ≡ Err f
 unfolding joined_on
 on_steps functions given ts ts1 ts2 ts3 f e1 e2 e3 e4 = rw (e1, e2, e3, e4) refl
 
+-- JOIN, a reference and ON are read, so a fault behind them is answered
 on_refused : (functions : Bool) (given : WrittenReference) (used tail : List Token) (f : QueryFault) → (IsToken k.Join ▸ IsReference given ▸ IsToken k.On) used → condition functions tail ≡ Err f
     → joined_on functions (used ++ tail) ≡ Err f
 on_refused functions given used tail f p h =
@@ -602,6 +649,7 @@ on_refused functions given used tail f p h =
     ∙ on_steps functions given (join.0 ∷ (join.1 ++ tail)) (join.1 ++ tail) (on.1 ∷ tail) tail f (expect_read k.Join join.0 (join.1 ++ tail) join.3)
     (ap reference cut ∙ reference_complete given on.0 on.1 tail on.3 (on_ends on.1.kind on.4)) (expect_read k.On on.1 tail on.4) h
 
+-- so is it by the second reference, with INNER or without
 join_refused : (served : Served) (given : WrittenReference) (used tail : List Token) (f : QueryFault) → served.second_reference ≡ true → IsOn given used → condition served.functions tail ≡ Err f
     → second served (used ++ tail) ≡ Err f
 join_refused served given used tail f is_served (a, b, e, inl none, q) h =
@@ -615,6 +663,7 @@ join_refused served given used tail f is_served (a, b, e, inr p, q) h =
 begins_more : (F : TokenKind → Type 0) (a tail : List Token) → Begins F a → Begins F (a ++ tail)
 begins_more F a tail (t, more, e, f) = (t, more ++ tail, ap (λ l. l ++ tail) e, f)
 
+-- a second reference with a condition begins with INNER or JOIN, which may stand behind the first
 on_begins : (given : WrittenReference) (used : List Token) → IsOn given used → Begins EndsReference used
 unfolding same_kind
 on_begins given used (a, b, e, inl none, q) =
@@ -624,6 +673,7 @@ on_begins given used (a, b, e, inr p, q) =
     let inner = one_only _ a p in
     (inner.0, b, e ∙ ap (λ l. l ++ b) inner.1, ends_reference inner.0.kind k.Inner inner.2 (refl, refl, refl))
 
+-- one without begins with a comma or CROSS, which may too
 crossed_begins : (given : WrittenReference) (used : List Token) → IsCrossed given used → Begins EndsReference used
 unfolding same_kind
 crossed_begins given used (inl p) =
@@ -637,6 +687,7 @@ crossed_begins given used (inr p) =
 in_a_row : (before a b v tail : List Token) → before ≡ a ++ b → (before ++ v) ++ tail ≡ a ++ (b ++ (v ++ tail))
 in_a_row before a b v tail e = append_assoc before v tail ∙ ap (λ l. l ++ (v ++ tail)) e ∙ append_assoc a b (v ++ tail)
 
+-- a fault in the condition of ON is what the query is refused for, since all that stands before it is read
 on_hits : (served : Served) (before v : List Token) (u : Token) → BeforeOn served before → Hits (condition served.functions) v u → Hits (query served) (before ++ v) u
 on_hits served before v u (is_served, given, (a, b, e, p, q)) (f, at, h) = (
   f,
@@ -665,10 +716,12 @@ Through served before =
     × ((m : Token) (tail : List Token) → EndsSecond m.kind → query served (before ++ m ∷ tail) ≡ finish served told listed first both (m ∷ tail)))
     ⊎ Stops (query served) before
 
+-- behind such a front, a second reference that is read leaves the condition of WHERE and the rest
 through_second : (served : Served) (a ts : List Token) (both : Second served.functions) (rest : List Token) (p : Prefix served a) → Begins EndsReference ts → second served ts ≡ Ok (both, rest)
     → query served (a ++ ts) ≡ finish served p.0 p.1 p.2 both rest
 through_second served a ts both rest p begins e = prefix_at served a ts p begins ∙ ap (λ r. and_then r (finish served p.0 p.1 p.2)) e
 
+-- a front up to the last reference is read, or refused for a fault at a token in the condition of ON
 through_meets : (served : Served) (before : List Token) → ThroughFrom served before → Through served before
 through_meets served before (inl p) =
     let prefix = prefix_read served before p in
@@ -717,6 +770,7 @@ through_meets served before (inr (inr (on, (a, d, e, (is_served, given, (x, y, e
           (join_refused served given y (d ++ t ∷ rest) f is_served j (h t rest)),
     )
 
+-- a fault in the condition of WHERE is what the query is refused for, or one before it in the condition of ON
 where_hits : (served : Served) (before v : List Token) (u : Token) → BeforeWhere served before → Hits (condition served.functions) v u → Hits (query served) (before ++ v) u
 where_hits served before v u (a, w, e, p, q) (f, at, h) = go (one_only _ w q) (through_meets served a p)
   where
@@ -736,10 +790,12 @@ count_big : (u : Token) (rest : List Token) → u.kind ≡ k.Integer → limit_v
 unfolding limit_number sees kind next place spelling
 count_big u rest e none = rw (is_kind u.kind k.Integer e, none) refl
 
+-- LIMIT with such an integer is refused as too big, where it is served
 limit_big : (served : Served) (m u : Token) (rest : List Token) → served.limit ≡ true → m.kind ≡ k.Limit → u.kind ≡ k.Integer → limit_value u.text ≡ None
     → limited served (m ∷ u ∷ rest) ≡ Err (fault.NumberTooBig u.at)
 limit_big served m u rest is_served word digits none = limit_of_word served m (u ∷ rest) is_served word ∙ count_big u rest digits none
 
+-- LIMIT's integer that is too big is what the query is refused for, or a fault before it in the condition of ON or of WHERE
 limit_hits : (served : Served) (before : List Token) (u : Token) → BeforeLimit served before → u.kind ≡ k.Integer → limit_value u.text ≡ None → Hits (query served) before u
 limit_hits served before u (is_served, (a, b, e, p, (w, c, e2, filter, q))) digits none = go (one_only _ c q) filter (through_meets served a p)
   where
@@ -795,6 +851,7 @@ limit_hits served before u (is_served, (a, b, e, p, (w, c, e2, filter, q))) digi
 
 -- ---- fronts of a condition
 
+-- a fault behind NOT is answered with one level less; with none left NOT itself is too deep
 not_step : (functions : Bool) (opened : ℕ) (m : Token) (v : List Token) (u : Token) → m.kind ≡ k.Not → ((levels : ℕ) → suc opened + levels ≡ most_levels → Hits (negation functions levels) v u)
     → (levels : ℕ) → opened + levels ≡ most_levels → Hits (negation functions levels) (m ∷ v) u
 not_step functions opened m v u is hit zero count = (fault.TooDeep m.at, refl, λ rest. too_deep_not functions m (v ++ u ∷ rest) is)
@@ -802,6 +859,7 @@ not_step functions opened m v u is hit (suc levels) count =
     let inner = hit levels (omega (arith, count)) in
     (inner.0, inner.1, λ rest. negation_not functions levels m (v ++ u ∷ rest) is ∙ ap (λ r. and_then r (λ y rest. Ok (c.Not y, rest))) (inner.2 rest))
 
+-- a fault behind `(` and parts of its condition is answered with one level less; with none left `(` itself is too deep
 group_step : (functions : Bool) (opened : ℕ) (m : Token) (d v : List Token) (u : Token) → m.kind ≡ k.LeftParenthesis → AreParts functions d
     → ((levels : ℕ) → suc opened + levels ≡ most_levels → Hits (negation functions levels) v u) → (levels : ℕ) → opened + levels ≡ most_levels → Hits (negation functions levels) (m ∷ (d ++ v)) u
 group_step functions opened m d v u is parts hit zero count = (fault.TooDeep m.at, refl, λ rest. too_deep_left functions m ((d ++ v) ++ u ∷ rest) is)
@@ -812,6 +870,8 @@ group_step functions opened m d v u is parts hit (suc levels) count =
 hits_at : {A : Type 0} (p : Reader A) (used more : List Token) (u : Token) → used ≡ more → Hits p used u → Hits p more u
 hits_at p used more u e h = subst (λ l. Hits p l u) e h
 
+-- By induction on the NOT and parentheses that are open before a fault: each hands on what is answered behind it, up to ON or WHERE,
+-- and with these the whole query is refused
 nested_hits : (served : Served) (opened : ℕ) (before v : List Token) (u : Token) → BeforeNegation served opened before
     → ((levels : ℕ) → opened + levels ≡ most_levels → Hits (negation served.functions levels) v u) → Hits (query served) (before ++ v) u
 unfolding BeforeNegation
@@ -834,6 +894,7 @@ nested_hits served (suc opened) before v u (inr (a, b, e, p, q)) hit =
 abbrev pub Unseen : List Token → Token → Type 0
 Unseen v u = (rest : List Token) → (sees k.Word (v ++ u ∷ rest) ≡ false) × (sees k.Not (v ++ u ∷ rest) ≡ false) × (sees k.LeftParenthesis (v ++ u ∷ rest) ≡ false)
 
+-- a fault of an operand is what a predicate that begins with it is refused for, whatever levels are left
 left_hits : (functions : Bool) (levels : ℕ) (v : List Token) (u : Token) → Unseen v u → Hits (operand functions) v u → Hits (negation functions levels) v u
 left_hits functions levels v u unseen (f, at, h) = (
   f,
@@ -843,6 +904,7 @@ left_hits functions levels v u unseen (f, at, h) = (
       ∙ left_refused functions (v ++ u ∷ rest) f (h rest),
 )
 
+-- a fault of a right side is what its comparison is refused for, or that the left side is too big
 right_hits : (functions : Bool) (levels : ℕ) (left : ServedOperand functions) (sign : Comparison) (x : List Token) (m : Token) (v : List Token) (u : Token) → IsAnyOperand functions left x
     → comparison_of m.kind ≡ Some sign → Hits (operand functions) v u → Hits (negation functions levels) (x ++ m ∷ v) u
 right_hits functions levels left sign x m v u p compares hit = go p
@@ -874,6 +936,7 @@ right_hits functions levels left sign x m v u p compares hit = go p
     go (inl s) = strict left s hit
     go (inr q) = big q (integer_meets functions x q)
 
+-- so a fault of an operand, on either side and at any depth, has the query refused for it or for one before it
 operand_hits : (served : Served) (before v : List Token) (u : Token) → BeforeOperand served before → Unseen v u → Hits (operand served.functions) v u → Hits (query served) (before ++ v) u
 operand_hits served before v u (opened, inl p) unseen hit = nested_hits served opened before v u p (λ levels count. left_hits served.functions levels v u unseen hit)
 operand_hits served before v u (opened, inr (left, sign, (a, b, e, p, (x, y, e2, l, s)))) unseen hit =
@@ -882,32 +945,39 @@ operand_hits served before v u (opened, inr (left, sign, (a, b, e, p, (x, y, e2,
     (sym (ap (λ l. l ++ v) (e ∙ ap (λ l. a ++ l) (e2 ∙ ap (λ l. x ++ l) m.1)) ∙ append_assoc a (x ++ m.0 ∷ []) v ∙ ap (λ l. a ++ l) (append_assoc x (m.0 ∷ []) v)))
     (nested_hits served opened a (x ++ m.0 ∷ v) u p (λ levels count. right_hits served.functions levels left sign x m.0 v u l m.2 hit))
 
+-- before an integer of an operand the next token is no word, NOT or `(`, so neither a call nor nesting is read: digits alone
 digits_unseen : (u : Token) → u.kind ≡ k.Integer → Unseen [] u
 unfolding sees kind same_kind
 digits_unseen u e rest = rw e (refl, refl, refl)
 
+-- digits behind a plus
 plus_unseen : (m u : Token) → m.kind ≡ k.Plus → Unseen (m ∷ []) u
 unfolding sees kind same_kind
 plus_unseen m u e rest = rw e (refl, refl, refl)
 
+-- digits behind a minus
 minus_unseen : (m u : Token) → m.kind ≡ k.Minus → Unseen (m ∷ []) u
 unfolding sees kind same_kind
 minus_unseen m u e rest = rw e (refl, refl, refl)
 
+-- an operand's digits that are too big are refused: without a sign
 digits_hit : (functions : Bool) (u : Token) → u.kind ≡ k.Integer → integer_value false u.text ≡ None → Hits (operand functions) [] u
 unfolding kind
 digits_hit functions u e none = (fault.NumberTooBig u.at, refl, λ rest. operand_of_digits functions (u ∷ rest) e ∙ integer_big (Argument functions) false u rest e none)
 
+-- behind a plus
 plus_hit : (functions : Bool) (m u : Token) → m.kind ≡ k.Plus → u.kind ≡ k.Integer → integer_value false u.text ≡ None → Hits (operand functions) (m ∷ []) u
 unfolding kind next
 plus_hit functions m u plus e none = (fault.NumberTooBig u.at, refl, λ rest. operand_of_plus functions (m ∷ u ∷ rest) plus ∙ integer_big (Argument functions) false u rest e none)
 
+-- behind a minus, with which one number more is within 64 bits
 minus_hit : (functions : Bool) (m u : Token) → m.kind ≡ k.Minus → u.kind ≡ k.Integer → integer_value true u.text ≡ None → Hits (operand functions) (m ∷ []) u
 unfolding kind next
 minus_hit functions m u minus e none = (fault.NumberTooBig u.at, refl, λ rest. operand_of_minus functions (m ∷ u ∷ rest) minus ∙ integer_big (Argument functions) true u rest e none)
 
 -- ---- each refusal
 
+-- where as many NOT and parentheses are open as may be, no level is left, and one more is too deep
 deep_hit : (functions : Bool) (u : Token) → (u.kind ≡ k.Not) ⊎ (u.kind ≡ k.LeftParenthesis) → (levels : ℕ) → most_levels + levels ≡ most_levels → Hits (negation functions levels) [] u
 deep_hit functions u (inl e) zero count = (fault.TooDeep u.at, refl, λ rest. too_deep_not functions u rest e)
 deep_hit functions u (inr e) zero count = (fault.TooDeep u.at, refl, λ rest. too_deep_left functions u rest e)
@@ -940,6 +1010,7 @@ stands_hits served before u fault.OutOfMemory h = absurd h
 
 -- ---- texts
 
+-- a text that isn't too long and has no bad token is refused for what its tokens are refused for
 fault_given : (served : Served) (text : List ℕ) (ts : List Token) (f : QueryFault) → length text ≤ most_bytes → bad_place (tokens true text) ≡ None → tokens true text ≡ ts → query served ts ≡ Err f
     → query_of served text ≡ Err f
 unfolding query_of

@@ -18,6 +18,7 @@ value_read : {A : Type 0} (r : Outcome QueryFault A) (P : A → Type 0) → IfRe
 value_read (Ok p) P h = h
 value_read (Err e) P h = tt
 
+-- a text that is made of tokens is read as the tokens' query; one that isn't is refused, which leaves nothing to show
 by_place : (served : Served) (text : List ℕ) (v : Option ℕ) → length text ≤ most_bytes → bad_place (tokens true text) ≡ v
     → IfOk (query_by served v (tokens true text)) (λ q. IsQuery served text q)
 unfolding IsQuery
@@ -27,11 +28,13 @@ by_place served text None short e =
     (query_sound served (tokens true text) (tokens_once true text)))
 by_place served text (Some at) short e = tt
 
+-- so for a text that isn't too long; a longer one is refused
 by_length : (served : Served) (text : List ℕ) (long : Bool) → nat_lt most_bytes (length text) ≡ long
     → IfOk (if long then Err fault.TooLong else query_by served (bad_place (tokens true text)) (tokens true text)) (λ q. IsQuery served text q)
 by_length served text true e = tt
 by_length served text false e = by_place served text (bad_place (tokens true text)) (ltb-false most_bytes (length text) e) refl
 
+-- whatever a text is read as, it is by the grammar, as the readers of its tokens keep to their rules
 query_of_sound : (served : Served) (text : List ℕ) → IfOk (query_of served text) (λ q. IsQuery served text q)
 unfolding query_of
 query_of_sound served text = by_length served text (nat_lt most_bytes (length text)) refl
@@ -46,6 +49,7 @@ unfolding query_of IsQuery
 query_is_read served text q (short, good, select) =
     rw (le-ltb most_bytes (length text) short, good, select_complete served q (tokens true text) select) refl
 
+-- one answer has one value
 same_answer : {A : Type 0} (r : Result A QueryFault) (a b : A) → r ≡ Ok a → r ≡ Ok b → a ≡ b
 same_answer r a b p q = cc
 

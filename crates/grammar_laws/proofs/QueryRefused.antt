@@ -37,15 +37,18 @@ Faults (Err f) E = is_at_token f ≡ true → E f
 abbrev pub Faultless : {A : Type 0} → Reader A → Type 1
 Faultless p = (E : QueryFault → Type 0) (ts : List Token) → Faults (p ts) E
 
+-- a fault of two readers in a row is the first's, or the second's behind what the first took
 then_faults : {A B : Type 0} (r : Outcome QueryFault A) (f : A → Reader B) (Q : A → List Token → Type 0) (E : QueryFault → Type 0)
     → IfRead r Q → Faults r E → ((x : A) (rest : List Token) → Q x rest → Faults (f x rest) E) → Faults (and_then r f) E
 then_faults (Ok p) f Q E read first more = more p.0 p.1 read
 then_faults (Err e) f Q E read first more = first
 
+-- the same where it doesn't matter what the first took
 then_none : {A B : Type 0} (r : Outcome QueryFault A) (f : A → Reader B) (E : QueryFault → Type 0) → Faults r E → ((x : A) (rest : List Token) → Faults (f x rest) E) → Faults (and_then r f) E
 then_none (Ok p) f E first more = more p.0 p.1
 then_none (Err e) f E first more = first
 
+-- a fault of one of two readers, by the test that chooses it
 if_faults : {A : Type 0} (b : Bool) (x y : Outcome QueryFault A) (E : QueryFault → Type 0) → (b ≡ true → Faults x E) → (b ≡ false → Faults y E) → Faults (if b then x else y) E
 if_faults true x y E f g = f refl
 if_faults false x y E f g = g refl
@@ -55,20 +58,24 @@ eaten_faults_by : {A : Type 0} (b : Bool) (ts : List Token) (p q : Reader A) (E 
 eaten_faults_by true ts p q E f g = f refl
 eaten_faults_by false ts p q E f g = g refl
 
+-- a fault of a reader that goes on in one way where a token of a kind is taken, and in another where none stands
 eaten_faults : {A : Type 0} (wanted : TokenKind) (ts : List Token) (p q : Reader A) (E : QueryFault → Type 0)
     → (sees wanted ts ≡ true → Faults (p (next ts)) E) → (sees wanted ts ≡ false → Faults (q ts) E) → Faults ((if sees wanted ts then p else q) (after wanted ts)) E
 unfolding after
 eaten_faults wanted ts p q E f g = eaten_faults_by (sees wanted ts) ts p q E f g
 
+-- a token that isn't of the kind asked for is a fault of syntax, which isn't one at a token
 expect_faults : (wanted : TokenKind) → Faultless (expect fault.Syntax wanted)
 unfolding expect
 expect_faults wanted E ts = if_faults (sees wanted ts) _ _ E (λ _. tt) (λ _. λ e. absurd (false≢true e))
 
+-- what is made of an answer adds no fault
 mapped_faults : {A B : Type 0} (f : B → A) (p : Reader B) → Faultless p → Faultless {A = A} (λ ts. and_then (p ts) (λ y rest. Ok (f y, rest)))
 mapped_faults f p none E ts = then_none (p ts) _ E (none E ts) (λ y rest. tt)
 
 -- ---- readers that answer no such fault
 
+-- names, columns and strings are refused for syntax alone: a fault at a token needs an operand's integer, LIMIT's or a level
 name_faults : Faultless name
 unfolding name
 name_faults E ts = if_faults (sees k.Word ts && not (sees k.LeftParenthesis (next ts))) _ _ E (λ _. tt) (λ _. λ e. absurd (false≢true e))
@@ -82,6 +89,7 @@ string_faults : Faultless string
 unfolding string
 string_faults E ts = if_faults (sees k.Text ts) _ _ E (λ _. tt) (λ _. λ e. absurd (false≢true e))
 
+-- parentheses add none to what stands inside
 enclosed_faults : {A : Type 0} (inside : Reader A) → Faultless inside → Faultless (enclosed inside)
 enclosed_faults inside none E ts = then_none (expect fault.Syntax k.LeftParenthesis ts) _ E (expect_faults k.LeftParenthesis E ts)
     (λ _ ts1. then_none (inside ts1) _ E (none E ts1) (λ x ts2. then_none (expect fault.Syntax k.RightParenthesis ts2) _ E (expect_faults k.RightParenthesis E ts2) (λ _ rest. tt)))
@@ -91,24 +99,29 @@ abbrev pub AllFaultless : {A : Type 0} → Functions A → Type 1
 AllFaultless [] = Unit {1}
 AllFaultless (f ∷ more) = Faultless f.1 × AllFaultless more
 
+-- one of some functions is read, or what stands where none of them is called
 called_faults : {A : Type 0} (functions : Functions A) (other : Reader A) (ts : List Token) (E : QueryFault → Type 0) → AllFaultless functions → Faults (other ts) E
     → Faults (called_or functions other ts) E
 called_faults [] other ts E each none = none
 called_faults (f ∷ more) other ts E each none = if_faults (calls f.0 ts) _ _ E (λ _. each.0 E (next ts)) (λ _. called_faults more other ts E each.1 none)
 
+-- a geometry is ST_GeomFromText of a string, or a column
 geometry_faults : Faultless geometry
 unfolding geometry
 geometry_faults E ts = if_faults (calls (codes "ST_GeomFromText") ts) _ _ E
     (λ _. enclosed_faults _ (mapped_faults _ string string_faults) E (next ts)) (λ _. mapped_faults _ column column_faults E ts)
 
+-- ST_AsText and ST_Dimension of a geometry; so for the predicates and the functions of the select list below
 operand_functions_faults : (functions : Bool) (at : ℕ) → AllFaultless (operand_functions functions at)
 operand_functions_faults false at = tt
 operand_functions_faults true at = (enclosed_faults _ (mapped_faults _ geometry geometry_faults), (enclosed_faults _ (mapped_faults _ geometry geometry_faults), tt))
 
+-- IS NULL and IS NOT NULL have no integer
 null_faults : {A : Type 0} (left : WrittenOperand A) → Faultless (null_test left)
 unfolding null_test
 null_faults left E ts = then_none (expect fault.Syntax k.Null (after k.Not ts)) _ E (expect_faults k.Null E (after k.Not ts)) (λ _ rest. tt)
 
+-- the integer behind a predicate is 1 or 0, and any other is a fault of syntax, however big
 value_faults : {A : Type 0} (x : WrittenCond A) → Faultless (truth_value x)
 unfolding truth_value
 value_faults x E ts = if_faults (sees k.Integer ts && digits_value 10 (spelling ts) == 1) _ _ E (λ _. tt)
@@ -118,9 +131,11 @@ test_faults : {A : Type 0} (x : WrittenCond A) → Faultless (truth_test x)
 unfolding truth_test
 test_faults x E ts = eaten_faults k.Equal ts _ _ E (λ _. value_faults x E (next ts)) (λ _. tt)
 
+-- a predicate is its arguments in parentheses, and a test of 1 or 0 or none
 tested_faults : {A : Type 0} (arguments : Reader (WrittenCond A)) → Faultless arguments → Faultless (truth_tested arguments)
 tested_faults arguments none E ts = then_none (enclosed arguments ts) _ E (enclosed_faults arguments none E ts) (λ x rest. test_faults x E rest)
 
+-- two geometries with a comma between them, and for ST_Relate a pattern behind them
 relates_faults : (at : ℕ) (predicate : Predicate) → Faultless (relates at predicate)
 unfolding relates
 relates_faults at predicate E ts = then_none (geometry ts) _ E (geometry_faults E ts)
@@ -166,10 +181,12 @@ item_functions_faults false at = tt
 item_functions_faults true at =
     (enclosed_faults _ (mapped_faults _ column column_faults), (enclosed_faults _ (mapped_faults _ column column_faults), (enclosed_faults _ (mapped_faults _ column column_faults), tt)))
 
+-- an item is a function of a column, or a column
 item_faults : (functions : Bool) → Faultless (item functions)
 unfolding item
 item_faults functions E ts = called_faults (item_functions functions (place ts)) _ ts E (item_functions_faults functions (place ts)) (mapped_faults _ column column_faults E ts)
 
+-- parts with tokens between them aren't refused at a token where no part is
 parts_faultless : {A : Type 0} (between : TokenKind) (part : Reader A) → Faultless part → (n : ℕ) (found : List A) → Faultless (parts_from fault.Syntax between part n found)
 unfolding parts_from
 parts_faultless between part none zero found E ts = λ e. absurd (false≢true e)
@@ -181,6 +198,7 @@ count_function_faults C false = tt
 count_function_faults C true =
     (enclosed_faults (counted {C = C}) (λ E ts. then_none (expect fault.Syntax k.Star ts) _ E (expect_faults k.Star E ts) (λ _ rest. tt)), tt)
 
+-- a select list is the asterisk, COUNT(*) or items: none has an operand or a level
 selection_faults : (served : Served) → Faultless (selection served)
 unfolding selection
 selection_faults served E ts =
@@ -189,6 +207,7 @@ selection_faults served E ts =
     (λ _. called_faults (count_function served.count) _ ts E (count_function_faults (ItemArgument served.functions) served.count)
     (then_none (items F ts) _ E (parts_faultless k.Comma (item F) (item_faults F) (length ts) [] E ts) (λ xs rest. tt)))
 
+-- an alias, a table reference and one that is joined without a condition have no operand and no level
 alias_faults : Faultless alias
 unfolding alias
 alias_faults E ts = if_faults (sees k.As ts) _ _ E (λ _. then_none (name (next ts)) _ E (name_faults E (next ts)) (λ x rest. tt))
@@ -202,6 +221,7 @@ crossed_faults : (functions : Bool) → Faultless (crossed functions)
 unfolding crossed
 crossed_faults functions E ts = then_none (reference ts) _ E (reference_faults E ts) (λ x rest. tt)
 
+-- EXPLAIN and ANALYZE are words, and are never refused
 explained_faults : (served : Served) → Faultless (explained served)
 explained_faults served E ts = if_faults (served.explain && says (codes "EXPLAIN") ts) _ _ E
     (λ _. if_faults (served.analyze && says (codes "ANALYZE") (next ts)) _ _ E (λ _. tt) (λ _. tt)) (λ _. tt)
@@ -232,19 +252,23 @@ part_more C end P xs x all ts mid rest before read last =
 
 -- ---- the rules set aside take what the rules take
 
+-- where one rule takes all that another takes, so do lists of such parts, chains, conditions, negations and predicates of them
 parts_but : {A : Type 0} (between : TokenKind) (P Q : A → Phrase) → ((x : A) (ts : List Token) → P x ts → Q x ts) → (more : List A) (x : A) (ts : List Token)
     → IsParts between P x more ts → IsParts between Q x more ts
 parts_but between P Q f [] x ts p = f x ts p
 parts_but between P Q f (y ∷ more) x ts (a, b, e, p, (u, d, e2, q, h)) = (a, b, e, f x a p, (u, d, e2, q, parts_but between P Q f more y d h))
 
+-- a chain is one part, or two and more with AND or OR between them
 chain_but : {A : Type 0} (between : TokenKind) (join : List (WrittenCond A) → WrittenCond A) (P Q : WrittenCond A → Phrase) → ((x : WrittenCond A) (ts : List Token) → P x ts → Q x ts)
     → (x : WrittenCond A) (ts : List Token) → IsChain between join P x ts → IsChain between join Q x ts
 chain_but between join P Q f x ts (inl p) = inl (f x ts p)
 chain_but between join P Q f x ts (inr (first, second, more, e, p)) = inr (first, second, more, e, parts_but between P Q f (second ∷ more) first ts p)
 
+-- a condition is a chain of chains
 condition_but : {A : Type 0} (P Q : WrittenCond A → Phrase) → ((x : WrittenCond A) (ts : List Token) → P x ts → Q x ts) → (x : WrittenCond A) (ts : List Token) → IsConditionOf P x ts → IsConditionOf Q x ts
 condition_but P Q f = chain_but k.Or c.Or (IsConjunction P) (IsConjunction Q) (chain_but k.And c.And P Q f)
 
+-- level by level: behind NOT, between parentheses, and at the predicate
 negation_but : {A : Type 0} (P Q : WrittenCond A → Phrase) → ((x : WrittenCond A) (ts : List Token) → P x ts → Q x ts) → (levels : ℕ) (x : WrittenCond A) (ts : List Token)
     → IsNegationOf P levels x ts → IsNegationOf Q levels x ts
 unfolding IsNegationOf
@@ -254,6 +278,7 @@ negation_but P Q f (suc levels) x ts (inr (inl (a, b, e, left, (d, r, e2, p, rig
     inr (inl (a, b, e, left, (d, r, e2, condition_but (IsNegationOf P levels) (IsNegationOf Q levels) (negation_but P Q f levels) x d p, right)))
 negation_but P Q f (suc levels) x ts (inr (inr p)) = inr (inr (f x ts p))
 
+-- comparisons and IS NULL take operands; functions don't, and stay as they are
 predicate_but : (functions : Bool) (P Q : ServedOperand functions → Phrase) → ((x : ServedOperand functions) (ts : List Token) → P x ts → Q x ts) → (x : ServedCond functions) (ts : List Token)
     → IsPredicateOf functions P x ts → IsPredicateOf functions Q x ts
 predicate_but functions P Q f x ts (inl (comparison, left, right, e, (a, b, e2, p, (m, d, e3, q, h)))) = inl (comparison, left, right, e, (a, b, e2, f left a p, (m, d, e3, q, f right d h)))
@@ -261,13 +286,16 @@ predicate_but functions P Q f x ts (inr (inl (operand, e, (a, b, e2, p, q)))) = 
 predicate_but functions P Q f x ts (inr (inr (inl (operand, e, (a, b, e2, p, q))))) = inr (inr (inl (operand, e, (a, b, e2, f operand a p, q))))
 predicate_but functions P Q f x ts (inr (inr (inr p))) = inr (inr (inr p))
 
+-- a negation of the grammar is one where integers have any size and levels any number
 any_negation : (functions : Bool) (levels : ℕ) (x : ServedCond functions) (ts : List Token) → IsNegation functions levels x ts → IsAnyNegation functions x ts
 any_negation functions levels x ts p =
     (levels, negation_but (IsPredicate functions) (IsPredicateOf functions (IsAnyOperand functions)) (predicate_but functions (IsOperand functions) (IsAnyOperand functions) (λ y us q. inl q)) levels x ts p)
 
+-- and so is a condition
 any_condition : (functions : Bool) (x : ServedCond functions) (ts : List Token) → IsCondition functions x ts → IsAnyCondition functions x ts
 any_condition functions = condition_but (IsNegation functions most_levels) (IsAnyNegation functions) (any_negation functions most_levels)
 
+-- what is read as a negation is one where integers have any size and levels any number
 negation_read : (functions : Bool) (levels : ℕ) → Sound (negation functions levels) (IsAnyNegation functions)
 negation_read functions levels ts =
     map_read (negation functions levels ts) (λ x rest. Took ts (IsNegation functions levels x) rest) (λ x rest. Took ts (IsAnyNegation functions x) rest)
@@ -275,16 +303,19 @@ negation_read functions levels ts =
 
 -- ---- operands
 
+-- digits without a value of 64 bits are refused as too big
 digits_faults : (A : Type 0) (E : QueryFault → Type 0) (at : ℕ) (rest : List Token) (v : Option ℤ) → (v ≡ None → E (fault.NumberTooBig at)) → Faults {A = WrittenOperand A} (integer_or v at rest) E
 digits_faults A E at rest None h = λ _. h refl
 digits_faults A E at rest (Some n) h = tt
 
+-- so an integer is refused at its digits, for what they spell with the sign
 integer_faults : (A : Type 0) (negative : Bool) (E : QueryFault → Type 0) (ts : List Token) → (sees k.Integer ts ≡ true → integer_value negative (spelling ts) ≡ None → E (fault.NumberTooBig (place ts)))
     → Faults {A = WrittenOperand A} (integer negative ts) E
 unfolding integer
 integer_faults A negative E ts h =
     if_faults (sees k.Integer ts) _ _ E (λ is. digits_faults A E (place ts) (next ts) (integer_value negative (spelling ts)) (h is)) (λ _. λ e. absurd (false≢true e))
 
+-- digits that are too big are refused at the token where the reader stands, behind the tokens that it took
 big_here : (served : Served) (all : List Token) (P : Phrase) {V : Type 0} (value : List ℕ → Option V) (ts : List Token) → Took all P ts → sees k.Integer ts ≡ true → value (spelling ts) ≡ None
     → ((before : List Token) (t : Token) → P before → t.kind ≡ k.Integer → value t.text ≡ None → IsTooBig served before t)
     → StandsIn served all (fault.NumberTooBig (place ts))
@@ -292,6 +323,7 @@ unfolding sees kind place spelling
 big_here served all P value [] took is none f = absurd (let e = same k.Bad k.Integer is in cc)
 big_here served all P value (t ∷ rest) took is none f = (took.0, rest, t, took.1, (refl, f took.0 t took.2 (same t.kind k.Integer is) none))
 
+-- an operand is refused at a token only as an integer: behind +, behind -, or without a sign
 operand_faults : (served : Served) (all ts : List Token) → Took all (BeforeOperand served) ts → Faults (operand served.functions ts) (StandsIn served all)
 unfolding operand
 operand_faults served all ts took =
@@ -312,6 +344,7 @@ operand_faults served all ts took =
 
 -- ---- predicates
 
+-- the right side stands behind the left one and the sign of comparison, where an operand may stand
 compared_faults : (served : Served) (all : List Token) (opened : ℕ) (at : ℕ) (left : ServedOperand served.functions) (start ts : List Token) (v : Option Comparison)
     → Took all (BeforeNegation served opened) start → Took start (IsOperand served.functions left) ts → comparison_of (kind ts) ≡ v
     → Faults (compared_by served.functions at left v ts) (StandsIn served all)
@@ -325,6 +358,7 @@ compared_faults served all opened at left start ts (Some comparison) stood read 
     (operand_faults served all (next ts) (but (BeforeNegation served opened ▸ O ▸ IsComparison comparison) (BeforeOperand served) all (next ts) both (λ used p. (opened, inr (left, comparison, p)))))
     (λ right rest. tt)
 
+-- the left side stands where the predicate does; IS NULL behind it has no further operand
 comparison_faults : (served : Served) (all : List Token) (opened : ℕ) (ts : List Token) → Took all (BeforeNegation served opened) ts → Faults (comparison served.functions ts) (StandsIn served all)
 unfolding comparison compared
 comparison_faults served all opened ts took =
@@ -334,6 +368,7 @@ comparison_faults served all opened ts took =
     (λ left mid read. eaten_faults k.Is mid _ _ E (λ _. null_faults left E (next mid))
     (λ _. compared_faults served all opened (place ts) left ts mid (comparison_of (kind mid)) took read refl))
 
+-- functions aren't refused at a token, so a predicate is refused as a comparison is
 predicate_faults : (served : Served) (all : List Token) (opened : ℕ) (ts : List Token) → Took all (BeforeNegation served opened) ts → Faults (predicate served.functions ts) (StandsIn served all)
 unfolding predicate
 predicate_faults served all opened ts took =
@@ -342,6 +377,7 @@ predicate_faults served all opened ts took =
 
 -- ---- conditions
 
+-- parts with tokens between them are refused where one of them is, which stands behind those that were read before
 parts_faults : {A : Type 0} (between : TokenKind) (part : Reader A) (P : A → Phrase) (C : Phrase) (all : List Token) (E : QueryFault → Type 0) → (k.Bad ≡ between → ⊥) → Sound part P
     → ((xs : List A) (ts : List Token) → Took all (C ▸ AreEnded (IsToken between) P xs) ts → Faults (part ts) E)
     → (n : ℕ) (found xs : List A) (ts : List Token) → Took all (C ▸ AreEnded (IsToken between) P xs) ts → Faults (parts_from fault.Syntax between part n found ts) E
@@ -354,6 +390,7 @@ parts_faults between part P C all E good sound each (suc n) found xs ts took =
     (part_more C (IsToken between) P xs x all ts mid (next mid) took read (one between mid good h)))
     (λ _. tt))
 
+-- a chain is refused where its first part is, or one of those behind AND or OR
 chain_faults : {A : Type 0} (between : TokenKind) (join : List (WrittenCond A) → WrittenCond A) (part : Reader (WrittenCond A)) (P : WrittenCond A → Phrase) (C : Phrase) (all : List Token) (E : QueryFault → Type 0)
     → (k.Bad ≡ between → ⊥) → Sound part P → ((xs : List (WrittenCond A)) (ts : List Token) → Took all (C ▸ AreEnded (IsToken between) P xs) ts → Faults (part ts) E)
     → (ts : List Token) → Took all C ts → Faults (chain between join part ts) E
@@ -368,9 +405,11 @@ chain_faults {A} between join part P C all E good sound each ts took =
     (λ xs rest. tt))
     (λ _. tt))
 
+-- what is read as parts with AND between them is a conjunction of the grammar
 conjunction_sound : {A : Type 0} (part : Reader (WrittenCond A)) (P : WrittenCond A → Phrase) → Sound part P → Sound (conjunction part) (IsConjunction P)
 conjunction_sound part P sound = chain_sound k.And c.And part P (λ e. cc) sound
 
+-- a condition is refused where one of its parts is, behind the conjunctions before it and the parts of its own
 condition_of_faults : {A : Type 0} (part : Reader (WrittenCond A)) (P : WrittenCond A → Phrase) (C : Phrase) (all : List Token) (E : QueryFault → Type 0) → Sound part P
     → ((ors ands : List (WrittenCond A)) (ts : List Token) → Took all (C ▸ AreEnded (IsToken k.Or) (IsConjunction P) ors ▸ AreEnded (IsToken k.And) P ands) ts → Faults (part ts) E)
     → (ts : List Token) → Took all C ts → Faults (condition_of part ts) E
@@ -384,6 +423,7 @@ with_parts : (functions : Bool) (C : Phrase) (ors ands : List (ServedCond functi
     → Took all (C ▸ AreEnded (IsToken k.Or) (IsConjunction (IsAnyNegation functions)) ors ▸ AreEnded (IsToken k.And) (IsAnyNegation functions) ands) ts → Took all (C ▸ AreParts functions) ts
 with_parts functions C ors ands all ts took = but _ (C ▸ AreParts functions) all ts took (λ used p. (p.0, p.1, p.2, p.3, (ors, ands, p.4)))
 
+-- parentheses are refused where a part of the condition inside is
 group_faults : (functions : Bool) (part : Reader (ServedCond functions)) (C : Phrase) (all : List Token) (E : QueryFault → Type 0) → Sound part (IsAnyNegation functions)
     → ((ts : List Token) → Took all (C ▸ AreParts functions) ts → Faults (part ts) E) → (ts : List Token) → Took all C ts → Faults (group part ts) E
 group_faults functions part C all E sound each ts took =
@@ -395,6 +435,7 @@ either_true : (X : Type 0) (a b : Bool) → (a || b) ≡ true → (a ≡ true �
 either_true X true b h f g = f refl
 either_true X false b h f g = g h
 
+-- a NOT or a parenthesis where all levels are open is refused as too deep, at itself
 deep_here : (served : Served) (all ts : List Token) → Took all (BeforeNegation served most_levels) ts → (sees k.Not ts || sees k.LeftParenthesis ts) ≡ true
     → StandsIn served all (fault.TooDeep (place ts))
 unfolding sees kind place same_kind
@@ -414,6 +455,8 @@ deep_here served all (t ∷ rest) took h = (
   ),
 )
 
+-- each NOT and each parenthesis opens a level, and the open levels and those that are left stay the same in sum,
+-- so where none is left all are open
 negation_faults : (served : Served) (all : List Token) (levels opened : ℕ) → opened + levels ≡ most_levels → (ts : List Token) → Took all (BeforeNegation served opened) ts
     → Faults (negation served.functions levels ts) (StandsIn served all)
 unfolding negation BeforeNegation
@@ -438,6 +481,7 @@ negation_faults served all (suc levels) opened count ts took =
     (next ts) (seq B (IsToken k.LeftParenthesis) all ts (next ts) took (one k.LeftParenthesis ts (λ e. cc) h)))
     (λ _. predicate_faults served all opened ts took))
 
+-- the parts of a whole condition, of ON or of WHERE, stand where no level is open yet
 condition_faults : (served : Served) (C : Phrase) (all : List Token) → ((ts : List Token) → Took all (C ▸ AreParts served.functions) ts → Took all (BeforeNegation served 0) ts)
     → (ts : List Token) → Took all C ts → Faults (condition served.functions ts) (StandsIn served all)
 condition_faults served C all begins ts took =
@@ -454,6 +498,7 @@ and_second : (a b : Bool) → (a && b) ≡ true → b ≡ true
 and_second true b h = h
 and_second false b h = absurd (false≢true h)
 
+-- the condition of ON stands behind JOIN, the second reference and ON
 joined_on_faults : (served : Served) (all start ts : List Token) → served.second_reference ≡ true → Took all (BeforeSecond served) start → Took start (IsOptional k.Inner) ts
     → Faults (joined_on served.functions ts) (StandsIn served all)
 unfolding joined_on BeforeNegation
@@ -472,6 +517,7 @@ joined_on_faults served all start ts is_served took inner =
     (condition_faults served (BeforeOn served) all (λ us h. but (BeforeOn served ▸ AreParts served.functions) (BeforeNegation served 0) all us h (λ used p. inl p)) ts3 stood)
     (λ x rest. tt))))
 
+-- of the ways to write a second reference the one with JOIN and ON alone has a condition
 second_faults : (served : Served) (all ts : List Token) → Took all (BeforeSecond served) ts → Faults (second served ts) (StandsIn served all)
 second_faults served all ts took =
     let F : Bool = served.functions in
@@ -506,6 +552,7 @@ through_from served both used (a, b, e, p, inr (inr (is_served, given, on, x, y,
       (a ++ f, d, e ∙ ap (λ l. a ++ l) e3 ∙ sym (append_assoc a f d), (is_served, given, (a, f, refl, p, front)), any_condition served.functions on d cond),
     ))
 
+-- the condition of WHERE stands behind the last reference and its condition
 where_faults : (served : Served) (all ts : List Token) → Took all (ThroughFrom served) ts → Faults (where_condition served.functions ts) (StandsIn served all)
 unfolding where_condition BeforeNegation
 where_faults served all ts took =
@@ -517,14 +564,17 @@ where_faults served all ts took =
     (λ x rest. tt))
     (λ _. tt)
 
+-- a condition of WHERE is one where integers have any size and levels any number
 any_where : (functions : Bool) (filter : Option (ServedCond functions)) (used : List Token) → IsWhere functions filter used → IsAnyWhere functions used
 any_where functions filter used (inl (e, none)) = inl none
 any_where functions filter used (inr (x, e, (a, b, cut, word, p))) = inr (x, (a, b, cut, word, any_condition functions x b p))
 
+-- digits of LIMIT without a value are refused as too big
 count_faults : (E : QueryFault → Type 0) (at : ℕ) (rest : List Token) (v : Option ℕ) → (v ≡ None → E (fault.NumberTooBig at)) → Faults (limit_or v at rest) E
 count_faults E at rest None h = λ _. h refl
 count_faults E at rest (Some n) h = tt
 
+-- the integer of LIMIT stands behind FROM, WHERE and LIMIT, and is refused where it is too big
 limit_faults : (served : Served) (filter : Option (ServedCond served.functions)) (all mid ts : List Token) → Took all (ThroughFrom served) mid → Took mid (IsWhere served.functions filter) ts
     → Faults (limited served ts) (StandsIn served all)
 unfolding limit_number
@@ -543,6 +593,7 @@ limit_faults served filter all mid ts took read =
     (λ _. λ e. absurd (false≢true e)))
     (λ _. tt)
 
+-- each reader stands behind what those before it took, which is the front of the grammar that its fault asks for
 pub query_faults : (served : Served) (ts : List Token) → Faults (query served ts) (StandsIn served ts)
 unfolding query
 query_faults served ts =
@@ -570,11 +621,13 @@ by_value : {A : Type 0} (text : List ℕ) (E : QueryFault → Type 0) (r : Outco
 by_value text E (Ok p) h = tt
 by_value text E (Err f) h = h
 
+-- a fault at one of the tokens stands in the text, which isn't too long and is made of tokens
 in_text : (served : Served) (text : List ℕ) (r : Result (ServedQuery served) QueryFault) → length text ≤ most_bytes → bad_place (tokens true text) ≡ None
     → IfErr r (λ f. is_at_token f ≡ true → StandsIn served (tokens true text) f) → IfErr r (StandsInQuery served text)
 in_text served text (Ok q) short good h = tt
 in_text served text (Err f) short good h = λ is. (short, good, h is)
 
+-- a byte that begins no token is a fault of its own; without one the tokens are read
 by_place : (served : Served) (text : List ℕ) (v : Option ℕ) → length text ≤ most_bytes → bad_place (tokens true text) ≡ v → IfErr (query_by served v (tokens true text)) (StandsInQuery served text)
 by_place served text None short good =
     in_text served text (value_of (query served (tokens true text))) short good

@@ -34,14 +34,17 @@ use Rattle.table_model.specs.Phrases.{Phrase, IsOne, IsToken, ◌▸◌, IsOptio
 
 -- ---- what a reader answers
 
+-- a reader is sound where the tokens that it takes are written in the grammar for what it answers, whatever tokens it is given
 abbrev pub Sound : {A : Type 0} → Reader A → (A → Phrase) → Type 0
 Sound {A} p P = (ts : List Token) → IfRead (p ts) (λ x rest. Took ts (P x) rest)
 
+-- a token that is demanded is the one taken; where another stands there the reader refuses
 pub expect_sound : (wanted : TokenKind) (ts : List Token) → (k.Bad ≡ wanted → ⊥) → IfRead (expect fault.Syntax wanted ts) (λ x rest. Took ts (IsToken wanted) rest)
 expect_sound = expect_taken fault.Syntax
 
 -- ---- names and columns
 
+-- a word that is next is a name, of its text and its place
 name_taken : (ts : List Token) → sees k.Word ts ≡ true → Took ts (IsName (written ts)) (next ts)
 unfolding sees kind next spelling place
 name_taken [] h = absurd (let e = same k.Bad k.Word h in cc)
@@ -51,11 +54,13 @@ and_left : (a b : Bool) → (a && b) ≡ true → a ≡ true
 and_left true b h = refl
 and_left false b h = h
 
+-- a name is read only where a word is next, and takes that word alone
 pub name_sound : Sound name IsName
 unfolding name
 name_sound ts = if_read (sees k.Word ts && not (sees k.LeftParenthesis (next ts))) _ _ (λ x rest. Took ts (IsName x) rest)
     (λ h. name_taken ts (and_left _ _ h)) (λ _. tt)
 
+-- a column is read as one name, and as two exactly where a point stands behind the first
 pub column_sound : Sound column IsColumn
 unfolding column
 column_sound ts = then_read (name ts) _ (λ x rest. Took ts (IsName x) rest) (λ x rest. Took ts (IsColumn x) rest)
@@ -75,19 +80,23 @@ column_sound ts = then_read (name ts) _ (λ x rest. Took ts (IsName x) rest) (λ
 abbrev pub Begins : (TokenKind → Type 0) → Phrase
 Begins F ts = (t : Token) × (more : List Token) × (ts ≡ t ∷ more) × F t.kind
 
+-- a phrase of one token begins with that token
 pub one_begins : (F : TokenKind → Type 0) (P : Token → Type 0) → ((t : Token) → P t → F t.kind) → (ts : List Token) → IsOne P ts → Begins F ts
 one_begins F P f [] h = absurd h
 one_begins F P f (t ∷ []) h = (t, [], refl, f t h)
 one_begins F P f (t ∷ u ∷ ts) h = absurd h
 
+-- tokens begin as their front does
 seq_from : (F : TokenKind → Type 0) (before after ts : List Token) → ts ≡ before ++ after → Begins F before → Begins F ts
 seq_from F before after ts e (t, more, same, f) = (t, more ++ after, e ∙ ap (λ l. l ++ after) same, f)
 
+-- two phrases in a row begin as the first does
 pub seq_begins : (F : TokenKind → Type 0) (P Q : Phrase) → ((ts : List Token) → P ts → Begins F ts) → (ts : List Token) → (P ▸ Q) ts → Begins F ts
 seq_begins F P Q f ts (before, after, e, p, q) = seq_from F before after ts e (f before p)
 
 -- ---- functions
 
+-- a token of text that is next is a string, of its text and its place
 text_taken : (ts : List Token) → sees k.Text ts ≡ true → Took ts (IsString (written ts)) (next ts)
 unfolding sees kind next spelling place
 text_taken [] h = absurd (let e = same k.Bad k.Text h in cc)
@@ -97,11 +106,13 @@ and_right : (a b : Bool) → (a && b) ≡ true → b ≡ true
 and_right true b h = h
 and_right false b h = absurd (cc)
 
+-- the next token is a word, the same in any ASCII case
 word_taken : (word : List ℕ) (ts : List Token) → sees k.Word ts ≡ true → same_name (spelling ts) word ≡ true → Took ts (IsWord word) (next ts)
 unfolding sees kind next spelling
 word_taken word [] h e = absurd (let bad = same k.Bad k.Word h in cc)
 word_taken word (t ∷ ts) h e = (t ∷ [], refl, (same t.kind k.Word h, e))
 
+-- where a function is called next, the next token is its name
 function_taken : (function : List ℕ) (ts : List Token) → calls function ts ≡ true → Took ts (IsWord function) (next ts)
 unfolding calls
 function_taken function ts h = word_taken function ts (and_left _ _ (and_left _ _ h)) (and_right _ _ h)
@@ -111,11 +122,13 @@ abbrev pub AllRead : {A : Type 0} → Functions A → List Token → (A → List
 AllRead [] ts Q = Unit {0}
 AllRead (f ∷ more) ts Q = (calls f.0 ts ≡ true → IfRead (f.1 (next ts)) Q) × AllRead more ts Q
 
+-- a choice by name is sound where the reader of each function is, and the one for no function: it answers as one of them
 called_sound : {A : Type 0} (functions : Functions A) (other : Reader A) (ts : List Token) (Q : A → List Token → Type 0)
     → AllRead functions ts Q → IfRead (other ts) Q → IfRead (called_or functions other ts) Q
 called_sound [] other ts Q each h = h
 called_sound (f ∷ more) other ts Q each h = if_read (calls f.0 ts) _ _ Q each.0 (λ _. called_sound more other ts Q each.1 h)
 
+-- what is read in parentheses has both of them around it, since the reader demands them
 enclosed_sound : {A : Type 0} (inside : Reader A) (P : A → Phrase) → Sound inside P
     → Sound (enclosed inside) (λ x. IsToken k.LeftParenthesis ▸ P x ▸ IsToken k.RightParenthesis)
 enclosed_sound {A} inside P sound ts =
@@ -128,6 +141,7 @@ enclosed_sound {A} inside P sound ts =
     (sound ts1))
     (expect_sound k.LeftParenthesis ts (λ e. cc))
 
+-- a function's name and what its parentheses enclose, one behind the other, are its call
 call_sound : {A : Type 0} (function : List ℕ) (inside : Reader A) (P : A → Phrase) (ts : List Token) → Sound inside P → calls function ts ≡ true
     → IfRead (enclosed inside (next ts)) (λ x rest. Took ts (IsCall function (P x)) rest)
 call_sound {A} function inside P ts sound h =
@@ -139,6 +153,7 @@ call_sound {A} function inside P ts sound h =
 abbrev pub IsMade : {A B : Type 0} → (B → A) → (B → Phrase) → A → Phrase
 IsMade {A} {B} f P x ts = (y : B) × (x ≡ f y) × P y ts
 
+-- a tree that is made of what was read is written with the same tokens
 made_sound : {A B : Type 0} (f : B → A) (p : Reader B) (P : B → Phrase) (ts : List Token) → Sound p P → IfRead (and_then (p ts) (λ y rest. Ok (f y, rest))) (λ x rest. Took ts (IsMade f P x) rest)
 made_sound f p P ts sound = then_read (p ts) _ (λ y rest. Took ts (P y) rest) (λ x rest. Took ts (IsMade f P x) rest)
     (λ y rest q. but _ _ ts rest q (λ used h. (y, refl, h))) (sound ts)
@@ -149,10 +164,12 @@ call_made : {A B : Type 0} (function : List ℕ) (f : B → A) (P : B → Phrase
 call_made function f P x ts (a, b, e, word, (a1, b1, e1, left, (a2, b2, e2, (y, is, p), right))) =
     (y, is, (a, b, e, word, (a1, b1, e1, left, (a2, b2, e2, p, right))))
 
+-- a string is read only where a token of text is next, and takes that token alone
 string_sound : Sound string IsString
 unfolding string
 string_sound ts = if_read (sees k.Text ts) _ _ (λ x rest. Took ts (IsString x) rest) (λ h. text_taken ts h) (λ _. tt)
 
+-- a geometry is read as a call of ST_GeomFromText where that is called next, and else as a column
 geometry_sound : Sound geometry IsGeometry
 unfolding geometry
 geometry_sound ts =
@@ -170,22 +187,27 @@ BeginsOperand kind = (same_kind kind k.Not ≡ false) × (same_kind kind k.LeftP
 kind_begins : (kind known : TokenKind) → kind ≡ known → BeginsOperand known → BeginsOperand kind
 kind_begins kind known e h = rw e h
 
+-- An operand begins neither with NOT nor with `(`, so it isn't taken for a nested condition; for each form of it. A column begins
+-- with a word
 pub column_begins : (x : WrittenColumn) (ts : List Token) → IsColumn x ts → Begins BeginsOperand ts
 unfolding same_kind
 column_begins x ts (inl (only, e, p)) = one_begins BeginsOperand _ (λ t q. kind_begins t.kind k.Word q.0 (refl, refl)) ts p
 column_begins x ts (inr (first, second, e, p)) =
     seq_begins BeginsOperand _ _ (one_begins BeginsOperand _ (λ t q. kind_begins t.kind k.Word q.0 (refl, refl))) ts p
 
+-- an integer begins with digits or with a sign
 pub integer_begins : (n : ℤ) (ts : List Token) → IsInteger n ts → Begins BeginsOperand ts
 unfolding same_kind
 integer_begins n ts (inl p) = one_begins BeginsOperand _ (λ t q. kind_begins t.kind k.Integer q.0 (refl, refl)) ts p
 integer_begins n ts (inr (inl p)) = seq_begins BeginsOperand _ _ (one_begins BeginsOperand _ (λ t q. kind_begins t.kind k.Plus q (refl, refl))) ts p
 integer_begins n ts (inr (inr p)) = seq_begins BeginsOperand _ _ (one_begins BeginsOperand _ (λ t q. kind_begins t.kind k.Minus q (refl, refl))) ts p
 
+-- tokens stand at the place of their first one, whatever follows
 pub place_is : (used rest : List Token) → Begins BeginsOperand used → place (used ++ rest) ≡ place used
 unfolding place
 place_is used rest (t, more, e, f) = rw e refl
 
+-- what begins with a word, such as the call of a function
 pub word_begins : (word : List ℕ) (Q : Phrase) (ts : List Token) → (IsWord word ▸ Q) ts → Begins BeginsOperand ts
 unfolding same_kind
 word_begins word Q ts p = seq_begins BeginsOperand (IsWord word) Q (one_begins BeginsOperand _ (λ t q. kind_begins t.kind k.Word q.0 (refl, refl))) ts p
@@ -196,6 +218,7 @@ word_begins word Q ts p = seq_begins BeginsOperand (IsWord word) Q (one_begins B
 abbrev pub TookInteger : (A : Type 0) → List Token → (ℤ → Phrase) → WrittenOperand A → List Token → Type 0
 TookInteger A ts P x rest = (n : ℤ) × (x ≡ o.Integer n) × Took ts (P n) rest
 
+-- a token of digits is the integer that was read; where its number isn't within 64 bits nothing was read
 digits_taken : (A : Type 0) (negative : Bool) (ts : List Token) (v : Option ℤ) → sees k.Integer ts ≡ true → integer_value negative (spelling ts) ≡ v
     → IfRead {A = WrittenOperand A} (integer_or v (place ts) (next ts)) (TookInteger A ts (IsDigits negative))
 unfolding sees kind next spelling
@@ -203,6 +226,7 @@ digits_taken A negative ts None h e = tt
 digits_taken A negative [] (Some n) h e = absurd (let bad = same k.Bad k.Integer h in cc)
 digits_taken A negative (t ∷ ts) (Some n) h e = (n, refl, (t ∷ [], refl, (same t.kind k.Integer h, e)))
 
+-- an integer is read only where digits are next, and takes that token alone
 digits_sound : (A : Type 0) (negative : Bool) (ts : List Token)
     → IfRead {A = WrittenOperand A} (integer negative ts) (TookInteger A ts (IsDigits negative))
 unfolding integer
@@ -231,11 +255,13 @@ placed {A} function f P R inside ts sound h to =
         let at : place ts ≡ place used = ap place e ∙ place_is used rest (word_begins function _ used q) in
         (used, e, to x used (made.0, made.1 ∙ ap (λ n. f n made.0) at, made.2))
 
+-- an operand that is read where no function is called is a column
 plain_operand_sound : (functions : Bool) (ts : List Token)
     → IfRead (and_then (column ts) (λ x rest. Ok (o.Column x, rest))) (λ (x : ServedOperand functions) rest. Took ts (IsOperand functions x) rest)
 plain_operand_sound functions ts = then_read (column ts) _ (λ x rest. Took ts (IsColumn x) rest) (λ (x : ServedOperand functions) rest. Took ts (IsOperand functions x) rest)
     (λ x rest q. but _ _ ts rest q (λ used p. inl (x, refl, p))) (column_sound ts)
 
+-- ST_AsText and ST_Dimension are read with a geometry, at the place of the call; where functions aren't served there are none
 operand_called : (functions : Bool) (ts : List Token) → AllRead (operand_functions functions (place ts)) ts (λ x rest. Took ts (IsOperand functions x) rest)
 operand_called false ts = tt
 operand_called true ts = (
@@ -248,6 +274,7 @@ operand_called true ts = (
   ),
 )
 
+-- the kind of the next token chooses how an operand is read, and each choice is one alternative of its rule
 pub operand_sound : (functions : Bool) → Sound (operand functions) (IsOperand functions)
 unfolding operand
 operand_sound functions ts =
@@ -260,11 +287,13 @@ operand_sound functions ts =
     (λ _. if_read (sees k.Integer ts) _ _ Q (λ h. map_read (integer false ts) (TookInteger A ts (IsDigits false)) Q (λ x rest q. but _ _ ts rest q.2 (λ used p. inr (inl (q.0, q.1, inl p)))) (digits_sound A false ts))
     (λ _. called_sound (operand_functions functions (place ts)) _ ts Q (operand_called functions ts) (plain_operand_sound functions ts))))))
 
+-- a function that is an operand begins with its name
 operand_function_begins : (functions : Bool) (x : ServedOperand functions) (ts : List Token) → IsOperandFunction functions x ts → Begins BeginsOperand ts
 operand_function_begins false x ts p = absurd p
 operand_function_begins true x ts (inl (argument, e, p)) = word_begins (codes "ST_AsText") _ ts p
 operand_function_begins true x ts (inr (argument, e, p)) = word_begins (codes "ST_Dimension") _ ts p
 
+-- each alternative of an operand begins with a word, digits, a sign, a string or NULL
 pub operand_begins : (functions : Bool) (x : ServedOperand functions) (ts : List Token) → IsOperand functions x ts → Begins BeginsOperand ts
 unfolding same_kind
 operand_begins functions x ts (inl (column, e, p)) = column_begins column ts p
@@ -284,11 +313,13 @@ TookCompared functions at left ts x rest =
 abbrev pub TookNull : {A : Type 0} → WrittenOperand A → List Token → WrittenCond A → List Token → Type 0
 TookNull left ts x rest = ((x ≡ c.IsNull left) × Took ts (IsToken k.Null) rest) ⊎ ((x ≡ c.Not (c.IsNull left)) × Took ts (IsToken k.Not ▸ IsToken k.Null) rest)
 
+-- the next token is the sign of a comparison
 pub comparison_taken : (ts : List Token) (comparison : Comparison) → comparison_of (kind ts) ≡ Some comparison → Took ts (IsComparison comparison) (next ts)
 unfolding kind next
 comparison_taken [] comparison h = absurd (cc)
 comparison_taken (t ∷ ts) comparison h = (t ∷ [], refl, h)
 
+-- behind the left side of a comparison, a sign and an operand are read; where no sign stands there the reader refuses
 compared_sound : (functions : Bool) (at : ℕ) (left : ServedOperand functions) (ts : List Token) (v : Option Comparison) → comparison_of (kind ts) ≡ v
     → IfRead (compared_by functions at left v ts) (TookCompared functions at left ts)
 compared_sound functions at left ts None e = tt
@@ -296,6 +327,7 @@ compared_sound functions at left ts (Some comparison) e = then_read (operand fun
     (λ right rest q. (comparison, right, refl, seq (IsComparison comparison) (IsOperand functions right) ts (next ts) rest (comparison_taken ts comparison e) q))
     (operand_sound functions (next ts))
 
+-- behind IS, NULL is read, and the tree is negated exactly where NOT stands before it
 null_sound : {A : Type 0} (left : WrittenOperand A) (ts : List Token)
     → IfRead (null_test left ts) (TookNull left ts)
 unfolding null_test after
@@ -307,6 +339,7 @@ null_sound {A} left ts = go (sees k.Not ts) refl
     go false h = then_read (expect fault.Syntax k.Null ts) _ (λ x rest. Took ts (IsToken k.Null) rest) _
         (λ x rest q. inl (refl, q)) (expect_sound k.Null ts (λ e. cc))
 
+-- an operand, a sign and an operand are a predicate, which stands at the place of the first
 compare_taken : (functions : Bool) (ts mid rest : List Token) (left : ServedOperand functions) (x : ServedCond functions)
     → Took ts (IsOperand functions left) mid → TookCompared functions (place ts) left mid x rest → Took ts (IsPredicate functions x) rest
 compare_taken functions ts mid rest left x took (comparison, right, e, q) =
@@ -314,6 +347,7 @@ compare_taken functions ts mid rest left x took (comparison, right, e, q) =
     let here : place ts ≡ place all.0 = ap place all.1 ∙ place_is all.0 rest (seq_begins BeginsOperand (IsOperand functions left) (IsComparison comparison ▸ IsOperand functions right) (operand_begins functions left) all.0 all.2) in
     (all.0, all.1, inl (comparison, left, right, e ∙ ap (λ at. c.Compare at comparison left right) here, all.2))
 
+-- an operand with IS NULL or IS NOT NULL is a predicate
 null_taken : (functions : Bool) (ts mid rest : List Token) (left : ServedOperand functions) (x : ServedCond functions)
     → Took ts (IsOperand functions left) mid → sees k.Is mid ≡ true → TookNull left (next mid) x rest → Took ts (IsPredicate functions x) rest
 null_taken functions ts mid rest left x took h (inl (e, q)) =
@@ -323,6 +357,7 @@ null_taken functions ts mid rest left x took h (inr (e, q)) =
     but _ _ ts rest (seq (IsOperand functions left) (IsToken k.Is ▸ IsToken k.Not ▸ IsToken k.Null) ts mid rest took (seq (IsToken k.Is) (IsToken k.Not ▸ IsToken k.Null) mid (next mid) rest (one k.Is mid (λ e. cc) h) q))
     (λ used p. inr (inr (inl (left, e, p))))
 
+-- IS behind an operand tells a test for NULL from a comparison, and both are predicates
 comparison_sound : (functions : Bool) → Sound (comparison functions) (IsPredicate functions)
 unfolding comparison compared
 comparison_sound functions ts =
@@ -337,6 +372,7 @@ comparison_sound functions ts =
 
 -- ---- predicates that are functions
 
+-- a token of digits with this value is that number
 number_taken : (n : ℕ) (ts : List Token) → sees k.Integer ts ≡ true → (digits_value 10 (spelling ts) == n) ≡ true → Took ts (IsNumber n) (next ts)
 unfolding sees kind next spelling
 number_taken n [] h e = absurd (let bad = same k.Bad k.Integer h in cc)
@@ -346,6 +382,7 @@ number_taken n (t ∷ ts) h e = (t ∷ [], refl, (same t.kind k.Integer h, eqb-t
 abbrev pub TookValue : {A : Type 0} → WrittenCond A → List Token → WrittenCond A → List Token → Type 0
 TookValue bool ts x rest = ((x ≡ bool) × Took ts (IsNumber 1) rest) ⊎ ((x ≡ c.Not bool) × Took ts (IsNumber 0) rest)
 
+-- a predicate that is a function is compared with 1, which means it, or with 0, which means its NOT
 value_sound : {A : Type 0} (bool : WrittenCond A) (ts : List Token) → IfRead (truth_value bool ts) (TookValue bool ts)
 unfolding truth_value
 value_sound bool ts = if_read (sees k.Integer ts && digits_value 10 (spelling ts) == 1) _ _ (TookValue bool ts)
@@ -353,10 +390,12 @@ value_sound bool ts = if_read (sees k.Integer ts && digits_value 10 (spelling ts
     (λ _. if_read (sees k.Integer ts && digits_value 10 (spelling ts) == 0) _ _ (TookValue bool ts)
     (λ h. inr (refl, number_taken 0 ts (and_left _ _ h) (and_right _ _ h))) (λ _. tt))
 
+-- '=' and such a number behind it are the test
 value_taken : {A : Type 0} (bool x : WrittenCond A) (ts rest : List Token) → sees k.Equal ts ≡ true → TookValue bool (next ts) x rest → Took ts (IsTest bool x) rest
 value_taken bool x ts rest h (inl (e, q)) = but _ _ ts rest (seq (IsToken k.Equal) (IsNumber 1) ts (next ts) rest (one k.Equal ts (λ e. cc) h) q) (λ used p. inr (inl (e, p)))
 value_taken bool x ts rest h (inr (e, q)) = but _ _ ts rest (seq (IsToken k.Equal) (IsNumber 0) ts (next ts) rest (one k.Equal ts (λ e. cc) h) q) (λ used p. inr (inr (e, p)))
 
+-- the test is read exactly where '=' is next; else no token is taken
 test_sound : {A : Type 0} (bool : WrittenCond A) → Sound (truth_test bool) (IsTest bool)
 unfolding truth_test
 test_sound {A} bool ts =
@@ -378,6 +417,7 @@ called_predicate inside ts called = then_read (enclosed inside (next ts)) _ (λ 
 abbrev pub Two : Type 0
 Two = WrittenGeometry × WrittenGeometry
 
+-- two geometries with a comma between them
 abbrev pub IsTwo : Two → Phrase
 IsTwo two = IsPair two.0 two.1
 
@@ -385,6 +425,7 @@ IsTwo two = IsPair two.0 two.1
 abbrev pub Three : Type 0
 Three = WrittenGeometry × WrittenGeometry × Name
 
+-- two geometries and the text of a pattern, with commas between them
 abbrev pub IsThree : Three → Phrase
 IsThree three = IsGeometry three.0 ▸ IsToken k.Comma ▸ IsGeometry three.1 ▸ IsToken k.Comma ▸ IsString three.2
 
@@ -392,9 +433,11 @@ IsThree three = IsGeometry three.0 ▸ IsToken k.Comma ▸ IsGeometry three.1 �
 abbrev pub named : Predicate → ℕ → Two → ServedCond true
 named predicate at two = c.Relates at (w.Named predicate) two.0 two.1
 
+-- the tree of ST_Relate
 abbrev pub patterned : ℕ → Three → ServedCond true
 patterned at three = c.Relates at (w.Relate three.2) three.0 three.1
 
+-- the arguments that are read for a named predicate are two geometries with a comma between
 relates_sound : (at : ℕ) (predicate : Predicate) → Sound (relates at predicate) (IsMade (named predicate at) IsTwo)
 unfolding relates
 relates_sound at predicate ts =
@@ -408,6 +451,7 @@ relates_sound at predicate ts =
     (expect_sound k.Comma ts1 (λ e. cc)))
     (geometry_sound ts)
 
+-- the arguments that are read for ST_Relate are two geometries and a string, with commas between
 relates_by_sound : (at : ℕ) → Sound (relates_by at) (IsMade (patterned at) IsThree)
 unfolding relates_by
 relates_by_sound at ts =
@@ -428,12 +472,14 @@ relates_by_sound at ts =
     (expect_sound k.Comma ts1 (λ e. cc)))
     (geometry_sound ts)
 
+-- a call of a predicate by its name, with its test, is a predicate of the two geometries
 named_sound : (predicate : Predicate) (function : List ℕ) (ts : List Token) → function_of predicate ≡ Some function → calls function ts ≡ true
     → IfRead (truth_tested (relates (place ts) predicate) (next ts)) (λ x rest. Took ts (IsPredicate true x) rest)
 named_sound predicate function ts names h = called_predicate (relates (place ts) predicate) ts
     (placed function (named predicate) IsTwo (IsBool true) (relates (place ts) predicate) ts (relates_sound (place ts) predicate) h
     (λ x used p. inl (predicate, function, p.0.0, p.0.1, names, p.1, p.2)))
 
+-- a call of ST_Relate, with its test, is a predicate of two geometries by a pattern
 patterned_sound : (ts : List Token) → calls (codes "ST_Relate") ts ≡ true → IfRead (truth_tested (relates_by (place ts)) (next ts)) (λ x rest. Took ts (IsPredicate true x) rest)
 patterned_sound ts h = called_predicate (relates_by (place ts)) ts
     (placed (codes "ST_Relate") patterned IsThree (IsBool true) (relates_by (place ts)) ts (relates_by_sound (place ts)) h
@@ -443,11 +489,13 @@ patterned_sound ts h = called_predicate (relates_by (place ts)) ts
 abbrev pub empties : ℕ → Reader (ServedCond true)
 empties at = λ l. and_then (geometry l) (λ y rest. Ok (c.IsEmpty at y, rest))
 
+-- a call of ST_IsEmpty, with its test, is a predicate of one geometry
 empty_sound : (ts : List Token) → calls (codes "ST_IsEmpty") ts ≡ true → IfRead (truth_tested (empties (place ts)) (next ts)) (λ x rest. Took ts (IsPredicate true x) rest)
 empty_sound ts h = called_predicate (empties (place ts)) ts
     (placed (codes "ST_IsEmpty") c.IsEmpty IsGeometry (IsBool true) (empties (place ts)) ts (λ l. made_sound (c.IsEmpty (place ts)) geometry IsGeometry l geometry_sound) h
     (λ x used p. inr (inr p)))
 
+-- each function that is a predicate is read as the grammar says; where functions aren't served there are none
 predicate_called : (functions : Bool) (ts : List Token) → AllRead (predicate_functions functions (place ts)) ts (λ x rest. Took ts (IsPredicate functions x) rest)
 predicate_called false ts = tt
 predicate_called true ts = (
@@ -479,6 +527,7 @@ predicate_called true ts = (
   ),
 )
 
+-- a predicate is read as a function where one of those is called next, and else as a comparison or a test for NULL
 pub predicate_sound : (functions : Bool) → Sound (predicate functions) (IsPredicate functions)
 unfolding predicate
 predicate_sound functions ts =
@@ -487,6 +536,7 @@ predicate_sound functions ts =
 
 -- ---- conditions
 
+-- behind each part, another is read exactly where the token between parts is next; those read are appended to those found before
 parts_sound : {A : Type 0} (between : TokenKind) (part : Reader A) (P : A → Phrase) → (k.Bad ≡ between → ⊥) → Sound part P → (n : ℕ) (found : List A) (ts : List Token)
     → IfRead (parts_from fault.Syntax between part n found ts) (λ xs rest. (x : A) × (more : List A) × (xs ≡ found ++ x ∷ more) × Took ts (IsParts between P x more) rest)
 unfolding parts_from
@@ -506,6 +556,7 @@ parts_sound {A} between part P good sound (suc n) found ts = then_read (part ts)
     (λ _. (x, [], refl, took)))
     (sound ts)
 
+-- a part alone is itself, and parts with AND or OR between them are one tree: the token behind the first part tells which
 pub chain_sound : {A : Type 0} (between : TokenKind) (join : List (WrittenCond A) → WrittenCond A) (part : Reader (WrittenCond A)) (P : WrittenCond A → Phrase)
     → (k.Bad ≡ between → ⊥) → Sound part P → Sound (chain between join part) (IsChain between join P)
 chain_sound {A} between join part P good sound ts = then_read (part ts) _ (λ x rest. Took ts (P x) rest) (λ x rest. Took ts (IsChain between join P x) rest)
@@ -521,9 +572,11 @@ chain_sound {A} between join part P good sound ts = then_read (part ts) _ (λ x 
     (λ _. but _ _ ts mid took (λ used p. inl p)))
     (sound ts)
 
+-- a condition is a chain by OR of chains by AND, so its reader is sound where that of its parts is
 pub condition_of_sound : {A : Type 0} (part : Reader (WrittenCond A)) (P : WrittenCond A → Phrase) → Sound part P → Sound (condition_of part) (IsConditionOf P)
 condition_of_sound part P sound = chain_sound k.Or c.Or (conjunction part) (IsConjunction P) (λ e. cc) (chain_sound k.And c.And part P (λ e. cc) sound)
 
+-- behind `(`, a condition and the `)` that closes it are read
 group_sound : {A : Type 0} (part : Reader (WrittenCond A)) (P : WrittenCond A → Phrase) → Sound part P → Sound (group part) (λ x. IsConditionOf P x ▸ IsToken k.RightParenthesis)
 group_sound part P sound ts = then_read (condition_of part ts) _ (λ x rest. Took ts (IsConditionOf P x) rest) _
     (λ x mid took. then_read (expect fault.Syntax k.RightParenthesis mid) _ (λ u rest. Took mid (IsToken k.RightParenthesis) rest) _
@@ -531,6 +584,7 @@ group_sound part P sound ts = then_read (condition_of part ts) _ (λ x rest. Too
     (expect_sound k.RightParenthesis mid (λ e. cc)))
     (condition_of_sound part P sound ts)
 
+-- by induction on the levels left: NOT and `(` use up one, and with none left they are refused, so no tree nests deeper
 pub negation_sound : (functions : Bool) (levels : ℕ) → Sound (negation functions levels) (IsNegation functions levels)
 unfolding negation IsNegationOf
 negation_sound functions zero ts =
@@ -548,11 +602,13 @@ negation_sound functions (suc levels) ts =
     (group_sound (negation functions levels) (IsNegation functions levels) (negation_sound functions levels) (next ts)))
     (λ _. map_read (predicate functions ts) (λ x rest. Took ts (IsPredicate functions x) rest) Q (λ x rest q. but _ _ ts rest q (λ used p. inr (inr p))) (predicate_sound functions ts)))
 
+-- a condition that is read nests to no more levels than may be
 pub condition_sound : (functions : Bool) → Sound (condition functions) (IsCondition functions)
 condition_sound functions = condition_of_sound (negation functions 64) (IsNegation functions 64) (negation_sound functions 64)
 
 -- ---- queries
 
+-- the functions of the select list are read with a column, at the place of the call; where functions aren't served there are none
 item_called : (functions : Bool) (ts : List Token) → AllRead (item_functions functions (place ts)) ts (λ x rest. Took ts (IsItem functions x) rest)
 item_called false ts = tt
 item_called true ts = (
@@ -566,6 +622,7 @@ item_called true ts = (
   ),
 )
 
+-- an item is read as one of those functions where it is called next, and else as a column
 item_sound : (functions : Bool) → Sound (item functions) (IsItem functions)
 unfolding item
 item_sound functions ts = called_sound (item_functions functions (place ts)) _ ts (λ x rest. Took ts (IsItem functions x) rest) (item_called functions ts)
@@ -576,6 +633,7 @@ item_sound functions ts = called_sound (item_functions functions (place ts)) _ t
 abbrev pub IsCounted : {C : Type 0} → Selection C → Phrase
 IsCounted {C = C} = IsMade {A = Selection C} {B = Unit {0}} (λ _. l.Count) (λ _. IsToken k.Star)
 
+-- COUNT is read with a star in its parentheses, where it is served
 count_called : (served : Served) (count : Bool) → served.count ≡ count → (ts : List Token)
     → AllRead {A = Selection (ItemArgument served.functions)} (count_function count) ts (λ x rest. Took ts (IsSelection served x) rest)
 count_called served false e ts = tt
@@ -590,6 +648,7 @@ count_called served true e ts =
     with_call : (x : Selection (ItemArgument served.functions)) (used : List Token) → ((y : Unit {0}) × (x ≡ l.Count) × IsCall (codes "COUNT") (IsToken k.Star) used) → IsSelection served x used
     with_call x used (y, is, p) = inr (inr (e, is, p))
 
+-- items with commas between them are a selection
 listed_sound : (served : Served) (ts : List Token)
     → IfRead (and_then (items served.functions ts) (λ xs rest. Ok (l.Items xs, rest))) (λ (x : Selection (ItemArgument served.functions)) rest. Took ts (IsSelection served x) rest)
 listed_sound served ts =
@@ -599,6 +658,7 @@ listed_sound served ts =
     (λ xs rest q. but _ _ ts rest q.3 (λ used p. inr (inl (q.0, q.1, ap l.Items q.2, p))))
     (parts_sound k.Comma (item F) (IsItem F) (λ e. cc) (item_sound F) (length ts) [] ts)
 
+-- a selection is read as the star where that is next, as COUNT(*) where COUNT is served and called, and else as items
 pub selection_sound : (served : Served) → Sound (selection served) (IsSelection served)
 unfolding selection
 selection_sound served ts =
@@ -611,6 +671,7 @@ abbrev pub IsAlias : Option Name → Phrase
 IsAlias None ts = ts ≡ []
 IsAlias (Some name) ts = IsName name ts ⊎ (IsToken k.As ▸ IsName name) ts
 
+-- an alias is read behind AS or where a word is next; else there is none and no token is taken
 alias_sound : Sound alias IsAlias
 unfolding alias
 alias_sound ts =
@@ -623,6 +684,7 @@ alias_sound ts =
     (λ h. then_read (name ts) _ (λ x rest. Took ts (IsName x) rest) Q (λ x rest q. but _ _ ts rest q (λ used p. inl p)) (name_sound ts))
     (λ _. ([], refl, refl)))
 
+-- a table's name and what is read as its alias are a reference, in one of its three forms
 reference_taken : (table : Name) (given : Option Name) (ts mid rest : List Token) → Took ts (IsName table) mid → Took mid (IsAlias given) rest
     → Took ts (IsReference (record { table = table; alias = given })) rest
 reference_taken table None ts mid rest p (used, e, none) =
@@ -631,6 +693,7 @@ reference_taken table (Some given) ts mid rest p (used, e, inl q) = but _ _ ts r
 reference_taken table (Some given) ts mid rest p (used, e, inr q) =
     but _ _ ts rest (seq (IsName table) (IsToken k.As ▸ IsName given) ts mid rest p (used, e, q)) (λ used h. inr (inr (table, given, refl, h)))
 
+-- a reference is read as a table's name and then its alias
 pub reference_sound : Sound reference IsReference
 unfolding reference
 reference_sound ts = then_read (name ts) _ (λ x rest. Took ts (IsName x) rest) (λ x rest. Took ts (IsReference x) rest)
@@ -638,6 +701,7 @@ reference_sound ts = then_read (name ts) _ (λ x rest. Took ts (IsName x) rest) 
     (λ given rest q. reference_taken table given ts mid rest p q) (alias_sound mid))
     (name_sound ts)
 
+-- a token that may be left out is taken exactly where it is next
 pub optional : (wanted : TokenKind) (ts : List Token) → (k.Bad ≡ wanted → ⊥) → Took ts (IsOptional wanted) (after wanted ts)
 unfolding after
 optional wanted ts good = go (sees wanted ts) refl
@@ -650,6 +714,7 @@ optional wanted ts good = go (sees wanted ts) refl
 abbrev pub IsBoth : (served : Served) → Second served.functions → Phrase
 IsBoth served both = IsSecond served both.0 both.1
 
+-- behind a comma or CROSS JOIN, a reference is read and no condition
 crossed_sound : (functions : Bool) (ts : List Token)
     → IfRead (crossed functions ts) (λ both rest. (reference : WrittenReference) × (both.0 ≡ Some reference) × (both.1 ≡ None) × Took ts (IsReference reference) rest)
 unfolding crossed
@@ -659,6 +724,7 @@ crossed_sound functions ts = then_read (reference ts) _ (λ x rest. Took ts (IsR
 abbrev pub IsJoin : (functions : Bool) → WrittenReference → ServedCond functions → Phrase
 IsJoin functions reference on = IsToken k.Join ▸ IsReference reference ▸ IsToken k.On ▸ IsCondition functions on
 
+-- JOIN, a reference, ON and a condition are read one behind the other, since the reader demands each
 joined_sound : (functions : Bool) (ts : List Token)
     → IfRead (joined_on functions ts) (λ both rest. (reference : WrittenReference) × (x : ServedCond functions) × (both.0 ≡ Some reference) × (both.1 ≡ Some x) × Took ts (IsJoin functions reference x) rest)
 unfolding joined_on
@@ -681,6 +747,7 @@ joined_sound functions ts =
     (reference_sound ts1))
     (expect_sound k.Join ts (λ e. cc))
 
+-- the next token tells the form of a second reference: a comma, CROSS, or INNER or JOIN; else none is read
 pub second_sound : (served : Served) → Sound (second served) (IsBoth served)
 second_sound served ts =
     let F : Bool = served.functions in
@@ -706,10 +773,12 @@ second_sound served ts =
     (joined_sound F (after k.Inner ts)))
     (λ _. ([], refl, inl (refl, refl, refl)))))
 
+-- where the query says a word next, that word is the next token
 says_taken : (word : List ℕ) (ts : List Token) → says word ts ≡ true → Took ts (IsWord word) (next ts)
 unfolding says
 says_taken word ts h = word_taken word ts (and_left _ _ (and_left _ _ h)) (and_right _ _ h)
 
+-- behind EXPLAIN, ANALYZE is read where it is next and served
 analyzed_sound : (served : Served) (ts : List Token) → served.explain ≡ true → says (codes "EXPLAIN") ts ≡ true
     → IfRead (analyzed served (next ts)) (λ told rest. Took ts (IsExplain served told) rest)
 analyzed_sound served ts e h =
@@ -720,11 +789,13 @@ analyzed_sound served ts e h =
     (λ used p. inr (inr (e, and_left _ _ h2, refl, p))))
     (λ _. but _ _ ts (next ts) (says_taken (codes "EXPLAIN") ts h) (λ used p. inr (inl (e, refl, p))))
 
+-- EXPLAIN is read where it is next and served; else no token is taken
 pub explained_sound : (served : Served) → Sound (explained served) (IsExplain served)
 explained_sound served ts =
     if_read (served.explain && says (codes "EXPLAIN") ts) _ _ (λ told rest. Took ts (IsExplain served told) rest)
     (λ h. analyzed_sound served ts (and_left _ _ h) (and_right _ _ h)) (λ _. ([], refl, inl (refl, refl)))
 
+-- a condition is read exactly where WHERE is next
 pub where_sound : (functions : Bool) → Sound (where_condition functions) (IsWhere functions)
 unfolding where_condition
 where_sound functions ts =
@@ -739,16 +810,19 @@ where_sound functions ts =
 abbrev pub TookCount : List Token → Option ℕ → List Token → Type 0
 TookCount ts x rest = (n : ℕ) × (x ≡ Some n) × Took ts (IsRowCount n) rest
 
+-- a token of digits is LIMIT's number that was read; where it isn't within 64 bits nothing was read
 count_taken : (ts : List Token) (v : Option ℕ) → sees k.Integer ts ≡ true → limit_value (spelling ts) ≡ v → IfRead (limit_or v (place ts) (next ts)) (TookCount ts)
 unfolding sees kind next spelling
 count_taken ts None h e = tt
 count_taken [] (Some n) h e = absurd (let bad = same k.Bad k.Integer h in cc)
 count_taken (t ∷ ts) (Some n) h e = (n, refl, (t ∷ [], refl, (same t.kind k.Integer h, e)))
 
+-- LIMIT's number is read only where digits are next, and takes that token alone
 count_sound : (ts : List Token) → IfRead (limit_number ts) (TookCount ts)
 unfolding limit_number
 count_sound ts = if_read (sees k.Integer ts) _ _ (TookCount ts) (λ h. count_taken ts (limit_value (spelling ts)) h refl) (λ _. tt)
 
+-- LIMIT's number is read where LIMIT is next and served; else no token is taken
 limit_sound : (served : Served) → Sound (limited served) (IsLimit served)
 limit_sound served ts =
     let Q : Option ℕ → List Token → Type 0 = λ x rest. Took ts (IsLimit served x) rest in
@@ -763,21 +837,26 @@ abbrev pub EndsOnce : List Token → Type 0
 EndsOnce [] = Unit {0}
 EndsOnce (t ∷ ts) = (t.kind ≡ k.End → ts ≡ []) × EndsOnce ts
 
+-- behind any front of such tokens, the end is still the last
 pub ends_after : (a b : List Token) → EndsOnce (a ++ b) → EndsOnce b
 ends_after [] b h = h
 ends_after (t ∷ a) b h = ends_after a b h.1
 
+-- so it is in the tokens that a reader leaves
 pub ends_left : (P : Phrase) (ts rest : List Token) → EndsOnce ts → Took ts P rest → EndsOnce rest
 ends_left P ts rest h p = ends_after p.0 rest (subst EndsOnce p.1 h)
 
+-- behind the end no token is left
 ended : (ts : List Token) → EndsOnce ts → sees k.End ts ≡ true → next ts ≡ []
 unfolding sees kind next
 ended [] h e = refl
 ended (t ∷ ts) h e = h.0 (same t.kind k.End e)
 
+-- where no token is left, those of the phrase are all there were
 pub all_taken : (P : Phrase) (ts rest : List Token) → Took ts P rest → rest ≡ [] → P ts
 all_taken P ts rest p e = subst P (sym (p.1 ∙ ap (λ r. p.0 ++ r) e ∙ append-nil p.0)) p.2
 
+-- where the end is demanded and read, no token is left
 end_sound : (ts : List Token) → EndsOnce ts → IfRead (expect fault.Syntax k.End ts) (λ u rest. Took ts (IsToken k.End) rest × (rest ≡ []))
 unfolding expect
 end_sound ts once = if_read (sees k.End ts) _ _ _ (λ h. (one k.End ts (λ e. cc) h, ended ts once h)) (λ _. tt)

@@ -33,6 +33,7 @@ is_kind kind known e = rw e (same_itself known)
 other_kind : (kind known other : TokenKind) → kind ≡ known → same_kind known other ≡ false → same_kind kind other ≡ false
 other_kind kind known other e h = rw e h
 
+-- how tokens of phrases are made of single ones: a first one, an only one, a last one, two
 pub one_first : (P : Token → Type 0) (Q : Phrase) (ts : List Token) → (IsOne P ▸ Q) ts → (m : Token) × (d : List Token) × (ts ≡ m ∷ d) × P m × Q d
 one_first P Q ts ([], d, e, p, q) = absurd p
 one_first P Q ts (m ∷ [], d, e, p, q) = (m, d, e, p, q)
@@ -62,32 +63,39 @@ split used a b d tail m e f = ap (λ l. l ++ tail) e ∙ append_assoc a b tail �
 
 -- ---- names, types and marks
 
+-- each small reader reads the token or two of its rule: a name, where there is room for it and it isn't taken
 pub name_read : (full taken : Bool) (u : Token) (ts : List Token) → u.kind ≡ k.Word → is_ascii u.text ≡ true → full ≡ false → taken ≡ false
     → new_name full taken (u ∷ ts) ≡ Ok (u.text, ts)
 unfolding new_name sees kind next spelling
 name_read full taken u ts word ascii e f = rw (is_kind u.kind k.Word word, ascii, e, f) refl
 
+-- a word that names a type
 pub type_read : {T : Type 0} (geometry : List ℕ → Option T) (type : ColumnType T) (u : Token) (ts : List Token) → u.kind ≡ k.Word → type_named geometry u.text ≡ Some type
     → column_type geometry (u ∷ ts) ≡ Ok (type, ts)
 unfolding column_type sees kind next spelling
 type_read geometry type u ts word e = rw (is_kind u.kind k.Word word, e) refl
 
+-- a word that is asked for, in any ASCII case
 pub word_read : (word : List ℕ) (u : Token) (ts : List Token) → u.kind ≡ k.Word → same_name u.text word ≡ true → expect_word word (u ∷ ts) ≡ Ok (tt, ts)
 unfolding expect_word sees kind next spelling
 word_read word u ts e f = rw (is_kind u.kind k.Word e, f) refl
 
+-- a token of the kind that is asked for
 pub expect_read : (wanted : TokenKind) (m : Token) (ts : List Token) → m.kind ≡ wanted → expect fault.Syntax wanted (m ∷ ts) ≡ Ok (tt, ts)
 unfolding expect sees kind next
 expect_read wanted m ts e = rw (is_kind m.kind wanted e) refl
 
+-- NOT NULL
 pub null_read : (m n : Token) (ts : List Token) → m.kind ≡ k.Not → n.kind ≡ k.Null → null_mark (m ∷ n ∷ ts) ≡ Ok (true, ts)
 unfolding null_mark after sees kind next
 null_read m n ts e f = rw (is_kind m.kind k.Not e, expect_read k.Null n ts f) refl
 
+-- where NOT doesn't stand, nothing is read
 pub null_absent : (t : Token) (ts : List Token) → same_kind t.kind k.Not ≡ false → null_mark (t ∷ ts) ≡ Ok (false, t ∷ ts)
 unfolding null_mark after sees kind next
 null_absent t ts e = rw e refl
 
+-- PRIMARY KEY, on an INTEGER column of a table without a key
 pub key_read : {T : Type 0} (has_key : Bool) (type : ColumnType T) (m n : Token) (ts : List Token)
     → m.kind ≡ k.Word → same_name m.text (codes "PRIMARY") ≡ true → n.kind ≡ k.Word → same_name n.text (codes "KEY") ≡ true → has_key ≡ false → is_integer type ≡ true
     → key_mark has_key type (m ∷ n ∷ ts) ≡ Ok (true, ts)
@@ -95,15 +103,18 @@ unfolding key_mark sees kind next spelling
 key_read has_key type m n ts e primary f key none whole =
     rw (is_kind m.kind k.Word e, primary, whole, none, word_read (codes "KEY") n ts f key) refl
 
+-- where no word stands, nothing is read
 key_absent : {T : Type 0} (has_key : Bool) (type : ColumnType T) (t : Token) (ts : List Token) → same_kind t.kind k.Word ≡ false → key_mark has_key type (t ∷ ts) ≡ Ok (false, t ∷ ts)
 unfolding key_mark sees kind spelling
 key_absent has_key type t ts e = rw e refl
 
+-- the marks where NOT NULL stands first: PRIMARY KEY or nothing is behind it
 marks_by : {T : Type 0} (has_key : Bool) (type : ColumnType T) (is_key : Bool) (ts ts1 ts2 : List Token) → null_mark ts ≡ Ok (true, ts1) → key_mark has_key type ts1 ≡ Ok (is_key, ts2)
     → marks has_key type ts ≡ Ok ((true, is_key), ts2)
 unfolding marks
 marks_by has_key type is_key ts ts1 ts2 e f = rw (e, f) refl
 
+-- the marks where NOT NULL doesn't stand first: it may stand behind PRIMARY KEY
 marks_late : {T : Type 0} (has_key : Bool) (type : ColumnType T) (is_key not_null : Bool) (ts ts1 ts2 ts3 : List Token)
     → null_mark ts ≡ Ok (false, ts1) → key_mark has_key type ts1 ≡ Ok (is_key, ts2) → null_mark ts2 ≡ Ok (not_null, ts3)
     → marks has_key type ts ≡ Ok ((not_null, is_key), ts3)
@@ -114,6 +125,7 @@ marks_late has_key type is_key not_null ts ts1 ts2 ts3 e f g = rw (e, f, g) refl
 abbrev pub EndsColumn : TokenKind → Type 0
 EndsColumn kind = (same_kind kind k.Not ≡ false) × (same_kind kind k.Word ≡ false)
 
+-- a word isn't NOT, and NOT isn't a word: so the next token tells which mark stands
 pub word_not : (kind : TokenKind) → kind ≡ k.Word → same_kind kind k.Not ≡ false
 unfolding same_kind
 word_not kind e = rw e refl
@@ -129,6 +141,7 @@ MayBeKey has_key type is_key = is_key ≡ true → (has_key ≡ false) × (is_in
 abbrev pub IsWordOf : List ℕ → Token → Type 0
 IsWordOf word t = (t.kind ≡ k.Word) × (same_name t.text word ≡ true)
 
+-- the marks of the grammar are read in either order, as what stands behind them begins none
 pub marks_complete : {T : Type 0} (has_key : Bool) (type : ColumnType T) (not_null is_key : Bool) (used : List Token) (t : Token) (rest : List Token)
     → AreMarks not_null is_key used → EndsColumn t.kind → MayBeKey has_key type is_key → marks has_key type (used ++ t ∷ rest) ≡ Ok ((not_null, is_key), t ∷ rest)
 marks_complete has_key type true true used t rest (inl (a, b, e, p, q)) f may =
@@ -176,6 +189,7 @@ marks_complete has_key type false false used t rest (inr (b, a, e, none, empty))
 
 -- ---- columns
 
+-- a name, a type and marks that are each read are read as a column
 pub column_read : {T : Type 0} (geometry : List ℕ → Option T) (found : List (ColumnDef T)) (has_key : Bool) (type : ColumnType T) (not_null is_key : Bool) (u v : Token) (ts tail : List Token)
     → u.kind ≡ k.Word → is_ascii u.text ≡ true → nat_le 32 (length found) ≡ false → has_column found u.text ≡ false
     → v.kind ≡ k.Word → type_named geometry v.text ≡ Some type → marks has_key type ts ≡ Ok ((not_null, is_key), tail)
@@ -188,6 +202,7 @@ column_read geometry found has_key type not_null is_key u v ts tail word ascii r
       e,
     ) refl
 
+-- a column of the grammar is read as itself, where its name is new, there is room for it and it may be the key
 column_complete : {T : Type 0} (geometry : List ℕ → Option T) (found : List (ColumnDef T)) (has_key : Bool) (x : Marked T) (used : List Token) (t : Token) (rest : List Token)
     → IsMarked geometry x used → AsciiWords used → EndsColumn t.kind → length found < 32 → has_column found x.0.name ≡ false → MayBeKey has_key x.0.column_type x.1
     → column geometry found has_key (used ++ t ∷ rest) ≡ Ok (x, t ∷ rest)
@@ -207,6 +222,7 @@ not_true : (a : Bool) → not a ≡ true → a ≡ false
 not_true false h = refl
 not_true true h = sym h
 
+-- a test that none of some names passes isn't passed by one of them
 none_at : {A : Type 0} (test : List ℕ → Bool) (name : A → List ℕ) (found : List A) (x : A) (more : List A) → list_any test (map name (found ++ x ∷ more)) ≡ false → test (name x) ≡ false
 none_at test name [] x more h = (or_parts _ _ h).0
 none_at test name (y ∷ found) x more h = none_at test name found x more (or_parts _ _ h).1
@@ -216,6 +232,7 @@ or_none false false h g = refl
 or_none false true h g = g
 or_none true b h g = h
 
+-- where names differ, each is new behind those before it
 fresh_name : {A : Type 0} (name : A → List ℕ) (found : List A) (x : A) (more : List A) → names_differ (map name (found ++ x ∷ more)) ≡ true
     → list_any (λ y. same_name (name y) (name x)) found ≡ false
 fresh_name name [] x more h = refl
@@ -239,11 +256,13 @@ first_of_one x y xs e = cc
 others_of_one : (x y : ℕ) (xs : List ℕ) → x ∷ xs ≡ y ∷ [] → xs ≡ []
 others_of_one x y xs e = cc
 
+-- a column with PRIMARY KEY is the only one, so no key was known before it
 key_alone : {T : Type 0} (key : Option ℕ) (place at : ℕ) (c : ColumnDef T) (is_key : Bool) (more : List (Marked T)) → KeyLeft key place at ((c, is_key) ∷ more) → is_key ≡ true → is_there key ≡ false
 key_alone None place at c is_key more h e = refl
 key_alone (Some key) place at c true more h e = absurd (not_empty _ _ h.1)
 key_alone (Some key) place at c false more h e = absurd (false≢true e)
 
+-- behind one more column the key is known, or still to come
 key_next : {T : Type 0} (key : Option ℕ) (place at : ℕ) (c : ColumnDef T) (is_key : Bool) (more : List (Marked T)) → KeyLeft key place at ((c, is_key) ∷ more)
     → KeyLeft (key_after key at is_key) place (at + 1) more
 key_next None place at c true more h = (first_of_one _ _ _ h, others_of_one _ _ _ h)
@@ -251,14 +270,17 @@ key_next None place at c false more h = h
 key_next (Some key) place at c true more h = absurd (not_empty _ _ h.1)
 key_next (Some key) place at c false more h = h
 
+-- where no column is to come, the key is known
 key_known : (T : Type 0) (key : Option ℕ) (place at : ℕ) → KeyLeft {T = T} key place at [] → key ≡ Some place
 key_known T None place at h = absurd (not_empty _ _ (sym h))
 key_known T (Some key) place at h = ap Some h.0
 
+-- behind some columns, at the place of their number, stands the next one
 at_length : {T : Type 0} (found : List (ColumnDef T)) (c : ColumnDef T) (more : List (ColumnDef T)) → slice_get (found ++ c ∷ more) (length found) ≡ Some c
 at_length [] c more = refl
 at_length (x ∷ found) c more = at_length found c more
 
+-- the key of a lawful table is INTEGER, and the column with PRIMARY KEY is the key
 key_whole : {T : Type 0} (key : Option ℕ) (place : ℕ) (found : List (ColumnDef T)) (c : ColumnDef T) (is_key : Bool) (more : List (Marked T))
     → KeyLeft key place (length found) ((c, is_key) ∷ more) → may_be_key (slice_get (found ++ c ∷ map (λ m. m.0) more) place) ≡ true → is_key ≡ true → is_integer c.column_type ≡ true
 key_whole None place found c true more h may e =
@@ -269,18 +291,21 @@ key_whole (Some key) place found c false more h may e = absurd (false≢true e)
 
 -- ---- lists of columns
 
+-- behind a column and a comma the reader goes on with the other columns
 pub column_then : {T : Type 0} (geometry : List ℕ → Option T) (n : ℕ) (found : List (ColumnDef T)) (key : Option ℕ) (x : Marked T) (ts : List Token) (m : Token) (rest : List Token)
     → column geometry found (is_there key) ts ≡ Ok (x, m ∷ rest) → m.kind ≡ k.Comma
     → columns_from geometry (suc n) found key ts ≡ columns_from geometry n (found ++ x.0 ∷ []) (key_after key (length found) x.1) rest
 unfolding columns_from after sees kind next
 column_then geometry n found key x ts m rest e g = rw (e, is_kind m.kind k.Comma g) refl
 
+-- behind a column and no comma it stops
 pub column_last : {T : Type 0} (geometry : List ℕ → Option T) (n : ℕ) (found : List (ColumnDef T)) (key : Option ℕ) (x : Marked T) (ts : List Token) (t : Token) (rest : List Token)
     → column geometry found (is_there key) ts ≡ Ok (x, t ∷ rest) → same_kind t.kind k.Comma ≡ false
     → columns_from geometry (suc n) found key ts ≡ Ok ((found ++ x.0 ∷ [], key_after key (length found) x.1), t ∷ rest)
 unfolding columns_from after sees kind next
 column_last geometry n found key x ts t rest e g = rw (e, g) refl
 
+-- neither a comma nor the closing parenthesis begins a mark, and the parenthesis is no comma
 pub comma_ends : (kind : TokenKind) → kind ≡ k.Comma → EndsColumn kind
 unfolding same_kind
 comma_ends kind e = rw e (refl, refl)
@@ -303,6 +328,7 @@ record AreLawful {T : Type 0} (found : List (ColumnDef T)) (key : Option ℕ) (p
   whole : may_be_key (slice_get (found ++ x.0 ∷ firsts more) place) ≡ true
   left : KeyLeft key place (length found) (x ∷ more)
 
+-- one column further, what is known of the columns still holds
 lawful_next : {T : Type 0} (found : List (ColumnDef T)) (key : Option ℕ) (place : ℕ) (x y : Marked T) (more : List (Marked T)) → AreLawful found key place x (y ∷ more)
     → AreLawful (found ++ x.0 ∷ []) (key_after key (length found) x.1) place y more
 lawful_next found key place x y more are =
@@ -314,6 +340,7 @@ lawful_next found key place x y more are =
       left = subst (λ at. KeyLeft (key_after key (length found) x.1) place at (y ∷ more)) count (key_next key place (length found) x.0 x.1 (y ∷ more) are.left);
     }
 
+-- so the next column has room, a new name, and an INTEGER type where it is the key: it is read
 one_column : {T : Type 0} (geometry : List ℕ → Option T) (place : ℕ) (more : List (Marked T)) (x : Marked T) (found : List (ColumnDef T)) (key : Option ℕ) (used : List Token) (t : Token) (rest : List Token)
     → IsMarked geometry x used → AsciiWords used → EndsColumn t.kind → AreLawful found key place x more
     → column geometry found (is_there key) (used ++ t ∷ rest) ≡ Ok (x, t ∷ rest)
@@ -321,6 +348,7 @@ one_column geometry place more x found key used t rest p words f are =
     column_complete geometry found (is_there key) x used t rest p words f (omega (arith, are.few)) (fresh_name (λ c. c.name) found x.0 (firsts more) are.differ)
     (λ e. (key_alone key place (length found) x.0 x.1 more are.left e, key_whole key place found x.0 x.1 more are.left are.whole e))
 
+-- column by column, all columns of a lawful table are read, up to the parenthesis
 columns_complete : {T : Type 0} (geometry : List ℕ → Option T) (place : ℕ) (more : List (Marked T)) (x : Marked T) (n : ℕ) (found : List (ColumnDef T)) (key : Option ℕ)
     (used : List Token) (t : Token) (rest : List Token)
     → IsParts k.Comma (IsMarked geometry) x more used → AsciiWords used → t.kind ≡ k.RightParenthesis → length more < n → AreLawful found key place x more
@@ -359,6 +387,7 @@ turns_suffice {A} between P (y ∷ more) x used t rest (a, b, e, p, q) = go (λ 
 
 -- ---- tables
 
+-- the words, the name, the parentheses and the columns with a key, each read, are read as a table
 pub table_read : {T : Type 0} (geometry : List ℕ → Option T) (found : List (TableDef T)) (cols : List (ColumnDef T)) (key : ℕ) (u1 u2 u3 u4 : Token) (ts : List Token) (m : Token) (tail : List Token)
     → IsWordOf (codes "CREATE") u1 → IsWordOf (codes "TABLE") u2 → u3.kind ≡ k.Word → is_ascii u3.text ≡ true → nat_le 16 (length found) ≡ false → has_table found u3.text ≡ false
     → u4.kind ≡ k.LeftParenthesis → columns geometry ts ≡ Ok ((cols, Some key), m ∷ tail) → m.kind ≡ k.RightParenthesis
@@ -377,6 +406,7 @@ table_read geometry found cols key u1 u2 u3 u4 ts m tail create tables word asci
 few_columns : (listed more : ℕ) → suc listed ≤ 32 → listed ≡ more → 0 + suc more ≤ 32
 few_columns listed more few count = omega arith
 
+-- the columns of a lawful table are read with their key, as many turns being allowed as there are tokens
 body_read : {T : Type 0} (geometry : List ℕ → Option T) (x : TableDef T) (first : Marked T) (more : List (Marked T)) (a : List Token) (m : Token) (tail : List Token)
     → x.columns ≡ first.0 ∷ firsts more → key_places 0 (first ∷ more) ≡ x.key ∷ [] → lawful_table x ≡ true
     → IsParts k.Comma (IsMarked geometry) first more a → AsciiWords a → m.kind ≡ k.RightParenthesis
@@ -390,6 +420,7 @@ body_read {T} geometry x first more a m tail same keys lawful p words right =
     columns_complete geometry x.key more first (length (a ++ m ∷ tail)) [] None a m tail p words right (turns_suffice k.Comma (IsMarked geometry) more first a m tail p)
     (record { few = few_columns (length (firsts more)) (length more) few count; differ = others.0; whole = others.1; left = keys })
 
+-- a lawful table of the grammar is read as itself, where its name is new and there is room for it
 table_complete : {T : Type 0} (geometry : List ℕ → Option T) (found : List (TableDef T)) (x : TableDef T) (used tail : List Token)
     → IsTable geometry x used → AsciiWords used → length found < 16 → has_table found x.name ≡ false → lawful_table x ≡ true
     → table geometry found (used ++ tail) ≡ Ok (x, tail)
@@ -411,6 +442,7 @@ table_complete {T} geometry found x used tail (first, more, same, keys, p) words
 
 -- ---- what stands between and behind tables
 
+-- at the end, also behind a semicolon, no further table is read
 end_read : (n : Token) → n.kind ≡ k.End → goes_on (n ∷ []) ≡ Ok (false, n ∷ [])
 unfolding goes_on after sees kind next same_kind
 end_read n e = rw e refl
@@ -419,6 +451,7 @@ semicolon_read : (m n : Token) → m.kind ≡ k.Semicolon → n.kind ≡ k.End �
 unfolding goes_on after sees kind next same_kind
 semicolon_read m n e g = rw (e, g) refl
 
+-- behind a semicolon, where the end doesn't stand, tables go on
 pub separator_read : (m : Token) (rest : List Token) → m.kind ≡ k.Semicolon → sees k.End rest ≡ false → goes_on (m ∷ rest) ≡ Ok (true, rest)
 unfolding goes_on after sees kind next
 separator_read m rest e h = rw (is_kind m.kind k.Semicolon e, h) refl
@@ -430,6 +463,7 @@ IsTail = IsOptional k.Semicolon ▸ IsToken k.End
 abbrev Ended : List Token → Type 0
 Ended ts = (n : Token) × (n.kind ≡ k.End) × (goes_on ts ≡ Ok (false, n ∷ []))
 
+-- so with a semicolon or none the tables stop before the end
 tail_read : (ts : List Token) → IsTail ts → Ended ts
 tail_read ts (semi, last, e, inl none, p) =
     let (n, f, end) = one_only (λ t. t.kind ≡ k.End) last p in
@@ -443,6 +477,7 @@ tail_read ts (semi, last, e, inr s, p) =
 abbrev IsThere : List Token → Type 0
 IsThere ts = (t : Token) × (rest : List Token) × (ts ≡ t ∷ rest)
 
+-- at least the end stands there
 tail_there : (ts : List Token) → IsTail ts → IsThere ts
 tail_there ts ([], last, e, inl none, p) = let (n, f, end) = one_only (λ t. t.kind ≡ k.End) last p in (n, [], e ∙ f)
 tail_there ts (s ∷ semi, last, e, q, p) = (s, semi ++ last, e)
@@ -451,6 +486,7 @@ tail_there ts ([], last, e, inr s, p) = absurd s
 abbrev pub IsWordKind : TokenKind → Type 0
 IsWordKind kind = kind ≡ k.Word
 
+-- a table begins with a word, CREATE, and so do tables
 table_begins : {T : Type 0} (geometry : List ℕ → Option T) (x : TableDef T) (ts : List Token) → IsTable geometry x ts → Begins IsWordKind ts
 table_begins geometry x ts (first, more, same, keys, p) = seq_begins IsWordKind (IsWord (codes "CREATE")) _ (one_begins IsWordKind _ (λ t q. q.0)) ts p
 
@@ -458,21 +494,25 @@ tables_begin : {T : Type 0} (geometry : List ℕ → Option T) (more : List (Tab
 tables_begin geometry [] x ts p = table_begins geometry x ts p
 tables_begin geometry (y ∷ more) x ts p = seq_begins IsWordKind (IsTable geometry x) _ (table_begins geometry x) ts p
 
+-- a word isn't the end
 word_no_end : (kind : TokenKind) → kind ≡ k.Word → same_kind kind k.End ≡ false
 unfolding same_kind
 word_no_end kind e = rw e refl
 
+-- so where a table stands the end doesn't
 pub not_end : (used tail : List Token) → Begins IsWordKind used → sees k.End (used ++ tail) ≡ false
 unfolding sees kind
 not_end used tail (t, more, e, f) = ap (λ l. sees k.End (l ++ tail)) e ∙ word_no_end t.kind f
 
 -- ---- lists of tables
 
+-- behind a table and a semicolon the reader goes on with the other tables
 pub table_then : {T : Type 0} (geometry : List ℕ → Option T) (n : ℕ) (found : List (TableDef T)) (x : TableDef T) (ts mid rest : List Token)
     → table geometry found ts ≡ Ok (x, mid) → goes_on mid ≡ Ok (true, rest) → tables_from geometry (suc n) found ts ≡ tables_from geometry n (found ++ x ∷ []) rest
 unfolding tables_from
 table_then geometry n found x ts mid rest e g = rw (e, g) refl
 
+-- behind a table, where no further one follows, it stops
 table_last : {T : Type 0} (geometry : List ℕ → Option T) (n : ℕ) (found : List (TableDef T)) (x : TableDef T) (ts mid rest : List Token)
     → table geometry found ts ≡ Ok (x, mid) → goes_on mid ≡ Ok (false, rest) → tables_from geometry (suc n) found ts ≡ Ok (found ++ x ∷ [], rest)
 unfolding tables_from
@@ -484,6 +524,7 @@ record AreLawfulTables {T : Type 0} (found : List (TableDef T)) (x : TableDef T)
   differ : names_differ (map (λ t. t.name) (found ++ x ∷ more)) ≡ true
   each : list_all lawful_table (x ∷ more) ≡ true
 
+-- one table further, what is known of the tables still holds
 lawful_tables_next : {T : Type 0} (found : List (TableDef T)) (x y : TableDef T) (more : List (TableDef T)) → AreLawfulTables found x (y ∷ more) → AreLawfulTables (found ++ x ∷ []) y more
 lawful_tables_next found x y more are = record {
   few = omega (arith, length-append found (x ∷ []), are.few);
@@ -491,11 +532,13 @@ lawful_tables_next found x y more are = record {
   each = (and_parts _ _ are.each).1;
 }
 
+-- so the next table has room, a new name, and is lawful: it is read
 one_table : {T : Type 0} (geometry : List ℕ → Option T) (more : List (TableDef T)) (x : TableDef T) (found : List (TableDef T)) (used tail : List Token)
     → IsTable geometry x used → AsciiWords used → AreLawfulTables found x more → table geometry found (used ++ tail) ≡ Ok (x, tail)
 one_table geometry more x found used tail p words are =
     table_complete geometry found x used tail p words (omega (arith, are.few)) (fresh_name (λ t. t.name) found x more are.differ) (and_parts _ _ are.each).0
 
+-- table by table, all tables of a lawful schema are read, up to the end
 tables_complete : {T : Type 0} (geometry : List ℕ → Option T) (more : List (TableDef T)) (x : TableDef T) (n : ℕ) (found : List (TableDef T)) (used tail : List Token) (end : Token)
     → IsParts k.Semicolon (IsTable geometry) x more used → AsciiWords used → goes_on tail ≡ Ok (false, end ∷ []) → length more < n → AreLawfulTables found x more
     → tables_from geometry n found (used ++ tail) ≡ Ok (found ++ x ∷ more, end ∷ [])
@@ -521,18 +564,22 @@ tables_complete {T} geometry (y ∷ more) x (suc n) found used tail end (a, b, e
 
 -- ---- schemas
 
+-- where the tables are read up to the end, the schema is
 all_read : {T : Type 0} (geometry : List ℕ → Option T) (tables : List (TableDef T)) (ts : List Token) (n : Token) → all_tables geometry ts ≡ Ok (tables, n ∷ []) → n.kind ≡ k.End
     → schema geometry ts ≡ Ok (tables, [])
 unfolding schema
 all_read geometry tables ts n e end = rw (e, expect_read k.End n [] end) refl
 
+-- at the end no table is read
 none_read : {T : Type 0} (geometry : List ℕ → Option T) (n : Token) → n.kind ≡ k.End → all_tables geometry (n ∷ []) ≡ Ok ([], n ∷ [])
 unfolding sees kind
 none_read geometry n e = rw (is_kind n.kind k.End e) refl
 
+-- where it isn't the end, tables are read, as many turns being allowed as there are tokens
 some_read : {T : Type 0} (geometry : List ℕ → Option T) (ts : List Token) → sees k.End ts ≡ false → all_tables geometry ts ≡ tables_from geometry (length ts) [] ts
 some_read geometry ts h = rw h refl
 
+-- there are no more parts than tokens, where another token is behind them
 turns_before : {A : Type 0} (between : TokenKind) (P : A → Phrase) (more : List A) (x : A) (used tail : List Token) → IsParts between P x more used → IsThere tail → length more < length (used ++ tail)
 turns_before between P more x used tail p (t, rest, e) = rw e (turns_suffice between P more x used t rest p)
 

@@ -37,10 +37,12 @@ Meets r answer = ((tail : List Token) → r tail ≡ Ok (answer tail)) ⊎ Hit r
 
 -- ---- marks
 
+-- PRIMARY on an INTEGER column of a table with a key is refused, whatever follows it
 key_twice : {T : Type 0} (type : ColumnType T) (u : Token) (ts : List Token) → IsWordOf (codes "PRIMARY") u → is_integer type ≡ true → key_mark true type (u ∷ ts) ≡ Err (fault.TwoKeys u.at)
 unfolding key_mark sees kind next spelling place
 key_twice type u ts primary whole = rw (is_kind u.kind k.Word primary.0, primary.1, whole) refl
 
+-- where the key's mark is refused so are the marks, with NOT NULL before it or not
 marks_twice : {T : Type 0} (has : Bool) (type : ColumnType T) (not_null : Bool) (ts ts1 : List Token) (f : SchemaFault) → null_mark ts ≡ Ok (not_null, ts1) → key_mark has type ts1 ≡ Err f → marks has type ts ≡ Err f
 unfolding marks
 marks_twice has type not_null ts ts1 f e g = rw (e, g) refl
@@ -83,6 +85,7 @@ second_met type false used t (inr (b, a, e, q, none)) whole =
           ∙ marks_twice true type false (u ∷ v ∷ t ∷ rest) (u ∷ v ∷ t ∷ rest) (fault.TwoKeys u.at) (null_absent u (v ∷ t ∷ rest) (word_not u.kind primary.0)) (key_twice type u (v ∷ t ∷ rest) primary whole),
     )
 
+-- marks without PRIMARY KEY are read; with it they are too where no key stands before, and refused at PRIMARY where one does
 marks_met : {T : Type 0} (has : Bool) (type : ColumnType T) (not_null is_key : Bool) (used : List Token) (t : Token) → AreMarks not_null is_key used → EndsColumn t.kind
     → (is_key ≡ true → is_integer type ≡ true) → Meets (λ rest. marks has type (used ++ t ∷ rest)) (λ rest. ((not_null, is_key), t ∷ rest))
 marks_met has type not_null false used t p ends whole = inl (λ rest. marks_complete has type not_null false used t rest p ends (λ e. absurd (false≢true e)))
@@ -91,6 +94,7 @@ marks_met true type not_null true used t p ends whole = inr (second_met type not
 
 -- ---- names
 
+-- a name is refused where there is no room, and else where it is taken
 name_many : (taken : Bool) (u : Token) (ts : List Token) → u.kind ≡ k.Word → is_ascii u.text ≡ true → new_name true taken (u ∷ ts) ≡ Err (fault.TooMany u.at)
 unfolding new_name sees kind next spelling place
 name_many taken u ts word ascii = rw (is_kind u.kind k.Word word, ascii) refl
@@ -106,6 +110,7 @@ name_hit false true u word ascii h = (fault.DoubleName u.at, refl, λ ts. name_d
 name_hit false false u word ascii (inl h) = absurd (false≢true h)
 name_hit false false u word ascii (inr h) = absurd (false≢true h)
 
+-- a name is new and has room, or is refused, whatever follows
 name_met : (full taken : Bool) (u : Token) → u.kind ≡ k.Word → is_ascii u.text ≡ true → ((full ≡ false) × (taken ≡ false)) ⊎ Hit (λ ts. new_name full taken (u ∷ ts))
 name_met false false u word ascii = inl (refl, refl)
 name_met true taken u word ascii = inr (name_hit true taken u word ascii (inl refl))
@@ -113,11 +118,13 @@ name_met false true u word ascii = inr (name_hit false true u word ascii (inr re
 
 -- ---- columns
 
+-- a column is refused where its name is
 column_unnamed : {T : Type 0} (geometry : List ℕ → Option T) (found : List (ColumnDef T)) (has : Bool) (u : Token) (ts : List Token) (f : SchemaFault)
     → new_name (nat_le 32 (length found)) (has_column found u.text) (u ∷ ts) ≡ Err f → column geometry found has (u ∷ ts) ≡ Err f
 unfolding column spelling
 column_unnamed geometry found has u ts f e = rw e refl
 
+-- a column is refused where its marks are, its name and its type being read
 column_unmarked : {T : Type 0} (geometry : List ℕ → Option T) (found : List (ColumnDef T)) (has : Bool) (type : ColumnType T) (u v : Token) (ts : List Token) (f : SchemaFault)
     → u.kind ≡ k.Word → is_ascii u.text ≡ true → nat_le 32 (length found) ≡ false → has_column found u.text ≡ false → v.kind ≡ k.Word → type_named geometry v.text ≡ Some type
     → marks has type ts ≡ Err f → column geometry found has (u ∷ v ∷ ts) ≡ Err f
@@ -125,6 +132,7 @@ unfolding column spelling
 column_unmarked geometry found has type u v ts f word ascii room fresh word2 named e =
     rw (name_read (nat_le 32 (length found)) (has_column found u.text) u (v ∷ ts) word ascii room fresh, type_read geometry type v ts word2 named, e) refl
 
+-- a column of the grammar is read, or refused at its name or at PRIMARY, whatever follows
 column_met : {T : Type 0} (geometry : List ℕ → Option T) (found : List (ColumnDef T)) (has : Bool) (x : Marked T) (used : List Token) (t : Token) → IsColumn geometry x used → AsciiWords used → EndsColumn t.kind
     → Meets (λ rest. column geometry found has (used ++ t ∷ rest)) (λ rest. (x, t ∷ rest))
 column_met {T = T} geometry found has x used t p words ends =
@@ -169,6 +177,7 @@ enough (x ∷ xs) (suc n) h = let m = enough xs n (omega (arith, h)) in (m.0, ap
 abbrev firsts : {T : Type 0} → List (Marked T) → List (ColumnDef T)
 firsts m = map (λ c. c.0) m
 
+-- where a column is refused, so are the columns
 column_fault : {T : Type 0} (geometry : List ℕ → Option T) (n : ℕ) (found : List (ColumnDef T)) (key : Option ℕ) (ts : List Token) (f : SchemaFault)
     → column geometry found (is_there key) ts ≡ Err f → columns_from geometry (suc n) found key ts ≡ Err f
 unfolding columns_from
@@ -182,6 +191,7 @@ or_false : (a : Bool) → a ≡ (a || false)
 or_false true = refl
 or_false false = refl
 
+-- there is a key after one more column where one was before, or where the column is it
 there_after : (key : Option ℕ) (place : ℕ) (is_key : Bool) → is_there (key_after key place is_key) ≡ (is_there key || is_key)
 there_after None place true = refl
 there_after None place false = refl
@@ -195,6 +205,7 @@ EndedMeet geometry m found key used =
     × ((n : ℕ) (tail : List Token) → columns_from geometry (turns m n) found key (used ++ tail) ≡ columns_from geometry n (found ++ firsts m) known tail))
     ⊎ ((f : SchemaFault) × (is_at_token f ≡ true) × ((n : ℕ) (tail : List Token) → columns_from geometry (turns m n) found key (used ++ tail) ≡ Err f))
 
+-- column by column: each is read or refused, and the first that is refused settles the answer
 ended_met : {T : Type 0} (geometry : List ℕ → Option T) (m : List (Marked T)) (found : List (ColumnDef T)) (key : Option ℕ) (used : List Token)
     → AreEnded (IsToken k.Comma) (IsColumn geometry) m used → AsciiWords used → EndedMeet geometry m found key used
 ended_met geometry [] found key used none words =
@@ -239,6 +250,7 @@ PartsMeet {T} geometry x more found key used t =
     × ((n : ℕ) (rest : List Token) → columns_from geometry (turns more (suc n)) found key (used ++ t ∷ rest) ≡ Ok ((found ++ firsts (x ∷ more), known), t ∷ rest)))
     ⊎ ((f : SchemaFault) × (is_at_token f ≡ true) × ((n : ℕ) (rest : List Token) → columns_from geometry (turns more (suc n)) found key (used ++ t ∷ rest) ≡ Err f))
 
+-- the last column has the parenthesis behind it instead of a comma
 parts_met : {T : Type 0} (geometry : List ℕ → Option T) (x : Marked T) (more : List (Marked T)) (found : List (ColumnDef T)) (key : Option ℕ) (used : List Token) (t : Token)
     → IsParts k.Comma (IsColumn geometry) x more used → AsciiWords used → t.kind ≡ k.RightParenthesis → PartsMeet geometry x more found key used t
 parts_met {T = T} geometry x [] found key used t p words right =
@@ -286,6 +298,7 @@ parts_met {T = T} geometry x (y ∷ more) found key used t (a, b, e, p, q) words
 
 -- ---- tables
 
+-- a table is refused where its name is
 table_unnamed : {T : Type 0} (geometry : List ℕ → Option T) (found : List (TableDef T)) (u1 u2 u3 : Token) (ts : List Token) (f : SchemaFault)
     → IsWordOf (codes "CREATE") u1 → IsWordOf (codes "TABLE") u2 → new_name (nat_le 16 (length found)) (has_table found u3.text) (u3 ∷ ts) ≡ Err f
     → table geometry found (u1 ∷ u2 ∷ u3 ∷ ts) ≡ Err f
@@ -301,6 +314,7 @@ record IsOpened {T : Type 0} (found : List (TableDef T)) (u1 u2 u3 u4 : Token) :
   ascii : is_ascii u3.text ≡ true
   left : u4.kind ≡ k.LeftParenthesis
 
+-- a table is refused where its columns are, its name being read
 table_uncolumned : {T : Type 0} (geometry : List ℕ → Option T) (found : List (TableDef T)) (u1 u2 u3 u4 : Token) (ts : List Token) (f : SchemaFault) → IsOpened found u1 u2 u3 u4
     → nat_le 16 (length found) ≡ false → has_table found u3.text ≡ false → columns geometry ts ≡ Err f → table geometry found (u1 ∷ u2 ∷ u3 ∷ u4 ∷ ts) ≡ Err f
 unfolding table table_name spelling
@@ -313,6 +327,7 @@ table_uncolumned geometry found u1 u2 u3 u4 ts f is room fresh e =
       e,
     ) refl
 
+-- a table whose columns are read without a key is refused at its parenthesis
 table_unkeyed : {T : Type 0} (geometry : List ℕ → Option T) (found : List (TableDef T)) (cols : List (ColumnDef T)) (u1 u2 u3 u4 : Token) (ts : List Token) (m : Token) (tail : List Token)
     → IsOpened found u1 u2 u3 u4 → nat_le 16 (length found) ≡ false → has_table found u3.text ≡ false → columns geometry ts ≡ Ok ((cols, None), m ∷ tail) → m.kind ≡ k.RightParenthesis
     → table geometry found (u1 ∷ u2 ∷ u3 ∷ u4 ∷ ts) ≡ Err (fault.NoKey m.at)
@@ -347,6 +362,7 @@ abbrev TableMeets : {T : Type 0} → (List ℕ → Option T) → List (TableDef 
 TableMeets {T} geometry found name used =
     ((t : TableDef T) × (t.name ≡ name) × ((tail : List Token) → table geometry found (used ++ tail) ≡ Ok (t, tail))) ⊎ Hit (λ tail. table geometry found (used ++ tail))
 
+-- a table's name, its columns and its parenthesis, in this order: the first that is refused settles the answer
 opened_met : {T : Type 0} (geometry : List ℕ → Option T) (found : List (TableDef T)) (name : List ℕ) (first : Marked T) (more : List (Marked T)) (used : List Token) (u1 u2 u3 u4 : Token) (a : List Token) (m : Token)
     → ((tail : List Token) → used ++ tail ≡ u1 ∷ u2 ∷ u3 ∷ u4 ∷ (a ++ m ∷ tail)) → IsOpened found u1 u2 u3 u4 → name ≡ u3.text → m.kind ≡ k.RightParenthesis
     → ((nat_le 16 (length found) ≡ false) × (has_table found u3.text ≡ false)) ⊎ Hit (λ ts. new_name (nat_le 16 (length found)) (has_table found u3.text) (u3 ∷ ts))
@@ -372,6 +388,7 @@ opened_met geometry found name first more used u1 u2 u3 u4 a m cut is named righ
           ∙ table_read geometry found (firsts (first ∷ more)) key u1 u2 u3 u4 (a ++ m ∷ tail) m tail is.create is.tables is.word is.ascii fresh.0 fresh.1 is.left (read tail) right,
     )
 
+-- so a table as it is written is read, or refused at one of its tokens, whatever follows
 table_met : {T : Type 0} (geometry : List ℕ → Option T) (found : List (TableDef T)) (w : Written T) (used : List Token) → IsWritten geometry w used → AsciiWords used → TableMeets geometry found w.0 used
 table_met {T = T} geometry found w used (first, more, same, (c, d2, e, create, p2)) words =
     let (u1, u2, ec, w1, w2) = two_only (IsWordOf (codes "CREATE")) (IsWordOf (codes "TABLE")) c create in
@@ -388,6 +405,7 @@ table_met {T = T} geometry found w used (first, more, same, (c, d2, e, create, p
 
 -- ---- lists of tables
 
+-- where a table is refused, so are the tables
 table_fault : {T : Type 0} (geometry : List ℕ → Option T) (n : ℕ) (found : List (TableDef T)) (ts : List Token) (f : SchemaFault) → table geometry found ts ≡ Err f → tables_from geometry (suc n) found ts ≡ Err f
 unfolding tables_from
 table_fault geometry n found ts f e = rw e refl
@@ -404,19 +422,23 @@ TablesMeet {T} geometry ws found used =
     × ((n : ℕ) (tail : List Token) → sees k.End tail ≡ false → tables_from geometry (turns ws n) found (used ++ tail) ≡ tables_from geometry n now tail))
     ⊎ ((f : SchemaFault) × (is_at_token f ≡ true) × ((n : ℕ) (tail : List Token) → sees k.End tail ≡ false → tables_from geometry (turns ws n) found (used ++ tail) ≡ Err f))
 
+-- a table as it is written begins with a word, CREATE
 written_begins : {T : Type 0} (geometry : List ℕ → Option T) (w : Written T) (ts : List Token) → IsWritten geometry w ts → Begins IsWordKind ts
 written_begins geometry w ts (first, more, same, p) =
     seq_begins IsWordKind IsCreateTable _ (λ ts p. seq_begins IsWordKind (IsWord (codes "CREATE")) _ (one_begins IsWordKind _ (λ t q. q.0)) ts p) ts p
 
+-- tables with semicolons, and what isn't the end behind them, don't begin with the end
 ended_goes_on : {T : Type 0} (geometry : List ℕ → Option T) (ws : List (Written T)) (used tail : List Token) → AreEnded (IsToken k.Semicolon) (IsWritten geometry) ws used → sees k.End tail ≡ false
     → sees k.End (used ++ tail) ≡ false
 ended_goes_on geometry [] used tail none h = ap (λ l. sees k.End (l ++ tail)) none ∙ h
 ended_goes_on geometry (w ∷ ws) used tail p h = not_end used tail (seq_begins IsWordKind (IsWritten geometry w) _ (written_begins geometry w) used p)
 
+-- a table that is read has the name that is written, so the names read and those to come stay the same
 names-after : {T : Type 0} (found : List (TableDef T)) (t : TableDef T) (name : List ℕ) (others : List (List ℕ)) → t.name ≡ name → names (found ++ t ∷ []) ++ others ≡ names found ++ name ∷ others
 names-after found t name others e =
     ap (λ l. l ++ others) (map-append (λ t. t.name) found (t ∷ [])) ∙ append_assoc (names found) (t.name ∷ []) others ∙ ap (λ n. names found ++ n ∷ others) e
 
+-- table by table: each is read or refused, and the first that is refused settles the answer
 tables_met : {T : Type 0} (geometry : List ℕ → Option T) (ws : List (Written T)) (found : List (TableDef T)) (used : List Token)
     → AreEnded (IsToken k.Semicolon) (IsWritten geometry) ws used → AsciiWords used → TablesMeet geometry ws found used
 tables_met geometry [] found used none words =
@@ -452,10 +474,12 @@ tables_met {T = T} geometry (w ∷ ws) found used (a, b, e, p, (c, d, e2, q, h))
 
 -- ---- schemas
 
+-- where the tables are refused, so is the schema
 schema_fault : {T : Type 0} (geometry : List ℕ → Option T) (ts : List Token) (f : SchemaFault) → sees k.End ts ≡ false → tables_from geometry (length ts) [] ts ≡ Err f → schema geometry ts ≡ Err f
 unfolding schema
 schema_fault geometry ts f h e = rw (h, e) refl
 
+-- there are no more parts than tokens
 ended_short : {A : Type 0} (between : TokenKind) (P : A → Phrase) (xs : List A) (used : List Token) → AreEnded (IsToken between) P xs used → length xs ≤ length used
 ended_short between P [] used p = omega arith
 ended_short between P (x ∷ xs) used (a, b, e, p, (c, d, e2, q, h)) =
@@ -510,6 +534,7 @@ record AreOpened {T : Type 0} (geometry : List ℕ → Option T) (ws : List (Wri
   named : (u3.kind ≡ k.Word) × (name ≡ u3.text)
   left : u4.kind ≡ k.LeftParenthesis
 
+-- what stands before the columns of a table is whole tables with semicolons, CREATE TABLE, a name and a parenthesis
 are_opened : {T : Type 0} (geometry : List ℕ → Option T) (ws : List (Written T)) (name : List ℕ) (used : List Token) → BeforeColumns geometry ws name used → AreOpened geometry ws name used
 are_opened geometry ws name used (x, y, exy, (e, c, ec, before, create), rest) =
     let (u1, u2, e12, w1, w2) = two_only (IsWordOf (codes "CREATE")) (IsWordOf (codes "TABLE")) c create in
@@ -528,6 +553,7 @@ are_opened geometry ws name used (x, y, exy, (e, c, ec, before, create), rest) =
       left = left;
     }
 
+-- where a word stands the end doesn't
 word_goes_on : (u : Token) (ts : List Token) → u.kind ≡ k.Word → sees k.End (u ∷ ts) ≡ false
 unfolding sees kind same_kind
 word_goes_on u ts e = rw e refl
@@ -581,6 +607,7 @@ columns_stop {T = T} geometry m b v u before words refused = go (ended_met geome
           ∙ column_fault geometry (count after).0 (firsts m) known (v ++ u ∷ after) refused.0 (ap (λ has. column geometry (firsts m) has (v ++ u ∷ after)) there ∙ refused.2 after)),
     )
 
+-- so where a column is refused behind those before it, the schema is
 column_stops : {T : Type 0} (geometry : List ℕ → Option T) (ws : List (Written T)) (name : List ℕ) (m : List (Marked T)) (before v : List Token) (u : Token) → BeforeColumn geometry ws name m before
     → AsciiWords before → Hit (λ after. column geometry (firsts m) (has_key m) (v ++ u ∷ after)) → Hit (λ after. schema geometry ((before ++ v) ++ u ∷ after))
 column_stops {T = T} geometry ws name m before v u (x, b, e, opened, ended) words refused = joined (inside_stops geometry ws name x (b ++ v) u opened (words_before x b ascii) inside)
@@ -600,9 +627,11 @@ column_stops {T = T} geometry ws name m before v u (x, b, e, opened, ended) word
 
 -- ---- each refusal
 
+-- the word behind some tokens is ASCII where all their words are
 word_ascii : (before : List Token) (u : Token) → AsciiWords (before ++ u ∷ []) → u.kind ≡ k.Word → is_ascii u.text ≡ true
 word_ascii before u words word = (words_behind before (u ∷ []) words).0 word
 
+-- tables of the same names are as many
 length-named : {T : Type 0} (now : List (TableDef T)) (ws : List (Written T)) → names now ≡ written ws → length now ≡ length ws
 length-named now ws e = sym (size (λ t. t.name) now) ∙ ap length e ∙ size (λ w. w.0) ws
   where
@@ -618,10 +647,12 @@ either : (a b c : Bool) → (b ≡ true → c ≡ true) → (a || b) ≡ true �
 either true b c f h = refl
 either false b c f h = f h
 
+-- a name that is among those of the tables is one that a table has
 table_taken : {T : Type 0} (now : List (TableDef T)) (t : Token) → is_among t (names now) ≡ true → has_table now t.text ≡ true
 table_taken [] t h = h
 table_taken (x ∷ now) t h = either (same_name x.name t.text) (is_among t (names now)) (has_table now t.text) (table_taken now t) h
 
+-- a name that is among those of the columns, as they are written, is one that a column has
 column_taken : {T : Type 0} (m : List (Marked T)) (t : Token) → is_among t (names_of m) ≡ true → has_column (firsts m) t.text ≡ true
 column_taken [] t h = h
 column_taken (c ∷ m) t h = either (same_name c.0.name t.text) (is_among t (names_of m)) (has_column (firsts m) t.text) (column_taken m t) h
@@ -663,6 +694,7 @@ nulls_twice type false d u none primary whole after =
     ap (λ l. marks true type (l ++ u ∷ after)) none
     ∙ marks_twice true type false (u ∷ after) (u ∷ after) (fault.TwoKeys u.at) (null_absent u after (word_not u.kind primary.0)) (key_twice type u after primary whole)
 
+-- a second PRIMARY on an INTEGER column behind one with PRIMARY KEY stops the reading, whatever follows
 second_stops : {T : Type 0} (geometry : List ℕ → Option T) (ws : List (Written T)) (name : List ℕ) (m : List (Marked T)) (col : List ℕ) (type : ColumnType T) (not_null : Bool) (before : List Token) (u : Token)
     → BeforeKey geometry ws name m col type not_null before → AsciiWords (before ++ u ∷ []) → IsWordOf (codes "PRIMARY") u → has_key m ≡ true → is_integer type ≡ true
     → Hit (λ after. schema geometry (before ++ u ∷ after))
@@ -727,6 +759,7 @@ stands_stops geometry before u fault.OutOfMemory h words = absurd h
 
 -- ---- texts
 
+-- what the tokens of a text that isn't too long are refused for, the text is refused for
 fault_given : {T : Type 0} (geometry : List ℕ → Option T) (text : List ℕ) (ts : List Token) (f : SchemaFault) → length text ≤ most_bytes → tokens false text ≡ ts → schema geometry ts ≡ Err f
     → schema_of geometry text ≡ Err f
 unfolding schema_of

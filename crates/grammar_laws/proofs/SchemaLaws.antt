@@ -16,18 +16,21 @@ use Rattle.table_model.specs.SchemaGrammar.{AreTables, IsSchema, AnswersSchema}
 use Rattle.table_model.specs.SchemaReading.{schema, schema_of}
 use Rattle.table_model.specs.Tokens.{tokens, most_bytes}
 
+-- tables that were read are lawful and stand in the grammar; a fault has nothing to show
 by_value : {T : Type 0} (geometry : List ℕ → Option T) (text : List ℕ) (r : Outcome SchemaFault (List (TableDef T))) → schema geometry (tokens false text) ≡ r → length text ≤ most_bytes
     → IfRead r (λ tables rest. AreTables geometry tables (tokens false text)) → IfOk (value_of r) (IsSchema geometry text)
 unfolding IsSchema
 by_value geometry text (Ok p) e short h = (short, lawful-from_schema geometry (tokens false text) p.0 p.1 e, h)
 by_value geometry text (Err f) e short h = tt
 
+-- so for a text that isn't too long; a longer one is refused
 by_length : {T : Type 0} (geometry : List ℕ → Option T) (text : List ℕ) (long : Bool) → nat_lt most_bytes (length text) ≡ long
     → IfOk (if long then Err fault.TooLong else value_of (schema geometry (tokens false text))) (IsSchema geometry text)
 by_length geometry text true e = tt
 by_length geometry text false e =
     by_value geometry text (schema geometry (tokens false text)) refl (ltb-false most_bytes (length text) e) (schema_sound geometry (tokens false text) (tokens_once false text))
 
+-- whatever tables a text is read as, it is their schema, as the readers of its tokens keep to their rules
 schema_of_sound : {T : Type 0} (geometry : List ℕ → Option T) (text : List ℕ) → IfOk (schema_of geometry text) (IsSchema geometry text)
 unfolding schema_of
 schema_of_sound geometry text = by_length geometry text (nat_lt most_bytes (length text)) refl
@@ -47,6 +50,7 @@ pub schema_is_given : {T : Type 0} (geometry : List ℕ → Option T) (text : Li
     → AnswersSchema geometry text r
 schema_is_given geometry text r given tables is = subst (λ answer. Gives fault.OutOfMemory (λ t. t) r answer) (schema_of_complete geometry text tables is) given
 
+-- one answer has one value
 same_answer : {A : Type 0} (r : Result A SchemaFault) (a b : A) → r ≡ Ok a → r ≡ Ok b → a ≡ b
 same_answer r a b p q = cc
 

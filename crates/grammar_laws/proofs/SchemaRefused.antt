@@ -31,16 +31,19 @@ abbrev pub Answers : {A : Type 0} → Outcome SchemaFault A → (A → List Toke
 Answers (Ok p) Q E = Q p.0 p.1
 Answers (Err f) Q E = is_at_token f ≡ true → E f
 
+-- what two readers in a row read or refuse, from what the first does
 then_answers : {A B : Type 0} (r : Outcome SchemaFault A) (f : A → Reader B) (Q : A → List Token → Type 0) (R : B → List Token → Type 0) (E : SchemaFault → Type 0)
     → ((x : A) (rest : List Token) → Q x rest → Answers (f x rest) R E) → Answers r Q E → Answers (and_then r f) R E
 then_answers (Ok p) f Q R E g q = g p.0 p.1 q
 then_answers (Err e) f Q R E g q = q
 
+-- what one of two readers reads or refuses, by the test that chooses it
 if_answers : {A : Type 0} (b : Bool) (x y : Outcome SchemaFault A) (Q : A → List Token → Type 0) (E : SchemaFault → Type 0)
     → (b ≡ true → Answers x Q E) → (b ≡ false → Answers y Q E) → Answers (if b then x else y) Q E
 if_answers true x y Q E f g = f refl
 if_answers false x y Q E f g = g refl
 
+-- what is known of an answer may be weakened
 weaker : {A : Type 0} (r : Outcome SchemaFault A) (Q R : A → List Token → Type 0) (E : SchemaFault → Type 0) → ((x : A) (rest : List Token) → Q x rest → R x rest)
     → Answers r Q E → Answers r R E
 weaker (Ok p) Q R E f q = f p.0 p.1 q
@@ -51,17 +54,20 @@ eaten_by : {A : Type 0} (b : Bool) (ts : List Token) (p q : Reader A) (Q : A →
 eaten_by true ts p q Q E f g = f refl
 eaten_by false ts p q Q E f g = g refl
 
+-- a reader that goes on in one way where a token of a kind is taken, and in another where none stands
 eaten : {A : Type 0} (wanted : TokenKind) (ts : List Token) (p q : Reader A) (Q : A → List Token → Type 0) (E : SchemaFault → Type 0)
     → (sees wanted ts ≡ true → Answers (p (next ts)) Q E) → (sees wanted ts ≡ false → Answers (q ts) Q E)
     → Answers ((if sees wanted ts then p else q) (after wanted ts)) Q E
 unfolding after
 eaten wanted ts p q Q E f g = eaten_by (sees wanted ts) ts p q Q E f g
 
+-- a token of the kind asked for is taken; another is a fault of syntax, which isn't one at a token
 expect_answers : (E : SchemaFault → Type 0) (wanted : TokenKind) → (k.Bad ≡ wanted → ⊥) → (ts : List Token)
     → Answers (expect fault.Syntax wanted ts) (λ x rest. Took ts (IsToken wanted) rest) E
 unfolding expect
 expect_answers E wanted good ts = if_answers (sees wanted ts) _ _ (λ x rest. Took ts (IsToken wanted) rest) E (λ h. one wanted ts good h) (λ _. λ e. absurd (false≢true e))
 
+-- the same for a word
 expect_word_answers : (E : SchemaFault → Type 0) (word : List ℕ) (ts : List Token) → Answers (expect_word word ts) (λ x rest. Took ts (IsWord word) rest) E
 unfolding expect_word
 expect_word_answers E word ts = if_answers (sees_word word ts) _ _ (λ x rest. Took ts (IsWord word) rest) E (λ h. word_taken word ts h) (λ _. λ e. absurd (false≢true e))
@@ -81,6 +87,7 @@ record MayStand {T : Type 0} (geometry : List ℕ → Option T) (P : Phrase) (fu
 abbrev NameRead : Bool → List Token → List ℕ → List Token → Type 0
 NameRead full ts name rest = (full ≡ false) × Took ts (IsNamed name) rest
 
+-- a name without room is refused as too many, at itself
 many_here : {T : Type 0} (geometry : List ℕ → Option T) (all : List Token) (P : Phrase) (full : Bool) (taken : List ℕ → Bool) (ts : List Token) → MayStand geometry P full taken
     → Took all P ts → sees k.Word ts ≡ true → full ≡ true → StandsIn geometry all (fault.TooMany (place ts))
 unfolding sees kind place
@@ -88,6 +95,7 @@ many_here geometry all P full taken [] may took is h = absurd (let e = same k.Ba
 many_here geometry all P full taken (t ∷ rest) may took is h =
     here geometry all P t rest (fault.TooMany t.at) took (λ before p. may.many h t before p (same t.kind k.Word is))
 
+-- a name that is taken, where there is room, is refused as double, at itself
 double_here : {T : Type 0} (geometry : List ℕ → Option T) (all : List Token) (P : Phrase) (full : Bool) (taken : List ℕ → Bool) (ts : List Token) → MayStand geometry P full taken
     → Took all P ts → sees k.Word ts ≡ true → full ≡ false → taken (spelling ts) ≡ true → StandsIn geometry all (fault.DoubleName (place ts))
 unfolding sees kind place spelling
@@ -95,6 +103,7 @@ double_here geometry all P full taken [] may took is room h = absurd (let e = sa
 double_here geometry all P full taken (t ∷ rest) may took is room h =
     here geometry all P t rest (fault.DoubleName t.at) took (λ before p. may.double room t before p (same t.kind k.Word is) h)
 
+-- a new name is read where there is room and it isn't taken; else it is refused at itself
 name_answers : {T : Type 0} (geometry : List ℕ → Option T) (all : List Token) (P : Phrase) (full : Bool) (taken : List ℕ → Bool) (ts : List Token)
     → Took all P ts → MayStand geometry P full taken → Answers (new_name full (taken (spelling ts)) ts) (NameRead full ts) (StandsIn geometry all)
 unfolding new_name
@@ -106,6 +115,7 @@ name_answers geometry all P full taken ts took may =
 
 -- ---- columns
 
+-- a word that names a type is read as it; another is a fault of syntax
 type_answers : {T : Type 0} (geometry : List ℕ → Option T) (E : SchemaFault → Type 0) (ts : List Token) (o : Option (ColumnType T)) → sees k.Word ts ≡ true → type_named geometry (spelling ts) ≡ o
     → Answers (type_or o (place ts) (next ts)) (λ type rest. Took ts (IsType geometry type) rest) E
 unfolding sees kind next spelling
@@ -113,11 +123,13 @@ type_answers geometry E ts None h e = λ is. absurd (false≢true is)
 type_answers geometry E [] (Some type) h e = absurd (let bad = same k.Bad k.Word h in cc)
 type_answers geometry E (t ∷ ts) (Some type) h e = (t ∷ [], refl, (same t.kind k.Word h, e))
 
+-- so a type is never refused at a token
 column_type_answers : {T : Type 0} (geometry : List ℕ → Option T) (E : SchemaFault → Type 0) (ts : List Token) → Answers (column_type geometry ts) (λ type rest. Took ts (IsType geometry type) rest) E
 unfolding column_type
 column_type_answers geometry E ts =
     if_answers (sees k.Word ts) _ _ (λ type rest. Took ts (IsType geometry type) rest) E (λ h. type_answers geometry E ts _ h refl) (λ _. λ e. absurd (false≢true e))
 
+-- nor is NOT NULL
 null_mark_answers : (E : SchemaFault → Type 0) (ts : List Token) → Answers (null_mark ts) (λ b rest. Took ts (IsMark b IsNotNull) rest) E
 unfolding null_mark
 null_mark_answers E ts = eaten k.Not ts _ _ (λ b rest. Took ts (IsMark b IsNotNull) rest) E
@@ -130,6 +142,7 @@ null_mark_answers E ts = eaten k.Not ts _ _ (λ b rest. Took ts (IsMark b IsNotN
 abbrev KeyRead : {T : Type 0} → ColumnType T → List Token → Bool → List Token → Type 0
 KeyRead type ts b rest = (b ≡ true → is_integer type ≡ true) × Took ts (IsMark b IsPrimaryKey) rest
 
+-- PRIMARY on an INTEGER column behind one with PRIMARY KEY is refused as a second key, at itself
 second_here : {T : Type 0} (geometry : List ℕ → Option T) (all : List Token) (tables : List (Written T)) (name : List ℕ) (before : List (Marked T)) (column : List ℕ)
     (type : ColumnType T) (not_null : Bool) (ts : List Token) → Took all (BeforeKey geometry tables name before column type not_null) ts
     → sees_word (codes "PRIMARY") ts ≡ true → is_integer type ≡ true → has_key before ≡ true → StandsIn geometry all (fault.TwoKeys (place ts))
@@ -139,6 +152,7 @@ second_here geometry all tables name before column type not_null (t ∷ rest) to
     here geometry all (BeforeKey geometry tables name before column type not_null) t rest (fault.TwoKeys t.at) took
     (λ used p. (refl, (same t.kind k.Word (and_parts _ _ primary).0, (and_parts _ _ primary).1, tables, name, before, has, column, type, not_null, whole, p)))
 
+-- PRIMARY KEY is read on INTEGER columns alone, and refused at PRIMARY where a column before has it
 key_mark_answers : {T : Type 0} (geometry : List ℕ → Option T) (all : List Token) (tables : List (Written T)) (name : List ℕ) (before : List (Marked T)) (column : List ℕ)
     (type : ColumnType T) (not_null : Bool) (ts : List Token) → Took all (BeforeKey geometry tables name before column type not_null) ts
     → Answers (key_mark (has_key before) type ts) (KeyRead type ts) (StandsIn geometry all)
@@ -168,6 +182,7 @@ further P Q R S all ts rest took next =
     turned used (x, s, e, (p, y, e2, hp, (q, r, e3, hq, hr)), hs) =
         (p, y ++ s, e ∙ ap (λ l. l ++ s) e2 ∙ append_assoc p y s, hp, (q, r ++ s, ap (λ l. l ++ s) e3 ∙ append_assoc q r s, hq, (r, s, refl, hr, hs)))
 
+-- the marks from PRIMARY KEY on, with NOT NULL before it or not
 marks_from : {T : Type 0} (geometry : List ℕ → Option T) (all : List Token) (tables : List (Written T)) (name : List ℕ) (before : List (Marked T)) (column : List ℕ) (type : ColumnType T)
     (ts : List Token) (not_null : Bool) (mid : List Token) → Took all (BeforeMarks geometry tables name before column type) ts → Took ts (IsMark not_null IsNotNull) mid
     → Answers (and_then (key_mark (has_key before) type mid) (λ is_key. (if not_null then pure false else null_mark) >>= (λ behind. pure (not_null || behind, is_key)))) (MarksRead type ts) (StandsIn geometry all)
@@ -188,6 +203,7 @@ marks_from geometry all tables name before column type ts false mid stood took =
     (key_mark_answers geometry all tables name before column type false mid
     (further (BeforeColumn geometry tables name before) (IsNamed column) (IsType geometry type) (IsMark false IsNotNull) all ts mid stood took))
 
+-- of the marks PRIMARY alone is refused at a token, with NOT NULL before it or not
 marks_answers : {T : Type 0} (geometry : List ℕ → Option T) (all : List Token) (tables : List (Written T)) (name : List ℕ) (before : List (Marked T)) (column : List ℕ) (type : ColumnType T)
     (ts : List Token) → Took all (BeforeMarks geometry tables name before column type) ts → Answers (marks (has_key before) type ts) (MarksRead type ts) (StandsIn geometry all)
 unfolding marks
@@ -204,6 +220,7 @@ either : (a b c : Bool) → (b ≡ true → c ≡ true) → (a || b) ≡ true �
 either true b c f h = refl
 either false b c f h = f h
 
+-- a name that one of the columns has is among their names as they are written
 named_among : {T : Type 0} (m : List (Marked T)) (t : Token) → has_column (firsts m) t.text ≡ true → is_among t (names_of m) ≡ true
 named_among [] t h = h
 named_among (c ∷ m) t h = either (same_name c.0.name t.text) (has_column (firsts m) t.text) (is_among t (names_of m)) (named_among m t) h
@@ -215,6 +232,7 @@ length-firsts (x ∷ m) = ap suc (length-firsts m)
 exactly : (a b : ℕ) → a ≤ b → b ≤ a → a ≡ b
 exactly a b p q = omega (arith, p, q)
 
+-- at most 32 columns are read, so where there is no room there are 32, and the next name is the 33rd
 column_may : {T : Type 0} (geometry : List ℕ → Option T) (tables : List (Written T)) (name : List ℕ) (m : List (Marked T)) → length m ≤ 32
     → MayStand geometry (BeforeColumn geometry tables name m) (nat_le 32 (length (firsts m))) (has_column (firsts m))
 column_may geometry tables name m few = record {
@@ -225,6 +243,7 @@ column_may geometry tables name m few = record {
 abbrev ColumnRead : {T : Type 0} → (List ℕ → Option T) → List (Marked T) → List Token → Marked T → List Token → Type 0
 ColumnRead geometry m ts r rest = (length m < 32) × Took ts (IsColumn geometry r) rest
 
+-- a column is refused at its name or at PRIMARY, or it is read
 column_answers : {T : Type 0} (geometry : List ℕ → Option T) (all : List Token) (tables : List (Written T)) (name : List ℕ) (m : List (Marked T)) (ts : List Token)
     → length m ≤ 32 → Took all (BeforeColumn geometry tables name m) ts → Answers (column geometry (firsts m) (has_key m) ts) (ColumnRead geometry m ts) (StandsIn geometry all)
 unfolding column
@@ -250,6 +269,7 @@ column_answers geometry all tables name m ts few stood =
 abbrev AreParts : {A : Type 0} → TokenKind → (A → Phrase) → List A → Phrase
 AreParts {A} between P xs used = (first : A) × (more : List A) × (xs ≡ first ∷ more) × IsParts between P first more used
 
+-- things with a comma behind each, and one more without, are parts with commas between them; and so where they were taken
 parts_of : {A : Type 0} (between : TokenKind) (P : A → Phrase) (xs : List A) (x : A) (used more : List Token) → AreEnded (IsToken between) P xs used → P x more
     → AreParts between P (xs ++ x ∷ []) (used ++ more)
 parts_of between P [] x used more none p = (x, [], refl, subst (P x) (sym (ap (λ l. l ++ more) none)) p)
@@ -262,6 +282,7 @@ parts_of between P (y ∷ xs) x used more (a, b, e, p, (c, d, e2, q, h)) last =
           (a, b ++ more, ap (λ l. l ++ more) e ∙ append_assoc a b more, p, (c, d ++ more, ap (λ l. l ++ more) e2 ∙ append_assoc c d more, q, parts)),
     )
 
+-- the list is longer by one where one more and the token behind it were taken
 took_more : {A : Type 0} (end : Phrase) (P : A → Phrase) (xs : List A) (x : A) (start ts mid rest : List Token) → Took start (AreEnded end P xs) ts → Took ts (P x) mid → Took mid end rest
     → Took start (AreEnded end P (xs ++ x ∷ [])) rest
 took_more end P xs x start ts mid rest before read last =
@@ -280,6 +301,7 @@ took_parts between P xs x start ts rest before read =
 firsts-more : {T : Type 0} (m : List (Marked T)) (x : Marked T) → firsts m ++ x.0 ∷ [] ≡ firsts (m ++ x ∷ [])
 firsts-more m x = sym (map-append (λ c. c.0) m (x ∷ []))
 
+-- after one more column there is a key where one was, or where PRIMARY KEY stands on it
 key-more : {T : Type 0} (key : Option ℕ) (place : ℕ) (m : List (Marked T)) (x : Marked T) → is_there key ≡ has_key m → is_there (key_after key place x.1) ≡ has_key (m ++ x ∷ [])
 key-more key place m x e = go x.1 key e ∙ sym (list_any-append (λ c. c.1) m (x ∷ []))
   where
@@ -300,12 +322,14 @@ abbrev ColumnsRead : {T : Type 0} → (List ℕ → Option T) → List Token →
 ColumnsRead {T} geometry start r rest =
     (first : Marked T) × (more : List (Marked T)) × (is_there r.1 ≡ has_key (first ∷ more)) × Took start (IsParts k.Comma (IsColumn geometry) first more) rest
 
+-- the columns up to the last, and the last, are the columns of a table
 columns_end : {T : Type 0} (geometry : List ℕ → Option T) (m : List (Marked T)) (x : Marked T) (key : Option ℕ) (found : List (ColumnDef T)) (start ts rest : List Token)
     → is_there key ≡ has_key (m ++ x ∷ []) → Took start (AreEnded (IsToken k.Comma) (IsColumn geometry) m) ts → Took ts (IsColumn geometry x) rest → ColumnsRead geometry start (found, key) rest
 columns_end geometry m x key found start ts rest there before read =
     let (used, e, (first, more, is, parts)) = took_parts k.Comma (IsColumn geometry) m x start ts rest before read in
     (first, more, there ∙ ap has_key is, (used, e, parts))
 
+-- each column stands behind those before it, so a fault at one of its tokens stands in the table
 columns_answers : {T : Type 0} (geometry : List ℕ → Option T) (all : List Token) (tables : List (Written T)) (name : List ℕ) (n : ℕ) (m : List (Marked T)) (found : List (ColumnDef T)) (key : Option ℕ)
     (start ts : List Token) → Took all (BeforeColumns geometry tables name) start → Took start (AreEnded (IsToken k.Comma) (IsColumn geometry) m) ts
     → found ≡ firsts m → is_there key ≡ has_key m → length m ≤ 32
@@ -336,6 +360,7 @@ abbrev CloseRead : {T : Type 0} → (List ℕ → Option T) → List ℕ → Lis
 CloseRead {T} geometry name start t rest =
     (first : Marked T) × (more : List (Marked T)) × (t.name ≡ name) × Took start (IsParts k.Comma (IsColumn geometry) first more ▸ IsToken k.RightParenthesis) rest
 
+-- the parenthesis that closes columns without PRIMARY KEY is refused, at itself
 at_close : {T : Type 0} (geometry : List ℕ → Option T) (all : List Token) (tables : List (Written T)) (name : List ℕ) (first : Marked T) (more : List (Marked T)) (used mid rest : List Token)
     → has_key (first ∷ more) ≡ false → mid ≡ used ++ rest → IsToken k.RightParenthesis used → Took all (BeforeClose geometry tables name first more) mid
     → StandsIn geometry all (fault.NoKey (place mid))
@@ -347,6 +372,7 @@ at_close geometry all tables name first more (t ∷ []) mid rest none e h took =
     (here geometry all (BeforeClose geometry tables name first more) t rest (fault.NoKey t.at) (subst (λ l. Took all (BeforeClose geometry tables name first more) l) e took)
     (λ before p. (refl, (h, tables, name, first, more, none, p))))
 
+-- so a table with a key is closed, and one without is refused at the parenthesis
 closed_answers : {T : Type 0} (geometry : List ℕ → Option T) (all : List Token) (tables : List (Written T)) (name : List ℕ) (start mid rest : List Token) (columns : List (ColumnDef T)) (key : Option ℕ)
     (first : Marked T) (more : List (Marked T)) → is_there key ≡ has_key (first ∷ more) → Took all (BeforeColumns geometry tables name) start
     → Took start (IsParts k.Comma (IsColumn geometry) first more) mid → Took mid (IsToken k.RightParenthesis) rest
@@ -357,6 +383,7 @@ closed_answers geometry all tables name start mid rest columns None first more t
     at_close geometry all tables name first more close.0 mid rest (sym there) close.1 close.2
     (seq (BeforeColumns geometry tables name) (IsParts k.Comma (IsColumn geometry) first more) all start mid stood parts)
 
+-- the closing parenthesis stands behind the columns that were read
 close_answers : {T : Type 0} (geometry : List ℕ → Option T) (all : List Token) (tables : List (Written T)) (name : List ℕ) (start mid : List Token) (r : List (ColumnDef T) × Option ℕ)
     → Took all (BeforeColumns geometry tables name) start → ColumnsRead geometry start r mid → Answers (close name r mid) (CloseRead geometry name start) (StandsIn geometry all)
 close_answers geometry all tables name start mid r stood (first, more, there, parts) =
@@ -368,6 +395,7 @@ close_answers geometry all tables name start mid r stood (first, more, there, pa
 abbrev AreNames : {T : Type 0} → List (TableDef T) → List (Written T) → Type 0
 AreNames found tables = map (λ t. t.name) found ≡ map (λ w. w.0) tables
 
+-- as many tables were read as are written
 length-names : {T : Type 0} (found : List (TableDef T)) (tables : List (Written T)) → AreNames found tables → length found ≡ length tables
 length-names found tables e = sym (size (λ t. t.name) found) ∙ ap length e ∙ size (λ w. w.0) tables
   where
@@ -375,13 +403,16 @@ length-names found tables e = sym (size (λ t. t.name) found) ∙ ap length e �
     size f [] = refl
     size f (x ∷ xs) = ap suc (size f xs)
 
+-- a name that one of the tables has is among their names
 table_named : {T : Type 0} (found : List (TableDef T)) (t : Token) → has_table found t.text ≡ true → is_among t (map (λ t. t.name) found) ≡ true
 table_named [] t h = h
 table_named (x ∷ found) t h = either (same_name x.name t.text) (has_table found t.text) (is_among t (map (λ t. t.name) found)) (table_named found t) h
 
+-- and so it is among their names as they are written
 table_among : {T : Type 0} (found : List (TableDef T)) (tables : List (Written T)) (t : Token) → AreNames found tables → has_table found t.text ≡ true → is_among t (map (λ w. w.0) tables) ≡ true
 table_among found tables t e h = ap (is_among t) (sym e) ∙ table_named found t h
 
+-- at most 16 tables are read, so where there is no room there are 16, and the next name is the 17th
 table_may : {T : Type 0} (geometry : List ℕ → Option T) (found : List (TableDef T)) (tables : List (Written T)) → AreNames found tables → length tables ≤ 16
     → MayStand geometry (BeforeTable geometry tables) (nat_le 16 (length found)) (has_table found)
 table_may geometry found tables names few = record {
@@ -389,12 +420,14 @@ table_may geometry found tables names few = record {
   double = λ room t before p word taken. (refl, (word, tables, inl (subst (λ n. n < 16) (length-names found tables names) (leb-false 16 (length found) room), table_among found tables t names taken, p)));
 }
 
+-- a table's name is read where there is room and no table has it; else it is refused at itself
 table_name_answers : {T : Type 0} (geometry : List ℕ → Option T) (all : List Token) (found : List (TableDef T)) (tables : List (Written T)) (ts : List Token) → AreNames found tables → length tables ≤ 16
     → Took all (BeforeTable geometry tables) ts → Answers (table_name found ts) (NameRead (nat_le 16 (length found)) ts) (StandsIn geometry all)
 unfolding table_name
 table_name_answers geometry all found tables ts names few stood =
     name_answers geometry all (BeforeTable geometry tables) (nat_le 16 (length found)) (has_table found) ts stood (table_may geometry found tables names few)
 
+-- CREATE TABLE, a name and columns in parentheses were taken one behind the other, which is a table as it is written
 whole : {T : Type 0} (geometry : List ℕ → Option T) (name : List ℕ) (t : TableDef T) (ts ts2 ts3 ts4 rest : List Token) → Took ts IsCreateTable ts2
     → Took ts2 (IsNamed name) ts3 → Took ts3 (IsToken k.LeftParenthesis) ts4 → CloseRead geometry name ts4 t rest → (w : Written T) × (t.name ≡ w.0) × Took ts (IsWritten geometry w) rest
 whole geometry name t ts ts2 ts3 ts4 rest took1 took3 took4 (first, more, named, took5) =
@@ -407,6 +440,7 @@ whole geometry name t ts ts2 ts3 ts4 rest took1 took3 took4 (first, more, named,
           (λ used p. (first, more, refl, p)),
     )
 
+-- a table is refused at its name, in its columns or at its closing parenthesis, or it is read as it is written
 table_answers : {T : Type 0} (geometry : List ℕ → Option T) (all : List Token) (found : List (TableDef T)) (tables : List (Written T)) (ts : List Token) → AreNames found tables → length tables ≤ 16
     → Took all (AreEnded (IsToken k.Semicolon) (IsWritten geometry) tables) ts → Answers (table geometry found ts) (TableRead geometry tables ts) (StandsIn geometry all)
 unfolding table
@@ -440,6 +474,7 @@ table_answers {T = T} geometry all found tables ts names few stood =
 abbrev pub Anything : {A : Type 0} → A → List Token → Type 0
 Anything x rest = Unit {0}
 
+-- a semicolon or the end is never refused at a token, and tables go on only behind a semicolon
 goes_on_answers : (E : SchemaFault → Type 0) (ts : List Token) → Answers (goes_on ts) (λ more rest. more ≡ true → Took ts (IsToken k.Semicolon) rest) E
 unfolding goes_on after
 goes_on_answers E ts = go (sees k.Semicolon ts) refl
@@ -448,15 +483,18 @@ goes_on_answers E ts = go (sees k.Semicolon ts) refl
     go true h _ = one k.Semicolon ts (λ e. cc) h
     go false h e = absurd (false≢true e)
 
+-- where no further tables follow nothing is refused
 tables_then : {T : Type 0} (geometry : List ℕ → Option T) (E : SchemaFault → Type 0) (n : ℕ) (found : List (TableDef T)) (more : Bool) (rest : List Token)
     → (more ≡ true → Answers (tables_from geometry n found rest) Anything E) → Answers ((if more then tables_from geometry n found else pure found) rest) Anything E
 tables_then geometry E n found true rest h = h refl
 tables_then geometry E n found false rest h = tt
 
+-- one more table adds its name to both lists
 names-more : {T : Type 0} (found : List (TableDef T)) (tables : List (Written T)) (t : TableDef T) (w : Written T) → AreNames found tables → t.name ≡ w.0 → AreNames (found ++ t ∷ []) (tables ++ w ∷ [])
 names-more found tables t w names e =
     map-append (λ t. t.name) found (t ∷ []) ∙ ap (λ l. l ++ t.name ∷ []) names ∙ ap (λ n. map (λ w. w.0) tables ++ n ∷ []) e ∙ sym (map-append (λ w. w.0) tables (w ∷ []))
 
+-- each table stands behind those before it with their semicolons, so a fault at one of its tokens stands in the text
 tables_answers : {T : Type 0} (geometry : List ℕ → Option T) (all : List Token) (n : ℕ) (found : List (TableDef T)) (tables : List (Written T)) (ts : List Token) → AreNames found tables → length tables ≤ 16
     → Took all (AreEnded (IsToken k.Semicolon) (IsWritten geometry) tables) ts → Answers (tables_from geometry n found ts) Anything (StandsIn geometry all)
 unfolding tables_from
@@ -470,6 +508,7 @@ tables_answers geometry all (suc n) found tables ts names few stood =
     (goes_on_answers (StandsIn geometry all) mid))
     (table_answers geometry all found tables ts names few stood)
 
+-- behind the tables the end is asked for, which is refused for syntax alone
 pub schema_answers : {T : Type 0} (geometry : List ℕ → Option T) (ts : List Token) → Answers (schema geometry ts) Anything (StandsIn geometry ts)
 unfolding schema
 schema_answers geometry ts =

@@ -24,20 +24,24 @@ use Rattle.table_model.specs.Phrases.{Phrase, IsToken, ◌▸◌, IsOptional, Is
 pub skip : (P : Phrase) (ts mid rest : List Token) → Took ts (λ used. used ≡ []) mid → Took mid P rest → Took ts P rest
 skip P ts mid rest p q = (q.0, p.1 ∙ ap (λ u. u ++ mid) p.2 ∙ q.1, q.2)
 
+-- where a reader asks for one token, a token of its kind was taken
 expect_sound : (wanted : TokenKind) → (k.Bad ≡ wanted → ⊥) → (ts : List Token) → IfRead (expect fault.Syntax wanted ts) (λ x rest. Took ts (IsToken wanted) rest)
 expect_sound wanted good ts = expect_taken fault.Syntax wanted ts good
 
 -- ---- words and names
 
+-- the next token that is this word in any ASCII case is a phrase of one
 pub word_taken : (word : List ℕ) (ts : List Token) → sees_word word ts ≡ true → Took ts (IsWord word) (next ts)
 unfolding sees kind next spelling
 word_taken word [] h = absurd (let e = same k.Bad k.Word (and_parts _ _ h).0 in cc)
 word_taken word (t ∷ ts) h = (t ∷ [], refl, (same t.kind k.Word (and_parts _ _ h).0, (and_parts _ _ h).1))
 
+-- so where a reader asks for the word, it was taken
 expect_word_sound : (word : List ℕ) (ts : List Token) → IfRead (expect_word word ts) (λ x rest. Took ts (IsWord word) rest)
 unfolding expect_word
 expect_word_sound word ts = if_read (sees_word word ts) _ _ (λ x rest. Took ts (IsWord word) rest) (λ h. word_taken word ts h) (λ _. tt)
 
+-- the next token that is a word is a name, by its text
 pub named_taken : (ts : List Token) → sees k.Word ts ≡ true → Took ts (IsNamed (spelling ts)) (next ts)
 unfolding sees kind next spelling
 named_taken [] h = absurd (let e = same k.Bad k.Word h in cc)
@@ -47,6 +51,7 @@ pub not_false : (b : Bool) → not b ≡ false → b ≡ true
 not_false true h = refl
 not_false false h = sym h
 
+-- a new name is a word; whether there is room and whether it is taken only refuses
 new_name_sound : (full taken : Bool) (ts : List Token) → IfRead (new_name full taken ts) (λ name rest. Took ts (IsNamed name) rest)
 unfolding new_name
 new_name_sound full taken ts =
@@ -56,6 +61,7 @@ new_name_sound full taken ts =
 
 -- ---- columns
 
+-- a word that names a type is that type
 type_taken : {T : Type 0} (geometry : List ℕ → Option T) (ts : List Token) (o : Option (ColumnType T)) → sees k.Word ts ≡ true → type_named geometry (spelling ts) ≡ o
     → IfRead (type_or o (place ts) (next ts)) (λ type rest. Took ts (IsType geometry type) rest)
 unfolding sees kind next spelling
@@ -63,11 +69,13 @@ type_taken geometry ts None h e = tt
 type_taken geometry [] (Some type) h e = absurd (let bad = same k.Bad k.Word h in cc)
 type_taken geometry (t ∷ ts) (Some type) h e = (t ∷ [], refl, (same t.kind k.Word h, e))
 
+-- a type is one word that names it, or it is refused
 column_type_sound : {T : Type 0} (geometry : List ℕ → Option T) (ts : List Token) → IfRead (column_type geometry ts) (λ type rest. Took ts (IsType geometry type) rest)
 unfolding column_type
 column_type_sound geometry ts =
     if_read (sees k.Word ts) _ _ (λ type rest. Took ts (IsType geometry type) rest) (λ h. type_taken geometry ts _ h refl) (λ _. tt)
 
+-- behind NOT stands NULL; where NOT doesn't stand, nothing is taken
 null_mark_sound : (ts : List Token) → IfRead (null_mark ts) (λ b rest. Took ts (IsMark b IsNotNull) rest)
 unfolding null_mark
 null_mark_sound ts = eaten k.Not ts _ _ (λ b rest. Took ts (IsMark b IsNotNull) rest)
@@ -80,6 +88,7 @@ null_mark_sound ts = eaten k.Not ts _ _ (λ b rest. Took ts (IsMark b IsNotNull)
 abbrev KeyTook : Bool → List Token → Bool → List Token → Type 0
 KeyTook has_key ts b rest = (has_key ≡ true → b ≡ false) × Took ts (IsMark b IsPrimaryKey) rest
 
+-- behind PRIMARY stands KEY; in a table with a key PRIMARY is refused, so none stands
 key_mark_sound : {T : Type 0} (has_key : Bool) (type : ColumnType T) (ts : List Token) → IfRead (key_mark has_key type ts) (KeyTook has_key ts)
 unfolding key_mark
 key_mark_sound has_key type ts =
@@ -114,6 +123,7 @@ marks_from has_key type ts false mid took =
     (null_mark_sound mid2))
     (key_mark_sound has_key type mid)
 
+-- the marks stand in one of the two orders, each at most once: NOT NULL is asked for in front and, where none was, behind
 marks_sound : {T : Type 0} (has_key : Bool) (type : ColumnType T) (ts : List Token) → IfRead (marks has_key type ts) (MarksTook has_key ts)
 unfolding marks
 marks_sound has_key type ts =
@@ -124,6 +134,7 @@ marks_sound has_key type ts =
 abbrev ColumnTook : {T : Type 0} → (List ℕ → Option T) → Bool → List Token → Marked T → List Token → Type 0
 ColumnTook geometry has_key ts r rest = (has_key ≡ true → r.1 ≡ false) × Took ts (IsMarked geometry r) rest
 
+-- a name, a type and marks were taken one behind the other, which is a column
 column_sound : {T : Type 0} (geometry : List ℕ → Option T) (found : List (ColumnDef T)) (has_key : Bool) (ts : List Token) → IfRead (column geometry found has_key ts) (ColumnTook geometry has_key ts)
 unfolding column
 column_sound geometry found has_key ts =
@@ -160,6 +171,7 @@ length-firsts : {T : Type 0} (m : List (Marked T)) → length (map (λ c. c.0) m
 length-firsts [] = refl
 length-firsts (x ∷ m) = ap suc (length-firsts m)
 
+-- a column with PRIMARY KEY is read only where no key is known
 no_key : (key : Option ℕ) → (is_there key ≡ true → true ≡ false) → key ≡ None
 no_key None h = refl
 no_key (Some at) h = absurd (false≢true (sym (h refl)))
@@ -195,6 +207,7 @@ columns_more geometry m x ts mid r rest took h (y, ys, firsts, keys, more) = (
       (seq (IsToken k.Comma) (IsParts k.Comma (IsMarked geometry) y ys) mid (next mid) rest (one k.Comma mid (λ e. cc) h) more),
 )
 
+-- columns are read one by one with commas between them, and the place that is kept is that of the one with PRIMARY KEY
 columns_sound : {T : Type 0} (geometry : List ℕ → Option T) (n : ℕ) (found : List (ColumnDef T)) (key : Option ℕ) (ts : List Token) (m : List (Marked T))
     → found ≡ map (λ c. c.0) m → key_places 0 m ≡ option_to_list key → IfRead (columns_from geometry n found key ts) (ColumnsTook geometry m ts)
 unfolding columns_from
@@ -214,6 +227,7 @@ columns_sound geometry (suc n) found key ts m is keys =
 
 -- ---- tables
 
+-- a table is closed with its name, its columns and its key; without a key it is refused
 closed_sound : {T : Type 0} (name : List ℕ) (columns : List (ColumnDef T)) (key : Option ℕ) (at : ℕ) (ts : List Token)
     → IfRead (closed name columns key at ts) (λ t rest. (t.name ≡ name) × (t.columns ≡ columns) × (option_to_list key ≡ t.key ∷ []) × (ts ≡ rest))
 closed_sound name columns None at ts = tt
@@ -228,6 +242,7 @@ BodyTook {T} geometry name ts t rest =
     (x : Marked T) × (xs : List (Marked T)) × (t.name ≡ name) × (t.columns ≡ map (λ c. c.0) (x ∷ xs)) × (key_places 0 (x ∷ xs) ≡ t.key ∷ [])
     × Took ts (IsParts k.Comma (IsMarked geometry) x xs ▸ IsToken k.RightParenthesis) rest
 
+-- so the columns and the parenthesis behind them are the rest of a table whose one key is known
 close_sound : {T : Type 0} (geometry : List ℕ → Option T) (name : List ℕ) (ts mid : List Token) (r : List (ColumnDef T) × Option ℕ) → ColumnsTook geometry [] ts r mid
     → IfRead (close name r mid) (BodyTook geometry name ts)
 close_sound geometry name ts mid r (x, xs, firsts, keys, took) =
@@ -245,10 +260,12 @@ close_sound geometry name ts mid r (x, xs, firsts, keys, took) =
     (closed_sound name r.0 r.1 (place mid) rest))
     (expect_sound k.RightParenthesis (λ e. cc) mid)
 
+-- a table's name is a word
 table_name_sound : {T : Type 0} (found : List (TableDef T)) (ts : List Token) → IfRead (table_name found ts) (λ name rest. Took ts (IsNamed name) rest)
 unfolding table_name
 table_name_sound found ts = new_name_sound _ _ ts
 
+-- CREATE, TABLE, a name and columns in parentheses were taken one behind the other, which is a table
 table_sound : {T : Type 0} (geometry : List ℕ → Option T) (found : List (TableDef T)) (ts : List Token) → IfRead (table geometry found ts) (TableTook geometry ts)
 unfolding table
 table_sound {T = T} geometry found ts =
@@ -284,6 +301,7 @@ table_sound {T = T} geometry found ts =
 abbrev IsSeparator : Bool → Phrase
 IsSeparator more used = (more ≡ true → IsToken k.Semicolon used) × IsOptional k.Semicolon used
 
+-- a semicolon is taken where one stands, and tables go on only behind one
 goes_on_sound : (ts : List Token) → IfRead (goes_on ts) (λ more rest. Took ts (IsSeparator more) rest)
 unfolding goes_on after
 goes_on_sound ts = go (sees k.Semicolon ts) refl
@@ -296,6 +314,7 @@ abbrev TablesTook : {T : Type 0} → (List ℕ → Option T) → List (TableDef 
 TablesTook {T} geometry found ts r rest =
     (x : TableDef T) × (xs : List (TableDef T)) × (r ≡ found ++ x ∷ xs) × Took ts (IsParts k.Semicolon (IsTable geometry) x xs ▸ IsOptional k.Semicolon) rest
 
+-- two phrases that were taken together were taken one behind the other
 split : (P Q : Phrase) (ts rest : List Token) → Took ts (P ▸ Q) rest → (mid : List Token) × Took ts P mid × Took mid Q rest
 split P Q ts rest (used, e, (before, behind, e2, p, q)) =
     (behind ++ rest, (before, e ∙ ap (λ u. u ++ rest) e2 ∙ append_assoc before behind rest, p), (behind, refl, q))
@@ -314,6 +333,7 @@ tables_more geometry found read ts mid mid2 r rest took semicolon (x, xs, e, mor
           last,
     )
 
+-- further tables stand behind a semicolon; behind the last one a semicolon may stand or none
 tables_then : {T : Type 0} (geometry : List ℕ → Option T) (n : ℕ) (found : List (TableDef T)) (read : TableDef T) (more : Bool) (ts mid mid2 : List Token)
     → TableTook geometry ts read mid → Took mid (IsSeparator more) mid2
     → IfRead (tables_from geometry n (found ++ read ∷ []) mid2) (TablesTook geometry (found ++ read ∷ []) mid2)
@@ -325,6 +345,7 @@ tables_then geometry n found read true ts mid mid2 took sep h =
 tables_then geometry n found read false ts mid mid2 took sep h =
     (read, [], refl, seq (IsTable geometry read) (IsOptional k.Semicolon) ts mid mid2 took (but (IsSeparator false) (IsOptional k.Semicolon) mid mid2 sep (λ used p. p.1)))
 
+-- tables are read one by one with semicolons between them
 tables_sound : {T : Type 0} (geometry : List ℕ → Option T) (n : ℕ) (found : List (TableDef T)) (ts : List Token) → IfRead (tables_from geometry n found ts) (TablesTook geometry found ts)
 unfolding tables_from
 tables_sound geometry zero found ts = tt
@@ -339,10 +360,12 @@ tables_sound geometry (suc n) found ts =
 abbrev AllTook : {T : Type 0} → (List ℕ → Option T) → List Token → List (TableDef T) → List Token → Type 0
 AllTook geometry ts r rest = ((r ≡ []) × (ts ≡ rest)) ⊎ TablesTook geometry [] ts r rest
 
+-- at the end no table is read, and else some are
 all_tables_sound : {T : Type 0} (geometry : List ℕ → Option T) (ts : List Token) → IfRead (all_tables geometry ts) (AllTook geometry ts)
 all_tables_sound geometry ts = if_read (sees k.End ts) _ _ (AllTook geometry ts) (λ _. inl (refl, refl))
     (λ _. map_read (tables_from geometry (length ts) [] ts) (TablesTook geometry [] ts) (AllTook geometry ts) (λ r rest all. inr all) (tables_sound geometry (length ts) [] ts))
 
+-- no table, or some and perhaps a semicolon, with the end behind them: that is a schema
 ended : {T : Type 0} (geometry : List ℕ → Option T) (ts mid : List Token) (r : List (TableDef T)) (rest : List Token) → AllTook geometry ts r mid → Took mid (IsToken k.End) rest
     → Took ts (AreTables geometry r) rest
 ended geometry ts mid r rest (inl (none, here)) end =
@@ -354,10 +377,12 @@ ended geometry ts mid r rest (inr (x, xs, e, took)) end =
     (seq parts (IsOptional k.Semicolon ▸ IsToken k.End) ts mid1 rest first (seq (IsOptional k.Semicolon) (IsToken k.End) mid1 mid rest last end))
     (λ used p. inr (x, xs, e, p))
 
+-- End is the last token also of those that the tables leave
 ends_all : {T : Type 0} (geometry : List ℕ → Option T) (ts mid : List Token) (r : List (TableDef T)) → EndsOnce ts → AllTook geometry ts r mid → EndsOnce mid
 ends_all geometry ts mid r once (inl (none, here)) = subst EndsOnce here once
 ends_all geometry ts mid r once (inr (x, xs, e, took)) = ends_left (IsParts k.Semicolon (IsTable geometry) x xs ▸ IsOptional k.Semicolon) ts mid once took
 
+-- where End was taken, nothing is left, as it is the last token
 end_taken : (mid rest : List Token) → EndsOnce mid → Took mid (IsToken k.End) rest → rest ≡ []
 end_taken mid rest once ([], e, p) = absurd p
 end_taken mid rest once (t ∷ [], e, p) = (let both : EndsOnce (t ∷ rest) = subst EndsOnce e once in both).0 p

@@ -12,6 +12,7 @@ use Rattle.grammar_laws.proofs.QuerySound.{EndsOnce}
 IsOther : TokenKind → Type 0
 IsOther kind = kind ≡ k.End → ⊥
 
+-- a choice between two kinds that aren't End isn't End; so for a kind with its length and for what is found at the front
 either : (b : Bool) (x y : TokenKind) → (x ≡ k.End → ⊥) → (y ≡ k.End → ⊥) → cond b x y ≡ k.End → ⊥
 either true x y p q = p
 either false x y p q = q
@@ -32,18 +33,22 @@ abbrev pub NoneEnds : List (List ℕ × TokenKind) → Type 0
 NoneEnds [] = Unit {0}
 NoneEnds (r ∷ rs) = (r.1 ≡ k.End → ⊥) × NoneEnds rs
 
+-- a word's kind is that of a reserved word or Word, so it isn't End where no reserved word's is
 kind_in_other : (rs : List (List ℕ × TokenKind)) (word : List ℕ) → NoneEnds rs → kind_in rs word ≡ k.End → ⊥
 kind_in_other [] word h = λ e. cc
 kind_in_other (r ∷ rs) word h = either (same_name r.0 word) r.1 (kind_in rs word) h.0 (kind_in_other rs word h.1)
 
+-- no word is End: none of the reserved words is
 word_other : (word : List ℕ) → word_kind word ≡ k.End → ⊥
 unfolding word_kind
 word_other word = kind_in_other reserved_words word
     ((λ e. cc), ((λ e. cc), ((λ e. cc), ((λ e. cc), ((λ e. cc), ((λ e. cc), ((λ e. cc), ((λ e. cc), ((λ e. cc), ((λ e. cc), ((λ e. cc), ((λ e. cc), ((λ e. cc), ((λ e. cc), tt))))))))))))))
 
+-- no symbol of one byte is End
 one_other : (b : ℕ) → symbol_of_one b ≡ k.End → ⊥
 one_other b = λ e. grind arith
 
+-- no symbol is End, of two bytes or of one
 symbol_other : (b next : ℕ) → (symbol b next).0 ≡ k.End → ⊥
 unfolding symbol
 symbol_other b next =
@@ -56,10 +61,12 @@ symbol_other b next =
     (either_sized (b == 62 && next == 61) (k.GreaterOrEqual, 2) differs (λ e. cc)
     (either_sized (b == 33 && next == 61) (k.NotEqual, 2) one (λ e. cc) (one_other b))))
 
+-- a string is Text, or Bad where it isn't closed: never End
 string_other : (end : Option ℕ) → (string_to end).0 ≡ k.End → ⊥
 string_other None = λ e. cc
 string_other (Some n) = λ e. cc
 
+-- what stands at the front of a text that isn't empty isn't End, case by case: word, digits, string or symbol
 front_other : (s : Bool) (z : List ℕ) → NotEnd (front s z).0
 unfolding front
 front_other s z =
@@ -78,6 +85,7 @@ front_other s z =
     (either_found (is_ascii_digit first) digits last (λ e. cc)
     (either_found (s && first == 39) found one (string_other (closing 1 false (drop 1 z))) (symbol_other first (slice_index z 1))))))
 
+-- a token other than End may be put before tokens of which End is the last; a bad one ends them itself
 at_front_once : (found : Option TokenKind) (len at : ℕ) (z : List ℕ) (more : List Token) → NotEnd found → EndsOnce more → EndsOnce (at_front found len at z more)
 at_front_once None len at z more other once = once
 at_front_once (Some kind) len at z more other once = ((λ e. absurd (other e)), go (same_kind kind k.Bad))
@@ -86,6 +94,7 @@ at_front_once (Some kind) len at z more other once = ((λ e. absurd (other e)), 
     go true = tt
     go false = once
 
+-- byte by byte: End is made where none is left, and nowhere else
 tokens_from_once : (s : Bool) (left at : ℕ) (z : List ℕ) → EndsOnce (tokens_from s left at z)
 tokens_from_once s left at [] = ((λ e. refl), tt)
 tokens_from_once s (suc left) at (b ∷ z) = tokens_from_once s left (at + 1) z

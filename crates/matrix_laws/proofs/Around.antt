@@ -23,19 +23,23 @@ use Rattle.cut_laws.proofs.Stretches.{Neighbours, stretch_is, less_right, less_l
 use Rattle.cut_laws.proofs.PieceLists.{piece_is_listed}
 
 -- ---- in an ascending list
+-- a stretch of the list whose ends lie before and after the point
 pub record Around (xs : List Point) (x : Point) : Type 0 where
   pub piece : Piece
   pub among : Among piece (stretches xs)
   pub after : compare piece.lesser x ≡ Less
   pub before : compare x piece.greater ≡ Less
 
+-- no point is both before and after another
 clash : (p x : Point) → IsPoint p → IsPoint x → compare p x ≡ Less → compare x p ≡ Less → ⊥
 clash p x hp hx e f = not_before_itself p (less_transitive p x p hp hx hp e f)
 
+-- a stretch of the rest of a list is one of the list
 widen : (p : Point) (xs : List Point) (x : Point) → Around xs x → Around (p ∷ xs) x
 widen p [] x r = absurd r.among
 widen p (q ∷ rest) x r = record { piece = r.piece; among = inr r.among; after = r.after; before = r.before }
 
+-- a point between two of an ascending list, and itself none of them, lies strictly between two neighbours of it
 around : (xs : List Point) → Each IsPoint xs → Sorted compare xs → (x : Point) → IsPoint x → Each (λ c. same_point c x ≡ false) xs
     → (lo hi : Point) → Among lo xs → Among hi xs → compare lo x ≡ Less → compare x hi ≡ Less → Around xs x
 around [] v s x hx u lo hi a b e f = absurd a
@@ -59,6 +63,7 @@ around (p ∷ q ∷ rest) v s x hx u lo hi a b e f = go (compare q x) refl (λ g
     go Greater g rec = record { piece = record { lesser = p; greater = q }; among = inl refl; after = lo_first (turn_less q x g) a; before = turn_less q x g }
 
 -- ---- on an edge
+-- the point lies strictly within this listed piece
 pub record Within (es : List Edge) (ps : List Position) (x : Point) : Type 0 where
   pub piece : Piece
   pub is_piece : IsPiece es ps piece
@@ -67,12 +72,15 @@ pub record Within (es : List Edge) (ps : List Position) (x : Point) : Type 0 whe
   pub lesser_listed : Among piece.lesser (cut_points es ps)
   pub inside : Inside es ps piece is_piece x
 
+-- the cuts on an edge, ascending
 abbrev cuts_on : List Edge → List Position → Edge → List Point
 cuts_on es ps e = filter (on e) (cut_points es ps)
 
+-- they are points
 points_on : (es : List Edge) (ps : List Position) (e : Edge) → Each IsPoint (cuts_on es ps e)
 points_on es ps e = each_of IsPoint (cuts_on es ps e) (λ p a. (listed_is_cut es ps p ((among_filter (on e) (cut_points es ps) p a).0)).is_point)
 
+-- and ascend, since all cuts do
 sorted_on : (es : List Edge) (ps : List Position) (e : Edge) → Sorted compare (cuts_on es ps e)
 sorted_on es ps e = filter-sorted compare (on e) (cut_points es ps) (cut_points-sorted es ps)
 
@@ -83,6 +91,7 @@ pub record Standing (es : List Edge) (ps : List Position) (e : Edge) (p : Point)
   pub is_point : IsPoint cut
   pub same : same_point cut p ≡ true
 
+-- a cut of the edge is among all cuts, and lies on the edge, so it is among those on it
 standing : (es : List Edge) (ps : List Position) (e : Edge) (p : Point) → IsPoint p → on e p ≡ true → IsCut es ps p → Standing es ps e p
 standing es ps e p hp h c = go (cut_is_listed es ps p hp c)
   where
@@ -90,6 +99,7 @@ standing es ps e p hp h c = go (cut_is_listed es ps p hp c)
     go s = let k : IsLeastCut es ps s.found = listed_is_cut es ps s.found s.among in
         record { cut = s.found; among = filter_among (on e) (cut_points es ps) s.found s.among (on_respects e s.found p k.is_point hp s.has ∙ h); is_point = k.is_point; same = s.has }
 
+-- a point that is no cut is none of them
 none_there : (es : List Edge) (ps : List Position) (e : Edge) (x : Point) → IsPoint x → (IsCut es ps x → ⊥) → Each (λ c. same_point c x ≡ false) (cuts_on es ps e)
 none_there es ps e x hx f = each_of (λ c. same_point c x ≡ false) (cuts_on es ps e) (λ c a. by_contraries (same_point c x) false (λ k. absurd (at c a k)) refl)
   where

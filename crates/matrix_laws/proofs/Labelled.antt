@@ -60,12 +60,15 @@ cuts' a b = cut_points (edges_of_both a b) (listed a ++ listed b)
 abbrev pub pieces' : Geometry → Geometry → List Piece
 pieces' a b = pieces (cut_points (edges_of_both a b) (listed a ++ listed b)) (edges_of_both a b)
 
+-- a side of some piece has this pair of locations as its label
 abbrev pub some_side : Geometry → Geometry → Location → Location → Bool
 some_side a b l k = list_any (is_side_pair l k) (map (side_labels a b) (pieces' a b))
 
+-- a piece's sample has this pair of locations as its label
 abbrev pub some_piece : Geometry → Geometry → Location → Location → Bool
 some_piece a b l k = list_any (is_pair l k) (map (λ c. label a b (sample c)) (pieces' a b))
 
+-- a cut has this pair of locations as its label
 abbrev pub some_cut : Geometry → Geometry → Location → Location → Bool
 some_cut a b l k = list_any (is_pair l k) (map (label a b) (cuts' a b))
 
@@ -115,10 +118,12 @@ or_cases true t e = inl refl
 or_cases false t e = inr e
 
 -- ---- a listed piece
+-- the stretch is a piece of the two geometries, with points as its ends
 pub record IsListedPiece (a b : Geometry) (c : Piece) : Type 0 where
   pub is_piece : IsPieceOf a b c
   pub ends : Ends c
 
+-- each stretch that is listed as a piece is one
 pub listed_piece : (a b : Geometry) (c : Piece) → Among c (pieces' a b) → IsListedPiece a b c
 listed_piece a b c m = go (piece_is (edges' a b) (listed' a b) c m)
   where
@@ -129,6 +134,7 @@ listed_piece a b c m = go (piece_is (edges' a b) (listed' a b) c m)
 carry_triangle : (a b : Geometry) (l k m n : Location) → l ≡ m → k ≡ n → HasTriangle (common a m b n) → HasTriangle (common a l b k)
 carry_triangle a b l k m n e f t = subst₂ (λ (s u : Location). HasTriangle (common a s b u)) (sym e) (sym f) t
 
+-- where a side of some piece has this label the two parts share a triangle
 side_triangle : (a b : Geometry) → Each IsClosed (rings a) → Each IsClosed (rings b) → (l k : Location) → some_side a b l k ≡ true → HasTriangle (common a l b k)
 side_triangle a b ca cb l k e = go (passing_of (side_labels a b) (is_side_pair l k) (pieces' a b) e)
   where
@@ -148,6 +154,7 @@ side_triangle a b ca cb l k e = go (passing_of (side_labels a b) (is_side_pair l
 carry_segment : (a b : Geometry) (l k m n : Location) → l ≡ m → k ≡ n → HasSegment (common a m b n) → HasSegment (common a l b k)
 carry_segment a b l k m n e f t = subst₂ (λ (s u : Location). HasSegment (common a s b u)) (sym e) (sym f) t
 
+-- where a piece has this label the two parts share a segment
 piece_has_segment : (a b : Geometry) → Each IsClosed (rings a) → Each IsClosed (rings b) → (l k : Location) → some_piece a b l k ≡ true → HasSegment (common a l b k)
 piece_has_segment a b ca cb l k e = go (passing_of (λ c. label a b (sample c)) (is_pair l k) (pieces' a b) e)
   where
@@ -157,6 +164,7 @@ piece_has_segment a b ca cb l k e = go (passing_of (λ c. label a b (sample c)) 
         carry_segment a b l k (locate a (sample p.found)) (locate b (sample p.found)) q.0 q.1 (piece_segment a b ca cb p.found s.is_piece s.ends)
 
 -- ---- a cut's label is that of a point
+-- where a cut has this label the two parts share a point: the cut itself
 cut_has_point : (a b : Geometry) (l k : Location) → some_cut a b l k ≡ true → HasPoint (common a l b k)
 cut_has_point a b l k e = go (passing_of (label a b) (is_pair l k) (cuts' a b) e)
   where
@@ -165,18 +173,22 @@ cut_has_point a b l k e = go (passing_of (label a b) (is_pair l k) (cuts' a b) e
         record { p = p.found; is_point = (listed_is_cut (edges' a b) (listed' a b) p.found p.among).is_point; within = (sym q.0, sym q.1) }
 
 -- ---- the lines to be avoided: those of the edges, and the upright ones through cuts
+-- the upright line through a position
 pub upright_line : Position → Line
 upright_line p = record { a = pos 1; b = pos 0; c = pos 0 -ℤ p.x }
 
 abbrev edge_line_if : Bool → Edge → Line
 edge_line_if t g = cond t (upright_line g.start) (line_side g.start g.end)
 
+-- the line of an edge; of an upright one the upright line through it
 abbrev edge_line : Edge → Line
 edge_line g = edge_line_if (int_eq g.start.x g.end.x) g
 
+-- the upright line through a cut
 abbrev cut_line : Point → Line
 cut_line c = record { a = c.W; b = pos 0; c = pos 0 -ℤ c.X }
 
+-- the line of an edge is a line, also where the edge is upright or a single position
 edge_line_is_line : (g : Edge) → IsLine (edge_line g)
 unfolding upright_line
 edge_line_is_line g = go (int_eq g.start.x g.end.x) refl
@@ -191,12 +203,14 @@ edge_line_is_line g = go (int_eq g.start.x g.end.x) refl
     go true e = inl one
     go false e = inr (λ z. not_equal_from g.start.x g.end.x e (same g.start.x g.end.x ((line_side g.start g.end).b) (line_side_slope g.start g.end) z))
 
+-- the upright line through a cut is a line, since W is at least 1
 cut_line_is_line : (c : Point) → IsPoint c → IsLine (cut_line c)
 cut_line_is_line c h = inl (nonzero c.W h)
   where
     nonzero : (w : ℤ) → pos 0 <ℤ w → w ≢ pos 0
     nonzero w h e = omega (arith, ints)
 
+-- a point off the line of an edge is off the edge
 off_by_edge_line : (g : Edge) (z : Point) → IsPoint z → value (edge_line g) z ≢ pos 0 → on g z ≡ false
 unfolding upright_line
 off_by_edge_line g z hz f = by_contraries (on g z) false (λ h. absurd (f (go (int_eq g.start.x g.end.x) refl h))) refl
@@ -214,21 +228,25 @@ off_by_edge_line g z hz f = by_contraries (on g z) false (λ h. absurd (f (go (i
     go true e h = along g.start.x z.X z.Y z.W (upright (equal_from g.start.x g.end.x e) (hull_from_on g z hz h))
     go false e h = value_is_side g.start g.end z ∙ (on_parts g z h).on_line
 
+-- a point straight above or below a cut is on the cut's upright line
 cut_line_value : (c z : Point) → right c z ≡ pos 0 → value (cut_line c) z ≡ pos 0
 cut_line_value c z e = solve (c.X ∷ c.W ∷ z.X ∷ z.Y ∷ z.W ∷ []) (var 1 ⊗ var 2 ⊕ lit (pos 0) ⊗ var 3 ⊕ (lit (pos 0) ⊖ var 0) ⊗ var 4) (var 2 ⊗ var 1 ⊖ var 0 ⊗ var 4) tt ∙ e
 
 -- ---- a point off all these lines
+-- the point is on no edge, and straight above or below no cut
 pub record Free (a b : Geometry) (z : Point) : Type 0 where
   pub is_point : IsPoint z
   pub off : Each (λ e. on e z ≡ false) (edges_of_both a b)
   pub apart : (c : Point) → Among c (cut_points (edges_of_both a b) (listed a ++ listed b)) → right c z ≢ pos 0
 
+-- of two points of one x neither is to the right of the other
 nothing_right : (c z : Point) → c.X *ℤ z.W ≡ z.X *ℤ c.W → right c z ≡ pos 0
 nothing_right c z e = nothing (c.X *ℤ z.W) (z.X *ℤ c.W) e
   where
     nothing : (u v : ℤ) → u ≡ v → v -ℤ u ≡ pos 0
     nothing u v e = omega (arith, ints)
 
+-- such a point is no cut, since a cut stands straight at itself
 free_no_cut : (a b : Geometry) (z : Point) → Free a b z → IsCut (edges' a b) (listed' a b) z → ⊥
 free_no_cut a b z f c = go (cut_is_listed (edges' a b) (listed' a b) z f.is_point c)
   where
@@ -265,6 +283,8 @@ straight c z o ho e f = cancel_zero o.W (right c z) ho (
 abbrev pub Apart' : Location → Location → Type 0
 Apart' l k = l ≡ Exterior → k ≡ Exterior → ⊥
 
+-- going straight up from a free point the first edge is met within a piece, whose lower side has the point's label;
+-- where no edge is met both geometries have it in the exterior
 free_side : (a b : Geometry) → Each IsClosed (rings a) → Each IsClosed (rings b) → (l k : Location) → Apart' l k → (z : Point) → Free a b z → locate a z ≡ l → locate b z ≡ k → some_side a b l k ≡ true
 free_side a b ca cb l k n z f e g = go (first (edges' a b) z f.is_point) (off_both a b z f.is_point f.off (free_no_cut a b z f))
   where
@@ -317,6 +337,7 @@ free_side a b ca cb l k n z f e g = go (first (edges' a b) z f.is_point) (off_bo
         under r o w (not_upright r w)
 
 -- ---- a triangle has a free point
+-- a triangle isn't covered by finitely many lines, so it holds a free point, whose label a side has
 triangle_side : (a b : Geometry) → Each IsClosed (rings a) → Each IsClosed (rings b) → (l k : Location) → Apart' l k → HasTriangle (common a l b k) → some_side a b l k ≡ true
 triangle_side a b ca cb l k n t = go (avoid_lines (map edge_line (edges' a b) ++ map cut_line (cuts' a b)) t.p t.q t.r t.not_on_one_line
     (each_append IsLine (map edge_line (edges' a b)) (map cut_line (cuts' a b))
@@ -343,6 +364,7 @@ triangle_side a b ca cb l k n t = go (avoid_lines (map edge_line (edges' a b) ++
         (free o.t o.off (weighted_three_is_point 1 t.p o.t t.q (o.t * o.t) t.r t.p_is_point t.q_is_point t.r_is_point (some o.t))) w.0 w.1
 
 -- ---- a point that is no cut is within a piece, or off all edges
+-- a point that is no cut lies on some edge, so strictly within a piece, or off all edges, so in a triangle of points alike
 loose : (a b : Geometry) → Each IsClosed (rings a) → Each IsClosed (rings b) → (l k : Location) → Apart' l k → (x : Point) → IsPoint x → (IsCut (edges' a b) (listed' a b) x → ⊥) → locate a x ≡ l → locate b x ≡ k
     → (some_piece a b l k ≡ true) ⊎ (some_side a b l k ≡ true)
 loose a b ca cb l k n x hx f e g = go (list_any (λ h. on h x) (edges' a b)) refl
@@ -364,12 +386,14 @@ loose a b ca cb l k n x hx f e g = go (list_any (λ h. on h x) (edges' a b)) ref
     go false h = inr (at_off (off_both a b x hx (none_passed (λ q. on q x) (edges' a b) h) f))
 
 -- ---- a segment has a point that is no cut
+-- a point that is none of the listed cuts is no cut
 uncovered : (a b : Geometry) (x : Point) → IsPoint x → Each (λ c. same_point c x ≡ false) (cuts' a b) → IsCut (edges' a b) (listed' a b) x → ⊥
 uncovered a b x hx h c = go (cut_is_listed (edges' a b) (listed' a b) x hx c)
   where
     go : Some_of (λ q. same_point q x ≡ true) (cuts' a b) → ⊥
     go s = let z : true ≡ false = sym s.has ∙ each_at (λ q. same_point q x ≡ false) (cuts' a b) s.found h s.among in absurd (cc)
 
+-- a segment isn't covered by finitely many cuts, so it holds a point that is none, whose label a piece or a side has
 segment_shows : (a b : Geometry) → Each IsClosed (rings a) → Each IsClosed (rings b) → (l k : Location) → Apart' l k → HasSegment (common a l b k) → (some_piece a b l k ≡ true) ⊎ (some_side a b l k ≡ true)
 segment_shows a b ca cb l k n t = go (avoid_points (cuts' a b) t.p t.q t.p_is_point t.q_is_point t.differ (each_of IsPoint (cuts' a b) (λ c m. (listed_is_cut (edges' a b) (listed' a b) c m).is_point)))
   where
@@ -382,6 +406,7 @@ segment_shows a b ca cb l k n t = go (avoid_points (cuts' a b) t.p t.q t.p_is_po
         loose a b ca cb l k n (weighted 1 t.p o.t t.q) hz (uncovered a b (weighted 1 t.p o.t t.q) hz o.off) w.0 w.1
 
 -- ---- a point is a cut, or no cut
+-- a point is a cut, and then a cut has its label, or it is none, and then a piece or a side has it
 pub point_shows : (a b : Geometry) → Each IsClosed (rings a) → Each IsClosed (rings b) → (l k : Location) → Apart' l k → HasPoint (common a l b k) → (some_cut a b l k ≡ true) ⊎ ((some_piece a b l k ≡ true) ⊎ (some_side a b l k ≡ true))
 point_shows a b ca cb l k n t = go (list_any (λ c. same_point c t.p) (cuts' a b)) refl
   where
@@ -395,6 +420,8 @@ point_shows a b ca cb l k n t = go (list_any (λ c. same_point c t.p) (cuts' a b
     go false h = inr (loose a b ca cb l k n t.p t.is_point (uncovered a b t.p t.is_point (none_passed (λ c. same_point c t.p) (cuts' a b) h)) (t.within).0 (t.within).1)
 
 -- ---- a cell but that of the two exteriors
+-- the greatest dimension that some side, piece or cut shows is that of the set: each shows a set of its dimension,
+-- and a set of that dimension is shown
 other : (a b : Geometry) → Each IsClosed (rings a) → Each IsClosed (rings b) → (l k : Location) → Apart' l k → HasDimension (common a l b k) (if some_side a b l k then Two else if some_piece a b l k then One else if some_cut a b l k then Zero else Empty)
 other a b ca cb l k n = go (some_side a b l k) refl (some_piece a b l k) refl (some_cut a b l k) refl
   where
@@ -419,6 +446,7 @@ other a b ca cb l k n = go (some_side a b l k) refl (some_piece a b l k) refl (s
 abbrev Beyond : Edge → ℕ → Type 0
 Beyond e n = (e.start.x <ℤ pos n) × (e.end.x <ℤ pos n)
 
+-- each edge lies left of all x from some number on
 beyond_soon : (e : Edge) → Eventually (Beyond e)
 beyond_soon e = weaker (λ n. (pos 0 <ℤ (pos n *ℤ pos 1 +ℤ (pos 0 -ℤ e.start.x))) × (pos 0 <ℤ (pos n *ℤ pos 1 +ℤ (pos 0 -ℤ e.end.x)))) (Beyond e) (λ n h. (less n e.start.x h.0, less n e.end.x h.1))
     (both (λ n. pos 0 <ℤ (pos n *ℤ pos 1 +ℤ (pos 0 -ℤ e.start.x))) (λ n. pos 0 <ℤ (pos n *ℤ pos 1 +ℤ (pos 0 -ℤ e.end.x))) (grows (pos 1) (pos 0 -ℤ e.start.x) (omega (arith, ints))) (grows (pos 1) (pos 0 -ℤ e.end.x) (omega (arith, ints))))
@@ -426,6 +454,7 @@ beyond_soon e = weaker (λ n. (pos 0 <ℤ (pos n *ℤ pos 1 +ℤ (pos 0 -ℤ e.s
     less : (n : ℕ) (x : ℤ) → pos 0 <ℤ (pos n *ℤ pos 1 +ℤ (pos 0 -ℤ x)) → x <ℤ pos n
     less n x h = omega (arith, ints)
 
+-- a point of the x axis, so far to the right
 far : ℕ → Point
 far n = record { X = pos n; Y = pos 0; W = pos 1 }
 
@@ -433,6 +462,7 @@ far_is_point : (n : ℕ) → IsPoint (far n)
 unfolding far
 far_is_point n = omega (arith, ints)
 
+-- a point right of an edge is off it
 far_off : (n : ℕ) (e : Edge) → Beyond e n → on e (far n) ≡ false
 unfolding far
 far_off n e h = off_beyond (record { a = pos 1; b = pos 0; c = pos 1 -ℤ pos n }) e (record { X = pos n; Y = pos 0; W = pos 1 }) (omega (arith, ints)) (record { at_start = low e.start.x e.start.y h.0; at_end = low e.end.x e.end.y h.1 }) (here (pos n))
@@ -443,6 +473,7 @@ far_off n e h = off_beyond (record { a = pos 1; b = pos 0; c = pos 1 -ℤ pos n 
     here : (m : ℤ) → pos 0 <ℤ (pos 1 *ℤ m +ℤ pos 0 *ℤ pos 0 +ℤ (pos 1 -ℤ m) *ℤ pos 1)
     here m = omega (arith, ints)
 
+-- nor is the edge above it, since the edge doesn't span it
 far_below : (n : ℕ) (e : Edge) → Beyond e n → strictly_above e (far n) ≡ false
 unfolding far
 far_below n e h = ap (λ (t : Bool). t && int_lt (side_rightward e (record { X = pos n; Y = pos 0; W = pos 1 })) (pos 0)) (ap₂ exactly_one (at_most_yes (e.start.x *ℤ pos 1) (pos n) (weak e.start.x h.0)) (at_most_yes (e.end.x *ℤ pos 1) (pos n) (weak e.end.x h.1)))
@@ -450,6 +481,7 @@ far_below n e h = ap (λ (t : Bool). t && int_lt (side_rightward e (record { X =
     weak : (x : ℤ) → x <ℤ pos n → (x *ℤ pos 1) ≤ℤ pos n
     weak x h = omega (arith, ints)
 
+-- far to the right of all edges there is a triangle in both exteriors
 exteriors : (a b : Geometry) → Each IsClosed (rings a) → Each IsClosed (rings b) → HasTriangle (common a Exterior b Exterior)
 exteriors a b ca cb = go (each_eventually Beyond (marks a b) (each_of (λ e. Eventually (Beyond e)) (marks a b) (λ e m. beyond_soon e)))
   where
@@ -470,6 +502,7 @@ not_interior e = absurd (cc)
 not_boundary : Boundary ≡ Exterior → ⊥
 not_boundary e = absurd (cc)
 
+-- so each of the nine cells is the dimension of its set
 pub labelled_is_matrix : (a b : Geometry) → Each IsClosed (rings a) → Each IsClosed (rings b) → IsMatrix a b (labelled_matrix a b)
 labelled_is_matrix a b ca cb Interior Interior = other a b ca cb Interior Interior (λ e f. not_interior e)
 labelled_is_matrix a b ca cb Interior Boundary = other a b ca cb Interior Boundary (λ e f. not_interior e)

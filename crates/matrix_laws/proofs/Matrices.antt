@@ -11,6 +11,7 @@ use Rattle.polygon_laws.proofs.Closing.{valid_rings_are_closed}
 use Rattle.geometry_model.specs.GivenMatrix.{GivesMatrix}
 use Rattle.matrix_laws.proofs.Labelled.{labelled_is_matrix}
 
+-- valid geometries have closed rings, so their label matrix is their matrix
 pub labels_give_matrix : (a b : Geometry) → IsValid a → IsValid b → IsMatrix a b (labelled_matrix a b)
 labels_give_matrix a b va vb = labelled_is_matrix a b (each_from_all IsClosed (rings a) (valid_rings_are_closed a va)) (each_from_all IsClosed (rings b) (valid_rings_are_closed b vb))
 

@@ -33,15 +33,18 @@ use Rattle.polygon_laws.proofs.Outside.{common_point_meets}
 use Rattle.polygon_laws.proofs.Empty.{nothing_common}
 
 -- ---- a pattern that wants a point in both doesn't match where there is none
+-- no point is in the interior or boundary of both
 record Apart (m : Matrix) : Type 0 where
   ii : m.interior_interior ≡ Empty
   ib : m.interior_boundary ≡ Empty
   bi : m.boundary_interior ≡ Empty
   bb : m.boundary_boundary ≡ Empty
 
+-- that is so whichever geometry comes first
 apart_transposed : (m : Matrix) → Apart m → Apart (transposed m)
 apart_transposed m h = record { ii = h.ii; ib = h.bi; bi = h.ib; bb = h.bb }
 
+-- only a character that wants no point takes an empty cell
 taken_empty : (c : PatternCharacter) → takes c Empty ≡ true → wants_point c ≡ false
 taken_empty characters.True e = absurd cc
 taken_empty characters.False e = refl
@@ -50,6 +53,7 @@ taken_empty characters.Zero e = absurd cc
 taken_empty characters.One e = absurd cc
 taken_empty characters.Two e = absurd cc
 
+-- a character that takes the dimension of an empty cell wants no point
 wants_none : (c : PatternCharacter) (d : Dimension) → takes c d ≡ true → d ≡ Empty → wants_point c ≡ false
 wants_none c d h e = taken_empty c (ap (takes c) (sym e) ∙ h)
 
@@ -65,6 +69,7 @@ first_of_nine a b c d e f g h i k =
 none_of_four : (a b c d : Bool) → a ≡ false → b ≡ false → c ≡ false → d ≡ false → (a || b || c || d) ≡ false
 none_of_four a b c d e f g h = ap₂ (λ (x y : Bool). x || y) (ap₂ (λ (x y : Bool). x || y) (ap₂ (λ (x y : Bool). x || y) e f) g) h
 
+-- a pattern that matches such a matrix wants no point in the interior or boundary of both
 wants_no_common : (p : Pattern) (m : Matrix) → Apart m → matches p m ≡ true → wants_common_point p ≡ false
 wants_no_common p m h k = let t = first_of_nine
     (takes p.interior_interior m.interior_interior) (takes p.interior_boundary m.interior_boundary) (takes p.interior_exterior m.interior_exterior)
@@ -74,14 +79,17 @@ wants_no_common p m h k = let t = first_of_nine
     (wants_none p.interior_interior m.interior_interior t.0 h.ii) (wants_none p.interior_boundary m.interior_boundary t.1 h.ib)
     (wants_none p.boundary_interior m.boundary_interior t.2 h.bi) (wants_none p.boundary_boundary m.boundary_boundary t.3 h.bb)
 
+-- so a pattern that wants a common point doesn't match it
 no_match : (p : Pattern) (m : Matrix) → wants_common_point p ≡ true → Apart m → matches p m ≡ true → ⊥
 no_match p m w h k = absurd (let f : true ≡ false = sym w ∙ wants_no_common p m h k in cc)
 
+-- nor does a text of such a pattern, and a text that writes no pattern matches nothing
 no_like : (o : Option Pattern) (m : Matrix) → option_map_or wants_common_point o true ≡ true → Apart m → option_map_or (λ p. matches p m) o false ≡ true → ⊥
 no_like None m w h k = absurd cc
 no_like (Some p) m w h k = no_match p m w h k
 
 -- ---- the named predicates
+-- Crosses wants a common point for each two kinds
 no_cross : (k l : Kind) (m : Matrix) → Apart m → crosses k l m ≡ true → ⊥
 no_cross kinds.Point kinds.Point m h e = absurd cc
 no_cross kinds.Point kinds.Line m h e = no_like (pattern_of_text (codes "T*T******")) m refl h e
@@ -93,6 +101,7 @@ no_cross kinds.Area kinds.Point m h e = no_like (pattern_of_text (codes "T*****T
 no_cross kinds.Area kinds.Line m h e = no_like (pattern_of_text (codes "T*****T**")) m refl h e
 no_cross kinds.Area kinds.Area m h e = absurd cc
 
+-- so does Overlaps
 no_overlap : (k l : Kind) (m : Matrix) → Apart m → overlaps k l m ≡ true → ⊥
 no_overlap kinds.Point kinds.Point m h e = no_like (pattern_of_text (codes "T*T***T**")) m refl h e
 no_overlap kinds.Point kinds.Line m h e = absurd cc
@@ -109,10 +118,12 @@ false_of_three true b c f g h e = f refl
 false_of_three false true c f g h e = g refl
 false_of_three false false c f g h e = h e
 
+-- so does each of the three patterns of Touches
 no_touch : (m : Matrix) → Apart m → (like (codes "FT*******") m || like (codes "F**T*****") m || like (codes "F***T****") m) ≡ true → ⊥
 no_touch m h e = false_of_three (like (codes "FT*******") m) (like (codes "F**T*****") m) (like (codes "F***T****") m)
     (no_like (pattern_of_text (codes "FT*******")) m refl h) (no_like (pattern_of_text (codes "F**T*****")) m refl h) (no_like (pattern_of_text (codes "F***T****")) m refl h) e
 
+-- a matrix without common points matches the pattern of Disjoint
 disjoint_like : (m : Matrix) → Apart m → like (codes "FF*FF****") m ≡ true
 disjoint_like m h = four (takes characters.False m.interior_interior) (takes characters.False m.interior_boundary) (takes characters.False m.boundary_interior) (takes characters.False m.boundary_boundary)
     (ap (takes characters.False) h.ii) (ap (takes characters.False) h.ib) (ap (takes characters.False) h.bi) (ap (takes characters.False) h.bb)
@@ -124,14 +135,17 @@ disjoint_like m h = four (takes characters.False m.interior_interior) (takes cha
     four true false c d e f g k = absurd cc
     four false b c d e f g k = absurd cc
 
+-- so Intersects, its opposite, doesn't hold
 not_intersecting : (m : Matrix) → Apart m → not (like (codes "FF*FF****") m) ≡ true → ⊥
 not_intersecting m h e = absurd (let f : not true ≡ true = sym (ap not (disjoint_like m h)) ∙ e in cc)
 
 -- ---- a valid geometry with a position has a point that isn't exterior
+-- a position on an edge of the lines
 record Touched (ls : List (List Position)) : Type 0 where
   at : Position
   is_on : on_some ls (point_at at) ≡ true
 
+-- lines of which none has one position alone, and that aren't all empty, have an edge, which holds its start
 touched : (ls : List (List Position)) → ((i : ℕ) (a : Position) → slice_get ls i ≡ Some (a ∷ []) → ⊥) → (flat_map (λ line. line) ls ≡ [] → ⊥) → Touched ls
 touched [] f n = absurd (n refl)
 touched ([] ∷ ls) f n = let t = touched ls (λ i a. f (suc i) a) n in record { at = t.at; is_on = t.is_on }
@@ -141,6 +155,7 @@ touched ((a ∷ b ∷ rest) ∷ ls) f n = record {
   is_on = ap (λ (t : Bool). t || list_any (λ e. on e (point_at a)) (edges_of_lines ((b ∷ rest) ∷ ls))) (start_is_on (record { start = a; end = b }) (point_at a) (position_is_point a) (same_end a));
 }
 
+-- a point on the lines is in their interior or boundary
 not_outside_lines : (ls : List (List Position)) (p : Point) → on_some ls p ≡ true → in_lines ls p ≢ Exterior
 not_outside_lines ls p h e = go (is_odd_end ls p) (on_some ls p) h e
   where
@@ -149,6 +164,7 @@ not_outside_lines ls p h e = go (is_odd_end ls p) (on_some ls p) h e
     go false true h e = absurd cc
     go false false h e = absurd cc
 
+-- a point on the rings is in the boundary
 not_outside_rings : (rs : List (List Position)) (p : Point) → on_some rs p ≡ true → in_rings rs p ≢ Exterior
 not_outside_rings rs p h e = go (on_some rs p) (odd_above rs p) h e
   where
@@ -156,6 +172,7 @@ not_outside_rings rs p h e = go (on_some rs p) (odd_above rs p) h e
     go true t h e = absurd cc
     go false t h e = absurd cc
 
+-- a listed position is in the interior
 not_outside_points : (a : Position) (rest : List Position) → in_points (a ∷ rest) (point_at a) ≢ Exterior
 not_outside_points a rest e = go (stands_at (point_at a) a) (list_any (stands_at (point_at a)) rest) (same_end a) e
   where
@@ -163,10 +180,12 @@ not_outside_points a rest e = go (stands_at (point_at a) a) (list_any (stands_at
     go true t h e = absurd cc
     go false t h e = absurd cc
 
+-- some position isn't in the exterior
 record Inhabited (g : Geometry) : Type 0 where
   at : Position
   not_exterior : locate g (point_at at) ≢ Exterior
 
+-- a valid geometry with a position has one that isn't in its exterior: a listed one, or one on an edge
 inhabited : (g : Geometry) → IsValid g → (positions g ≡ [] → ⊥) → Inhabited g
 inhabited (Geometry.Point None) v n = absurd (n refl)
 inhabited (Geometry.Point (Some a)) v n = record { at = a; not_exterior = not_outside_points a [] }
@@ -178,18 +197,21 @@ inhabited (Geometry.Polygon rs) v n = let t = touched rs (λ i a e. v (TooFewPoi
 inhabited (Geometry.MultiPolygon es) v n = let t = touched (joined_rings es) (λ i a e. v (TooFewPoints i) (a ∷ [], e, refl)) n in record { at = t.at; not_exterior = not_outside_rings (joined_rings es) (point_at t.at) t.is_on }
 
 -- ---- equal geometries
+-- neither geometry has a point in the exterior of the other
 record Covering (m : Matrix) : Type 0 where
   ie : m.interior_exterior ≡ Empty
   be : m.boundary_exterior ≡ Empty
   ei : m.exterior_interior ≡ Empty
   eb : m.exterior_boundary ≡ Empty
 
+-- the character F takes an empty cell alone
 taken_by_false : (d : Dimension) → takes characters.False d ≡ true → d ≡ Empty
 taken_by_false Empty h = refl
 taken_by_false Zero h = absurd cc
 taken_by_false One h = absurd cc
 taken_by_false Two h = absurd cc
 
+-- the pattern of Equals asks that neither has a point in the other's exterior
 covering : (m : Matrix) → like (codes "**F**FFF*") m ≡ true → Covering m
 covering m h = let t = four (takes characters.False m.interior_exterior) (takes characters.False m.boundary_exterior) (takes characters.False m.exterior_interior) (takes characters.False m.exterior_boundary) h in
     record { ie = taken_by_false m.interior_exterior t.0; be = taken_by_false m.boundary_exterior t.1; ei = taken_by_false m.exterior_interior t.2; eb = taken_by_false m.exterior_boundary t.3 }
@@ -201,17 +223,20 @@ covering m h = let t = four (takes characters.False m.interior_exterior) (takes 
     four true false c d e = absurd cc
     four false b c d e = absurd cc
 
+-- a set of points of empty dimension has no point
 no_point : (S : Point → Type 0) (d : Dimension) → HasDimension S d → d ≡ Empty → HasPoint S → ⊥
 no_point S Two h e p = absurd cc
 no_point S One h e p = absurd cc
 no_point S Zero h e p = absurd cc
 no_point S Empty h e p = h p
 
+-- what isn't the first one's exterior has no point in the second one's exterior
 outside_second : (m : Matrix) → Covering m → (l : Location) → l ≢ Exterior → cell m l Exterior ≡ Empty
 outside_second m h Interior f = h.ie
 outside_second m h Boundary f = h.be
 outside_second m h Exterior f = absurd (f refl)
 
+-- what isn't the second one's exterior has no point in the first one's exterior
 outside_first : (m : Matrix) → Covering m → (l : Location) → l ≢ Exterior → cell m Exterior l ≡ Empty
 outside_first m h Interior f = h.ei
 outside_first m h Boundary f = h.eb
@@ -231,6 +256,7 @@ record Equals (a b : Geometry) (m : Matrix) : Type 0 where
   covers : Covering m
   separate : meets (envelope a) (envelope b) ≡ false
 
+-- a point of the first would be one of the second, and then their envelopes would meet
 first_empty : (a b : Geometry) (m : Matrix) → Equals a b m → Inhabited a → ⊥
 first_empty a b m h i = go (locate b (point_at i.at)) refl
   where
@@ -244,6 +270,7 @@ first_empty a b m h i = go (locate b (point_at i.at)) refl
     go Exterior e = no_point (common a (locate a (point_at i.at)) b Exterior) (cell m (locate a (point_at i.at)) Exterior) (h.is_matrix (locate a (point_at i.at)) Exterior)
         (outside_second m h.covers (locate a (point_at i.at)) i.not_exterior) (record { p = point_at i.at; is_point = position_is_point i.at; within = (refl, e) })
 
+-- the same of a point of the second
 second_empty : (a b : Geometry) (m : Matrix) → Equals a b m → Inhabited b → ⊥
 second_empty a b m h i = go (locate a (point_at i.at)) refl
   where
@@ -257,6 +284,7 @@ second_empty a b m h i = go (locate a (point_at i.at)) refl
     go Exterior e = no_point (common a Exterior b (locate b (point_at i.at))) (cell m Exterior (locate b (point_at i.at))) (h.is_matrix Exterior (locate b (point_at i.at)))
         (outside_first m h.covers (locate b (point_at i.at)) i.not_exterior) (record { p = point_at i.at; is_point = position_is_point i.at; within = (e, refl) })
 
+-- so neither has a position; but two absent envelopes count as meeting
 not_equal : (a b : Geometry) (m : Matrix) → Equals a b m → ⊥
 not_equal a b m h = go (positions a) (positions b) refl refl
   where
@@ -275,12 +303,14 @@ not_inside e = absurd cc
 not_on : Boundary ≡ Exterior → ⊥
 not_on e = absurd cc
 
+-- a common point would lie in both envelopes, so geometries whose envelopes don't meet have none
 apart : (a b : Geometry) (m : Matrix) → IsValid a → IsValid b → IsMatrix a b m → meets (envelope a) (envelope b) ≡ false → Apart m
 apart a b m va vb h e = record { ii = empty Interior Interior not_inside not_inside; ib = empty Interior Boundary not_inside not_on; bi = empty Boundary Interior not_on not_inside; bb = empty Boundary Boundary not_on not_on }
   where
     empty : (l k : Location) → l ≢ Exterior → k ≢ Exterior → cell m l k ≡ Empty
     empty l k f g = nothing_common a b (valid_rings_are_closed a va) (valid_rings_are_closed b vb) e m h l k f g
 
+-- a predicate that forces meeting holds of no two geometries without a common point, predicate by predicate
 holds_of_none : (p : Predicate) (a b : Geometry) (m : Matrix) → forces_meeting p ≡ true → IsValid a → IsValid b → IsMatrix a b m → holds p (kind a) (kind b) m ≡ true
     → meets (envelope a) (envelope b) ≡ false → Apart m → ⊥
 holds_of_none predicates.Equals a b m w va vb h k e n = not_equal a b m (record { first = va; second = vb; is_matrix = h; covers = covering m k; separate = e })
@@ -293,6 +323,7 @@ holds_of_none predicates.Contains a b m w va vb h k e n = no_like (pattern_of_te
 holds_of_none predicates.Overlaps a b m w va vb h k e n = no_overlap (kind a) (kind b) m n k
 holds_of_none (predicates.Relate p) a b m w va vb h k e n = no_match p m w n k
 
+-- so where it holds the envelopes meet
 pub predicate_forces_meeting : (p : Predicate) (a b : Geometry) (m : Matrix) → forces_meeting p ≡ true → IsValid a → IsValid b → IsMatrix a b m → holds p (kind a) (kind b) m ≡ true → meets (envelope a) (envelope b) ≡ true
 predicate_forces_meeting p a b m w va vb h k = go (meets (envelope a) (envelope b)) refl
   where

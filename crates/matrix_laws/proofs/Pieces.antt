@@ -28,6 +28,7 @@ use Rattle.geometry_laws.proofs.PieceTheorems.{first_belongs, second_belongs}
 use Rattle.geometry_laws.proofs.CoverTheorems.{slant_dots}
 
 -- ---- the sample is strictly within
+-- the mediant weighs both points by 1
 mediant_is_sum : (p q : Point) → IsSum p q (mediant p q)
 mediant_is_sum p q = record {
   k = pos 1;
@@ -44,6 +45,7 @@ mediant_is_sum p q = record {
     one : (x y : ℤ) → pos 1 *ℤ (x +ℤ y) ≡ pos 1 *ℤ x +ℤ pos 1 *ℤ y
     one x y = omega (arith, ints)
 
+-- a piece's sample lies strictly within it, being between its ends
 pub sample_inside : (es : List Edge) (ps : List Position) (c : Piece) (h : IsPiece es ps c) → Ends c → Inside es ps c h (sample c)
 sample_inside es ps c h d = record {
   is_point = (mediant_between c.lesser c.greater d.lesser d.greater h.in_order).0;
@@ -56,6 +58,7 @@ sample_inside es ps c h d = record {
 second : Piece → Point
 second c = mediant (sample c) c.greater
 
+-- it lies strictly within the piece, behind the sample
 second_inside : (es : List Edge) (ps : List Position) (c : Piece) (h : IsPiece es ps c) → Ends c → Inside es ps c h (second c) × (compare (sample c) (second c) ≡ Less)
 unfolding second
 second_inside es ps c h d = go (sample_inside es ps c h d)
@@ -71,10 +74,12 @@ second_inside es ps c h d = go (sample_inside es ps c h d)
       m.1,
     )
 
+-- points of which one is less aren't the same
 different : (p q : Point) → compare p q ≡ Less → same_point p q ≡ false
 different p q e = by_contraries (same_point p q) false (λ k. let f : Equal ≡ Less = sym ((equal_is_same p q).1 k) ∙ e in absurd (cc)) refl
 
 -- ---- the sample's label is that of a segment
+-- all points within a piece lie alike, so the sample and the second point bound a segment of the sample's label
 pub piece_segment : (a b : Geometry) → Each IsClosed (rings a) → Each IsClosed (rings b) → (c : Piece) (h : IsPieceOf a b c) → Ends c → HasSegment (common a (locate a (sample c)) b (locate b (sample c)))
 piece_segment a b ca cb c h d = go (sample_inside (edges_of_both a b) (listed a ++ listed b) c h d) (second_inside (edges_of_both a b) (listed a ++ listed b) c h d)
   where
@@ -92,12 +97,14 @@ piece_segment a b ca cb c h d = go (sample_inside (edges_of_both a b) (listed a 
     }
 
 -- ---- no upright edge goes through a point within a piece that isn't upright
+-- of two positions of one x neither is to the right of the other
 level : (s e : Position) → s.x ≡ e.x → pos 0 <ℤ right (point_at s) (point_at e) → ⊥
 level s e q h = clash s.x e.x q h
   where
     clash : (x y : ℤ) → x ≡ y → pos 0 <ℤ (y *ℤ pos 1 -ℤ x *ℤ pos 1) → ⊥
     clash x y e h = omega (arith, ints)
 
+-- an upright edge through a point within the piece isn't on its line, so it would cross it there, and that would be a cut
 slant_within : (es : List Edge) (ps : List Position) (c : Piece) (h : IsPiece es ps c) → Ends c → is_upright c ≡ false → (s : Point) → Inside es ps c h s → (g : Edge) → Among g es → IsSlant s g
 slant_within es ps c h d f s i g m k e = decide (on_one_line h.edge g) refl
   where
@@ -124,6 +131,7 @@ slant_within es ps c h d f s i g m k e = decide (on_one_line h.edge g) refl
     decide true q = collinear (one_line h.edge g q)
     decide false q = let z : true ≡ false = sym k ∙ off_within es ps c h g s m q i in absurd (cc)
 
+-- so at the sample of a piece that isn't upright only slanted edges go through it, and no listed position stands there
 slant_all : (a b : Geometry) (c : Piece) (h : IsPieceOf a b c) → Ends c → is_upright c ≡ false → Each (IsSlant (sample c)) (marks a b)
 slant_all a b c h d f = go (sample_inside (edges_of_both a b) (listed a ++ listed b) c h d)
   where
@@ -133,8 +141,10 @@ slant_all a b c h d f = go (sample_inside (edges_of_both a b) (listed a ++ liste
         (slant_dots (listed a ++ listed b) (sample c) i.is_point (each_of (λ p. stands_at (sample c) p ≡ false) (listed a ++ listed b) (λ p m. no_position_within (edges_of_both a b) (listed a ++ listed b) c h (sample c) i p m)))
 
 -- ---- its sides' labels are those of triangles
+-- just below the sample all points lie alike, so there is a triangle with the label of the lower side
 pub lower_side : (a b : Geometry) → Each IsClosed (rings a) → Each IsClosed (rings b) → (c : Piece) (h : IsPieceOf a b c) → Ends c → is_upright c ≡ false → HasTriangle (common a (below a (sample c)) b (below b (sample c)))
 lower_side a b ca cb c h d f = lower_triangle a b ca cb (sample c) ((sample_inside (edges_of_both a b) (listed a ++ listed b) c h d).is_point) (slant_all a b c h d f)
 
+-- the same above it
 pub upper_side : (a b : Geometry) → Each IsClosed (rings a) → Each IsClosed (rings b) → (c : Piece) (h : IsPieceOf a b c) → Ends c → is_upright c ≡ false → HasTriangle (common a (above a (sample c)) b (above b (sample c)))
 upper_side a b ca cb c h d f = upper_triangle a b ca cb (sample c) ((sample_inside (edges_of_both a b) (listed a ++ listed b) c h d).is_point) (slant_all a b c h d f)

@@ -58,6 +58,7 @@ pub earlier_or_last : (k n : ℕ) → k < n + 1 → (k < n) ⊎ (k ≡ n)
 earlier_or_last k n h = grind arith
 
 -- ---- a list of break points that has grown
+-- a list that grew still has its points, and the lists of the other edges are as they were
 grown_has : (i : ℕ) (points : List Point) (before after : List (List Point)) → GrowsAt i points before after → (k : ℕ) (p : Point) → Contains (get_or before k []) p → Contains (get_or after k []) p
 grown_has i points before after g k p c = go (same_or_other k i)
   where
@@ -65,6 +66,7 @@ grown_has i points before after g k p c = go (same_or_other k i)
     go (inl e) = subst (λ n. Contains (get_or after n []) p) (sym e) (subst (λ zs. Contains zs p) (sym g.there) (Contains-append_left (get_or before i []) points p (subst (λ n. Contains (get_or before n []) p) e c)))
     go (inr n) = subst (λ zs. Contains zs p) (sym (g.elsewhere k n)) c
 
+-- the same, a point counting as there in any of its triples
 grown_lists : (i : ℕ) (points : List Point) (before after : List (List Point)) → GrowsAt i points before after → (k : ℕ) (p : Point) → ListsPoint (get_or before k []) p → ListsPoint (get_or after k []) p
 grown_lists i points before after g k p c = go (same_or_other k i)
   where
@@ -72,9 +74,11 @@ grown_lists i points before after g k p c = go (same_or_other k i)
     go (inl e) = subst (λ n. ListsPoint (get_or after n []) p) (sym e) (subst (λ zs. ListsPoint zs p) (sym g.there) (any_left (λ q. same_point q p ≡ true) (get_or before i []) points (subst (λ n. ListsPoint (get_or before n []) p) e c)))
     go (inr n) = subst (λ zs. ListsPoint zs p) (sym (g.elsewhere k n)) c
 
+-- it has the points by which it grew
 grown_by : (i : ℕ) (points : List Point) (before after : List (List Point)) → GrowsAt i points before after → (p : Point) → ListsPoint points p → ListsPoint (get_or after i []) p
 grown_by i points before after g p c = subst (λ zs. ListsPoint zs p) (sym g.there) (any_right (λ q. same_point q p ≡ true) (get_or before i []) points c)
 
+-- and it has no others
 grown_from : (i : ℕ) (points : List Point) (before after : List (List Point)) → GrowsAt i points before after → (k : ℕ) (p : Point) → Contains (get_or after k []) p → Contains (get_or before k []) p ⊎ ((k ≡ i) × Contains points p)
 grown_from i points before after g k p c = go (same_or_other k i)
   where
@@ -95,15 +99,19 @@ pub record Shares (e f : Edge) (m : Meet) : Type 0 where
   pub least : All IsLeast (named m)
   pub limit : All (λ p. p.W ≤ℤ pos meeting_limit) (named m)
 
+-- each point named of two edges is a cut of them
 shared_cut : (e f : Edge) (m : Meet) → Shares e f m → (p : Point) → Contains (named m) p → CutOf e f p
 shared_cut e f m s p c = All-contains (CutOf e f) (named m) p s.cuts c
 
+-- it is in least form, with a denominator that keeps the limit
 shared_triple : (e f : Edge) (m : Meet) → Shares e f m → (p : Point) → Contains (named m) p → IsNodeTriple p
 shared_triple e f m s p c = record { least = All-contains IsLeast (named m) p s.least c; limit = All-contains (λ q. q.W ≤ℤ pos meeting_limit) (named m) p s.limit c }
 
+-- and it lies on both
 shared_on : (e f : Edge) (m : Meet) → Shares e f m → (p : Point) → Contains (named m) p → (on e p ≡ true) × (on f p ≡ true)
 shared_on e f m s p c = and_parts (on e p) (on f p) (named_on_both e f m s.exact p (cut_is_point (e ∷ f ∷ []) [] p (shared_cut e f m s p c)) (among_from_contains (named m) p c))
 
+-- a pair is tried: what its edges have in common is added to the break points of both, and nothing else, so the sweep is past it
 pub pair_swept : (es : List Edge) (ps : List Position) (i j : ℕ) (e f : Edge) (m : Meet) (before middle after : List (List Point)) → i < j → j < length es → e ≡ get_or es i e → f ≡ get_or es j f
     → Shares e f m → GrowsAt i (named m) before middle → GrowsAt j (named m) middle after → SweptTo es ps i j before → SweptTo es ps i (j + 1) after
 pair_swept es ps i j e f m before middle after less hj he hf s g k h = record {
@@ -162,6 +170,7 @@ pair_swept es ps i j e f m before middle after less hj he hf s g k h = record {
     second_of a b d l lb p hp c (inr t) = subst (λ n. ListsPoint (get_or after n []) p) (sym t.1) (grown_by j (named m) middle after k p (names a b d t.0 t.1 p hp c))
 
 -- ---- the edges that follow have nothing in common with this one
+-- where no later edge has a cut in common with this one the sweep may go on with the next edge
 pub rest_apart : (es : List Edge) (ps : List Position) (i j : ℕ) (breaks : List (List Point))
     → ((b : ℕ) (d : Edge) → j ≤ b → b < length es → (p : Point) → IsPoint p → is_common_cut (get_or es i d) (get_or es b d) p ≡ true → ⊥)
     → SweptTo es ps i j breaks → SweptTo es ps (i + 1) (i + 1 + 1) breaks
@@ -187,9 +196,11 @@ rest_apart es ps i j breaks none h = record {
     before a b d (inr x) l lb p hp c = absurd (omega (arith, x.0, x.1, l))
 
 -- ---- what an edge has by itself
+-- a position is a point of denominator 1, so its triple is that of a node
 pub position_is_triple : (a : Position) → IsNodeTriple (point_at a)
 position_is_triple a = record { least = position_is_least a; limit = omega (arith, ints) }
 
+-- an edge's own ends and the listed positions on it are cuts on it
 own_is_break : (es : List Edge) (ps : List Position) (e : Edge) → Contains es e → (p : Point) → Among p (own_breaks ps e) → IsBreak es ps e p
 own_is_break es ps e he p a = go a
   where
@@ -215,6 +226,7 @@ own_is_break es ps e he p a = go a
         last : Among p (map point_at ps) × (on e p ≡ true) → IsBreak es ps e p
         last b = at_listed b.1 (among_map point_at ps p b.0)
 
+-- before any pair is tried each edge has its own break points
 pub swept_by_itself : (es : List Edge) (ps : List Position) (breaks : List (List Point)) → All IsWide es → breaks ≡ map (own_breaks ps) es → SweptTo es ps 0 1 breaks
 swept_by_itself es ps breaks wide made = record {
   same_length = ap length made ∙ simp length-map;
@@ -245,6 +257,7 @@ itself_is_end e p k = go (or_either (is_end e p || is_end e p) (not (on_one_line
     go (inl h) = inner (or_either (is_end e p) (is_end e p) h)
     go (inr h) = absurd (let clash : false ≡ true = subst (λ (b : Bool). not b ≡ true) (its_own_line e) h in cc)
 
+-- a cut that one edge has in common with another the other has in common with it
 common_turned : (e f : Edge) → IsWide e → IsWide f → (p : Point) → is_common_cut e f p ≡ true → is_common_cut f e p ≡ true
 common_turned e f we wf p k = and_from (on_both f e p) (is_end f p || is_end e p || not (on_one_line f e)) (and_from (on f p) (on e p) both_on.1 both_on.0) (go (or_either (is_end e p || is_end f p) (not (on_one_line e f)) both.1))
   where
@@ -262,6 +275,8 @@ common_turned e f we wf p k = and_from (on_both f e p) (is_end f p || is_end e p
     go (inl h) = or_first (is_end f p || is_end e p) (not (on_one_line f e)) (inner (or_either (is_end e p) (is_end f p) h))
     go (inr h) = or_second (is_end f p || is_end e p) (not (on_one_line f e)) (subst (λ (b : Bool). not b ≡ true) (one_line_turned e f we wf) h)
 
+-- when all pairs are tried each edge has all its break points: a cut on it is its own,
+-- or one that it has in common with an earlier or a later edge
 pub all_swept : (es : List Edge) (ps : List Position) (j : ℕ) (breaks : List (List Point)) → SweptTo es ps (length es) j breaks → AllSwept es ps breaks
 all_swept es ps j breaks h = record { same_length = h.same_length; all = at }
   where
@@ -309,6 +324,7 @@ pub breaks_are_points : (es : List Edge) (ps : List Position) (e : Edge) (points
 breaks_are_points es ps e points h = all_of IsPoint points (λ p c. cut_is_point es ps p (h.from p c).is_cut)
 
 -- ---- a point that is kept in another triple
+-- a point that is put in order is still there, in some triple
 pub point_kept : (given ordered : List Point) → All IsPoint given → PutsPointsInOrder given ordered → (p : Point) → ListsPoint given p → ListsPoint ordered p
 point_kept given ordered hs o p h = first (some_from_any (λ q. same_point q p ≡ true) given h)
   where
@@ -319,6 +335,7 @@ point_kept given ordered hs o p h = first (some_from_any (λ q. same_point q p �
     first s = let c : Contains given s.found = contains_from_among given s.found s.among in
         second s.found (All-contains IsPoint given s.found hs c) s.has (some_from_any (λ r. same_point r s.found ≡ true) ordered (o.kept s.found c))
 
+-- break points that are put in order are the cuts on the edge, ascending, each once
 pub breaks_in_order : (es : List Edge) (ps : List Position) (e : Edge) (points ordered : List Point) → AllBreaks es ps e points → PutsPointsInOrder points ordered → AreBreaks es ps e ordered
 breaks_in_order es ps e points ordered h o = record {
   on_edge = all_of (λ p. on e p ≡ true) ordered (λ p c. (h.from p (o.from p c)).on_edge);
@@ -329,6 +346,7 @@ breaks_in_order es ps e points ordered h o = record {
 }
 
 -- ---- each list in order
+-- one list more is put in order, those before it stay in order, and those behind it aren't touched
 pub ordered_more : (n : ℕ) (before middle after : List (List Point)) → OrdersFirst n before middle → OrdersAt n middle after → OrdersFirst (n + 1) before after
 ordered_more n before middle after h o = record { same_length = o.same_length ∙ h.same_length; ordered = λ k l. at k (earlier_or_last k n l); rest = rest }
   where
@@ -346,12 +364,14 @@ some_edge = record { start = record { x = pos 0; y = pos 0 }; end = record { x =
 pub swept_points : (es : List Edge) (ps : List Position) (breaks : List (List Point)) → AllSwept es ps breaks → HavePoints breaks
 swept_points es ps breaks h k l = breaks_are_points es ps (get_or es k some_edge) (get_or breaks k []) (h.all k some_edge (omega (arith, l, h.same_length)))
 
+-- all break points, each list put in order, cut all edges
 pub all_cut : (es : List Edge) (ps : List Position) (before after : List (List Point)) → AllSwept es ps before → OrdersEach before after → AllCut es ps after
 all_cut es ps before after h o = record {
   same_length = o.same_length ∙ h.same_length;
   all = λ k d l. breaks_in_order es ps (get_or es k d) (get_or before k []) (get_or after k []) (h.all k d l) (o.ordered k (omega (arith, l, h.same_length)));
 }
 
+-- past the last edge no pair is left to be tried
 pub swept_enough : (es : List Edge) (ps : List Position) (i j : ℕ) (breaks : List (List Point)) → length es ≤ i → SweptTo es ps i j breaks → SweptTo es ps (length es) (length es + 1) breaks
 swept_enough es ps i j breaks enough h = record {
   same_length = h.same_length;

@@ -12,6 +12,7 @@ use Rattle.noding.specs.Ranges.{lesser, greater, x_ranges_overlap, overlaps_with
 use Rattle.noding.proofs.Sweeping.{lesser_first, greater_first}
 
 -- ---- sums
+-- sums of equal terms are equal
 sum_is : {X : Type 0} (f g : X → ℕ) (xs : List X) → ((x : X) → f x ≡ g x) → sum_by f xs ≡ sum_by g xs
 sum_is f g [] h = refl
 sum_is f g (x ∷ xs) h = sum_by-cons f x xs ∙ ap₂ (λ m n. m + n) (h x) (sum_is f g xs h) ∙ sym (sum_by-cons g x xs)
@@ -37,9 +38,11 @@ and_turned true false = refl
 and_turned false true = refl
 and_turned false false = refl
 
+-- two ranges overlap whichever is named first
 overlap_turned : (e f : Edge) → x_ranges_overlap e f ≡ x_ranges_overlap f e
 overlap_turned e f = and_turned (int_le (lesser e.start.x e.end.x) (greater f.start.x f.end.x)) (int_le (lesser f.start.x f.end.x) (greater e.start.x e.end.x))
 
+-- each range overlaps itself
 overlaps_itself : (e : Edge) → x_ranges_overlap e e ≡ true
 overlaps_itself e = ap (λ b. b && b) (at_most_yes (lesser e.start.x e.end.x) (greater e.start.x e.end.x) (chain (lesser e.start.x e.end.x) e.start.x (greater e.start.x e.end.x) (lesser_first e.start.x e.end.x) (greater_first e.start.x e.end.x)))
   where
@@ -50,6 +53,7 @@ overlaps_itself e = ap (λ b. b && b) (at_most_yes (lesser e.start.x e.end.x) (g
 with_all : List Edge → ℕ
 with_all es = sum_by (λ e. count_by (x_ranges_overlap e) es) es
 
+-- counting for each edge all that it overlaps counts each pair twice and each edge once more
 twice : (es : List Edge) → with_all es ≡ overlapping_pairs es + overlapping_pairs es + length es
 unfolding with_all
 twice [] = refl
@@ -72,6 +76,7 @@ twice (e ∷ es) =
     put_together : (m n l : ℕ) → 1 + m + (m + (n + n + l)) ≡ (m + n) + (m + n) + suc l
     put_together m n l = omega arith
 
+-- so the number of pairs is the same in any order of the edges
 pub pairs_in_order : (es fs : List Edge) → IsPermutation es fs → overlapping_pairs fs ≡ overlapping_pairs es
 unfolding with_all
 pairs_in_order es fs h = halved (overlapping_pairs fs) (overlapping_pairs es) (length fs) (length es) (length_permutation es fs h)
@@ -97,9 +102,11 @@ one_more i = omega arith
 from_place : (es : List Edge) (i : ℕ) (e : Edge) → i < length es → e ≡ get_or es i e → drop i es ≡ e ∷ drop (i + 1) es
 from_place es i e l g = drop-cons es i e l ∙ ap₂ (λ (x : Edge) n. x ∷ drop n es) (sym g) (sym (one_more i))
 
+-- when an edge's turn begins all that follow it are still to be counted
 pub count_begins : (es : List Edge) (i : ℕ) (e : Edge) → i < length es → e ≡ get_or es i e → overlaps_with_first (drop i es) (drop (i + 1) es) ≡ overlaps_of_first (drop i es)
 count_begins es i e l g = ap (λ xs. overlaps_with_first xs (drop (i + 1) es)) (from_place es i e l g) ∙ sym (ap overlaps_of_first (from_place es i e l g))
 
+-- an edge that overlaps it counts one
 pub count_goes_on : (es : List Edge) (i j : ℕ) (e f : Edge) → i < length es → e ≡ get_or es i e → j < length es → f ≡ get_or es j f → x_ranges_overlap e f ≡ true
     → overlaps_with_first (drop i es) (drop j es) ≡ 1 + overlaps_with_first (drop i es) (drop (j + 1) es)
 count_goes_on es i j e f l g k h o =
@@ -109,6 +116,7 @@ count_goes_on es i j e f l g k h o =
     ∙ ap (λ b. cond b 1 0 + count_by (x_ranges_overlap e) (drop (j + 1) es)) o
     ∙ ap (λ xs. 1 + overlaps_with_first xs (drop (j + 1) es)) (sym (from_place es i e l g))
 
+-- edges that all don't overlap count none
 none_counted : (e : Edge) (fs : List Edge) → ((k : ℕ) (d : Edge) → k < length fs → x_ranges_overlap e (get_or fs k d) ≡ false) → count_by (x_ranges_overlap e) fs ≡ 0
 none_counted e [] h = refl
 none_counted e (f ∷ fs) h = sum_by-cons (λ x. cond (x_ranges_overlap e x) 1 0) f fs ∙ ap₂ (λ b n. cond b 1 0 + n) (h 0 f (omega arith)) (none_counted e fs (λ k d l. h (suc k) d (omega (arith, l))))
@@ -116,22 +124,28 @@ none_counted e (f ∷ fs) h = sum_by-cons (λ x. cond (x_ranges_overlap e x) 1 0
 dropped_at : (es : List Edge) (j k : ℕ) (d : Edge) → get_or (drop j es) k d ≡ get_or es (j + k) d
 dropped_at es j k d = simp get_or-drop
 
+-- once none of those that follow overlaps, the count of this edge is done
 pub count_ends : (es : List Edge) (i j : ℕ) (e : Edge) → i < length es → e ≡ get_or es i e → ((k : ℕ) (d : Edge) → j ≤ k → k < length es → x_ranges_overlap e (get_or es k d) ≡ false) → overlaps_with_first (drop i es) (drop j es) ≡ 0
 count_ends es i j e l g none = ap (λ xs. overlaps_with_first xs (drop j es)) (from_place es i e l g)
     ∙ none_counted e (drop j es) (λ k d m. ap (x_ranges_overlap e) (dropped_at es j k d) ∙ none (j + k) d (omega arith) (omega (arith, m, length-drop j es)))
 
+-- the pairs from an edge on are its own and those from the next edge on
 pub pairs_go_on : (es : List Edge) (i : ℕ) (e : Edge) → i < length es → e ≡ get_or es i e → overlapping_pairs (drop i es) ≡ overlaps_of_first (drop i es) + overlapping_pairs (drop (i + 1) es)
 pairs_go_on es i e l g = ap overlapping_pairs (from_place es i e l g) ∙ sym (ap (λ xs. overlaps_of_first xs + overlapping_pairs (drop (i + 1) es)) (from_place es i e l g))
 
+-- behind the last edge there are none
 pub no_pairs : (es : List Edge) (i : ℕ) → length es ≤ i → overlapping_pairs (drop i es) ≡ 0
 no_pairs es i h = ap overlapping_pairs (past_end es i h)
 
 -- ---- a count that stays at the greatest number
+-- a count that stops at the greatest number goes on by one ..
 pub count_step : (m t u c d a : ℕ) → u ≡ min (t + 1) m → c ≡ 1 + d → min (t + c) m ≡ a → min (u + d) m ≡ a
 count_step m t u c d a e f g = grind arith
 
+-- .. goes over from one edge to the next ..
 pub count_over : (m t u c d a : ℕ) → u ≡ min (t + c) m → a ≡ c + d → min (u + d) m ≡ min (t + a) m
 count_over m t u c d a e f = grind arith
 
+-- .. and at its end is the number, or the greatest one
 pub count_done : (m t c a : ℕ) → t ≤ m → c ≡ 0 → min (t + c) m ≡ a → t ≡ a
 count_done m t c a h e f = grind arith

@@ -50,6 +50,7 @@ point_is_on c d m n hm hn = on_from_hull (edge c d) (point_of c m d n) (record {
     one z = omega (arith, ints)
 
 -- ---- two sides that differ
+-- two positions whose sides differ aren't both on the line
 pub not_one_line : (e : Edge) (c d : Position) → side e.start e.end (point_at c) <ℤ side e.start e.end (point_at d) → on_one_line e (edge c d) ≡ false
 not_one_line e c d h = is_false (on_one_line e (edge c d)) (λ k. both (one_line e (edge c d) k))
   where
@@ -74,6 +75,7 @@ only_point e c d r hr h f g =
     same_from (point_of c t d (pos 0 -ℤ s)) r (turned_coordinate s t c.x d.x r.X r.W shared.x_is) (turned_coordinate s t c.y d.y r.Y r.W shared.y_is)
 
 -- ---- both positions on one side of the line
+-- between two positions left of a line no point is on it, since sides are weighed like the points
 left_of_line : (a b c d : Position) (r : Point) → IsPoint r → pos 0 <ℤ side a b (point_at c) → pos 0 <ℤ side a b (point_at d) → side a b r ≡ pos 0 → on (edge c d) r ≡ true → ⊥
 left_of_line a b c d r hr hc hd z g = go (weighs (edge c d) r hr (hull_from_on (edge c d) r hr g))
   where
@@ -90,6 +92,7 @@ left_of_line a b c d r hr hc hd z g = go (weighs (edge c d) r hr (hull_from_on (
         let clash : Greater ≡ Equal = sym (cmp_greater (side a b p) (pos 0) above) ∙ alike ∙ cmp_equal (side a b r) (pos 0) z in
         absurd (cc)
 
+-- two numbers that don't lie on both sides of 0 are both above or both below
 not_straddled : (s t : ℤ) → s <ℤ t → (int_le s (pos 0) && int_le (pos 0) t) ≡ false → ((pos 0 <ℤ s) × (pos 0 <ℤ t)) ⊎ ((s <ℤ pos 0) × (t <ℤ pos 0))
 not_straddled s t h e = go (at_most_or_less s (pos 0)) (at_most_or_less (pos 0) t)
   where
@@ -104,6 +107,7 @@ not_straddled s t h e = go (at_most_or_less s (pos 0)) (at_most_or_less (pos 0) 
     go (inl k) (inr l) = inr (short s t h l, l)
     go (inl k) (inl l) = absurd (let f : true ≡ false = sym (and_from _ _ (at_most_yes s (pos 0) k) (at_most_yes (pos 0) t l)) ∙ e in cc)
 
+-- with both positions on one side of its line the edge has nothing in common with the edge between them
 pub apart_beside : (e : Edge) (c d : Position) → side e.start e.end (point_at c) <ℤ side e.start e.end (point_at d)
     → (int_le (side e.start e.end (point_at c)) (pos 0) && int_le (pos 0) (side e.start e.end (point_at d))) ≡ false → IsMeeting e (edge c d) Apart
 apart_beside e c d h f p hp = is_false (on_both e (edge c d) p) (λ k. off (and_parts (on e p) (on (edge c d) p) k))
@@ -123,6 +127,7 @@ apart_beside e c d h f p hp = is_false (on_both e (edge c d) p) (λ k. off (and_
             (turned_zero _ _ (side_turned e.start e.end p) ((on_parts e p k.0).on_line)) k.1
 
 -- ---- one position on each side, or on the line
+-- a point weighs two positions, one on each side of the edge's line or on it, by the other's side
 pub record Straddles (e : Edge) (c d : Position) (p : Point) : Type 0 where
   pub is_point : IsPoint p
   pub differ : side e.start e.end (point_at c) <ℤ side e.start e.end (point_at d)
@@ -130,33 +135,40 @@ pub record Straddles (e : Edge) (c d : Position) (p : Point) : Type 0 where
   pub upper : pos 0 ≤ℤ side e.start e.end (point_at d)
   pub same : same_point p (point_of c (side e.start e.end (point_at d)) d (pos 0 -ℤ side e.start e.end (point_at c))) ≡ true
 
+-- the weights aren't both 0, so they make a point
 pub made_is_point : (s t : ℤ) → s <ℤ t → pos 0 <ℤ (t +ℤ (pos 0 -ℤ s))
 made_is_point s t h = omega (arith, ints)
 
+-- the weighed point lies between the two positions
 on_second : (e : Edge) (c d : Position) (p : Point) → Straddles e c d p → on (edge c d) p ≡ true
 on_second e c d p h = on_respects (edge c d) p _ h.is_point (made_is_point _ _ h.differ) h.same ∙ point_is_on c d _ _ h.upper (weight _ h.lower)
   where
     weight : (s : ℤ) → s ≤ℤ pos 0 → pos 0 ≤ℤ (pos 0 -ℤ s)
     weight s h = omega (arith, ints)
 
+-- whatever both edges hold is that point, since only there the side is 0
 shared_is : (e : Edge) (c d : Position) (p q : Point) → Straddles e c d p → IsPoint q → on_both e (edge c d) q ≡ true → same_point p q ≡ true
 shared_is e c d p q h hq k =
     let both : (on e q ≡ true) × (on (edge c d) q ≡ true) = and_parts (on e q) (on (edge c d) q) k in
     same_transitive p _ q (made_is_point _ _ h.differ) h.same (only_point e c d q hq h.differ both.0 both.1)
 
+-- where it lies on the first edge the edges have it alone in common
 held_at : (e : Edge) (c d : Position) (p : Point) → Straddles e c d p → on e p ≡ true → (q : Point) → IsPoint q → on_both e (edge c d) q ≡ same_point p q
 held_at e c d p h f q hq = both_ways (on_both e (edge c d) q) (same_point p q) (λ k. shared_is e c d p q h hq k)
     (λ k. and_from (on e q) (on (edge c d) q) (sym (on_respects e p q h.is_point hq k) ∙ f) (sym (on_respects (edge c d) p q h.is_point hq k) ∙ on_second e c d p h))
 
+-- where it doesn't they have nothing in common
 held_nowhere : (e : Edge) (c d : Position) (p : Point) → Straddles e c d p → on e p ≡ false → (q : Point) → IsPoint q → on_both e (edge c d) q ≡ false
 held_nowhere e c d p h f q hq = is_false (on_both e (edge c d) q) (λ k. off k)
   where
     off : on_both e (edge c d) q ≡ true → ⊥
     off k = let clash : false ≡ true = sym f ∙ on_respects e p q h.is_point hq (shared_is e c d p q h hq k) ∙ (and_parts (on e q) (on (edge c d) q) k).0 in cc
 
+-- so the test of that one point on the first edge decides the meeting
 pub crossing_is : (e : Edge) (c d : Position) (p : Point) → Straddles e c d p → (t : Bool) → on e p ≡ t → IsMeeting e (edge c d) (if t then At p else Apart)
 crossing_is e c d p h true f = held_at e c d p h f
 crossing_is e c d p h false f = held_nowhere e c d p h f
 
+-- numbers that pass the test lie on both sides of 0, or one at 0
 pub straddling : (s t : ℤ) → (int_le s (pos 0) && int_le (pos 0) t) ≡ true → (s ≤ℤ pos 0) × (pos 0 ≤ℤ t)
 straddling s t e = let both : (int_le s (pos 0) ≡ true) × (int_le (pos 0) t ≡ true) = and_parts (int_le s (pos 0)) (int_le (pos 0) t) e in (at_most_from s (pos 0) both.0, at_most_from (pos 0) t both.1)

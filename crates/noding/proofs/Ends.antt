@@ -19,16 +19,19 @@ use Rattle.geometry_laws.proofs.RingParity.{position_is_point}
 use Rattle.geometry_laws.proofs.Cuts.{turn_less, hull_of_start, hull_of_end, not_after_both as off_after, not_before_both as off_before}
 use Rattle.noding.proofs.Order.{NotAfter, not_after_cases, not_after_or}
 
+-- the edge's lesser and its greater end
 pub record HasEnds (e : Edge) (low high : Position) : Type 0 where
   pub in_order : compare (point_at low) (point_at high) ≡ Less
   pub are_ends : ((low ≡ e.start) × (high ≡ e.end)) ⊎ ((low ≡ e.end) × (high ≡ e.start))
 
+-- positions that stand at one point are equal
 pub same_position : (a b : Position) → same_point (point_at a) (point_at b) ≡ true → a ≡ b
 same_position a b e = λ i. record { x = plain a.x b.x (same_x (point_at a) (point_at b) e) i; y = plain a.y b.y (same_y (point_at a) (point_at b) e) i }
   where
     plain : (x y : ℤ) → x *ℤ pos 1 ≡ y *ℤ pos 1 → x ≡ y
     plain x y e = omega (arith, ints)
 
+-- the lesser and the greater of two different ends, by the order of positions
 pub has_ends : (e : Edge) → (e.start ≡ e.end → ⊥) → HasEnds e (ord_min position_order e.start e.end) (ord_max position_order e.start e.end)
 has_ends e wide = go (position_order e.end e.start) refl
   where
@@ -59,6 +62,7 @@ at_high P e low high h s t = go h.are_ends
     go (inr k) = subst P (sym k.1) s
 
 -- ---- what the edge holds is within its ends
+-- it holds nothing before its lesser end
 pub not_before_low : (e : Edge) (low high : Position) → HasEnds e low high → (x : Point) → IsPoint x → on e x ≡ true → NotAfter (point_at low) x
 not_before_low e low high h x hx k = go (not_after_or (point_at low) x)
   where
@@ -79,6 +83,7 @@ not_before_low e low high h x hx k = go (not_after_or (point_at low) x)
     go (inl n) = n
     go (inr f) = absurd (off f (less_transitive x (point_at low) (point_at high) hx (position_is_point low) (position_is_point high) f h.in_order))
 
+-- and nothing after its greater end
 pub not_after_high : (e : Edge) (low high : Position) → HasEnds e low high → (x : Point) → IsPoint x → on e x ≡ true → NotAfter x (point_at high)
 not_after_high e low high h x hx k = go (not_after_or x (point_at high))
   where
@@ -100,6 +105,7 @@ not_after_high e low high h x hx k = go (not_after_or x (point_at high))
     go (inr f) = absurd (off (less_transitive (point_at low) (point_at high) x (position_is_point low) (position_is_point high) hx h.in_order f) f)
 
 -- ---- and it holds all that is
+-- a point on the edge's line that is neither before its lesser end nor after its greater lies on the edge
 pub held : (e : Edge) (low high : Position) → HasEnds e low high → (x : Point) → IsPoint x → area (point_at low) (point_at high) x ≡ pos 0 → NotAfter (point_at low) x → NotAfter x (point_at high) → on e x ≡ true
 held e low high h x hx z f g = go (not_after_cases (point_at low) x f) (not_after_cases x (point_at high) g)
   where

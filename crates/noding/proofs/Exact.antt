@@ -20,6 +20,7 @@ use Rattle.noding.proofs.NodeCuts.{cut_is_point}
 use Rattle.noding.proofs.NodeSteps.{sorted_from_pairs}
 
 -- ---- nodes
+-- the nodes list each cut and nothing else, ascending, in least form; so do the cut points, so the lists are the same
 pub nodes_are_cut_points : (es : List Edge) (ps : List Position) (nodes : List Point) → All (IsCut es ps) nodes → ListsCuts es ps nodes → AscendingPoints nodes → All IsNodeTriple nodes → nodes ≡ cut_points es ps
 nodes_are_cut_points es ps nodes cuts found ascend triples = same_list IsPoint compare points_are_ordered not_before_itself nodes (cut_points es ps)
     (each_of IsPoint nodes (λ p a. cut_is_point es ps p (cut p a)))
@@ -42,6 +43,7 @@ nodes_are_cut_points es ps nodes cuts found ascend triples = same_list IsPoint c
         go s = subst (λ q. Among q nodes) (least_is_unique s.found p (cut_is_point es ps s.found (cut s.found s.among)) k.is_point (least s.found s.among) k.is_least s.has) s.among
 
 -- ---- pieces
+-- no piece is before itself, since no point is
 not_before_itself_piece : (c : Piece) → compare_pieces c c ≡ Less → ⊥
 not_before_itself_piece c e = go (then_less (compare c.lesser c.lesser) (compare c.greater c.greater) e)
   where
@@ -49,6 +51,7 @@ not_before_itself_piece c e = go (then_less (compare c.lesser c.lesser) (compare
     go (inl f) = not_before_itself c.lesser f
     go (inr f) = not_before_itself c.greater f.1
 
+-- the same of pieces, ordered by their lesser and then by their greater ends
 pub pieces_are_listed : (es : List Edge) (ps : List Position) (cs : List Piece) → All (IsPiece es ps) cs → ListsPieces es ps cs → AscendingPieces cs → All HasNodeTriples cs → cs ≡ pieces (cut_points es ps) es
 pieces_are_listed es ps cs are found ascend triples = same_list HasPoints compare_pieces pieces_are_ordered not_before_itself_piece cs (pieces (cut_points es ps) es)
     (each_of HasPoints cs (λ c a. points c (piece c a)))

@@ -68,6 +68,7 @@ end_named g wide q r p hq hr hp kq kr past short k = go _ _ (has_ends g wide)
         pick (inr s) = second_named q r p (not_after_both r p hr hp
             (not_after_trans r (point_at high) p hr (position_is_point high) hp (not_after_high g low high h r hr kr) (not_after_same (point_at high) p s)) short)
 
+-- edges that share a stretch are on one line, so a cut of both is an end of one of them, and that is an end of the stretch
 along_named : (e f : Edge) → (e.start ≡ e.end → ⊥) → (f.start ≡ f.end → ⊥) → (q r p : Point) → IsCommonStretch e f (record { lesser = q; greater = r }) → IsPoint q → IsPoint r → IsPoint p → on_both e f p ≡ true
     → (is_end e p || is_end f p || not (on_one_line e f)) ≡ true → IsNamed (Along q r) p
 along_named e f we wf q r p h hq hr hp k marked = outer (or_either (is_end e p || is_end f p) (not (on_one_line e f)) marked)
@@ -105,11 +106,13 @@ along_named e f we wf q r p h hq hr hp k marked = outer (or_either (is_end e p |
     outer (inl s) = inner (or_either (is_end e p) (is_end f p) s)
     outer (inr s) = absurd (not_less_self q r (shared_once e f q r hq hr (is_off (on_one_line e f) s) on_q on_r) h.in_order)
 
+-- each kind of cut says that it is a point
 cut_is_point : (e f : Edge) (p : Point) → CutOf e f p → IsPoint p
 cut_is_point e f p (AtEnd hp g c h) = hp
 cut_is_point e f p (Listed hp a c h) = hp
 cut_is_point e f p (AtCrossing hp g h c d apart kg kh) = hp
 
+-- each answer names all common cuts: none where nothing is shared, the one point, or the ends of the stretch
 pub names_cuts : (e f : Edge) → (e.start ≡ e.end → ⊥) → (f.start ≡ f.end → ⊥) → (m : Meet) → IsMeeting e f m → All (CutOf e f) (named m) → NamesCommonCuts e f m
 names_cuts e f we wf Apart h cs = λ p hp k. absurd (none p hp k)
   where

@@ -25,22 +25,27 @@ abbrev pub CutOf : Edge → Edge → Point → Type 0
 CutOf e f p = IsCut (e ∷ f ∷ []) [] p
 
 -- ---- edges not on one line
+-- a point on two edges that aren't on one line is where they cross, so it is a cut of the two
 cut_of_both : (e f : Edge) → on_one_line e f ≡ false → (p : Point) → IsPoint p → on_both e f p ≡ true → CutOf e f p
 cut_of_both e f apart p hp k =
     let both : (on e p ≡ true) × (on f p ≡ true) = and_parts (on e p) (on f p) k in
     AtCrossing hp e f (contains_of_among e (e ∷ f ∷ []) (inl refl)) (contains_of_among f (e ∷ f ∷ []) (inr (inl refl))) apart both.0 both.1
 
+-- three points of which two are one lie on one line
 pub area_at_first : (p q : Point) → area p q p ≡ pos 0
 area_at_first p q = solve (p.X ∷ p.Y ∷ p.W ∷ q.X ∷ q.Y ∷ q.W ∷ [])
     ((var 0 ⊗ (var 4 ⊗ var 2 ⊖ var 1 ⊗ var 5) ⊖ var 1 ⊗ (var 3 ⊗ var 2 ⊖ var 0 ⊗ var 5)) ⊕ var 2 ⊗ (var 3 ⊗ var 1 ⊖ var 0 ⊗ var 4)) (lit (pos 0)) tt
 
+-- the same of the second
 pub area_at_second : (p q : Point) → area p q q ≡ pos 0
 area_at_second p q = solve (p.X ∷ p.Y ∷ p.W ∷ q.X ∷ q.Y ∷ q.W ∷ [])
     ((var 0 ⊗ (var 4 ⊗ var 5 ⊖ var 4 ⊗ var 5) ⊖ var 1 ⊗ (var 3 ⊗ var 5 ⊖ var 3 ⊗ var 5)) ⊕ var 2 ⊗ (var 3 ⊗ var 4 ⊖ var 3 ⊗ var 4)) (lit (pos 0)) tt
 
+-- a point on the stretch's line that isn't before its lesser end or after its greater is on the stretch
 pub stretch_has : (p q r : Point) → area p q r ≡ pos 0 → NotAfter p r → NotAfter r q → on_stretch (record { lesser = p; greater = q }) r ≡ true
 stretch_has p q r z f g = and_from (int_eq (area p q r) (pos 0) && is_le (compare p r)) (is_le (compare r q)) (and_from (int_eq (area p q r) (pos 0)) (is_le (compare p r)) (equal_yes (area p q r) (pos 0) z) f) g
 
+-- whatever point edges share that aren't on one line is a cut of them, since they cross there
 pub named_at_crossing : (e f : Edge) → on_one_line e f ≡ false → (m : Meet) → IsMeeting e f m → All IsPoint (named m) → All (CutOf e f) (named m)
 named_at_crossing e f apart Apart h ps = all_from_each (CutOf e f) [] tt
 named_at_crossing e f apart (At p) h ps =
@@ -57,6 +62,7 @@ named_at_crossing e f apart (Along p q) h ps =
 
 -- ---- edges on one line
 
+-- the stretch of edges on one line begins at the end of one of them, so it begins at a cut
 pub from_is_cut : (e f : Edge) (l : Lined e f) → CutOf e f (point_at l.from)
 from_is_cut e f l = go l.greater.is_one
   where
@@ -70,6 +76,7 @@ from_is_cut e f l = go l.greater.is_one
     go (inl k) = subst (λ a. CutOf e f (point_at a)) (sym k) of_first
     go (inr k) = subst (λ a. CutOf e f (point_at a)) (sym k) of_second
 
+-- and it ends at the end of one of them
 pub to_is_cut : (e f : Edge) (l : Lined e f) → CutOf e f (point_at l.to)
 to_is_cut e f l = go l.lesser.is_one
   where

@@ -22,6 +22,7 @@ use Rattle.noding.specs.declared.answers.Meet.TheVariants.{Apart, At, Along}
 use Rattle.noding.proofs.Order.{NotAfter, not_after_less, not_after_same}
 use Rattle.noding.proofs.NamedCuts.{CutOf, stretch_has, area_at_first, area_at_second}
 
+-- each kind of cut says that it is a point
 pub cut_is_point : (es : List Edge) (ps : List Position) (p : Point) → IsCut es ps p → IsPoint p
 cut_is_point es ps p (AtEnd hp e c h) = hp
 cut_is_point es ps p (Listed hp a c h) = hp
@@ -33,9 +34,11 @@ cut_moved es fs qs ps p more others (AtEnd hp e c h) = AtEnd hp e (more e c) h
 cut_moved es fs qs ps p more others (Listed hp a c h) = Listed hp a (others a c) h
 cut_moved es fs qs ps p more others (AtCrossing hp e f c d apart he hf) = AtCrossing hp e f (more e c) (more f d) apart he hf
 
+-- a cut of some edges alone is one of more edges, whatever positions are listed
 pub cut_of_more : (es fs : List Edge) (ps : List Position) (p : Point) → ((e : Edge) → Contains es e → Contains fs e) → IsCut es [] p → IsCut fs ps p
 cut_of_more es fs ps p more = cut_moved es fs [] ps p more (λ a c. absurd (omega (arith, c.1)))
 
+-- a cut of two of the edges is a cut of them all
 pub cut_of_both : (es : List Edge) (e f : Edge) (p : Point) → Contains es e → Contains es f → CutOf e f p → IsCut es [] p
 cut_of_both es e f p he hf = cut_of_more (e ∷ f ∷ []) es [] p (λ g c. pick g (among_from_contains (e ∷ f ∷ []) g c))
   where
@@ -45,6 +48,7 @@ cut_of_both es e f p he hf = cut_of_more (e ∷ f ∷ []) es [] p (λ g c. pick 
     pick g (inr (inr c)) = absurd c
 
 -- ---- both edges hold what their meeting names
+-- the one shared point, or each end of the shared stretch, is held by both edges
 pub named_on_both : (e f : Edge) (m : Meet) → IsMeeting e f m → (p : Point) → IsPoint p → Among p (named m) → on_both e f p ≡ true
 named_on_both e f Apart h p hp a = absurd a
 named_on_both e f (At q) h p hp (inl k) = h p hp ∙ subst (λ r. same_point q r ≡ true) (sym k) (same_reflexive q)
@@ -58,6 +62,7 @@ named_on_both e f (Along q r) h p hp (inr (inl k)) =
 named_on_both e f (Along q r) h p hp (inr (inr c)) = absurd c
 
 -- ---- edges on the line of one edge are on one line
+-- two edges on the line of a third, which has two different ends, are on one line
 pub lines_are_one : (g e f : Edge) → (g.start ≡ g.end → ⊥) → on_one_line g e ≡ true → on_one_line g f ≡ true → on_one_line e f ≡ true
 lines_are_one g e f wide h k =
     let a : OneLine g e = one_line g e h in
@@ -80,6 +85,7 @@ one_line_turned e f we wf = both_ways (on_one_line e f) (on_one_line f e) (λ h.
     both_ways a b p q = grind arith
 
 -- ---- a cut on an edge
+-- an edge holds its ends
 pub end_is_on_edge : (e : Edge) (p : Point) → IsPoint p → is_end e p ≡ true → on e p ≡ true
 end_is_on_edge e p hp h = go (or_either (same_point (point_at e.start) p) (same_point (point_at e.end) p) h)
   where
@@ -87,10 +93,12 @@ end_is_on_edge e p hp h = go (or_either (same_point (point_at e.start) p) (same_
     go (inl s) = start_is_on e p hp s
     go (inr s) = end_is_on e p hp s
 
+-- where an edge ends on another, that is a cut the two have in common
 pub common_at_end : (g e : Edge) (p : Point) → on g p ≡ true → on e p ≡ true → is_end e p ≡ true → is_common_cut g e p ≡ true
 common_at_end g e p kg ke h = and_from (on_both g e p) (is_end g p || is_end e p || not (on_one_line g e)) (and_from (on g p) (on e p) kg ke)
     (or_first (is_end g p || is_end e p) (not (on_one_line g e)) (or_second (is_end g p) (is_end e p) h))
 
+-- where two edges that aren't on one line share a point, that is a cut they have in common
 pub common_at_crossing : (g e : Edge) (p : Point) → on g p ≡ true → on e p ≡ true → on_one_line g e ≡ false → is_common_cut g e p ≡ true
 common_at_crossing g e p kg ke h = and_from (on_both g e p) (is_end g p || is_end e p || not (on_one_line g e)) (and_from (on g p) (on e p) kg ke)
     (or_second (is_end g p || is_end e p) (not (on_one_line g e)) (subst (λ (b : Bool). not b ≡ true) (sym h) refl))

@@ -64,9 +64,11 @@ lined e f we wf h = record {
 abbrev pub OnLine : Edge → Position → Type 0
 OnLine e a = side e.start e.end (point_at a) ≡ pos 0
 
+-- an edge's start is on its line
 pub start_on_line : (e : Edge) → OnLine e e.start
 start_on_line e = (on_parts e (point_at e.start) (on_from_hull e (point_at e.start) (hull_of_start e))).on_line
 
+-- and so is its end
 pub end_on_line : (e : Edge) → OnLine e e.end
 end_on_line e = (on_parts e (point_at e.end) (on_from_hull e (point_at e.end) (hull_of_end e))).on_line
 
@@ -74,6 +76,7 @@ one_of : (P : Position → Type 0) (a b m : Position) → (m ≡ a) ⊎ (m ≡ b
 one_of P a b m (inl e) h k = subst P (sym e) h
 one_of P a b m (inr e) h k = subst P (sym e) k
 
+-- all four ends, and the two chosen ones, are on the one line
 pub e_low_on_line : (e f : Edge) (l : Lined e f) → OnLine e l.e_low
 e_low_on_line e f l = at_low (OnLine e) e l.e_low l.e_high l.e_ends (start_on_line e) (end_on_line e)
 
@@ -93,11 +96,13 @@ to_on_line : (e f : Edge) (l : Lined e f) → OnLine e l.to
 to_on_line e f l = one_of (OnLine e) l.e_high l.f_high l.to l.lesser.is_one (e_high_on_line e f l) (f_high_on_line e f l)
 
 -- ---- what both hold lies within
+-- a point of the line from the greater of the lesser ends to the lesser of the greater ends
 pub record Within (e f : Edge) (l : Lined e f) (x : Point) : Type 0 where
   pub on_line : side e.start e.end x ≡ pos 0
   pub past : NotAfter (point_at l.from) x
   pub short : NotAfter x (point_at l.to)
 
+-- what both edges hold isn't before either's lesser end nor after either's greater end
 within_from : (e f : Edge) (l : Lined e f) (x : Point) → IsPoint x → on_both e f x ≡ true → Within e f l x
 within_from e f l x hx k =
     let both : (on e x ≡ true) × (on f x ≡ true) = and_parts (on e x) (on f x) k in
@@ -108,6 +113,7 @@ within_from e f l x hx k =
     }
 
 -- ---- and what lies within both hold
+-- a point of the line between those two is within both edges
 held_by_both : (e f : Edge) (l : Lined e f) (x : Point) → IsPoint x → Within e f l x → on_both e f x ≡ true
 held_by_both e f l x hx w = and_from (on e x) (on f x)
     (held e l.e_low l.e_high l.e_ends x hx (area_on_line e.start e.end (point_at l.e_low) (point_at l.e_high) x l.wide (e_low_on_line e f l) (e_high_on_line e f l) w.on_line)
@@ -122,12 +128,14 @@ held_by_both e f l x hx w = and_from (on e x) (on f x)
     short a h = not_after_trans x (point_at l.to) (point_at a) hx (position_is_point l.to) (position_is_point a) w.short h
 
 -- ---- the three answers
+-- where the later beginning is after the earlier end the edges have nothing in common
 pub apart_on_line : (e f : Edge) (l : Lined e f) → compare (point_at l.from) (point_at l.to) ≡ Greater → IsMeeting e f Apart
 apart_on_line e f l g p hp = is_false (on_both e f p) (λ k. off (within_from e f l p hp k))
   where
     off : Within e f l p → ⊥
     off w = let clash : false ≡ true = sym (ap is_le g) ∙ not_after_trans (point_at l.from) p (point_at l.to) (position_is_point l.from) hp (position_is_point l.to) w.past w.short in cc
 
+-- where the two are one point the edges have that alone in common
 pub touching_on_line : (e f : Edge) (l : Lined e f) → compare (point_at l.from) (point_at l.to) ≡ Equal → IsMeeting e f (At (point_at l.from))
 touching_on_line e f l g p hp = both_ways (on_both e f p) (same_point (point_at l.from) p) (λ k. one (within_from e f l p hp k)) (λ k. other k)
   where
@@ -150,6 +158,7 @@ touching_on_line e f l g p hp = both_ways (on_both e f p) (same_point (point_at 
         let both : (on e (point_at l.from) ≡ true) × (on f (point_at l.from) ≡ true) = and_parts (on e (point_at l.from)) (on f (point_at l.from)) there in
         and_from (on e p) (on f p) (sym (on_respects e (point_at l.from) p (position_is_point l.from) hp k) ∙ both.0) (sym (on_respects f (point_at l.from) p (position_is_point l.from) hp k) ∙ both.1)
 
+-- where it is before, they have the stretch between in common
 pub along_the_line : (e f : Edge) (l : Lined e f) → compare (point_at l.from) (point_at l.to) ≡ Less → IsMeeting e f (Along (point_at l.from) (point_at l.to))
 along_the_line e f l g = record { in_order = g; exact = λ p hp. both_ways (on_both e f p) (on_stretch (record { lesser = point_at l.from; greater = point_at l.to }) p) (λ k. one p (within_from e f l p hp k)) (λ k. other p hp k) }
   where

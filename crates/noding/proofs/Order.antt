@@ -14,12 +14,15 @@ use Rattle.cut_laws.proofs.Stretches.{less_left, less_right}
 abbrev pub NotAfter : Point → Point → Type 0
 NotAfter p q = is_le (compare p q) ≡ true
 
+-- a point before another isn't after it
 pub not_after_less : (p q : Point) → compare p q ≡ Less → NotAfter p q
 not_after_less p q e = ap is_le e
 
+-- nor is one that is the same
 pub not_after_same : (p q : Point) → same_point p q ≡ true → NotAfter p q
 not_after_same p q e = ap is_le ((equal_is_same p q).1 e)
 
+-- a point that isn't after another is before it or the same
 pub not_after_cases : (p q : Point) → NotAfter p q → (compare p q ≡ Less) ⊎ (same_point p q ≡ true)
 not_after_cases p q h = go (compare p q) refl h
   where
@@ -37,6 +40,7 @@ not_after_or p q = go (compare p q) refl
     go Equal e = inl (ap is_le e)
     go Greater e = inr (turn_less p q e)
 
+-- a point not after one that isn't after a third isn't after the third
 pub not_after_trans : (p q r : Point) → IsPoint p → IsPoint q → IsPoint r → NotAfter p q → NotAfter q r → NotAfter p r
 not_after_trans p q r hp hq hr h k = go (not_after_cases p q h) (not_after_cases q r k)
   where
@@ -46,6 +50,7 @@ not_after_trans p q r hp hq hr h k = go (not_after_cases p q h) (not_after_cases
     go (inr e) (inl f) = not_after_less p r (less_left p q r hp hq e f)
     go (inr e) (inr f) = not_after_same p r (same_transitive p q r hq e f)
 
+-- two points of which neither is after the other are the same
 pub not_after_both : (p q : Point) → IsPoint p → IsPoint q → NotAfter p q → NotAfter q p → same_point p q ≡ true
 not_after_both p q hp hq h k = go (not_after_cases p q h) (not_after_cases q p k)
   where
@@ -55,16 +60,19 @@ not_after_both p q hp hq h k = go (not_after_cases p q h) (not_after_cases q p k
     go (inl e) (inl f) = absurd (not_less_self p p (same_reflexive p) (less_transitive p q p hp hq hp e f))
 
 -- ---- the greater and the lesser of two positions
+-- one of the two, and neither is after it
 pub record IsGreater (a b m : Position) : Type 0 where
   pub first : NotAfter (point_at a) (point_at m)
   pub second : NotAfter (point_at b) (point_at m)
   pub is_one : (m ≡ a) ⊎ (m ≡ b)
 
+-- one of the two, and it is after neither
 pub record IsLesser (a b m : Position) : Type 0 where
   pub first : NotAfter (point_at m) (point_at a)
   pub second : NotAfter (point_at m) (point_at b)
   pub is_one : (m ≡ a) ⊎ (m ≡ b)
 
+-- no position is after itself
 itself : (a : Position) → NotAfter (point_at a) (point_at a)
 itself a = not_after_same (point_at a) (point_at a) (same_reflexive (point_at a))
 
@@ -80,6 +88,7 @@ decided a b = go (position_order b a) refl
     go Equal e = inr (ap is_lt e, back (sym (position_order_is b a) ∙ e))
     go Greater e = inr (ap is_lt e, not_after_less (point_at a) (point_at b) (turn_less (point_at b) (point_at a) (sym (position_order_is b a) ∙ e)))
 
+-- the greater by the order of positions is it
 pub greater_is : (a b : Position) → IsGreater a b (ord_max position_order a b)
 greater_is a b = go (decided a b)
   where
@@ -93,6 +102,7 @@ greater_is a b = go (decided a b)
     go (inl h) = subst (λ (t : Bool). IsGreater a b (cond t a b)) (sym (ap is_lt h.0)) (at_first h.1)
     go (inr h) = subst (λ (t : Bool). IsGreater a b (cond t a b)) (sym h.0) (at_second h.1)
 
+-- and the lesser likewise
 pub lesser_is : (a b : Position) → IsLesser a b (ord_min position_order a b)
 lesser_is a b = go (decided a b)
   where

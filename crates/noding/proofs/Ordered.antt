@@ -29,6 +29,7 @@ pub record Agrees {X : Type 0} (R : X → X → Ordering) (E : X → X → Bool)
   pub order_is : (x y : X) → V x → V y → R x y ≡ order x y
   pub same_is : (x y : X) → V x → V y → E x y ≡ true → same y x ≡ true
 
+-- the second list has the elements of the first, one for each of those that are the same, ascending
 pub record Ordered {X : Type 0} (order : X → X → Ordering) (same : X → X → Bool) (xs zs : List X) : Type 0 where
   pub from : (x : X) → Among x zs → Among x xs
   pub kept : (x : X) → Among x xs → Some_of (λ z. same z x ≡ true) zs
@@ -39,11 +40,13 @@ each_after : {X : Type 0} (R order : X → X → Ordering) (V : X → Type 0) �
 each_after R order V f x [] v vs h = tt
 each_after R order V f x (z ∷ zs) v vs h = (sym (f x z v vs.0) ∙ h.0, each_after R order V f x zs v vs.1 h.1)
 
+-- sorted by the lawful order is sorted by the order of these values
 strictly_sorted : {X : Type 0} (R order : X → X → Ordering) (V : X → Type 0) → ((x y : X) → V x → V y → R x y ≡ order x y) → (zs : List X) → Each V zs → IsStrictlySortedBy R zs → Sorted order zs
 unfolding IsStrictlySortedBy
 strictly_sorted R order V f [] vs h = tt
 strictly_sorted R order V f (z ∷ zs) vs h = (each_after R order V f z zs vs.0 vs.1 h.0, strictly_sorted R order V f zs vs.1 h.1)
 
+-- sorting moves elements, and equal ones then stand side by side, so one of each is left, ascending
 pub ordered : {X : Type 0} (R : X → X → Ordering) (E : X → X → Bool) (V : X → Type 0) (order : X → X → Ordering) (same : X → X → Bool) → Agrees R E V order same
     → (xs ys zs : List X) → Each V xs → IsPermutation xs ys → IsSorted R ys → zs ≡ dedup E ys → Ordered order same xs zs
 ordered {X} R E V order same a xs ys zs vs moved up left = record { from = from; kept = kept; sorted = strictly_sorted R order V a.order_is zs values (subst (IsStrictlySortedBy R) (sym left) (IsStrictlySortedBy-dedup a.total a.ties ys up)) }
@@ -61,6 +64,7 @@ ordered {X} R E V order same a xs ys zs vs moved up left = record { from = from;
     kept x h = told x (each_at V xs x vs h) (some_from_any (λ z. E x z ≡ true) zs (subst (Any (λ z. E x z ≡ true)) (sym left) (Any-dedup a.equivalence ys x (Contains-permutation xs ys x moved (contains_from_among xs x h)))))
 
 -- ---- points
+-- the order of points by fractions agrees with their order across, and its ties with being one point
 points_agree : Agrees point_order (eq_by_cmp point_order) IsPoint compare same_point
 points_agree = record {
   total = point_order_total;
@@ -76,6 +80,7 @@ each_from_all P xs h = each_of P xs (λ x a. at x (contains_from_among xs x a))
     at : (x : _) → Contains xs x → P x
     at x c = subst P c.2 (h c.0 x c.1)
 
+-- a sorted list of points without doubles holds each point once
 pub points_ordered : (xs ys zs : List Point) → All IsPoint xs → IsPermutation xs ys → IsSorted point_order ys → zs ≡ dedup (eq_by_cmp point_order) ys → PutsPointsInOrder xs zs
 points_ordered xs ys zs vs moved up left = go (ordered point_order (eq_by_cmp point_order) IsPoint compare same_point points_agree xs ys zs (each_from_all IsPoint xs vs) moved up left)
   where
@@ -96,6 +101,7 @@ same_pair c d = eq_by_cmp point_order c.0 d.0 && eq_by_cmp point_order c.1 d.1
 abbrev pub PairOfPoints : Point × Point → Type 0
 PairOfPoints c = HasPointEnds (piece_of c)
 
+-- the same of pieces, ordered by their lesser and then by their greater ends
 pairs_agree : Agrees pair_order same_pair PairOfPoints (λ c d. compare_pieces (piece_of c) (piece_of d)) (λ c d. same_piece (piece_of c) (piece_of d))
 pairs_agree = record {
   total = then_total (on_total (λ c. c.0) point_order_total) (on_total (λ c. c.1) point_order_total);
@@ -125,6 +131,7 @@ map_sorted : {X Y : Type 0} (f : X → Y) (order : Y → Y → Ordering) (xs : L
 map_sorted f order [] h = tt
 map_sorted f order (x ∷ xs) h = (map_each f (λ y. order (f x) y ≡ Less) xs h.0, map_sorted f order xs h.1)
 
+-- a sorted list of pieces without doubles holds each piece once
 pub pairs_ordered : (xs ys zs : List (Point × Point)) → All HasPointEnds (map piece_of xs) → IsPermutation xs ys → IsSorted pair_order ys → zs ≡ dedup same_pair ys → PutsPiecesInOrder (map piece_of xs) (map piece_of zs)
 pairs_ordered xs ys zs vs moved up left = go (ordered pair_order same_pair PairOfPoints (λ c d. compare_pieces (piece_of c) (piece_of d)) (λ c d. same_piece (piece_of c) (piece_of d)) pairs_agree xs ys zs
     (each_of_map piece_of HasPointEnds xs (each_from_all HasPointEnds (map piece_of xs) vs)) moved up left)

@@ -42,6 +42,7 @@ record Reached (a b n w : ℤ) : Type 0 where
 cases_of : (s t n : ℤ) → (int_le s n && int_le n t) || (int_le t n && int_le n s) ≡ true → ((s ≤ℤ n) × (n ≤ℤ t)) ⊎ ((t ≤ℤ n) × (n ≤ℤ s))
 cases_of s t n e = grind (arith, ints)
 
+-- a number between two others is so from the lesser to the greater
 reached : (a b n w : ℤ) → between a b n w ≡ true → Reached a b n w
 reached a b n w e = go (cases_of (a *ℤ w) (b *ℤ w) n e)
   where
@@ -49,6 +50,7 @@ reached a b n w e = go (cases_of (a *ℤ w) (b *ℤ w) n e)
     go (inl h) = record { low = a; high = b; low_within = lesser_first a b; high_within = greater_second a b; from_low = h.0; to_high = h.1 }
     go (inr h) = record { low = b; high = a; low_within = lesser_second a b; high_within = greater_first a b; from_low = h.0; to_high = h.1 }
 
+-- a range that begins before a common number, and one that ends after it, overlap on that side
 in_time : (s l h t n w : ℤ) → pos 0 <ℤ w → s ≤ℤ l → (l *ℤ w) ≤ℤ n → n ≤ℤ (h *ℤ w) → h ≤ℤ t → int_le s t ≡ true
 in_time s l h t n w hw a b c d = at_most_yes s t (joined s l h t a d (ordered l h w hw (chain (l *ℤ w) n (h *ℤ w) b c)))
   where
@@ -58,6 +60,7 @@ in_time s l h t n w hw a b c d = at_most_yes s t (joined s l h t a d (ordered l 
     joined : (x y z u : ℤ) → x ≤ℤ y → z ≤ℤ u → pos 0 ≤ℤ (z -ℤ y) → x ≤ℤ u
     joined x y z u p q r = omega (arith, ints)
 
+-- two ranges with a number in common overlap
 pub overlap_from : (a b c d n w : ℤ) → pos 0 <ℤ w → between a b n w ≡ true → between c d n w ≡ true → overlap a b c d ≡ true
 overlap_from a b c d n w hw e f = go (reached a b n w e) (reached c d n w f)
   where
@@ -70,18 +73,21 @@ pub false_from : (b : Bool) → (b ≡ true → ⊥) → b ≡ false
 false_from true h = absurd (h refl)
 false_from false h = refl
 
+-- edges without overlapping ranges of x have no common point, since it would have its x in both
 pub x_apart : (e f : Edge) → x_ranges_overlap e f ≡ false → (p : Point) → IsPoint p → on_both e f p ≡ false
 x_apart e f apart p hp = false_from (on_both e f p) (λ k.
     let both : (on e p ≡ true) × (on f p ≡ true) = and_parts (on e p) (on f p) k in
     let clash : false ≡ true = sym apart ∙ overlap_from e.start.x e.end.x f.start.x f.end.x p.X p.W hp (on_parts e p both.0).in_x (on_parts f p both.1).in_x in
     cc)
 
+-- the same of y
 pub y_apart : (e f : Edge) → y_ranges_overlap e f ≡ false → (p : Point) → IsPoint p → on_both e f p ≡ false
 y_apart e f apart p hp = false_from (on_both e f p) (λ k.
     let both : (on e p ≡ true) × (on f p ≡ true) = and_parts (on e p) (on f p) k in
     let clash : false ≡ true = sym apart ∙ overlap_from e.start.y e.end.y f.start.y f.end.y p.Y p.W hp (on_parts e p both.0).in_y (on_parts f p both.1).in_y in
     cc)
 
+-- edges without a common point have no common cut
 pub no_common_cut : (e f : Edge) → ((p : Point) → IsPoint p → on_both e f p ≡ false) → (p : Point) → IsPoint p → is_common_cut e f p ≡ true → ⊥
 no_common_cut e f apart p hp k =
     let clash : false ≡ true = sym (apart p hp) ∙ (and_parts (on_both e f p) (is_end e p || is_end f p || not (on_one_line e f)) k).0 in
@@ -107,6 +113,7 @@ later_apart es e f n up hf past k d nk l = and_no (int_le (least_x e) (greatest_
     (at_most_no (least_x (get_or es k d)) (greatest_x e) (less_chain (greatest_x e) (least_x f) (least_x (get_or es k d)) past
     (subst (λ (g : Edge). least_x g ≤ℤ least_x (get_or es k d)) (sym (same_at es n f d (omega (arith, nk, l)) hf)) (up n k d nk l))))
 
+-- so the later edges have no cut in common with this one, and the sweep may stop
 pub none_common : (es : List Edge) (i n : ℕ) (e f : Edge) → i < length es → e ≡ get_or es i e → Ascends es → f ≡ get_or es n f → greatest_x e <ℤ least_x f
     → (b : ℕ) (d : Edge) → n ≤ b → b < length es → (p : Point) → IsPoint p → is_common_cut (get_or es i d) (get_or es b d) p ≡ true → ⊥
 none_common es i n e f l he up hf past b d nb lb p hp k =

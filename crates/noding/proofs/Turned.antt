@@ -17,6 +17,7 @@ use Rattle.noding.specs.declared.answers.Meet.TheVariants.{Apart, At, Along}
 use Rattle.noding.proofs.Bounds.{sides_within}
 use Rattle.noding.proofs.Crossing.{edge}
 
+-- an edge taken from its end to its start holds the same points
 on_turned : (c d : Position) (p : Point) → IsPoint p → on (edge d c) p ≡ true → on (edge c d) p ≡ true
 on_turned c d p hp k =
     let h : OnHull (edge d c) p = hull_from_on (edge d c) p hp k in
@@ -35,9 +36,11 @@ on_turned c d p hp k =
     exchanged : (x y z : ℤ) → z ≡ x +ℤ y → z ≡ y +ℤ x
     exchanged x y z e = omega (arith, ints)
 
+-- so both edges hold the same points whichever way the second is taken
 same_turned : (e : Edge) (c d : Position) (p : Point) → IsPoint p → on_both e (edge c d) p ≡ on_both e (edge d c) p
 same_turned e c d p hp = ap (λ (t : Bool). on e p && t) (both_ways (on (edge c d) p) (on (edge d c) p) (λ k. on_turned d c p hp k) (λ k. on_turned c d p hp k))
 
+-- and their meeting is the same
 pub meeting_turned : (e : Edge) (c d : Position) (m : Meet) → IsMeeting e (edge d c) m → IsMeeting e (edge c d) m
 meeting_turned e c d Apart h = λ p hp. same_turned e c d p hp ∙ h p hp
 meeting_turned e c d (At q) h = λ p hp. same_turned e c d p hp ∙ h p hp
@@ -58,6 +61,7 @@ apart_parallel e f same off p hp = is_false (on_both e f p) (λ k. clash (and_pa
     clash k = (shares_point e f p hp (is_false (on_one_line e f) (λ l. off (one_line e f l).start)) k.0 k.1).w_is_not (no_difference (side e.start e.end (point_at f.start)) (side e.start e.end (point_at f.end)) same)
 
 -- ---- the sides of both ends, as numbers
+-- the sides of two positions, computed as numbers, differ by no more than the limit
 pub numbers_within : (a b c d : Position) (s t : ℤ) → s ≡ side a b (point_at c) → t ≡ side a b (point_at d) → IsOnGrid a → IsOnGrid b → IsOnGrid c → IsOnGrid d → (t -ℤ s) ≤ℤ pos meeting_limit
 numbers_within a b c d s t e f ha hb hc hd = at_most (t -ℤ s) (side a b (point_at d) -ℤ side a b (point_at c)) (ap₂ (λ (x y : ℤ). x -ℤ y) f e) (sides_within a b c d ha hb hc hd)
   where

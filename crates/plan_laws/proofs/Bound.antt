@@ -31,14 +31,17 @@ none_of : {X : Type 0} (o : Option X) → is_none o ≡ true → o ≡ None
 none_of None e = refl
 none_of (Some x) e = cc
 
+-- an argument that fits is a column or a literal without fault
 argument_valid : (definitions : List (TableDef ColumnShape)) (references : List Reference) (a : Argument) → argument_fits definitions references a ≡ true → All IsValid (literals_of_argument a)
 argument_valid definitions references (arguments.Column place) e = All-nil IsValid
 argument_valid definitions references (arguments.Literal g) e = All-cons IsValid g [] ((none_is_found_where_valid g).0 (none_of (validity_fault g) e)) (All-nil IsValid)
 
+-- a function has a type only where its argument fits
 fit_if : (b : Bool) (t : OperandType) → is_some (type_if b t) ≡ true → b ≡ true
 fit_if true t e = refl
 fit_if false t e = cc
 
+-- an operand that has a type has valid literals: a function's are its argument's, others have none
 operand_valid : (definitions : List (TableDef ColumnShape)) (references : List Reference) (a : Operand Argument) → is_some (operand_type geometry_fits definitions references a) ≡ true → All IsValid (literals_of_operand a)
 operand_valid definitions references (operands.Column place) e = All-nil IsValid
 operand_valid definitions references (operands.Integer n) e = All-nil IsValid
@@ -47,6 +50,7 @@ operand_valid definitions references operands.Null e = All-nil IsValid
 operand_valid definitions references (operands.AsText a) e = argument_valid definitions references a (fit_if (argument_fits definitions references a) _ e)
 operand_valid definitions references (operands.Dimension a) e = argument_valid definitions references a (fit_if (argument_fits definitions references a) _ e)
 
+-- operands that can be compared both have a type
 first_typed : (a b : Option OperandType) → can_compare a b ≡ true → is_some a ≡ true
 first_typed None b e = cc
 first_typed (Some x) b e = refl
@@ -60,6 +64,7 @@ second_typed (Some x) (Some y) e = refl
 abbrev FitsValid : List (TableDef ColumnShape) → List Reference → Cond Argument → Type 0
 FitsValid definitions references c = cond_fits geometry_fits definitions references c ≡ true → All IsValid (literals c)
 
+-- the literals of some conditions are valid where each condition fits
 parts_valid : (definitions : List (TableDef ColumnShape)) (references : List Reference) (parts : List (Cond Argument)) → Each (FitsValid definitions references) parts
     → list_all (λ part. part) (map (cond_fits geometry_fits definitions references) parts) ≡ true → All IsValid (flat_map (λ part. part) (map literals parts))
 parts_valid definitions references [] each e = All-nil IsValid
@@ -67,6 +72,7 @@ parts_valid definitions references (c ∷ parts) each e =
     let f = and_parts (cond_fits geometry_fits definitions references c) (list_all (λ part. part) (map (cond_fits geometry_fits definitions references) parts)) e in
     All-append IsValid (literals c) (flat_map (λ part. part) (map literals parts)) (each.0 f.0) (parts_valid definitions references parts each.1 f.1)
 
+-- so it is with each kind of condition, whose literals are those of its parts or arguments
 fitting : (definitions : List (TableDef ColumnShape)) (references : List Reference) → Cases Argument (FitsValid definitions references)
 fitting definitions references = record {
   or = λ parts each e. subst (λ l. All IsValid l) (sym (fold-Or Argument (List Geometry) literals_by_parts parts))

@@ -35,10 +35,12 @@ given matrix conjuncts tables a outer reference m d choice t =
 
 -- ---- choices
 
+-- the product of one table is its places, each alone
 product_of_one : {X : Type 0} (xs : List X) → product (xs ∷ []) ≡ map (λ x. x ∷ []) xs
 product_of_one [] = refl
 product_of_one (x ∷ xs) = ap (λ ys. (x ∷ []) ∷ ys) (product_of_one xs)
 
+-- one place, chosen with each place of a second table
 with_each : {X : Type 0} (x : X) (ys : List X) → map (λ choice. x ∷ choice) (product (ys ∷ [])) ≡ map (λ y. x ∷ y ∷ []) ys
 with_each x ys = ap (map (λ choice. x ∷ choice)) (product_of_one ys) ∙ go ys
   where
@@ -50,9 +52,11 @@ with_each x ys = ap (map (λ choice. x ∷ choice)) (product_of_one ys) ∙ go y
 pub choices_of_two : (first second : Table Geometry) → choices (first ∷ second ∷ []) ≡ flat_map (λ i. map (λ j. i ∷ j ∷ []) (places_in second)) (places_in first)
 choices_of_two first second = ap (λ f. flat_map f (places_in first)) (fun_ext (λ i. with_each i (places_in second)))
 
+-- the choices in one table: each of its places, alone
 pub choices_of_one : (table : Table Geometry) → choices (table ∷ []) ≡ map (λ i. i ∷ []) (places_in table)
 choices_of_one table = product_of_one (places_in table)
 
+-- what is kept of the choices in two tables, by the place in the first
 kept_of_two : (matrix : Geometry → Geometry → Matrix) (conjuncts : List Condition) (first second : Table Geometry)
     → filter (kept matrix conjuncts (first ∷ second ∷ [])) (choices (first ∷ second ∷ []))
     ≡ flat_map (λ i. filter (kept matrix conjuncts (first ∷ second ∷ [])) (map (λ j. i ∷ j ∷ []) (places_in second))) (places_in first)
@@ -62,6 +66,7 @@ kept_of_two matrix conjuncts first second =
 
 -- ---- candidates
 
+-- one access: the rows that its method leaves out aren't kept anyway
 pub kept_by_one : (matrix : Geometry → Geometry → Matrix) (conjuncts : List Condition) (table : Table Geometry) → Asked matrix conjuncts (table ∷ [])
     → (m : AccessMethod) → IsDriven conjuncts None 0 m
     → filter (kept matrix conjuncts (table ∷ [])) (candidates_among denoted conjuncts (table ∷ []) (access 0 m ∷ [])) ≡ filter (kept matrix conjuncts (table ∷ [])) (choices (table ∷ []))
@@ -76,6 +81,7 @@ outer_first matrix conjuncts first second a m d i j t =
     outer_gives conjuncts 0 m d (placed 0 (row_at first i) []) (rows_at (first ∷ second ∷ []) (i ∷ j ∷ [])) refl
     ∙ given matrix conjuncts (first ∷ second ∷ []) a None 0 m d (i ∷ j ∷ []) t
 
+-- the same where the outer access is of the second reference
 outer_second : (matrix : Geometry → Geometry → Matrix) (conjuncts : List Condition) (first second : Table Geometry) → Asked matrix conjuncts (first ∷ second ∷ [])
     → (m : AccessMethod) → IsDriven conjuncts None 1 m → (j i : ℕ) → kept matrix conjuncts (first ∷ second ∷ []) (i ∷ j ∷ []) ≡ true → gives denoted conjuncts m (placed 1 (row_at second j) []) ≡ true
 outer_second matrix conjuncts first second a m d j i t =

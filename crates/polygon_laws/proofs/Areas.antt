@@ -21,6 +21,7 @@ use Rattle.polygon_laws.proofs.Through.{one_parity}
 use Rattle.polygon_laws.proofs.Holes.{Lawful, lawful, Apart, OddHole, one_more, disjoint_from, not_true, no_way, cut, in_some_hole}
 
 -- ---- the rings of an area
+-- no two rings of a valid polygon share a point: not the outer one with a hole, and not two holes
 polygon_apart : (rs : List (List Position)) → IsValid (Polygon rs) → Pairs Disjoint rs
 polygon_apart [] v = tt
 polygon_apart (outer ∷ holes) v = go (lawful outer holes v)
@@ -32,21 +33,26 @@ polygon_apart (outer ∷ holes) v = go (lawful outer holes v)
 abbrev Separate : List (List Position) → List (List Position) → Type 0
 Separate d e = Each (λ r. Each (Disjoint r) e) d
 
+-- elements for which validity finds no shared point have no two rings with a common point
 separate_from : (d e : List (List Position)) → (ElementsShare d e → ⊥) → Separate d e
 separate_from d e f = each_of (λ r. Each (Disjoint r) e) d (λ r a. each_of (Disjoint r) e (λ s b. disjoint_from r s (λ h. f (record { r = r; s = s; first = contains_of_among r d a; second = contains_of_among s e b; share = h }))))
 
+-- which goes both ways
 separate_turned : (d e : List (List Position)) → Separate d e → Separate e d
 separate_turned d e h = each_of (λ r. Each (Disjoint r) d) e (λ r a. each_of (Disjoint r) d (λ s b. disjoint_turned s r (each_at (Disjoint s) e r (each_at (λ q. Each (Disjoint q) e) d s h b) a)))
 
+-- rings that are separate from each element are separate from all the elements' rings, joined
 spread : (d : List (List Position)) (es : List (List (List Position))) → Each (Separate d) es → Each (λ r. Each (Disjoint r) (joined_rings es)) d
 spread d [] h = each_of (λ r. Each (Disjoint r) []) d (λ r a. tt)
 spread d (e ∷ es) h = each_of (λ r. Each (Disjoint r) (e ++ joined_rings es)) d (λ r a. each_append (Disjoint r) e (joined_rings es)
     (each_at (λ q. Each (Disjoint q) e) d r h.0 a) (each_at (λ q. Each (Disjoint q) (joined_rings es)) d r (spread d es h.1) a))
 
+-- two rings of an area are of one element, which is valid, or of two, which are separate
 joined_apart : (es : List (List (List Position))) → Each (Pairs Disjoint) es → Pairs Separate es → Pairs Disjoint (joined_rings es)
 joined_apart [] h k = tt
 joined_apart (d ∷ es) h k = pairs_append Disjoint d (joined_rings es) h.0 (joined_apart es h.1 k.1) (spread d es k.0)
 
+-- elements that share a point are a fault, so those of a valid MULTIPOLYGON are separate
 elements_apart : (es : List (List (List Position))) → IsValid (MultiPolygon es) → Pairs Separate es
 elements_apart es v = pairs_by Separate es (λ i j d e l g h. separate_from d e (λ s. v (ElementsMeet i j) (d, e, l, g, h, s)))
 
@@ -73,6 +79,7 @@ turned d e t = record { first = t.second; second = t.first; apart = separate_tur
 less_or_more : (i j : ℕ) → (i ≡ j → ⊥) → (i < j) ⊎ (j < i)
 less_or_more i j n = grind arith
 
+-- what validity says of elements at two different places: two valid polygons, separate, neither inside the other
 two_of : (es : List (List (List Position))) → IsValid (MultiPolygon es) → (i j : ℕ) (d e : List (List Position)) → (i ≡ j → ⊥) → slice_get es i ≡ Some d → slice_get es j ≡ Some e → Two d e
 two_of es v i j d e n g h = record {
   first = element_is_valid (MultiPolygon es) v d (among_at es i d g);
@@ -86,6 +93,7 @@ two_of es v i j d e n g h = record {
     go (inl l) = separate_from d e (λ s. v (ElementsMeet i j) (d, e, l, g, h, s))
     go (inr l) = separate_turned e d (separate_from e d (λ s. v (ElementsMeet j i) (e, d, l, h, g, s)))
 
+-- a ring of the one and a ring of the other share no point
 between : (d e : List (List Position)) → Separate d e → (r s : List Position) → Among r d → Among s e → Disjoint r s
 between d e h r s a b = each_at (Disjoint r) e s (each_at (λ q. Each (Disjoint q) e) d r h a) b
 
@@ -98,9 +106,11 @@ in_hole o hs b v l c d f e p hp k = go (in_some_hole o hs l (point_at b) (positi
     go r = (r.hole, r.among, r.odd, carried_in r.hole (b ∷ v) (each_at IsClosed hs r.hole l.holes_closed r.among) c (each_at (λ q. Disjoint q (b ∷ v)) hs r.hole d.1 r.among) r.odd p hp k)
 
 -- ---- no point is odd over two elements
+-- a point that is even over all holes isn't odd over one
 even_hole : (hs : List (List Position)) (p : Point) (h : List Position) → Each (λ q. odd_in q p ≡ false) hs → Among h hs → odd_in h p ≡ true → ⊥
 even_hole hs p h n a k = no_way (odd_in h p) k (each_at (λ q. odd_in q p ≡ false) hs h n a)
 
+-- no ring of the first shares a point with the second's outer ring
 outer_apart : (o : List Position) (hs : List (List Position)) (q : List Position) (ks : List (List Position)) → Separate (o ∷ hs) (q ∷ ks) → Each (λ r. Disjoint r q) (o ∷ hs)
 outer_apart o hs q ks h = each_map (λ r. Each (Disjoint r) (q ∷ ks)) (λ r. Disjoint r q) (o ∷ hs) (λ r k. k.0) h
 
@@ -112,6 +122,8 @@ swallowed o hs b v ks t e p hp k n = go (in_hole o hs b v (lawful o hs t.first) 
     go : (h : List Position) × Among h hs × (odd_in h (point_at b) ≡ true) × (odd_in h p ≡ true) → ⊥
     go r = even_hole hs p r.0 n r.1 r.3
 
+-- a point odd over both is inside both outer rings, so the one is inside the other; there the inner element
+-- lies in a hole of the outer one, and over that hole the point would be odd
 never_both : (d e : List (List Position)) → Two d e → (p : Point) → IsPoint p → odd_above d p ≡ true → odd_above e p ≡ true → ⊥
 never_both [] e t p hp g h = no_way (odd_above [] p) g refl
 never_both (o ∷ hs) [] t p hp g h = no_way (odd_above [] p) h refl
@@ -129,6 +141,7 @@ never_both (o ∷ hs) (q ∷ ks) t p hp g h = outers o q t (cut o hs (lawful o h
     outers (a ∷ u) (b ∷ v) t m n = by_order a u b v t m n (odd_in (a ∷ u) (point_at b)) refl (odd_in (b ∷ v) (point_at a)) refl
 
 -- ---- a point on a ring of the one is even over the other
+-- points with one parity over each ring have one over all of them
 same_over : (rs : List (List Position)) (p z : Point) → Each (λ r. odd_in r p ≡ odd_in r z) rs → odd_above rs p ≡ odd_above rs z
 same_over [] p z h = refl
 same_over (r ∷ rs) p z h = one_more r rs p ∙ ap₂ xor h.0 (same_over rs p z h.1) ∙ sym (one_more r rs z)
@@ -141,6 +154,7 @@ first_alike rs b v c d f m p hp h = each_of (λ r. odd_in r p ≡ odd_in r (poin
 closed_rings : (o : List Position) (hs : List (List Position)) → Lawful o hs → Each IsClosed (o ∷ hs)
 closed_rings o hs l = (l.outer_closed, l.holes_closed)
 
+-- a point on the second's outer ring has over the first the parity of that ring's first position, which isn't inside the first
 on_outer : (d : List (List Position)) (q : List Position) (ks : List (List Position)) → Two d (q ∷ ks) → (f : Edge) → Among f (edges_of_line q) → (p : Point) → IsPoint p → on f p ≡ true → odd_above d p ≡ true → ⊥
 on_outer d [] ks t f m p hp h g = m
 on_outer [] (b ∷ v) ks t f m p hp h g = no_way (odd_above [] p) g refl
@@ -161,6 +175,8 @@ hole_of_hole q ks l a u c w ca d k f m p hp on_f g h b e n = go (one_before Apar
     go (inr (inl z)) = apart z.disjoint z.not_over
     go (inr (inr z)) = apart (disjoint_turned (c ∷ w) h z.disjoint) z.not_in
 
+-- a point on a hole of the second that were odd over the first would be inside both outer rings; so the one lies in a hole
+-- of the other's element, and over that hole the point can't be odd
 on_hole : (d : List (List Position)) (q : List Position) (ks : List (List Position)) → Two d (q ∷ ks) → (k : List Position) → Among k ks → (f : Edge) → Among f (edges_of_line k) → (p : Point) → IsPoint p → on f p ≡ true → odd_above d p ≡ true → ⊥
 on_hole d q ks t [] a f m p hp h g = m
 on_hole [] q ks t (c ∷ w) a f m p hp h g = no_way (odd_above [] p) g refl
@@ -184,6 +200,7 @@ on_hole (o ∷ hs) q ks t (c ∷ w) k f m p hp h g = outers o q t (cut o hs (law
     outers (a ∷ u) [] t n l = no_way (odd_in [] p) (over_outer [] l) (empty_even p)
     outers (a ∷ u) (b ∷ v) t n l = by_order a u b v t n l (odd_in (a ∷ u) (point_at b)) refl (odd_in (b ∷ v) (point_at a)) refl
 
+-- so on every ring of the second the point is even over the first
 ring_even : (d e : List (List Position)) → Two d e → (r : List Position) → Among r e → (f : Edge) → Among f (edges_of_line r) → (p : Point) → IsPoint p → on f p ≡ true → odd_above d p ≡ true → ⊥
 ring_even d [] t r a f m p hp h g = a
 ring_even d (q ∷ ks) t r (inl z) f m p hp h g = on_outer d q ks t f (subst (λ s. Among f (edges_of_line s)) z m) p hp h g
@@ -195,6 +212,7 @@ pub record RingOf (f : Edge) (rs : List (List Position)) : Type 0 where
   pub among : Among ring rs
   pub holds : Among f (edges_of_line ring)
 
+-- an edge of several rings is an edge of one of them
 pub ring_of : (f : Edge) (rs : List (List Position)) → Among f (edges_of_lines rs) → RingOf f rs
 ring_of f [] a = absurd a
 ring_of f (r ∷ rs) a = go (among_either f (edges_of_line r) (edges_of_lines rs) a) (λ m. ring_of f rs m)
@@ -203,12 +221,14 @@ ring_of f (r ∷ rs) a = go (among_either f (edges_of_line r) (edges_of_lines rs
     go (inl m) rest = record { ring = r; among = inl refl; holds = m }
     go (inr m) rest = let z : RingOf f rs = rest m in record { ring = z.ring; among = inr z.among; holds = z.holds }
 
+-- a point on the boundary of the second is even over the first
 edge_even : (d e : List (List Position)) → Two d e → (p : Point) → IsPoint p → on_some e p ≡ true → odd_above d p ≡ true → ⊥
 edge_even d e t p hp h g = go (some_passed (λ f. on f p) (edges_of_lines e) h)
   where
     go : Passing (λ f. on f p) (edges_of_lines e) → ⊥
     go z = let r : RingOf z.found e = ring_of z.found e z.among in ring_even d e t r.ring r.among z.found r.holds p hp z.passes g
 
+-- and isn't on the first's boundary, since their rings share no point
 both_edges : (d e : List (List Position)) → Two d e → (p : Point) → IsPoint p → on_some d p ≡ true → on_some e p ≡ true → ⊥
 both_edges d e t p hp h g = go (some_passed (λ f. on f p) (edges_of_lines d) h) (some_passed (λ f. on f p) (edges_of_lines e) g)
   where
@@ -227,6 +247,7 @@ any_append f (x ∷ xs) ys = ap (λ (b : Bool). f x || b) (any_append f xs ys) �
     grouped true b c = refl
     grouped false b c = refl
 
+-- a point is on some of joined rings where it is on some of the one or of the other list
 on_rings : (rs qs : List (List Position)) (p : Point) → on_some (rs ++ qs) p ≡ (on_some rs p || on_some qs p)
 on_rings [] qs p = refl
 on_rings (r ∷ rs) qs p = any_append (λ e. on e p) (edges_of_line r) (edges_of_lines (rs ++ qs)) ∙ ap (λ (b : Bool). list_any (λ e. on e p) (edges_of_line r) || b) (on_rings rs qs p)
@@ -236,18 +257,22 @@ on_rings (r ∷ rs) qs p = any_append (λ e. on e p) (edges_of_line r) (edges_of
     grouped true b c = refl
     grouped false b c = refl
 
+-- a point is on a ring of the area exactly where it is on a ring of one of its elements
 on_joined : (es : List (List (List Position))) (p : Point) → on_some (joined_rings es) p ≡ list_any (λ d. on_some d p) es
 on_joined [] p = refl
 on_joined (d ∷ es) p = on_rings d (joined_rings es) p ∙ ap (λ (b : Bool). on_some d p || b) (on_joined es p)
 
+-- and odd over them where it is odd over just one of the two lists
 odd_rings : (rs qs : List (List Position)) (p : Point) → odd_above (rs ++ qs) p ≡ xor (odd_above rs p) (odd_above qs p)
 odd_rings [] qs p = refl
 odd_rings (r ∷ rs) qs p = one_more r (rs ++ qs) p ∙ ap (xor (odd_in r p)) (odd_rings rs qs p) ∙ sym (xor_assoc (odd_in r p) (odd_above rs p) (odd_above qs p)) ∙ ap (λ (b : Bool). xor b (odd_above qs p)) (sym (one_more r rs p))
 
+-- the parity over all rings is that of the number of elements over which the point is odd
 odd_joined : (es : List (List (List Position))) (p : Point) → odd_above (joined_rings es) p ≡ parity (λ d. odd_above d p) es
 odd_joined [] p = refl
 odd_joined (d ∷ es) p = odd_rings d (joined_rings es) p ∙ ap (xor (odd_above d p)) (odd_joined es p)
 
+-- where an odd number passes, one passes
 odd_some : {X : Type 0} (f : X → Bool) (xs : List X) → parity f xs ≡ true → Passing f xs
 odd_some f [] h = absurd (let z : false ≡ true = h in cc)
 odd_some f (x ∷ xs) h = go (f x) refl h (λ k. odd_some f xs k)
@@ -257,6 +282,7 @@ odd_some f (x ∷ xs) h = go (f x) refl h (λ k. odd_some f xs k)
     go false e k rest = let r : Passing f xs = rest k in record { found = r.found; among = inr r.among; passes = r.passes }
 
 -- ---- interior, boundary and exterior by the two tests
+-- what a location says of the two tests: whether the point is on a ring, and whether it is odd over the rings
 interior_parts : (s t : Bool) → (if s then Boundary else if t then Interior else Exterior) ≡ Interior → (s ≡ false) × (t ≡ true)
 interior_parts true t e = absurd cc
 interior_parts false true e = (refl, refl)
@@ -274,6 +300,7 @@ on_boundary : (s t : Bool) → s ≡ true → (if s then Boundary else if t then
 on_boundary s t e = ap (λ (s : Bool). if s then Boundary else if t then Interior else Exterior) e
 
 -- ---- the boundary is that of the elements
+-- a point on the boundary is on some ring, and the rings of the area are those of its elements
 pub boundary_is_of_elements : (es : List (List (List Position))) (p : Point) → (locate (MultiPolygon es) p ≡ Boundary) ↔ ((d : List (List Position)) × Contains es d × (locate (Polygon d) p ≡ Boundary))
 boundary_is_of_elements es p = (λ e. forth (some_passed (λ d. on_some d p) es (sym (on_joined es p) ∙ boundary_part (on_some (joined_rings es) p) (odd_above (joined_rings es) p) e)), λ r. back r)
   where
@@ -284,6 +311,7 @@ boundary_is_of_elements es p = (λ e. forth (some_passed (λ d. on_some d p) es 
     back (d, c, e) = on_boundary (on_some (joined_rings es) p) (odd_above (joined_rings es) p) (on_joined es p ∙ one_passes (λ q. on_some q p) es d (among_from_contains es d c) (boundary_part (on_some d p) (odd_above d p) e))
 
 -- ---- no point is in two elements
+-- what isn't exterior to an element is on a ring or odd over it; for two elements each of the four combinations is excluded
 pub never_in_two : (es : List (List (List Position))) → IsValid (MultiPolygon es) → (i j : ℕ) (d e : List (List Position)) → (i ≡ j → ⊥) → slice_get es i ≡ Some d → slice_get es j ≡ Some e
     → (p : Point) → IsPoint p → locate (Polygon d) p ≢ Exterior → locate (Polygon e) p ≡ Exterior
 never_in_two es v i j d e n g h p hp out = go (two_of es v i j d e n g h) (on_some d p) refl (odd_above d p) refl (on_some e p) refl (odd_above e p) refl
@@ -305,6 +333,8 @@ exterior_parts true t e = absurd cc
 exterior_parts false true e = absurd cc
 exterior_parts false false e = (refl, refl)
 
+-- an interior point is odd over an odd number of elements, so over one; a point of one element's interior
+-- is exterior to all others, so it is odd over just one
 pub interior_is_of_an_element : (es : List (List (List Position))) → IsValid (MultiPolygon es) → (p : Point) → IsPoint p → (locate (MultiPolygon es) p ≡ Interior) ↔ ((d : List (List Position)) × Contains es d × (locate (Polygon d) p ≡ Interior))
 interior_is_of_an_element es v p hp = (λ e. forth (interior_parts (on_some (joined_rings es) p) (odd_above (joined_rings es) p) e), λ r. back r)
   where

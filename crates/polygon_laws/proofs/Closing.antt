@@ -11,6 +11,7 @@ use Rattle.integers.proofs.Signs.{is_or_not}
 use Rattle.geometry_laws.specs.RingLaws.{IsClosed}
 use Rattle.geometry_laws.specs.PieceLaws.{HasClosedRings}
 
+-- positions that can't differ are one: of each coordinate it is decided whether the two are equal
 same_position : (p q : Position) → (p ≢ q → ⊥) → p ≡ q
 same_position p q f = go (is_or_not (p.x -ℤ q.x)) (is_or_not (p.y -ℤ q.y))
   where
@@ -25,6 +26,7 @@ same_position p q f = go (is_or_not (p.x -ℤ q.x)) (is_or_not (p.y -ℤ q.y))
     go (inr n) g = absurd (f (λ e. n (nothing p.x q.x (ap (λ (a : Position). a.x) e))))
     go (inl e) (inr n) = absurd (f (λ e. n (nothing p.y q.y (ap (λ (a : Position). a.y) e))))
 
+-- a ring without the fault of an open ring is closed: its last position is its first one
 pub closed : (ring : List Position) → (IsNotClosed ring → ⊥) → IsClosed ring
 closed [] f = tt
 closed (a ∷ rest) f = same_position (last_after a rest) a f

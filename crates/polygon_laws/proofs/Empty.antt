@@ -13,12 +13,15 @@ use Rattle.geometry_laws.specs.PieceLaws.{HasClosedRings}
 use Rattle.geometry_laws.proofs.Lines.{weighted_is_point, weighted_three_is_point}
 use Rattle.polygon_laws.proofs.Outside.{common_point_meets}
 
+-- a set that holds a segment holds a point: the one at equal weights of the segment's ends
 point_of_segment : (S : Point → Type 0) → HasSegment S → HasPoint S
 point_of_segment S h = record { p = weighted 1 h.p 1 h.q; is_point = weighted_is_point 1 h.p 1 h.q h.p_is_point h.q_is_point (omega arith); within = h.within 1 1 (omega arith) }
 
+-- a set that holds a triangle holds the point at equal weights of its corners
 point_of_triangle : (S : Point → Type 0) → HasTriangle S → HasPoint S
 point_of_triangle S h = record { p = weighted_three 1 h.p 1 h.q 1 h.r; is_point = weighted_three_is_point 1 h.p 1 h.q 1 h.r h.p_is_point h.q_is_point h.r_is_point (omega arith); within = h.within 1 1 1 (omega arith) }
 
+-- a set without a point has the dimension Empty, since every other dimension shows a point
 empty_dimension : (S : Point → Type 0) (d : Dimension) → HasDimension S d → (HasPoint S → ⊥) → d ≡ Empty
 empty_dimension S Two h f = absurd (f (point_of_triangle S h))
 empty_dimension S One h f = absurd (f (point_of_segment S h.0))

@@ -20,6 +20,7 @@ use Rattle.polygon_laws.proofs.Nested.{odd_in, Disjoint, on_ring, parity_in, car
 use Rattle.polygon_laws.proofs.Closing.{closed}
 
 -- ---- what validity says
+-- rings for which validity finds no shared point have no point on edges of both: it would be found at the edges' places
 pub disjoint_from : (r s : List Position) → (RingsShare r s → ⊥) → Disjoint r s
 disjoint_from r s f z hz e g a b h k = f (record {
   i = (place_of e (edges_of_line r) a).index;
@@ -61,6 +62,7 @@ stands rs = (0, omega arith, refl)
 numbered_as : (k : ℕ) → k ≡ 0 + k
 numbered_as k = omega arith
 
+-- each of these facts is the absence of a fault: an open ring, two rings that meet, a hole outside, a hole in a hole
 pub lawful : (outer : List Position) (holes : List (List Position)) → IsValid (Polygon (outer ∷ holes)) → Lawful outer holes
 lawful outer holes v = record {
   outer_closed = closed outer (λ n. v (RingNotClosed 0) (outer, refl, n));
@@ -78,10 +80,12 @@ lawful outer holes v = record {
 pub no_way : (t : Bool) → t ≡ true → t ≡ false → ⊥
 no_way t e f = let z : true ≡ false = sym e ∙ f in absurd (cc)
 
+-- the points of a ring have, over a closed ring that shares none with it, the parity of its first position, which is inside
 ring_inside : (outer h : List Position) → IsClosed outer → Disjoint outer h → inside outer h ≡ true → (p : Point) → IsPoint p → (e : Edge) → Among e (edges_of_line h) → on e p ≡ true → odd_in outer p ≡ true
 ring_inside outer [] c d f p hp e m k = absurd m
 ring_inside outer (a ∷ rest) c d f p hp e m k = on_ring outer a rest c d e m p hp k ∙ f
 
+-- so every point of a hole's ring is odd over the outer ring
 pub hole_ring_is_inside : (outer : List Position) (holes : List (List Position)) → IsValid (Polygon (outer ∷ holes)) → (h : List Position) → Among h holes → (p : Point) → IsPoint p → (e : Edge) → Among e (edges_of_line h) → on e p ≡ true → odd_in outer p ≡ true
 hole_ring_is_inside outer holes v h a p hp e m k = go (lawful outer holes v)
   where
@@ -92,6 +96,7 @@ hole_ring_is_inside outer holes v h a p hp e m k = go (lawful outer holes v)
 abbrev NotBoth : Point → List Position → List Position → Type 0
 NotBoth p h k = odd_in h p ≡ true → odd_in k p ≡ true → ⊥
 
+-- holes that share no point and don't lie in one another have no point inside both
 pairs_apart : (p : Point) → IsPoint p → (holes : List (List Position)) → Each IsClosed holes → Pairs Apart holes → Pairs (NotBoth p) holes
 pairs_apart p hp [] c d = tt
 pairs_apart p hp (h ∷ hs) c d = (each_of (NotBoth p h) hs (λ k m. apart_by (each_at (Apart h) hs k d.0 m) (each_at IsClosed hs k c.1 m)), pairs_apart p hp hs c.1 d.1)
@@ -105,12 +110,14 @@ pub record OddHole (p : Point) (holes : List (List Position)) : Type 0 where
   pub among : Among hole holes
   pub odd : odd_in hole p ≡ true
 
+-- a ring in front changes the parity over the others exactly where the point is odd over it
 pub one_more : (r : List Position) (rs : List (List Position)) (p : Point) → odd_above (r ∷ rs) p ≡ xor (odd_in r p) (odd_above rs p)
 one_more r rs p = parity_of_rings (r ∷ rs) p ∙ parity_append (λ e. strictly_above e p) (edges_of_line r) (edges_of_lines rs) ∙ ap₂ xor (sym (parity_in r p)) (sym (parity_of_rings rs p))
 
 abbrev Counted : Point → List (List Position) → Type 0
 Counted p holes = (Each (λ h. odd_in h p ≡ false) holes × (odd_above holes p ≡ false)) ⊎ (OddHole p holes × (odd_above holes p ≡ true))
 
+-- a point is odd over one hole at most, so over all holes it is odd exactly where it is odd over one
 counted : (p : Point) (holes : List (List Position)) → Pairs (NotBoth p) holes → Counted p holes
 counted p [] n = inl (tt, refl)
 counted p (h ∷ hs) n = go (odd_in h p) refl (counted p hs n.1)
@@ -122,6 +129,7 @@ counted p (h ∷ hs) n = go (odd_in h p) refl (counted p hs n.1)
     go false e (inr r) = inr (record { hole = r.0.hole; among = inr r.0.among; odd = r.0.odd }, one_more h hs p ∙ ap₂ xor e r.1)
 
 -- ---- odd over a polygon: odd over its outer ring, and over no hole
+-- a point that is odd over a hole is odd over the outer ring too, and the two parities cancel; so an odd point is over no hole
 pub cut : (outer : List Position) (holes : List (List Position)) → Lawful outer holes → (p : Point) → IsPoint p → odd_above (outer ∷ holes) p ≡ true → (odd_in outer p ≡ true) × Each (λ h. odd_in h p ≡ false) holes
 cut outer holes l p hp e = go (counted p holes (pairs_apart p hp holes l.holes_closed l.holes_apart))
   where
@@ -129,6 +137,7 @@ cut outer holes l p hp e = go (counted p holes (pairs_apart p hp holes l.holes_c
     go (inl r) = (sym (xor_false (odd_in outer p)) ∙ ap (xor (odd_in outer p)) (sym r.1) ∙ sym (one_more outer holes p) ∙ e, r.0)
     go (inr r) = absurd (no_way (odd_above (outer ∷ holes) p) e (one_more outer holes p ∙ ap₂ xor (carried_in outer r.0.hole l.outer_closed (each_at IsClosed holes r.0.hole l.holes_closed r.0.among) (each_at (Disjoint outer) holes r.0.hole l.outer_apart r.0.among) (each_at (λ q. inside outer q ≡ true) holes r.0.hole l.holes_inside r.0.among) p hp r.0.odd) r.1))
 
+-- over no hole the parity is that of the outer ring
 pub uncut : (outer : List Position) (holes : List (List Position)) → Lawful outer holes → (p : Point) → IsPoint p → odd_in outer p ≡ true → Each (λ h. odd_in h p ≡ false) holes → odd_above (outer ∷ holes) p ≡ true
 uncut outer holes l p hp e h = go (counted p holes (pairs_apart p hp holes l.holes_closed l.holes_apart))
   where
@@ -145,6 +154,7 @@ in_some_hole outer holes l p hp e f = go (counted p holes (pairs_apart p hp hole
     go (inr r) = r.0
 
 -- ---- the interior
+-- an area has no listed positions, so a point off its edges is off the area
 off_rings : (rs : List (List Position)) (p : Point) → Each (λ e. on e p ≡ false) (edges_of_lines rs) → Off (Polygon rs) p
 off_rings rs p h = record { edges_off = h; listed_off = tt }
 
@@ -152,6 +162,7 @@ interior_odd : (t : Bool) → (if t then Interior else Exterior) ≡ Interior �
 interior_odd true e = refl
 interior_odd false e = absurd (cc)
 
+-- off the rings the location is the parity over all rings, which is odd just over the outer ring and no hole
 pub holes_are_cut : (outer : List Position) (holes : List (List Position)) → IsValid (Polygon (outer ∷ holes)) → (p : Point) → IsPoint p → All (λ e. on e p ≡ false) (edges_of_lines (outer ∷ holes))
     → (locate (Polygon (outer ∷ holes)) p ≡ Interior) ↔ ((odd_above (outer ∷ []) p ≡ true) × All (λ h. odd_above (h ∷ []) p ≡ false) holes)
 holes_are_cut outer holes v p hp off = (λ e. forth (lawful outer holes v) e, λ k. back (lawful outer holes v) k.0 (each_from_all (λ h. odd_in h p ≡ false) holes k.1))

@@ -29,6 +29,7 @@ odd_in r p = odd_above (r ∷ []) p
 abbrev pub Disjoint : List Position → List Position → Type 0
 Disjoint r s = (z : Point) → IsPoint z → (e f : Edge) → Among e (edges_of_line r) → Among f (edges_of_line s) → on e z ≡ true → on f z ≡ true → ⊥
 
+-- sharing no point goes both ways
 pub disjoint_turned : (r s : List Position) → Disjoint r s → Disjoint s r
 disjoint_turned r s d z hz e f a b h k = d z hz f e b a k h
 
@@ -39,10 +40,12 @@ alone r e a = go (among_either e (edges_of_line r) [] a)
     go (inl b) = b
     go (inr b) = absurd b
 
+-- the parity over a ring counts the ring's edges strictly above the point
 pub parity_in : (r : List Position) (p : Point) → odd_in r p ≡ parity (λ e. strictly_above e p) (edges_of_line r)
 parity_in r p = parity_of_rings (r ∷ []) p ∙ parity_append (λ e. strictly_above e p) (edges_of_line r) [] ∙ xor_false (parity (λ e. strictly_above e p) (edges_of_line r))
 
 -- ---- along an edge of the one the parity over the other stays
+-- the stretch from an edge's start to a point of the edge misses the other ring, so the parity over that closed ring stays
 along : (r s : List Position) → IsClosed r → Disjoint r s → (e : Edge) → Among e (edges_of_line s) → (p : Point) → IsPoint p → on e p ≡ true → odd_in r (point_at e.start) ≡ odd_in r p
 along r s c d e a p hp h = parity_by_missing (r ∷ []) (point_at e.start) p (position_is_point e.start) hp (c, tt) (each_of (Misses (point_at e.start) p) (edges_of_lines (r ∷ [])) (λ g m. misses g (alone r g m)))
   where
@@ -56,24 +59,30 @@ end_is_on : (e : Edge) → on e (point_at e.end) ≡ true
 end_is_on e = on_from_hull e (point_at e.end) (hull_of_end e)
 
 -- ---- all positions of the one have one parity over the other
+-- what each edge keeps from its start to its end is the same at all positions of the line
 alike : (F : Position → Bool) (a : Position) (rest : List Position) → ((e : Edge) → Among e (edges_of_line (a ∷ rest)) → F e.start ≡ F e.end) → Each (λ b. F b ≡ F a) (a ∷ rest)
 alike F a [] h = (refl, tt)
 alike F a (b ∷ rest) h = (refl, each_map (λ c. F c ≡ F b) (λ c. F c ≡ F a) (b ∷ rest) (λ c q. q ∙ sym (h (record { start = a; end = b }) (inl refl))) (alike F b rest (λ e m. h e (inr m))))
 
+-- and the same at the starts of all its edges
 starts_alike : (F : Position → Bool) (a : Position) (rest : List Position) → ((e : Edge) → Among e (edges_of_line (a ∷ rest)) → F e.start ≡ F e.end) → Each (λ e. F e.start ≡ F a) (edges_of_line (a ∷ rest))
 starts_alike F a [] h = tt
 starts_alike F a (b ∷ rest) h = (refl, each_map (λ e. F e.start ≡ F b) (λ e. F e.start ≡ F a) (edges_of_line (b ∷ rest)) (λ c q. q ∙ sym (h (record { start = a; end = b }) (inl refl))) (starts_alike F b rest (λ e m. h e (inr m))))
 
+-- an edge has one parity at both its ends over a closed ring that it shares no point with
 edge_keeps : (r s : List Position) → IsClosed r → Disjoint r s → (e : Edge) → Among e (edges_of_line s) → odd_in r (point_at e.start) ≡ odd_in r (point_at e.end)
 edge_keeps r s c d e a = along r s c d e a (point_at e.end) (position_is_point e.end) (end_is_on e)
 
+-- so all positions of a ring have one parity over a closed ring that shares no point with it
 pub position_alike : (r : List Position) (a : Position) (rest : List Position) → IsClosed r → Disjoint r (a ∷ rest) → Each (λ b. odd_in r (point_at b) ≡ odd_in r (point_at a)) (a ∷ rest)
 position_alike r a rest c d = alike (λ b. odd_in r (point_at b)) a rest (λ e m. edge_keeps r (a ∷ rest) c d e m)
 
+-- and all points of its edges have that parity
 pub on_ring : (r : List Position) (a : Position) (rest : List Position) → IsClosed r → Disjoint r (a ∷ rest) → (e : Edge) → Among e (edges_of_line (a ∷ rest)) → (p : Point) → IsPoint p → on e p ≡ true → odd_in r p ≡ odd_in r (point_at a)
 on_ring r a rest c d e m p hp h = sym (along r (a ∷ rest) c d e m p hp h) ∙ each_at (λ g. odd_in r (point_at g.start) ≡ odd_in r (point_at a)) (edges_of_line (a ∷ rest)) e (starts_alike (λ b. odd_in r (point_at b)) a rest (λ g k. edge_keeps r (a ∷ rest) c d g k)) m
 
 -- ---- the first edge above a point
+-- an edge that doesn't go through the point is at or above it exactly where it is strictly above it
 untouched : (g : Edge) (o : Point) → IsPoint o → on g o ≡ false → at_or_above g o ≡ strictly_above g o
 untouched g o ho h = at_or_above_is g o ∙ ap (xor (strictly_above g o)) (by_contraries (touches g o) (on g o) (on_from_touch g o ho) h) ∙ xor_false (strictly_above g o)
 
@@ -90,6 +99,8 @@ carried_over r s es p hp d into k m = parity_in r p ∙ same_parity (λ g. stric
 abbrev pub Shown : List Position → Position → List Position → Position → Point → Type 0
 Shown r a s b p = ((odd_in r p ≡ false) × (odd_in s p ≡ false)) ⊎ (odd_in r p ≡ odd_in r (point_at b)) ⊎ (odd_in s p ≡ odd_in s (point_at a))
 
+-- the first edge above the point, of both rings together, decides: there is none, or it is of one ring,
+-- whose points have the parity that the point has over the other ring
 pub shown : (a : Position) (u : List Position) (b : Position) (v : List Position) → IsClosed (a ∷ u) → IsClosed (b ∷ v) → Disjoint (a ∷ u) (b ∷ v) → (p : Point) → IsPoint p → Shown (a ∷ u) a (b ∷ v) b p
 shown a u b v ca cb d p hp = go (first (edges_of_line (a ∷ u) ++ edges_of_line (b ∷ v)) p hp)
   where
@@ -125,6 +136,7 @@ pub record Top (qs : List Position) : Type 0 where
   pub among : Among position qs
   pub highest : Each (λ b. b.y ≤ℤ position.y) qs
 
+-- of the positions of a ring one is highest
 top : (a : Position) (rest : List Position) → Top (a ∷ rest)
 top a [] = record { position = a; among = inl refl; highest = (same a.y, tt) }
   where
@@ -166,6 +178,7 @@ side_level a b q s t e f = less_no (side a b (point_at q)) (pos 0) (cancel_nonne
     sum : (x y z : ℤ) → x ≡ y +ℤ z → pos 0 ≤ℤ y → pos 0 ≤ℤ z → pos 0 ≤ℤ x
     sum x y z e h k = omega (arith, ints)
 
+-- so such an edge isn't counted, whichever of its ends is the left one
 level_above : (q : Position) (e : Edge) → e.start.y ≤ℤ q.y → e.end.y ≤ℤ q.y → strictly_above e (point_at q) ≡ false
 level_above q e s t = go (reaches e.start (point_at q)) refl (reaches e.end (point_at q)) refl
   where
@@ -178,16 +191,19 @@ level_above q e s t = go (reaches e.start (point_at q)) refl (reaches e.end (poi
     go true f false g = ap₂ (λ (x y : Bool). x && y) (ap₂ xor f g) (ap (λ (z : ℤ). int_lt z (pos 0)) (rightward_left e (point_at q) (position_is_point q) f g) ∙ side_level e.start e.end q s t f g)
     go false f true g = ap₂ (λ (x y : Bool). x && y) (ap₂ xor f g) (ap (λ (z : ℤ). int_lt z (pos 0)) (rightward_right e (point_at q) (position_is_point q) f g) ∙ side_level e.end e.start q t s g f)
 
+-- what holds of all positions of a line holds of both ends of each edge
 line_ends : (P : Position → Type 0) (l : List Position) → Each P l → Each (λ e. P e.start × P e.end) (edges_of_line l)
 line_ends P [] h = tt
 line_ends P (a ∷ []) h = tt
 line_ends P (a ∷ b ∷ rest) h = ((h.0, h.1.0), line_ends P (b ∷ rest) h.1)
 
+-- a position as high as all of a ring has none of its edges above it, so it is even over the ring
 even_at_top : (r : List Position) (q : Position) → Each (λ b. b.y ≤ℤ q.y) r → odd_in r (point_at q) ≡ false
 even_at_top r q h = parity_in r (point_at q) ∙ parity_none (λ e. strictly_above e (point_at q)) (edges_of_line r)
     (each_map (λ e. (e.start.y ≤ℤ q.y) × (e.end.y ≤ℤ q.y)) (λ e. strictly_above e (point_at q) ≡ false) (edges_of_line r) (λ e k. level_above q e k.0 k.1) (line_ends (λ b. b.y ≤ℤ q.y) r h))
 
 -- not each is inside the other
+-- the higher one of both rings' highest positions is even over the other ring, and all positions of its ring are alike
 pub not_each : (a : Position) (u : List Position) (b : Position) (v : List Position) → IsClosed (a ∷ u) → IsClosed (b ∷ v) → Disjoint (a ∷ u) (b ∷ v)
     → odd_in (a ∷ u) (point_at b) ≡ true → odd_in (b ∷ v) (point_at a) ≡ true → ⊥
 not_each a u b v ca cb d e f = go (top a u) (top b v)
@@ -208,6 +224,7 @@ not_each a u b v ca cb d e f = go (top a u) (top b v)
     go s t = pick s t (at_most_or_less s.position.y t.position.y)
 
 -- the second is inside the first: what is odd over it is odd over the first
+-- otherwise the first ring would be inside the second as well
 pub carried : (a : Position) (u : List Position) (b : Position) (v : List Position) → IsClosed (a ∷ u) → IsClosed (b ∷ v) → Disjoint (a ∷ u) (b ∷ v)
     → odd_in (a ∷ u) (point_at b) ≡ true → (p : Point) → IsPoint p → odd_in (b ∷ v) p ≡ true → odd_in (a ∷ u) p ≡ true
 carried a u b v ca cb d e p hp h = go (shown a u b v ca cb d p hp)
@@ -218,6 +235,7 @@ carried a u b v ca cb d e p hp h = go (shown a u b v ca cb d p hp)
     go (inr (inr k)) = absurd (not_each a u b v ca cb d e (sym k ∙ h))
 
 -- ---- whether the rings have positions or not
+-- a ring without positions has no edges, so every point is even over it
 pub empty_even : (p : Point) → odd_in [] p ≡ false
 empty_even p = parity_in [] p
 

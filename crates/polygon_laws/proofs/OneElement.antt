@@ -8,6 +8,7 @@ use Rattle.geometry_laws.proofs.Each.{Among}
 use Rattle.geometry_laws.proofs.Cuts.{contains_of_among, among_from_contains}
 
 -- ---- places in joined lists
+-- an element keeps its place when a list is joined behind
 place_left : {X : Type 0} (xs ys : List X) (k : ℕ) (x : X) → slice_get xs k ≡ Some x → slice_get (xs ++ ys) k ≡ Some x
 place_left [] ys k x e = absurd (cc)
 place_left (z ∷ xs) ys zero x e = e
@@ -19,6 +20,7 @@ none_before k = omega arith
 one_before_all : (n k : ℕ) → suc n + k ≡ suc (n + k)
 one_before_all n k = omega arith
 
+-- and the second list's elements stand as many places later as the first list has
 place_right : {X : Type 0} (xs ys : List X) (k : ℕ) → slice_get (xs ++ ys) (length xs + k) ≡ slice_get ys k
 place_right [] ys k = ap (slice_get ys) (none_before k)
 place_right (z ∷ xs) ys k = ap (slice_get (z ∷ xs ++ ys)) (one_before_all (length xs) k) ∙ place_right xs ys k
@@ -32,6 +34,7 @@ pub record Numbered (rs : List (List Position)) (first : ℕ) (es : List (List (
 abbrev element_at : ℕ → List (List Position) → Element
 element_at n rs = record { first = n; rings = rs }
 
+-- an element's first ring has the number of all rings before it, and its k-th ring stands k places later among all rings
 pub numbered : (rs : List (List Position)) (first : ℕ) (es : List (List (List Position))) → Among rs es → Numbered rs first es
 numbered rs first [] a = absurd a
 numbered rs first (d ∷ es) (inl e) = record {
@@ -62,9 +65,11 @@ pub only : {X : Type 0} (x y : X) → Among x (y ∷ []) → x ≡ y
 only x y (inl e) = e
 only x y (inr a) = absurd a
 
+-- a polygon alone has one element: its own rings
 rings_of : (e : Element) (rs : List (List Position)) → Contains (elements_from 0 (rs ∷ [])) e → e.rings ≡ rs
 rings_of e rs c = ap (λ (d : Element). d.rings) (only e (element_at 0 rs) (among_from_contains (element_at 0 rs ∷ []) e c))
 
+-- a list of one has no elements at two different places, so a polygon has no fault of two elements
 pub no_pair : {X : Type 0} (x d e : X) (i j : ℕ) → (i ≡ j → ⊥) → slice_get (x ∷ []) i ≡ Some d → slice_get (x ∷ []) j ≡ Some e → ⊥
 no_pair x d e zero zero n g h = n refl
 no_pair x d e (suc i) j n g h = absurd (cc)
@@ -74,6 +79,7 @@ apart_from : (i j : ℕ) → i < j → i ≡ j → ⊥
 apart_from i j h e = omega (arith, h, e)
 
 -- ---- the faults of a polygon are faults of the area that it is an element of
+-- each fault of an element would be one of the area, its rings numbered from that of the element's first ring; there is none
 pub element_is_valid : (g : Geometry) → IsValid g → (rs : List (List Position)) → Among rs (elements g) → IsValid (Polygon rs)
 element_is_valid (Geometry.Point o) v rs a = absurd a
 element_is_valid (Geometry.MultiPoint qs) v rs a = absurd a

@@ -39,18 +39,21 @@ use Rattle.polygon_laws.proofs.Nested.{Disjoint}
 use Rattle.polygon_laws.proofs.Areas.{rings_apart}
 
 -- ---- the edge goes through the point
+-- an end to the left of the point reaches it
 reaches_yes : (a : Position) (x : Point) → pos 0 <ℤ right (point_at a) x → reaches a x ≡ true
 reaches_yes a x h = reaches_is a x ∙ at_most_yes (pos 0) (right (point_at a) x) (weak (right (point_at a) x) h)
   where
     weak : (s : ℤ) → pos 0 <ℤ s → pos 0 ≤ℤ s
     weak s h = omega (arith, ints)
 
+-- and one to its right doesn't
 reaches_no : (a : Position) (x : Point) → pos 0 <ℤ right x (point_at a) → reaches a x ≡ false
 reaches_no a x h = reaches_is a x ∙ at_most_no (pos 0) (right (point_at a) x) (turned (right x (point_at a)) (right (point_at a) x) (right_turned x (point_at a)) h)
   where
     turned : (s t : ℤ) → t ≡ pos 0 -ℤ s → pos 0 <ℤ s → t <ℤ pos 0
     turned s t e h = omega (arith, ints)
 
+-- a point on the line of an edge is on neither side of it, whichever way the edge is taken
 pub flat : (e : Edge) (p : Point) → side e.start e.end p ≡ pos 0 → side_rightward e p ≡ pos 0
 flat e p h = go (int_le e.start.x e.end.x)
   where
@@ -61,6 +64,7 @@ flat e p h = go (int_le e.start.x e.end.x)
     go true = h
     go false = turned (side e.start e.end p) (side e.end e.start p) (side_turned e.start e.end p) h
 
+-- strictly within an edge that isn't upright, one end is to the left of the point and one to the right: the edge spans it
 pub goes_through : (e : Edge) (p : Point) → IsPoint p → on e p ≡ true → stands_at p e.start ≡ false → stands_at p e.end ≡ false → (e.start.x ≡ e.end.x → ⊥) → touches e p ≡ true
 goes_through e p hp h s t f = and_from (spans e p) (int_eq (side_rightward e p) (pos 0)) (go (compare (point_at e.start) p) refl (compare (point_at e.end) p) refl) (equal_yes (side_rightward e p) (pos 0) (flat e p ((on_parts e p h).on_line)))
   where
@@ -87,6 +91,7 @@ goes_through e p hp h s t f = and_from (spans e p) (int_eq (side_rightward e p) 
     go Greater k Greater l = absurd (no_way (on e p) h (not_before_both e p hp (turn_less (point_at e.start) p k) (turn_less (point_at e.end) p l)))
 
 -- ---- over all rings
+-- the parity over the edges of all rings is the parity of the rings that have an odd number of them
 over_rings : (f : Edge → Bool) (rs : List (List Position)) → parity f (edges_of_lines rs) ≡ parity (λ r. parity f (edges_of_line r)) rs
 over_rings f [] = refl
 over_rings f (r ∷ rs) = parity_append f (edges_of_line r) (edges_of_lines rs) ∙ ap (xor (parity f (edges_of_line r))) (over_rings f rs)
@@ -95,6 +100,7 @@ over_rings f (r ∷ rs) = parity_append f (edges_of_line r) (edges_of_lines rs) 
 abbrev record_of : Position → Position → Edge
 record_of a b = record { start = a; end = b }
 
+-- an edge ends where the next one begins
 chain : (l : List Position) (k : ℕ) (g h : Edge) → slice_get (edges_of_line l) k ≡ Some g → slice_get (edges_of_line l) (suc k) ≡ Some h → g.end ≡ h.start
 chain [] k g h e f = absurd (let z : None ≡ Some g = e in cc)
 chain (a ∷ []) k g h e f = absurd (let z : None ≡ Some g = e in cc)
@@ -108,6 +114,7 @@ chain (a ∷ b ∷ c ∷ rest) zero g h e f = sym (ap (λ (d : Edge). d.end) fir
     second_is = let z : Some (record_of b c) ≡ Some h = f in cc
 chain (a ∷ b ∷ c ∷ rest) (suc k) g h e f = chain (b ∷ c ∷ rest) k g h e f
 
+-- the first edge begins at the first position
 first_start : (a : Position) (rest : List Position) (g : Edge) → slice_get (edges_of_line (a ∷ rest)) 0 ≡ Some g → g.start ≡ a
 first_start a [] g e = absurd (let z : None ≡ Some g = e in cc)
 first_start a (b ∷ rest) g e = sym (ap (λ (d : Edge). d.start) same)
@@ -115,6 +122,7 @@ first_start a (b ∷ rest) g e = sym (ap (λ (d : Edge). d.start) same)
     same : record_of a b ≡ g
     same = let z : Some (record_of a b) ≡ Some g = e in cc
 
+-- the last edge ends at the last position
 last_end : (a : Position) (rest : List Position) (k : ℕ) (g : Edge) → slice_get (edges_of_line (a ∷ rest)) k ≡ Some g → k + 1 ≡ length (edges_of_line (a ∷ rest)) → g.end ≡ last_after a rest
 last_end a [] k g e n = absurd (let z : None ≡ Some g = e in cc)
 last_end a (b ∷ []) zero g e n = sym (ap (λ (d : Edge). d.end) same)
@@ -125,6 +133,7 @@ last_end a (b ∷ []) (suc k) g e n = absurd (let z : None ≡ Some g = e in cc)
 last_end a (b ∷ c ∷ rest) zero g e n = absurd (omega (arith, n))
 last_end a (b ∷ c ∷ rest) (suc k) g e n = last_end b (c ∷ rest) k g e (omega (arith, n))
 
+-- so in a closed ring the first edge begins where the last one ends
 around : (ring : List Position) (j : ℕ) (e f : Edge) → IsClosed ring → slice_get (edges_of_line ring) 0 ≡ Some e → slice_get (edges_of_line ring) j ≡ Some f → j + 1 ≡ length (edges_of_line ring) → e.start ≡ f.end
 around [] j e f c g h n = absurd (let z : None ≡ Some e = g in cc)
 around (a ∷ rest) j e f c g h n = first_start a rest e g ∙ sym c ∙ sym (last_end a rest j f h n)
@@ -194,6 +203,7 @@ no_edge_of_others g v i ring ri j e ej p hp h k r n rk m d dm = not_on d p (λ q
     pick q (inr l) = pairs_at Disjoint (rings g) (rings_apart g v) i k ring r l ri rk p hp e d (among_at (edges_of_line ring) j e ej) (among_at (edges_of_line r) m d dm) h q
 
 -- ---- exactly one of the two parities
+-- just one edge goes through the point, so it alone is at or above it without being strictly above it
 pub rings_part : (g : Geometry) → IsValid g → (i : ℕ) (ring : List Position) → slice_get (rings g) i ≡ Some ring → (j : ℕ) (e : Edge) → slice_get (edges_of_line ring) j ≡ Some e
     → (p : Point) → IsPoint p → on e p ≡ true → stands_at p e.start ≡ false → stands_at p e.end ≡ false → (e.start.x ≡ e.end.x → ⊥) → xor (odd_above (rings g) p) (odd_at_or_above (rings g) p) ≡ true
 rings_part g v i ring ri j e ej p hp h s t f = ap (xor (odd_above (rings g) p)) (parity_at_or_above (rings g) p) ∙ sym (xor_assoc (odd_above (rings g) p) (odd_above (rings g) p) (parity (λ k. touches k p) (edges_of_lines (rings g))))
@@ -206,12 +216,14 @@ rings_part g v i ring ri j e ej p hp h s t f = ap (xor (odd_above (rings g) p)) 
     untouched d n = by_contraries (touches d p) (on d p) (on_from_touch d p hp) n
 
 -- ---- what is just below and just above
+-- of the two sides the one with the odd number is interior, and the other one exterior
 parted_as : (s t : Bool) → xor s t ≡ true → ArePartedAs (if t then Interior else Exterior) (if s then Interior else Exterior)
 parted_as true true e = absurd (cc)
 parted_as true false e = inr (refl, refl)
 parted_as false true e = inl (refl, refl)
 parted_as false false e = absurd (cc)
 
+-- what holds of each edge of each ring, by places, holds of all edges
 pub each_ring : (P : Edge → Type 0) (rs : List (List Position)) → ((k : ℕ) (r : List Position) → slice_get rs k ≡ Some r → (m : ℕ) (d : Edge) → slice_get (edges_of_line r) m ≡ Some d → P d) → Each P (edges_of_lines rs)
 each_ring P [] f = tt
 each_ring P (r ∷ rs) f = each_append P (edges_of_line r) (edges_of_lines rs) (each_by P (edges_of_line r) (λ m d q. f 0 r refl m d q)) (each_ring P rs (λ k q h m d z. f (suc k) q h m d z))
@@ -244,6 +256,8 @@ slant_area (Geometry.MultiLineString ls) p i ring e h = absurd (let z : None ≡
 slant_area (Geometry.Polygon rs) p i ring e h = record { edges = all_from_each (IsSlant p) (edges_of_lines rs) h; positions = all_from_each (λ a. stands_at p a ≡ false) [] tt }
 slant_area (Geometry.MultiPolygon es) p i ring e h = record { edges = all_from_each (IsSlant p) (edges_of_lines (joined_rings es)) h; positions = all_from_each (λ a. stands_at p a ≡ false) [] tt }
 
+-- below counts the edges at or above, above those strictly above, and just one of these numbers is odd;
+-- no edge through the point is upright, so the points near it stand as these say
 pub sides_of_a_ring : (g : Geometry) → IsValid g → (i : ℕ) (ring : List Position) → slice_get (rings g) i ≡ Some ring → (j : ℕ) (e : Edge) → slice_get (edges_of_line ring) j ≡ Some e
     → (p : Point) → IsPoint p → on e p ≡ true → stands_at p e.start ≡ false → stands_at p e.end ≡ false → (e.start.x ≡ e.end.x → ⊥) → ArePartedAs (below g p) (above g p) × ((k : ℕ) → NearSides g p k) × AllNearStand g p
 sides_of_a_ring g v i ring ri j e ej p hp h s t f = (

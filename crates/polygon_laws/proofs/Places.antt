@@ -35,6 +35,7 @@ next_less i j h = omega arith
 pub some_next : (j : ℕ) → 0 < suc j
 some_next j = omega arith
 
+-- a relation of each two is shown at any two places, the one before the other
 pub pairs_by : {X : Type 0} (P : X → X → Type 0) (xs : List X) → ((i j : ℕ) (x y : X) → i < j → slice_get xs i ≡ Some x → slice_get xs j ≡ Some y → P x y) → Pairs P xs
 pairs_by P [] f = tt
 pairs_by P (x ∷ xs) f = (each_by (P x) xs (λ j y e. f 0 (suc j) x y (some_next j) refl e), pairs_by P xs (λ i j y z l e g. f (suc i) (suc j) y z (next_less i j l) e g))
@@ -47,6 +48,7 @@ each_place {X} P (y ∷ ys) h zero x e = subst P same h.0
     same = let z : Some y ≡ Some x = e in cc
 each_place P (y ∷ ys) h (suc j) x e = each_place P ys h.1 j x e
 
+-- and holds at any such two places
 pub pairs_at : {X : Type 0} (P : X → X → Type 0) (xs : List X) → Pairs P xs → (i j : ℕ) (x y : X) → i < j → slice_get xs i ≡ Some x → slice_get xs j ≡ Some y → P x y
 pairs_at P [] h i j x y l e g = absurd (let z : None ≡ Some x = e in cc)
 pairs_at P (z ∷ zs) h i zero x y l e g = absurd (omega (arith, l))
@@ -56,6 +58,7 @@ pairs_at {X} P (z ∷ zs) h zero (suc j) x y l e g = subst (λ w. P w y) same (e
     same = let w : Some z ≡ Some x = e in cc
 pairs_at P (z ∷ zs) h (suc i) (suc j) x y l e g = pairs_at P zs h.1 i j x y (omega (arith, l)) e g
 
+-- each two of joined lists: two of the first, two of the second, or one of each
 pub pairs_append : {X : Type 0} (P : X → X → Type 0) (xs ys : List X) → Pairs P xs → Pairs P ys → Each (λ x. Each (P x) ys) xs → Pairs P (xs ++ ys)
 pairs_append P [] ys h k b = k
 pairs_append P (x ∷ xs) ys h k b = (each_append (P x) xs ys h.0 b.0, pairs_append P xs ys h.1 k b.1)

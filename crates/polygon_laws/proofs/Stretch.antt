@@ -23,19 +23,23 @@ weighted_again s t m n p q = λ i. record { X = coordinate p.X q.X i; Y = coordi
     coordinate : (x y : ℤ) → pos s *ℤ x +ℤ pos t *ℤ (pos m *ℤ x +ℤ pos n *ℤ y) ≡ pos (s + t * m) *ℤ x +ℤ pos (t * n) *ℤ y
     coordinate x y = solve (x ∷ y ∷ pos s ∷ pos t ∷ pos m ∷ pos n ∷ []) (var 2 ⊗ var 0 ⊕ var 3 ⊗ (var 4 ⊗ var 0 ⊕ var 5 ⊗ var 1)) ((var 2 ⊕ var 3 ⊗ var 4) ⊗ var 0 ⊕ (var 3 ⊗ var 5) ⊗ var 1) tt
 
+-- the weights of that point aren't both 0
 some_weight : (s t m n : ℕ) → 0 < s + t → 0 < m + n → 0 < (s + t * m) + t * n
 some_weight s zero m n h k = omega arith
 some_weight s (suc t) m n h k = omega arith
 
+-- a stretch that misses an edge misses it up to each of its points, since the front part's points are points of the whole
 misses_front : (p q : Point) (m n : ℕ) → 0 < m + n → (e : Edge) → Misses p q e → Misses p (weighted m p n q) e
 misses_front p q m n k e f s t h = subst (λ (z : Point). on e z ≡ false) (sym (weighted_again s t m n p q)) (f (s + t * m) (t * n) (some_weight s t m n h k))
 
+-- at the weights 1 and 0 the stretch is at its first end
 first_point : (p q : Point) → weighted 1 p 0 q ≡ p
 first_point p q = λ i. record { X = one p.X q.X i; Y = one p.Y q.Y i; W = one p.W q.W i }
   where
     one : (x y : ℤ) → pos 1 *ℤ x +ℤ pos 0 *ℤ y ≡ x
     one x y = solve (x ∷ y ∷ []) (lit (pos 1) ⊗ var 0 ⊕ lit (pos 0) ⊗ var 1) (var 0) tt
 
+-- a location that a parity decides is never the boundary
 not_boundary : (t : Bool) → (if t then Interior else Exterior) ≢ Boundary
 not_boundary true e = absurd (cc)
 not_boundary false e = absurd (cc)

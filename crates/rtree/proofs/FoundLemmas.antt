@@ -18,6 +18,7 @@ counted_more from (y ∷ xs) (suc i) x found =
     let here : from + 1 + i ≡ from + suc i = omega arith in
     ap (λ l. (from, y) ∷ l) (counted_more (from + 1) xs i x found ∙ ap (λ n. enumerate_from (from + 1) (take i xs) ++ (n, x) ∷ []) here)
 
+-- the same where counting begins at 0
 counted : {X : Type 0} (xs : List X) (i : ℕ) (x : X) → slice_get xs i ≡ Some x → enumerate_from 0 (take (i + 1) xs) ≡ enumerate_from 0 (take i xs) ++ (i, x) ∷ []
 counted xs i x found =
     let here : 0 + i ≡ i = omega arith in rw add-one (counted_more 0 xs i x found ∙ ap (λ n. enumerate_from 0 (take i xs) ++ (n, x) ∷ []) here)
@@ -35,6 +36,7 @@ meeting_more es asked i e found =
     ∙ map-append (λ s. s.0) (filter (placed_meets asked) (enumerate_from 0 (take i es))) (filter (placed_meets asked) ((i, e) ∷ []))
     ∙ ap (λ l. meeting_places (take i es) asked ++ l) (place_of (placed_meets asked) (i, e))
 
+-- so does the list of places found, whatever stood in it at the start
 pub found_more : (es : List (Option Envelope)) (asked : Option Envelope) (i : ℕ) (e : Option Envelope) (start old new : List ℕ) (passes : Bool)
     → slice_get es i ≡ Some e → passes ≡ meets e asked → new ≡ old ++ cond passes (i ∷ []) []
     → old ≡ start ++ meeting_places (take i es) asked → new ≡ start ++ meeting_places (take (i + 1) es) asked
@@ -58,6 +60,7 @@ present_more es i e found =
     alone None = refl
     alone (Some f) = refl
 
+-- one envelope more adds its entry, where it isn't absent
 pub entries_more : (es : List (Option Envelope)) (i : ℕ) (e : Option Envelope) (start old new : List Entry) → slice_get es i ≡ Some e
     → new ≡ old ++ option_to_list (entry_at (i, e)) → old ≡ start ++ present (take i es) → new ≡ start ++ present (take (i + 1) es)
 entries_more es i e start old new found grew before =

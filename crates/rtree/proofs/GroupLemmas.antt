@@ -15,6 +15,7 @@ use Rattle.rtree.specs.Packing.{Entry, eights, nodes_over, levels_up, levels_of,
 use Rattle.rtree.specs.Trees.{KeepPacking, singles}
 use Rattle.rtree.proofs.JoinLemmas.{joined_nodes}
 
+-- there are as many groups of eight as eighths of the list, rounded up
 pub length-eights : {X : Type 0} (xs : List X) → length (eights xs) ≡ div_ceil (length xs) 8
 length-eights xs = length-map-range_with_len (λ k. take 8 (drop (8 * k) xs)) 0 (div_ceil (length xs) 8)
 
@@ -54,9 +55,12 @@ group_of level nodes h k =
     sym (take-map Some 8 (drop (8 * k) level)) ∙ ap (take 8) (sym (drop-map Some (8 * k) level) ∙ ap (drop (8 * k)) h ∙ drop-map around (8 * k) nodes)
     ∙ take-map around 8 (drop (8 * k) nodes)
 
+-- a level has as many envelopes as nodes
 pub same_length : (level : List Envelope) (nodes : List (List Entry)) → map Some level ≡ map around nodes → length level ≡ length nodes
 same_length level nodes h = sym (length-map level Some) ∙ ap length h ∙ length-map nodes around
 
+-- where a level keeps the envelopes of nodes, the level over it keeps those of the nodes over them:
+-- the envelope of a group of nodes is that of all entries below
 pub over_is : (level over : List Envelope) (nodes : List (List Entry)) → map Some level ≡ map around nodes → map Some over ≡ map joined_all (eights level)
     → map Some over ≡ map around (nodes_over nodes)
 over_is level over nodes h is =
@@ -69,6 +73,7 @@ over_is level over nodes h is =
     ∙ sym (map-map around (λ k. flat_map (λ node. node) (take 8 (drop (8 * k) nodes))) (range_with_len 0 size))
     ∙ ap (map around) (sym (map-map (flat_map (λ node. node)) (λ k. take 8 (drop (8 * k) nodes)) (range_with_len 0 size)))
 
+-- the leaves keep the envelopes of groups of eight entries
 leaves_are : (lowest leaves : List Envelope) (entries : List Entry) → lowest ≡ map (λ e. e.1) entries → map Some leaves ≡ map joined_all (eights lowest)
     → map Some leaves ≡ map around (eights entries)
 leaves_are lowest leaves entries h is =
@@ -82,6 +87,7 @@ leaves_are lowest leaves entries h is =
     ∙ ap (λ f. map f (range_with_len 0 size)) each
     ∙ sym (map-map around (λ k. take 8 (drop (8 * k) entries)) (range_with_len 0 size))
 
+-- the lowest level keeps the envelope of each entry
 singles_are : (entries : List Entry) → map Some (map (λ e. e.1) entries) ≡ map around (singles entries)
 singles_are [] = refl
 singles_are (e ∷ entries) = ap (λ l. Some e.1 ∷ l) (singles_are entries)
@@ -98,6 +104,7 @@ pub record IsRising (entries : List Entry) (levels : List (List Envelope)) (leve
   pub room : length nodes ≤ more + 1
   pub whole : below ++ levels_up more nodes ≡ singles entries ∷ levels_of entries
 
+-- at the start the lowest level is done, and the leaves stand over it
 pub rising_start : (entries : List Entry) (lowest leaves : List Envelope) → lowest ≡ map (λ e. e.1) entries → map Some leaves ≡ map joined_all (eights lowest)
     → IsRising entries (lowest ∷ []) leaves
 rising_start entries lowest leaves h is = record {
@@ -119,6 +126,7 @@ up_more (suc n) nodes room several =
     let size : length (nodes_over nodes) ≡ div_ceil (length nodes) 8 = length-map (eights nodes) (flat_map (λ node. node)) ∙ length-eights nodes in
     (n, ap (λ b. nodes ∷ cond b [] (levels_up n (nodes_over nodes))) some, omega (arith, size))
 
+-- while a level has several nodes the next one stands over it, and keeps what the levels are to keep
 pub rising_more : (entries : List Entry) (levels : List (List Envelope)) (level next : List Envelope) → IsRising entries levels level → 1 < length level
     → map Some next ≡ map joined_all (eights level) → IsRising entries (levels ++ level ∷ []) next
 rising_more entries levels level next r several is =
@@ -142,6 +150,7 @@ up_end (suc n) nodes one =
     let none : leb (length nodes) 1 ≡ true = ⊎_elim (λ h. h.0) (λ h. absurd (omega (arith, h.1))) (leb_tells (length nodes) 1) in
     ap (λ b. nodes ∷ cond b [] (levels_up n (nodes_over nodes))) none
 
+-- with one node at most the root is reached, and the levels keep the whole packing
 pub rising_end : (entries : List Entry) (levels : List (List Envelope)) (level : List Envelope) → IsRising entries levels level → length level ≤ 1
     → KeepPacking entries (levels ++ level ∷ [])
 rising_end entries levels level r one =

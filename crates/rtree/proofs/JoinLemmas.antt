@@ -11,12 +11,14 @@ use Rattle.rtree.proofs.FoundLemmas.{taken}
 use Rattle.rtree.specs.Joins.{joined_all, joined_both, with_envelope}
 use Rattle.rtree.specs.Packing.{Entry, around}
 
+-- the least of three numbers is the same in any grouping, and so is the greatest
 min_assoc : (a b c : ℤ) → int_min (int_min a b) c ≡ int_min a (int_min b c)
 min_assoc a b c = grind (arith, ints)
 
 max_assoc : (a b c : ℤ) → int_max (int_max a b) c ≡ int_max a (int_max b c)
 max_assoc a b c = grind (arith, ints)
 
+-- envelopes join in any grouping
 pub joined_assoc : (e f g : Envelope) → joined (joined e f) g ≡ joined e (joined f g)
 joined_assoc e f g =
     let first = min_assoc e.least_x f.least_x g.least_x in
@@ -25,15 +27,18 @@ joined_assoc e f g =
     let fourth = max_assoc e.greatest_y f.greatest_y g.greatest_y in
     rw (first, second, third, fourth) refl
 
+-- an envelope taken in before others may as well be joined to the first of them
 both_later : (e : Envelope) (a b : Option Envelope) → Some (with_envelope e (joined_both a b)) ≡ joined_both (Some (with_envelope e a)) b
 both_later e None b = refl
 both_later e (Some f) None = refl
 both_later e (Some f) (Some g) = ap Some (sym (joined_assoc e f g))
 
+-- the envelope of two lists together joins theirs
 pub joined-append : (es fs : List Envelope) → joined_all (es ++ fs) ≡ joined_both (joined_all es) (joined_all fs)
 joined-append [] fs = refl
 joined-append (e ∷ es) fs = ap (λ r. Some (with_envelope e r)) (joined-append es fs) ∙ both_later e (joined_all es) (joined_all fs)
 
+-- so does that of two groups of entries
 pub around-append : (es fs : List Entry) → around (es ++ fs) ≡ joined_both (around es) (around fs)
 around-append es fs = ap joined_all (map-append (λ e. e.1) es fs) ∙ joined-append (map (λ e. e.1) es) (map (λ e. e.1) fs)
 
@@ -60,6 +65,7 @@ joined_positions (a ∷ ps) = go (envelope_of_positions ps) refl (joined_positio
     go None h more = ap (λ r. Some (with_envelope (envelope_at a) r)) more
     go (Some e) h more = ap (λ r. Some (with_envelope (envelope_at a) r)) more
 
+-- and that of two lists of positions
 pub positions-append : (ps qs : List Position) → envelope_of_positions (ps ++ qs) ≡ joined_both (envelope_of_positions ps) (envelope_of_positions qs)
 positions-append ps qs =
     joined_positions (ps ++ qs) ∙ ap joined_all (map-append envelope_at ps qs) ∙ joined-append (map envelope_at ps) (map envelope_at qs)

@@ -82,22 +82,27 @@ level_keys Greater Less e a b = cc
 level_keys Greater Equal e a b = cc
 level_keys Greater Greater e a b = cc
 
+-- an order by two parts is level where both parts are
 pub both_level : (r s : Ordering) → ordering_then r s ≡ Equal → (r ≡ Equal) × (s ≡ Equal)
 both_level Less s e = cc
 both_level Equal s e = (refl, e)
 both_level Greater s e = cc
 
+-- numbers that are level are equal
 pub same_number : (a b : ℕ) → nat_cmp a b ≡ Equal → a ≡ b
 same_number a b e = subst (λ r. MatchOrdering r (a < b) (a ≡ b) (b < a)) e (ranks a b)
 
 -- ---- entries in order
 
+-- entries are ordered totally by the sums of their x, the sums of their y, and their position
 key_total : IsTotalOrder key_order
 key_total = then_total (then_total (on_total (λ (t : ℤ × ℤ × ℕ). t.0) int_cmp_total) (on_total (λ (t : ℤ × ℤ × ℕ). t.1) int_cmp_total)) (on_total (λ (t : ℤ × ℤ × ℕ). t.2) nat_cmp_total)
 
+-- so being before is a lawful order of entries
 pub entry_order : IsStrictWeakOrder comes_before
 entry_order = ranks_by key_total packing_key
 
+-- what holds of an entry and of all in a list holds of all when it is put in its place
 all-with_entry : (P : Entry → Type 0) (e : Entry) (zs : List Entry) → P e → AllByRecursion P zs → AllByRecursion P (with_entry e zs)
 all-with_entry P e [] p all = (p, tt)
 all-with_entry P e (z ∷ zs) p all = go (comes_before e z) (all-with_entry P e zs p all.1)
@@ -106,10 +111,12 @@ all-with_entry P e (z ∷ zs) p all = go (comes_before e z) (all-with_entry P e 
     go true more = (p, all)
     go false more = (all.0, more)
 
+-- and of all when each is put in its place
 pub all-in_order : (P : Entry → Type 0) (es : List Entry) → AllByRecursion P es → AllByRecursion P (in_order es)
 all-in_order P [] all = tt
 all-in_order P (e ∷ es) all = all-with_entry P e (in_order es) all.0 (all-in_order P es all.1)
 
+-- an entry put in its place leaves the list in order
 ascends-with_entry : (e : Entry) (zs : List Entry) → Ascends comes_before zs → Ascends comes_before (with_entry e zs)
 ascends-with_entry e [] up = (tt, tt)
 ascends-with_entry e (z ∷ zs) up = go (comes_before e z) refl (ascends-with_entry e zs up.1)
@@ -122,10 +129,12 @@ ascends-with_entry e (z ∷ zs) up = go (comes_before e z) refl (ascends-with_en
     go true h more = let back = entry_order.one_way e z h in ((back, chained back zs up.0), up)
     go false h more = (all-with_entry (λ w. comes_before w z ≡ false) e zs h up.0, more)
 
+-- so entries put in order are in order
 pub ascends-in_order : (es : List Entry) → Ascends comes_before (in_order es)
 ascends-in_order [] = tt
 ascends-in_order (e ∷ es) = ascends-with_entry e (in_order es) (ascends-in_order es)
 
+-- putting an entry in its place adds it once
 sum-with_entry : (f : Entry → ℕ) (e : Entry) (zs : List Entry) → sum_by f (with_entry e zs) ≡ f e + sum_by f zs
 sum-with_entry f e [] = sum_by-cons f e []
 sum-with_entry f e (z ∷ zs) = go (comes_before e z) (sum-with_entry f e zs)
@@ -134,6 +143,7 @@ sum-with_entry f e (z ∷ zs) = go (comes_before e z) (sum-with_entry f e zs)
     go true more = sum_by-cons f e (z ∷ zs)
     go false more = let left = sum_by-cons f z (with_entry e zs) in let right = sum_by-cons f z zs in omega (arith, left, right, more)
 
+-- so putting in order neither adds nor loses an entry
 pub sum-in_order : (f : Entry → ℕ) (es : List Entry) → sum_by f (in_order es) ≡ sum_by f es
 sum-in_order f [] = refl
 sum-in_order f (e ∷ es) = sum-with_entry f e (in_order es) ∙ ap (λ n. f e + n) (sum-in_order f es) ∙ sym (sum_by-cons f e es)
@@ -146,8 +156,10 @@ same_place a b h k =
 
 -- ---- numbers in order
 
+-- being less is a lawful order of numbers
 pub number_order : IsStrictWeakOrder (λ (a b : ℕ). is_lt (nat_cmp a b))
 number_order = ranks_by nat_cmp_total (λ a. a)
 
+-- of two different numbers one is less
 pub numbers_apart : (a b : ℕ) → is_lt (nat_cmp a b) ≡ false → is_lt (nat_cmp b a) ≡ false → a ≡ b
 numbers_apart a b h k = same_number a b (level_keys (nat_cmp a b) (nat_cmp b a) (nat_cmp_total.antisymm a b) h k)

@@ -19,10 +19,12 @@ use Rattle.rtree.proofs.UnpackLemmas.{entries_are, lowest_is}
 
 -- ---- all groups of a level together are the entries
 
+-- groups of one, put together, are the list
 flat_singles : {X : Type 0} (xs : List X) → flat_map (λ g. g) (map (λ x. x ∷ []) xs) ≡ xs
 flat_singles [] = refl
 flat_singles (x ∷ xs) = ap (λ l. x ∷ l) (flat_singles xs)
 
+-- the first groups of eight, put together, are the front of the list
 flat_groups_of : {X : Type 0} (xs : List X) (n : ℕ) → flat_map (λ g. g) (map (λ k. take 8 (drop (8 * k) xs)) (range_with_len 0 n)) ≡ take (8 * n) xs
 flat_groups_of xs zero = refl
 flat_groups_of xs (suc n) =
@@ -34,13 +36,16 @@ flat_groups_of xs (suc n) =
     ∙ ap (λ l. l ++ (group n ++ [])) (flat_groups_of xs n) ∙ ap (λ l. take (8 * n) xs ++ l) (append-nil (group n)) ∙ sym (take-add (8 * n) 8 xs)
     ∙ ap (λ m. take m xs) size
 
+-- all of them are the whole list, since there are as many as eighths, rounded up
 flat_eights : {X : Type 0} (xs : List X) → flat_map (λ g. g) (eights xs) ≡ xs
 flat_eights xs = flat_groups_of xs (div_ceil (length xs) 8) ∙ take_all (8 * div_ceil (length xs) 8) xs (omega arith)
 
+-- groups of groups may be put together from either side
 flat_flat : {X : Type 0} (xsss : List (List (List X))) → flat_map (λ g. g) (map (flat_map (λ g. g)) xsss) ≡ flat_map (λ g. g) (flat_map (λ g. g) xsss)
 flat_flat [] = refl
 flat_flat (xss ∷ xsss) = ap (λ l. flat_map (λ g. g) xss ++ l) (flat_flat xsss) ∙ sym (flat_map-append (λ g. g) xss (flat_map (λ g. g) xsss))
 
+-- on each level the groups of its nodes, put together, are all entries
 pub flat_level : (entries : List Entry) (l : ℕ) → flat_map (λ g. g) (groups_at entries l) ≡ entries
 flat_level entries zero = flat_singles entries
 flat_level entries (suc l) = flat_flat (eights (groups_at entries l)) ∙ ap (flat_map (λ g. g)) (flat_eights (groups_at entries l)) ∙ flat_level entries l
@@ -57,6 +62,7 @@ leaves_over entries =
     ∙ ap (λ n. map (λ k. flat_map (λ g. g) (take 8 (drop (8 * k) (map single entries)))) (range_with_len 0 (div_ceil n 8))) (length-map entries single)
     ∙ ap (λ f. map f (range_with_len 0 (div_ceil (length entries) 8))) each
 
+-- the levels over a level are those of the greater heights
 up_listed : (entries : List Entry) (more l i : ℕ) → i < length (levels_up more (groups_at entries l)) → get_or (levels_up more (groups_at entries l)) i [] ≡ groups_at entries (l + i)
 up_listed entries zero l zero within = let m : l ≡ l + 0 = omega arith in ap (groups_at entries) m
 up_listed entries zero l (suc i) within = absurd (omega arith)
@@ -69,6 +75,7 @@ up_listed entries (suc n) l (suc i) within = go (leb (length (groups_at entries 
     go true inside more = absurd (omega arith)
     go false inside more = let m : suc l + i ≡ l + suc i = omega arith in more (omega arith) ∙ ap (groups_at entries) m
 
+-- the level of a height is the list of groups of that height
 listed : (entries : List Entry) (l : ℕ) → l < length (singles entries ∷ levels_of entries) → get_or (singles entries ∷ levels_of entries) l [] ≡ groups_at entries l
 listed entries zero within = refl
 listed entries (suc l) within =
@@ -103,9 +110,11 @@ kept (level ∷ levels) [] h l within = cc
 kept (level ∷ levels) (n ∷ nodes) h zero within = cc
 kept (level ∷ levels) (n ∷ nodes) h (suc l) within = let rest : map (map Some) levels ≡ map (map around) nodes = cc in kept levels nodes rest l (omega arith)
 
+-- as many levels are kept as the packing has, the lowest one counted
 level_count : (entries : List Entry) (levels : List (List Envelope)) → KeepPacking entries levels → length levels ≡ suc (length (levels_of entries))
 level_count entries levels h = sym (length-map levels (map Some)) ∙ ap length h ∙ length-map (singles entries ∷ levels_of entries) (map around)
 
+-- a packed tree keeps at each height the envelopes of the groups of that height
 pub are_levels : (absent places : List ℕ) (levels : List (List Envelope)) (es : List (Option Envelope)) → IsPacked absent places levels es → AreLevels places levels
 are_levels absent places levels es p =
     let entries = in_order (present es) in
@@ -143,6 +152,7 @@ level_met asked level = count_by (λ e. meets (Some e) asked) level
 abbrev pub met_up_to : Option Envelope → List (List Envelope) → ℕ → ℕ
 met_up_to asked levels height = sum_by (level_met asked) (take (height - 1) (drop 1 levels))
 
+-- on a level that keeps them as many envelopes meet the one asked for as nodes do
 met_in_level : (asked : Option Envelope) (level : List Envelope) (nodes : List (List Entry)) → map Some level ≡ map around nodes
     → level_met asked level ≡ count_by (λ node. meets (around node) asked) nodes
 met_in_level asked [] [] h = refl
@@ -154,6 +164,7 @@ met_in_level asked (e ∷ level) (n ∷ nodes) h =
     sum_by-cons (λ e. cond (meets (Some e) asked) 1 0) e level ∙ ap (λ r. cond (meets r asked) 1 0 + level_met asked level) first
     ∙ ap (λ k. cond (meets (around n) asked) 1 0 + k) (met_in_level asked level nodes rest) ∙ sym (sum_by-cons (λ node. cond (meets (around node) asked) 1 0) n nodes)
 
+-- so it is on all levels together
 met_in_levels : (asked : Option Envelope) (levels : List (List Envelope)) (nodes : List (List (List Entry))) → map (map Some) levels ≡ map (map around) nodes
     → sum_by (level_met asked) levels ≡ count_by (λ node. meets (around node) asked) (flat_map (λ level. level) nodes)
 met_in_levels asked [] [] h = refl
@@ -166,10 +177,12 @@ met_in_levels asked (level ∷ levels) (n ∷ nodes) h =
     ∙ ap (λ k. count_by (λ node. meets (around node) asked) n + k) (met_in_levels asked levels nodes rest)
     ∙ sym (sum_by-append (λ node. cond (meets (around node) asked) 1 0) n (flat_map (λ level. level) nodes))
 
+-- the levels over the lowest keep the envelopes of nodes
 upper : (entries : List Entry) (levels : List (List Envelope)) → KeepPacking entries levels → map (map Some) (drop 1 levels) ≡ map (map around) (levels_of entries)
 upper entries [] h = cc
 upper entries (level ∷ levels) h = cc
 
+-- counted up to the root, the nodes that meet are those that a search opens
 pub all_met : (absent places : List ℕ) (levels : List (List Envelope)) (es : List (Option Envelope)) (asked : Option Envelope) (height : ℕ) → IsPacked absent places levels es
     → length levels ≤ height → met_up_to asked levels height ≡ opened es asked
 all_met absent places levels es asked height p end =

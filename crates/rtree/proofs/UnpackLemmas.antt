@@ -21,6 +21,7 @@ use Rattle.rtree.proofs.OrderLemmas.{Ascends, all-in_order, ascends-in_order, as
 abbrev Stands : List (Option Envelope) → Entry → Type 0
 Stands es e = slice_get es e.0 ≡ Some (Some e.1)
 
+-- each entry taken from a place on stands at its own place in the list
 present-from : (es rest : List (Option Envelope)) (n : ℕ) → ((i : ℕ) → slice_get rest i ≡ slice_get es (n + i)) → AllByRecursion (Stands es) (filter_map entry_at (enumerate_from n rest))
 present-from es [] n same = tt
 present-from es (None ∷ rest) n same = present-from es rest (n + 1) (λ i. let m : n + suc i ≡ n + 1 + i = omega arith in same (suc i) ∙ ap (slice_get es) m)
@@ -29,9 +30,11 @@ present-from es (Some e ∷ rest) n same = (
   present-from es rest (n + 1) (λ i. let m : n + suc i ≡ n + 1 + i = omega arith in same (suc i) ∙ ap (slice_get es) m),
 )
 
+-- so each entry of the list does
 all_stand : (es : List (Option Envelope)) → AllByRecursion (Stands es) (present es)
 all_stand es = present-from es es 0 (λ i. let m : i ≡ 0 + i = omega arith in ap (slice_get es) m)
 
+-- two entries of one list that are level have one place, so they are one
 same_entry : (es : List (Option Envelope)) (a b : Entry) → Stands es a → Stands es b → comes_before a b ≡ false → comes_before b a ≡ false → a ≡ b
 same_entry es a b p q h k =
     let place : a.0 ≡ b.0 = same_place a b h k in
@@ -49,6 +52,7 @@ ordered_is es ordered moved up =
 
 -- ---- what is found
 
+-- the entries that overlap the envelope asked for have the places of the envelopes that meet it
 found-present : (asked : Envelope) (ps : List (ℕ × Option Envelope)) → places_found asked (filter_map entry_at ps) ≡ map (λ p. p.0) (filter (placed_meets (Some asked)) ps)
 found-present asked [] = refl
 found-present asked ((n, None) ∷ ps) = found-present asked ps
@@ -60,6 +64,7 @@ found-present asked ((n, Some e) ∷ ps) = go (overlap e asked) (found-present a
     go true more = ap (λ l. n ∷ l) more
     go false more = more
 
+-- counting what is found is counting the entries that overlap
 sum-found : (asked : Envelope) (f : ℕ → ℕ) (es : List Entry) → sum_by f (places_found asked es) ≡ sum_by (λ e. cond (overlap e.1 asked) (f e.0) 0) es
 sum-found asked f [] = refl
 sum-found asked f (e ∷ es) = go (overlap e.1 asked) refl (sum-found asked f es)
@@ -79,6 +84,7 @@ sum-found asked f (e ∷ es) = go (overlap e.1 asked) refl (sum-found asked f es
         let head : part e ≡ 0 = ap (λ b. cond b (f e.0) 0) h in
         omega (arith, right, head, more)
 
+-- places found from later on aren't less than an earlier one
 above : (h : ℕ × Option Envelope → Bool) (n m : ℕ) (es : List (Option Envelope)) → n < m → AllByRecursion (λ k. is_lt (nat_cmp k n) ≡ false) (map (λ p. p.0) (filter h (enumerate_from m es)))
 above h n m [] less = tt
 above h n m (e ∷ es) less = go (h (m, e)) (above h n (m + 1) es (omega arith))
@@ -91,6 +97,7 @@ above h n m (e ∷ es) less = go (h (m, e)) (above h n (m + 1) es (omega arith))
     go true more = (later, more)
     go false more = more
 
+-- so the places found ascend
 ascends-found : (h : ℕ × Option Envelope → Bool) (n : ℕ) (es : List (Option Envelope)) → Ascends (λ (a b : ℕ). is_lt (nat_cmp a b)) (map (λ p. p.0) (filter h (enumerate_from n es)))
 ascends-found h n [] = tt
 ascends-found h n (e ∷ es) = go (h (n, e)) (ascends-found h (n + 1) es)
@@ -115,6 +122,7 @@ found_is es asked found moved up =
 
 -- ---- the list that is kept
 
+-- where an entry is put makes no difference to what envelope a position has, when no other entry has its position
 envelope-with_entry : (e : Entry) (zs : List Entry) (place : ℕ) → envelope_at zs e.0 ≡ None → envelope_at (with_entry e zs) place ≡ envelope_at (e ∷ zs) place
 envelope-with_entry e [] place none = refl
 envelope-with_entry e (z ∷ zs) place none = go (comes_before e z) (z.0 == e.0) refl none (envelope-with_entry e zs place)
@@ -145,6 +153,7 @@ none_before n place (Some e ∷ es) less = ap (λ b. cond b (Some e) (envelope_a
     apart : n == place ≡ false
     apart = grind (arith, less)
 
+-- putting entries in order changes no envelope at any position
 envelope-in_order : (n : ℕ) (es : List (Option Envelope)) (place : ℕ)
     → envelope_at (in_order (filter_map entry_at (enumerate_from n es))) place ≡ envelope_at (filter_map entry_at (enumerate_from n es)) place
 envelope-in_order n [] place = refl
@@ -154,6 +163,7 @@ envelope-in_order n (Some e ∷ es) place =
     (envelope-in_order (n + 1) es n ∙ none_before (n + 1) n es (omega arith))
     ∙ ap (λ r. cond (n == place) (Some e) r) (envelope-in_order (n + 1) es place)
 
+-- the entries of a list have at each position the list's envelope
 envelope-present : (n : ℕ) (es : List (Option Envelope)) (i place : ℕ) → n + i ≡ place → i < length es → envelope_at (filter_map entry_at (enumerate_from n es)) place ≡ get_or es i None
 envelope-present n [] i place at within = absurd (omega arith)
 envelope-present n (None ∷ es) zero place at within = none_before (n + 1) place es (omega arith)
@@ -205,11 +215,13 @@ lowest_is entries (level ∷ levels) h = let first : map Some level ≡ map arou
         let rest : map Some l ≡ map around (singles es) = cc in
         ap (λ z. z ∷ l) head ∙ ap (λ z. e.1 ∷ z) (each es l rest)
 
+-- the tree's two lists, side by side, are the entries in order
 pub entries_are : (absent places : List ℕ) (levels : List (List Envelope)) (es : List (Option Envelope)) → IsPacked absent places levels es
     → entries_of places levels ≡ in_order (present es)
 entries_are absent places levels es p =
     ap (λ l. zip places l) (lowest_is (in_order (present es)) levels p.packing) ∙ ap (λ l. zip l (map (λ e. e.1) (in_order (present es)))) p.other_places ∙ zipped (in_order (present es))
 
+-- so the list that the tree stands for is the one that it was packed from
 pub unpacked_is : (absent places : List ℕ) (levels : List (List Envelope)) (es : List (Option Envelope)) → IsPacked absent places levels es → unpacked absent places levels ≡ es
 unpacked_is absent places levels es p =
     let entries = in_order (present es) in

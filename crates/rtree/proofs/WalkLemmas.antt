@@ -32,12 +32,15 @@ four true true false s a b c d = cc
 four true false r s a b c d = cc
 four false q r s a b c d = cc
 
+-- a lower bound that moves down stays below all that it was below
 lower : (m x g : ℤ) → m ≤ℤ x → int_le x g ≡ true → int_le m g ≡ true
 lower m x g h k = let r = at_most_from x g k in at_most_yes m g (omega (arith, ints, h, r))
 
+-- an upper bound that moves up stays above all that it was above
 higher : (m x g : ℤ) → x ≤ℤ m → int_le g x ≡ true → int_le g m ≡ true
 higher m x g h k = let r = at_most_from g x k in at_most_yes g m (omega (arith, ints, h, r))
 
+-- an envelope round another meets all that this one meets
 wider : (e f a : Envelope) → f.least_x ≤ℤ e.least_x → e.greatest_x ≤ℤ f.greatest_x → f.least_y ≤ℤ e.least_y → e.greatest_y ≤ℤ f.greatest_y
     → overlap e a ≡ true → overlap f a ≡ true
 wider e f a left right low high h =
@@ -70,6 +73,7 @@ second_apart : (e f a : Envelope) → overlap (joined e f) a ≡ false → overl
 second_apart e f a far =
     not_false (overlap f a) (λ h. let y : true ≡ false = sym (wider f (joined e f) a (min_second e.least_x f.least_x) (max_second e.greatest_x f.greatest_x) (min_second e.least_y f.least_y) (max_second e.greatest_y f.greatest_y) h) ∙ far in cc)
 
+-- entries without an envelope round them are none
 empty : (es : List Entry) → around es ≡ None → es ≡ []
 empty [] n = refl
 empty (y ∷ es) n = cc
@@ -96,6 +100,7 @@ none_found asked e (x ∷ rest) h far = go (around rest) refl (λ f is apart. no
 
 -- ---- node by node
 
+-- what is found among two groups together is found in the one, then in the other
 pub found-append : (asked : Envelope) (es fs : List Entry) → places_found asked (es ++ fs) ≡ places_found asked es ++ places_found asked fs
 found-append asked es fs =
     ap (map (λ e. e.0)) (filter-append (λ e. overlap e.1 asked) es fs) ∙ map-append (λ e. e.0) (filter (λ e. overlap e.1 asked) es) (filter (λ e. overlap e.1 asked) fs)
@@ -122,6 +127,7 @@ walk_more asked groups first node start old new after within grew before =
 
 -- ---- the levels of a tree
 
+-- a level has as many envelopes as groups
 pub level_length : (places : List ℕ) (levels : List (List Envelope)) → AreLevels places levels → (l : ℕ) → l < length levels
     → length (level_at levels l) ≡ length (groups_at (entries_of places levels) l)
 level_length places levels r l within = same_length (level_at levels l) (groups_at (entries_of places levels) l) (r.keep l within)
@@ -162,9 +168,11 @@ level_read f (x ∷ vs) (suc k) v within is = level_read f vs k v (omega arith) 
 level_kept : (levels : List (List Envelope)) (top l : ℕ) → l < top → level_at (take top levels) l ≡ level_at levels l
 level_kept levels top l h = get_or-take top levels l [] h
 
+-- the lower levels have the same entries
 entries_kept : (places : List ℕ) (levels : List (List Envelope)) (top : ℕ) → 0 < top → entries_of places (take top levels) ≡ entries_of places levels
 entries_kept places levels top h = ap (zip places) (level_kept levels top 0 h)
 
+-- the levels below one are levels too
 pub levels_below : (places : List ℕ) (levels : List (List Envelope)) (top : ℕ) → AreLevels places levels → 0 < top → top ≤ length levels → AreLevels places (take top levels)
 levels_below places levels top r h within =
     let size : length (take top levels) ≡ top = length-take-le top levels within in
@@ -176,12 +184,14 @@ levels_below places levels top r h within =
           ap (map Some) (level_kept levels top l low) ∙ r.keep l (omega (arith, size)) ∙ ap (λ es. map around (groups_at es l)) (sym (entries_kept places levels top h));
     }
 
+-- there are as many nodes over a level as eighths of it, rounded up
 over_length : (nodes : List (List Entry)) → length (nodes_over nodes) ≡ div_ceil (length nodes) 8
 over_length nodes = length-map (eights nodes) (flat_map (λ n. n)) ∙ length-eights nodes
 
 before : (top : ℕ) → 0 < top → suc (top - 1) ≡ top
 before top h = omega arith
 
+-- the first node below one is within the level below
 pub inner_first : (places : List ℕ) (levels : List (List Envelope)) (top node : ℕ) → AreLevels places levels → 0 < top → top < length levels → node < length (level_at levels top)
     → 8 * node ≤ length (level_at (take top levels) (length (take top levels) - 1))
 inner_first places levels top node r h within inside =

@@ -4,6 +4,7 @@ use Rattle.geometry_model.specs.Geometries.{Geometry, kind, lines}
 use Rattle.geometry_model.specs.declared.shapes.Kind.TheVariants as kinds
 use Rattle.validity.specs.OddEnds.{ended_lines}
 
+-- in a geometry of lines each line's ends may be a boundary, so these are all its lines
 pub lines_end : (g : Geometry) → kind g ≡ kinds.Line → ended_lines g ≡ lines g
 lines_end (Geometry.Point p) e = absurd cc
 lines_end (Geometry.MultiPoint ps) e = absurd cc

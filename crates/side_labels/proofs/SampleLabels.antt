@@ -19,12 +19,15 @@ use Rattle.side_labels.specs.Samples.{HasSample}
 positive : (u v : ℤ) → pos 0 <ℤ u → pos 0 <ℤ v → pos 0 <ℤ (u +ℤ v)
 positive u v h k = omega (arith, ints)
 
+-- the sample's W is the sum of those of the piece's ends, so it is at least 1
 pub sample_is_point : (c : Piece) → HasSample c → IsPoint (sample c)
 sample_is_point c h = positive c.lesser.W c.greater.W h.lesser h.greater
 
+-- the sample in least form is the same point
 pub same_sample : (q : Point) (c : Piece) → q ≡ least_form (sample c) → same_point q (sample c) ≡ true
 same_sample q c e = subst (λ (r : Point). same_point r (sample c) ≡ true) (sym e) (least_is_same (sample c))
 
+-- where a point stands doesn't depend on its triple, and so neither does its label
 pub label_same : (a b : Geometry) (q : Point) (c : Piece) → HasSample c → IsPoint q → same_point q (sample c) ≡ true → label a b q ≡ label a b (sample c)
 label_same a b q c h hq e = λ i. record {
   first = locate_respects a q (sample c) hq (sample_is_point c h) e i;
@@ -35,6 +38,7 @@ label_same a b q c h hq e = λ i. record {
 sides_of : Location → Location → Location → Location → SideLabels
 sides_of la lb ua ub = record { lower = record { first = la; second = lb }; upper = record { first = ua; second = ub } }
 
+-- nor do the labels of both sides
 pub sides_same : (a b : Geometry) (q : Point) (c : Piece) (la lb ua ub : Location) → HasSample c → IsPoint q → same_point q (sample c) ≡ true → is_upright c ≡ false
     → la ≡ below a q → lb ≡ below b q → ua ≡ above a q → ub ≡ above b q
     → Some (record { lower = record { first = la; second = lb }; upper = record { first = ua; second = ub } }) ≡ side_labels a b c
@@ -56,6 +60,7 @@ of_all : {X Y Z : Type 0} (f : Y → Z) (g : X → Y) (xs : List X) → map (λ 
 of_all f g [] = refl
 of_all f g (x ∷ xs) = ap (λ ys. f (g x) ∷ ys) (of_all f g xs)
 
+-- the ends of pieces are cuts whose triples keep the limit, so the pieces have samples
 pub have_samples : (es : List Edge) (ps : List Position) (cs : List (Point × Point)) (all : List Piece) → map piece_of cs ≡ all → All (IsPiece es ps) all → All HasNodeTriples all → All (λ c. HasSample (piece_of c)) cs
 have_samples es ps cs all e are triples k d l = subst HasSample here (record {
   lesser = cut_is_point es ps (get_or all k (piece_of d)).lesser (are k (piece_of d) within).lesser_is_cut;

@@ -15,6 +15,7 @@ abbrev Among : ℤ → List ℤ → Type 0
 Among k [] = ⊥
 Among k (x ∷ xs) = (k ≡ x) ⊎ Among k xs
 
+-- the test finds each key that is among some
 among-test : (k : ℤ) (xs : List ℤ) → Among k xs → list_any (int_eq k) xs ≡ true
 among-test k [] h = absurd h
 among-test k (x ∷ xs) (inl e) = rw (equal_yes k x e) refl
@@ -24,6 +25,7 @@ among-test k (x ∷ xs) (inr h) = go (int_eq k x) (among-test k xs h)
     go true p = refl
     go false p = p
 
+-- and it finds no other
 test-among : (k : ℤ) (xs : List ℤ) → list_any (int_eq k) xs ≡ true → Among k xs
 test-among k [] h = absurd (false≢true h)
 test-among k (x ∷ xs) h = go (int_eq k x) refl h (test-among k xs)
@@ -32,11 +34,13 @@ test-among k (x ∷ xs) h = go (int_eq k x) refl h (test-among k xs)
     go true is p more = inl (equal_from k x is)
     go false is p more = inr (more p)
 
+-- a key that is among some stands at a place of theirs
 contained : (k : ℤ) (xs : List ℤ) → Among k xs → Contains xs k
 contained k [] h = absurd h
 contained k (x ∷ xs) (inl e) = (0, omega arith, sym e)
 contained k (x ∷ xs) (inr h) = let c = contained k xs h in (suc c.0, omega (arith, c.1), c.2)
 
+-- and a key that stands at a place of theirs is among them
 among : (k : ℤ) (xs : List ℤ) → Contains xs k → Among k xs
 among k xs c = go xs c.0 c.1 c.2
   where
@@ -56,6 +60,8 @@ record First (earlier : List ℤ) (start : ℕ) (keys : List ℤ) (number : ℕ)
   pub are_new : Each (λ k. list_any (int_eq k) earlier ≡ false) before
   pub differ : Pairs (λ a b. a ≢ b) before
 
+-- the number that the search answers is that of a key that equals an earlier one, and no key before it does:
+-- either the key is found among the earlier ones, or it joins them and the search goes on
 first : (earlier : List ℤ) (start : ℕ) (keys : List ℤ) (number : ℕ) → double_from earlier start keys ≡ Some number → First earlier start keys number
 first earlier start [] number e = cc e
 first earlier start (key ∷ keys) number e = go (list_any (int_eq key) earlier) refl e (first (key ∷ earlier) (start + 1) keys number)
@@ -108,6 +114,7 @@ unequal : (key : ℤ) (earlier xs : List ℤ) → Each (λ k. key ≢ k) xs → 
 unequal key earlier [] h n = tt
 unequal key earlier (x ∷ xs) h n = (rw (equal_no x key (λ p. h.0 (sym p)), n.0) refl, unequal key earlier xs h.1 n.1)
 
+-- the search passes keys that are new and differ, and stops at the first that equals an earlier one
 passed : (earlier : List ℤ) (start : ℕ) (before rest : List ℤ) (key : ℤ) → Each (λ k. list_any (int_eq k) earlier ≡ false) before → Pairs (λ a b. a ≢ b) before
     → Among key before ⊎ Among key earlier → double_from earlier start (before ++ key ∷ rest) ≡ Some (length before + start)
 passed earlier start [] rest key n d (inl h) = absurd h
@@ -132,6 +139,7 @@ none earlier start (x ∷ keys) n d =
     let new : list_any (int_eq x) earlier ≡ false = n.0 in
     rw new (none (x ∷ earlier) (start + 1) keys (unequal x earlier keys d.0 n.1) d.1)
 
+-- before the first key there is none to repeat
 all-new : (keys : List ℤ) → Each (λ k. list_any (int_eq k) [] ≡ false) keys
 all-new [] = tt
 all-new (k ∷ keys) = (refl, all-new keys)
@@ -164,6 +172,7 @@ double_is_first keys number = (to, from)
         ∙ passed [] 1 f.before f.after f.key (all-new f.before) (all-pairs (λ a b. a ≢ b) f.before f.none_is_before) (inl (among f.key f.before f.is_double))
         ∙ ap (λ (k : ℕ). Some k) (sym f.number_is)
 
+-- the search ends without a number exactly where it finds no key among those before it
 pub none_is_double : NoneIsDouble
 unfolding double_key
 none_is_double keys = (

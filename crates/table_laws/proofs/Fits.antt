@@ -23,6 +23,7 @@ use Rattle.table_laws.proofs.Loads.{loaded}
 abbrev IsFor : {T G : Type 0} → ColumnType T → Bool → Value G → Type 0
 IsFor kind required v = (fits_type kind v ≡ true) × (required ≡ true → v ≡ value.Null → ⊥)
 
+-- a field that isn't empty is read as a value of the column's type, by each type's own rule, and never as null
 filled-is-for : {T G : Type 0} (geometry : GeometryReader T G) (number : ℕ) (required : Bool) (kind : ColumnType T) (bytes : List ℕ) (v : Value G)
     → filled_value geometry number kind bytes ≡ Ok v → IsFor kind required v
 filled-is-for {T = T} {G = G} geometry number required column.Integer bytes v e = go (integer_of bytes) e
@@ -41,6 +42,7 @@ filled-is-for {T = T} {G = G} geometry number required (column.Geometry kind) by
     go (Err f) e = cc e
     go (Ok g) e = let same : value.Geometry g ≡ v = cc e in subst (IsFor (column.Geometry kind) required) same (refl, λ r p. cc p)
 
+-- an empty field is read as null only where the column takes it; others have a value of its type
 value-is-for : {T G : Type 0} (geometry : GeometryReader T G) (number : ℕ) (required : Bool) (kind : ColumnType T) (bytes : List ℕ) (v : Value G)
     → value_of geometry number required kind bytes ≡ Ok v → IsFor kind required v
 unfolding value_of
@@ -58,6 +60,7 @@ pub record Parts {A F : Type 0} (first : Result A F) (answers : List (Result A F
   pub tail_is : each answers ≡ Ok tail
   pub all_is : head ∷ tail ≡ all
 
+-- all answers are there only where the first is and the others are
 pub parts : {A F : Type 0} (first : Result A F) (answers : List (Result A F)) (all : List A) → each (first ∷ answers) ≡ Ok all → Parts first answers all
 parts {A = A} {F = F} first answers all e = go first refl (each answers) refl e
   where
@@ -78,6 +81,7 @@ both : (a b : Bool) → a ≡ true → b ≡ true → (a && b) ≡ true
 both true b p q = q
 both false b p q = cc p
 
+-- field by field, the values that are read for columns are of their types, and none is null where it may not be
 values-are-for : {T G : Type 0} (geometry : GeometryReader T G) (table : TableDef T) (header : Record) (number : ℕ) (fields : Record) (first : ℕ) (columns : List (ColumnDef T)) (row : Row G)
     → each (map (λ c. value_of geometry number (is_required table c) c.1.column_type (field_under header fields c.1.name)) (enumerate_from first columns)) ≡ Ok row
     → IsRowFor table first columns row
@@ -107,6 +111,7 @@ values-are-for {T = T} {G = G} geometry table header number fields first (c ∷ 
             h.1 (ap (λ (k : ℕ). is_required table (k, c)) (sym at_first) ∙ ap (λ (x : ColumnDef T). is_required table (first + 0, x)) same ∙ r) empty
         filled (suc place) d is r null = t.filled place d is (ap (λ (k : ℕ). is_required table (k, d)) (sym (at_next place)) ∙ r) null
 
+-- a record is read as a row for the table: one of another length or above the limit of rows is refused
 row-is-for : {T G : Type 0} (geometry : GeometryReader T G) (table : TableDef T) (header : Record) (number : ℕ) (fields : Record) (row : Row G)
     → checked_row geometry table header (number, fields) ≡ Ok row → IsRowFor table 0 table.columns row
 unfolding checked_row row_of
@@ -119,6 +124,7 @@ row-is-for {G = G} geometry table header number fields row e =
     go false true e = cc e
     go false false e = values-are-for geometry table header number fields 0 table.columns row e
 
+-- and so is each of some records
 rows-are-for : {T G : Type 0} (geometry : GeometryReader T G) (table : TableDef T) (header : Record) (number : ℕ) (records : List Record) (rows : List (Row G))
     → each (map (checked_row geometry table header) (enumerate_from number records)) ≡ Ok rows → Each (IsRowFor table 0 table.columns) rows
 rows-are-for {G = G} geometry table header number [] rows e =
@@ -128,6 +134,7 @@ rows-are-for {G = G} geometry table header number (fields ∷ records) rows e =
     subst (Each (IsRowFor table 0 table.columns)) p.all_is
     (row-is-for geometry table header number fields p.head p.head_is, rows-are-for geometry table header (number + 1) records p.tail p.tail_is)
 
+-- the typed rows of a table's records are rows for the table
 typed-are-for : {T G : Type 0} (geometry : GeometryReader T G) (table : TableDef T) (records : List Record) (typed : List (Row G))
     → AreTyped geometry table records typed → Each (IsRowFor table 0 table.columns) typed
 unfolding rows_of
@@ -141,11 +148,13 @@ loaded-are-for geometry table records rows e =
     subst (Each (IsRowFor table 0 table.columns)) l.is
     (each-by_key (IsRowFor table 0 table.columns) table.key l.typed (typed-are-for geometry table records l.typed l.are_typed))
 
+-- a row for the table has a value of each column's type
 pub rows_fit : (T G : Type 0) → RowsFit T G
 rows_fit T G geometry table records rows e =
     each-all (λ row. fits_columns table.columns row ≡ true) rows
     (each-weaker (IsRowFor table 0 table.columns) (λ row. fits_columns table.columns row ≡ true) (λ row h. h.fits) rows (loaded-are-for geometry table records rows e))
 
+-- a row for the table has no null where NOT NULL is written or in its key
 pub required_are_filled : (T G : Type 0) → RequiredAreFilled T G
 required_are_filled T G geometry table records rows e =
     each-all (IsFilled table) rows (each-weaker (IsRowFor table 0 table.columns) (IsFilled table) (λ row h. filled row h) rows (loaded-are-for geometry table records rows e))

@@ -17,6 +17,7 @@ pub or-none : (a b : Bool) → (a || b) ≡ false → (a ≡ false) × (b ≡ fa
 or-none true b h = absurd (false≢true (sym h))
 or-none false b h = (refl, h)
 
+-- two keys that the test tells apart differ
 pub differ : (a b : ℤ) → int_eq b a ≡ false → a ≢ b
 differ a b h = λ p. false≢true (sym h ∙ equal_yes b a (sym p))
 
@@ -46,6 +47,7 @@ apart earlier n (key ∷ keys) e = go (list_any (int_eq key) earlier) refl e (ap
 
 -- ---- the insertion of a row
 
+-- a row that is inserted brings its own fact and leaves those of the others
 each-insert : {G : Type 0} (P : Row G → Type 0) (key : ℕ) (row : Row G) (rows : List (Row G)) → P row → Each P rows → Each P (insert_by_key key row rows)
 each-insert P key row [] p h = (p, tt)
 each-insert P key row (other ∷ rows) p h = go (int_lt (key_of key row) (key_of key other)) (each-insert P key row rows p h.1)
@@ -54,6 +56,7 @@ each-insert P key row (other ∷ rows) p h = go (int_lt (key_of key row) (key_of
     go true more = (p, h)
     go false more = (h.0, more)
 
+-- so what holds of each row still does where they stand by key
 pub each-by_key : {G : Type 0} (P : Row G → Type 0) (key : ℕ) (rows : List (Row G)) → Each P rows → Each P (by_key key rows)
 unfolding by_key
 each-by_key P key [] h = tt
@@ -63,9 +66,11 @@ each-by_key P key (row ∷ rows) h = each-insert P key row (by_key key rows) h.0
 abbrev pub Rises : {G : Type 0} → ℕ → List (Row G) → Type 0
 Rises key rows = Pairs (λ a b. key_of key a <ℤ key_of key b) rows
 
+-- keys in order: the first is below the last
 through : (a b c : ℤ) → a <ℤ b → b <ℤ c → a <ℤ c
 through a b c h k = omega (arith, ints)
 
+-- a key that isn't below another, and isn't equal to it, is above it
 above : (a b : ℤ) → b ≤ℤ a → a ≢ b → b <ℤ a
 above a b h apart = go (three_ways b a)
   where
@@ -77,6 +82,7 @@ above a b h apart = go (three_ways b a)
     go (inr (inl e)) = absurd (apart (sym e))
     go (inr (inr l)) = absurd (below h l)
 
+-- a row of a new key, put before the first greater one, leaves the keys rising: those before it are smaller
 rises-insert : {G : Type 0} (key : ℕ) (row : Row G) (rows : List (Row G)) → Each (λ r. key_of key row ≢ key_of key r) rows → Rises key rows → Rises key (insert_by_key key row rows)
 rises-insert key row [] differs h = (tt, tt)
 rises-insert key row (other ∷ rows) differs h =
@@ -99,6 +105,7 @@ rises-insert key row (other ∷ rows) differs h =
       more,
     )
 
+-- rows whose keys differ are put one by one into rising rows, and these stay rising
 rises-by_key : {G : Type 0} (key : ℕ) (rows : List (Row G)) → Pairs (λ a b. key_of key a ≢ key_of key b) rows → Rises key (by_key key rows)
 unfolding by_key
 rises-by_key key [] h = tt
@@ -112,6 +119,7 @@ rises key rows none = rises-by_key key rows (pairs-map (λ a b. a ≢ b) (key_of
 
 -- ---- the same rows
 
+-- an insertion only moves the row among the others
 permuted-insert : {G : Type 0} (key : ℕ) (row : Row G) (rows : List (Row G)) → IsPermutation (row ∷ rows) (insert_by_key key row rows)
 permuted-insert key row [] = IsPermutation-refl (row ∷ [])
 permuted-insert key row (other ∷ rows) = go (int_lt (key_of key row) (key_of key other)) (permuted-insert key row rows)
@@ -124,6 +132,7 @@ permuted-insert key row (other ∷ rows) = go (int_lt (key_of key row) (key_of k
         (IsPermutation-sym (other ∷ row ∷ rows) (row ∷ other ∷ rows) (IsPermutation-middle (other ∷ []) row rows))
         (IsPermutation-cons other (row ∷ rows) (insert_by_key key row rows) more)
 
+-- rows by key are the same rows in another order: each was inserted once
 pub permuted : {G : Type 0} (key : ℕ) (rows : List (Row G)) → IsPermutation rows (by_key key rows)
 unfolding by_key
 permuted key [] = IsPermutation-refl []

@@ -15,10 +15,12 @@ abbrev pub Pairs : {X : Type 0} → (X → X → Type 0) → List X → Type 0
 Pairs R [] = Unit {0}
 Pairs R (x ∷ xs) = Each (R x) xs × Pairs R xs
 
+-- what holds of each element may be weakened
 pub each-weaker : {X : Type 0} (P Q : X → Type 0) → ((x : X) → P x → Q x) → (xs : List X) → Each P xs → Each Q xs
 each-weaker P Q f [] h = tt
 each-weaker P Q f (x ∷ xs) h = (f x h.0, each-weaker P Q f xs h.1)
 
+-- this form, by the list's parts, says what the form by places says; so for pairs, and the other way below
 pub each-all : {X : Type 0} (P : X → Type 0) (xs : List X) → Each P xs → All P xs
 each-all P [] h = All-nil P
 each-all P (x ∷ xs) h = All-cons P x xs h.0 (each-all P xs h.1)
@@ -27,6 +29,7 @@ pub pairs-all : {X : Type 0} (R : X → X → Type 0) (xs : List X) → Pairs R 
 pairs-all R [] h = λ i j d before within. absurd (omega (arith, within))
 pairs-all R (x ∷ xs) h = AllPairs-cons R x xs (each-all (R x) xs h.0) (pairs-all R xs h.1)
 
+-- what holds of each image holds of each element by its image
 pub each-map : {X Y : Type 0} (P : Y → Type 0) (f : X → Y) (xs : List X) → Each P (map f xs) → Each (λ x. P (f x)) xs
 each-map P f [] h = tt
 each-map P f (x ∷ xs) h = (h.0, each-map P f xs h.1)

@@ -16,6 +16,7 @@ pub record Loaded {T G : Type 0} (geometry : GeometryReader T G) (table : TableD
   pub differ : double_key (map (key_of table.key) typed) ≡ None
   pub is : by_key table.key typed ≡ rows
 
+-- a table loads only where its records are typed rows of which no two have one key, and then it is those rows by key
 pub loaded : {T G : Type 0} (geometry : GeometryReader T G) (table : TableDef T) (records : List Record) (rows : Table G)
     → load geometry table records ≡ Ok rows → Loaded geometry table records rows
 unfolding load
@@ -33,11 +34,13 @@ loaded {G = G} geometry table records rows e =
     go None (Err f) is e = cc e
     go None (Ok typed) is e = last typed is (double_key (map (key_of table.key) typed)) refl e
 
+-- the typed rows differ in their keys and are put by key, so the keys rise
 pub ascend : (T G : Type 0) → RowsAscend T G
 ascend T G geometry table records rows e =
     let l = loaded geometry table records rows e in
     subst (Ascends table.key) l.is (pairs-all (λ a b. key_of table.key a <ℤ key_of table.key b) (by_key table.key l.typed) (rises table.key l.typed l.differ))
 
+-- the rows are the typed ones put by key, which only moves them
 pub are_permuted : (T G : Type 0) → RowsArePermuted T G
 are_permuted T G geometry table records rows e =
     let l = loaded geometry table records rows e in

@@ -34,6 +34,7 @@ ReadsTaken {T} {G} takes geometry = (number : ℕ) (kind : T) (bytes : List ℕ)
 abbrev IsFor : {T G : Type 0} → Takes T G → ColumnType T → Bool → Value G → Type 0
 IsFor takes kind required v = IsValueFor takes kind v × (required ≡ true → v ≢ value.Null)
 
+-- a text is read as a whole number only within 64 bits
 number-fits : (text : List ℕ) (n : ℤ) → number_in text ≡ Some n → fits_64_bits n ≡ true
 number-fits text n e = go (is_number text) refl e
   where
@@ -43,10 +44,13 @@ number-fits text n e = go (is_number text) refl e
         let same : signed_digits_value 10 text ≡ n = cc e in
         ap fits_64_bits (sym same) ∙ (and_parts _ _ (and_parts _ _ is).1).1
 
+-- so is a field, blanks around the number passed over
 integer-fits : (bytes : List ℕ) (n : ℤ) → integer_of bytes ≡ Some n → fits_64_bits n ≡ true
 unfolding integer_of
 integer-fits bytes n e = number-fits (trimmed bytes) n e
 
+-- a field that isn't empty is read as a value for the column, by each type's own rule, and never as null:
+-- a number of 64 bits, a text of UTF-8 that isn't empty, or a geometry that the column takes
 filled-is-for : {T G : Type 0} (takes : Takes T G) (geometry : GeometryReader T G) → ReadsTaken takes geometry → (number : ℕ) (required : Bool) (kind : ColumnType T) (byte : ℕ) (bytes : List ℕ) (v : Value G)
     → filled_value geometry number kind (byte ∷ bytes) ≡ Ok v → IsFor takes kind required v
 filled-is-for {T = T} {G = G} takes geometry taken number required column.Integer byte bytes v e = go (integer_of (byte ∷ bytes)) refl e
@@ -65,6 +69,7 @@ filled-is-for {T = T} {G = G} takes geometry taken number required (column.Geome
     go (Err f) is e = cc e
     go (Ok g) is e = let same : value.Geometry g ≡ v = cc e in subst (IsFor takes (column.Geometry kind) required) same (taken number kind (byte ∷ bytes) g is, λ r p. cc p)
 
+-- an empty field is read as null only where the column takes it; others have a value for the column
 value-is-for : {T G : Type 0} (takes : Takes T G) (geometry : GeometryReader T G) → ReadsTaken takes geometry → (number : ℕ) (required : Bool) (kind : ColumnType T) (bytes : List ℕ) (v : Value G)
     → value_of geometry number required kind bytes ≡ Ok v → IsFor takes kind required v
 unfolding value_of
@@ -79,6 +84,7 @@ record IsRowFrom {T G : Type 0} (takes : Takes T G) (table : TableDef T) (first 
   width : length row ≡ length columns
   typed : (place : ℕ) (c : ColumnDef T) (v : Value G) → slice_get columns place ≡ Some c → slice_get row place ≡ Some v → IsFor takes c.column_type (is_required table (first + place, c)) v
 
+-- field by field, there is one value for each column, and it is one for that column
 values-are-for : {T G : Type 0} (takes : Takes T G) (geometry : GeometryReader T G) → ReadsTaken takes geometry
     → (table : TableDef T) (header : Record) (number : ℕ) (fields : Record) (first : ℕ) (columns : List (ColumnDef T)) (row : Row G)
     → each (map (λ c. value_of geometry number (is_required table c) c.1.column_type (field_under header fields c.1.name)) (enumerate_from first columns)) ≡ Ok row
@@ -116,6 +122,7 @@ values-are-for {T = T} {G = G} takes geometry taken table header number fields f
 abbrev IsRead : {T G : Type 0} → Takes T G → TableDef T → ℕ → Row G → Type 0
 IsRead takes table number row = (number ≤ row_limit) × IsRowFrom takes table 0 table.columns row
 
+-- a record is read as a row only where its number is within the limit, and then it is a row for the table
 row-is-for : {T G : Type 0} (takes : Takes T G) (geometry : GeometryReader T G) → ReadsTaken takes geometry → (table : TableDef T) (header : Record) (number : ℕ) (fields : Record) (row : Row G)
     → checked_row geometry table header (number, fields) ≡ Ok row → IsRead takes table number row
 unfolding checked_row row_of
@@ -133,6 +140,7 @@ row-is-for {G = G} takes geometry taken table header number fields row e =
 abbrev AreRead : {T G : Type 0} → Takes T G → TableDef T → ℕ → List (Row G) → Type 0
 AreRead takes table number rows = (length rows + number ≤ row_limit + 1) × Each (IsRowFrom takes table 0 table.columns) rows
 
+-- records are numbered on, so there are no more rows than the limit allows, and each is a row for the table
 rows-are-for : {T G : Type 0} (takes : Takes T G) (geometry : GeometryReader T G) → ReadsTaken takes geometry → (table : TableDef T) (header : Record) (number : ℕ) (records : List Record) (rows : List (Row G))
     → number ≤ row_limit + 1 → each (map (checked_row geometry table header) (enumerate_from number records)) ≡ Ok rows → AreRead takes table number rows
 rows-are-for {G = G} takes geometry taken table header number [] rows few e =
@@ -153,6 +161,7 @@ rows-are-for {G = G} takes geometry taken table header number (fields ∷ record
     shifted : (size n limit : ℕ) → size + (n + 1) ≤ limit + 1 → suc size + n ≤ limit + 1
     shifted size n limit l = omega (arith, l)
 
+-- the typed rows of a table's records are rows for the table, within the limit
 typed-are-for : {T G : Type 0} (takes : Takes T G) (geometry : GeometryReader T G) → ReadsTaken takes geometry → (table : TableDef T) (records : List Record) (typed : List (Row G))
     → AreTyped geometry table records typed → AreRead takes table 1 typed
 unfolding rows_of
@@ -161,6 +170,7 @@ typed-are-for takes geometry taken table records typed e =
 
 -- ---- the rows of a table
 
+-- an insertion adds one row
 length-insert : {G : Type 0} (key : ℕ) (row : Row G) (rows : List (Row G)) → length (insert_by_key key row rows) ≡ suc (length rows)
 length-insert key row [] = refl
 length-insert {G = G} key row (other ∷ rows) = go _ (length-insert key row rows)
@@ -169,11 +179,13 @@ length-insert {G = G} key row (other ∷ rows) = go _ (length-insert key row row
     go true e = refl
     go false e = ap suc e
 
+-- rows by key are as many as before
 length-by_key : {G : Type 0} (key : ℕ) (rows : List (Row G)) → length (by_key key rows) ≡ length rows
 unfolding by_key
 length-by_key key [] = refl
 length-by_key key (row ∷ rows) = length-insert key row (by_key key rows) ∙ ap suc (length-by_key key rows)
 
+-- the columns from the first on are all columns of the table
 whole-row : {T G : Type 0} (takes : Takes T G) (table : TableDef T) (row : Row G) → IsRowFrom takes table 0 table.columns row → IsRow takes table row
 whole-row {T = T} {G = G} takes table row h = record { width = h.width; typed = typed }
   where
@@ -183,10 +195,12 @@ whole-row {T = T} {G = G} takes table row h = record { width = h.width; typed = 
     typed : (place : ℕ) (c : ColumnDef T) (v : Value G) → slice_get table.columns place ≡ Some c → slice_get row place ≡ Some v → IsFor takes c.column_type (is_required table (place, c)) v
     typed place c v is here = subst (λ (k : ℕ). IsFor takes c.column_type (is_required table (k, c)) v) (from_zero place) (h.typed place c v is here)
 
+-- so rows for all of them are the table's rows
 each-row : {T G : Type 0} (takes : Takes T G) (table : TableDef T) (rows : List (Row G)) → Each (IsRowFrom takes table 0 table.columns) rows → Each (IsRow takes table) rows
 each-row takes table [] h = tt
 each-row takes table (row ∷ rows) h = (whole-row takes table row h.0, each-row takes table rows h.1)
 
+-- what loads is the typed rows put by key: as many, each still a row of the table, and their keys rise
 pub loads_rows : {T G : Type 0} (takes : Takes T G) (geometry : GeometryReader T G) → ReadsTaken takes geometry → LoadsRows takes geometry
 loads_rows {T = T} {G = G} takes geometry taken table records rows e =
     let l = loaded geometry table records rows e in
@@ -202,6 +216,7 @@ loads_rows {T = T} {G = G} takes geometry taken table records rows e =
 
 -- ---- databases
 
+-- a table among others loads where it loads by itself; only a fault is told with the table's place
 table-loaded : {X : Type 0} (place : ℕ) (r : Result X LoadFault) (x : X) → at_table place r ≡ Ok x → r ≡ Ok x
 table-loaded place (Ok y) x e = let same : y ≡ x = cc e in ap Ok same
 table-loaded place (Err f) x e = cc e
@@ -211,6 +226,7 @@ record AreTables {T G : Type 0} (takes : Takes T G) (definitions : List (TableDe
   count : length tables ≡ length definitions
   each_is : (place : ℕ) (table : TableDef T) (rows : Table G) → slice_get definitions place ≡ Some table → slice_get tables place ≡ Some rows → AreRows takes table rows
 
+-- table by table, each of the lists of records that load gives the rows of its own table
 tables-are : {T G : Type 0} (takes : Takes T G) (geometry : GeometryReader T G) → ReadsTaken takes geometry → (first : ℕ) (definitions : List (TableDef T)) (texts : List (List Record)) (tables : List (Table G))
     → length texts ≡ length definitions → each (map (λ t. at_table t.0 (load geometry t.1.0 t.1.1)) (enumerate_from first (zip definitions texts))) ≡ Ok tables → AreTables takes definitions tables
 tables-are {T = T} {G = G} takes geometry taken first [] [] tables many e =
@@ -238,6 +254,7 @@ tables-are {T = T} {G = G} takes geometry taken first (d ∷ definitions) (text 
             subst (λ (x : Table G). AreRows takes table x) same_rows (subst (λ (x : TableDef T). AreRows takes x rows) same h)
         each_is (suc place) table found is here = t.each_is place table found is here
 
+-- tables that load for lawful definitions are one for each, with the rows of that table
 pub loads_database : {T G : Type 0} (takes : Takes T G) (geometry : GeometryReader T G) → ReadsTaken takes geometry → LoadsDatabase takes geometry
 unfolding load_tables
 loads_database takes geometry taken definitions texts tables are many e =

@@ -21,6 +21,7 @@ IsFull (Err (OffGrid at)) = ⊥
 IsFull (Err (OutOfRange at)) = ⊥
 IsFull (Err TooLong) = Unit {0}
 
+-- a step that is too long ends the reading, whatever comes next
 pub full_then : {A B : Type 0} (r : Result (A × Input) TextFault) (next : A → Reader B) → IsFull r → IsFull (and_then r next)
 full_then (Ok found) next full = absurd full
 full_then (Err (Syntax at)) next full = absurd full
@@ -28,6 +29,7 @@ full_then (Err (OffGrid at)) next full = absurd full
 full_then (Err (OutOfRange at)) next full = absurd full
 full_then (Err TooLong) next full = tt
 
+-- a step that finds something, and a next that is too long behind it
 pub then_full : {A B : Type 0} (Q : A → Input → Type 0) (r : Result (A × Input) TextFault) (next : A → Reader B)
     → IsRead r Q → ((x : A) (j : Input) → Q x j → IsFull (next x j)) → IsFull (and_then r next)
 then_full Q (Ok found) next read step = step found.0 found.1 read
@@ -38,6 +40,7 @@ abbrev pub Full : {A : Type 0} → (A → Rule) → (List ℕ → Type 0) → Re
 Full {A} P Stops step = (i : Input) (x : A) (rest : List ℕ) → Took i.left (P x) rest → Stops rest → IsFull (step i)
 
 -- ---- steps
+-- a text that is too long is so with white space around it
 padded_full : {A : Type 0} (P : A → Rule) (step : Reader A) → Begins P is_white → Full P Ends step → Full (λ x. Padded (P x)) Closed (padded step)
 padded_full P step starts full i x rest t closed =
     let a = apart i.left rest Blank (P x ⨾ Blank) t in
@@ -46,6 +49,7 @@ padded_full P step starts full i x rest t closed =
     let j_is : j.left ≡ a.0 = blank_read i.left a.0 a.1 (ap (begins_with is_white) b.1.1 ∙ starts x b.1.0 b.0 b.1.2) in
     full_then (step j) _ (full j x b.0 (b.1.0, j_is ∙ b.1.1, b.1.2) (subst Ends (sym b.2.1) (white_ends b.2.0 rest b.2.2 closed.1)))
 
+-- and in parentheses
 enclosed_full : {A : Type 0} (P : A → Rule) (Stops : List ℕ → Type 0) (step : Reader A) → ((rest : List ℕ) → Stops (41 ∷ rest)) → Full P Stops step
     → Full (λ x. Enclosed (P x)) (λ _. Unit {0}) (enclosed step)
 enclosed_full P Stops step close full i x rest t any =
@@ -56,6 +60,7 @@ enclosed_full P Stops step close full i x rest t any =
     (λ _ j j_is. full_then (step j) _ (full j x b.0 (b.1.0, j_is ∙ b.1.1, b.1.2) (subst Stops (sym b_is) (close rest))))
 
 -- ---- a position where none may come
+-- where no position may come, its first number is read, and then it is too long
 position_full : Full PositionText Ends (position zero)
 unfolding position
 position_full i p rest t ends =
@@ -65,6 +70,7 @@ position_full i p rest t ends =
     (numeral_at i p.x a.0 a.1 (subst Ends (sym b.1.1) (space_ends b.1.0 b.0 b.1.2.0 b.1.2.1)))
     (λ n j found. tt)
 
+-- so is a point of a MULTIPOINT, in either form
 point_full : Full PointText Ends (point zero)
 unfolding point
 point_full i p rest t ends = elim t.2 [
@@ -77,6 +83,7 @@ point_full i p rest t ends = elim t.2 [
 ]
 
 -- ---- lists with more than there is room for
+-- the items that may come are read, and the first one that may not is too long
 separated_full : {A : Type 0} (P : A → Rule) (item : ℕ → Reader A) → Begins P is_white → ((room : ℕ) → 0 < room → Complete P Ends (item room)) → Full P Ends (item zero)
     → (room : ℕ) (xs : List A) (i : Input) (rest : List ℕ) → room < length xs → Took i.left (Separated P xs) rest → Closes rest → IsFull (separated item room i)
 unfolding separated
@@ -100,6 +107,7 @@ separated_full P item starts complete full (suc room) (x ∷ y ∷ more) i rest 
     (separated_full P item starts complete full room (y ∷ more) (after 1 j) rest (le_of_suc-le-suc many) (b.2.0, ap (drop 1) (known.1 ∙ a_is) ∙ b.2.1, b.2.2) stop)))
 
 -- ---- lists in parentheses
+-- a list that is over what may come is too long in parentheses
 enclosed_list_full : {A : Type 0} (P : A → Rule) (Over : List A → Type 0) (inner : Reader (List A))
     → ((xs : List A) (i : Input) (rest : List ℕ) → Over xs → Took i.left (Separated P xs) rest → Closes rest → IsFull (inner i))
     → (xs : List A) (i : Input) (rest : List ℕ) → Over xs → Took i.left (Enclosed (Separated P xs)) rest → IsFull (enclosed inner i)
@@ -107,6 +115,7 @@ enclosed_list_full P Over inner full xs i rest over t = enclosed_full (λ ys tex
     (λ j ys more taken stop. full ys j more taken.2.1 (taken.0, taken.1, taken.2.0) stop) i xs rest
     (t.0, t.1, (t.2.0, t.2.1, t.2.2, t.2.3, (t.2.4.0, t.2.4.1, t.2.4.2, (t.2.4.3, over), t.2.4.4))) tt
 
+-- and with white space around these
 padded_list_full : {A : Type 0} (P : A → Rule) (Over : List A → Type 0) (step : Reader (List A))
     → ((xs : List A) (i : Input) (rest : List ℕ) → Over xs → Took i.left (Enclosed (Separated P xs)) rest → IsFull (step i))
     → (xs : List A) (i : Input) (rest : List ℕ) → Over xs → Took i.left (Padded (Enclosed (Separated P xs))) rest → Closed rest → IsFull (padded step i)
@@ -115,6 +124,7 @@ padded_list_full P Over step full xs i rest over t stop = padded_full (λ ys tex
     (λ j ys more taken ends. full ys j more taken.2.1 (taken.0, taken.1, taken.2.0)) i xs rest
     (t.0, t.1, (t.2.0, t.2.1, t.2.2, t.2.3, (t.2.4.0, t.2.4.1, t.2.4.2, (t.2.4.3, over), t.2.4.4))) stop
 
+-- so is a line or ring with more positions than may come
 padded_line_full : (room : ℕ) (ps : List Position) (i : Input) (rest : List ℕ) → room < length ps → Took i.left (Padded (LineText ps)) rest → Closed rest → IsFull (padded (line room) i)
 unfolding line
 padded_line_full room = padded_list_full PositionText (λ ps. room < length ps) (line room)
@@ -157,6 +167,7 @@ comma_behind P x y more from rest t =
     let b = apart a.0 rest (Byte 44) (Separated P (y ∷ more)) a.2 in
     (b.0, subst (Took from (Padded (P x))) (byte_is 44 a.0 b.0 b.1) a.1, b.2)
 
+-- items over a count: the first of them that is over what those before it left is too long
 items_full : {A : Type 0} (P : A → Rule) (item : ℕ → ℕ → Reader A) (rings : A → List (List Position)) → HasRings P rings → ReadsItem P item rings → FullItem P item rings
     → (turns count room : ℕ) (xs : List A) (i : Input) (rest : List ℕ) → count ≤ turns → IsOver count room (rings_of rings xs) → Took i.left (Separated P xs) rest → Closes rest → IsFull (items item rings turns count room i)
 items_full P item rings has complete full turns count room [] i rest enough over t stop = absurd t.2
@@ -181,29 +192,35 @@ no_ring_full ps i rest t =
     full_then {A = List Position} ((expect 40 >> too_long) j) _
     (then_full (λ _ k. k.left ≡ c.0) (expect 40 j) (λ _. too_long) (expect_read 40 j c.0 (j_is ∙ opens)) (λ _ k known. tt))
 
+-- where a part may come, a line or ring that is over the counts has too many positions
 long_line : (x : List Position) (count room : ℕ) → IsOver (suc count) room (alone x) → room < length x
 long_line x count room (inl many) = absurd (omega (arith, many))
 long_line x count room (inr many) = rw (append-nil x) at many
 
+-- an element or ring over the counts is too long: no part may come, or it has too many positions
 pub ring_full : FullItem LineText ring alone
 unfolding ring
 ring_full zero room x i rest over t stop = no_ring_full x i rest t
 ring_full (suc count) room x i rest over t stop = padded_line_full room x i rest (long_line x count room over) t stop
 
+-- so are elements or rings that are over a count together
 parts_full : (count room : ℕ) (xs : List (List Position)) (i : Input) (rest : List ℕ) → IsOver count room xs → Took i.left (Separated LineText xs) rest → Closes rest → IsFull (parts count room i)
 parts_full count room xs i rest over t stop = rw (parts_are_items count room i)
     (items_full LineText ring alone one_ring ring_read ring_full count count room xs i rest (le_refl count) (subst (IsOver count room) (sym (alone_of xs)) over) t stop)
 
+-- a polygon, by its rings
 pub polygon_full : FullItem PolygonText polygon itself
 unfolding polygon
 polygon_full count room = padded_list_full LineText (IsOver count room) (polygon count room) (enclosed_list_full LineText (IsOver count room) (parts count room) (parts_full count room))
 
+-- and polygons, by the rings of all
 polygons_full : (turns count room : ℕ) → count ≤ turns → (xs : List (List (List Position))) (i : Input) (rest : List ℕ) → IsOver count room (joined_rings xs) → Took i.left (Separated PolygonText xs) rest → Closes rest
     → IsFull (polygons turns count room i)
 polygons_full turns count room enough xs i rest over t stop = rw (polygons_are_items turns count room i)
     (items_full PolygonText polygon itself rings_of_polygon polygon_read polygon_full turns count room xs i rest enough over t stop)
 
 -- ---- whole texts
+-- a body over the counts isn't EMPTY, so its list in parentheses is too long
 body_full : {A : Type 0} (P : A → Rule) (Over : List A → Type 0) (inner : Reader (List A)) → (Over [] → ⊥)
     → ((xs : List A) (i : Input) (rest : List ℕ) → Over xs → Took i.left (Separated P xs) rest → Closes rest → IsFull (inner i))
     → (xs : List A) (i : Input) (rest : List ℕ) → Over xs → Took i.left (Body P xs) rest → IsFull (body inner i)
@@ -224,11 +241,13 @@ body_full P Over inner none full (x ∷ more) i rest over t =
 abbrev pub IsOverCounts : Geometry → Type 0
 IsOverCounts w = (position_limit < length (written_positions w)) ⊎ (part_limit < length (written_parts w))
 
+-- a POINT has no part and no second position, so it is over no count
 one_position : (p : Option Position) → IsOverCounts (Point p) → ⊥
 one_position None (inl many) = omega (arith, many)
 one_position (Some p) (inl many) = omega (arith, many)
 one_position p (inr many) = omega (arith, many)
 
+-- a geometry without parts can be over the count of positions only
 over_positions : (n : ℕ) → (position_limit < n) ⊎ (part_limit < 0) → position_limit < n
 over_positions n (inl many) = many
 over_positions n (inr many) = absurd (omega (arith, many))
@@ -237,14 +256,17 @@ turned : (ls : List (List Position)) → (position_limit < length (flat_map (λ 
 turned ls (inl many) = inr many
 turned ls (inr many) = inl many
 
+-- an empty geometry is over no count
 not_over_none : IsOver part_limit position_limit [] → ⊥
 not_over_none (inl many) = omega (arith, many)
 not_over_none (inr many) = omega (arith, many)
 
+-- the elements or rings behind a name, where they are over a count
 lists_full : (ls : List (List Position)) (i : Input) (rest : List ℕ) → IsOver part_limit position_limit ls → Took i.left (Body LineText ls) rest → IsFull (lists i)
 lists_full ls i rest over t = body_full LineText (IsOver part_limit position_limit) (parts part_limit position_limit) not_over_none
     (parts_full part_limit position_limit) ls i rest over t
 
+-- type by type: its name is no other type's, and its body is too long where it is over a count
 tagged_full : (w : Geometry) (i : Input) (rest : List ℕ) → IsOverCounts w → Took i.left (TaggedText w) rest → IsFull (tagged i)
 unfolding tagged typed
 tagged_full (Point p) i rest over t = absurd (one_position p over)
@@ -290,6 +312,7 @@ tagged_full (MultiPolygon es) i rest over t = let n = prefix_len is_ascii_alphab
     (full_then (nested_lists (after n i)) _ (body_full PolygonText (λ ys. IsOver part_limit position_limit (joined_rings ys)) (polygons part_limit part_limit position_limit) not_over_none
     (polygons_full part_limit part_limit position_limit (le_refl part_limit)) es (after n i) rest (turned (joined_rings es) over) r.1))
 
+-- so a whole text over the counts is too long
 pub whole_full : (w : Geometry) (text : List ℕ) → IsOverCounts w → Writes w text → IsFull (whole (record { left = text; at = 0 }))
 unfolding whole
 whole_full w text over t = full_then (padded tagged (record { left = text; at = 0 })) _
@@ -297,6 +320,7 @@ whole_full w text over t = full_then (padded tagged (record { left = text; at = 
     (λ j v more taken ends. tagged_full v j more taken.2.1 (taken.0, taken.1, taken.2.0)) (record { left = text; at = 0 }) w []
     (text, sym (append-nil text), (t.0, t.1, t.2, t.3, (t.4.0, t.4.1, t.4.2, (t.4.3, over), t.4.4))) (refl, (refl, refl, refl)))
 
+-- a geometry that isn't within the counts is over one of them
 not_within : (w : Geometry) → (IsWithinCounts w → ⊥) → IsOverCounts w
 not_within w none = go (fits_or_not (length (written_positions w)) position_limit) (fits_or_not (length (written_parts w)) part_limit)
   where
@@ -305,6 +329,7 @@ not_within w none = go (fits_or_not (length (written_positions w)) position_limi
     go (inl few) (inr many) = inr many
     go (inl few) (inl few_parts) = absurd (none (few, few_parts))
 
+-- to be read as too long is to end with that fault
 pub full_is : (r : Result (Geometry × Input) TextFault) → IsFull r → r ≡ Err TooLong
 full_is (Ok found) full = absurd full
 full_is (Err (Syntax at)) full = absurd full
@@ -312,6 +337,7 @@ full_is (Err (OffGrid at)) full = absurd full
 full_is (Err (OutOfRange at)) full = absurd full
 full_is (Err TooLong) full = refl
 
+-- a text of the grammar that isn't within the counts is read up to the first position or part that may not come
 pub too_many_is_too_long : TooManyIsTooLong
 unfolding read_text
 too_many_is_too_long text w t none = ap outcome (full_is (whole (record { left = text; at = 0 })) (whole_full w text (not_within w none) t))

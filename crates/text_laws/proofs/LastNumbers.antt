@@ -27,6 +27,7 @@ data Overlap (xs ys us vs : List ℕ) : Type 0 where
   Shorter : (c : ℕ) (w : List ℕ) → us ≡ xs ++ (c ∷ w) → ys ≡ c ∷ (w ++ vs) → Overlap xs ys us vs
   Longer : (w : List ℕ) → xs ≡ us ++ w → w ++ ys ≡ vs → Overlap xs ys us vs
 
+-- where one text is cut in two ways, the one front goes on where the other ends
 overlap : (xs ys us vs : List ℕ) → xs ++ ys ≡ us ++ vs → Overlap xs ys us vs
 overlap xs ys [] vs e = Overlap.Longer xs refl e
 overlap [] ys (u ∷ us) vs e = Overlap.Shorter u us refl e
@@ -45,6 +46,7 @@ pub record Within (front P : List ℕ) (c : ℕ) (V closing : List ℕ) : Type 0
   pub front_is : front ≡ P ++ (c ∷ rest)
   pub left_is : V ≡ rest ++ pair closing
 
+-- no parenthesis or comma with digits behind it stands from the pair on: the pair has neither, and no digits come behind it
 not_in_pair : (P : List ℕ) (c : ℕ) (V closing : List ℕ) → (c ≡ 40) ⊎ (c ≡ 44) → pair closing ≡ P ++ (c ∷ V) → HasDigit V → NoDigit closing → ⊥
 not_in_pair [] c V closing k e has none = other k (head_of 43 c (48 ∷ 32 ∷ 48 ∷ closing) V e)
   where
@@ -65,6 +67,7 @@ not_in_pair (p ∷ q ∷ r ∷ []) c V closing k e has none = other k (head_of 4
 not_in_pair (p ∷ q ∷ r ∷ s ∷ P) c V closing k e has none =
     clash closing (ap (list_any is_ascii_digit) (tail_of 48 s _ _ (tail_of 32 r _ _ (tail_of 48 q _ _ (tail_of 43 p _ _ e)))) ∙ any_within is_ascii_digit P c V has) none
 
+-- a parenthesis or comma with digits behind it stands before the pair, as it isn't in the pair and no digits come behind that
 pub within : (front P : List ℕ) (c : ℕ) (V closing : List ℕ) → (c ≡ 40) ⊎ (c ≡ 44) → front ++ pair closing ≡ P ++ (c ∷ V) → HasDigit V → NoDigit closing → Within front P c V closing
 within [] P c V closing k e has none = absurd (not_in_pair P c V closing k e has none)
 within (x ∷ xs) [] c V closing k e has none = record { rest = xs; front_is = ap (λ z. z ∷ xs) (head_of x c (xs ++ pair closing) V e); left_is = sym (tail_of x c (xs ++ pair closing) V e) }
@@ -101,19 +104,23 @@ none_of_both test (x ∷ xs) ys e f = let parts = or_parts (test x) (list_any te
 white_no_digit : (c : ℕ) → is_white c ≡ true → is_ascii_digit c ≡ false
 white_no_digit c is = grind (arith, is)
 
+-- white space has no digit
 pub blank_no_digit : (white : List ℕ) → list_all is_white white ≡ true → NoDigit white
 blank_no_digit [] all = refl
 blank_no_digit (w ∷ ws) all = let parts = and_parts (is_white w) (list_all is_white ws) all in rw (white_no_digit w parts.0) (blank_no_digit ws parts.1)
 
 -- ---- numbers
+-- digits, where there are any, have a digit
 some_digit : (digits : List ℕ) → 0 < length digits → list_all is_ascii_digit digits ≡ true → HasDigit digits
 some_digit [] long all = absurd (omega (arith, long))
 some_digit (d ∷ ds) long all = or_first (is_ascii_digit d) (list_any is_ascii_digit ds) (and_parts (is_ascii_digit d) (list_all is_ascii_digit ds) all).0
 
+-- so has a fraction that isn't empty
 fraction_digit : (fraction text : List ℕ) → Fraction fraction text → 0 < length fraction → HasDigit text
 fraction_digit fraction text (inl e) long = absurd (omega (arith, ap length e.1, long))
 fraction_digit fraction text (inr e) long = subst HasDigit (sym (e.2 ∙ ap (λ u. u ++ e.1) e.3)) (subst (λ u. HasDigit (46 ∷ u)) (sym e.4.0) (some_digit fraction long e.4.1))
 
+-- a number has a digit, before its point or behind it
 number_digit : (minus : Bool) (integer digits text : List ℕ) → Numeral minus integer digits text → HasDigit text
 number_digit minus [] digits text t = subst HasDigit (sym (t.0.2 ∙ ap (λ u. t.0.0 ++ u) t.0.4.2)) (any_right is_ascii_digit t.0.0 (t.0.4.0 ++ t.0.4.1) (any_right is_ascii_digit t.0.4.0 t.0.4.1 (fraction_digit digits t.0.4.1 t.0.4.4 (positive (length digits) t.1))))
   where
@@ -122,6 +129,7 @@ number_digit minus [] digits text t = subst HasDigit (sym (t.0.2 ∙ ap (λ u. t
 number_digit minus (d ∷ ds) digits text t = subst HasDigit (sym (t.0.2 ∙ ap (λ u. t.0.0 ++ u) t.0.4.2)) (any_right is_ascii_digit t.0.0 (t.0.4.0 ++ t.0.4.1) (any_left is_ascii_digit t.0.4.0 t.0.4.1
     (subst HasDigit (sym t.0.4.3.0) (or_first (is_ascii_digit d) (list_any is_ascii_digit ds) (and_parts (is_ascii_digit d) (list_all is_ascii_digit ds) t.0.4.3.1).0))))
 
+-- so a position has one
 pub position_digit : (p : Position) (text : List ℕ) → PositionText p text → HasDigit text
 position_digit p text t = subst HasDigit (sym t.2) (any_left is_ascii_digit t.0 t.1 (number_digit t.3.0 t.3.1 t.3.2 t.0 t.3.3))
 
@@ -129,11 +137,13 @@ position_digit p text t = subst HasDigit (sym t.2) (any_left is_ascii_digit t.0 
 inner : ℕ → Bool
 inner c = is_ascii_digit c || c == 46
 
+-- behind its sign a number has digits and a point, and no other byte
 inner_digits : (digits : List ℕ) → list_all is_ascii_digit digits ≡ true → list_all inner digits ≡ true
 unfolding inner
 inner_digits [] all = refl
 inner_digits (d ∷ ds) all = let parts = and_parts (is_ascii_digit d) (list_all is_ascii_digit ds) all in rw (or_first (is_ascii_digit d) (d == 46) parts.0) (inner_digits ds parts.1)
 
+-- its fraction too
 inner_fraction : (fraction text : List ℕ) → Fraction fraction text → list_all inner text ≡ true
 unfolding inner
 inner_fraction fraction text (inl e) = ap (list_all inner) e.0
@@ -156,6 +166,7 @@ record Tailed (text : List ℕ) : Type 0 where
   signs : (sign ≡ []) ⊎ ((c : ℕ) × (sign ≡ c ∷ []))
   inside : list_all inner body ≡ true
 
+-- a number is a sign of one byte or none, and then digits and a point
 tailed : (minus : Bool) (integer digits text : List ℕ) → Numeral minus integer digits text → Tailed text
 tailed minus integer digits text t = record {
   sign = t.0.0;
@@ -195,9 +206,11 @@ no_second (a ∷ b ∷ w) more closing t e none = go t.signs
     go (inr s) = true≢false (sym (ap inner is_space ∙ all_within inner (a ∷ []) b w (ap (list_all inner) (tail_of 43 s.0 (a ∷ b ∷ w) t.body (t.is ∙ ap (λ u. u ++ t.body) s.1)) ∙ t.inside)))
 
 -- ---- a position's text begins where the pair does
+-- the pair has a digit, whatever stands before it
 pair_digit : (h closing : List ℕ) → HasDigit (h ++ pair closing)
 pair_digit h closing = any_within is_ascii_digit h 43 (48 ∷ 32 ∷ 48 ∷ closing) refl
 
+-- the pair's plus begins the position's first number, since behind the second a digit would be left: so nothing stands before it
 pub begins_here : (front closing more : List ℕ) (p : Position) (text : List ℕ) → PositionText p text → front ++ pair closing ≡ text ++ more → NoDigit more → front ≡ []
 begins_here front closing more p text t e none = first (overlap front (pair closing) t.0 (t.1 ++ more) (e ∙ (ap (λ u. u ++ more) t.2 ∙ append_assoc t.0 t.1 more)))
   where

@@ -24,10 +24,12 @@ record Stands (other : List ℕ) : Type 0 where
   not_open : begins_with (λ c. c == 40) other ≡ false
 
 -- ---- a position where none may come
+-- a number is read there, and as no position may come the answer is too long
 position_stops : (other : List ℕ) → Stands other → (j : Input) → j.left ≡ other → IsFull (position zero j)
 unfolding position
 position_stops other s j is = let r = s.read j is in subst (λ q. IsFull {A = Position} (and_then q (λ n. (too_long >>= λ x. (space >> (numeral >>= λ m. (coordinate m >>= λ y. pure (record { x = x; y = y })))))))) (sym r.2) tt
 
+-- white space is read to its end, and the number doesn't begin with any
 behind_white : (i : Input) (white other : List ℕ) → list_all is_white white ≡ true → i.left ≡ white ++ other → begins_with is_white other ≡ false → drop (prefix_len is_white i.left) i.left ≡ other
 behind_white i white other all is quiet = (read_run is_white i.left white other is all quiet).1
 
@@ -36,6 +38,7 @@ abbrev Last : {A : Type 0} → (A → Rule) → Reader A → Type 0
 Last {A} P step = (x : A) (i : Input) (front closing other from rest : List ℕ) → Took from (Padded (P x)) rest → from ≡ front ++ pair closing → NoDigit rest → NoDigit closing → Stands other
     → i.left ≡ front ++ other → IsFull (padded step i)
 
+-- a position where none may come: white space is all that stands before the pair, so reading comes to the number
 position_last : Last PositionText (position zero)
 position_last x i front closing other from rest t split none quiet s is =
     let j = after (prefix_len is_white i.left) i in
@@ -45,6 +48,7 @@ position_last x i front closing other from rest t split none quiet s is =
 abbrev Inside : Position → List ℕ → List ℕ → Type 0
 Inside p from rest = (white V more : List ℕ) × (from ≡ white ++ (40 ∷ V)) × (list_all is_white white ≡ true) × Took V (Padded (PositionText p)) (41 ∷ more) × (NoDigit rest → NoDigit more)
 
+-- a point of a MULTIPOINT is a position, or one in parentheses
 point_cases : (p : Position) (from rest : List ℕ) → Took from (Padded (PointText p)) rest → Took from (Padded (PositionText p)) rest ⊎ Inside p from rest
 point_cases p from rest t = go (apart from rest Blank (PointText p ⨾ Blank) t)
   where
@@ -78,6 +82,7 @@ point_cases p from rest t = go (apart from rest Blank (PointText p ⨾ Blank) t)
         next : (zs : List ℕ) × Took a.0 (PointText p) zs × Took zs Blank rest → Took from (Padded (PositionText p)) rest ⊎ Inside p from rest
         next b = pick a.0 a.1 b.0 b.1.0 b.1.1 b.1.2 b.2
 
+-- a text with a digit has it with white space around it too
 padded_digit : {A : Type 0} (P : A → Rule) (x : A) (from rest : List ℕ) → ((text : List ℕ) → P x text → HasDigit text) → Took from (Padded (P x)) rest → HasDigit from
 padded_digit P x from rest digit t = go (apart from rest Blank (P x ⨾ Blank) t)
   where
@@ -87,6 +92,7 @@ padded_digit P x from rest digit t = go (apart from rest Blank (P x ⨾ Blank) t
         next : (zs : List ℕ) × Took a.0 (P x) zs × Took zs Blank rest → HasDigit from
         next b = ap (list_any is_ascii_digit) a.1.1 ∙ any_right is_ascii_digit a.1.0 a.0 (ap (list_any is_ascii_digit) b.1.1 ∙ any_left is_ascii_digit b.1.0 b.0 (digit b.1.0 b.1.2))
 
+-- a point: as a position, or behind its parenthesis, which stands before the pair
 point_last : Last PointText (point zero)
 unfolding point
 point_last x i front closing other from rest t split none quiet s is = go (point_cases x from rest t)
@@ -107,6 +113,7 @@ point_last x i front closing other from rest t split none quiet s is = go (point
             (λ _ k k_is. full_then (padded (position zero) k) _ (position_last x k b.rest closing other p.1 (41 ∷ p.2) p.5 b.left_is (p.6 none) quiet s k_is))))
 
 -- ---- lists
+-- a list has a digit where its items have one
 separated_digit : {A : Type 0} (P : A → Rule) → ((x : A) (text : List ℕ) → P x text → HasDigit text) → (xs : List A) (from rest : List ℕ) → Took from (Separated P xs) rest → HasDigit from
 separated_digit P digit [] from rest t = absurd t.2
 separated_digit P digit (x ∷ []) from rest t = padded_digit P x from rest (digit x) t
@@ -115,6 +122,7 @@ separated_digit P digit (x ∷ y ∷ more) from rest t = go (apart from rest (Pa
     go : (ys : List ℕ) × Took from (Padded (P x)) ys × Took ys (Byte 44 ⨾ Separated P (y ∷ more)) rest → HasDigit from
     go a = padded_digit P x from a.0 (digit x) a.1
 
+-- the items before the last are read whole, and the pair stands in the last, for which there is no room
 separated_last : {A : Type 0} (P : A → Rule) (item : ℕ → Reader A) → Begins P is_white → ((room : ℕ) → 0 < room → Complete P Ends (item room)) → ((x : A) (text : List ℕ) → P x text → HasDigit text) → Last P (item zero)
     → (room : ℕ) (xs : List A) (i : Input) (front closing other from rest : List ℕ) → length xs ≡ room + 1 → Took from (Separated P xs) rest → from ≡ front ++ pair closing → NoDigit rest → NoDigit closing → Stands other
     → i.left ≡ front ++ other → IsFull (separated item room i)
@@ -145,6 +153,7 @@ separated_last P item starts complete digit last (suc room) (x ∷ y ∷ more) i
                 (a.1.0, is ∙ (ap (λ f. f ++ other) w.front_is ∙ append_assoc a.1.0 (44 ∷ w.rest) other), a.1.2) (closed_by_comma (w.rest ++ other)))
                 (λ z j known. rw (ap (begins_with (λ c. c == 44)) known.1) (full_then (separated item room (after 1 j)) _ (again (after 1 j) w.rest b.0 b.2 w.left_is (ap (drop 1) known.1))))
 
+-- a point has a digit in either form
 point_digit : (p : Position) (text : List ℕ) → PointText p text → HasDigit text
 point_digit p text (inl h) = position_digit p text h
 point_digit p text (inr h) = enclosed_digit (apart text [] (Byte 40) (Padded (PositionText p) ⨾ Byte 41) (text, sym (append-nil text), h))
@@ -165,9 +174,11 @@ list_digit P digit xs text t = go (apart text [] (Byte 40) (Separated P xs ⨾ B
         next : (ys : List ℕ) × Took a.0 (Separated P xs) ys × Took ys (Byte 41) [] → HasDigit text
         next b = ap (list_any is_ascii_digit) (byte_is 40 text a.0 a.1) ∙ separated_digit P digit xs a.0 b.0 b.1
 
+-- so a line or ring has a digit
 line_digit : (ps : List Position) (text : List ℕ) → LineText ps text → HasDigit text
 line_digit = list_digit PositionText position_digit
 
+-- and a polygon
 polygon_digit : (rs : List (List Position)) (text : List ℕ) → PolygonText rs text → HasDigit text
 polygon_digit = list_digit LineText line_digit
 
@@ -193,6 +204,7 @@ LastItem : {A : Type 0} → (A → Rule) → (ℕ → ℕ → Reader A) → (A �
 LastItem {A} P item rings = (count room : ℕ) (x : A) (i : Input) (front closing other from rest : List ℕ) → positions_in (rings x) ≡ room + 1 → Took from (Padded (P x)) rest → from ≡ front ++ pair closing
     → NoDigit rest → NoDigit closing → Stands other → i.left ≡ front ++ other → IsFull (padded (item count room) i)
 
+-- an item before the last fits and is read whole, or is too long itself; the pair stands in the last
 items_last : {A : Type 0} (P : A → Rule) (item : ℕ → ℕ → Reader A) (rings : A → List (List Position)) → HasRings P rings → ReadsItem P item rings → FullItem P item rings
     → ((x : A) (text : List ℕ) → P x text → HasDigit text) → LastItem P item rings
     → (turns count room : ℕ) (xs : List A) (i : Input) (front closing other from rest : List ℕ) → count ≤ turns → positions_in (rings_of rings xs) ≡ room + 1 → Took from (Separated P xs) rest → from ≡ front ++ pair closing
@@ -220,6 +232,7 @@ items_last P item rings has complete full digit last turns count room (x ∷ y �
             (λ n j enough_left fits j_is. again n j w.rest c.0 (left_of fits) enough_left c.2 w.left_is j_is)
 
 -- ---- rings and elements, polygons
+-- an element or ring with one position too many: no part may come, or its list is too long
 ring_last : LastItem LineText ring alone
 unfolding LastItem ring line
 ring_last zero room x i front closing other from rest many t split none quiet s is = go (parenthesized PositionText x from rest t)
@@ -233,26 +246,31 @@ ring_last (suc count) room x i front closing other from rest many t split none q
     (λ k f g more took split_too none_too k_is. separated_last PositionText position position_not_white position_read position_digit position_last room x k f closing other g more (ap length (sym (append-nil x)) ∙ many)
     took split_too none_too quiet s k_is) i front from rest t split none quiet is
 
+-- elements or rings with one position too many
 parts_last : (count room : ℕ) (xs : List (List Position)) (i : Input) (front closing other from rest : List ℕ) → positions_in xs ≡ room + 1 → Took from (Separated LineText xs) rest → from ≡ front ++ pair closing
     → NoDigit rest → NoDigit closing → Stands other → i.left ≡ front ++ other → IsFull (parts count room i)
 parts_last count room xs i front closing other from rest many t split none quiet s is = rw (parts_are_items count room i)
     (items_last LineText ring alone one_ring ring_read ring_full line_digit ring_last count count room xs i front closing other from rest (le_refl count) (ap positions_in (alone_of xs) ∙ many) t split none quiet s is)
 
+-- a polygon with one, in parentheses
 polygon_last : LastItem PolygonText polygon itself
 unfolding LastItem polygon
 polygon_last count room x i front closing other from rest many t split none quiet s is = list_last LineText (parts count room) x closing other line_digit
     (λ k f g more took split_too none_too k_is. parts_last count room x k f closing other g more many took split_too none_too quiet s k_is) i front from rest t split none quiet is
 
+-- polygons with one among all their rings
 polygons_last : (turns count room : ℕ) (xs : List (List (List Position))) (i : Input) (front closing other from rest : List ℕ) → count ≤ turns → positions_in (joined_rings xs) ≡ room + 1 → Took from (Separated PolygonText xs) rest
     → from ≡ front ++ pair closing → NoDigit rest → NoDigit closing → Stands other → i.left ≡ front ++ other → IsFull (polygons turns count room i)
 polygons_last turns count room xs i front closing other from rest enough many t split none quiet s is = rw (polygons_are_items turns count room i)
     (items_last PolygonText polygon itself rings_of_polygon polygon_read polygon_full polygon_digit polygon_last turns count room xs i front closing other from rest enough many t split none quiet s is)
 
 -- ---- whole texts
+-- a list that is too long makes the text so behind its name: MULTIPOINT
 points_named : Named (codes "MULTIPOINT") (separated point position_limit)
 unfolding typed
 points_named at n i w full = rw (named n (codes "MULTIPOINT") (codes "POINT") w, named n (codes "MULTIPOINT") (codes "MULTIPOINT") w) (full_then (positions point i) _ full)
 
+-- the same behind LINESTRING
 line_named : Named (codes "LINESTRING") (separated position position_limit)
 unfolding typed
 line_named at n i w full =
@@ -271,12 +289,15 @@ whole_last own P x xs text front closing other inner letters_are long named_full
         (ap (λ f. f ++ other) w.front_is ∙ append_assoc (y.before ++ (y.name ++ y.white)) (40 ∷ w.rest) other)
         (λ k k_is. full k w.rest y.list (41 ∷ y.end) y.items_are w.left_is (blank_no_digit y.end y.end_white) k_is)
 
+-- an empty geometry hasn't that many positions
 none_long : (n : ℕ) → 0 ≡ n + 1 → ⊥
 none_long n e = omega (arith, e)
 
+-- nor has a POINT
 one_long : 1 ≡ position_limit + 1 → ⊥
 one_long e = omega (arith, e)
 
+-- type by type: with a number in the place of the pair, whatever stands behind it, the text is too long
 lasting : (w : Geometry) (text front closing other : List ℕ) → Writes w text → text ≡ front ++ pair closing → NoDigit closing → Stands other → length (written_positions w) ≡ position_limit + 1
     → IsFull (whole (record { left = front ++ other; at = 0 }))
 lasting (Point None) text front closing other t split none s counted = absurd (none_long position_limit counted)
@@ -302,12 +323,14 @@ lasting (MultiPolygon (e ∷ es)) text front closing other t split none s counte
     polygons_named polygon_digit (layout (codes "MULTIPOLYGON") PolygonText e es text t) split none
     (λ i f from rest took split_too quiet is. polygons_last part_limit part_limit position_limit (e ∷ es) i f closing other from rest (le_refl part_limit) counted took split_too quiet none s is)
 
+-- what closes the text has no digit
 no_digit : (xs : List ℕ) → list_any begins_more xs ≡ false → NoDigit xs
 no_digit [] e = refl
 no_digit (x ∷ xs) e = let parts = or_parts (begins_more x) (list_any begins_more xs) e in
     let here = or_parts (is_ascii_digit x) (x == 40) parts.0 in
     rw here.0 (no_digit xs parts.1)
 
+-- a first number is read, and begins with neither white space nor a parenthesis
 stands : (tail : List ℕ) (minus : Bool) (integer digits : List ℕ) → IsFirstNumber tail minus integer digits → Stands tail
 stands tail minus integer digits f = record {
   read = λ j is. numbered j (first_number tail minus integer digits f j is);
@@ -318,6 +341,7 @@ stands tail minus integer digits f = record {
     numbered : (j : Input) → Read tail minus integer digits j → (n : FoundNumber) × (k : Input) × (numeral j ≡ Ok (n, k))
     numbered j r = (r.n, r.k, r.is)
 
+-- a text with one position too many begins like this one; reading comes to the number, where none may come
 pub too_many_positions_are_too_long : (text : List ℕ) → HasTooManyPositions text → read_text text ≡ Err TooLong
 unfolding read_text
 too_many_positions_are_too_long text h = ap outcome (full_is (whole (record { left = text; at = 0 })) (subst (λ u. IsFull (whole (record { left = u; at = 0 }))) (sym h.split)

@@ -44,6 +44,7 @@ head_of x y xs ys e = ap (λ l. first_or l) e
     first_or [] = 0
     first_or (z ∷ zs) = z
 
+-- a byte with an opening parenthesis behind it stands before the last one, since that is the last
 behind : (front P : List ℕ) (c : ℕ) (V tail : List ℕ) → front ++ (40 ∷ tail) ≡ P ++ (c ∷ V) → list_any opens V ≡ true → list_any opens tail ≡ false → Behind front P c V tail
 behind [] [] c V tail e has none = absurd (true≢false (sym has ∙ (ap (list_any opens) (sym (tail_of 40 c tail V e)) ∙ none)))
 behind (x ∷ xs) [] c V tail e has none = record { rest = xs; front_is = ap (λ z. z ∷ xs) (head_of x c (xs ++ (40 ∷ tail)) V e); left_is = sym (tail_of x c (xs ++ (40 ∷ tail)) V e) }
@@ -59,6 +60,7 @@ record Opening (left white : List ℕ) : Type 0 where
   more : List ℕ
   is : left ≡ white ++ (40 ∷ more)
 
+-- the first parenthesis, behind white space, is in the front or is the last one itself: so it stands in the other text too
 opening : (front tail other white V : List ℕ) → list_all is_white white ≡ true → front ++ (40 ∷ tail) ≡ white ++ (40 ∷ V) → Opening (front ++ (40 ∷ other)) white
 opening [] tail other [] V all e = record { more = other; is = refl }
 opening (x ∷ xs) tail other [] V all e = record { more = xs ++ (40 ∷ other); is = ap (λ z. z ∷ (xs ++ (40 ∷ other))) (head_of x 40 (xs ++ (40 ∷ tail)) V e) }
@@ -78,6 +80,7 @@ pub record Parenthesized {A : Type 0} (P : A → Rule) (xs : List A) (from rest 
   pub items_are : Took list (Separated P xs) (41 ∷ end)
   pub end_blank : Took end Blank rest
 
+-- a list in parentheses, cut into the white space before it, the list, and the white space behind it
 pub parenthesized : {A : Type 0} (P : A → Rule) (xs : List A) (from rest : List ℕ) → Took from (Padded (Enclosed (Separated P xs))) rest → Parenthesized P xs from rest
 parenthesized P xs from rest t =
     let a = apart from rest Blank (Enclosed (Separated P xs) ⨾ Blank) t in
@@ -102,19 +105,23 @@ any_open (w ∷ ws) V = or_last (opens w) (list_any opens (ws ++ (40 ∷ V))) (a
 OpensItem : {A : Type 0} → (A → Rule) → Type 0
 OpensItem {A} P = (x : A) (from rest : List ℕ) → Took from (Padded (P x)) rest → list_any opens from ≡ true
 
+-- a list in parentheses has a parenthesis that opens
 list_opens : {A : Type 0} (P : A → Rule) (xs : List A) (from rest : List ℕ) → Took from (Padded (Enclosed (Separated P xs))) rest → list_any opens from ≡ true
 list_opens P xs from rest t = let p = parenthesized P xs from rest t in ap (list_any opens) p.from_is ∙ any_open p.white p.list
 
+-- so has a list of items that have one
 separated_opens : {A : Type 0} (P : A → Rule) → OpensItem P → (xs : List A) (from rest : List ℕ) → Took from (Separated P xs) rest → list_any opens from ≡ true
 unfolding OpensItem
 separated_opens P item_opens [] from rest t = absurd t.2
 separated_opens P item_opens (x ∷ []) from rest t = item_opens x from rest t
 separated_opens P item_opens (x ∷ y ∷ more) from rest t = let c = comma_behind P x y more from rest t in item_opens x from (44 ∷ c.0) c.1
 
+-- so have lines and rings
 line_opens : OpensItem LineText
 unfolding OpensItem
 line_opens x = list_opens PositionText x
 
+-- and polygons
 polygon_opens : OpensItem PolygonText
 unfolding OpensItem
 polygon_opens x = list_opens LineText x
@@ -124,6 +131,7 @@ polygon_opens x = list_opens LineText x
 enclosed_open : {A : Type 0} (inner : Reader (List A)) (i : Input) (L : List ℕ) → i.left ≡ 40 ∷ L → ((j : Input) → j.left ≡ L → IsFull (inner j)) → IsFull (enclosed inner i)
 enclosed_open inner i L is full = then_full (λ _ j. j.left ≡ L) (expect 40 i) _ (expect_read 40 i L is) (λ _ j j_is. full_then (inner j) _ (full j j_is))
 
+-- the same with white space before the parenthesis
 pub padded_open : {A : Type 0} (inner : Reader (List A)) (i : Input) (white L : List ℕ) → list_all is_white white ≡ true → i.left ≡ white ++ (40 ∷ L) → ((j : Input) → j.left ≡ L → IsFull (inner j))
     → IsFull (padded (enclosed inner) i)
 padded_open inner i white L all is full =
@@ -147,6 +155,7 @@ OpenItem : {A : Type 0} → (A → Rule) → (ℕ → ℕ → Reader A) → (A �
 OpenItem {A} P item rings = (count room : ℕ) (x : A) (i : Input) (front tail other from rest : List ℕ) → count < length (rings x) → from ≡ front ++ (40 ∷ tail) → list_any opens tail ≡ false
     → Took from (Padded (P x)) rest → i.left ≡ front ++ (40 ∷ other) → IsFull (padded (item count room) i)
 
+-- an item before the last fits and is read whole, or is too long itself; the last parenthesis opens in the last item
 open_items : {A : Type 0} (P : A → Rule) (item : ℕ → ℕ → Reader A) (rings : A → List (List Position)) → HasRings P rings → ReadsItem P item rings → FullItem P item rings → OpensItem P → OpenItem P item rings
     → (turns count room : ℕ) (xs : List A) (i : Input) (front tail other from rest : List ℕ) → count ≤ turns → count < length (rings_of rings xs) → from ≡ front ++ (40 ∷ tail) → list_any opens tail ≡ false
     → Took from (Separated P xs) rest → i.left ≡ front ++ (40 ∷ other) → IsFull (items item rings turns count room i)
@@ -172,6 +181,7 @@ open_items P item rings has complete full item_opens last turns count room (x �
             (λ s j enough_left fits j_is. again s j b.rest c.0 (fewer fits) enough_left b.left_is c.2 j_is)
 
 -- ---- rings and elements, polygons
+-- an element or ring that is one too many: its parenthesis is enough
 open_ring : OpenItem LineText ring alone
 unfolding OpenItem ring
 open_ring zero room x i front tail other from rest many split none t is =
@@ -180,12 +190,14 @@ open_ring zero room x i front tail other from rest many split none t is =
     no_ring i o.white p.more o.all_white (is ∙ p.is)
 open_ring (suc count) room x i front tail other from rest many split none t is = absurd (omega (arith, many))
 
+-- elements or rings with one too many
 open_parts : (count room : ℕ) (xs : List (List Position)) (i : Input) (front tail other from rest : List ℕ) → count < length xs → from ≡ front ++ (40 ∷ tail) → list_any opens tail ≡ false
     → Took from (Separated LineText xs) rest → i.left ≡ front ++ (40 ∷ other) → IsFull (parts count room i)
 open_parts count room xs i front tail other from rest many split none t is = rw (parts_are_items count room i)
     (open_items LineText ring alone one_ring ring_read ring_full line_opens open_ring count count room xs i front tail other from rest (le_refl count)
     (subst (λ rs. count < length rs) (sym (alone_of xs)) many) split none t is)
 
+-- a polygon with a ring too many: its own parenthesis opens before that ring's
 open_polygon : OpenItem PolygonText polygon itself
 unfolding OpenItem polygon
 open_polygon count room x i front tail other from rest many split none t is = go (parenthesized LineText x from rest t)
@@ -197,6 +209,7 @@ open_polygon count room x i front tail other from rest many split none t is = go
         made b = padded_open (parts count room) i o.white (b.rest ++ (40 ∷ other)) o.all_white (at_front o.white b.rest (40 ∷ other) front i.left 40 b.front_is is)
             (λ k k_is. open_parts count room x k b.rest tail other o.list (41 ∷ o.end) many b.left_is none o.items_are k_is)
 
+-- polygons with a ring too many among them
 open_polygons : (turns count room : ℕ) (xs : List (List (List Position))) (i : Input) (front tail other from rest : List ℕ) → count ≤ turns → count < length (joined_rings xs) → from ≡ front ++ (40 ∷ tail)
     → list_any opens tail ≡ false → Took from (Separated PolygonText xs) rest → i.left ≡ front ++ (40 ∷ other) → IsFull (polygons turns count room i)
 open_polygons turns count room xs i front tail other from rest enough many split none t is = rw (polygons_are_items turns count room i)
@@ -214,6 +227,7 @@ body_open inner i white L all is full =
     let k = after (prefix_len is_ascii_alphabetic left) (after (prefix_len is_white i.left) i) in
     rw (ap (λ n. length (take n left) == 0) no_letter) (enclosed_open inner k L past full)
 
+-- white space or none, and then a parenthesis, don't begin with a letter
 pub not_letter : (white L : List ℕ) → list_all is_white white ≡ true → begins_with is_ascii_alphabetic (white ++ (40 ∷ L)) ≡ false
 not_letter [] L all = refl
 not_letter (w ∷ ws) L all = (white_byte w [] (and_parts (is_white w) (list_all is_white ws) all).0).2
@@ -232,6 +246,7 @@ pub record Layout {A : Type 0} (own : List ℕ) (P : A → Rule) (xs : List A) (
   pub end_white : list_all is_white end ≡ true
   pub text_is : text ≡ (before ++ (name ++ white)) ++ (40 ∷ list)
 
+-- the text of a geometry that isn't empty has this layout
 pub layout : {A : Type 0} (own : List ℕ) (P : A → Rule) (x : A) (xs : List A) (text : List ℕ) → Padded (Word own ⨾ Body P (x ∷ xs)) text → Layout own P (x ∷ xs) text
 layout own P x xs text t = go (apart text [] Blank ((Word own ⨾ Body P (x ∷ xs)) ⨾ Blank) (text, sym (append-nil text), t))
   where
@@ -293,12 +308,14 @@ whole_by_list own P xs text inner letters_are long named_full y i L is full =
     left_is = is ∙ (append_assoc y.before (y.name ++ y.white) (40 ∷ L) ∙ ap (λ u. y.before ++ u) (append_assoc y.name y.white (40 ∷ L)))
 
 -- ---- the types with parts
+-- a list that is too long makes the text so behind its name: MULTILINESTRING
 pub lines_named : Named (codes "MULTILINESTRING") (parts part_limit position_limit)
 unfolding typed
 lines_named at n i w full =
     rw (named n (codes "MULTILINESTRING") (codes "POINT") w, named n (codes "MULTILINESTRING") (codes "MULTIPOINT") w, named n (codes "MULTILINESTRING") (codes "LINESTRING") w, named n (codes "MULTILINESTRING") (codes "MULTILINESTRING") w)
     (full_then (lists i) _ full)
 
+-- the same behind POLYGON
 pub rings_named : Named (codes "POLYGON") (parts part_limit position_limit)
 unfolding typed
 rings_named at n i w full =
@@ -311,6 +328,7 @@ rings_named at n i w full =
     )
     (full_then (lists i) _ full)
 
+-- and behind MULTIPOLYGON
 pub polygons_named : Named (codes "MULTIPOLYGON") (polygons part_limit part_limit position_limit)
 unfolding typed
 polygons_named at n i w full =
@@ -324,6 +342,7 @@ polygons_named at n i w full =
     )
     (full_then (nested_lists i) _ full)
 
+-- the list's own parenthesis opens before the last one, so reading comes to the list, which is too long
 whole_open : {A : Type 0} (own : List ℕ) (P : A → Rule) (inner : Reader (List A)) (xs : List A) (text front tail other : List ℕ) → list_all is_ascii_alphabetic (map to_ascii_lowercase own) ≡ true → 0 < length own
     → Named own inner → OpensItem P → Layout own P xs text → text ≡ front ++ (40 ∷ tail) → list_any opens tail ≡ false
     → ((k : Input) (f g rest : List ℕ) → g ≡ f ++ (40 ∷ tail) → Took g (Separated P xs) rest → k.left ≡ f ++ (40 ∷ other) → IsFull (inner k))
@@ -336,9 +355,11 @@ whole_open own P inner xs text front tail other letters_are long named_full item
         (at_front (y.before ++ (y.name ++ y.white)) b.rest (40 ∷ other) front (front ++ (40 ∷ other)) 40 b.front_is refl)
         (λ k k_is. full k b.rest y.list (41 ∷ y.end) b.left_is y.items_are k_is)
 
+-- a geometry without parts hasn't that many
 no_parts : (m n : ℕ) → m ≡ 0 → m ≡ n + 1 → ⊥
 no_parts m n e k = omega (arith, e, k)
 
+-- type by type: whatever stands behind the parenthesis that opens a part too many, the text is too long
 opened : (w : Geometry) (text front tail other : List ℕ) → Writes w text → text ≡ front ++ (40 ∷ tail) → list_any opens tail ≡ false → length (written_parts w) ≡ part_limit + 1
     → IsFull (whole (record { left = front ++ (40 ∷ other); at = 0 }))
 opened (Point p) text front tail other t split none counted = absurd (no_parts 0 part_limit refl counted)
@@ -357,12 +378,14 @@ opened (MultiPolygon (e ∷ es)) text front tail other t split none counted = wh
     polygons_named polygon_opens (layout (codes "MULTIPOLYGON") PolygonText e es text t) split none
     (λ k f g rest split_too took is. open_polygons part_limit part_limit position_limit (e ∷ es) k f tail other g rest (le_refl part_limit) (omega (arith, counted)) split_too none took is)
 
+-- what closes the text opens no parenthesis
 no_opening : (xs : List ℕ) → list_any begins_more xs ≡ false → list_any opens xs ≡ false
 no_opening [] e = refl
 no_opening (x ∷ xs) e = let parts = or_parts (begins_more x) (list_any begins_more xs) e in
     let here = or_parts (is_ascii_digit x) (x == 40) parts.0 in
     rw here.1 (no_opening xs parts.1)
 
+-- a text with one part too many begins like this one; reading comes to the parenthesis, where none may come
 pub too_many_parts_are_too_long : (text : List ℕ) → HasTooManyParts text → read_text text ≡ Err TooLong
 unfolding read_text
 too_many_parts_are_too_long text h = ap outcome (full_is (whole (record { left = text; at = 0 })) (subst (λ u. IsFull (whole (record { left = u; at = 0 }))) (sym (h.split ∙ open_behind h.front h.tail))

@@ -19,10 +19,12 @@ use Rattle.text_laws.proofs.Fronts.{Fork}
 use Rattle.text_laws.proofs.FrontTexts.{whole_ends}
 
 -- ---- the longest number is read
+-- digits have no point among them
 no_point_in_digits : (digits rest : List ℕ) → list_all is_ascii_digit digits ≡ true → list_any (λ c. c == 46) rest ≡ false → list_any (λ c. c == 46) (digits ++ rest) ≡ false
 no_point_in_digits [] rest all none = none
 no_point_in_digits (d ∷ ds) rest all none = let parts = and_parts (is_ascii_digit d) (list_all is_ascii_digit ds) all in rw (differs d 46 parts.0 refl) (no_point_in_digits ds rest parts.1 none)
 
+-- nor has a sign
 no_point_behind_sign : (minus : Bool) (text rest : List ℕ) → Sign minus text → list_any (λ c. c == 46) rest ≡ false → list_any (λ c. c == 46) (text ++ rest) ≡ false
 no_point_behind_sign true text rest s none = ap (λ t. list_any (λ c. c == 46) (t ++ rest)) s ∙ none
 no_point_behind_sign false text rest (inl e) none = ap (λ t. list_any (λ c. c == 46) (t ++ rest)) e ∙ none
@@ -42,6 +44,7 @@ pub record Read (tail : List ℕ) (minus : Bool) (integer digits : List ℕ) (j 
   digits_is : n.fraction ≡ digits
   at_is : n.at ≡ j.at
 
+-- the longest number at the front of a text is what is read there: no digit follows it, and no point that it hasn't already
 pub first_number : (tail : List ℕ) (minus : Bool) (integer digits : List ℕ) → IsFirstNumber tail minus integer digits → (j : Input) → j.left ≡ tail → Read tail minus integer digits j
 first_number tail minus integer digits f j e = go (numeral j) refl (numeral_read j minus integer digits f.rest (f.number, e ∙ f.split, f.numeral.0) f.numeral.1 (f.no_digit, no_point f.no_point)) (numeral_first j)
   where
@@ -53,6 +56,7 @@ first_number tail minus integer digits f j e = go (numeral j) refl (numeral_read
     go (Ok found) is known place = record { n = found.0; k = found.1; is = is; integer_is = known.1; digits_is = known.2; at_is = place.1 }
     go (Err fault) is known place = absurd known
 
+-- a digit is no letter
 letter_is_no_digit : (c : ℕ) → is_ascii_digit c ≡ true → is_ascii_alphabetic c ≡ false
 letter_is_no_digit c is = grind (arith, is)
 
@@ -65,6 +69,7 @@ quiet : (text : List ℕ) (at : ℕ) (minus : Bool) (integer digits : List ℕ) 
     → ((c : ℕ) → is_ascii_digit c ≡ true → test c ≡ false) → begins_with test h.tail ≡ false
 quiet text at minus integer digits h test p m d ds = ap (begins_with test) h.number.split ∙ numeral_begins test p m d ds minus integer digits h.number.number h.number.rest h.number.numeral
 
+-- the text, and one that spells a geometry: alike up to the number, where the other text has a plus
 fork : (text : List ℕ) (at : ℕ) (minus : Bool) (integer digits : List ℕ) (h : HasNumber text at minus integer digits) (fault : TextFault)
     → ((n : FoundNumber) (l : Input) → n.whole ≡ integer → n.fraction ≡ digits → n.at ≡ at → coordinate n l ≡ Err fault) → Fork
 fork text at minus integer digits h fault bad = record {
@@ -83,6 +88,7 @@ fork text at minus integer digits h fault bad = record {
     refuse : (j : Input) → j.at ≡ length h.front → Read h.tail minus integer digits j → (n : FoundNumber) × (k : Input) × (numeral j ≡ Ok (n, k)) × ((l : Input) → coordinate n l ≡ Err fault)
     refuse j p r = (r.n, r.k, r.is, λ l. bad r.n l r.integer_is r.digits_is ((r.at_is ∙ p) ∙ sym h.place))
 
+-- a geometry is answered only where the whole text was read
 some_outcome : (r : Result (Geometry × Input) TextFault) (g : Geometry) → outcome r ≡ Ok g → (found : Geometry × Input) × (r ≡ Ok found)
 some_outcome (Ok found) g e = (found, refl)
 some_outcome (Err fault) g e = absurd (let k : Err fault ≡ Ok g = e in cc)
@@ -91,6 +97,7 @@ plus_behind : (front rest : List ℕ) → front ++ codes "+" ++ rest ≡ front +
 plus_behind [] rest = refl
 plus_behind (x ∷ xs) rest = ap (λ r. x ∷ r) (plus_behind xs rest)
 
+-- reading the text that spells a geometry comes to the plus, so reading this text comes to the number and ends with its fault
 answered : (text : List ℕ) (at : ℕ) (minus : Bool) (integer digits : List ℕ) → HasNumber text at minus integer digits → (fault : TextFault)
     → ((n : FoundNumber) (l : Input) → n.whole ≡ integer → n.fraction ≡ digits → n.at ≡ at → coordinate n l ≡ Err fault) → read_text text ≡ Err fault
 unfolding read_text fork
@@ -111,6 +118,7 @@ unfolding coordinate
 off_grid_is_answered text at h = answered text at h.minus h.whole h.fraction h.number (OffGrid at)
     (λ n l integer digits place. rw (ap is_whole digits ∙ h.not_whole) (ap (λ p. Err (OffGrid p)) place))
 
+-- the same where the number is whole, and past the limit
 pub out_of_range_is_answered : (text : List ℕ) (at : ℕ) → IsOutOfRange text at → read_text text ≡ Err (OutOfRange at)
 unfolding coordinate
 out_of_range_is_answered text at h = answered text at h.minus h.whole h.fraction h.number (OutOfRange at)

@@ -33,10 +33,12 @@ alone x = x ∷ []
 abbrev pub itself : List (List Position) → List (List Position)
 itself x = x
 
+-- steps that agree on all that was found have one outcome
 pub then_same : {A B : Type 0} (r : Result (A × Input) TextFault) (f g : A → Reader B) → ((x : A) (j : Input) → f x j ≡ g x j) → and_then r f ≡ and_then r g
 then_same (Ok found) f g same = same found.0 found.1
 then_same (Err fault) f g same = refl
 
+-- the same behind an item, whether a comma goes on or not
 same_going_on : {A : Type 0} (x : A) (s t : Reader (List A)) → ((j : Input) → s j ≡ t j) → (i : Input) → going_on x s i ≡ going_on x t i
 same_going_on x s t same i = then_same (eat 44 i) _ _ (λ met j. by_comma met j)
   where
@@ -50,6 +52,7 @@ none_made : {A B C : Type 0} (r : Result (Bool × Input) TextFault) (f : A → R
 none_made (Ok found) f g h = refl
 none_made (Err fault) f g h = refl
 
+-- elements and rings are items that use up one part each and their positions, so what is known of items holds of them
 pub parts_are_items : (count room : ℕ) (i : Input) → parts count room i ≡ items ring alone count count room i
 unfolding parts items ring
 parts_are_items zero room i = none_made (expect 40 (after (prefix_len is_white i.left) i)) _ _ _
@@ -60,6 +63,7 @@ parts_are_items (suc count) room i = then_same (padded (line room) i) _ (λ x. g
     one_less : (n : ℕ) → n ≡ suc n - 1
     one_less n = omega arith
 
+-- polygons are items that use up as many parts as they have rings, and the positions of these
 pub polygons_are_items : (turns count room : ℕ) (i : Input) → polygons turns count room i ≡ items polygon itself turns count room i
 unfolding polygons items
 polygons_are_items zero count room i = refl
@@ -70,10 +74,12 @@ polygons_are_items (suc turns) count room i = then_same (padded (polygon count r
 abbrev pub rings_of : {A : Type 0} → (A → List (List Position)) → List A → List (List Position)
 rings_of rings xs = flat_map rings xs
 
+-- rings that are each taken alone, one behind the other, are these rings
 pub alone_of : (xs : List (List Position)) → rings_of alone xs ≡ xs
 alone_of [] = refl
 alone_of (x ∷ xs) = ap (λ l. x ∷ l) (alone_of xs)
 
+-- the positions of two lists of rings add up
 pub positions_of_both : (xs ys : List (List Position)) → positions_in (xs ++ ys) ≡ positions_in xs + positions_in ys
 positions_of_both [] ys = omega arith
 positions_of_both (x ∷ xs) ys = omega (arith, length-append x (flat_map (λ r. r) (xs ++ ys)), length-append x (flat_map (λ r. r) xs), positions_of_both xs ys)
@@ -86,9 +92,11 @@ FitsCounts count room rs = (length rs ≤ count) × (positions_in rs ≤ room)
 abbrev pub IsOver : ℕ → ℕ → List (List Position) → Type 0
 IsOver count room rs = (count < length rs) ⊎ (room < positions_in rs)
 
+-- a number is within a limit or past it
 pub fits_or_not : (m n : ℕ) → (m ≤ n) ⊎ (n < m)
 fits_or_not m n = grind arith
 
+-- rings fit both counts, or are more than one of them allows
 pub fits_or_over : (count room : ℕ) (rs : List (List Position)) → FitsCounts count room rs ⊎ IsOver count room rs
 fits_or_over count room rs = go (fits_or_not (length rs) count) (fits_or_not (positions_in rs) room)
   where
@@ -100,15 +108,19 @@ fits_or_over count room rs = go (fits_or_not (length rs) count) (fits_or_not (po
 pub one_fits : (count room : ℕ) (xs : List (List Position)) → FitsCounts count room xs → FitsCounts count room (xs ++ [])
 one_fits count room xs fits = rw (append-nil xs) fits
 
+-- rings that fit, and others that fit the room that these leave, fit together
 pub both_fit : (count room : ℕ) (xs ys : List (List Position)) → FitsCounts count room xs → FitsCounts (count - length xs) (room - positions_in xs) ys → FitsCounts count room (xs ++ ys)
 both_fit count room xs ys fits others = (omega (arith, length-append xs ys, fits.0, others.0), omega (arith, positions_of_both xs ys, fits.1, others.1))
 
+-- where both fit together, the first do
 pub first_fits : (count room : ℕ) (xs ys : List (List Position)) → FitsCounts count room (xs ++ ys) → FitsCounts count room xs
 first_fits count room xs ys fits = (omega (arith, length-append xs ys, fits.0), omega (arith, positions_of_both xs ys, fits.1))
 
+-- and the others fit the room that the first leave
 pub others_fit : (count room : ℕ) (xs ys : List (List Position)) → FitsCounts count room (xs ++ ys) → FitsCounts (count - length xs) (room - positions_in xs) ys
 others_fit count room xs ys fits = (omega (arith, length-append xs ys, fits.0), omega (arith, positions_of_both xs ys, fits.1))
 
+-- where both together are too many but the first fit, the others are too many for the room that is left
 pub rest_over : (count room : ℕ) (xs ys : List (List Position)) → IsOver count room (xs ++ ys) → FitsCounts count room xs → IsOver (count - length xs) (room - positions_in xs) ys
 rest_over count room xs ys (inl many) fits = inl (omega (arith, length-append xs ys, many, fits.0))
 rest_over count room xs ys (inr many) fits = inr (omega (arith, positions_of_both xs ys, many, fits.1))

@@ -80,21 +80,25 @@ abbrev IfFails : {A : Type 0} → Result (A × Input) TextFault → (TextFault �
 IfFails (Ok found) Q = Unit {0}
 IfFails (Err fault) Q = Unless Q fault
 
+-- a fault other than W1 that shows one thing shows what follows from it
 unless_so : (Q R : TextFault → Type 0) → ((fault : TextFault) → Q fault → R fault) → (fault : TextFault) → Unless Q fault → Unless R fault
 unless_so Q R so (Syntax at) q = tt
 unless_so Q R so (OffGrid at) q = so (OffGrid at) q
 unless_so Q R so (OutOfRange at) q = so (OutOfRange at) q
 unless_so Q R so TooLong q = so TooLong q
 
+-- so does a step that fails
 fails_so : {A : Type 0} (Q R : TextFault → Type 0) (r : Result (A × Input) TextFault) → ((fault : TextFault) → Q fault → R fault) → IfFails r Q → IfFails r R
 fails_so Q R (Ok found) so q = tt
 fails_so Q R (Err fault) so q = unless_so Q R so fault q
 
+-- a step and then another fail as the first fails, or as the other does behind what the first found
 then_fails : {A B : Type 0} (Q : A → Input → Type 0) (F G : TextFault → Type 0) (r : Result (A × Input) TextFault) (next : A → Reader B)
     → IfRead r Q → IfFails r F → ((fault : TextFault) → F fault → G fault) → ((x : A) (j : Input) → Q x j → IfFails (next x j) G) → IfFails (and_then r next) G
 then_fails Q F G (Ok found) next read fails so step = step found.0 found.1 read
 then_fails Q F G (Err fault) next read fails so step = unless_so F G so fault fails
 
+-- a fact of what is found gives what follows from it
 weaker : {A : Type 0} (P Q : A → Input → Type 0) (r : Result (A × Input) TextFault) → ((x : A) (j : Input) → P x j → Q x j) → IfRead r P → IfRead r Q
 weaker P Q (Ok found) so read = so found.0 found.1 read
 weaker P Q (Err fault) so read = tt
@@ -104,10 +108,12 @@ and_read : {A : Type 0} (P Q : A → Input → Type 0) (r : Result (A × Input) 
 and_read P Q (Ok found) p q = (p, q)
 and_read P Q (Err fault) p q = tt
 
+-- where neither of two texts begins a further number or part, both together don't
 none_before : (xs ys : List ℕ) → list_any begins_more xs ≡ false → list_any begins_more ys ≡ false → list_any begins_more (xs ++ ys) ≡ false
 none_before [] ys e f = f
 none_before (x ∷ xs) ys e f = let parts = or_parts (begins_more x) (list_any begins_more xs) e in rw parts.0 (none_before xs ys parts.1 f)
 
+-- the place of a fault may be told by any sum that is equal
 where_so : (fault : TextFault) (tail : List ℕ) (m n : ℕ) → m ≡ n → Where fault tail m → Where fault tail n
 where_so fault tail m n e w = subst (Where fault tail) e w
 
@@ -192,6 +198,7 @@ PointEnds text rest = (begins_with (λ c. c == 46) rest ≡ false) ⊎ (list_any
 abbrev Ended : List ℕ → Rule → List ℕ → Type 0
 Ended from A to = (text : List ℕ) × (from ≡ text ++ to) × A text × (begins_with is_ascii_digit to ≡ false) × PointEnds text to
 
+-- a point takes all digits behind it; without a point, neither point nor digit follows
 fraction_ended : (i : Input) → begins_with is_ascii_digit i.left ≡ false → (met : Bool) → begins_with (λ b. b == 46) i.left ≡ met
     → IfRead ((if met then run is_ascii_digit else pure []) (if met then after 1 i else i)) (λ digits j. Ended i.left (Fraction digits) j.left)
 fraction_ended i quiet true e = let rest = drop 1 i.left in let n = prefix_len is_ascii_digit rest in (
@@ -203,14 +210,17 @@ fraction_ended i quiet true e = let rest = drop 1 i.left in let n = prefix_len i
 )
 fraction_ended i quiet false e = ([], refl, inl (refl, refl), quiet, inl e)
 
+-- so no digit follows the fraction that is found, and no point that it hasn't already
 fraction_ends : (i : Input) → begins_with is_ascii_digit i.left ≡ false → IfRead (fraction i) (λ digits j. Ended i.left (Fraction digits) j.left)
 unfolding fraction
 fraction_ends i quiet = fraction_ended i quiet (begins_with (λ b. b == 46) i.left) refl
 
+-- a point in the fraction is one in the number
 point_behind : (xs ys rest : List ℕ) → PointEnds ys rest → PointEnds (xs ++ ys) rest
 point_behind xs ys rest (inl e) = inl e
 point_behind xs ys rest (inr e) = inr (any_behind (λ c. c == 46) xs ys e)
 
+-- a sign, digits and a fraction that nothing can lengthen are the longest number there; without a digit they are refused
 number_found : (k : Input) (at : ℕ) (minus : Bool) (integer digits : List ℕ) (from : List ℕ) (empty : Bool) → (length integer + length digits == 0) ≡ empty
     → Ended from (Sign minus ⨾ Digits integer ⨾ Fraction digits) k.left
     → IfRead {A = FoundNumber} ((if empty then refuse at else pure (record { at = at; minus = minus; whole = integer; fraction = digits })) k)
@@ -228,6 +238,7 @@ number_found k at minus integer digits from false e t = (
   refl,
 )
 
+-- a number that is found is the longest at the front of what is left, and begins where reading stands
 pub numeral_first : (i : Input) → IfRead (numeral i) (λ n j. IsFirstNumber i.left n.minus n.whole n.fraction × (n.at ≡ i.at))
 unfolding numeral
 numeral_first i = then_read (λ minus j. Took i.left (Sign minus) j.left) (sign i) _ _ (sign_sound i)
@@ -248,6 +259,7 @@ coordinate_refused n j from f at_is false past e g = rw e ((n.minus, n.whole, n.
 coordinate_refused n j from f at_is true true e g = rw (e, g) ((n.minus, n.whole, n.fraction, f, e, (Decides-ltb coordinate_limit (digits_value 10 n.whole)).0 g), ap (λ m. m + length from.left) at_is)
 coordinate_refused n j from f at_is true false e g = rw (e, g) tt
 
+-- a zero is a number, with a plus or without
 zero_number : (text : List ℕ) (sign_text : List ℕ) → Sign false sign_text → text ≡ sign_text ++ codes "0" → Number (pos 0) text
 zero_number text sign_text s is = (false, codes "0", [], ((sign_text, codes "0", is, s, (codes "0", [], refl, (refl, refl), inl (refl, refl))), zero-lt-suc 0), refl, zero-le, refl)
 
@@ -257,9 +269,11 @@ Room room AtNumber p = 0 < room
 Room room AtPosition p = room ≡ 0
 Room room AtPart p = ⊥
 
+-- so two zeros, with a plus before the first, are a position
 zero_position : PositionText (record { x = pos 0; y = pos 0 }) (codes "+0 0")
 zero_position = (codes "+0", codes " 0", refl, zero_number (codes "+0") (codes "+") (inr refl) refl, (codes " ", codes "0", refl, (zero-lt-suc 0, refl), zero_number (codes "0") [] (inl refl) refl))
 
+-- the first number of a position is refused where a position may come: one of two zeros could stand there
 first_stuck : (room : ℕ) (i : Input) (fault : TextFault) → 0 < room → What AtNumber fault i.left × Where fault i.left (total i) → Stuck PositionText (Room room) i fault
 first_stuck room i fault long known = record {
   kind = AtNumber;
@@ -277,6 +291,7 @@ first_stuck room i fault long known = record {
   counts = long;
 }
 
+-- the first number of a position stands where none may come: one of two zeros would be a position too many
 full_stuck : (room : ℕ) (i : Input) (m : Bool) (w f : List ℕ) → room ≡ 0 → IsFirstNumber i.left m w f → Stuck PositionText (Room room) i TooLong
 full_stuck room i m w f full first = record {
   kind = AtPosition;
@@ -294,6 +309,7 @@ full_stuck room i m w f full first = record {
   counts = full;
 }
 
+-- the second number of a position is refused: a zero could stand there, behind the first number and the white space
 second_stuck : (room : ℕ) (x : ℤ) (i k l : Input) (fault : TextFault) → 0 < room → Took i.left (Number x) k.left → Took k.left Space l.left → total l ≡ total i
     → What AtNumber fault l.left × Where fault l.left (total l) → Stuck PositionText (Room room) i fault
 second_stuck room x i k l fault long t u e known = let both_texts = both i.left k.left l.left (Number x) Space t u in
@@ -317,13 +333,16 @@ second_stuck room x i k l fault long t u e known = let both_texts = both i.left 
 abbrev Quiet : {A : Type 0} → Reader A → Type 0
 Quiet step = (i : Input) → IfFails (step i) (λ _. ⊥)
 
+-- a step that fails as W1 only, and then another: both together fail as the other does
 quiet_then : {A B : Type 0} (r : Result (A × Input) TextFault) (next : A → Reader B) (G : TextFault → Type 0) → IfFails r (λ _. ⊥) → ((x : A) (j : Input) → IfFails (next x j) G) → IfFails (and_then r next) G
 quiet_then r next G fails others = then_fails (λ _ _. Unit {0}) (λ _. ⊥) G r next (any_read r) fails (λ fault b. absurd b) (λ x j _. others x j)
 
+-- whichever of two such steps is taken, it fails as W1 only
 quiet_if : {A : Type 0} (b : Bool) (s t : Reader A) (i : Input) → IfFails (s i) (λ _. ⊥) → IfFails (t i) (λ _. ⊥) → IfFails ((if b then s else t) i) (λ _. ⊥)
 quiet_if true s t i f g = f
 quiet_if false s t i f g = g
 
+-- bytes that have to come, signs, fractions, numbers and white space fail as W1 only: no value or count is looked at yet
 expect_quiet : (c : ℕ) → Quiet (expect c)
 expect_quiet c i = quiet_if (begins_with (λ b. b == c) i.left) (pure true) (refuse i.at) (if begins_with (λ b. b == c) i.left then after 1 i else i) tt tt
 
@@ -345,6 +364,7 @@ space_quiet : Quiet space
 unfolding space
 space_quiet i = let w = take (prefix_len is_white i.left) i.left in quiet_if (length w == 0) (refuse i.at) (pure w) (after (prefix_len is_white i.left) i) tt tt
 
+-- the first number of a position fails by the count, or by its own value
 first_fails : (room : ℕ) (n : FoundNumber) (i j : Input) → IsFirstNumber i.left n.minus n.whole n.fraction → n.at ≡ i.at → (full : Bool) → (room == 0) ≡ full
     → IfFails ((if full then too_long else coordinate n) j) (Stuck PositionText (Room room) i)
 first_fails room n i j first at_is true e = full_stuck room i n.minus n.whole n.fraction ((Decides-eqb room 0).0 e) first
@@ -355,12 +375,14 @@ first_fails room n i j first at_is false e = fails_so (λ fault. What AtNumber f
 abbrev FoundAt : Input → FoundNumber → Input → Type 0
 FoundAt i n j = Took i.left (Numeral n.minus n.whole n.fraction) j.left × (IsFirstNumber i.left n.minus n.whole n.fraction × (n.at ≡ i.at)) × (total j ≡ total i)
 
+-- what is known of a number that was found: it is in the grammar, the longest there, and no byte was lost
 numeral_known : (i : Input) → IfRead (numeral i) (FoundAt i)
 numeral_known i = weaker (λ n j. Took i.left (Numeral n.minus n.whole n.fraction) j.left × ((IsFirstNumber i.left n.minus n.whole n.fraction × (n.at ≡ i.at)) × (total j ≡ total i))) (FoundAt i) (numeral i)
     (λ n j known. (known.0, known.1.0, known.1.1))
     (and_read (λ n j. Took i.left (Numeral n.minus n.whole n.fraction) j.left) (λ n j. (IsFirstNumber i.left n.minus n.whole n.fraction × (n.at ≡ i.at)) × (total j ≡ total i)) (numeral i)
     (numeral_sound i) (and_read (λ n j. IsFirstNumber i.left n.minus n.whole n.fraction × (n.at ≡ i.at)) (λ _ j. total j ≡ total i) (numeral i) (numeral_first i) (numeral_keeps i)))
 
+-- a position fails by the count or by one of its numbers, and each time the text up to there could go on as a position
 position_fails : (room : ℕ) → Fails PositionText (Room room) (position room)
 unfolding position
 position_fails room i = then_fails (FoundAt i) (λ _. ⊥) (Stuck PositionText (Room room) i) (numeral i) _ (numeral_known i) (numeral_quiet i) (λ fault b. absurd b)
@@ -379,12 +401,14 @@ position_fails room i = then_fails (FoundAt i) (λ _. ⊥) (Stuck PositionText (
 
 -- lists
 
+-- a text that stops at a fault does so with white space before it
 padded_fails : {A B : Type 0} (P : A → Rule) (R : Kind → A → Type 0) (step : Reader B) → ((i : Input) → IfFails (step i) (Stuck P R i)) → (i : Input) → IfFails (padded step i) (Stuck (λ x. Padded (P x)) R i)
 padded_fails P R step fails i = let j = after (prefix_len is_white i.left) i in
     then_fails (λ _ _. Unit {0}) (Stuck P R j) (Stuck (λ x. Padded (P x)) R i) (step j) _ (any_read (step j)) (fails j)
     (λ fault s. stuck_behind Blank (λ x. P x ⨾ Blank) R i j fault (took_run is_white i.left) (run_keeps is_white i) (stuck_before Blank P R j fault [] refl refl s))
     (λ x k _. tt)
 
+-- and in parentheses: behind the place where it could go on, the closing one is all that need follow
 enclosed_fails : {A B : Type 0} (P : A → Rule) (R : Kind → A → Type 0) (step : Reader B) → ((i : Input) → IfFails (step i) (Stuck P R i)) → (i : Input) → IfFails (enclosed step i) (Stuck (λ x. Enclosed (P x)) R i)
 enclosed_fails P R step fails i = let G = Stuck (λ x. Enclosed (P x)) R i in
     then_fails (λ _ j. Took i.left (Byte 40) j.left × (total j ≡ total i)) (λ _. ⊥) G (expect 40 i) _
@@ -393,6 +417,7 @@ enclosed_fails P R step fails i = let G = Stuck (λ x. Enclosed (P x)) R i in
     (λ fault s. stuck_behind (Byte 40) (λ x. P x ⨾ Byte 41) R i j fault opened.0 opened.1 (stuck_before (Byte 41) P R j fault (codes ")") refl refl s))
     (λ x k _. quiet_then (expect 41 k) _ G (expect_quiet 41 k) (λ _ _. tt)))
 
+-- a point of a MULTIPOINT fails as its position does, in either form
 point_cases : (room : ℕ) (i : Input) (opened : Bool) → IfFails ((if opened then enclosed (padded (position room)) else position room) i) (Stuck PointText (Room room) i)
 point_cases room i true = fails_so _ _ (enclosed (padded (position room)) i)
     (λ fault s. stuck_as (λ p. Enclosed (Padded (PositionText p))) PointText (Room room) (Room room) (λ p. p) i fault (λ p text t. inr t) (λ k p r. r) s)
@@ -409,16 +434,19 @@ RoomList room AtNumber xs = length xs ≤ room
 RoomList room AtPosition xs = length xs ≡ suc room
 RoomList room AtPart xs = ⊥
 
+-- the counts of a list whose first item fails
 one_item : (room : ℕ) (k : Kind) (x : Position) → Room room k x → RoomList room k (x ∷ [])
 one_item room AtNumber x long = long
 one_item room AtPosition x full = ap suc (sym full)
 one_item room AtPart x none = none
 
+-- and those of one that fails behind its first item, where one item less may come
 more_items : (room : ℕ) (x : Position) (k : Kind) (xs : List Position) → RoomList room k xs → RoomList (suc room) k (x ∷ xs)
 more_items room x AtNumber xs fits = suc-le-suc fits
 more_items room x AtPosition xs full = ap suc full
 more_items room x AtPart xs none = none
 
+-- an item, a comma and a list are a list
 cons_text : {A : Type 0} (P : A → Rule) (x : A) (more : List A) (text : List ℕ) → (Padded (P x) ⨾ Byte 44 ⨾ Separated P more) text → Separated P (x ∷ more) text
 cons_text P x [] text t = absurd t.4.4
 cons_text P x (y ∷ more) text t = t
@@ -430,6 +458,7 @@ later_stuck P R S x i j fault t e met counts s = stuck_as (λ more. Padded (P x)
     (stuck_behind (Padded (P x)) (λ more. Byte 44 ⨾ Separated P more) R i j fault t e
     (stuck_behind (Byte 44) (Separated P) R j (after 1 j) fault (44 ∷ [], first_is 44 j.left met, refl) (ate 44 j true met) s))
 
+-- behind an item a comma goes on with more, and the fault of these is the list's
 later_fails : {A : Type 0} (P : A → Rule) (R S : Kind → List A → Type 0) (next : Reader (List A)) → Fails (Separated P) R next → (x : A) (i j : Input) → Took i.left (Padded (P x)) j.left → total j ≡ total i
     → ((k : Kind) (xs : List A) → R k xs → S k (x ∷ xs)) → (met : Bool) → begins_with (λ b. b == 44) j.left ≡ met
     → IfFails ((if met then (next >>= λ more. pure (x ∷ more)) else pure (x ∷ [])) (if met then after 1 j else j)) (Stuck (Separated P) S i)
@@ -437,6 +466,7 @@ later_fails P R S next fails x i j t e counts true met = then_fails (λ _ _. Uni
     (fails (after 1 j)) (λ fault s. later_stuck P R S x i j fault t e met counts s) (λ _ _ _. tt)
 later_fails P R S next fails x i j t e counts false met = tt
 
+-- a list fails in its first item, or in those behind the comma, where one item less may come
 separated_fails : (P : Position → Rule) (item : ℕ → Reader Position) → ((room : ℕ) (i : Input) → IfRead (padded (item room) i) (λ x j. Took i.left (Padded (P x)) j.left × (0 < room)))
     → ((room : ℕ) → Keeps (item room)) → ((room : ℕ) → Fails P (Room room) (item room)) → (room : ℕ) → Fails (Separated P) (RoomList room) (separated item room)
 unfolding separated
@@ -450,12 +480,15 @@ separated_fails P item sound keeps fails (suc room) i = let step = padded (item 
     (λ fault s. stuck_as (λ x. Padded (P x)) (Separated P) (Room (suc room)) (RoomList (suc room)) (λ x. x ∷ []) i fault (λ x text t. t) (one_item (suc room)) s)
     (λ x j known. later_fails P (RoomList room) (RoomList (suc room)) (separated item room) (separated_fails P item sound keeps fails room) x i j known.0.0 known.1 (more_items room x) _ refl)
 
+-- so do the positions of a line or ring
 positions_fails : (room : ℕ) → Fails (Separated PositionText) (RoomList room) (separated position room)
 positions_fails = separated_fails PositionText position (λ room. padded_sound PositionText (λ _. 0 < room) (position room) (position_sound room)) position_keeps position_fails
 
+-- and the points of a MULTIPOINT
 points_fails : (room : ℕ) → Fails (Separated PointText) (RoomList room) (separated point room)
 points_fails = separated_fails PointText point (λ room. padded_sound PointText (λ _. 0 < room) (point room) (point_sound room)) point_keeps point_fails
 
+-- and a line or ring, which is such a list in parentheses
 line_fails : (room : ℕ) → Fails LineText (RoomList room) (line room)
 unfolding line
 line_fails room = enclosed_fails (Separated PositionText) (RoomList room) (separated position room) (positions_fails room)
@@ -475,6 +508,7 @@ OnlyPart AtPart x = Unit {0}
 abbrev zero_zero : Position
 zero_zero = record { x = pos 0; y = pos 0 }
 
+-- where no part may come, a part of one position could stand from this parenthesis on, and would be one too many
 part_stuck : (i : Input) (rest : List ℕ) → i.left ≡ 40 ∷ rest → Stuck LineText OnlyPart i TooLong
 part_stuck i rest opened = record {
   kind = AtPart;
@@ -492,18 +526,22 @@ part_stuck i rest opened = record {
   counts = tt;
 }
 
+-- where its parenthesis doesn't stand the step fails as W1, and where it does as a part too many
 part_fails : (i : Input) → IfFails {A = List Position} ((expect 40 >> too_long) i) (Stuck LineText OnlyPart i)
 part_fails i = then_fails (λ _ j. Took i.left (Byte 40) j.left) (λ _. ⊥) (Stuck LineText OnlyPart i) (expect 40 i) _ (expect_sound 40 i) (expect_quiet 40 i) (λ fault b. absurd b)
     (λ _ j t. part_stuck i j.left (byte_is 40 i.left j.left t))
 
+-- a list of one item has the counts of that item
 one_part : (count room : ℕ) (k : Kind) (xs : List (List Position)) → RoomParts count room k xs → RoomParts count room k (xs ++ [])
 one_part count room k xs counts = rw (append-nil xs) counts
 
+-- the counts of what follows an item that fits give those of the whole list
 more_parts : (count room : ℕ) (xs : List (List Position)) → FitsCounts count room xs → (k : Kind) (ys : List (List Position)) → RoomParts (count - length xs) (room - positions_in xs) k ys → RoomParts count room k (xs ++ ys)
 more_parts count room xs fits AtNumber ys others = both_fit count room xs ys fits others
 more_parts count room xs fits AtPosition ys full = omega (arith, positions_of_both xs ys, fits.1, full)
 more_parts count room xs fits AtPart ys full = omega (arith, length-append xs ys, fits.0, full)
 
+-- items fail in the first, or in those behind the comma, where its rings and positions are used up
 items_fails : {A : Type 0} (P : A → Rule) (item : ℕ → ℕ → Reader A) (rings : A → List (List Position))
     → ((count room : ℕ) (i : Input) → IfRead (padded (item count room) i) (λ x j. Took i.left (Padded (P x)) j.left × FitsCounts count room (rings x)))
     → ((count room : ℕ) → Keeps (item count room)) → ((count room : ℕ) → Fails P (λ k x. RoomParts count room k (rings x)) (item count room))
@@ -527,16 +565,19 @@ items_fails P item rings sound keeps fails (suc turns) count room i =
     (λ k xs. more_parts count room (rings x) known.0.1 k (rings_of rings xs)) _ refl)
 
 -- rings and elements
+-- where no ring may come, one is a part too many
 no_ring : (room : ℕ) (k : Kind) (x : List Position) → OnlyPart k x → RoomParts zero room k (alone x)
 no_ring room AtNumber x none = absurd none
 no_ring room AtPosition x none = absurd none
 no_ring room AtPart x one = refl
 
+-- where one may come, it counts by its positions
 one_ring : (count room : ℕ) (k : Kind) (x : List Position) → RoomList room k x → RoomParts (suc count) room k (alone x)
 one_ring count room AtNumber x fits = (suc-le-suc zero-le, rw (append-nil x) fits)
 one_ring count room AtPosition x full = ap length (append-nil x) ∙ full
 one_ring count room AtPart x none = absurd none
 
+-- an element or ring fails as a part too many, or as a line
 ring_fails : (count room : ℕ) → Fails LineText (λ k x. RoomParts count room k (alone x)) (ring count room)
 unfolding ring
 ring_fails zero room i = fails_so (Stuck LineText OnlyPart i) _ ((expect 40 >> too_long) i)
@@ -544,11 +585,13 @@ ring_fails zero room i = fails_so (Stuck LineText OnlyPart i) _ ((expect 40 >> t
 ring_fails (suc count) room i = fails_so (Stuck LineText (RoomList room) i) _ (line room i)
     (λ fault s. stuck_as LineText LineText (RoomList room) (λ k x. RoomParts (suc count) room k (alone x)) (λ x. x) i fault (λ x text t. t) (one_ring count room) s) (line_fails room i)
 
+-- it loses no byte
 ring_keeps : (count room : ℕ) → Keeps (ring count room)
 unfolding ring
 ring_keeps zero room i = then_read (λ _ _. Unit {0}) (expect 40 i) _ _ (any_read (expect 40 i)) (λ _ _ _. tt)
 ring_keeps (suc count) room i = line_keeps room i
 
+-- elements or rings fail as items, each of them one part
 parts_fails : (count room : ℕ) → Fails (Separated LineText) (RoomParts count room) (parts count room)
 parts_fails count room i = rw (parts_are_items count room i) (fails_so (Stuck (Separated LineText) (λ k xs. RoomParts count room k (rings_of alone xs)) i) _ (items ring alone count count room i)
     (λ fault s. stuck_as (Separated LineText) (Separated LineText) (λ k xs. RoomParts count room k (rings_of alone xs)) (RoomParts count room) (λ xs. xs) i fault (λ xs text t. t)
@@ -556,20 +599,24 @@ parts_fails count room i = rw (parts_are_items count room i) (fails_so (Stuck (S
     (items_fails LineText ring alone (λ n m. padded_sound LineText (λ x. FitsCounts n m (alone x)) (ring n m) (ring_sound n m)) ring_keeps ring_fails count count room i))
 
 -- polygons
+-- a polygon fails as its rings do
 polygon_fails : (count room : ℕ) → Fails PolygonText (RoomParts count room) (polygon count room)
 unfolding polygon
 polygon_fails count room = enclosed_fails (Separated LineText) (RoomParts count room) (parts count room) (parts_fails count room)
 
+-- polygons fail as items that count by their rings
 polygons_fails : (turns count room : ℕ) → Fails (Separated PolygonText) (λ k xs. RoomParts count room k (joined_rings xs)) (polygons turns count room)
 polygons_fails turns count room i = rw (polygons_are_items turns count room i)
     (items_fails PolygonText polygon itself (λ n m. padded_sound PolygonText (FitsCounts n m) (polygon n m) (polygon_sound n m)) polygon_keeps polygon_fails turns count room i)
 
 -- the whole text
 
+-- a list of the grammar in parentheses is a body, since it has an item
 body_text : {A : Type 0} (P : A → Rule) (xs : List A) (text : List ℕ) → (Blank ⨾ Enclosed (Separated P xs)) text → Body P xs text
 body_text P [] text t = absurd t.4.4.3
 body_text P (x ∷ more) text t = t
 
+-- by the word that stands there: with none the list in parentheses fails, with EMPTY nothing does, with another it is W1
 body_cases : {A B C : Type 0} (P : A → Rule) (f : B → List A) (R : Kind → B → Type 0) (inner : Reader (List C)) → ((i : Input) → IfFails (inner i) (Stuck (λ x. Separated P (f x)) R i)) → (i : Input)
     → (empty named : Bool) → (length (word_at (behind i)) == 0) ≡ empty
     → IfFails ((if empty then enclosed inner else (if named then pure [] else refuse (behind i).at)) (past_word (behind i))) (Stuck (λ x. Body P (f x)) R i)
@@ -585,6 +632,7 @@ body_cases P f R inner fails i true named e =
 body_cases P f R inner fails i false true e = tt
 body_cases P f R inner fails i false false e = tt
 
+-- so a body fails as its list in parentheses does
 body_fails : {A B C : Type 0} (P : A → Rule) (f : B → List A) (R : Kind → B → Type 0) (inner : Reader (List C)) → ((i : Input) → IfFails (inner i) (Stuck (λ x. Separated P (f x)) R i)) → (i : Input)
     → IfFails (body inner i) (Stuck (λ x. Body P (f x)) R i)
 unfolding body
@@ -595,31 +643,37 @@ RoomGeometry AtNumber g = IsWithinCounts g
 RoomGeometry AtPosition g = length (written_positions g) ≡ position_limit + 1
 RoomGeometry AtPart g = length (written_parts g) ≡ part_limit + 1
 
+-- the counts of a list are those of its geometry, type by type: of a POINT
 lone_counts : (k : Kind) (p : Position) → Room position_limit k p → RoomGeometry k (Point (Some p))
 lone_counts AtNumber p long = (long, zero-le)
 lone_counts AtPosition p full = absurd (omega (arith, full))
 lone_counts AtPart p none = absurd none
 
+-- of a MULTIPOINT
 points_counts : (k : Kind) (ps : List Position) → RoomList position_limit k ps → RoomGeometry k (MultiPoint ps)
 points_counts AtNumber ps fits = (fits, zero-le)
 points_counts AtPosition ps full = full
 points_counts AtPart ps none = absurd none
 
+-- of a LINESTRING
 line_counts : (k : Kind) (ps : List Position) → RoomList position_limit k ps → RoomGeometry k (LineString ps)
 line_counts AtNumber ps fits = (fits, zero-le)
 line_counts AtPosition ps full = full
 line_counts AtPart ps none = absurd none
 
+-- of a MULTILINESTRING
 lines_counts : (k : Kind) (ls : List (List Position)) → RoomParts part_limit position_limit k ls → RoomGeometry k (MultiLineString ls)
 lines_counts AtNumber ls fits = (fits.1, fits.0)
 lines_counts AtPosition ls full = full
 lines_counts AtPart ls full = full
 
+-- of a POLYGON
 rings_counts : (k : Kind) (ls : List (List Position)) → RoomParts part_limit position_limit k ls → RoomGeometry k (Polygon ls)
 rings_counts AtNumber ls fits = (fits.1, fits.0)
 rings_counts AtPosition ls full = full
 rings_counts AtPart ls full = full
 
+-- of a MULTIPOLYGON
 polygons_counts : (k : Kind) (es : List (List (List Position))) → RoomParts part_limit position_limit k (joined_rings es) → RoomGeometry k (MultiPolygon es)
 polygons_counts AtNumber es fits = (fits.1, fits.0)
 polygons_counts AtPosition es full = full
@@ -633,11 +687,13 @@ named_fails own P f R make inner result fails so counts i j t e = then_fails (λ
     (body_fails P f R inner fails j)
     (λ fault s. stuck_as (λ x. Word own ⨾ Body P (f x)) TaggedText R RoomGeometry make i fault so counts (stuck_behind (Word own) (λ x. Body P (f x)) R i j fault t e s)) (λ _ _ _. tt)
 
+-- the one position of a POINT fails as a position does
 lone_fails : (i : Input) → IfFails ((padded (position position_limit) >>= λ p. pure (p ∷ [])) i) (Stuck (λ p. Separated PositionText (p ∷ [])) (Room position_limit) i)
 lone_fails i = then_fails (λ _ _. Unit {0}) (Stuck (λ p. Padded (PositionText p)) (Room position_limit) i) (Stuck (λ p. Separated PositionText (p ∷ [])) (Room position_limit) i)
     (padded (position position_limit) i) _ (any_read (padded (position position_limit) i))
     (padded_fails PositionText (Room position_limit) (position position_limit) (position_fails position_limit) i) (λ fault s. s) (λ _ _ _. tt)
 
+-- name by name: behind it the body of that type fails, and an unknown name is W1
 typed_fails : (at : ℕ) (name : List ℕ) (i j : Input) → i.left ≡ name ++ j.left → total j ≡ total i
     → (b1 b2 b3 b4 b5 b6 : Bool) → str_eq_ignore_ascii_case name (codes "POINT") ≡ b1 → str_eq_ignore_ascii_case name (codes "MULTIPOINT") ≡ b2
     → str_eq_ignore_ascii_case name (codes "LINESTRING") ≡ b3 → str_eq_ignore_ascii_case name (codes "MULTILINESTRING") ≡ b4 → str_eq_ignore_ascii_case name (codes "POLYGON") ≡ b5 → str_eq_ignore_ascii_case name (codes "MULTIPOLYGON") ≡ b6
@@ -662,15 +718,18 @@ typed_fails at name i j split e false false false false false true e1 e2 e3 e4 e
     (polygons part_limit part_limit position_limit) MultiPolygon (polygons_fails part_limit part_limit position_limit) (λ es text t. t) polygons_counts i j (name, split, word_is name (codes "MULTIPOLYGON") e6) e
 typed_fails at name i j split e false false false false false false e1 e2 e3 e4 e5 e6 = tt
 
+-- so the text of a type fails in its body, behind the name that was read
 tagged_fails : Fails TaggedText RoomGeometry tagged
 unfolding tagged typed
 tagged_fails i = let m = prefix_len is_ascii_alphabetic i.left in
     typed_fails i.at (take m i.left) i (after m i) (sym (take-append-drop m i.left)) (run_keeps is_ascii_alphabetic i) _ _ _ _ _ _ refl refl refl refl refl refl
 
+-- what is left behind a geometry is W1
 ended_quiet : (i : Input) (g : Geometry) (j : Input) (empty : Bool) → IfFails (and_then (if empty then Ok (true, j) else Err (Syntax j.at)) (λ _. pure g)) (Stuck Writes RoomGeometry i)
 ended_quiet i g j true = tt
 ended_quiet i g j false = tt
 
+-- so a whole text that fails other than as W1 could go on as a text of the grammar from the fault on
 whole_fails : (i : Input) → IfFails (whole i) (Stuck Writes RoomGeometry i)
 unfolding whole
 whole_fails i = then_fails (λ _ _. Unit {0}) (Stuck Writes RoomGeometry i) (Stuck Writes RoomGeometry i) (padded tagged i) _ (any_read (padded tagged i))
@@ -678,6 +737,7 @@ whole_fails i = then_fails (λ _ _. Unit {0}) (Stuck Writes RoomGeometry i) (Stu
 
 -- the law
 
+-- the fault that is answered is the one with which reading failed
 answered : (Q : TextFault → Type 0) (r : Result (Geometry × Input) TextFault) (fault : TextFault) → IfFails r Q → outcome r ≡ Err fault → Unless Q fault
 answered Q (Ok found) fault fails e = absurd cc
 answered Q (Err f) fault fails e = let same : f ≡ fault = cc in subst (Unless Q) same fails
@@ -685,9 +745,11 @@ answered Q (Err f) fault fails e = let same : f ≡ fault = cc in subst (Unless 
 abbrev start : List ℕ → Input
 start text = record { left = text; at = 0 }
 
+-- no byte is lost, so the byte of the fault is as far on as what stands before it is long
 place_is : (at : ℕ) (used tail text : List ℕ) → text ≡ used ++ tail → at + length tail ≡ 0 + length text → at ≡ length used
 place_is at used tail text split e = omega (arith, ap length split, length-append used tail, e)
 
+-- the text before the fault begins a geometry, with a plus behind it
 takes_number : (used mark more closing : List ℕ) (g : Geometry) → mark ≡ codes "+" ++ more → Writes g (used ++ (mark ++ closing)) → IsWithinCounts g → TakesNumber used
 takes_number used mark more closing g is goes counts = (
   more ++ closing,
@@ -700,6 +762,7 @@ takes_number used mark more closing g is goes counts = (
   },
 )
 
+-- so a number stands at that byte, where a new number can stand
 has_number : (text : List ℕ) (at : ℕ) (m : Bool) (w f used tail mark closing : List ℕ) (g : Geometry) → text ≡ used ++ tail → at + length tail ≡ 0 + length text → Marks AtNumber mark
     → Writes g (used ++ (mark ++ closing)) → IsWithinCounts g → IsFirstNumber tail m w f → HasNumber text at m w f
 has_number text at m w f used tail mark closing g split e marked goes counts first = record {
@@ -711,6 +774,7 @@ has_number text at m w f used tail mark closing g split e marked goes counts fir
   number = first;
 }
 
+-- a number that failed as W2 shows that W2 stands there
 off_grid : (text : List ℕ) (at : ℕ) (k : Kind) (used tail mark closing : List ℕ) (g : Geometry) → text ≡ used ++ tail → What k (OffGrid at) tail → at + length tail ≡ 0 + length text → Marks k mark
     → Writes g (used ++ (mark ++ closing)) → RoomGeometry k g → IsOffGrid text at
 off_grid text at AtNumber used tail mark closing g split what e marked goes counts = record {
@@ -723,6 +787,7 @@ off_grid text at AtNumber used tail mark closing g split what e marked goes coun
 off_grid text at AtPosition used tail mark closing g split what e marked goes counts = absurd what
 off_grid text at AtPart used tail mark closing g split what e marked goes counts = absurd what
 
+-- one that failed as W3 shows that W3 stands
 out_of_range : (text : List ℕ) (at : ℕ) (k : Kind) (used tail mark closing : List ℕ) (g : Geometry) → text ≡ used ++ tail → What k (OutOfRange at) tail → at + length tail ≡ 0 + length text → Marks k mark
     → Writes g (used ++ (mark ++ closing)) → RoomGeometry k g → IsOutOfRange text at
 out_of_range text at AtNumber used tail mark closing g split what e marked goes counts = record {
@@ -736,6 +801,7 @@ out_of_range text at AtNumber used tail mark closing g split what e marked goes 
 out_of_range text at AtPosition used tail mark closing g split what e marked goes counts = absurd what
 out_of_range text at AtPart used tail mark closing g split what e marked goes counts = absurd what
 
+-- and a position or part that failed as W4 shows that W4 stands, by that position or part
 too_many : (text : List ℕ) (k : Kind) (used tail mark closing : List ℕ) (g : Geometry) → text ≡ used ++ tail → What k TooLong tail → Marks k mark
     → Writes g (used ++ (mark ++ closing)) → list_any begins_more closing ≡ false → RoomGeometry k g → HasTooManyPositions text ⊎ HasTooManyParts text
 too_many text AtNumber used tail mark closing g split what marked goes none counts = absurd what
@@ -764,6 +830,7 @@ too_many text AtPart used tail mark closing g split what marked goes none counts
   counted = counts;
 })
 
+-- reading that failed shows a text of the grammar that begins like this one up to the fault, so the fault stands
 pub refusals_stand : RefusalsStand
 unfolding read_text
 refusals_stand text at = let i = start text in (

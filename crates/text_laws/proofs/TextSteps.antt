@@ -10,6 +10,7 @@ use Rattle.std.proofs.lemmas.Bool.Decides.{Decides-eqb}
 use Rattle.geometry_model.specs.WellKnownText.{Rule, ◌⨾◌, Word}
 use Rattle.geometry_model.specs.TextReading.{begins_with}
 
+-- a byte before a run belongs to it where it passes; otherwise the run is empty
 passed : (test : ℕ → Bool) (x : ℕ) (xs : List ℕ) (b : Bool) → test x ≡ b → list_all test xs ≡ true → list_all test (cond b (x ∷ xs) []) ≡ true
 passed test x xs true e all = rw e all
 passed test x xs false e all = refl
@@ -19,6 +20,7 @@ pub all_pass : (test : ℕ → Bool) (xs : List ℕ) → list_all test (take (pr
 all_pass test [] = refl
 all_pass test (x ∷ xs) = ap (list_all test) (take_while-cons test x xs) ∙ passed test x (take_while test xs) (test x) refl (all_pass test xs)
 
+-- behind a byte that passes the run goes on; one that doesn't is itself what comes behind the run
 stopped : (test : ℕ → Bool) (x : ℕ) (xs : List ℕ) (b : Bool) → test x ≡ b → begins_with test (drop (prefix_len test xs) xs) ≡ false
     → begins_with test (drop (cond b (1 + prefix_len test xs) 0) (x ∷ xs)) ≡ false
 stopped test x xs true e stops = rw (one-add (prefix_len test xs)) stops
@@ -29,6 +31,7 @@ pub stops : (test : ℕ → Bool) (xs : List ℕ) → begins_with test (drop (pr
 stops test [] = refl
 stops test (x ∷ xs) = stopped test x xs (test x) refl (stops test xs)
 
+-- a byte that doesn't pass ends the run before it begins
 none : (test : ℕ → Bool) (x : ℕ) (xs : List ℕ) (b : Bool) → test x ≡ b → b ≡ false → cond b (1 + prefix_len test xs) 0 ≡ 0
 none test x xs true e stop = absurd (true≢false stop)
 none test x xs false e stop = refl
@@ -48,6 +51,7 @@ pub some : (n : ℕ) → (n == 0) ≡ false → 0 < n
 some zero e = absurd (true≢false e)
 some (suc n) e = zero-lt-suc n
 
+-- a text of no bytes is the empty one
 pub nothing : (xs : List ℕ) → (length xs == 0) ≡ true → xs ≡ []
 nothing [] e = refl
 nothing (x ∷ xs) e = absurd (suc-ne-zero (length xs) ((Decides-eqb (length (x ∷ xs)) 0).0 e))
@@ -73,11 +77,13 @@ took_run test xs = (take (prefix_len test xs) xs, sym (take-append-drop (prefix_
 
 -- the other way: how far a run goes, and the parts of a text taken apart
 
+-- bytes that pass, and then one that doesn't or the end: the run is just as long as those bytes
 pub run_is : (test : ℕ → Bool) (used rest : List ℕ) → list_all test used ≡ true → begins_with test rest ≡ false → prefix_len test (used ++ rest) ≡ length used
 run_is test [] rest all stop = no_run test rest stop
 run_is test (x ∷ xs) rest all stop = let parts = and_parts (test x) (list_all test xs) all in
     rw (parts.0, one-add (prefix_len test (xs ++ rest)), run_is test xs rest parts.1 stop) refl
 
+-- a text cut where its run ends: the run is what passes, and the rest is what is left
 pub read_run : (test : ℕ → Bool) (left used rest : List ℕ) → left ≡ used ++ rest → list_all test used ≡ true → begins_with test rest ≡ false
     → (take (prefix_len test left) left ≡ used) × (drop (prefix_len test left) left ≡ rest)
 read_run test left used rest is all stop = subst (λ l. (take (prefix_len test l) l ≡ used) × (drop (prefix_len test l) l ≡ rest)) (sym is) (
@@ -85,8 +91,10 @@ read_run test left used rest is all stop = subst (λ l. (take (prefix_len test l
   ap (λ n. drop n (used ++ rest)) (run_is test used rest all stop) ∙ drop-append_seam used rest,
 )
 
+-- a text of one rule and then another is cut between the two
 unfoldable pub apart : (xs zs : List ℕ) (A B : Rule) → Took xs (A ⨾ B) zs → (ys : List ℕ) × Took xs A ys × Took ys B zs
 apart xs zs A B t = (t.2.1 ++ zs, (t.2.0, t.1 ∙ (ap (λ u. u ++ zs) t.2.2 ∙ append_assoc t.2.0 t.2.1 zs), t.2.3), (t.2.1, refl, t.2.4))
 
+-- a text of the rule of one byte begins with that byte
 pub byte_is : (c : ℕ) (xs ys : List ℕ) → Took xs (λ text. text ≡ c ∷ []) ys → xs ≡ c ∷ ys
 byte_is c xs ys t = t.1 ∙ ap (λ u. u ++ ys) t.2

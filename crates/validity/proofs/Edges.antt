@@ -14,12 +14,14 @@ at_index more i d end within is =
     add_one : (n : ℕ) → suc n ≡ n + 1
     add_one n = omega arith
 
+-- one edge more is kept: together with the edges that are still to come they stay all edges of the line
 pub edge_more : (kept : List Edge) (more : List Position) (all : List Edge) (i : ℕ) (d start end : Position) → i < length more → end ≡ get_or more i d
     → kept ++ edges_of_line (start ∷ drop i more) ≡ all → (kept ++ record { start = start; end = end } ∷ []) ++ edges_of_line (end ∷ drop (i + 1) more) ≡ all
 edge_more kept more all i d start end within is before =
     append_assoc kept (record { start = start; end = end } ∷ []) (edges_of_line (end ∷ drop (i + 1) more))
     ∙ subst (λ l. kept ++ edges_of_line (start ∷ l) ≡ all) (at_index more i d end within is) before
 
+-- where the edges that are left all have length, so has the next one, and so have those behind it
 pub edge_has_length : (more : List Position) (i : ℕ) (d start end : Position) → i < length more → end ≡ get_or more i d
     → All HasLength (edges_of_line (start ∷ drop i more)) → (start ≢ end) × All HasLength (edges_of_line (end ∷ drop (i + 1) more))
 edge_has_length more i d start end within is long =

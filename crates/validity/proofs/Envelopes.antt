@@ -25,9 +25,11 @@ use Rattle.validity.specs.Neighbours.{either_envelope, element_envelope}
 use Rattle.validity.proofs.OutlineFacts.{taken}
 
 -- ---- one more of a mapped list
+-- a list made part by part, with what the next part gives at its end, is made of one part more
 pub mapped_next : {A B : Type 0} (f : A → B) (xs : List A) (m : ℕ) (x : A) (items new : List B) → slice_get xs m ≡ Some x → items ≡ map f (take m xs) → new ≡ items ++ f x ∷ [] → new ≡ map f (take (m + 1) xs)
 mapped_next f xs m x items new is before grew = grew ∙ ap (λ l. l ++ f x ∷ []) before ∙ sym (ap (map f) (taken xs m x is) ∙ map-append f (take m xs) (x ∷ []))
 
+-- a geometry that has a ring is an area, and the lines of an area are its rings
 pub rings_are_lines : (g : Geometry) (i : ℕ) → i < length (rings g) → rings g ≡ lines g
 rings_are_lines (Geometry.Point p) i h = refl
 rings_are_lines (Geometry.MultiPoint ps) i h = refl
@@ -37,6 +39,7 @@ rings_are_lines (Geometry.Polygon rs) i h = refl
 rings_are_lines (Geometry.MultiPolygon es) i h = refl
 
 -- ---- the envelope of two lists
+-- envelopes join in any grouping, since least and greatest numbers do
 joined_again : (e f g : Envelope) → joined e (joined f g) ≡ joined (joined e f) g
 joined_again e f g = λ i. record {
   least_x = least e.least_x f.least_x g.least_x i;
@@ -51,16 +54,19 @@ joined_again e f g = λ i. record {
     greatest : (x y z : ℤ) → int_max x (int_max y z) ≡ int_max (int_max x y) z
     greatest x y z = omega (arith, ints, clamps)
 
+-- a position taken into the envelope of two lists may as well be taken into the first one's
 with_either : (a : Position) (o p : Option Envelope) → Some (with_position a (either_envelope o p)) ≡ either_envelope (Some (with_position a o)) p
 with_either a None None = refl
 with_either a None (Some f) = refl
 with_either a (Some e) None = refl
 with_either a (Some e) (Some f) = ap Some (joined_again (envelope_at a) e f)
 
+-- the envelope of two lists together joins their envelopes, since positions are taken in one by one
 pub both_envelopes : (ps qs : List Position) → envelope_of_positions (ps ++ qs) ≡ either_envelope (envelope_of_positions ps) (envelope_of_positions qs)
 both_envelopes [] qs = refl
 both_envelopes (p ∷ ps) qs = ap (λ o. Some (with_position p o)) (both_envelopes ps qs) ∙ with_either p (envelope_of_positions ps) (envelope_of_positions qs)
 
+-- a polygon's envelope is made ring by ring: one more ring joins its own
 pub element_next : (rs : List (List Position)) (m : ℕ) (r : List Position) (old new : Option Envelope) → slice_get rs m ≡ Some r → old ≡ element_envelope (take m rs) → new ≡ either_envelope old (envelope_of_positions r)
     → new ≡ element_envelope (take (m + 1) rs)
 element_next rs m r old new is before grew = grew ∙ ap (λ o. either_envelope o (envelope_of_positions r)) before
@@ -69,6 +75,7 @@ element_next rs m r old new is before grew = grew ∙ ap (λ o. either_envelope 
     ∙ ap (λ l. flat_map (λ (ring : List Position). ring) (take m rs) ++ l) (append-nil r)))
 
 -- ---- edges with a common point
+-- some point is on an edge of the first list and on one of the second
 record Shared (es fs : List Edge) : Type 0 where
   at : Point
   is_point : IsPoint at
@@ -79,6 +86,7 @@ or_right : (a b : Bool) → b ≡ true → a || b ≡ true
 or_right true b h = refl
 or_right false b h = h
 
+-- an edge that shares a point with one of a list: the point is on both, since the test decides exactly that
 shared_by_one : (e : Edge) (fs : List Edge) → list_any (share_point e) fs ≡ true → Shared (e ∷ []) fs
 shared_by_one e [] h = absurd cc
 shared_by_one e (f ∷ fs) h = go (share_point e f) refl (shared_by_one e fs) h
@@ -101,6 +109,7 @@ or_none : (a : Bool) → a || false ≡ true → a ≡ true
 or_none true h = refl
 or_none false h = h
 
+-- where the test finds two edges, one of each list, that share a point, there is such a point
 shared_by_all : (es fs : List Edge) → edges_share es fs ≡ true → Shared es fs
 shared_by_all [] fs h = absurd cc
 shared_by_all (e ∷ es) fs h = go (list_any (share_point e) fs) refl (shared_by_all es fs) h
@@ -120,9 +129,11 @@ shared_by_all (e ∷ es) fs h = go (list_any (share_point e) fs) refl (shared_by
     }
 
 -- ---- points that aren't exterior
+-- a point on a ring is in the polygon's boundary, so it isn't exterior
 on_is_boundary : (d : List (List Position)) (p : Point) → on_some d p ≡ true → locate (Geometry.Polygon d) p ≢ Exterior
 on_is_boundary d p h is = let b : Boundary ≡ Exterior = sym (ap (λ (t : Bool). if t then Boundary else if odd_above d p then Interior else Exterior) h) ∙ is in cc
 
+-- a point with an odd number of edges above it is in the boundary or in the interior, so it isn't exterior
 odd_is_not_exterior : (d : List (List Position)) (p : Point) → odd_above d p ≡ true → locate (Geometry.Polygon d) p ≢ Exterior
 odd_is_not_exterior d p h is = go (on_some d p) (sym (ap (λ (t : Bool). if on_some d p then Boundary else if t then Interior else Exterior) h) ∙ is)
   where
@@ -139,6 +150,7 @@ sharing_meet d e cd ce h = let w = shared_by_all (edges_of_lines d) (edges_of_li
 listed_not_exterior : (p : Position) (ps : List Position) → locate (Geometry.MultiPoint (p ∷ ps)) (point_at p) ≢ Exterior
 listed_not_exterior p ps is = let i : Interior ≡ Exterior = sym (ap (λ (t : Bool). if t || list_any (stands_at (point_at p)) ps then Interior else Exterior) (same_reflexive (point_at p))) ∙ is in cc
 
+-- listed points have no rings that could be open
 none_closed : (ps : List Position) → HasClosedRings (Geometry.MultiPoint ps)
 none_closed ps i d h = absurd (omega (arith, h))
 
@@ -161,13 +173,16 @@ one_closed r c (suc i) d h = absurd (omega (arith, h))
 one_envelope : (r : List Position) → element_envelope (r ∷ []) ≡ envelope_of_positions r
 one_envelope r = ap envelope_of_positions (append-nil r)
 
+-- rings that share a point have envelopes that meet: each taken as a polygon of its own
 pub sharing_rings_meet : (r s : List Position) → IsClosed r → IsClosed s → rings_share r s ≡ true → meets (envelope_of_positions s) (envelope_of_positions r) ≡ true
 sharing_rings_meet r s cr cs h = ap₂ meets (sym (one_envelope s)) (sym (one_envelope r))
     ∙ sharing_meet (r ∷ []) (s ∷ []) (one_closed r cr) (one_closed s cs) (ap (λ (b : Bool). (b || false) || false) h)
 
+-- a ring inside another is so too where both are taken as polygons of one ring
 one_inside : (outer ring : List Position) → inside outer ring ≡ true → inside_element (outer ∷ []) (ring ∷ []) ≡ true
 one_inside outer [] h = h
 one_inside outer (p ∷ ps) h = h
 
+-- of two rings of which one is inside the other the envelopes meet
 pub inside_rings_meet : (outer ring : List Position) → IsClosed outer → inside outer ring ≡ true → meets (envelope_of_positions outer) (envelope_of_positions ring) ≡ true
 inside_rings_meet outer ring c h = ap₂ meets (sym (one_envelope outer)) (sym (one_envelope ring)) ∙ inside_meet (ring ∷ []) (outer ∷ []) (one_closed outer c) (one_inside outer ring h)

@@ -16,6 +16,7 @@ use Rattle.validity_laws.specs.FaultLaws.{IsFirst}
 use Rattle.validity_laws.proofs.FirstPlace.{first_fault_is_first}
 use Rattle.validity_laws.proofs.FirstFaultFacts.{none_is_found_where_valid, are_closed}
 
+-- a geometry in which no fault is found is valid, since the test finds one wherever one stands
 pub no_fault_valid : (g : Geometry) → validity_fault g ≡ None → IsValid g
 no_fault_valid g none = (none_is_found_where_valid g).0 none
 

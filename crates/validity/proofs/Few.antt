@@ -11,6 +11,7 @@ use Rattle.validity.specs.FaultOrder.{rings_meeting, holes_outside, nested_holes
 use Rattle.validity.proofs.Finding.{numbers_end}
 
 -- ---- polygons
+-- with fewer than two polygons there are no pairs of them, so no fault of a pair
 pub few_elements : (g : Geometry) → length (elements g) < 2 → find (has_fault g) (of_two_elements ElementsMeet g ++ of_other_elements ElementInside g) ≡ None
 few_elements g h = go (length (elements g)) h
   where
@@ -20,6 +21,7 @@ few_elements g h = go (length (elements g)) h
     go (suc (suc n)) h = absurd (omega (arith, h))
 
 -- ---- rings
+-- with an end of 1 at most no number has a later one before it, so there are no pairs
 none_later : (fault : ℕ → ℕ → ValidityFault) (end : ℕ) (is : List ℕ) → end ≤ 1 → flat_map (λ i. map (fault i) (numbers (i + 1) end)) is ≡ []
 none_later fault end [] h = refl
 none_later fault end (i ∷ is) h = ap₂ (λ (l m : List ValidityFault). l ++ m) (ap (map (fault i)) (numbers_end (i + 1) end (omega (arith, h)))) (none_later fault end is h)
@@ -32,6 +34,7 @@ none_of_elements faults start (x ∷ xs) h none =
     let both = length-append x (joined_rings xs) in
     ap₂ (λ (l m : List ValidityFault). l ++ m) (none (record { first = start; rings = x }) (omega (arith, h, both))) (none_of_elements faults (start + length x) xs (omega (arith, h, both)) none)
 
+-- the polygons of an area of one ring at most have one ring at most between them
 within_rings : (g : Geometry) → length (rings g) ≤ 1 → 0 + length (joined_rings (elements g)) ≤ 1
 within_rings (Geometry.Point p) h = omega arith
 within_rings (Geometry.MultiPoint ps) h = omega arith
@@ -40,6 +43,7 @@ within_rings (Geometry.MultiLineString ls) h = omega arith
 within_rings (Geometry.Polygon rs) h = omega (arith, h, length-append rs [])
 within_rings (Geometry.MultiPolygon es) h = omega (arith, h)
 
+-- with fewer than two rings no rings meet and there are no holes, so there's nothing to be found of either
 pub few_rings : (g : Geometry) → length (rings g) < 2 → find (has_fault g) (rings_meeting g ++ holes_outside g ++ nested_holes g) ≡ None
 few_rings g h =
     let within = within_rings g (omega (arith, h)) in

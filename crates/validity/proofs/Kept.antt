@@ -38,6 +38,7 @@ points_have_no_edges (g.MultiLineString ls) e = absurd cc
 points_have_no_edges (g.Polygon rs) e = absurd cc
 points_have_no_edges (g.MultiPolygon es) e = absurd cc
 
+-- nor lines whose ends could be a boundary
 pub points_have_no_ends : (g : Geometry) → kind g ≡ kinds.Point → ended_lines g ≡ []
 points_have_no_ends (g.Point p) e = refl
 points_have_no_ends (g.MultiPoint ps) e = refl
@@ -46,6 +47,7 @@ points_have_no_ends (g.MultiLineString ls) e = absurd cc
 points_have_no_ends (g.Polygon rs) e = absurd cc
 points_have_no_ends (g.MultiPolygon es) e = absurd cc
 
+-- and every fault is one of lines, rings or polygons, so none is tested
 pub points_have_no_fault : (g : Geometry) → kind g ≡ kinds.Point → validity_fault g ≡ None
 points_have_no_fault (g.Point p) e = refl
 points_have_no_fault (g.MultiPoint ps) e = refl

@@ -18,6 +18,7 @@ use Rattle.validity.specs.NearEdges.{is_near, numbered_from, numbered_meeting}
 use Rattle.validity.proofs.Finding.{at_place, past_all}
 
 -- ---- the places, and the edges there
+-- the places of the edges that are numbered as near are those that a search of the boxes gives
 pub places_of : (bounds : Envelope) (from : ℕ) (n : ℕ) (es : List Edge) → map (λ (p : ℕ × Edge). p.0) (numbered_from bounds from n es) ≡ places_asked (record { bounds = bounds; from = from }) n es
 places_of bounds from n [] = refl
 places_of bounds from n (e ∷ es) = go (is_near bounds from n e) (numbered_from bounds from (suc n) es) (places_asked (record { bounds = bounds; from = from }) (suc n) es) (places_of bounds from (suc n) es)
@@ -32,6 +33,7 @@ pub record IsAskedAt (bounds : Envelope) (from : ℕ) (n : ℕ) (es : List Edge)
   pub stands : slice_get es (j - n) ≡ Some f
   pub asked_for : is_near bounds from j f ≡ true
 
+-- what stands in the rest stands one place later in the whole
 one_later : (bounds : Envelope) (from : ℕ) (n : ℕ) (e : Edge) (es : List Edge) (j : ℕ) (f : Edge) → IsAskedAt bounds from (suc n) es j f → IsAskedAt bounds from n (e ∷ es) j f
 one_later bounds from n e es j f h = let later = h.not_before in record {
   not_before = omega (arith, later);
@@ -45,6 +47,7 @@ same_some x y h = cc
 same_pair : (a b : ℕ) (x y : Edge) (p q : ℕ × Edge) → p ≡ (a, x) → q ≡ (b, y) → Some p ≡ Some q → (a ≡ b) × (x ≡ y)
 same_pair a b x y p q e f h = let s = sym e ∙ (same_some p q h ∙ f) in (ap (λ (r : ℕ × Edge). r.0) s, ap (λ (r : ℕ × Edge). r.1) s)
 
+-- each edge that is numbered as near stands at its number, isn't too early, and has bounds that meet those asked for
 pub asked_at : (bounds : Envelope) (from : ℕ) (n : ℕ) (es : List Edge) (k j : ℕ) (f : Edge) → slice_get (numbered_from bounds from n es) k ≡ Some (j, f) → IsAskedAt bounds from n es j f
 asked_at bounds from n [] k j f h = absurd cc
 asked_at bounds from n (e ∷ es) k j f h = go (is_near bounds from n e) refl k h (λ l. asked_at bounds from (suc n) es l j f)
@@ -61,6 +64,7 @@ asked_at bounds from n (e ∷ es) k j f h = go (is_near bounds from n e) refl k 
     go false is k h rest = one_later bounds from n e es j f (rest k h)
 
 -- ---- the tests
+-- an edge that comes late enough and still isn't near has bounds that don't meet those asked for
 near_asked : (bounds : Envelope) (from : ℕ) (n : ℕ) (e : Edge) → from ≤ n → is_near bounds from n e ≡ false → overlap (box_of e) bounds ≡ false
 near_asked bounds from n e h far = go (nat_le from n) (overlap (box_of e) bounds) (yes from n h) far
   where
@@ -71,6 +75,7 @@ near_asked bounds from n e h far = go (nat_le from n) (overlap (box_of e) bounds
     go true b e f = f
     go false b e f = absurd cc
 
+-- a test that passes only edges whose bounds meet those asked for needs to be tried on the near edges alone
 any_asked : (test : (ℕ × Edge) → Bool) (bounds : Envelope) (from : ℕ) (n : ℕ) (es : List Edge) → from ≤ n → ((j : ℕ) (e : Edge) → test (j, e) ≡ true → overlap (box_of e) bounds ≡ true)
     → list_any test (enumerate_from n es) ≡ list_any test (numbered_from bounds from n es)
 any_asked test bounds from n [] h near = refl
@@ -97,6 +102,7 @@ passed bounds from n (suc m) (e ∷ es) h =
     early : (f n : ℕ) → n < f → nat_le f n ≡ false
     early f n h = grind (arith, h)
 
+-- the same from a place on: what stands before it isn't asked for and isn't tried either
 pub any_after : (test : (ℕ × Edge) → Bool) (bounds : Envelope) (from : ℕ) (edges : List Edge) → ((j : ℕ) (e : Edge) → test (j, e) ≡ true → overlap (box_of e) bounds ≡ true)
     → list_any test (enumerate_from from (drop from edges)) ≡ list_any test (numbered_meeting bounds from edges)
 any_after test bounds from edges near =
@@ -114,14 +120,17 @@ any_numbered test n (e ∷ es) = let one : n + 1 ≡ suc n = omega arith in
 pub share_more : (edges : List Edge) (f : Edge) (others : List Edge) → edges_share edges (f ∷ others) ≡ (list_any (λ e. share_point e f) edges || edges_share edges others)
 share_more edges f others = any_either (λ e. share_point e f) (λ e. list_any (share_point e) others) edges
 
+-- no edge shares a point with an edge of an empty list
 pub share_none : (edges : List Edge) → edges_share edges [] ≡ false
 share_none edges = any_none edges
 
+-- the same over all edges, of a test that looks at the edge alone and not at its place
 pub any_of_all : (test : Edge → Bool) (bounds : Envelope) (edges : List Edge) → ((e : Edge) → test e ≡ true → overlap (box_of e) bounds ≡ true)
     → list_any test edges ≡ list_any (λ (p : ℕ × Edge). test p.1) (numbered_meeting bounds 0 edges)
 any_of_all test bounds edges near = sym (any_numbered test 0 edges) ∙ any_after (λ (p : ℕ × Edge). test p.1) bounds 0 edges (λ j e. near e)
 
 -- ---- one of the places after another
+-- a place that was found comes with the edge that stands there
 mapped_place : (pairs : List (ℕ × Edge)) (k d : ℕ) → k < length (map (λ (p : ℕ × Edge). p.0) pairs) → (f : Edge) × (slice_get pairs k ≡ Some (get_or (map (λ (p : ℕ × Edge). p.0) pairs) k d, f))
 mapped_place [] k d h = absurd (omega (arith, h))
 mapped_place (p ∷ pairs) zero d h = (p.1, refl)
@@ -140,6 +149,7 @@ pub record IsNext (bounds : Envelope) (from : ℕ) (edges : List Edge) (k j : �
   pub within : j < length edges
   pub later : from ≤ j
 
+-- each place that the search of the boxes gives is that of an edge: it is near, and the rest follows it
 pub next_found : (bounds : Envelope) (from : ℕ) (edges : List Edge) (near : List ℕ) (k n : ℕ) → near ≡ places_meeting bounds from edges → k < length near
     → IsNext bounds from edges k (get_or near k n)
 next_found bounds from edges near k n is within =
@@ -170,6 +180,7 @@ pub found_next : (test : (ℕ × Edge) → Bool) (bounds : Envelope) (from : ℕ
 found_next test bounds from edges k j f next stands passes = ap (list_any test) next.rest
     ∙ ap (λ (b : Bool). b || list_any test (drop (k + 1) (numbered_meeting bounds from edges))) (ap (λ (e : Edge). test (j, e)) (same_edge (slice_get edges j) next.edge f next.stands stands) ∙ passes)
 
+-- .. and where it doesn't, the near edges behind it are left to be tried
 pub passed_next : (test : (ℕ × Edge) → Bool) (bounds : Envelope) (from : ℕ) (edges : List Edge) (k j : ℕ) (f : Edge) → IsNext bounds from edges k j → slice_get edges j ≡ Some f
     → test (j, f) ≡ false → list_any test (drop k (numbered_meeting bounds from edges)) ≡ list_any test (drop (k + 1) (numbered_meeting bounds from edges))
 passed_next test bounds from edges k j f next stands fails = ap (list_any test) next.rest
@@ -183,6 +194,7 @@ none_left test bounds from edges near k is past =
     ap (list_any test) (past_all (numbered_meeting bounds from edges) k (omega (arith, ap (length {A = ℕ}) same, length-map (numbered_meeting bounds from edges) (λ (p : ℕ × Edge). p.0), past)))
 
 -- ---- edges that clash or share a point are near each other
+-- bounds that meet meet the other way round
 pub turned : (a b : Envelope) → overlap a b ≡ true → overlap b a ≡ true
 turned a b h = go (int_le a.least_x b.greatest_x) (int_le b.least_x a.greatest_x) (int_le a.least_y b.greatest_y) (int_le b.least_y a.greatest_y) h
   where
@@ -193,6 +205,7 @@ turned a b h = go (int_le a.least_x b.greatest_x) (int_le b.least_x a.greatest_x
     go true false r s h = absurd cc
     go false q r s h = absurd cc
 
+-- edges that share a point have bounds that meet, since the point is within both
 pub sharing_near : (e f : Edge) → share_point e f ≡ true → overlap (box_of f) (box_of e) ≡ true
 sharing_near e f h = turned (box_of e) (box_of f) (sharing_boxes_overlap e f h)
 
@@ -207,6 +220,7 @@ other_shared common e f h = go (on e (point_at f.start)) (on e (point_at f.end))
     go : (a b c d x p q r s : Bool) → ((a && p) || (b && q) || (c && r) || (d && s)) ≡ true → (a || b || c || d || x) ≡ true
     go a b c d x p q r s h = grind (arith, h)
 
+-- edges of a ring that clash share a point, neighbours too, so their bounds meet
 pub clashing_boxes_overlap : (n i j : ℕ) (e f : Edge) → clash n (i, e) (j, f) ≡ true → overlap (box_of f) (box_of e) ≡ true
 clashing_boxes_overlap n i j e f h = sharing_near e f (go (j == i + 1) (i == 0 && j + 1 == n) h)
   where

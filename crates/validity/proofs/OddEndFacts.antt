@@ -28,12 +28,15 @@ use Rattle.edge_boxes.proofs.RunSums.{odd_joined}
 use Rattle.validity.specs.OddEnds.{AreOddEnds, ends_in, toggled, HasParityOf, IsBeforeRest}
 
 -- ---- the order of positions
+-- positions are ordered totally by x, then by y
 pub position_total : IsTotalOrder position_order
 position_total = then_total (on_total (λ (a : Position). a.x) int_cmp_total) (on_total (λ (a : Position). a.y) int_cmp_total)
 
+-- positions that compare as equal are the same
 equal_same : (a b : Position) → position_order a b ≡ Equal → same_position a b ≡ true
 equal_same a b e = same_position_is a b ∙ (equal_is_same (point_at a) (point_at b)).0 (sym (position_order_is a b) ∙ e)
 
+-- positions at one point of the plane compare as equal
 same_equal : (a b : Position) → same_point (point_at a) (point_at b) ≡ true → position_order a b ≡ Equal
 same_equal a b e = position_order_is a b ∙ (equal_is_same (point_at a) (point_at b)).1 e
 
@@ -59,16 +62,19 @@ all_weaker : {X : Type 0} (P Q : X → Type 0) (xs : List X) → ((x : X) → P 
 all_weaker P Q [] f h = tt
 all_weaker P Q (x ∷ xs) f h = (f x h.0, all_weaker P Q xs f h.1)
 
+-- a position greater than all of an ascending list may be added at its end
 strict_added : (xs : List Position) (x : Position) → IsStrictlySortedBy position_order xs → AllByRecursion (λ a. position_order a x ≡ Less) xs → IsStrictlySortedBy position_order (xs ++ x ∷ [])
 unfolding IsStrictlySortedBy
 strict_added [] x h k = (tt, tt)
 strict_added (y ∷ ys) x h k = (all_added (λ b. position_order y b ≡ Less) ys x h.0 k.0, strict_added ys x h.1 k.1)
 
+-- the front of an ascending list ascends
 strict_left : (xs ys : List Position) → IsStrictlySortedBy position_order (xs ++ ys) → IsStrictlySortedBy position_order xs
 unfolding IsStrictlySortedBy
 strict_left [] ys h = tt
 strict_left (x ∷ xs) ys h = (all_left (λ b. position_order x b ≡ Less) xs ys h.0, strict_left xs ys h.1)
 
+-- where a position isn't less than any of an ascending list, and isn't its last, all are less than it
 all_less : (x a : Position) (others : List Position) → IsStrictlySortedBy position_order (a ∷ others) → AllByRecursion (λ b. is_lt (position_order x b) ≡ false) (a ∷ others) → same_position (last_after a others) x ≡ false
     → AllByRecursion (λ b. position_order b x ≡ Less) (a ∷ others)
 unfolding IsStrictlySortedBy
@@ -76,10 +82,12 @@ all_less x a [] s l n = (less_from a x l.0 n, tt)
 all_less x a (b ∷ bs) s l n = let rest = all_less x b bs s.1 l.1 n in (position_total.trans a b x s.0.0 rest.0, rest)
 
 -- ---- the last position
+-- the position at the last place is the last one
 pub last_is : (a : Position) (rest : List Position) (d : Position) → get_or (a ∷ rest) (length rest) d ≡ last_after a rest
 last_is a [] d = refl
 last_is a (b ∷ rest) d = last_is b rest d
 
+-- the same of a list that may be empty: where it doesn't end in the position, all of it are less
 less_all : (x : Position) (xs : List Position) → IsStrictlySortedBy position_order xs → AllByRecursion (λ b. is_lt (position_order x b) ≡ false) xs → ends_in xs x ≡ false → AllByRecursion (λ b. position_order b x ≡ Less) xs
 less_all x [] s l n = tt
 less_all x (a ∷ others) s l n = all_less x a others s l (ap (λ b. same_position b x) (sym (here ∙ last_is a others x)) ∙ tested (length others) (get_or (a ∷ others) (length (a ∷ others) - 1) x) n)
@@ -94,12 +102,15 @@ less_all x (a ∷ others) s l n = all_less x a others s l (ap (λ b. same_positi
     tested n b e = sym (ap (λ t. t && same_position b x) (positive n)) ∙ e
 
 -- ---- one position more
+-- what isn't greater than any position from a place on isn't greater than any from the next on
 after_rest : (given : List Position) (i : ℕ) (a : Position) → IsBeforeRest given i a → IsBeforeRest given (i + 1) a
 after_rest given i a h j d l k = h j d (omega (arith, l)) k
 
+-- the same of all that are kept
 pub all_after : (given : List Position) (i : ℕ) (xs : List Position) → AllByRecursion (IsBeforeRest given i) xs → AllByRecursion (IsBeforeRest given (i + 1)) xs
 all_after given i xs h = all_weaker (IsBeforeRest given i) (IsBeforeRest given (i + 1)) xs (after_rest given i) h
 
+-- a position of a sorted list isn't greater than any behind it
 this_before : (given : List Position) (i : ℕ) (x : Position) → IsSorted position_order given → i < length given → x ≡ get_or given i x → IsBeforeRest given (i + 1) x
 this_before given i x up l is j d m k =
     let at : get_or given i d ≡ x = given_at given i l x d ∙ sym is in
@@ -110,6 +121,7 @@ this_before given i x up l is j d m k =
     given_at (y ∷ ys) zero h d e = refl
     given_at (y ∷ ys) (suc n) h d e = given_at ys n (omega (arith, h)) d e
 
+-- the next position isn't less than one that is before all the rest
 at_this : (given : List Position) (i : ℕ) (x : Position) → i < length given → x ≡ get_or given i x → (a : Position) → IsBeforeRest given i a → is_lt (position_order x a) ≡ false
 at_this given i x l is a h = ap (λ b. is_lt (position_order b a)) is ∙ h i x (same i) l
   where
@@ -119,9 +131,11 @@ at_this given i x l is a h = ap (λ b. is_lt (position_order b a)) is ∙ h i x 
 one_odd : (f : Position → Bool) (x : Position) → odd (count_by f (x ∷ [])) ≡ f x
 one_odd f x = odd_count f (x ∷ []) ∙ xor_false (f x)
 
+-- one position more turns the parity at the point where it stands, and nowhere else
 added_odd : (f : Position → Bool) (xs : List Position) (x : Position) → odd (count_by f (xs ++ x ∷ [])) ≡ xor (odd (count_by f xs)) (f x)
 added_odd f xs x = odd_joined f xs (x ∷ []) ∙ ap (xor (odd (count_by f xs))) (one_odd f x)
 
+-- what is turned twice is as it was
 twice : (a b : Bool) → xor (xor a b) b ≡ a
 twice true true = refl
 twice true false = refl
@@ -134,10 +148,13 @@ pub record IsKeptOdd (found given : List Position) (i : ℕ) : Type 0 where
   pub before : AllByRecursion (IsBeforeRest given i) found
   pub parity : HasParityOf found (take i given)
 
+-- of no ends nothing is kept
 pub nothing_odd : (given : List Position) → IsKeptOdd [] given 0
 unfolding IsStrictlySortedBy
 nothing_odd given = record { ascend = tt; before = tt; parity = λ p. refl }
 
+-- the next end isn't the last one kept: it is greater than all kept, so it may be added,
+-- and the parity turns at its point in both lists
 pub odd_added : (found given : List Position) (i : ℕ) (x : Position) → IsSorted position_order given → i < length given → x ≡ get_or given i x → ends_in found x ≡ false → IsKeptOdd found given i
     → IsKeptOdd (found ++ x ∷ []) given (i + 1)
 odd_added found given i x up l is n k = record {
@@ -152,6 +169,7 @@ odd_added found given i x up l is n k = record {
 same_is : (a b : Position) → same_position a b ≡ true → a ≡ b
 same_is a b e = grind arith
 
+-- the next end is the last one kept: taking that away turns the parity at its point as the end itself does
 pub odd_taken : (found kept given : List Position) (i : ℕ) (last x : Position) → found ≡ kept ++ last ∷ [] → i < length given → x ≡ get_or given i x → last ≡ x → IsKeptOdd found given i → IsKeptOdd kept given (i + 1)
 odd_taken found kept given i last x split l is e k = record {
   ascend = strict_left kept (last ∷ []) (subst (IsStrictlySortedBy position_order) split k.ascend);
@@ -172,6 +190,7 @@ split_at_end found x h =
     let l : length found - 1 < length found = omega (arith, h) in
     sym (ap (λ n. take n found) e ∙ take-length found) ∙ take_more found (length found - 1) x l
 
+-- one end more: it is added, or cancels the same one at the end; what is kept stays the positions of odd number
 pub odd_toggled : (found new given : List Position) (i : ℕ) (x : Position) → IsSorted position_order given → i < length given → x ≡ get_or given i x → new ≡ toggled found x → IsKeptOdd found given i → IsKeptOdd new given (i + 1)
 odd_toggled found new given i x up l is e k = go (ends_in found x) refl
   where
@@ -185,6 +204,7 @@ odd_toggled found new given i x up l is e k = go (ends_in found x) refl
         (odd_taken found (take (length found - 1) found) given i (get_or found (length found - 1) x) x (split_at_end found x (some (length found) (same_position (get_or found (length found - 1) x) x) f)) l is
         (same_is (get_or found (length found - 1) x) x (and_parts (nat_lt 0 (length found)) (same_position (get_or found (length found - 1) x) x) f).1) k)
 
+-- when all ends are seen the positions kept have the parity of all ends
 pub odd_of_all : (found given : List Position) (i : ℕ) → length given ≤ i → IsKeptOdd found given i → HasParityOf found given
 odd_of_all found given i h k p = k.parity p ∙ ap (λ l. odd (count_by (stands_at p) l)) (take_all i given h)
 
@@ -196,11 +216,13 @@ two_ends old once twice (x ∷ rest) a b h ea eb e f = f ∙ ap (λ l. l ++ b �
     less : length (x ∷ rest) - 1 ≡ length rest
     less = omega arith
 
+-- an empty line adds no ends
 pub no_ends : (old line : List Position) → length line ≡ 0 → old ≡ old ++ ends line
 no_ends old [] h = sym (append-nil old)
 no_ends old (x ∷ rest) h = absurd (omega (arith, h))
 
 -- ---- one more of joined lists
+-- what each list made so far, put together, with what the next one makes, is what all up to it make
 pub one_more_joined : {X Y : Type 0} (f : X → List Y) (xs : List X) (i : ℕ) (x : X) (items new more : List Y) → i < length xs → x ≡ get_or xs i x → items ≡ flat_map f (take i xs) → more ≡ f x → new ≡ items ++ more
     → new ≡ flat_map f (take (i + 1) xs)
 one_more_joined f xs i x items new more within is before made grew =
@@ -208,6 +230,7 @@ one_more_joined f xs i x items new more within is before made grew =
     ∙ ap (flat_map f) (ap (λ y. take i xs ++ y ∷ []) is ∙ sym (take_more xs i x within))
 
 -- ---- a point stands at one of ascending positions at most
+-- a point doesn't stand at two positions of which one is less, since positions at one point are equal
 apart : (p : Point) (a b : Position) → IsPoint p → position_order a b ≡ Less → stands_at p a ≡ true → stands_at p b ≡ false
 apart p a b hp h e = go (stands_at p b) refl
   where
@@ -215,10 +238,12 @@ apart p a b hp h e = go (stands_at p b) refl
     go false f = f
     go true f = absurd (let n = same_equal a b (same_transitive (point_at a) p (point_at b) hp e (same_symmetric p (point_at b) ∙ f)) in let m : Less ≡ Equal = sym h ∙ n in cc)
 
+-- where a point stands at a position it stands at none of the greater ones behind it
 none_after : (p : Point) (a : Position) (others : List Position) → IsPoint p → stands_at p a ≡ true → AllByRecursion (λ b. position_order a b ≡ Less) others → odd (count_by (stands_at p) others) ≡ false
 none_after p a [] hp e h = refl
 none_after p a (b ∷ bs) hp e h = odd_joined (stands_at p) (b ∷ []) bs ∙ ap₂ xor (one_odd (stands_at p) b ∙ apart p a b hp h.0 e) (none_after p a bs hp e h.1)
 
+-- at ascending positions a point stands at one at most, so it stands at some exactly where it stands at an odd number
 pub one_stands : (p : Point) (xs : List Position) → IsPoint p → IsStrictlySortedBy position_order xs → list_any (stands_at p) xs ≡ odd (count_by (stands_at p) xs)
 unfolding IsStrictlySortedBy
 one_stands p [] hp h = refl
@@ -235,6 +260,7 @@ are_odd_ends ls all sorted found e moved up alike = record {
   exact = λ p hp. one_stands p found hp up ∙ alike p ∙ ap odd (sum_by-IsPermutation _ all sorted moved) ∙ ap (λ l. odd (count_by (stands_at p) l)) e;
 }
 
+-- the same of an answer that may be want of memory instead
 pub odd_ends_found : {V E : Type 0} (items : V → List Position) (r : Result V E) (ls : List (List Position)) (all sorted slice : List Position) → all ≡ flat_map ends ls → IsPermutation all sorted → slice ≡ sorted
     → IfOk r (λ v. IsStrictlySortedBy position_order (items v)) → IfOk r (λ v. HasParityOf (items v) slice) → IfOk r (λ v. AreOddEnds (items v) ls)
 odd_ends_found items (Ok v) ls all sorted slice e moved f up alike = are_odd_ends ls all sorted (items v) e moved up (subst (HasParityOf (items v)) f alike)
@@ -246,6 +272,7 @@ all_at P [] k d h a = absurd (omega (arith, h))
 all_at P (x ∷ xs) zero d h a = a.0
 all_at P (x ∷ xs) (suc k) d h a = all_at P xs k d (omega (arith, h)) a.1
 
+-- in an ascending list a position at an earlier place is less than one at a later
 strict_far : (xs : List Position) (i j : ℕ) (d : Position) → i < j → j < length xs → IsStrictlySortedBy position_order xs → position_order (get_or xs i d) (get_or xs j d) ≡ Less
 unfolding IsStrictlySortedBy
 strict_far [] i j d h k s = absurd (omega (arith, k))
@@ -267,6 +294,7 @@ pub record IsParted (xs : List Position) (p : Point) (low high : ℕ) : Type 0 w
   pub above : (k : ℕ) (d : Position) → high ≤ k → k < length xs → lies (get_or xs k d) p ≡ Greater
   pub within : high ≤ length xs
 
+-- at the start of a search nothing is excluded yet
 pub parted_first : (xs : List Position) (p : Point) (n : ℕ) → n ≡ length xs → IsParted xs p 0 n
 parted_first xs p n e = record { below = λ k d h. absurd (omega (arith, h)); above = λ k d h l. absurd (omega (arith, e, h, l)); within = omega (arith, e) }
 
@@ -282,6 +310,7 @@ cases_less k m h = go (nat_lt k m) refl
     go true e = inl (grind (arith, nat_tests))
     go false e = inr (grind (arith, nat_tests))
 
+-- where the middle position is less than the point, so are all before it, and the search goes on above it
 pub parted_less : (xs : List Position) (p : Point) (low high middle : ℕ) (a : Position) → IsPoint p → IsStrictlySortedBy position_order xs → middle < high → a ≡ get_or xs middle a → lies a p ≡ Less → IsParted xs p low high → IsParted xs p (middle + 1) high
 parted_less xs p low high middle a hp s m is e parts = record { below = below; above = parts.above; within = parts.within }
   where
@@ -305,6 +334,7 @@ turn p q e = compare_reversed p q ∙ ap reversed e
 turn_back : (p q : Point) → compare q p ≡ Less → compare p q ≡ Greater
 turn_back p q e = compare_reversed q p ∙ ap reversed e
 
+-- where the middle position is greater than the point, so are all behind it, and the search goes on below it
 pub parted_greater : (xs : List Position) (p : Point) (low high middle : ℕ) (a : Position) → IsPoint p → IsStrictlySortedBy position_order xs → middle < high → a ≡ get_or xs middle a → lies a p ≡ Greater → IsParted xs p low high → IsParted xs p low middle
 parted_greater xs p low high middle a hp s m is e parts = record { below = parts.below; above = above; within = let w = parts.within in omega (arith, m, w) }
   where
@@ -325,6 +355,7 @@ parted_greater xs p low high middle a hp s m is e parts = record { below = parts
 stands_from : (p : Point) (a : Position) → lies a p ≡ Equal → stands_at p a ≡ true
 stands_from p a e = (equal_is_same (point_at a) p).0 e
 
+-- a position that compares as equal with the point is one at which the point stands
 pub found_there : (xs : List Position) (p : Point) (middle : ℕ) (a : Position) → middle < length xs → a ≡ get_or xs middle a → lies a p ≡ Equal → list_any (stands_at p) xs ≡ true
 found_there [] p middle a h is e = absurd (omega (arith, h))
 found_there (x ∷ xs) p zero a h is e = ap (λ b. b || list_any (stands_at p) xs) (ap (stands_at p) (sym is) ∙ stands_from p a e)
@@ -334,6 +365,7 @@ found_there (x ∷ xs) p (suc m) a h is e = ap (λ b. stands_at p x || b) (found
     any_true true = refl
     any_true false = refl
 
+-- where no position compares as equal with the point it stands at none of them
 none_stands : (xs : List Position) (p : Point) → ((k : ℕ) (d : Position) → k < length xs → lies (get_or xs k d) p ≡ Equal → ⊥) → list_any (stands_at p) xs ≡ false
 none_stands [] p h = refl
 none_stands (x ∷ xs) p h = ap₂ (λ (a b : Bool). a || b) (off (stands_at p x) refl) (none_stands xs p (λ k d l. h (suc k) d (omega (arith, l))))
@@ -345,6 +377,7 @@ none_stands (x ∷ xs) p h = ap₂ (λ (a b : Bool). a || b) (off (stands_at p x
     off false e = e
     off true e = absurd (h zero x first ((equal_is_same (point_at x) p).1 e))
 
+-- when the places are used up each position is less or greater, so the point stands at none
 pub not_there : (xs : List Position) (p : Point) (low high : ℕ) → high ≤ low → IsParted xs p low high → list_any (stands_at p) xs ≡ false
 not_there xs p low high h parts = none_stands xs p off
   where
@@ -362,6 +395,7 @@ middle_within low high n h k = let m : (high - low) / 2 < high - low = half (hig
     half : (n : ℕ) → 0 < n → n / 2 < n
     half n h = omega (arith, h)
 
+-- and it is before the end of the search
 pub middle_before : (low high : ℕ) → low < high → low + (high - low) / 2 < high
 middle_before low high h = middle_within low high high h (same high)
   where

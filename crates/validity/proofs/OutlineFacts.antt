@@ -16,6 +16,7 @@ use Rattle.validity.specs.Outlines.{IsOutline}
 pub joined_runs : (ls : List (List Position)) → flat_map (λ run. run) (map edges_of_line ls) ≡ edges_of_lines ls
 joined_runs ls = flat_map-map (λ (run : List Edge). run) edges_of_line ls
 
+-- the edges of each line or ring, put together, are the geometry's edges
 pub runs_are_edges : (g : Geometry) (runs : List (List Edge)) → runs ≡ map edges_of_line (lines g) → flat_map (λ run. run) runs ≡ edges g
 runs_are_edges g runs e = ap (flat_map (λ (run : List Edge). run)) e ∙ joined_runs (lines g)
 
@@ -32,12 +33,14 @@ numbers_of start (x ∷ xs) zero end is = (record { first = start; rings = x }, 
 numbers_of start (x ∷ xs) (suc m) end is = numbers_of (start + length x) xs m end is
 
 -- ---- polygon after polygon
+-- the edges of these polygons, and the places where those and the rings of each polygon end
 pub record Outlined (es : List (List (List Position))) (runs : List (List Edge)) (element_ends ring_ends : List ℕ) : Type 0 where
   pub by_line : runs ≡ map edges_of_line (joined_rings es)
   pub elements_end : AreEnds 0 element_ends (length (flat_map (λ run. run) runs))
   pub by_element : cut_at 0 element_ends (flat_map (λ run. run) runs) ≡ map edges_of_lines es
   pub rings_end : ring_ends ≡ map rings_end (elements_from 0 es)
 
+-- of no polygons nothing is kept
 pub outlined_none : Outlined [] [] [] []
 outlined_none = record { by_line = refl; elements_end = refl; by_element = refl; rings_end = refl }
 
@@ -53,12 +56,14 @@ numbered_more start (y ∷ ys) x = ap (λ l. record { first = start; rings = y }
     further : (a b c : ℕ) → c ≡ a + b → (start + a) + b ≡ start + c
     further a b c h = omega arith
 
+-- one polygon more adds its rings behind those of the others
 joined_more : (es : List (List (List Position))) (x : List (List Position)) → joined_rings (es ++ x ∷ []) ≡ joined_rings es ++ x
 joined_more es x = flat_map-append (λ (rings : List (List Position)). rings) es (x ∷ []) ∙ ap (λ l. joined_rings es ++ l) (append-nil x)
 
 zero_first : (n : ℕ) → 0 + n ≡ n
 zero_first n = omega arith
 
+-- one polygon more adds its edges and rings behind, so the new ends are the numbers of all edges and of all rings so far
 pub outlined_more : (es : List (List (List Position))) (runs : List (List Edge)) (element_ends ring_ends : List ℕ) (x : List (List Position)) → Outlined es runs element_ends ring_ends
     → Outlined (es ++ x ∷ []) (runs ++ map edges_of_line x) (element_ends ++ length (flat_map (λ run. run) (runs ++ map edges_of_line x)) ∷ []) (ring_ends ++ length (runs ++ map edges_of_line x) ∷ [])
 outlined_more es runs element_ends ring_ends x o =
@@ -90,6 +95,7 @@ taken xs m x e = ap (λ n. take n xs) (next m) ∙ go xs m x e
     go (y ∷ ys) zero x e = let same : y ≡ x = cc in ap (λ z. z ∷ []) same
     go (y ∷ ys) (suc m) x e = ap (λ l. y ∷ l) (go ys m x e)
 
+-- the same of the next polygon of an area
 pub outlined_next : (es : List (List (List Position))) (m : ℕ) (runs more_runs : List (List Edge)) (element_ends ring_ends more_ends more_rings : List ℕ) (x : List (List Position)) → slice_get es m ≡ Some x
     → Outlined (take m es) runs element_ends ring_ends → more_runs ≡ runs ++ map edges_of_line x → more_ends ≡ element_ends ++ length (flat_map (λ run. run) more_runs) ∷ []
     → more_rings ≡ ring_ends ++ length more_runs ∷ [] → Outlined (take (m + 1) es) more_runs more_ends more_rings
@@ -105,6 +111,7 @@ joined_lines (Geometry.MultiLineString ls) h = absurd (omega (arith, h))
 joined_lines (Geometry.Polygon rs) h = append-nil rs
 joined_lines (Geometry.MultiPolygon es) h = refl
 
+-- when all polygons are seen what is kept is the geometry's edges by line and by polygon
 pub outlined_all : (g : Geometry) (m : ℕ) (runs : List (List Edge)) (element_ends ring_ends : List ℕ) → 0 < length (elements g) → length (elements g) ≤ m
     → Outlined (take m (elements g)) runs element_ends ring_ends → IsOutline g runs element_ends ring_ends
 outlined_all g m runs element_ends ring_ends some past o =
@@ -116,6 +123,7 @@ outlined_all g m runs element_ends ring_ends some past o =
       rings_end = o.rings_end ∙ ap (λ (es : List (List (List Position))). map rings_end (elements_from 0 es)) all;
     }
 
+-- a geometry without polygons has edges by line alone
 pub outlined_lines : (g : Geometry) (runs : List (List Edge)) → length (elements g) ≡ 0 → runs ≡ map edges_of_line (lines g) → IsOutline g runs [] []
 outlined_lines g runs none e = let no_elements = empty (elements g) none in
     record {

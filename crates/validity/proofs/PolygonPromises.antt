@@ -21,16 +21,20 @@ use Rattle.polygon_laws.proofs.Places.{place_from_contains}
 use Rattle.polygon_laws.proofs.Stretch.{stretch_stays}
 use Rattle.validity.specs.PolygonPromises.{HolesAreCutOut, HolesAreInside, InteriorByElements, ElementsAreApart, LiesIn, StretchesStay, OutsideIsExterior, RingsPart, RingsHaveSides}
 
+-- each polygon of a valid geometry is valid by itself
 element_valid : (g : Geometry) → IsValid g → (rs : List (List Position)) → Contains (elements g) rs → IsValid (Polygon rs)
 element_valid g v rs c = element_is_valid g v rs (among_from_contains (elements g) rs c)
 
+-- a polygon's interior is the inside of its outer ring without its holes, since these lie in it and neither meet nor nest
 pub holes_are_cut_out : (g : Geometry) → IsValid g → HolesAreCutOut g
 holes_are_cut_out g v outer holes c p hp off = holes_are_cut outer holes (element_valid g v (outer ∷ holes) c) p hp off
 
+-- a hole's first position is inside the outer ring and the two don't meet, so all of the hole's ring is inside
 pub holes_are_inside : (g : Geometry) → IsValid g → HolesAreInside g
 holes_are_inside g v outer hole holes c h e m p hp k = hole_ring_is_inside outer holes (element_valid g v (outer ∷ holes) c) hole (among_from_contains holes hole h) p hp e (among_from_contains (edges_of_line hole) e m) k
 
 -- ---- the interior of an area is those of its elements
+-- a point is in an area's interior exactly where it is in that of one polygon, since nowhere two of them overlap
 pub interior_by_elements : (g : Geometry) → IsValid g → InteriorByElements g
 interior_by_elements (Geometry.Point o) v k p hp = absurd cc
 interior_by_elements (Geometry.MultiPoint qs) v k p hp = absurd cc
@@ -45,6 +49,7 @@ interior_by_elements (Geometry.MultiPolygon es) v k p hp = interior_is_of_an_ele
 nothing_there : {X : Type 0} {A : Type 0} (i : ℕ) (x : X) → slice_get [] i ≡ Some x → A
 nothing_there i x e = absurd (let z : None ≡ Some x = e in cc)
 
+-- the rings of two polygons don't meet and neither is inside the other, so they have no common point
 pub elements_are_apart : (g : Geometry) → IsValid g → ElementsAreApart g
 elements_are_apart (Geometry.Point o) v i j d e n a b p hp f = nothing_there i d a
 elements_are_apart (Geometry.MultiPoint qs) v i j d e n a b p hp f = nothing_there i d a
@@ -54,6 +59,7 @@ elements_are_apart (Geometry.Polygon rs) v i j d e n a b p hp f = absurd (no_pai
 elements_are_apart (Geometry.MultiPolygon es) v i j d e n a b p hp f = never_in_two es v i j d e n a b p hp f
 
 -- ---- all points of a stretch stand where its start does, and none in the boundary
+-- a stretch that meets no edge and no listed point crosses no boundary, so it stays where it starts
 pub stretches_stay : (g : Geometry) → IsValid g → StretchesStay g
 stretches_stay g v p q hp hq h k = go (locate g p) refl
   where
@@ -68,14 +74,17 @@ stretches_stay g v p q hp hq h k = go (locate g p) refl
     go Boundary e = absurd ((stays 1 0 at_start).1 ((stays 1 0 at_start).0 ∙ e))
     go Exterior e = inr (λ m n s. (stays m n s).0 ∙ e)
 
+-- what lies outside the envelope has no edge, or an even number of edges, above it, and is on none
 pub outside_exterior : (g : Geometry) → IsValid g → OutsideIsExterior g
 outside_exterior g v p hp h = outside_is_exterior g (valid_rings_are_closed g v) p hp h
 
 -- ---- at a point strictly within a ring's edge
+-- only one edge goes through a point strictly within it, since rings don't meet: so the two parities differ
 pub rings_part_there : (g : Geometry) → IsValid g → RingsPart g
 rings_part_there g v p w = rings_part g v w.is_ring.0 w.ring (place_from_contains (rings g) w.ring w.is_ring) w.is_edge.0 w.edge (place_from_contains (edges_of_line w.ring) w.edge w.is_edge)
     p w.is_point w.is_on w.not_start w.not_end w.not_upright
 
+-- so of the two sides of the edge one is interior and the other exterior, and points near enough show it
 pub rings_have_sides : (g : Geometry) → IsValid g → RingsHaveSides g
 rings_have_sides g v p w = sides_of_a_ring g v w.is_ring.0 w.ring (place_from_contains (rings g) w.ring w.is_ring) w.is_edge.0 w.edge (place_from_contains (edges_of_line w.ring) w.edge w.is_edge)
     p w.is_point w.is_on w.not_start w.not_end w.not_upright

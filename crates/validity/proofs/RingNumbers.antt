@@ -12,11 +12,13 @@ use Rattle.validity.specs.Outlines.{AreRings}
 same_some : {A : Type 0} (x y : A) → Some x ≡ Some y → x ≡ y
 same_some x y h = cc
 
+-- of two lists put together the front one has the earlier places ..
 in_front : {A : Type 0} (xs ys : List A) (p : ℕ) → p < length xs → slice_get (xs ++ ys) p ≡ slice_get xs p
 in_front [] ys p h = absurd (omega (arith, h))
 in_front (x ∷ xs) ys zero h = refl
 in_front (x ∷ xs) ys (suc p) h = in_front xs ys p (omega (arith, h))
 
+-- .. and the other one those behind them
 behind : {A : Type 0} (xs ys : List A) (p : ℕ) → length xs ≤ p → slice_get (xs ++ ys) p ≡ slice_get ys (p - length xs)
 behind [] ys p h = let e : p ≡ p - 0 = omega arith in ap (slice_get ys) e
 behind (x ∷ xs) ys zero h = absurd (omega (arith, h))
@@ -32,6 +34,7 @@ le_no m n h = grind (arith, h)
 before_first : (e : Element) (i : ℕ) → i < e.first → ring_of e i ≡ None
 before_first e i h = ap (λ (b : Bool). cond b (slice_get e.rings (i - e.first)) None) (le_no e.first i h)
 
+-- from the end of its rings on the numbers belong to later polygons
 from_end : (e : Element) (i : ℕ) → rings_end e ≤ i → ring_of e i ≡ None
 from_end e i h = ap (λ (b : Bool). cond b (slice_get e.rings (i - e.first)) None) (le_yes e.first i (omega (arith, h))) ∙ slice_get_past e.rings (i - e.first) (omega (arith, h))
 

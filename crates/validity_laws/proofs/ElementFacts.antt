@@ -16,6 +16,7 @@ or_from true b e = inl refl
 or_from false b e = inr e
 
 -- ---- some element of a list
+-- a test that passes for some element passes for one that the list contains
 pub some_from : {A : Type 0} (t : A → Bool) (xs : List A) → list_any t xs ≡ true → (x : A) × Contains xs x × (t x ≡ true)
 some_from t [] h = absurd (true≢false (sym h))
 some_from {A = A} t (x ∷ xs) h = go (or_from (t x) (list_any t xs) h) (some_from t xs)
@@ -29,10 +30,12 @@ some_at t [] x k h e p = absurd (omega (arith, h))
 some_at t (y ∷ ys) x zero h e p = or_true (t y) (list_any t ys) (inl (ap t e ∙ p))
 some_at t (y ∷ ys) x (suc k) h e p = or_true (t y) (list_any t ys) (inr (some_at t ys x k (le_of_suc-le-suc h) e p))
 
+-- and one that passes for a contained element passes for some
 pub some_yes : {A : Type 0} (t : A → Bool) (xs : List A) (x : A) → Contains xs x → t x ≡ true → list_any t xs ≡ true
 some_yes t xs x c p = some_at t xs x c.0 c.1 c.2 p
 
 -- ---- the ring of a polygon that has a number
+-- a ring that is found by its number stands as many places behind the first as the numbers differ
 pub ring_from : (e : Element) (n : ℕ) (ring : List Position) → ring_of e n ≡ Some ring → IsRing e (n - e.first) n ring
 ring_from e n ring h = go (nat_le e.first n) refl h
   where
@@ -40,6 +43,7 @@ ring_from e n ring h = go (nat_le e.first n) refl h
     go true is k = let low : e.first ≤ n = leb-true e.first n is in (omega (arith, low), k)
     go false is k = absurd cc
 
+-- and a ring is found by its number
 pub ring_yes : (e : Element) (k n : ℕ) (ring : List Position) → IsRing e k n ring → ring_of e n ≡ Some ring
 ring_yes e k n ring h = let low : e.first ≤ n = omega (arith, h.0) in let place : n - e.first ≡ k = omega (arith, h.0) in
     ap (λ (b : Bool). if b then slice_get e.rings (n - e.first) else None) (le-leb e.first n low) ∙ (ap (slice_get e.rings) place ∙ h.1)
@@ -48,6 +52,7 @@ ring_yes e k n ring h = let low : e.first ≤ n = omega (arith, h.0) in let plac
 pub later_ring : (first k l i j : ℕ) → i ≡ first + k → j ≡ first + l → i < j → k < l
 later_ring first k l i j e f h = omega (arith, e, f, h)
 
+-- and the other way round
 pub greater_number : (first k l i j : ℕ) → i ≡ first + k → j ≡ first + l → k < l → i < j
 greater_number first k l i j e f h = omega (arith, e, f, h)
 

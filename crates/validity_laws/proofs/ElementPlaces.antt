@@ -34,6 +34,7 @@ behind (x ∷ xs) ys p = ap (slice_get (x ∷ (xs ++ ys))) (next (length xs) p) 
     next : (n p : ℕ) → suc n + p ≡ suc (n + p)
     next n p = omega arith
 
+-- what stands in two lists together stands in the first or in the second
 either : {A : Type 0} (xs ys : List A) (i : ℕ) (r : A) → slice_get (xs ++ ys) i ≡ Some r → (slice_get xs i ≡ Some r) ⊎ ((p : ℕ) × (slice_get ys p ≡ Some r))
 either [] ys i r e = inr (i, e)
 either (x ∷ xs) ys zero r e = inl e
@@ -47,6 +48,7 @@ pub record Placed (first : ℕ) (polygons : List (List (List Position))) (rings 
   pub offset : ℕ
   pub joined : (p : ℕ) (r : List Position) → slice_get rings p ≡ Some r → slice_get (joined_rings polygons) (offset + p) ≡ Some r
 
+-- a polygon is among the numbered ones, and its rings follow one another among all rings from some place on
 pub placed : (first : ℕ) (polygons : List (List (List Position))) (n : ℕ) (rings : List (List Position)) → slice_get polygons n ≡ Some rings → Placed first polygons rings
 placed first [] n rings e = absurd cc
 placed first (x ∷ xs) zero rings e = let same : x ≡ rings = cc in record {

@@ -21,6 +21,7 @@ use Rattle.validity_laws.proofs.ElementFacts.{or_true, or_from, some_from, some_
 use Rattle.validity_laws.proofs.OtherPoints.{other_point_is_decided, same_from, same_yes}
 
 -- ---- the test of one list, and of two
+-- a test of a list passes exactly where the list is there and passes it
 one_is : (test : List Position → Bool) (o : Option (List Position)) → (test_of test o ≡ true) ↔ ((ps : List Position) × (o ≡ Some ps) × (test ps ≡ true))
 one_is test None = ((λ h. absurd (true≢false (sym h))), (λ t. absurd (let e = t.1 in cc)))
 one_is test (Some ps) = ((λ h. (ps, refl, h)), (λ t. let e : ps ≡ t.0 = (let f = t.1 in cc) in ap test e ∙ t.2))
@@ -28,6 +29,7 @@ one_is test (Some ps) = ((λ h. (ps, refl, h)), (λ t. let e : ps ≡ t.0 = (let
 abbrev Two : {A : Type 0} → (A → A → Bool) → Option A → Option A → Type 0
 Two {A} test o p = (r s : A) × (o ≡ Some r) × (p ≡ Some s) × (test r s ≡ true)
 
+-- and a test of two things exactly where both are there and pass it
 two_are : {A : Type 0} (test : A → A → Bool) (o p : Option A) → (test_of_both test o p ≡ true) ↔ Two test o p
 two_are test None p = ((λ h. absurd (true≢false (sym h))), (λ t. absurd (let e = t.2 in cc)))
 two_are test (Some r) None = ((λ h. absurd (true≢false (sym h))), (λ t. absurd (let e = t.3 in cc)))
@@ -37,6 +39,7 @@ two_are test (Some r) (Some s) = (
 )
 
 -- ---- closed
+-- the test compares the last position of a ring with its first
 closed_is : (ring : List Position) → (is_not_closed ring ≡ true) ↔ IsNotClosed ring
 closed_is [] = ((λ h. absurd (true≢false (sym h))), (λ b. absurd b))
 closed_is (p ∷ ps) = (
@@ -54,6 +57,7 @@ Found t n es = (j : ℕ) × (f : Edge) × (slice_get es j ≡ Some f) × (t (n +
 moved : (n j : ℕ) → (n + 1) + j ≡ n + suc j
 moved n j = omega arith
 
+-- where a test of numbered edges passes for some, there is an edge that passes it with its number
 found_from : (t : ℕ × Edge → Bool) (n : ℕ) (es : List Edge) → list_any t (enumerate_from n es) ≡ true → Found t n es
 found_from t n [] h = absurd (true≢false (sym h))
 found_from t n (x ∷ xs) h = go (or_from (t (n, x)) (list_any t (enumerate_from (n + 1) xs)) h) (found_from t (n + 1) xs)
@@ -62,6 +66,7 @@ found_from t n (x ∷ xs) h = go (or_from (t (n, x)) (list_any t (enumerate_from
     go (inl e) later = (0, x, refl, subst (λ m. t (m, x) ≡ true) (sym (add-zero n)) e)
     go (inr e) later = let k = later e in (suc k.0, k.1, k.2, subst (λ m. t (m, k.1) ≡ true) (moved n k.0) k.3)
 
+-- and the other way round
 found_yes : (t : ℕ × Edge → Bool) (n : ℕ) (es : List Edge) (j : ℕ) (f : Edge) → slice_get es j ≡ Some f → t (n + j, f) ≡ true → list_any t (enumerate_from n es) ≡ true
 found_yes t n [] j f e h = absurd cc
 found_yes t n (x ∷ xs) zero f e h = let same : x ≡ f = cc in or_true (t (n, x)) (list_any t (enumerate_from (n + 1) xs))
@@ -72,6 +77,7 @@ found_yes t n (x ∷ xs) (suc j) f e h = or_true (t (n, x)) (list_any t (enumera
 abbrev Pair : (ℕ × Edge → ℕ × Edge → Bool) → ℕ → List Edge → Type 0
 Pair t n es = (i j : ℕ) × (e f : Edge) × (i < j) × (slice_get es i ≡ Some e) × (slice_get es j ≡ Some f) × (t (n + i, e) (n + j, f) ≡ true)
 
+-- where a test of pairs passes for some, there are an edge and a later one that pass it with their numbers
 pair_from : (t : ℕ × Edge → ℕ × Edge → Bool) (n : ℕ) (es : List Edge) → any_pair t (enumerate_from n es) ≡ true → Pair t n es
 pair_from t n [] h = absurd (true≢false (sym h))
 pair_from t n (x ∷ xs) h = go (or_from (list_any (t (n, x)) (enumerate_from (n + 1) xs)) (any_pair t (enumerate_from (n + 1) xs)) h) (pair_from t (n + 1) xs)
@@ -82,6 +88,7 @@ pair_from t n (x ∷ xs) h = go (or_from (list_any (t (n, x)) (enumerate_from (n
     go (inr e) later = let k = later e in
         (suc k.0, suc k.1, k.2, k.3, suc-le-suc k.4, k.5, k.6, subst (λ m. t (m, k.2) (n + suc k.1, k.3) ≡ true) (moved n k.0) (subst (λ m. t ((n + 1) + k.0, k.2) (m, k.3) ≡ true) (moved n k.1) k.7))
 
+-- and the other way round
 pair_yes : (t : ℕ × Edge → ℕ × Edge → Bool) (n : ℕ) (es : List Edge) (i j : ℕ) (e f : Edge) → i < j → slice_get es i ≡ Some e → slice_get es j ≡ Some f → t (n + i, e) (n + j, f) ≡ true
     → any_pair t (enumerate_from n es) ≡ true
 pair_yes t n [] i j e f later k l h = absurd cc
@@ -94,6 +101,7 @@ pair_yes t n (x ∷ xs) (suc i) (suc j) e f later k l h = or_true (list_any (t (
     (subst (λ m. t (m, e) ((n + 1) + j, f) ≡ true) (sym (moved n i)) (subst (λ m. t (n + suc i, e) (m, f) ≡ true) (sym (moved n j)) h))))
 
 -- ---- the edges of a ring follow each other
+-- an edge starts where the one before it ends
 consecutive : (ring : List Position) (i : ℕ) (e f : Edge) → slice_get (edges_of_line ring) i ≡ Some e → slice_get (edges_of_line ring) (suc i) ≡ Some f → f.start ≡ e.end
 consecutive [] i e f k l = absurd cc
 consecutive (a ∷ []) i e f k l = absurd cc
@@ -102,16 +110,19 @@ consecutive (a ∷ b ∷ c ∷ rest) zero e f k l = let first : record { start =
     sym (ap (λ (g : Edge). g.start) second) ∙ ap (λ (g : Edge). g.end) first
 consecutive (a ∷ b ∷ c ∷ rest) (suc i) e f k l = consecutive (b ∷ c ∷ rest) i e f k l
 
+-- the first edge starts at the first position
 first_start : (a : Position) (rest : List Position) (e : Edge) → slice_get (edges_of_line (a ∷ rest)) 0 ≡ Some e → e.start ≡ a
 first_start a [] e k = absurd cc
 first_start a (b ∷ rest) e k = let same : record { start = a; end = b } ≡ e = cc in sym (ap (λ (g : Edge). g.start) same)
 
+-- and the last edge ends at the last position
 last_end : (a : Position) (rest : List Position) (j : ℕ) (f : Edge) → slice_get (edges_of_line (a ∷ rest)) j ≡ Some f → j + 1 ≡ length (edges_of_line (a ∷ rest)) → f.end ≡ last_after a rest
 last_end a [] j f k l = absurd cc
 last_end a (b ∷ []) zero f k l = let same : record { start = a; end = b } ≡ f = cc in sym (ap (λ (g : Edge). g.end) same)
 last_end a (b ∷ c ∷ more) zero f k l = absurd (omega (arith, l))
 last_end a (b ∷ more) (suc j) f k l = last_end b more j f k (omega (arith, l))
 
+-- of a closed ring the last position is the first
 closed_eq : (p : Position) (ps : List Position) → (IsNotClosed (p ∷ ps) → ⊥) → last_after p ps ≡ p
 closed_eq p ps closed = go (same_position (last_after p ps) p) refl
   where
@@ -119,6 +130,7 @@ closed_eq p ps closed = go (same_position (last_after p ps) p) refl
     go true e = same_from (last_after p ps) p e
     go false e = absurd (closed ((closed_is (p ∷ ps)).0 (ap not e)))
 
+-- so the last edge of a closed ring ends where the first starts
 around : (ring : List Position) → (IsNotClosed ring → ⊥) → (j : ℕ) (e f : Edge) → slice_get (edges_of_line ring) 0 ≡ Some e → slice_get (edges_of_line ring) j ≡ Some f
     → j + 1 ≡ length (edges_of_line ring) → f.end ≡ e.start
 around [] closed j e f k l m = absurd cc
@@ -138,9 +150,11 @@ to_and_fro e f back s = record {
 abbrev AtNumbers : List Position → ℕ → ℕ → Edge → Edge → Type 0
 AtNumbers ring i j e f = (slice_get (edges_of_line ring) i ≡ Some e) × (slice_get (edges_of_line ring) j ≡ Some f)
 
+-- neighbouring edges have the end of the earlier one in common
 next_start : (ring : List Position) (i j : ℕ) (e f : Edge) → AtNumbers ring i j e f → j ≡ i + 1 → f.start ≡ e.end
 next_start ring i j e f k next = consecutive ring i e f k.0 (subst (λ m. slice_get (edges_of_line ring) m ≡ Some f) (next ∙ add-one i) k.1)
 
+-- and the last edge has the start of the first in common with it
 closing : (ring : List Position) → (IsNotClosed ring → ⊥) → (i j : ℕ) (e f : Edge) → AtNumbers ring i j e f → i ≡ 0 → j + 1 ≡ length (edges_of_line ring) → f.end ≡ e.start
 closing ring closed i j e f k zero_is end_is = around ring closed j e f (subst (λ m. slice_get (edges_of_line ring) m ≡ Some e) zero_is k.0) k.1 end_is
 
@@ -153,6 +167,8 @@ ends_true i j n is = let parts = and_parts (i == 0) (j + 1 == n) is in ((Decides
 ends_false : (i j n : ℕ) → (i == 0 && j + 1 == n) ≡ false → (i ≡ 0) × (j + 1 ≡ n) → ⊥
 ends_false i j n is e = true≢false (sym (and_from (i == 0) (j + 1 == n) ((Decides-eqb i 0).1 e.0) ((Decides-eqb (j + 1) n).1 e.1)) ∙ is)
 
+-- the test of two edges of a closed ring says whether they clash: neighbours have a common end, and what else they
+-- share is decided; of others it is decided whether they share a point
 clash_is : (ring : List Position) → (IsNotClosed ring → ⊥) → (i j : ℕ) (e f : Edge) → AtNumbers ring i j e f → (next ends : Bool) → (j == i + 1) ≡ next → (i == 0 && j + 1 == length (edges_of_line ring)) ≡ ends
     → ((if next then share_other e.end e f else if ends then share_other e.start e f else share_point e f) ≡ true) ↔ Clash (length (edges_of_line ring)) i j e f
 clash_is ring closed i j e f k true ends is_next is_ends = let next : j ≡ i + 1 = (Decides-eqb j (i + 1)).0 is_next in
@@ -188,6 +204,7 @@ clash_is ring closed i j e f k false false is_next is_ends = let decided = share
   ]),
 )
 
+-- so it is decided whether a closed ring meets or covers itself
 simple_is : (ring : List Position) → (IsNotClosed ring → ⊥) → (is_not_simple ring ≡ true) ↔ IsNotSimple ring
 simple_is ring closed = let es = edges_of_line ring in let n = length (edges_of_line ring) in (
   (λ h. let k = pair_from (clash n) 0 es h in
@@ -221,6 +238,7 @@ any_yes t [] i e k h = absurd cc
 any_yes t (x ∷ xs) zero e k h = let same : x ≡ e = cc in or_true (t x) (list_any t xs) (inl (ap t same ∙ h))
 any_yes t (x ∷ xs) (suc i) e k h = or_true (t x) (list_any t xs) (inr (any_yes t xs i e k h))
 
+-- two rings share a point where an edge of the one and an edge of the other do, and that is decided
 rings_share_is : (r s : List Position) → (rings_share r s ≡ true) ↔ RingsShare r s
 rings_share_is r s = (
   (λ h. let k = any_from (λ e. list_any (share_point e) (edges_of_line s)) (edges_of_line r) h in let l = any_from (share_point k.1) (edges_of_line s) k.3 in
@@ -233,6 +251,7 @@ not_true : (b : Bool) → not b ≡ true → b ≡ false
 not_true true h = absurd (true≢false (sym h))
 not_true false h = refl
 
+-- two polygons do where a ring of the one and a ring of the other do
 elements_share_is : (d e : List (List Position)) → (elements_share d e ≡ true) ↔ ElementsShare d e
 elements_share_is d e = (
   (λ h. let k = some_from (λ r. list_any (rings_share r) e) d h in let l = some_from (rings_share k.0) e k.2 in
@@ -244,6 +263,7 @@ elements_share_is d e = (
 abbrev meeting_test : ℕ → ℕ → Element → Bool
 meeting_test i j e = nat_lt i j && test_of_both rings_share (ring_of e i) (ring_of e j)
 
+-- the test of each fault says what the fault says: that two rings of a polygon share a point
 meeting_is : (g : Geometry) (i j : ℕ) → (has_fault g (RingsMeet i j) ≡ true) ↔ HasFault g (RingsMeet i j)
 meeting_is g i j = (
   (λ h. let k = some_from (meeting_test i j) (numbered_elements g) h in
@@ -262,6 +282,7 @@ off outer hole = not (inside outer hole)
 abbrev outside_test : ℕ → Element → Bool
 outside_test i e = nat_lt e.first i && test_of_both off (ring_of e e.first) (ring_of e i)
 
+-- that a hole isn't inside the outer ring
 outside_is : (g : Geometry) (i : ℕ) → (has_fault g (HoleOutside i) ≡ true) ↔ HasFault g (HoleOutside i)
 outside_is g i = (
   (λ h. let k = some_from (outside_test i) (numbered_elements g) h in
@@ -290,6 +311,7 @@ one_in_the_other r s = inside r s || inside s r
 abbrev nested_test : ℕ → ℕ → Element → Bool
 nested_test i j e = nat_lt e.first i && nat_lt i j && test_of_both one_in_the_other (ring_of e i) (ring_of e j)
 
+-- that one of two holes is inside the other
 nested_is : (g : Geometry) (i j : ℕ) → (has_fault g (HolesNested i j) ≡ true) ↔ HasFault g (HolesNested i j)
 nested_is g i j = (
   (λ h. let k = some_from (nested_test i j) (numbered_elements g) h in
@@ -323,6 +345,7 @@ nested_is g i j = (
     past first k i e h = omega (arith, e, h)
 
 -- ---- faults of two polygons
+-- that two polygons share a point of their rings
 touching_is : (g : Geometry) (i j : ℕ) → (has_fault g (ElementsMeet i j) ≡ true) ↔ HasFault g (ElementsMeet i j)
 touching_is g i j = let k = two_are elements_share (slice_get (elements g) i) (slice_get (elements g) j) in (
   (λ h. let parts = and_parts (nat_lt i j) (test_of_both elements_share (slice_get (elements g) i) (slice_get (elements g) j)) h in let t = k.0 parts.1 in
@@ -333,6 +356,7 @@ touching_is g i j = let k = two_are elements_share (slice_get (elements g) i) (s
 abbrev swallowed : List (List Position) → List (List Position) → Bool
 swallowed d e = inside_element e d
 
+-- that a polygon is inside another
 swallowed_is : (g : Geometry) (i j : ℕ) → (has_fault g (ElementInside i j) ≡ true) ↔ HasFault g (ElementInside i j)
 swallowed_is g i j = let k = two_are swallowed (slice_get (elements g) i) (slice_get (elements g) j) in (
   (λ h. let parts = and_parts (not (i == j)) (test_of_both swallowed (slice_get (elements g) i) (slice_get (elements g) j)) h in let t = k.0 parts.1 in
@@ -352,6 +376,7 @@ NeedsClosed g (HolesNested i j) = Unit {0}
 NeedsClosed g (ElementsMeet i j) = Unit {0}
 NeedsClosed g (ElementInside i j) = Unit {0}
 
+-- so each fault is decided; that a ring isn't simple, where all rings are closed
 pub fault_decided : (g : Geometry) (fault : ValidityFault) → NeedsClosed g fault → (has_fault g fault ≡ true) ↔ HasFault g fault
 fault_decided g (TooFewPoints i) closed = one_is (is_short g) (slice_get (lines g) i)
 fault_decided g (RingNotClosed i) closed = let k = one_is is_not_closed (slice_get (rings g) i) in
@@ -366,6 +391,7 @@ fault_decided g (HolesNested i j) closed = nested_is g i j
 fault_decided g (ElementsMeet i j) closed = touching_is g i j
 fault_decided g (ElementInside i j) closed = swallowed_is g i j
 
+-- where all rings are closed, each test has what it asks for
 pub fault_is_decided : FaultIsDecided
 fault_is_decided g (TooFewPoints i) closed = fault_decided g (TooFewPoints i) tt
 fault_is_decided g (RingNotClosed i) closed = fault_decided g (RingNotClosed i) tt

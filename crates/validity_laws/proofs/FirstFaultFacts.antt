@@ -13,6 +13,7 @@ use Rattle.validity_laws.proofs.ElementFacts.{greater_number, within}
 use Rattle.validity_laws.proofs.FaultFacts.{NeedsClosed, fault_decided}
 
 -- ---- finding in a list
+-- what is found passes the test
 found_passes : (p : ValidityFault → Bool) (xs : List ValidityFault) (x : ValidityFault) → find p xs ≡ Some x → p x ≡ true
 found_passes p [] x e = absurd cc
 found_passes p (y ∷ ys) x e = go (p y) refl e (found_passes p ys x)
@@ -67,6 +68,7 @@ fails_at p f (suc count) start (suc d) e h = ap (λ m. p (f m)) (moved start d)
     moved : (start d : ℕ) → start + suc d ≡ (start + 1) + d
     moved start d = omega arith
 
+-- so each number from the first on and below the end fails
 fails_from : (p : ValidityFault → Bool) (f : ℕ → ValidityFault) (start n i : ℕ) → find p (map f (numbers start n)) ≡ None → start ≤ i → i < n → p (f i) ≡ false
 fails_from p f start n i e low high = ap (λ m. p (f m)) (omega (arith, low)) ∙ fails_at p f (n - start) start (i - start) e (omega (arith, low, high))
 
@@ -87,10 +89,12 @@ pair_fails_at p f from (suc count) start n (suc d) j e h low high = ap (λ m. p 
     moved : (start d : ℕ) → start + suc d ≡ (start + 1) + d
     moved start d = omega arith
 
+-- so where none of the pairs i < j is found, each of them fails
 pair_fails : (p : ValidityFault → Bool) (f : ℕ → ℕ → ValidityFault) (start n i j : ℕ) → find p (of_pairs f start n) ≡ None → start ≤ i → i < j → j < n → p (f i j) ≡ false
 pair_fails p f start n i j e low mid high = ap (λ m. p (f m j)) (omega (arith, low))
     ∙ pair_fails_at p f (λ m. m + 1) (n - start) start n (i - start) j e (omega (arith, low, mid, high)) (omega (arith, low, mid)) high
 
+-- and likewise of every two numbers, in either order
 every_two_fail : (p : ValidityFault → Bool) (f : ℕ → ℕ → ValidityFault) (n i j : ℕ) → find p (of_every_two f n) ≡ None → i < n → j < n → p (f i j) ≡ false
 every_two_fail p f n i j e low high = ap (λ m. p (f m j)) (sym (zero-add i)) ∙ pair_fails_at p f (λ m. 0) (n - 0) 0 n i j e (omega (arith, low)) (omega arith) high
 
@@ -139,9 +143,11 @@ late_ones g = crossed_ones g ++ (meeting_ones g ++ (outside_ones g ++ (nested_on
 regrouped : (a b c d e f g h : List ValidityFault) → a ++ b ++ c ++ d ++ e ++ f ++ g ++ h ≡ (a ++ b) ++ (c ++ (d ++ (e ++ (f ++ (g ++ h)))))
 regrouped a b c d e f g h = simp append_assoc
 
+-- the order of tests: first whether parts are too short and rings closed, then the rest
 pub in_two : (g : Geometry) → in_order g ≡ early_ones g ++ late_ones g
 in_two g = regrouped (short_ones g) (open_ones g) (crossed_ones g) (meeting_ones g) (outside_ones g) (nested_ones g) (touching_ones g) (swallowed_ones g)
 
+-- where no ring is found that isn't closed, all rings are closed
 pub are_closed : (g : Geometry) → find (has_fault g) (open_ones g) ≡ None → AreClosed g
 are_closed g none i h = true≢false (sym ((fault_decided g (RingNotClosed i) tt).1 h) ∙ fails_from (has_fault g) RingNotClosed 0 (length (rings g)) i none (omega arith) (within (rings g) i h.0 h.1))
 
@@ -155,6 +161,7 @@ record NoneFound (g : Geometry) : Type 0 where
   touching : find (has_fault g) (touching_ones g) ≡ None
   swallowed : find (has_fault g) (swallowed_ones g) ≡ None
 
+-- where no fault is found, none of any of the eight kinds is
 none_found : (g : Geometry) → validity_fault g ≡ None → NoneFound g
 none_found g e = let p = has_fault g in
     let a = none_in_two p (early_ones g) (late_ones g) (ap (find (has_fault g)) (sym (in_two g)) ∙ e) in
@@ -166,6 +173,7 @@ none_found g e = let p = has_fault g in
     let k = none_in_two p (touching_ones g) (swallowed_ones g) h.1 in
     record { short = b.0; opened = b.1; crossed = c.0; meeting = d.0; outside = f.0; nested = h.0; touching = k.0; swallowed = k.1 }
 
+-- a fault whose test fails doesn't stand, since the test decides it
 pub stands_not : (g : Geometry) (fault : ValidityFault) → NeedsClosed g fault → has_fault g fault ≡ false → HasFault g fault → ⊥
 stands_not g fault needs none h = true≢false (sym ((fault_decided g fault needs).1 h) ∙ none)
 
@@ -178,6 +186,7 @@ past_first first k i e h = omega (arith, e, h)
 to_end : (first k i n : ℕ) → i ≡ first + k → k < n → i < first + n
 to_end first k i n e h = omega (arith, e, h)
 
+-- a fault that stood would have its place in the order of tests, but there each test fails
 valid_of : (g : Geometry) → NoneFound g → IsValid g
 valid_of g none (TooFewPoints i) h = stands_not g (TooFewPoints i) tt (fails_from (has_fault g) TooFewPoints 0 (length (lines g)) i none.short (omega arith) (within (lines g) i h.0 h.1)) h
 valid_of g none (RingNotClosed i) h = are_closed g none.opened i h
@@ -209,6 +218,7 @@ closed_before g i e = late (found_in_two (has_fault g) (early_ones g) (late_ones
     late (inl f) = absurd (not_early (found_in_two (has_fault g) (short_ones g) (open_ones g) (Some (RingNotSimple i)) f))
     late (inr f) = are_closed g (none_in_two (has_fault g) (short_ones g) (open_ones g) f.0).1
 
+-- where a fault is found, the rings are closed if its test asks for that
 needs : (g : Geometry) (fault : ValidityFault) → validity_fault g ≡ Some fault → NeedsClosed g fault
 needs g (TooFewPoints i) e = tt
 needs g (RingNotClosed i) e = tt
@@ -219,12 +229,15 @@ needs g (HolesNested i j) e = tt
 needs g (ElementsMeet i j) e = tt
 needs g (ElementInside i j) e = tt
 
+-- the fault that is found passes its test, which decides whether it stands
 pub first_fault_stands : FirstFaultStands
 first_fault_stands g fault e = (fault_decided g fault (needs g fault e)).0 (found_passes (has_fault g) (in_order g) fault e)
 
+-- in a valid geometry none is found, since what is found stands
 none_of_valid : (g : Geometry) → IsValid g → (o : Option ValidityFault) → validity_fault g ≡ o → validity_fault g ≡ None
 none_of_valid g valid None e = e
 none_of_valid g valid (Some fault) e = absurd (valid fault (first_fault_stands g fault e))
 
+-- so none is found exactly where the geometry is valid
 pub none_is_found_where_valid : NoneIsFoundWhereValid
 none_is_found_where_valid g = ((λ e. valid_of g (none_found g e)), (λ valid. none_of_valid g valid _ refl))

@@ -22,6 +22,7 @@ record Split (p : ValidityFault → Bool) (xs : List ValidityFault) (x : Validit
   placed : xs ≡ before ++ x ∷ after
   none : find p before ≡ None
 
+-- a search finds the first that passes, so none is found before it
 split : (p : ValidityFault → Bool) (xs : List ValidityFault) (x : ValidityFault) → find p xs ≡ Some x → Split p xs x
 split p [] x e = absurd cc
 split p (y ∷ ys) x e = go (p y) refl e (split p ys x)
@@ -47,10 +48,12 @@ pub each_mapped : (P : ValidityFault → Type 0) (f : ℕ → ValidityFault) →
 each_mapped P f h [] = tt
 each_mapped P f h (n ∷ ns) = (h n, each_mapped P f h ns)
 
+-- none of the early tests presupposes that rings are closed
 early_need : (g : Geometry) → Each (NeedsClosed g) (early_ones g)
 early_need g = each_append (NeedsClosed g) (short_ones g) (open_ones g)
     (each_mapped (NeedsClosed g) TooFewPoints (λ k. tt) (numbers 0 (length (lines g)))) (each_mapped (NeedsClosed g) RingNotClosed (λ k. tt) (numbers 0 (length (rings g))))
 
+-- and where all rings are closed each test has what it asks for
 closed_need : (g : Geometry) (fault : ValidityFault) → AreClosed g → NeedsClosed g fault
 closed_need g (TooFewPoints i) c = tt
 closed_need g (RingNotClosed i) c = tt
@@ -61,6 +64,8 @@ closed_need g (HolesNested i j) c = tt
 closed_need g (ElementsMeet i j) c = tt
 closed_need g (ElementInside i j) c = tt
 
+-- the tests before an early fault presuppose nothing of rings; before a late one no open ring was found, so all are closed;
+-- either way the tests before it are decided, and failed
 first_at : (g : Geometry) (fault : ValidityFault) → validity_fault g ≡ Some fault
     → (find (has_fault g) (early_ones g) ≡ Some fault) ⊎ ((find (has_fault g) (early_ones g) ≡ None) × (find (has_fault g) (late_ones g) ≡ Some fault)) → IsFirst g fault
 first_at g fault found (inl e) = let s = split (has_fault g) (early_ones g) fault e in record {

@@ -21,6 +21,7 @@ use Rattle.validity_laws.proofs.SharedPoints.{side_sum, weight_sum, swapped, swa
 abbrev edge : Position → Position → Edge
 edge a b = record { start = a; end = b }
 
+-- a point of an edge is one of the edge turned round
 turned : (a b : Position) (p : Point) → OnHull (edge a b) p → OnHull (edge b a) p
 turned a b p h = record {
   k = h.k;
@@ -34,12 +35,15 @@ turned a b p h = record {
   w_is = swapped_sum h.k p.W h.m h.n h.w_is;
 }
 
+-- the start of an edge is on its line
 side_at_start : (a b : Position) → side a b (point_at a) ≡ pos 0
 side_at_start a b = solve (a.x ∷ a.y ∷ b.x ∷ b.y ∷ []) ((var 2 ⊖ var 0) ⊗ (var 1 ⊖ var 1 ⊗ lit (pos 1)) ⊖ (var 3 ⊖ var 1) ⊗ (var 0 ⊖ var 0 ⊗ lit (pos 1))) (lit (pos 0)) tt
 
+-- along the edge it has no weight
 weight_at_start : (a b : Position) → weight a b (point_at a) ≡ pos 0
 weight_at_start a b = solve (a.x ∷ a.y ∷ b.x ∷ b.y ∷ []) ((var 2 ⊖ var 0) ⊗ (var 0 ⊖ var 0 ⊗ lit (pos 1)) ⊕ (var 3 ⊖ var 1) ⊗ (var 1 ⊖ var 1 ⊗ lit (pos 1))) (lit (pos 0)) tt
 
+-- and the end has the whole
 weight_at_end : (a b : Position) → weight a b (point_at b) ≡ square a b
 weight_at_end a b = solve (a.x ∷ a.y ∷ b.x ∷ b.y ∷ []) ((var 2 ⊖ var 0) ⊗ (var 2 ⊖ var 0 ⊗ lit (pos 1)) ⊕ (var 3 ⊖ var 1) ⊗ (var 3 ⊖ var 1 ⊗ lit (pos 1)))
     ((var 2 ⊖ var 0) ⊗ (var 2 ⊖ var 0) ⊕ (var 3 ⊖ var 1) ⊗ (var 3 ⊖ var 1)) tt
@@ -50,6 +54,7 @@ past S t a b w e = solve (S ∷ t ∷ a ∷ b ∷ []) ((var 0 ⊗ var 1) ⊗ var
     ∙ ap (λ (z : ℤ). (S *ℤ (t -ℤ S)) *ℤ a +ℤ S *ℤ z) (sym e)
     ∙ solve (S ∷ t ∷ a ∷ w ∷ []) ((var 0 ⊗ (var 1 ⊖ var 0)) ⊗ var 2 ⊕ var 0 ⊗ (var 0 ⊗ var 3)) ((var 0 ⊗ (var 1 ⊖ var 0)) ⊗ var 2 ⊕ (var 0 ⊗ var 0) ⊗ var 3) tt
 
+-- the weights of a and w add up
 past_sum : (S t : ℤ) → (S *ℤ t) *ℤ pos 1 ≡ S *ℤ (t -ℤ S) +ℤ S *ℤ S
 past_sum S t = solve (S ∷ t ∷ []) ((var 0 ⊗ var 1) ⊗ lit (pos 1)) (var 0 ⊗ (var 1 ⊖ var 0) ⊕ var 0 ⊗ var 0) tt
 
@@ -79,6 +84,8 @@ nonzero s h e = omega (arith, ints)
 abbrev Beyond : Position → Position → Position → Type 0
 Beyond u v w = ((on (edge u v) (point_at w) ≡ true) × (w ≡ u → ⊥)) ⊎ ((on (edge u w) (point_at v) ≡ true) × (v ≡ u → ⊥))
 
+-- two edges from u that share another point lie on one line and go the same way from u,
+-- so the end of the one that isn't longer is on the other
 beyond : (u v w : Position) (p : Point) → IsPoint p → OnHull (edge u v) p → OnHull (edge u w) p → (same_point p (point_at u) ≡ true → ⊥) → Beyond u v w
 beyond u v w p hp h1 h2 other = go (at_most_or_less (weight u v (point_at w)) (square u v))
   where
@@ -138,18 +145,22 @@ beyond u v w p hp h1 h2 other = go (at_most_or_less (weight u v (point_at w)) (s
     )
 
 -- ---- the tests
+-- two positions that pass the test of equality are one
 pub same_from : (q c : Position) → same_position q c ≡ true → q ≡ c
 same_from q c e = let parts = and_parts (int_eq q.x c.x) (int_eq q.y c.y) e in λ i. record { x = equal_from q.x c.x parts.0 i; y = equal_from q.y c.y parts.1 i }
 
+-- and positions that are one point pass it
 pub same_yes : (q c : Position) → same_point (point_at q) (point_at c) ≡ true → same_position q c ≡ true
 same_yes q c e = and_from (int_eq q.x c.x) (int_eq q.y c.y) (equal_yes q.x c.x (drop q.x c.x (same_x (point_at q) (point_at c) e))) (equal_yes q.y c.y (drop q.y c.y (same_y (point_at q) (point_at c) e)))
   where
     drop : (s t : ℤ) → s *ℤ pos 1 ≡ t *ℤ pos 1 → s ≡ t
     drop s t e = omega (arith, ints)
 
+-- an end on the edge passes where it isn't the common one
 other_yes : (common : Position) (e : Edge) (q : Position) → on e (point_at q) ≡ true → (q ≡ common → ⊥) → other_on common e q ≡ true
 other_yes common e q h other = and_from (on e (point_at q)) (not (same_position q common)) h (ap not (false_from_ne_true (same_position q common) (λ k. other (same_from q common k))))
 
+-- and one that passes is on the edge, as a point other than the common one
 other_from : (common : Position) (e : Edge) (q : Position) → other_on common e q ≡ true → (on e (point_at q) ≡ true) × (same_point (point_at q) (point_at common) ≡ false)
 other_from common e q h = let parts = and_parts (on e (point_at q)) (not (same_position q common)) h in
     (parts.0, false_from_ne_true (same_point (point_at q) (point_at common)) (λ k. true≢false (sym parts.1 ∙ ap not (same_yes q common k))))
@@ -177,6 +188,7 @@ record From (u : Position) (e : Edge) : Type 0 where
   back : (q : Position) → on (edge u to) (point_at q) ≡ true → on e (point_at q) ≡ true
   is_end : (e.start ≡ to) ⊎ (e.end ≡ to)
 
+-- an edge with u as an end is the edge from u to its other end, as it stands or turned round
 from : (u : Position) (e : Edge) → IsEnd u e → From u e
 from u e (inl q) = record {
   to = e.end;
@@ -195,14 +207,17 @@ from u e (inr q) = record {
 abbrev Four : Position → Edge → Edge → Type 0
 Four common e f = (other_on common e f.start ≡ true) ⊎ (other_on common e f.end ≡ true) ⊎ (other_on common f e.start ≡ true) ⊎ (other_on common f e.end ≡ true)
 
+-- the other end of f is its start or its end
 first_two : (common : Position) (e f : Edge) (w : Position) → (f.start ≡ w) ⊎ (f.end ≡ w) → other_on common e w ≡ true → Four common e f
 first_two common e f w (inl q) h = inl (ap (other_on common e) q ∙ h)
 first_two common e f w (inr q) h = inr (inl (ap (other_on common e) q ∙ h))
 
+-- and that of e likewise
 last_two : (common : Position) (e f : Edge) (v : Position) → (e.start ≡ v) ⊎ (e.end ≡ v) → other_on common f v ≡ true → Four common e f
 last_two common e f v (inl q) h = inr (inr (inl (ap (other_on common f) q ∙ h)))
 last_two common e f v (inr q) h = inr (inr (inr (ap (other_on common f) q ∙ h)))
 
+-- so of two edges that share another point one has an end, other than the common one, on the other edge
 one_of_four : (common : Position) (e f : Edge) → From common e → From common f → ShareOther common e f → Four common e f
 one_of_four common e f x y s = go (beyond common x.to y.to s.at s.is_point (x.hull s.at (hull_from_on e s.at s.is_point s.on_first)) (y.hull s.at (hull_from_on f s.at s.is_point s.on_second))
     (λ k. true≢false (sym k ∙ s.other)))
@@ -211,12 +226,14 @@ one_of_four common e f x y s = go (beyond common x.to y.to s.at s.is_point (x.hu
     go (inl h) = first_two common e f y.to y.is_end (other_yes common e y.to (x.back y.to h.0) h.1)
     go (inr h) = last_two common e f x.to x.is_end (other_yes common f x.to (y.back x.to h.0) h.1)
 
+-- and such an end is a point that both share
 other_of : (common : Position) (e f : Edge) → Four common e f → ShareOther common e f
 other_of common e f (inl h) = let k = other_from common e f.start h in record { at = point_at f.start; is_point = one_above; on_first = k.0; on_second = start_on f; other = k.1 }
 other_of common e f (inr (inl h)) = let k = other_from common e f.end h in record { at = point_at f.end; is_point = one_above; on_first = k.0; on_second = end_on f; other = k.1 }
 other_of common e f (inr (inr (inl h))) = let k = other_from common f e.start h in record { at = point_at e.start; is_point = one_above; on_first = start_on e; on_second = k.0; other = k.1 }
 other_of common e f (inr (inr (inr h))) = let k = other_from common f e.end h in record { at = point_at e.end; is_point = one_above; on_first = end_on e; on_second = k.0; other = k.1 }
 
+-- the four tests of ends say exactly whether two edges share a point beside their common end
 pub other_point_is_decided : OtherPointIsDecided
 other_point_is_decided common e f is_first is_second = (
   (λ h. other_of common e f (four_from (other_on common e f.start) (other_on common e f.end) (other_on common f e.start) (other_on common f e.end) h)),

@@ -21,6 +21,7 @@ end_x a b = solve (a ∷ b ∷ []) (lit (pos 1) ⊗ var 0) (lit (pos 1) ⊗ var 
 end_x' : (a b : ℤ) → pos 1 *ℤ b ≡ pos 0 *ℤ a +ℤ pos 1 *ℤ b
 end_x' a b = solve (a ∷ b ∷ []) (lit (pos 1) ⊗ var 1) (lit (pos 0) ⊗ var 0 ⊕ lit (pos 1) ⊗ var 1) tt
 
+-- the start of an edge is on it
 pub start_on : (e : Edge) → on e (point_at e.start) ≡ true
 start_on e = on_from_hull e (point_at e.start) (record {
   k = pos 1;
@@ -34,6 +35,7 @@ start_on e = on_from_hull e (point_at e.start) (record {
   w_is = refl;
 })
 
+-- and so is its end
 pub end_on : (e : Edge) → on e (point_at e.end) ≡ true
 end_on e = on_from_hull e (point_at e.end) (record {
   k = pos 1;
@@ -48,6 +50,7 @@ end_on e = on_from_hull e (point_at e.end) (record {
 })
 
 -- ---- side and weight of a sum
+-- the side of a sum of two positions is the sum of their sides, with the same weights
 pub side_sum : (a b c d : Position) (p : Point) (k m n : ℤ) → k *ℤ p.X ≡ m *ℤ c.x +ℤ n *ℤ d.x → k *ℤ p.Y ≡ m *ℤ c.y +ℤ n *ℤ d.y → k *ℤ p.W ≡ m +ℤ n
     → k *ℤ side a b p ≡ m *ℤ side a b (point_at c) +ℤ n *ℤ side a b (point_at d)
 side_sum a b c d p k m n e f g =
@@ -61,6 +64,7 @@ side_sum a b c d p k m n e f g =
     (var 8 ⊗ ((var 2 ⊖ var 0) ⊗ (var 5 ⊖ var 1 ⊗ lit (pos 1)) ⊖ (var 3 ⊖ var 1) ⊗ (var 4 ⊖ var 0 ⊗ lit (pos 1)))
     ⊕ var 9 ⊗ ((var 2 ⊖ var 0) ⊗ (var 7 ⊖ var 1 ⊗ lit (pos 1)) ⊖ (var 3 ⊖ var 1) ⊗ (var 6 ⊖ var 0 ⊗ lit (pos 1)))) tt
 
+-- and so is its weight along the line
 pub weight_sum : (a b c d : Position) (p : Point) (k m n : ℤ) → k *ℤ p.X ≡ m *ℤ c.x +ℤ n *ℤ d.x → k *ℤ p.Y ≡ m *ℤ c.y +ℤ n *ℤ d.y → k *ℤ p.W ≡ m +ℤ n
     → k *ℤ weight a b p ≡ m *ℤ weight a b (point_at c) +ℤ n *ℤ weight a b (point_at d)
 weight_sum a b c d p k m n e f g =
@@ -103,11 +107,13 @@ both_above s t h k e = (omega (arith, ints), omega (arith, ints))
 no_sum : (m n : ℤ) → pos 0 <ℤ (m +ℤ n) → m ≡ pos 0 → n ≡ pos 0 → ⊥
 no_sum m n h e f = omega (arith, ints)
 
+-- numbers that are both below 0 have no sum of at least 0, with weights of at least 0 that aren't both 0
 never_below : (x y m n : ℤ) → pos 0 ≤ℤ m → pos 0 ≤ℤ n → pos 0 <ℤ (m +ℤ n) → x <ℤ pos 0 → y <ℤ pos 0 → pos 0 ≤ℤ (m *ℤ x +ℤ n *ℤ y) → ⊥
 never_below x y m n hm hn some hx hy e =
     let zero = both_below (m *ℤ x) (n *ℤ y) (plus_minus m x hm (weak_below x hx)) (plus_minus n y hn (weak_below y hy)) e in
     no_sum m n some (no_factor m x (not_below x hx) zero.0) (no_factor n y (not_below y hy) zero.1)
 
+-- and numbers that are both above 0 have none of at most 0
 never_above : (x y m n : ℤ) → pos 0 ≤ℤ m → pos 0 ≤ℤ n → pos 0 <ℤ (m +ℤ n) → pos 0 <ℤ x → pos 0 <ℤ y → (m *ℤ x +ℤ n *ℤ y) ≤ℤ pos 0 → ⊥
 never_above x y m n hm hn some hx hy e =
     let zero = both_above (m *ℤ x) (n *ℤ y) (plus_plus m x hm (weak x hx)) (plus_plus n y hn (weak y hy)) e in
@@ -122,12 +128,15 @@ zero_below s e = omega (arith, ints)
 zero_above : (s : ℤ) → s ≡ pos 0 → s ≤ℤ pos 0
 zero_above s e = omega (arith, ints)
 
+-- where the first number is 0 the second's share is the whole sum
 pub only_second : (x y m n : ℤ) → x ≡ pos 0 → m *ℤ x +ℤ n *ℤ y ≡ pos 0 → n *ℤ y ≡ pos 0
 only_second x y m n e f = solve (y ∷ m ∷ n ∷ []) (var 2 ⊗ var 0) (var 1 ⊗ lit (pos 0) ⊕ var 2 ⊗ var 0) tt ∙ ap (λ (z : ℤ). m *ℤ z +ℤ n *ℤ y) (sym e) ∙ f
 
+-- and where the second is, the first's share is
 only_first : (x y m n : ℤ) → y ≡ pos 0 → m *ℤ x +ℤ n *ℤ y ≡ pos 0 → m *ℤ x ≡ pos 0
 only_first x y m n e f = solve (x ∷ m ∷ n ∷ []) (var 1 ⊗ var 0) (var 1 ⊗ var 0 ⊕ var 2 ⊗ lit (pos 0)) tt ∙ ap (λ (z : ℤ). m *ℤ x +ℤ n *ℤ z) (sym e) ∙ f
 
+-- where such a sum is 0 the numbers have opposite signs, or both are 0, or one of them has no weight
 signs : (x y m n : ℤ) → pos 0 ≤ℤ m → pos 0 ≤ℤ n → pos 0 <ℤ (m +ℤ n) → m *ℤ x +ℤ n *ℤ y ≡ pos 0 → Signs x y m n
 signs x y m n hm hn some e = go (three_ways x (pos 0)) (three_ways y (pos 0))
   where
@@ -143,6 +152,7 @@ signs x y m n hm hn some e = go (three_ways x (pos 0)) (three_ways y (pos 0))
     go (inr (inr hx)) (inr (inr hy)) = absurd (never_above x y m n hm hn some hx hy (zero_above (m *ℤ x +ℤ n *ℤ y) e))
 
 -- ---- a point of an edge with no weight on one end is the other end
+-- without weight on the second number the sum is the first
 one_coordinate : (k x w m n c d : ℤ) → pos 0 <ℤ k → k *ℤ x ≡ m *ℤ c +ℤ n *ℤ d → k *ℤ w ≡ m +ℤ n → n ≡ pos 0 → x *ℤ pos 1 ≡ c *ℤ w
 one_coordinate k x w m n c d hk e f none = same _ _ (cancel_zero k (x *ℤ pos 1 -ℤ c *ℤ w) hk
     (solve (k ∷ x ∷ w ∷ c ∷ []) (var 0 ⊗ (var 1 ⊗ lit (pos 1) ⊖ var 3 ⊗ var 2)) (var 0 ⊗ var 1 ⊖ var 3 ⊗ (var 0 ⊗ var 2)) tt
@@ -159,11 +169,13 @@ swapped k x m n c d e = e ∙ solve (m ∷ n ∷ c ∷ d ∷ []) (var 0 ⊗ var 
 pub swapped_sum : (k w m n : ℤ) → k *ℤ w ≡ m +ℤ n → k *ℤ w ≡ n +ℤ m
 swapped_sum k w m n e = e ∙ solve (m ∷ n ∷ []) (var 0 ⊕ var 1) (var 1 ⊕ var 0) tt
 
+-- a point without weight on the end is the start
 pub at_start : (f : Edge) (p : Point) (h : OnHull f p) → h.n ≡ pos 0 → same_point p (point_at f.start) ≡ true
 at_start f p h none = same_from p (point_at f.start)
     (one_coordinate h.k p.X p.W h.m h.n f.start.x f.end.x h.from_k h.x_is h.w_is none)
     (one_coordinate h.k p.Y p.W h.m h.n f.start.y f.end.y h.from_k h.y_is h.w_is none)
 
+-- and one without weight on the start is the end
 at_end : (f : Edge) (p : Point) (h : OnHull f p) → h.m ≡ pos 0 → same_point p (point_at f.end) ≡ true
 at_end f p h none = same_from p (point_at f.end)
     (one_coordinate h.k p.X p.W h.n h.m f.end.x f.start.x h.from_k (swapped h.k p.X h.m h.n f.start.x f.end.x h.x_is) (swapped_sum h.k p.W h.m h.n h.w_is) none)
@@ -172,6 +184,7 @@ at_end f p h none = same_from p (point_at f.end)
 pub one_above : pos 0 <ℤ pos 1
 one_above = omega (arith, ints)
 
+-- a position that is the same as a point of an edge is on the edge
 on_there : (e : Edge) (p : Point) (q : Position) → IsPoint p → on e p ≡ true → same_point p (point_at q) ≡ true → on e (point_at q) ≡ true
 on_there e p q hp h same = sym (on_respects e p (point_at q) hp one_above same) ∙ h
 
@@ -188,6 +201,8 @@ Seen e f p = Opposite (side e.start e.end (point_at f.start)) (side e.start e.en
 pub zero_scaled : (k z : ℤ) → z ≡ pos 0 → k *ℤ z ≡ pos 0
 zero_scaled k z e = ap (λ (t : ℤ). k *ℤ t) e ∙ solve (k ∷ []) (var 0 ⊗ lit (pos 0)) (lit (pos 0)) tt
 
+-- a point on both edges has side 0 at e, so the ends of f are on opposite sides of e, or both on its line,
+-- or one of them is the point
 seen : (e f : Edge) (p : Point) → IsPoint p → on e p ≡ true → on f p ≡ true → Seen e f p
 seen e f p hp on_e on_f = go (signs (side e.start e.end (point_at f.start)) (side e.start e.end (point_at f.end)) h.m h.n h.from_m h.from_n (weights_some f p h hp)
     (sym (side_sum e.start e.end f.start f.end p h.k h.m h.n h.x_is h.y_is h.w_is) ∙ zero_scaled h.k (side e.start e.end p) ((on_parts e p on_e).on_line)))
@@ -205,6 +220,7 @@ seen e f p hp on_e on_f = go (signs (side e.start e.end (point_at f.start)) (sid
 abbrev EndOn : Edge → Edge → Type 0
 EndOn e f = (on e (point_at f.start) ≡ true) ⊎ (on e (point_at f.end) ≡ true) ⊎ (on f (point_at e.start) ≡ true)
 
+-- a position on the line of an edge is on the edge where its weight along it is between 0 and the whole
 pub along : (e : Edge) (q : Position) → pos 0 <ℤ square e.start e.end → side e.start e.end (point_at q) ≡ pos 0
     → pos 0 ≤ℤ weight e.start e.end (point_at q) → weight e.start e.end (point_at q) ≤ℤ square e.start e.end → on e (point_at q) ≡ true
 along e q wide zero low high = let S = square e.start e.end in let t = weight e.start e.end (point_at q) in
@@ -234,6 +250,7 @@ between_ends S tc td a b c d e f =
     ∙ ap₂ (λ (s t : ℤ). td *ℤ s +ℤ (pos 0 -ℤ tc) *ℤ t) (sym e) (sym f)
     ∙ solve (S ∷ tc ∷ td ∷ c ∷ d ∷ []) (var 2 ⊗ (var 0 ⊗ var 3) ⊕ (lit (pos 0) ⊖ var 1) ⊗ (var 0 ⊗ var 4)) ((var 0 ⊗ var 2) ⊗ var 3 ⊕ (var 0 ⊗ (lit (pos 0) ⊖ var 1)) ⊗ var 4) tt
 
+-- the same where c and d lie the other way round
 between_ends_back : (S tc td a b c d : ℤ) → S *ℤ c ≡ (S *ℤ pos 1 -ℤ tc) *ℤ a +ℤ tc *ℤ b → S *ℤ d ≡ (S *ℤ pos 1 -ℤ td) *ℤ a +ℤ td *ℤ b
     → (S *ℤ (tc -ℤ td)) *ℤ a ≡ (S *ℤ (pos 0 -ℤ td)) *ℤ c +ℤ (S *ℤ tc) *ℤ d
 between_ends_back S tc td a b c d e f =
@@ -253,17 +270,21 @@ pub x_along : (e : Edge) (q : Position) → side e.start e.end (point_at q) ≡ 
 x_along e q zero = x_of e.start e.end (point_at q) ∙ drop_zero ((square e.start e.end *ℤ pos 1 -ℤ weight e.start e.end (point_at q)) *ℤ e.start.x +ℤ weight e.start e.end (point_at q) *ℤ e.end.x)
     (side e.start e.end (point_at q)) (e.start.y -ℤ e.end.y) zero
 
+-- and of the other coordinate
 pub y_along : (e : Edge) (q : Position) → side e.start e.end (point_at q) ≡ pos 0
     → square e.start e.end *ℤ q.y ≡ (square e.start e.end *ℤ pos 1 -ℤ weight e.start e.end (point_at q)) *ℤ e.start.y +ℤ weight e.start e.end (point_at q) *ℤ e.end.y
 y_along e q zero = y_of e.start e.end (point_at q) ∙ drop_zero ((square e.start e.end *ℤ pos 1 -ℤ weight e.start e.end (point_at q)) *ℤ e.start.y +ℤ weight e.start e.end (point_at q) *ℤ e.end.y)
     (side e.start e.end (point_at q)) (e.end.x -ℤ e.start.x) zero
 
+-- the weights of the two ends add up
 weights_add : (S tc td : ℤ) → (S *ℤ (td -ℤ tc)) *ℤ pos 1 ≡ S *ℤ td +ℤ S *ℤ (pos 0 -ℤ tc)
 weights_add S tc td = solve (S ∷ tc ∷ td ∷ []) ((var 0 ⊗ (var 2 ⊖ var 1)) ⊗ lit (pos 1)) (var 0 ⊗ var 2 ⊕ var 0 ⊗ (lit (pos 0) ⊖ var 1)) tt
 
+-- and so they do the other way round
 weights_add_back : (S tc td : ℤ) → (S *ℤ (tc -ℤ td)) *ℤ pos 1 ≡ S *ℤ (pos 0 -ℤ td) +ℤ S *ℤ tc
 weights_add_back S tc td = solve (S ∷ tc ∷ td ∷ []) ((var 0 ⊗ (var 1 ⊖ var 2)) ⊗ lit (pos 1)) (var 0 ⊗ (lit (pos 0) ⊖ var 2) ⊕ var 0 ⊗ var 1) tt
 
+-- an edge on the line of e that comes from before e's start and ends after it holds e's start
 covers : (e f : Edge) → pos 0 <ℤ square e.start e.end → side e.start e.end (point_at f.start) ≡ pos 0 → side e.start e.end (point_at f.end) ≡ pos 0
     → weight e.start e.end (point_at f.start) <ℤ pos 0 → pos 0 <ℤ weight e.start e.end (point_at f.end) → on f (point_at e.start) ≡ true
 covers e f wide zc zd below above = let S = square e.start e.end in let tc = weight e.start e.end (point_at f.start) in let td = weight e.start e.end (point_at f.end) in
@@ -279,6 +300,7 @@ covers e f wide zc zd below above = let S = square e.start e.end in let tc = wei
       w_is = weights_add S tc td;
     })
 
+-- and so does one that runs the other way
 covers_back : (e f : Edge) → pos 0 <ℤ square e.start e.end → side e.start e.end (point_at f.start) ≡ pos 0 → side e.start e.end (point_at f.end) ≡ pos 0
     → pos 0 <ℤ weight e.start e.end (point_at f.start) → weight e.start e.end (point_at f.end) <ℤ pos 0 → on f (point_at e.start) ≡ true
 covers_back e f wide zc zd above below = let S = square e.start e.end in let tc = weight e.start e.end (point_at f.start) in let td = weight e.start e.end (point_at f.end) in
@@ -294,6 +316,7 @@ covers_back e f wide zc zd above below = let S = square e.start e.end in let tc 
       w_is = weights_add_back S tc td;
     })
 
+-- a sum of two equal numbers is that number
 level_coordinate : (k x w m n c d : ℤ) → pos 0 <ℤ k → k *ℤ x ≡ m *ℤ c +ℤ n *ℤ d → k *ℤ w ≡ m +ℤ n → d -ℤ c ≡ pos 0 → x *ℤ pos 1 ≡ c *ℤ w
 level_coordinate k x w m n c d hk e f level = same _ _ (cancel_zero k (x *ℤ pos 1 -ℤ c *ℤ w) hk
     (solve (k ∷ x ∷ w ∷ c ∷ []) (var 0 ⊗ (var 1 ⊗ lit (pos 1) ⊖ var 3 ⊗ var 2)) (var 0 ⊗ var 1 ⊖ var 3 ⊗ (var 0 ⊗ var 2)) tt
@@ -313,11 +336,14 @@ at_both e p hp on_e level upright = let h = hull_from_on e p hp on_e in same_fro
 pub no_difference : (x y : ℤ) → x ≡ y → y -ℤ x ≡ pos 0
 no_difference x y e = omega (arith, ints)
 
+-- what the weight of a sum lacks to the whole is the sum of what the ends' weights lack
 rest_sum : (S W T k m n tc td : ℤ) → k *ℤ T ≡ m *ℤ tc +ℤ n *ℤ td → k *ℤ W ≡ m +ℤ n → k *ℤ (S *ℤ W -ℤ T) ≡ m *ℤ (S -ℤ tc) +ℤ n *ℤ (S -ℤ td)
 rest_sum S W T k m n tc td e f = solve (S ∷ W ∷ T ∷ k ∷ []) (var 3 ⊗ (var 0 ⊗ var 1 ⊖ var 2)) (var 0 ⊗ (var 3 ⊗ var 1) ⊖ var 3 ⊗ var 2) tt
     ∙ ap₂ (λ (s t : ℤ). S *ℤ s -ℤ t) f e
     ∙ solve (S ∷ m ∷ n ∷ tc ∷ td ∷ []) (var 0 ⊗ (var 1 ⊕ var 2) ⊖ (var 1 ⊗ var 3 ⊕ var 2 ⊗ var 4)) (var 1 ⊗ (var 0 ⊖ var 3) ⊕ var 2 ⊗ (var 0 ⊖ var 4)) tt
 
+-- of two edges on one line that share a point one has an end on the other: the ends of f aren't both before e,
+-- nor both behind it, so one of them is on e, or f goes over e's start
 collinear : (e f : Edge) (p : Point) → IsPoint p → on e p ≡ true → on f p ≡ true → side e.start e.end (point_at f.start) ≡ pos 0 → side e.start e.end (point_at f.end) ≡ pos 0 → EndOn e f
 collinear e f p hp on_e on_f zc zd = choose (is_or_not (e.end.x -ℤ e.start.x)) (is_or_not (e.end.y -ℤ e.start.y))
   where
@@ -395,10 +421,12 @@ or_from : (a b : Bool) → a || b ≡ true → (a ≡ true) ⊎ (b ≡ true)
 or_from true b e = inl refl
 or_from false b e = inr e
 
+-- the test of opposite signs passes where the signs are opposite
 opposite_yes : (x y : ℤ) → Opposite x y → opposite x y ≡ true
 opposite_yes x y (inl h) = rw (less_yes x (pos 0) h.0, less_yes (pos 0) y h.1) refl
 opposite_yes x y (inr h) = or_right (int_lt x (pos 0) && int_lt (pos 0) y) (int_lt (pos 0) x && int_lt y (pos 0)) (and_from (int_lt (pos 0) x) (int_lt y (pos 0)) (less_yes (pos 0) x h.0) (less_yes y (pos 0) h.1))
 
+-- and only there
 opposite_from : (x y : ℤ) → opposite x y ≡ true → Opposite x y
 opposite_from x y e = go (or_from (int_lt x (pos 0) && int_lt (pos 0) y) (int_lt (pos 0) x && int_lt y (pos 0)) e)
   where
@@ -409,16 +437,20 @@ opposite_from x y e = go (or_from (int_lt x (pos 0) && int_lt (pos 0) y) (int_lt
 abbrev Five : Edge → Edge → Type 0
 Five e f = (on e (point_at f.start) ≡ true) ⊎ (on e (point_at f.end) ≡ true) ⊎ (on f (point_at e.start) ≡ true) ⊎ (on f (point_at e.end) ≡ true) ⊎ (cross e f ≡ true)
 
+-- an end on the other edge passes one of the five tests
 five_of : (e f : Edge) → EndOn e f → Five e f
 five_of e f (inl h) = inl h
 five_of e f (inr (inl h)) = inr (inl h)
 five_of e f (inr (inr h)) = inr (inr (inl h))
 
+-- and so it does with the edges exchanged
 five_back : (e f : Edge) → EndOn f e → Five e f
 five_back e f (inl h) = inr (inr (inl h))
 five_back e f (inr (inl h)) = inr (inr (inr (inl h)))
 five_back e f (inr (inr h)) = inl h
 
+-- of two edges that share a point one has an end on the other, or the ends of each are on opposite sides
+-- of the other
 one_of_five : (e f : Edge) (p : Point) → IsPoint p → on e p ≡ true → on f p ≡ true → Five e f
 one_of_five e f p hp on_e on_f = go (seen e f p hp on_e on_f) (seen f e p hp on_f on_e)
   where
@@ -462,21 +494,27 @@ C e f = side f.start f.end (point_at e.start)
 abbrev D : Edge → Edge → ℤ
 D e f = side f.start f.end (point_at e.end)
 
+-- the sides of the ends, crosswise, are the weights with which the ends of e and those of f have one sum: its x
 fore_x : (e f : Edge) → (pos 0 -ℤ D e f) *ℤ e.start.x +ℤ C e f *ℤ e.end.x ≡ B e f *ℤ f.start.x +ℤ (pos 0 -ℤ A e f) *ℤ f.end.x
 fore_x e f = solve (e.start.x ∷ e.start.y ∷ e.end.x ∷ e.end.y ∷ f.start.x ∷ f.start.y ∷ f.end.x ∷ f.end.y ∷ []) ((zero' ⊖ D') ⊗ var 0 ⊕ C' ⊗ var 2) (B' ⊗ var 4 ⊕ (zero' ⊖ A') ⊗ var 6) tt
 
+-- and its y
 fore_y : (e f : Edge) → (pos 0 -ℤ D e f) *ℤ e.start.y +ℤ C e f *ℤ e.end.y ≡ B e f *ℤ f.start.y +ℤ (pos 0 -ℤ A e f) *ℤ f.end.y
 fore_y e f = solve (e.start.x ∷ e.start.y ∷ e.end.x ∷ e.end.y ∷ f.start.x ∷ f.start.y ∷ f.end.x ∷ f.end.y ∷ []) ((zero' ⊖ D') ⊗ var 1 ⊕ C' ⊗ var 3) (B' ⊗ var 5 ⊕ (zero' ⊖ A') ⊗ var 7) tt
 
+-- and its denominator
 fore_w : (e f : Edge) → (pos 0 -ℤ D e f) +ℤ C e f ≡ B e f +ℤ (pos 0 -ℤ A e f)
 fore_w e f = solve (e.start.x ∷ e.start.y ∷ e.end.x ∷ e.end.y ∷ f.start.x ∷ f.start.y ∷ f.end.x ∷ f.end.y ∷ []) ((zero' ⊖ D') ⊕ C') (B' ⊕ (zero' ⊖ A')) tt
 
+-- the same with all signs turned: its x
 back_x : (e f : Edge) → D e f *ℤ e.start.x +ℤ (pos 0 -ℤ C e f) *ℤ e.end.x ≡ (pos 0 -ℤ B e f) *ℤ f.start.x +ℤ A e f *ℤ f.end.x
 back_x e f = solve (e.start.x ∷ e.start.y ∷ e.end.x ∷ e.end.y ∷ f.start.x ∷ f.start.y ∷ f.end.x ∷ f.end.y ∷ []) (D' ⊗ var 0 ⊕ (zero' ⊖ C') ⊗ var 2) ((zero' ⊖ B') ⊗ var 4 ⊕ A' ⊗ var 6) tt
 
+-- and its y
 back_y : (e f : Edge) → D e f *ℤ e.start.y +ℤ (pos 0 -ℤ C e f) *ℤ e.end.y ≡ (pos 0 -ℤ B e f) *ℤ f.start.y +ℤ A e f *ℤ f.end.y
 back_y e f = solve (e.start.x ∷ e.start.y ∷ e.end.x ∷ e.end.y ∷ f.start.x ∷ f.start.y ∷ f.end.x ∷ f.end.y ∷ []) (D' ⊗ var 1 ⊕ (zero' ⊖ C') ⊗ var 3) ((zero' ⊖ B') ⊗ var 5 ⊕ A' ⊗ var 7) tt
 
+-- and its denominator
 back_w : (e f : Edge) → D e f +ℤ (pos 0 -ℤ C e f) ≡ (pos 0 -ℤ B e f) +ℤ A e f
 back_w e f = solve (e.start.x ∷ e.start.y ∷ e.end.x ∷ e.end.y ∷ f.start.x ∷ f.start.y ∷ f.end.x ∷ f.end.y ∷ []) (D' ⊕ (zero' ⊖ C')) ((zero' ⊖ B') ⊕ A') tt
 
@@ -494,6 +532,7 @@ met e f m n r s some hm hn hr hs x_is y_is w_is = let p : Point = record { X = m
       on_second = on_from_hull f p (record { k = pos 1; m = r; n = s; from_k = one_above; from_m = hr; from_n = hs; x_is = by_one p.X _ x_is; y_is = by_one p.Y _ y_is; w_is = by_one p.W _ w_is });
     }
 
+-- where the signs are opposite at both edges the weights are at least 0, so the two edges meet there
 crossing : (e f : Edge) → Opposite (A e f) (B e f) → Opposite (C e f) (D e f) → SharePoint e f
 crossing e f o (inl h) = back o
   where
@@ -520,6 +559,7 @@ crossing e f o (inr h) = fore o
     fore (inl k) = met e f (pos 0 -ℤ D e f) (C e f) (B e f) (pos 0 -ℤ A e f) (total (C e f) (D e f) h.0 h.1) (below_zero (D e f) h.1) (weak (C e f) h.0) (weak (B e f) k.1) (below_zero (A e f) k.0)
         (fore_x e f) (fore_y e f) (fore_w e f)
 
+-- an end of one edge on the other is a shared point, and so is the crossing
 share_of : (e f : Edge) → Five e f → SharePoint e f
 share_of e f (inl h) = record { at = point_at f.start; is_point = one_above; on_first = h; on_second = start_on f }
 share_of e f (inr (inl h)) = record { at = point_at f.end; is_point = one_above; on_first = h; on_second = end_on f }
@@ -528,6 +568,7 @@ share_of e f (inr (inr (inr (inl h)))) = record { at = point_at e.end; is_point 
 share_of e f (inr (inr (inr (inr h)))) = let parts = and_parts (opposite (A e f) (B e f)) (opposite (C e f) (D e f)) h in
     crossing e f (opposite_from (A e f) (B e f) parts.0) (opposite_from (C e f) (D e f) parts.1)
 
+-- the four tests of ends and that of a crossing say exactly whether two edges share a point
 pub shared_point_is_decided : SharedPointIsDecided
 shared_point_is_decided e f = (
   (λ h. share_of e f (five_from (on e (point_at f.start)) (on e (point_at f.end)) (on f (point_at e.start)) (on f (point_at e.end)) (cross e f) h)),

@@ -38,6 +38,7 @@ one_split x (z ∷ xs) (y ∷ ys) after rest e d = let heads : z ≡ y = cc in l
     ap (λ (t : ValidityFault). t ∷ xs) heads ∙ ap (λ (l : List ValidityFault). y ∷ l) (one_split x xs ys after rest tails d.1)
 
 -- ---- the kind and the numbers of a fault
+-- the number of a fault's kind, in the order of tests
 kind_number : ValidityFault → ℕ
 kind_number (TooFewPoints i) = 0
 kind_number (RingNotClosed i) = 1
@@ -48,6 +49,7 @@ kind_number (HolesNested i j) = 5
 kind_number (ElementsMeet i j) = 6
 kind_number (ElementInside i j) = 7
 
+-- the first number of a fault
 first_number : ValidityFault → ℕ
 first_number (TooFewPoints i) = i
 first_number (RingNotClosed i) = i
@@ -58,6 +60,7 @@ first_number (HolesNested i j) = i
 first_number (ElementsMeet i j) = i
 first_number (ElementInside i j) = i
 
+-- its second number, or 0 where it has one alone
 second_number : ValidityFault → ℕ
 second_number (TooFewPoints i) = 0
 second_number (RingNotClosed i) = 0
@@ -74,10 +77,12 @@ at_least low s t e h = omega (arith, e, h)
 below_next : (s t : ℕ) → t ≡ s → t < s + 1
 below_next s t e = omega (arith, e)
 
+-- the faults of numbers from a start on have no number below it
 numbers_after : (f : ℕ → ValidityFault) (m : ValidityFault → ℕ) → ((k : ℕ) → m (f k) ≡ k) → (count start low : ℕ) → low ≤ start → Each (λ y. low ≤ m y) (map f (range_with_len start count))
 numbers_after f m is zero start low h = tt
 numbers_after f m is (suc count) start low h = (at_least low start (m (f start)) (is start) h, numbers_after f m is count (start + 1) low (omega (arith, h)))
 
+-- so the faults of one kind with successive numbers have no doubles
 distinct_numbers : (f : ℕ → ValidityFault) (m : ValidityFault → ℕ) → ((k : ℕ) → m (f k) ≡ k) → (count start : ℕ) → Distinct (map f (range_with_len start count))
 distinct_numbers f m is zero start = tt
 distinct_numbers f m is (suc count) start = (
@@ -98,6 +103,7 @@ each_paired P f h from n (i ∷ ns) = each_append P (map (f i) (numbers (from i)
 abbrev Between : ℕ → ℕ → ValidityFault → Type 0
 Between low high x = (low ≤ first_number x) × (first_number x < high)
 
+-- the first numbers of pairs stay in their range
 pairs_between : (f : ℕ → ℕ → ValidityFault) → ((i j : ℕ) → first_number (f i j) ≡ i) → (from : ℕ → ℕ) (n count start low high : ℕ) → low ≤ start → (0 < count → start + count ≤ high)
     → Each (Between low high) (flat_map (λ i. map (f i) (numbers (from i) n)) (range_with_len start count))
 pairs_between f is from n zero start low high h g = tt
@@ -108,6 +114,7 @@ pairs_between f is from n (suc count) start low high h g = each_append (Between 
     between : (t : ℕ) → t ≡ start → (low ≤ t) × (t < high)
     between t e = (omega (arith, h, e), omega (arith, g (zero-lt-suc count), e))
 
+-- pairs have no doubles: they differ in the first number, or of one first number in the second
 distinct_pairs : (f : ℕ → ℕ → ValidityFault) → ((i j : ℕ) → first_number (f i j) ≡ i) → ((i j : ℕ) → second_number (f i j) ≡ j) → (from : ℕ → ℕ) (n count start : ℕ)
     → Distinct (flat_map (λ i. map (f i) (numbers (from i) n)) (range_with_len start count))
 distinct_pairs f is also from n zero start = tt
@@ -118,6 +125,7 @@ distinct_pairs f is also from n (suc count) start = distinct_join first_number (
     (each_map (Between (start + 1) (start + 1 + count)) (λ y. start + 1 ≤ first_number y) (flat_map (λ i. map (f i) (numbers (from i) n)) (range_with_len (start + 1) count)) (λ y h. h.0)
     (pairs_between f is from n count (start + 1) (start + 1) (start + 1 + count) (omega arith) (λ p. omega arith)))
 
+-- the numbers of a range stay in it
 numbers_between : (f : ℕ → ValidityFault) → ((k : ℕ) → first_number (f k) ≡ k) → (count start low high : ℕ) → low ≤ start → (0 < count → start + count ≤ high) → Each (Between low high) (map f (range_with_len start count))
 numbers_between f is zero start low high h g = tt
 numbers_between f is (suc count) start low high h g = (between (first_number (f start)) (is start), numbers_between f is count (start + 1) low high (omega (arith, h)) (λ p. omega (arith, g (zero-lt-suc count))))
@@ -134,6 +142,7 @@ each_flat P faults h (e ∷ es) = each_append P (faults e) (flat_map faults es) 
 abbrev AreOwn : (Element → List ValidityFault) → Type 0
 AreOwn faults = (e : Element) → Each (Between e.first (rings_end e)) (faults e)
 
+-- the faults of polygons whose rings are numbered from here on have no first number below it
 elements_after : (faults : Element → List ValidityFault) → AreOwn faults → (first low : ℕ) (es : List (List (List Position))) → low ≤ first → Each (λ y. low ≤ first_number y) (flat_map faults (elements_from first es))
 elements_after faults own first low [] h = tt
 elements_after faults own first low (rings ∷ es) h = let e : Element = record { first = first; rings = rings } in
@@ -144,6 +153,7 @@ elements_after faults own first low (rings ∷ es) h = let e : Element = record 
     reached : (t : ℕ) → first ≤ t → low ≤ t
     reached t k = omega (arith, h, k)
 
+-- so faults listed polygon by polygon have no doubles, where those of each polygon have none
 distinct_elements : (faults : Element → List ValidityFault) → AreOwn faults → ((e : Element) → Distinct (faults e)) → (first : ℕ) (es : List (List (List Position))) → Distinct (flat_map faults (elements_from first es))
 distinct_elements faults own d first [] = tt
 distinct_elements faults own d first (rings ∷ es) = let e : Element = record { first = first; rings = rings } in
@@ -161,14 +171,17 @@ outside e = map HoleOutside (numbers (e.first + 1) (rings_end e))
 abbrev nested : Element → List ValidityFault
 nested e = of_pairs HolesNested (e.first + 1) (rings_end e)
 
+-- the first number of a fault within a polygon is that of one of its rings: where two rings meet
 own_meeting : AreOwn meeting
 unfolding first_number
 own_meeting e = pairs_between RingsMeet (λ i j. refl) (λ m. m + 1) (rings_end e) (rings_end e - e.first) e.first e.first (rings_end e) (omega arith) (λ p. omega (arith, p))
 
+-- where a hole is outside
 own_outside : AreOwn outside
 unfolding first_number
 own_outside e = numbers_between HoleOutside (λ i. refl) (rings_end e - (e.first + 1)) (e.first + 1) e.first (rings_end e) (omega arith) (λ p. omega (arith, p))
 
+-- where one of two holes is inside the other
 own_nested : AreOwn nested
 unfolding first_number
 own_nested e = pairs_between HolesNested (λ i j. refl) (λ m. m + 1) (rings_end e) (rings_end e - (e.first + 1)) (e.first + 1) e.first (rings_end e) (omega arith) (λ p. omega (arith, p))
@@ -178,6 +191,7 @@ record Stage (k : ℕ) (xs : List ValidityFault) : Type 0 where
   distinct : Distinct xs
   kinds : Each (λ x. kind_number x < k) xs
 
+-- faults of a kind behind those of the kinds before it leave the list without doubles
 grown : (k : ℕ) (xs ys : List ValidityFault) → Stage k xs → Distinct ys → Each (λ y. kind_number y ≡ k) ys → Stage (k + 1) (xs ++ ys)
 grown k xs ys s d e = record {
   distinct = distinct_join kind_number k xs ys s.distinct s.kinds d (each_map (λ y. kind_number y ≡ k) (λ y. k ≤ kind_number y) ys (λ y h. reached (kind_number y) h) e);
@@ -192,6 +206,7 @@ grown k xs ys s d e = record {
     wider : (t : ℕ) → t < k → t < k + 1
     wider t h = omega (arith, h)
 
+-- kind by kind, so the whole order of tests has no doubles
 distinct_in_order : (g : Geometry) → Distinct (in_order g)
 unfolding kind_number first_number second_number
 distinct_in_order g = (grown 7 (short_ones g ++ open_ones g ++ crossed_ones g ++ meeting_ones g ++ outside_ones g ++ nested_ones g ++ touching_ones g) (swallowed_ones g)
@@ -222,6 +237,8 @@ distinct_in_order g = (grown 7 (short_ones g ++ open_ones g ++ crossed_ones g ++
     k : ℕ
     k = length (elements g)
 
+-- the found fault has one place in the order of tests, so each split at it is the one of the search,
+-- before which none stands
 pub no_earlier_fault_stands : NoEarlierFaultStands
 no_earlier_fault_stands g fault before after found placed earlier c h = let f = first_fault_is_first g fault found in
     f.none_before earlier (subst (λ l. Contains l earlier) (one_split fault before f.before after f.after (sym placed ∙ f.placed) (subst Distinct placed (distinct_in_order g))) c) h

@@ -12,6 +12,7 @@ use Rattle.validity_laws.specs.ValidPartLaws.{MakePolygon, LieApart, PolygonIsVa
 use Rattle.validity_laws.proofs.ElementPlaces.{place_of, contains_at, Placed, placed, of_numbered, ring_at}
 
 -- ---- to share points goes both ways
+-- two rings that share a point do so in either order
 pub rings_share_back : (r s : List Position) → RingsShare r s → RingsShare s r
 rings_share_back r s w = record {
   i = w.j;
@@ -23,6 +24,7 @@ rings_share_back r s w = record {
   share = record { at = w.share.at; is_point = w.share.is_point; on_first = w.share.on_second; on_second = w.share.on_first };
 }
 
+-- and so do two polygons
 pub elements_share_back : (d e : List (List Position)) → ElementsShare d e → ElementsShare e d
 elements_share_back d e w = record { r = w.s; s = w.r; first = w.second; second = w.first; share = rings_share_back w.r w.s w.share }
 
@@ -49,6 +51,7 @@ among_rings (Geometry.MultiLineString ls) i r e = e
 among_rings (Geometry.Polygon rs) i r e = ap (λ (l : List (List Position)). slice_get l i) (sym (no_more rs)) ∙ e
 among_rings (Geometry.MultiPolygon es) i r e = e
 
+-- a ring of an area with fewer than four positions is a part that is too short
 short_ring : (g : Geometry) (i : ℕ) (r : List Position) → slice_get (joined_rings (elements g)) i ≡ Some r → nat_lt (length r) 4 ≡ true → HasFault g (TooFewPoints i)
 short_ring (Geometry.Point o) i r e h = absurd cc
 short_ring (Geometry.MultiPoint ps) i r e h = absurd cc
@@ -68,6 +71,7 @@ not_false : (b : Bool) → (b ≡ false → ⊥) → b ≡ true
 not_false true h = refl
 not_false false h = absurd (h refl)
 
+-- each way in which the rings of a polygon fail to make one is a fault of the geometry, at their numbers
 polygon_at : (g : Geometry) → IsValid g → (rs : List (List Position)) → Placed 0 (elements g) rs → MakePolygon rs
 polygon_at g valid rs k = record {
   long = λ ring c. let p = place_of rs ring c in not_less (length ring) 4 (λ h. valid (TooFewPoints (k.offset + p.0)) (short_ring g (k.offset + p.0) ring (k.joined p.0 ring p.1) h));
@@ -110,6 +114,7 @@ record IsArea (g : Geometry) : Type 0 where
   rings_are : rings g ≡ joined_rings (elements g)
   short_is : (part : List Position) → is_short g part ≡ nat_lt (length part) 4
 
+-- each fault of an area would go against what its polygons are made of, or against their lying apart
 area_is_valid : (g : Geometry) → IsArea g → ((rs : List (List Position)) → Contains (elements g) rs → MakePolygon rs) → LieApart (elements g) → IsValid g
 area_is_valid g a made apart (TooFewPoints i) h = let k = ring_at (elements g) i h.0 (ap (λ (l : List (List Position)). slice_get l i) (sym a.lines_are) ∙ h.1) in
     short_not (length h.0) ((made k.0 k.1).long h.0 k.2) (ltb-true (length h.0) 4 (sym (a.short_is h.0) ∙ h.2))
@@ -143,9 +148,11 @@ area_is_valid g a made apart (ElementsMeet i j) h = apart.apart i j h.0 h.1 (λ 
     differ k l h e = omega (arith, h, e)
 area_is_valid g a made apart (ElementInside i j) h = true≢false (sym h.5 ∙ apart.outside i j h.0 h.1 h.2 h.3 h.4)
 
+-- a polygon: its parts are the rings of its one element
 polygon_area : (rs : List (List Position)) → IsArea (Geometry.Polygon rs)
 polygon_area rs = record { lines_are = sym (no_more rs); rings_are = sym (no_more rs); short_is = λ part. refl }
 
+-- a MultiPolygon: its parts are the rings of all its elements
 multi_polygon_area : (es : List (List (List Position))) → IsArea (Geometry.MultiPolygon es)
 multi_polygon_area es = record { lines_are = refl; rings_are = refl; short_is = λ part. refl }
 
@@ -157,6 +164,7 @@ alone x y c = let p = place_of (x ∷ []) y c in at_one p.0 p.1
     at_one zero e = cc
     at_one (suc k) e = absurd cc
 
+-- it lies apart, there being no other
 one_lies_apart : (rs : List (List Position)) → LieApart (rs ∷ [])
 one_lies_apart rs = record { apart = λ i j d e other h k w. other (same i j d e h k); outside = λ i j d e other h k. absurd (other (same i j d e h k)) }
   where
@@ -165,12 +173,14 @@ one_lies_apart rs = record { apart = λ i j d e other h k w. other (same i j d e
     same zero (suc j) d e h k = absurd cc
     same (suc i) j d e h k = absurd cc
 
+-- so a polygon is valid exactly where its rings make one
 pub polygon_is_valid : PolygonIsValid
 polygon_is_valid rs = (
   (λ valid. polygons_are_made (Geometry.Polygon rs) valid rs (contains_at (rs ∷ []) 0 rs refl)),
   (λ made. area_is_valid (Geometry.Polygon rs) (polygon_area rs) (λ others c. subst MakePolygon (sym (alone rs others c)) made) (one_lies_apart rs)),
 )
 
+-- and a MultiPolygon exactly where each of its polygons is valid and they lie apart
 pub multi_polygon_is_valid : MultiPolygonIsValid
 multi_polygon_is_valid es = (
   (λ valid. ((λ rs c. (polygon_is_valid rs).1 (polygons_are_made (Geometry.MultiPolygon es) valid rs c)), polygons_lie_apart (Geometry.MultiPolygon es) valid)),
@@ -201,6 +211,7 @@ only_short g no_rings no_polygons long fault = go fault
     go (ElementsMeet i j) h = no_polygon i h.0 h.3
     go (ElementInside i j) h = no_polygon i h.0 h.3
 
+-- a line has no other fault than to be a single position
 pub line_string_is_valid : LineStringIsValid
 line_string_is_valid line = (
   (λ valid one. valid (TooFewPoints 0) (line, refl, (Decides-eqb (length line) 1).1 one)),
@@ -208,6 +219,7 @@ line_string_is_valid line = (
       (λ i h. more (ap length (sym (alone line h.0 (contains_at (line ∷ []) i h.0 h.1))) ∙ (Decides-eqb (length h.0) 1).0 h.2))),
 )
 
+-- and lines have no other than an element of fewer than two positions
 pub multi_line_string_is_valid : MultiLineStringIsValid
 multi_line_string_is_valid ls = (
   (λ valid line c. let p = place_of ls line c in not_less (length line) 2 (λ h. valid (TooFewPoints p.0) (line, p.1, h))),
@@ -227,6 +239,7 @@ envelope_of_lists [] there = ((λ e. refl), (λ e. refl))
 envelope_of_lists ([] ∷ ls) there = absurd (let h : 0 < 0 = there [] (contains_at ([] ∷ ls) 0 [] refl) in omega (arith, h))
 envelope_of_lists ((a ∷ rest) ∷ ls) there = ((λ e. absurd cc), (λ e. absurd (some_there (length ls) e)))
 
+-- and that of one list exactly where the list is empty
 envelope_of_list : (ps : List Position) → (envelope_of_positions ps ≡ None) ↔ ((length ps == 0) ≡ true)
 envelope_of_list [] = ((λ e. refl), (λ e. refl))
 envelope_of_list (a ∷ rest) = ((λ e. absurd cc), (λ e. absurd (some_there (length rest) e)))
@@ -234,6 +247,8 @@ envelope_of_list (a ∷ rest) = ((λ e. absurd cc), (λ e. absurd (some_there (l
 there_from : (n m : ℕ) → suc m ≤ n → 0 < n
 there_from n m h = omega (arith, h)
 
+-- each ring, and each element of a MultiLineString, of a valid geometry has positions,
+-- so only an empty geometry is without envelope
 pub envelope_is_absent_where_empty : EnvelopeIsAbsentWhereEmpty
 envelope_is_absent_where_empty (Geometry.Point None) valid = ((λ e. refl), (λ e. refl))
 envelope_is_absent_where_empty (Geometry.Point (Some p)) valid = ((λ e. absurd cc), (λ e. absurd (true≢false (sym e))))

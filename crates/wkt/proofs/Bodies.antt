@@ -9,6 +9,7 @@ use Rattle.geometry_model.specs.declared.text_faults.TextFault.{TextFault}
 use Rattle.wkt.specs.ReadingSteps as steps
 use Rattle.wkt.specs.ReadingSteps.{empty_word}
 
+-- whether EMPTY, a list in parentheses or a refusal comes can be told in two steps: the word first, then the list
 choices : {A : Type 0} (inner : Reader (List A)) (at : ℕ) (k : Input) (none empty : Bool)
     → (if none then enclosed inner else (if empty then pure [] else refuse at)) k
     ≡ and_then ((if none then pure false else (if empty then pure true else refuse at)) k) (λ empty. if empty then pure [] else enclosed inner)
@@ -48,6 +49,7 @@ unfolding separated
 item_fails item zero i fault failed = ap (λ r. and_then r (λ x. pure (x ∷ []))) failed
 item_fails item (suc room) i fault failed = ap (λ r. and_then r (goes_on item room)) failed
 
+-- an item ahead of others goes to what was read before
 behind_more : {A : Type 0} (before : List A) (x : A) (r : Result (List A × Input) TextFault)
     → behind before (and_then r (λ xs. pure (x ∷ xs))) ≡ behind (before ++ x ∷ []) r
 behind_more before x (Ok found) = ap (λ l. Ok (l, found.1)) (sym (append_assoc before (x ∷ []) found.0))

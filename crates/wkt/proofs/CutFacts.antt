@@ -17,10 +17,12 @@ cut_part start [] items index end is = cc
 cut_part start (e ∷ ends) items zero end is = let same : e ≡ end = cc in ap (λ n. Some (take (n - start) (drop start items))) same
 cut_part start (e ∷ ends) items (suc index) end is = cut_part e ends items index end is
 
+-- the places go on from the start, so the end of all isn't before it
 pub last_within : (start : ℕ) (ends : List ℕ) (count : ℕ) → AreEnds start ends count → start ≤ count
 last_within start [] count are = omega (arith, are)
 last_within start (end ∷ ends) count are = omega (arith, are.0, last_within end ends count are.1)
 
+-- what stands behind a later place is what stands behind an earlier one, less what is between
 dropped_twice : {A : Type 0} (start end : ℕ) (items : List A) → start ≤ end → drop end items ≡ drop (end - start) (drop start items)
 dropped_twice zero end items on = ap (λ n. drop n items) (no_less end)
   where
@@ -53,6 +55,7 @@ cut_more start (end ∷ ends) items more are =
     ∙ take-append-le (end - start) (drop start items) more (omega (arith, length-drop start items, are.0, last)))
     (cut_more end ends items more are.1)
 
+-- the places of the parts with one more behind them are places of the longer list
 pub ends_more : (start : ℕ) (ends : List ℕ) (count more : ℕ) → AreEnds start ends count → AreEnds start (ends ++ (count + more) ∷ []) (count + more)
 ends_more start [] count more are = (omega (arith, are), refl)
 ends_more start (end ∷ ends) count more are = (are.0, ends_more end ends count more are.1)

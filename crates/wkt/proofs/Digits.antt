@@ -15,6 +15,7 @@ pub next_digit : (ds : List ℕ) (i : ℕ) → i < length ds → list_all is_asc
     → (is_ascii_digit (get_or ds i 0) ≡ true) × (list_all is_ascii_digit (drop (suc i) ds) ≡ true)
 next_digit ds i inside digits = and_parts _ _ (rw (drop-cons ds i 0) at digits)
 
+-- a digit makes the number before it ten times as large, and adds its own value
 one_digit : (n v c : ℕ) (ds : List ℕ) → v ≡ digit_value c → digits_value_after 10 n (c ∷ ds) ≡ digits_value_after 10 (n * 10 + v) ds
 one_digit n v c ds is = ap (λ d. digits_value_after 10 (n * 10 + d) ds) (sym is)
 

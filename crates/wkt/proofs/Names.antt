@@ -27,6 +27,7 @@ body_mapped inner f none i = ap (λ r. and_then r (λ xs. pure (f xs))) (body_by
     both (Ok found) = by_word found.0 found.1
     both (Err fault) = refl
 
+-- the geometry that is meant by items is made of the items that are meant
 turned : {A : Type 0} (r : Result (A × Input) TextFault) (f : A → Geometry) (h : A → A) → ((x : A) → geometry_of (f x) ≡ f (h x))
     → and_then (and_then r (λ x. pure (f x))) (λ w. pure (geometry_of w)) ≡ and_then (and_then r (λ x. pure (h x))) (λ y. pure (f y))
 turned (Ok found) f h same = ap (λ g. Ok (g, found.1)) (same found.0)
@@ -38,10 +39,12 @@ pub meant_text : {A : Type 0} (inner step : Reader (List A)) (h : List A → Lis
 meant_text inner step h f none same reads i = turned (body inner i) f h same
     ∙ ap (λ r. and_then r (λ xs. pure (f xs))) (body_mapped inner h none i ∙ ap (λ s. steps.body s i) (alike (inner >>= λ x. pure (h x)) step reads))
 
+-- making nothing new of what was found changes nothing
 itself : {A : Type 0} (r : Result (A × Input) TextFault) → and_then r (λ x. pure x) ≡ r
 itself (Ok found) = refl
 itself (Err fault) = refl
 
+-- the room that is left is dropped behind what was found
 room_dropped : {A B C : Type 0} (r : Result (A × Input) TextFault) (f : A → B) (g : A → C) → and_then r (λ x. pure (f x)) ≡ and_then {A = B × C} (and_then r (λ x. pure (f x, g x))) (λ p. pure p.0)
 room_dropped (Ok found) f g = refl
 room_dropped (Err fault) f g = refl
@@ -49,18 +52,21 @@ room_dropped (Err fault) f g = refl
 abbrev point_list : Reader (List Position)
 point_list = padded (position position_limit) >>= λ p. pure (p ∷ [])
 
+-- name by name, what the definition reads behind it, as it is meant, is what the code reads: behind POINT
 pub behind_point : (at : ℕ) (name : List ℕ) (i : Input) → str_eq_ignore_ascii_case name (codes "POINT") ≡ true → meant (typed at name) i ≡ steps.point_text i
 unfolding typed
 behind_point at name i is = let own = codes "POINT" in let w : Word own name = word_is name own is in
     rw (named name own (codes "POINT") w)
     (meant_text point_list point_list (λ ps. ps) (λ ps. Point (first ps)) refl (λ x. refl) (λ j. itself (point_list j)) i)
 
+-- behind MULTIPOINT, whose equal points stay
 pub behind_multi_point : (at : ℕ) (name : List ℕ) (i : Input) → str_eq_ignore_ascii_case name (codes "MULTIPOINT") ≡ true → meant (typed at name) i ≡ steps.multi_point_text i
 unfolding typed
 behind_multi_point at name i is = let own = codes "MULTIPOINT" in let w : Word own name = word_is name own is in
     rw (named name own (codes "POINT") w, named name own (codes "MULTIPOINT") w)
     (meant_text (separated point position_limit) (separated point position_limit) (λ ps. ps) MultiPoint refl (λ x. refl) (λ j. itself (separated point position_limit j)) i)
 
+-- behind LINESTRING, without repeats
 pub behind_line_string : (at : ℕ) (name : List ℕ) (i : Input) → str_eq_ignore_ascii_case name (codes "LINESTRING") ≡ true → meant (typed at name) i ≡ steps.line_string_text i
 unfolding typed
 behind_line_string at name i is = let own = codes "LINESTRING" in let w : Word own name = word_is name own is in
@@ -68,6 +74,7 @@ behind_line_string at name i is = let own = codes "LINESTRING" in let w : Word o
     (meant_text (separated position position_limit) (steps.without_room (steps.line_positions position_limit)) without_repeats LineString refl (λ x. refl)
     (λ j. room_dropped (separated position position_limit j) _ _) i)
 
+-- behind MULTILINESTRING, each line without repeats
 pub behind_multi_line_string : (at : ℕ) (name : List ℕ) (i : Input) → str_eq_ignore_ascii_case name (codes "MULTILINESTRING") ≡ true → meant (typed at name) i ≡ steps.multi_line_string_text i
 unfolding typed
 behind_multi_line_string at name i is = let own = codes "MULTILINESTRING" in let w : Word own name = word_is name own is in
@@ -75,6 +82,7 @@ behind_multi_line_string at name i is = let own = codes "MULTILINESTRING" in let
     (meant_text (parts part_limit position_limit) (steps.without_room (steps.rings steps.whole_room)) (map without_repeats) MultiLineString refl (λ x. refl)
     (λ j. room_dropped (parts part_limit position_limit j) _ _) i)
 
+-- behind POLYGON, each ring without repeats
 pub behind_polygon : (at : ℕ) (name : List ℕ) (i : Input) → str_eq_ignore_ascii_case name (codes "POLYGON") ≡ true → meant (typed at name) i ≡ steps.polygon_text i
 unfolding typed
 behind_polygon at name i is = let own = codes "POLYGON" in let w : Word own name = word_is name own is in
@@ -88,6 +96,7 @@ behind_polygon at name i is = let own = codes "POLYGON" in let w : Word own name
     (meant_text (parts part_limit position_limit) (steps.without_room (steps.rings steps.whole_room)) (map without_repeats) Polygon refl (λ x. refl)
     (λ j. room_dropped (parts part_limit position_limit j) _ _) i)
 
+-- behind MULTIPOLYGON, likewise
 pub behind_multi_polygon : (at : ℕ) (name : List ℕ) (i : Input) → str_eq_ignore_ascii_case name (codes "MULTIPOLYGON") ≡ true → meant (typed at name) i ≡ steps.multi_polygon_text i
 unfolding typed
 behind_multi_polygon at name i is = let own = codes "MULTIPOLYGON" in let w : Word own name = word_is name own is in

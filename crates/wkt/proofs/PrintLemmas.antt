@@ -55,6 +55,7 @@ multi_point_empty (p ∷ ps) none = absurd (omega arith)
 abbrev pub line_more : List Position → List ℕ
 line_more more = concat (map (λ p. codes "," ++ position_text p ++ codes "") more)
 
+-- an empty text behind each position changes nothing
 bare_more : (more : List Position) → line_more more ≡ concat (map (λ p. 44 ∷ position_text p) more)
 bare_more [] = refl
 bare_more (p ∷ more) = ap₂ (λ a b. 44 ∷ (a ++ b)) (append-nil (position_text p)) (bare_more more)
@@ -69,6 +70,7 @@ abbrev pub parted : ℕ → List ℕ → List ℕ
 parted zero text = text
 parted (suc before) text = 44 ∷ text
 
+-- the comma that parts a list from the one before it stands before its parenthesis
 pub opened : (index : ℕ) (text : List ℕ) → opening_text index ++ text ≡ parted index (codes "(" ++ text)
 opened zero text = refl
 opened (suc before) text = refl
@@ -127,6 +129,7 @@ pub then-put : {A E : Type 0} (r : Result A E) (a b c : Option (List ℕ)) (x y 
 then-put (Ok v) a b c x y text e first last = subst (λ l. Appends a c l) e (Appends-then a b c x y first last)
 then-put (Err v) a b c x y text e first last = tt
 
+-- a front of the last part is a front of both, behind the first
 pub then-front : {A E : Type 0} (r : Result A E) (a b c : Option (List ℕ)) (x y text : List ℕ) → x ++ y ≡ text → Appends a b x → OnErr r (AppendsFront b c y) → OnErr r (AppendsFront a c text)
 then-front (Ok v) a b c x y text e first last = tt
 then-front (Err v) a b c x y text e first last = subst (λ l. AppendsFront a c l) e (AppendsFront-then a b c x y first last)

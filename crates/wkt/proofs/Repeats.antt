@@ -13,6 +13,7 @@ use Rattle.text_laws.proofs.TextPrinted.{rest_from, from_rest}
 use Rattle.wkt.specs.ReadingSteps.{repeats, last_of}
 
 -- ---- what is left out
+-- positions that the test finds to be one are equal
 same_is : (a b : Position) → same_position a b ≡ true → a ≡ b
 same_is a b same = let parts = and_parts (int_eq a.x b.x) (int_eq a.y b.y) same in
     ap₂ (λ (u v : ℤ). record { x = u; y = v }) ((Decides-int_eq a.x b.x).0 parts.0) ((Decides-int_eq a.y b.y).0 parts.1)
@@ -36,6 +37,7 @@ kept_behind k p (x ∷ xs) = go (same_position x k) refl (kept_behind k p xs) (k
         subst (λ z. dedup_from same_position k (xs ++ p ∷ []) ≡ dedup_from same_position k xs ++ cond (same_position p (last_after z xs)) [] (p ∷ [])) (sym (same_is x k is)) here
     go false is here behind = ap (λ l. k ∷ l) behind
 
+-- a position behind any others stays unless it is the last of them
 kept_with : (last : Option Position) (xs : List Position) (p : Position) → last ≡ last_of xs
     → without_repeats (xs ++ p ∷ []) ≡ without_repeats xs ++ cond (repeats last p) [] (p ∷ [])
 kept_with last [] p is = rw is refl
@@ -46,6 +48,7 @@ pub one_more : (last : Option Position) (xs : List Position) (p : Position) → 
     → without_repeats (xs ++ p ∷ []) ≡ xs ++ cond (repeats last p) [] (p ∷ [])
 one_more last xs p is steady = kept_with last xs p is ∙ ap (λ l. l ++ cond (repeats last p) [] (p ∷ [])) steady
 
+-- repeats behind a first position may be left out before more comes
 ahead_from : (k : Position) (xs ys : List Position) → dedup_from same_position k (xs ++ ys) ≡ dedup_from same_position k (rest_from k xs ++ ys)
 ahead_from k [] ys = refl
 ahead_from k (x ∷ xs) ys = go (same_position x k) refl (ahead_from k xs ys) (ahead_from x xs ys)
@@ -62,6 +65,7 @@ repeats_ahead : (xs ys : List Position) → without_repeats (xs ++ ys) ≡ witho
 repeats_ahead [] ys = refl
 repeats_ahead (x ∷ xs) ys = ahead_from x xs ys ∙ ap (λ l. without_repeats (l ++ ys)) (sym (from_rest x xs))
 
+-- the last of some positions with one behind them is that one
 last_behind : (xs : List Position) (p : Position) → last_of (xs ++ p ∷ []) ≡ Some p
 last_behind [] p = refl
 last_behind (x ∷ xs) p = ap Some (go x xs)
@@ -79,6 +83,7 @@ last_now (Some q) xs p is = go (same_position p q) refl
     go true e = ap last_of (append-nil xs) ∙ (sym is ∙ ap Some (sym (same_is p q e)))
     go false e = last_behind xs p
 
+-- what is kept, with one position more unless that is a repeat, has no repeats
 pub still_steady : (last : Option Position) (xs : List Position) (p : Position) → last ≡ last_of xs → without_repeats xs ≡ xs
     → without_repeats (xs ++ cond (repeats last p) [] (p ∷ [])) ≡ xs ++ cond (repeats last p) [] (p ∷ [])
 still_steady last xs p is steady = go (repeats last p) (one_more last xs p is steady)
@@ -87,6 +92,7 @@ still_steady last xs p is steady = go (repeats last p) (one_more last xs p is st
     go true e = rw (append-nil xs) steady
     go false e = e
 
+-- at most one position more is kept
 pub one_longer : (same : Bool) (xs : List Position) (p : Position) → length (xs ++ cond same [] (p ∷ [])) ≤ suc (length xs)
 one_longer true xs p = omega (arith, length-append xs [])
 one_longer false xs p = omega (arith, length-append xs (p ∷ []))
@@ -109,6 +115,7 @@ with_more : (last : Option Position) (kept : List Position) (p : Position) (more
 with_more last kept p more is steady =
     ap without_repeats (sym (append_assoc kept (p ∷ []) more)) ∙ (repeats_ahead (kept ++ p ∷ []) more ∙ ap (λ l. without_repeats (l ++ more)) (one_more last kept p is steady))
 
+-- a position ahead of those still read goes to what is kept, unless it is a repeat, and takes one of the room in either case
 put_ahead : (last : Option Position) (kept : List Position) (p : Position) (room left : ℕ) → last ≡ last_of kept → without_repeats kept ≡ kept → room ≡ suc left → (r : Result (List Position × Input) TextFault)
     → behind_kept kept room (and_then r (λ more. pure (p ∷ more))) ≡ behind_kept (kept ++ cond (repeats last p) [] (p ∷ [])) left r
 put_ahead last kept p room left is steady some (Ok found) = ap₂ (λ l n. Ok ((l, n), found.1)) (with_more last kept p found.0 is steady) (omega (arith, some))

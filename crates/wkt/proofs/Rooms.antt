@@ -22,6 +22,7 @@ abbrev out : {X Y : Type 0} → Result X Y → X → X
 out (Ok x) d = x
 out (Err y) d = d
 
+-- what was made of something found shows what was found, at the same place
 pub found_back : {A B : Type 0} (r : Result (A × Input) TextFault) (f : A → B) (y : B) (j : Input) → and_then r (λ x. pure (f x)) ≡ Ok (y, j)
     → (x : A) × (r ≡ Ok (x, j)) × (f x ≡ y)
 found_back (Ok found) f y j e =
@@ -29,6 +30,7 @@ found_back (Ok found) f y j e =
     (found.0, ap (λ k. Ok (found.0, k)) (ap (λ p. p.1) pair), ap (λ p. p.0) pair)
 found_back {B = B} (Err fault) f y j e = let no_found : ◌≡◌ {A = Result (B × Input) TextFault} (Err fault) (Ok (y, j)) = e in cc
 
+-- a fault behind which something would be made is the fault itself
 pub fault_back : {A B : Type 0} (r : Result (A × Input) TextFault) (f : A → B) (fault : TextFault) → and_then r (λ x. pure (f x)) ≡ Err fault → r ≡ Err fault
 fault_back {B = B} (Ok found) f fault e = let no_fault : ◌≡◌ {A = Result (B × Input) TextFault} (Ok (f found.0, found.1)) (Err fault) = e in cc
 fault_back {B = B} (Err other) f fault e = let same : ◌≡◌ {A = Result (B × Input) TextFault} (Err other) (Err fault) = e in let faults : other ≡ fault = cc in ap (λ x. Err x) faults
@@ -42,16 +44,19 @@ made f rings room step = step >>= λ x. pure (f x, left_of (rings x) room)
 abbrev pub behind_made : {A B : Type 0} → (A → B) → (A → List (List Position)) → List B → Room → Result (List A × Input) TextFault → Result ((List B × Room) × Input) TextFault
 behind_made f rings kept room r = and_then r (λ more. pure (kept ++ map f more, left_of (rings_of rings more) room))
 
+-- two lists of rings leave the room that the second leaves of what the first left
 left_of_both : (xs ys : List (List Position)) (room : Room) → left_of (xs ++ ys) room ≡ left_of ys (left_of xs room)
 left_of_both xs ys room = ap₂ (λ (m n : ℕ). record { parts = m; positions = n })
     (omega (arith, length-append xs ys)) (omega (arith, positions_of_both xs ys))
 
+-- an item ahead of others goes to what was made before, and its rings are taken off the room
 put_ahead : {A B : Type 0} (f : A → B) (rings : A → List (List Position)) (kept : List B) (room : Room) (x : A) (r : Result (List A × Input) TextFault)
     → behind_made f rings kept room (and_then r (λ xs. pure (x ∷ xs))) ≡ behind_made f rings (kept ++ f x ∷ []) (left_of (rings x) room) r
 put_ahead f rings kept room x (Ok found) =
     ap₂ (λ l left. Ok ((l, left), found.1)) (sym (append_assoc kept (f x ∷ []) (map f found.0))) (left_of_both (rings x) (rings_of rings found.0) room)
 put_ahead f rings kept room x (Err fault) = refl
 
+-- where one item is read, a comma decides whether others come
 one_item : {A : Type 0} (item : ℕ → ℕ → Reader A) (rings : A → List (List Position)) (turns left count room : ℕ) (i j : Input) (x : A) → turns ≡ suc left → padded (item count room) i ≡ Ok (x, j)
     → items item rings turns count room i ≡ going_on x (items item rings left (count - length (rings x)) (room - positions_in (rings x))) j
 unfolding items
@@ -94,6 +99,7 @@ made_fails item rings f kept (suc turns) room i fault failed =
     (fault_back (padded (item room.parts room.positions) i) _ fault failed)
 
 -- ---- what the readers of the code are
+-- what is made of what parentheses hold can be made inside them
 pub enclosed_mapped : {A B : Type 0} (inner : Reader A) (f : A → B) (i : Input) → and_then (enclosed inner i) (λ x. pure (f x)) ≡ enclosed (inner >>= λ x. pure (f x)) i
 enclosed_mapped inner f i = opened (expect 40 i)
   where
@@ -110,6 +116,7 @@ enclosed_mapped inner f i = opened (expect 40 i)
     opened (Ok found) = inside (inner found.1)
     opened (Err fault) = refl
 
+-- and what white space surrounds, likewise
 pub padded_mapped : {A B : Type 0} (step : Reader A) (f : A → B) (i : Input) → padded (step >>= λ x. pure (f x)) i ≡ and_then (padded step i) (λ x. pure (f x))
 padded_mapped step f i = go (step (after (prefix_len is_white i.left) i))
   where
@@ -134,6 +141,7 @@ closing count found = expect 41 >>= λ _. pure (found.0, record { parts = count 
 abbrev ring_as : ℕ → ℕ → Reader (List Position × Room)
 ring_as count room = expect 40 >>= λ _. ((if count == 0 then too_long else steps.line_positions room) >>= closing count)
 
+-- a ring of the code is one of the definition, without its repeats and with the room that it leaves
 ring_is : (count room : ℕ) (i : Input) → ring_as count room i ≡ and_then (ring count room i) (λ x. pure (ring_left count room x))
 unfolding ring line
 ring_is zero room i = opened (expect 40 i)
@@ -183,6 +191,7 @@ pub rings_begin : (room : Room) (i : Input) → steps.rings room i ≡ behind_ma
 rings_begin room i = ap (λ r. and_then r (λ ls. pure (map without_repeats ls, left_of ls room))) (parts_are_items room.parts room.positions i)
     ∙ then_same (items ring alone room.parts room.parts room.positions i) _ _ (λ ls j. ap (λ l. Ok ((map without_repeats ls, left_of l room), j)) (sym (alone_of ls)))
 
+-- so do polygons
 pub polygons_begin : (room : Room) (i : Input) → steps.polygons room i ≡ behind_made (map without_repeats) itself [] room (items polygon itself room.parts room.parts room.positions i)
 polygons_begin room i = ap (λ r. and_then r (λ es. pure (map (map without_repeats) es, left_of (joined_rings es) room))) (polygons_are_items room.parts room.parts room.positions i)
 

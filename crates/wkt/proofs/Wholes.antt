@@ -25,11 +25,13 @@ finish g = do
   end
   pure g
 
+-- whether the meant geometry is made before or after the end of the text is looked for, the outcome is one
 ended : (g : Geometry) (r : Result (Bool × Input) TextFault)
     → and_then (and_then r (λ _. pure g)) (λ w. pure (geometry_of w)) ≡ and_then r (λ _. pure (geometry_of g))
 ended g (Ok found) = refl
 ended g (Err fault) = refl
 
+-- the same with white space before the end
 finished : (r : Result (Geometry × Input) TextFault)
     → and_then (and_then (and_then r (λ x. run is_white >> pure x)) (λ g. end >> pure g)) (λ w. pure (geometry_of w))
     ≡ and_then (and_then r (λ w. pure (geometry_of w))) finish
@@ -47,6 +49,7 @@ abbrev pub found_of : Result (Geometry × Input) TextFault → Result Geometry T
 found_of (Ok found) = Ok found.0
 found_of (Err fault) = Err fault
 
+-- the answer is the geometry that is meant, or the fault
 found_meant : (r : Result (Geometry × Input) TextFault) → outcome r ≡ found_of (and_then r (λ w. pure (geometry_of w)))
 found_meant (Ok found) = refl
 found_meant (Err fault) = refl
@@ -60,18 +63,23 @@ unfolding read_text
 read_by_whole text = found_meant (whole (start text))
 
 -- ---- what was found
+-- what a whole text is found to mean is what the definition answers
 pub found_is : (text : List ℕ) (g : Geometry) (j : Input) → meant whole (start text) ≡ Ok (g, j) → read_text text ≡ Ok g
 found_is text g j read = read_by_whole text ∙ ap found_of read
 
+-- the text spells what is answered
 pub found_spells : (text : List ℕ) (g : Geometry) → read_text text ≡ Ok g → Spells text g
 found_spells text g read = read_is_spelled text g read
 
+-- so it is kept
 pub found_is_kept : (text : List ℕ) (g : Geometry) → read_text text ≡ Ok g → IsKept g
 found_is_kept text g read = spelled_is_kept text g (read_is_spelled text g read)
 
+-- and the text spells nothing else
 pub found_alone : (text : List ℕ) (g : Geometry) → read_text text ≡ Ok g → (h : Geometry) → Spells text h → g ≡ h
 found_alone text g read h spelled = let same : Ok g ≡ Ok h = sym read ∙ spelled_is_read text h spelled in cc
 
+-- its canonical text is read as it again, since that spells it
 pub found_again : (text : List ℕ) (g : Geometry) → read_text text ≡ Ok g → read_text (canonical_text g) ≡ Ok g
 found_again text g read = spelled_is_read (canonical_text g) g (canonical_text_spells text g (read_is_spelled text g read))
 
@@ -80,10 +88,12 @@ if_some : {P : TextFault → Type 0} (o : Option TextFault) → ((fault : TextFa
 if_some None told = tt
 if_some (Some fault) told = told fault refl
 
+-- the fault that is told of the text is what the definition answers; where memory ran out, none is told
 pub fault_is : (text : List ℕ) (e : WktFault) → ((fault : TextFault) → text_fault e ≡ Some fault → meant whole (start text) ≡ Err fault)
     → IfSome (text_fault e) (λ fault. read_text text ≡ Err fault)
 fault_is text e read = if_some (text_fault e) (λ fault told. read_by_whole text ∙ ap found_of (read fault told))
 
+-- of a text that is read no fault can be told, so memory ran out
 read_or_memory : (e : WktFault) (r : Result Geometry TextFault) (g : Geometry) → IfSome (text_fault e) (λ fault. r ≡ Err fault) → r ≡ Ok g → e ≡ faults.OutOfMemory
 read_or_memory (faults.Syntax at) r g h e = cc
 read_or_memory (faults.OffGrid at) r g h e = cc
