@@ -33,6 +33,7 @@ HeldFilled h = Filled h.rows × PendingFilled h.pending
 
 -- ---- rows
 
+-- values with more behind them
 more-text : (xs ys : List Text) → HasText xs → HasText (xs ++ ys)
 more-text [] ys h = absurd (true≢false (sym h))
 more-text (x ∷ xs) ys h = refl
@@ -41,10 +42,12 @@ last-text : (xs : List Text) (y : Text) → HasText (xs ++ y ∷ [])
 last-text [] y = refl
 last-text (x ∷ xs) y = refl
 
+-- rows with values, and more of them behind
 joined : (xs ys : List Row) → Filled xs → Filled ys → Filled (xs ++ ys)
 joined [] ys hx hy = hy
 joined (x ∷ xs) ys hx hy = (hx.0, joined xs ys hx.1 hy)
 
+-- each row has a value where the row of an id is changed into rows with values, or such rows are put where it has none
 changed : (id : Text) (change : Row → List Row) (missing rows : List Row) → Filled missing → ((r : Row) → HasText r.values → Filled (change r))
     → Filled rows → Filled (at_row id change missing rows)
 changed id change missing [] none each h = none
@@ -54,9 +57,11 @@ changed id change missing (r ∷ rs) none each h = go (bytes_eq r.id id) (change
     go true rest = joined (change r) rs (each r h.0) h.1
     go false rest = (h.0, rest)
 
+-- and where the row of an id is taken away
 removed : (id : Text) (rows : List Row) → Filled rows → Filled (without id rows)
 removed id rows h = changed id (λ _. []) [] rows tt (λ r _. tt) h
 
+-- and where an id is given a value
 valued : (id : Text) (how : Reading) (s : ValueSource) (v : Text) (vs : List Text) (rows : List Row) → Filled rows → Filled (with_values id how s (v ∷ vs) rows)
 valued id how s v vs rows h = changed id (more_values s (v ∷ vs)) _ rows (refl, tt) (λ r has. (more-text r.values (v ∷ vs) has, tt)) h
 
@@ -72,10 +77,12 @@ used-filled action.HelpShort id how v vs rows h = h
 used-filled action.HelpLong id how v vs rows h = h
 used-filled action.Version id how v vs rows h = h
 
+-- so an argument used with a value leaves each row with one
 use-filled : (a : Rule) (values : List Text) (rows : List Row) → HasText values → Filled rows → Filled (used a values rows)
 use-filled a [] rows has h = absurd (true≢false (sym has))
 use-filled a (v ∷ vs) rows has h = used-filled (action_of a) a.id (reading_by a) v vs rows h
 
+-- what is pending has a value, so settling it leaves each row with one
 settled-filled : (c : List Rule) (h : Held) → HeldFilled h → Filled (settled c h).rows
 settled-filled c h fine = go h.pending fine.1
   where
@@ -102,6 +109,7 @@ abbrev AsksHelp : Option Rule → Type 0
 AsksHelp None = ⊤
 AsksHelp (Some a) = (not (takes_values a) && asks_help (action_of a)) ≡ true
 
+-- where each argument takes a place or asks for help, one that is found by a flag takes none, so it asks for help
 flag-asks : (test : Rule → Bool) (c : List Rule) → list_all is_placed_or_help c ≡ true → AsksHelp (find (λ a. not (is_some a.index) && test a) c)
 flag-asks test [] h = tt
 flag-asks test (a ∷ rest) h = go (is_some a.index) (test a) (not (takes_values a) && asks_help (action_of a)) refl (flag-asks test rest) h
@@ -115,6 +123,7 @@ flag-asks test (a ∷ rest) h = go (is_some a.index) (test a) (not (takes_values
     go false true true is later h = is
     go false false true is later h = later h
 
+-- asking for help changes no row
 unused : (act : ArgAction) (id : Text) (how : Reading) (values : List Text) (rows : List Row) → asks_help act ≡ true → Filled rows → Filled (used_as act id how values rows)
 unused action.Help id how values rows asks h = h
 unused action.Set id how values rows asks h = absurd (true≢false (sym asks))
@@ -131,9 +140,11 @@ both : (a b : Bool) → (not a && b) ≡ true → (a ≡ false) × (b ≡ true)
 both true b h = absurd (true≢false (sym h))
 both false b h = (refl, h)
 
+-- so a flag that asks for help leaves each row with a value
 reacted-filled : (c : List Rule) (a : Rule) (h : Held) → asks_help (action_of a) ≡ true → HeldFilled h → HeldFilled (reacted c a [] h)
 reacted-filled c a h asks fine = (unused (action_of a) a.id (reading_by a) (values_or_missing a []) (settled c h).rows asks (settled-filled c h fine), tt)
 
+-- a long flag leaves each row with a value, since what it names asks for help
 long-filled : (c : List Rule) (found : Option Rule) (v : Option Text) (h : Held) → AsksHelp found → HeldFilled h → HeldFilled (long_met c found v h).0
 long-filled c None v h asks fine = fine
 long-filled c (Some a) v h asks fine = go (takes_values a) v (both _ _ asks).0
@@ -143,6 +154,7 @@ long-filled c (Some a) v h asks fine = go (takes_values a) v (both _ _ asks).0
     go false (Some t) isnt = fine
     go false None isnt = reacted-filled c a h (both _ _ asks).1 fine
 
+-- and so does a short flag, with what comes after it in its word
 short-filled : (c : List Rule) (found : Option Rule) (rest : Text) (h : Held) (then : Held → Held × Outcome) → AsksHelp found → HeldFilled h
     → ((k : Held) → HeldFilled k → HeldFilled (then k).0) → HeldFilled (short_met c found rest h then).0
 short-filled c None rest h then asks fine more = fine

@@ -112,6 +112,7 @@ level-parts s names h words has below passed =
     let fourth = halves _ _ third.1 in
     (first.0, second.0, fourth.1)
 
+-- an id that is given has a row
 given-found : (id : Text) (rows : List Row) → is_given id rows ≡ true → is_some (find (λ r. bytes_eq r.id id) rows) ≡ true
 given-found id rows e = go (find (λ r. bytes_eq r.id id) rows) e
   where
@@ -141,6 +142,7 @@ word-there : (c : List Rule) (words : List Text) (id : Text) → list_all is_pla
     → IsSome (first_of id (rows_after c [] words))
 word-there c words id flags given = first-filled id (rows_after c [] words) (rows-filled c flags [] words) (given-found id (rows_after c [] words) given)
 
+-- the check of required words passes only where each of them is given: for `run`, `check` and `relate`
 run-checked : (rows : List Row) → check_fault run_shape rows false ≡ []
     → (is_given (codes "schema") rows ≡ true) × (is_given (codes "directory") rows ≡ true) × (is_given (codes "query") rows ≡ true)
 run-checked rows passed = go (is_given (codes "schema") rows) (is_given (codes "directory") rows) (is_given (codes "query") rows) passed
@@ -167,6 +169,7 @@ relate-checked rows passed = go (is_given (codes "first") rows) (is_given (codes
     go true false e = cc
     go false b e = cc
 
+-- so where the level of `run`, `check` or `relate` passes, its words are there
 run-words : (words : List Text) → level_fault run_shape [] nothing_held words false [] ≡ [] → HasRunWords (rows_after run_shape.rules [] words)
 run-words words passed =
     let given = run-checked (rows_after run_shape.rules [] words) (level-parts run_shape [] nothing_held words false [] passed).2 in (
@@ -204,6 +207,8 @@ help-named word other = go (bytes_eq (codes "help") word) refl
         let here : bytes_eq (codes "help") (codes "help") ≡ false = subst (λ (w : Text). bytes_eq w (codes "help") ≡ false) (sym same) other in
         absurd (true≢false here)
 
+-- a level below that was entered and passes is one of `run`, `check` or `relate` and has its words,
+-- since the walk doesn't stop at `help`
 entered-words : (stop : Option (Text × List Text)) → NoHelp stop → entered_fault (built sfq) stop ≡ [] → is_some (entered (built sfq) stop) ≡ true
     → HasWords (entered (built sfq) stop)
 entered-words None no_help passed has = absurd (true≢false (sym has))

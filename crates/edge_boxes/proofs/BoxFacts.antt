@@ -15,13 +15,16 @@ run_then_rest xs first end h =
     sym (take-append-drop (end - first) (drop first xs)) ∙ ap (λ l. take (end - first) (drop first xs) ++ l) (drop-drop (end - first) first xs ∙ ap (λ n. drop n xs) e)
 
 -- ---- the box before a place
+-- the box that is read right before a place within the list stands there
 pub found_before : (boxes : List EdgeBox) (place : ℕ) (b : EdgeBox) → 0 < place → place ≤ length boxes → b ≡ get_or boxes (place - 1) b → slice_get boxes (place - 1) ≡ Some b
 found_before boxes place b h k is = slice_get_read boxes (length boxes) (place - 1) b refl (omega (arith, h, k)) is
 
+-- the boxes before a place go as far as the box right before it
 pub covered_before : (boxes : List EdgeBox) (place : ℕ) (b : EdgeBox) → 0 < place → slice_get boxes (place - 1) ≡ Some b → covered boxes place ≡ b.end
 covered_before boxes zero b h e = absurd (omega (arith, h))
 covered_before boxes (suc i) b h e = let less : suc i - 1 ≡ i = omega arith in ap end_of (ap (slice_get boxes) (sym less) ∙ e)
 
+-- the boxes before a place go no further than the edges, since the run of the last of them ends within these
 pub covered_within : (boxes : List EdgeBox) (edges : List Edge) (place : ℕ) → AreBoxes boxes edges → place ≤ length boxes → covered boxes place ≤ length edges
 covered_within boxes edges zero are h = omega arith
 covered_within boxes edges (suc i) are h = go (slice_get boxes i) refl

@@ -25,6 +25,7 @@ use Rattle.edge_boxes.proofs.EdgeSides.{beyond, on_off_beyond, on_off_short}
 use Rattle.edge_boxes.proofs.Meeting.{edge_apart}
 
 -- ---- a level between the rises of two edges' ends parts the edges
+-- how far a point lies above a position in a direction is the difference of their rises
 beyond_is : (d : Direction) (a : Position) (p : Point) → beyond d.dx d.dy a p ≡ (d.dx *ℤ p.Y -ℤ d.dy *ℤ p.X) -ℤ p.W *ℤ rise d a.x a.y
 beyond_is d a p = solve (d.dx ∷ d.dy ∷ a.x ∷ a.y ∷ p.X ∷ p.Y ∷ p.W ∷ [])
     (var 0 ⊗ (var 5 ⊖ var 3 ⊗ var 6) ⊖ var 1 ⊗ (var 4 ⊖ var 2 ⊗ var 6))
@@ -33,6 +34,7 @@ beyond_is d a p = solve (d.dx ∷ d.dy ∷ a.x ∷ a.y ∷ p.X ∷ p.Y ∷ p.W �
 spread : (w c v : ℤ) → w *ℤ (c -ℤ v) ≡ c *ℤ w -ℤ w *ℤ v
 spread w c v = solve (w ∷ c ∷ v ∷ []) (var 0 ⊗ (var 1 ⊖ var 2)) (var 1 ⊗ var 0 ⊖ var 0 ⊗ var 2) tt
 
+-- a point whose rise is at least a level lies above each position whose rise is less than it
 over_level : (r w c v s : ℤ) → s ≡ r -ℤ w *ℤ v → pos 0 <ℤ w → (c *ℤ w) ≤ℤ r → v <ℤ c → pos 0 <ℤ s
 over_level r w c v s e hw h k = sum s r (w *ℤ v) (w *ℤ (c -ℤ v)) (c *ℤ w) e (spread w c v) (strict_plus_plus w (c -ℤ v) hw (difference k)) h
   where
@@ -42,6 +44,7 @@ over_level r w c v s e hw h k = sum s r (w *ℤ v) (w *ℤ (c -ℤ v)) (c *ℤ w
     sum : (s r t u q : ℤ) → s ≡ r -ℤ t → u ≡ q -ℤ t → pos 0 <ℤ u → q ≤ℤ r → pos 0 <ℤ s
     sum s r t u q e f l h = omega (arith, ints, e, f, l, h)
 
+-- a point whose rise is less than a level lies below each position whose rise is at least it
 under_level : (r w c v s : ℤ) → s ≡ r -ℤ w *ℤ v → pos 0 <ℤ w → r <ℤ (c *ℤ w) → c ≤ℤ v → s <ℤ pos 0
 under_level r w c v s e hw h k = sum s r (w *ℤ v) (w *ℤ (c -ℤ v)) (c *ℤ w) e (spread w c v) (plus_minus w (c -ℤ v) (weak hw) (difference k)) h
   where
@@ -54,6 +57,7 @@ under_level r w c v s e hw h k = sum s r (w *ℤ v) (w *ℤ (c -ℤ v)) (c *ℤ 
     sum : (s r t u q : ℤ) → s ≡ r -ℤ t → u ≡ q -ℤ t → u ≤ℤ pos 0 → r <ℤ q → s <ℤ pos 0
     sum s r t u q e f l h = omega (arith, ints, e, f, l, h)
 
+-- edges with a level between them share no point: at or above the level it isn't on the lower edge, below it not on the upper one
 parted : (d : Direction) (c : ℤ) (e f : Edge) (p : Point) → IsPoint p → pos 0 <ℤ d.dx → rise d e.start.x e.start.y <ℤ c → rise d e.end.x e.end.y <ℤ c → c ≤ℤ rise d f.start.x f.start.y → c ≤ℤ rise d f.end.x f.end.y
     → on e p ≡ true → on f p ≡ true → ⊥
 parted d c e f p hp hx a b g h ke kf = go (at_most_or_less (c *ℤ p.W) (d.dx *ℤ p.Y -ℤ d.dy *ℤ p.X))
@@ -75,6 +79,7 @@ parted d c e f p hp hx a b g h ke kf = go (at_most_or_less (c *ℤ p.W) (d.dx *�
     go (inr l) = clash (on f p) (on_off_short d.dx d.dy f p hx (under l f.start g) (under l f.end h)) kf
 
 -- ---- by a strip
+-- an edge wholly below or above a strip shares no point with an edge that lies in it, since a level parts them
 beside_parts : (s : Strip) (e f : Edge) → pos 0 <ℤ s.direction.dx → LiesInStrip s f → lies_beside s e ≡ true → SharePoint e f → ⊥
 beside_parts s e f right l beside w =
     go (or_from (int_lt (rise s.direction e.start.x e.start.y) s.least && int_lt (rise s.direction e.end.x e.end.y) s.least)
@@ -98,6 +103,8 @@ beside_parts s e f right l beside w =
         (more (rise s.direction e.start.x e.start.y) s.greatest above.0) (more (rise s.direction e.end.x e.end.y) s.greatest above.1) w.on_second w.on_first
 
 -- ---- by bounds
+-- an edge whose rectangle doesn't meet the bounds shares no point with an edge within them,
+-- since edges that share a point have rectangles that overlap
 apart_parts : (b : Envelope) (e f : Edge) → LiesIn b f → overlap b (box_of e) ≡ false → SharePoint e f → ⊥
 apart_parts b e f l far w =
     let turned = (shared_point_is_decided f e).1 (record { at = w.at; is_point = w.is_point; on_first = w.on_second; on_second = w.on_first }) in
@@ -105,6 +112,7 @@ apart_parts b e f l far w =
     cc
 
 -- ---- of a run
+-- edges that can't share a point fail the test for one
 unshared : (e f : Edge) → (SharePoint e f → ⊥) → share_point e f ≡ false
 unshared e f h = go (share_point e f) refl
   where
@@ -112,13 +120,16 @@ unshared e f h = go (share_point e f) refl
     go true k = absurd (h ((shared_point_is_decided e f).0 k))
     go false k = k
 
+-- where no edge with a property shares a point with the edge, none in a list of such edges does
 none_shared : (P : Edge → Type 0) (e : Edge) (es : List Edge) → ((f : Edge) → P f → SharePoint e f → ⊥) → AllByRecursion P es → list_any (share_point e) es ≡ false
 none_shared P e [] h all = refl
 none_shared P e (f ∷ fs) h all = ap (λ (b : Bool). b || list_any (share_point e) fs) (unshared e f (h f all.0)) ∙ none_shared P e fs h all.1
 
+-- a run whose bounds don't meet the edge's rectangle shares no point with the edge
 pub far_by_bounds : (run : Run) (e : Edge) → overlap run.bounds (box_of e) ≡ false → SharesNone run e
 far_by_bounds run e far es sums = none_shared (LiesIn run.bounds) e es (λ f l. apart_parts run.bounds e f l far) sums.lies
 
+-- nor does a run whose strip the edge is wholly below or above
 pub far_by_strip : (run : Run) (strip : Strip) (e : Edge) → run.strip ≡ Some strip → lies_beside strip e ≡ true → SharesNone run e
 far_by_strip run strip e is beside es sums =
     let of : IsStripOf strip es = subst (λ (s : Option Strip). IfSome s (λ t. IsStripOf t es)) is sums.strip in

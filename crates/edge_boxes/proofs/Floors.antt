@@ -36,10 +36,12 @@ by_multiples n w q hw low high a = same_at_most (a *ℤ w) n a q (λ h. go h (at
     go h (inr l) = absurd (apart (a *ℤ w) (q *ℤ w) ((a -ℤ q -ℤ pos 1) *ℤ w) (solve (a ∷ q ∷ w ∷ []) ((var 0 ⊖ var 1 ⊖ lit (pos 1)) ⊗ var 2) (var 0 ⊗ var 2 ⊖ var 1 ⊗ var 2 ⊖ var 2) tt)
         (plus_plus (a -ℤ q -ℤ pos 1) w (beyond a q l) (weak w hw)) h high)
 
+-- over the denominator 1 a number is its own floor
 pub floor_over_one : (n w q : ℤ) → w ≡ pos 1 → q ≡ n → IsFloor n w q
 floor_over_one n w q e f = rw (e, f) (λ a. ap (λ (z : ℤ). int_le z n) (solve (a ∷ []) (var 0 ⊗ lit (pos 1)) (var 0) tt))
 
 -- ---- the quotient rounded down
+-- the divisor times the rounded quotient is at most the number, and the next multiple is more: from 0 on, and below 0
 low_pos : (a b : ℕ) → (pos (a / b) *ℤ pos b) ≤ℤ pos a
 low_pos a b = let e : b * (a / b) + a % b ≡ a = div-add-mod a b in omega (arith, ints, e)
 
@@ -55,12 +57,14 @@ high_neg a b = let e : b * (a / b) + a % b ≡ a = div-add-mod a b in omega (ari
 above_zero : (b : ℕ) → pos 0 <ℤ pos b → 0 < b
 above_zero b h = omega (arith, ints, h)
 
+-- so the Euclidean quotient by a divisor above 0 is the floor
 pub euclid_floor : (n w : ℤ) → pos 0 <ℤ w → IsFloor n w (int_div_euclid n w)
 euclid_floor (pos a) (pos b) h = by_multiples (pos a) (pos b) (pos (a / b)) h (low_pos a b) (high_pos a b (above_zero b h))
 euclid_floor (negsuc a) (pos b) h = by_multiples (negsuc a) (pos b) (negsuc (a / b)) h (low_neg a b (above_zero b h)) (high_neg a b)
 euclid_floor n (negsuc b) h = absurd (omega (arith, ints, h))
 
 -- ---- the floor of a quotient within the limit of coordinates
+-- the floor of a coordinate within the limit is within it too, since the limit is a whole number
 pub floor_short : (n w q : ℤ) → pos 0 <ℤ w → unsigned_abs n ≤ coordinate_limit * unsigned_abs w → IsFloor n w q → unsigned_abs q ≤ coordinate_limit
 floor_short n w q hw h is = both q (from (is (negsuc 9999999)) (least n w hw h)) (upper (is (pos 10000001)) (beyond n w hw h))
   where
@@ -79,10 +83,12 @@ floor_short n w q hw h is = both q (from (is (negsuc 9999999)) (least n w hw h))
     both : (q : ℤ) → negsuc 9999999 ≤ℤ q → q <ℤ pos 10000001 → unsigned_abs q ≤ coordinate_limit
     both q h k = omega (arith, ints, h, k)
 
+-- a number within the limit of coordinates fits 32 bits
 pub short_fits : (q : ℤ) → unsigned_abs q ≤ coordinate_limit → SFits w32 q
 short_fits q h = omega (arith, ints, h)
 
 -- ---- ceilings by floors
+-- where the quotient is exact it is the ceiling
 pub ceiling_at : (n w q : ℤ) → pos 0 <ℤ w → q *ℤ w ≡ n → IsCeiling n w q
 ceiling_at n w q hw e a = same_at_most n (a *ℤ w) q a (λ h. go h (at_most_or_less q a))
     (λ h. into (a *ℤ w) (q *ℤ w) ((a -ℤ q) *ℤ w) (solve (a ∷ q ∷ w ∷ []) ((var 0 ⊖ var 1) ⊗ var 2) (var 0 ⊗ var 2 ⊖ var 1 ⊗ var 2) tt) (plus_plus (a -ℤ q) w (gap q a h) (weak w hw)) e)
@@ -104,6 +110,7 @@ ceiling_at n w q hw e a = same_at_most n (a *ℤ w) q a (λ h. go h (at_most_or_
     go h (inr l) = absurd (apart (a *ℤ w) (q *ℤ w) ((q -ℤ a -ℤ pos 1) *ℤ w) (solve (q ∷ a ∷ w ∷ []) ((var 0 ⊖ var 1 ⊖ lit (pos 1)) ⊗ var 2) (var 0 ⊗ var 2 ⊖ var 1 ⊗ var 2 ⊖ var 2) tt)
         (plus_plus (q -ℤ a -ℤ pos 1) w (beyond a q l) (weak w hw)) hw e h)
 
+-- where it isn't, the ceiling is one more than the floor, as no whole number lies between the two
 pub ceiling_over : (n w q : ℤ) → pos 0 <ℤ w → IsFloor n w q → (q *ℤ w ≡ n → ⊥) → IsCeiling n w (q +ℤ pos 1)
 ceiling_over n w q hw is no_whole a = same_at_most n (a *ℤ w) (q +ℤ pos 1) a (λ h. go h (at_most_or_less (q +ℤ pos 1) a)) (λ h. from (not_at_most_from (a *ℤ w) n (is a ∙ at_most_no a q (past h))))
   where
@@ -130,6 +137,7 @@ ceiling_over n w q hw is no_whole a = same_at_most n (a *ℤ w) (q +ℤ pos 1) a
     go h (inr l) = absurd (no_whole (same (a *ℤ w) (q *ℤ w) ((q -ℤ a) *ℤ w) (solve (q ∷ a ∷ w ∷ []) ((var 0 ⊖ var 1) ⊗ var 2) (var 0 ⊗ var 2 ⊖ var 1 ⊗ var 2) tt)
         (plus_plus (q -ℤ a) w (gap (up_to l)) (weak w hw)) (at_most_from (q *ℤ w) n (is q ∙ at_most_yes q q (least q))) h))
 
+-- one more than a number within the limit of coordinates still fits 32 bits
 pub next_fits : (q : ℤ) → unsigned_abs q ≤ coordinate_limit → SFits w32 (q +ℤ pos 1)
 next_fits q h = omega (arith, ints, h)
 

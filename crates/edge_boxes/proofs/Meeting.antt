@@ -19,6 +19,7 @@ use Rattle.edge_boxes.proofs.Steps.{box_before, leaf_ordered, inner_covered}
 use Rattle.edge_boxes.specs.declared.meetings.Asked.{Asked}
 
 -- ---- two lists, one behind the other
+-- the places asked for in two lists are those in the first, and those in the second counted on from its length
 places_joined : (asked : Asked) (n : ℕ) (xs ys : List Edge) → places_asked asked n (xs ++ ys) ≡ places_asked asked n xs ++ places_asked asked (n + length xs) ys
 places_joined asked n [] ys = let e : n ≡ n + 0 = omega arith in ap (λ m. places_asked asked m ys) e
 places_joined asked n (x ∷ xs) ys =
@@ -30,6 +31,7 @@ places_joined asked n (x ∷ xs) ys =
     go false whole own rest e = e
 
 -- ---- none asked for
+-- an edge within bounds that don't meet the others has a rectangle that doesn't meet them either
 pub edge_apart : (b c : Envelope) (e : Edge) → LiesIn b e → overlap b c ≡ false → overlap (box_of e) c ≡ false
 edge_apart b c e l far = go (overlap (box_of e) c) refl
   where
@@ -59,6 +61,7 @@ pub and_none : (a b : Bool) → b ≡ false → a && b ≡ false
 and_none true b e = e
 and_none false b e = refl
 
+-- within bounds that don't meet those asked for no edge is asked for
 pub none_asked : (asked : Asked) (b : Envelope) (n : ℕ) (es : List Edge) → overlap b asked.bounds ≡ false → AllByRecursion (LiesIn b) es → places_asked asked n es ≡ []
 none_asked asked b n [] far h = refl
 none_asked asked b n (e ∷ es) far h =
@@ -68,6 +71,7 @@ none_asked asked b n (e ∷ es) far h =
 late : (f n : ℕ) → n < f → nat_le f n ≡ false
 late f n h = grind (arith, h)
 
+-- before the first place asked for no edge is asked for
 none_before : (asked : Asked) (n : ℕ) (es : List Edge) → n + length es ≤ asked.from → places_asked asked n es ≡ []
 none_before asked n [] h = refl
 none_before asked n (e ∷ es) h =
@@ -79,11 +83,13 @@ reversed : (b : Bool) (n : ℕ) (l : List ℕ) → reverse (cond b (n ∷ l) l) 
 reversed true n l = reverse-append (n ∷ []) l
 reversed false n l = sym (append-nil (reverse l))
 
+-- the edges from a place up to an end are the edge there and those after it
 edge_before : (edges : List Edge) (at end : ℕ) (e : Edge) → at < end → end ≤ length edges → e ≡ get_or edges at e → slice_range edges at end ≡ e ∷ slice_range edges (suc at) end
 edge_before edges at end e h k is =
     let less : end - at ≡ suc (end - suc at) = omega (arith, h) in
     ap (λ n. take n (drop at edges)) less ∙ ap (take (suc (end - suc at))) (drop-cons edges at e (omega (arith, h, k)) ∙ ap (λ x. x ∷ drop (suc at) edges) (sym is))
 
+-- edges are looked at from the last one back: the place of the next one comes behind those found, where it is asked for
 pub found_before_end : (asked : Asked) (edges : List Edge) (at end : ℕ) (e : Edge) (passes : Bool) (start old new : List ℕ) → 0 < at → at ≤ end → end ≤ length edges → e ≡ get_or edges (at - 1) e
     → passes ≡ is_asked asked (at - 1) e → new ≡ old ++ cond passes ((at - 1) ∷ []) [] → old ≡ start ++ reverse (places_asked asked at (slice_range edges at end))
     → new ≡ start ++ reverse (places_asked asked (at - 1) (slice_range edges (at - 1) end))
@@ -96,12 +102,14 @@ found_before_end asked edges (suc i) end e passes start old new p h k is test gr
     ∙ ap (λ l. start ++ l) (sym (reversed (is_asked asked i e) i (places_asked asked (suc i) (slice_range edges (suc i) end)))
     ∙ ap (λ l. reverse (places_asked asked i l)) (sym (edge_before edges i end e (omega (arith, h)) k is')))) is test grew
 
+-- before an edge is looked at nothing has been found
 pub nothing_yet : (asked : Asked) (edges : List Edge) (end : ℕ) (start : List ℕ) → start ≡ start ++ reverse (places_asked asked end (slice_range edges end end))
 nothing_yet asked edges end start =
     let none : end - end ≡ 0 = omega arith in
     sym (ap (λ n. start ++ reverse (places_asked asked end (take n (drop end edges)))) none ∙ append-nil start)
 
 -- ---- a whole walk
+-- the places in edges that come before those done so far go behind what was found, so all are descending
 pub found_joined : (asked : Asked) (n m : ℕ) (own rest : List Edge) (start old new : List ℕ) → n + length own ≡ m → old ≡ start ++ reverse (places_asked asked m rest) → new ≡ old ++ reverse (places_asked asked n own)
     → new ≡ start ++ reverse (places_asked asked n (own ++ rest))
 found_joined asked n m own rest start old new count before grew =
@@ -122,6 +130,7 @@ rest_found asked edges n h k =
     short (e ∷ es) (suc n) h = ap suc (short es n (omega (arith, h)))
 
 -- ---- steps
+-- a box whose bounds don't meet those asked for is passed over with its subtree, and adds no place
 pub skip_step : (boxes : List EdgeBox) (edges : List Edge) (asked : Asked) (place : ℕ) (b : EdgeBox) (old : List ℕ) → AreBoxes boxes edges → 0 < place → place ≤ length boxes → b ≡ get_or boxes (place - 1) b
     → overlap b.run.bounds asked.bounds ≡ false → IsAskedStep boxes edges asked place (place - 1 - b.size) old old
 skip_step boxes edges asked place b old are h k is far =
@@ -135,6 +144,7 @@ skip_step boxes edges asked place b old are h k is far =
       found = sym (ap (λ l. old ++ reverse l) (none_asked asked b.run.bounds (covered boxes (place - 1 - b.size)) box.run.own far box.run.sums.lies) ∙ append-nil old);
     }
 
+-- a leaf adds the places asked for among its own edges
 pub leaf_asked : (boxes : List EdgeBox) (edges : List Edge) (asked : Asked) (place : ℕ) (b : EdgeBox) (old new : List ℕ) → AreBoxes boxes edges → 0 < place → place ≤ length boxes → b ≡ get_or boxes (place - 1) b → b.size ≡ 0
     → new ≡ old ++ reverse (places_asked asked (covered boxes (place - 1)) (slice_range edges (covered boxes (place - 1)) b.end)) → IsAskedStep boxes edges asked place (place - 1) old new
 leaf_asked boxes edges asked place b old new are h k is leaf grew =
@@ -149,6 +159,7 @@ leaf_asked boxes edges asked place b old new are h k is leaf grew =
       found = grew;
     }
 
+-- a box that is entered adds nothing itself, since the boxes before it go over the same edges
 pub inner_asked : (boxes : List EdgeBox) (edges : List Edge) (asked : Asked) (place : ℕ) (b : EdgeBox) (old : List ℕ) → AreBoxes boxes edges → 0 < place → place ≤ length boxes → b ≡ get_or boxes (place - 1) b → (b.size ≡ 0 → ⊥)
     → IsAskedStep boxes edges asked place (place - 1) old old
 inner_asked boxes edges asked place b old are h k is inner =
@@ -164,12 +175,14 @@ inner_asked boxes edges asked place b old are h k is inner =
     plus_none : (n : ℕ) → n + 0 ≡ n
     plus_none n = omega arith
 
+-- after a step, what was found are the places asked for among all edges from there on
 pub asked_joined : (boxes : List EdgeBox) (edges : List Edge) (asked : Asked) (place next : ℕ) (start old new : List ℕ) → IsAskedStep boxes edges asked place next old new
     → old ≡ start ++ reverse (places_asked asked (covered boxes place) (drop (covered boxes place) edges)) → new ≡ start ++ reverse (places_asked asked (covered boxes next) (drop (covered boxes next) edges))
 asked_joined boxes edges asked place next start old new s before =
     found_joined asked (covered boxes next) (covered boxes place) s.own (drop (covered boxes place) edges) start old new s.count before s.found
     ∙ ap (λ l. start ++ reverse (places_asked asked (covered boxes next) l)) (sym s.split)
 
+-- the edges behind all boxes give the places asked for among them
 pub asked_uncovered : (asked : Asked) (edges : List Edge) (n m : ℕ) (start new : List ℕ) → n ≡ m → m ≤ length edges → new ≡ start ++ reverse (places_asked asked n (slice_range edges n (length edges)))
     → new ≡ start ++ reverse (places_asked asked m (drop m edges))
 asked_uncovered asked edges n m start new e h grew =

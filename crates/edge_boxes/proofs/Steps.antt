@@ -16,6 +16,7 @@ use Rattle.edge_boxes.specs.declared.crossings.Crossings.{Crossings}
 use Rattle.edge_boxes.proofs.BoxFacts.{run_then_rest, rest_is, found_before, covered_before}
 use Rattle.edge_boxes.proofs.Telling.{none_found}
 
+-- the box that is read right before a place is one of the edges' boxes there
 pub box_before : (boxes : List EdgeBox) (edges : List Edge) (place : ℕ) (b : EdgeBox) → AreBoxes boxes edges → 0 < place → place ≤ length boxes → b ≡ get_or boxes (place - 1) b → IsBoxAt edges boxes (place - 1) b
 box_before boxes edges place b are h k is = are (place - 1) b (found_before boxes place b h k is)
 
@@ -86,17 +87,21 @@ or_true false b e = e
 pub on_from : (edges : List Edge) (n : ℕ) (p : Point) → on_any (drop n edges) p ≡ true → on_any edges p ≡ true
 on_from edges n p e = ap (λ l. on_any l p) (sym (take-append-drop n edges)) ∙ list_any-append (λ s. on s p) (take n edges) (drop n edges) ∙ or_true (on_any (take n edges) p) (on_any (drop n edges) p) e
 
+-- from where a step leads to, the point is on an edge where the step tells so or it was on one behind it
 stepped : (boxes : List EdgeBox) (edges : List Edge) (p : Point) (place next : ℕ) (own : Crossings) (s : IsStep boxes edges p place next own)
     → on_any (drop (covered boxes next) edges) p ≡ (own.on || on_any (drop (covered boxes place) edges) p)
 stepped boxes edges p place next own s = ap (λ l. on_any l p) s.split ∙ list_any-append (λ f. on f p) s.own (drop (covered boxes place) edges)
     ∙ ap (λ (b : Bool). b || on_any (drop (covered boxes place) edges) p) (sym s.told.on)
 
+-- where a step tells that the point is on an edge, it is on one of all edges
 pub on_at_step : (boxes : List EdgeBox) (edges : List Edge) (p : Point) (place next : ℕ) (own : Crossings) → IsStep boxes edges p place next own → own.on ≡ true → on_any edges p ≡ true
 on_at_step boxes edges p place next own s e = on_from edges (covered boxes next) p (stepped boxes edges p place next own s ∙ ap (λ (b : Bool). b || on_any (drop (covered boxes place) edges) p) e)
 
+-- where it tells of none and the point was on none behind it, it is on none from where the step leads to
 pub off_at_step : (boxes : List EdgeBox) (edges : List Edge) (p : Point) (place next : ℕ) (own : Crossings) → IsStep boxes edges p place next own → own.on ≡ false → on_any (drop (covered boxes place) edges) p ≡ false
     → on_any (drop (covered boxes next) edges) p ≡ false
 off_at_step boxes edges p place next own s e f = stepped boxes edges p place next own s ∙ ap₂ (λ (a b : Bool). a || b) e f
 
+-- a point on one of the edges from a place to the end is on one of all edges
 pub on_uncovered : (edges : List Edge) (n : ℕ) (p : Point) (run : List Edge) → n ≤ length edges → run ≡ slice_range edges n (length edges) → on_any run p ≡ true → on_any edges p ≡ true
 on_uncovered edges n p run h is e = on_from edges n p (ap (λ l. on_any l p) (sym (is ∙ rest_is edges n h)) ∙ e)

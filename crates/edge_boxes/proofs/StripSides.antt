@@ -23,6 +23,7 @@ weak : (x : ℤ) → pos 0 <ℤ x → pos 0 ≤ℤ x
 weak x h = omega (arith, ints)
 
 -- ---- a point stands within its cell
+-- the point's coordinate isn't less than its floor
 over_floor : (n w f : ℤ) → IsFloor n w f → pos 0 ≤ℤ (n -ℤ f *ℤ w)
 over_floor n w f is = difference (f *ℤ w) n (at_most_from (f *ℤ w) n (is f ∙ at_most_yes f f (same f)))
   where
@@ -32,6 +33,7 @@ over_floor n w f is = difference (f *ℤ w) n (at_most_from (f *ℤ w) n (is f �
     difference : (x y : ℤ) → x ≤ℤ y → pos 0 ≤ℤ (y -ℤ x)
     difference x y h = omega (arith, ints, h)
 
+-- nor is it more than its ceiling
 under_ceiling : (n w f : ℤ) → IsCeiling n w f → pos 0 ≤ℤ (f *ℤ w -ℤ n)
 under_ceiling n w f is = difference n (f *ℤ w) (at_most_from n (f *ℤ w) (is f ∙ at_most_yes f f (same f)))
   where
@@ -42,11 +44,13 @@ under_ceiling n w f is = difference n (f *ℤ w) (at_most_from n (f *ℤ w) (is 
     difference x y h = omega (arith, ints, h)
 
 -- ---- above all of a strip: by the corner of the cell's lower side that rises least
+-- how far a point lies above a position, told by its cell's lower right corner, which serves where the direction rises
 by_lower_right : (dx dy x y : ℤ) (a : Position) (p : Point) → beyond dx dy a p ≡ dx *ℤ (p.Y -ℤ y *ℤ p.W) +ℤ dy *ℤ (x *ℤ p.W -ℤ p.X) +ℤ p.W *ℤ ((dx *ℤ y -ℤ dy *ℤ x) -ℤ (dx *ℤ a.y -ℤ dy *ℤ a.x))
 by_lower_right dx dy x y a p = solve (dx ∷ dy ∷ x ∷ y ∷ a.x ∷ a.y ∷ p.X ∷ p.Y ∷ p.W ∷ [])
     (var 0 ⊗ (var 7 ⊖ var 5 ⊗ var 8) ⊖ var 1 ⊗ (var 6 ⊖ var 4 ⊗ var 8))
     (var 0 ⊗ (var 7 ⊖ var 3 ⊗ var 8) ⊕ var 1 ⊗ (var 2 ⊗ var 8 ⊖ var 6) ⊕ var 8 ⊗ ((var 0 ⊗ var 3 ⊖ var 1 ⊗ var 2) ⊖ (var 0 ⊗ var 5 ⊖ var 1 ⊗ var 4))) tt
 
+-- and by its lower left corner, which serves where the direction falls
 by_lower_left : (dx dy x y : ℤ) (a : Position) (p : Point) → beyond dx dy a p ≡ dx *ℤ (p.Y -ℤ y *ℤ p.W) +ℤ (pos 0 -ℤ dy) *ℤ (p.X -ℤ x *ℤ p.W) +ℤ p.W *ℤ ((dx *ℤ y -ℤ dy *ℤ x) -ℤ (dx *ℤ a.y -ℤ dy *ℤ a.x))
 by_lower_left dx dy x y a p = solve (dx ∷ dy ∷ x ∷ y ∷ a.x ∷ a.y ∷ p.X ∷ p.Y ∷ p.W ∷ [])
     (var 0 ⊗ (var 7 ⊖ var 5 ⊗ var 8) ⊖ var 1 ⊗ (var 6 ⊖ var 4 ⊗ var 8))
@@ -64,6 +68,7 @@ more_rise r l t h e = omega (arith, ints, h, e)
 turned : (x : ℤ) → x <ℤ pos 0 → pos 0 ≤ℤ (pos 0 -ℤ x)
 turned x h = omega (arith, ints, h)
 
+-- a point in a cell that the strip is wholly below lies above each position in the strip
 above_all : (s : Strip) (cell : Cell) (p : Point) → IsCellOf cell p → pos 0 <ℤ s.direction.dx → lies_under s cell ≡ true → (a : Position) → IsInStrip s a → pos 0 <ℤ beyond s.direction.dx s.direction.dy a p
 above_all s cell p is right far a h = go (at_most_or_less (pos 0) s.direction.dy)
   where
@@ -84,11 +89,13 @@ above_all s cell p is right far a h = go (at_most_or_less (pos 0) s.direction.dy
         (strict_plus_plus p.W (rise s.direction cell.floor_x cell.floor_y -ℤ rise s.direction a.x a.y) is.positive (less_rise (rise s.direction a.x a.y) s.greatest (rise s.direction cell.floor_x cell.floor_y) h.greatest parts.0))
 
 -- ---- below all of a strip: by the corner of the cell's upper side that rises most
+-- how far a point lies below a position, told by its cell's upper left corner, which serves where the direction rises
 by_upper_left : (dx dy x y : ℤ) (a : Position) (p : Point) → pos 0 -ℤ beyond dx dy a p ≡ dx *ℤ (y *ℤ p.W -ℤ p.Y) +ℤ dy *ℤ (p.X -ℤ x *ℤ p.W) +ℤ p.W *ℤ ((dx *ℤ a.y -ℤ dy *ℤ a.x) -ℤ (dx *ℤ y -ℤ dy *ℤ x))
 by_upper_left dx dy x y a p = solve (dx ∷ dy ∷ x ∷ y ∷ a.x ∷ a.y ∷ p.X ∷ p.Y ∷ p.W ∷ [])
     (lit (pos 0) ⊖ (var 0 ⊗ (var 7 ⊖ var 5 ⊗ var 8) ⊖ var 1 ⊗ (var 6 ⊖ var 4 ⊗ var 8)))
     (var 0 ⊗ (var 3 ⊗ var 8 ⊖ var 7) ⊕ var 1 ⊗ (var 6 ⊖ var 2 ⊗ var 8) ⊕ var 8 ⊗ ((var 0 ⊗ var 5 ⊖ var 1 ⊗ var 4) ⊖ (var 0 ⊗ var 3 ⊖ var 1 ⊗ var 2))) tt
 
+-- and by its upper right corner, which serves where the direction falls
 by_upper_right : (dx dy x y : ℤ) (a : Position) (p : Point) → pos 0 -ℤ beyond dx dy a p ≡ dx *ℤ (y *ℤ p.W -ℤ p.Y) +ℤ (pos 0 -ℤ dy) *ℤ (x *ℤ p.W -ℤ p.X) +ℤ p.W *ℤ ((dx *ℤ a.y -ℤ dy *ℤ a.x) -ℤ (dx *ℤ y -ℤ dy *ℤ x))
 by_upper_right dx dy x y a p = solve (dx ∷ dy ∷ x ∷ y ∷ a.x ∷ a.y ∷ p.X ∷ p.Y ∷ p.W ∷ [])
     (lit (pos 0) ⊖ (var 0 ⊗ (var 7 ⊖ var 5 ⊗ var 8) ⊖ var 1 ⊗ (var 6 ⊖ var 4 ⊗ var 8)))
@@ -97,6 +104,7 @@ by_upper_right dx dy x y a p = solve (dx ∷ dy ∷ x ∷ y ∷ a.x ∷ a.y ∷ 
 sum_negative : (x y z s : ℤ) → pos 0 -ℤ s ≡ x +ℤ y +ℤ z → pos 0 ≤ℤ x → pos 0 ≤ℤ y → pos 0 <ℤ z → s <ℤ pos 0
 sum_negative x y z s e h k l = omega (arith, ints, e, h, k, l)
 
+-- a point in a cell that the strip is wholly above lies below each position in the strip
 below_all : (s : Strip) (cell : Cell) (p : Point) → IsCellOf cell p → pos 0 <ℤ s.direction.dx → lies_over s cell ≡ true → (a : Position) → IsInStrip s a → beyond s.direction.dx s.direction.dy a p <ℤ pos 0
 below_all s cell p is right far a h = go (at_most_or_less (pos 0) s.direction.dy)
   where
@@ -117,6 +125,7 @@ below_all s cell p is right far a h = go (at_most_or_less (pos 0) s.direction.dy
         (strict_plus_plus p.W (rise s.direction a.x a.y -ℤ rise s.direction cell.ceiling_x cell.ceiling_y) is.positive (more_rise (rise s.direction a.x a.y) s.least (rise s.direction cell.ceiling_x cell.ceiling_y) h.least parts.1))
 
 -- ---- what a strip tells
+-- a strip wholly below the cell tells that no edge holds the point and none is counted above it
 pub under_tells : (s : Strip) (cell : Cell) (p : Point) (es : List Edge) → IsCellOf cell p → IsStripOf s es → lies_under s cell ≡ true
     → AreCrossings (record { on = false; odd_above = false; odd_at_or_above = false }) es p
 under_tells s cell p es is of far = none_found es p (each_of (LiesInStrip s) (IsOff p) es off of.lies)
@@ -124,6 +133,8 @@ under_tells s cell p es is of far = none_found es p (each_of (LiesInStrip s) (Is
     off : (e : Edge) → LiesInStrip s e → IsOff p e
     off e l = off_beyond s.direction.dx s.direction.dy e p is.positive of.rightward (above_all s cell p is of.rightward far e.start l.start) (above_all s cell p is of.rightward far e.end l.end)
 
+-- a strip wholly above the cell tells that the edges that span the point are those above it,
+-- so the ends of a chain give the parity
 pub over_tells : (s : Strip) (ends : Ends) (cell : Cell) (p : Point) (es : List Edge) → IsCellOf cell p → IsStripOf s es → SumsUpEnds ends es → lies_over s cell ≡ true → ends.is_chain ≡ true
     → (b : Bool) → b ≡ xor (int_le ends.first_x cell.floor_x) (int_le ends.last_x cell.floor_x) → AreCrossings (record { on = false; odd_above = b; odd_at_or_above = b }) es p
 over_tells s ends cell p es is of sums far chain b e = spanning_found es p ends.first_x ends.last_x b (each_of (LiesInStrip s) (IsOver p) es over of.lies) (sums chain)

@@ -16,6 +16,7 @@ use Rattle.edge_boxes.specs.declared.strips.Direction.{Direction}
 use Rattle.edge_boxes.specs.declared.strips.Strip.{Strip}
 
 -- ---- the numbers of a rise fit 64 bits
+-- a product is within the product of the limits of its factors
 product_within : (a b : ℤ) (m n : ℕ) → unsigned_abs a ≤ m → unsigned_abs b ≤ n → unsigned_abs (a *ℤ b) ≤ m * n
 product_within a b m n h k = rw unsigned_abs-mul (mul-le-mul h k)
 
@@ -24,6 +25,7 @@ record IsShortProduct (z : ℤ) : Type 0 where
   low : negsuc 4611686016279904255 ≤ℤ z
   high : z ≤ℤ pos 4611686018427387904
 
+-- a product of two numbers of 32 bits is so small that the difference of two such products fits 64 bits
 short_product : (a b : ℤ) → SFits w32 a → SFits w32 b → IsShortProduct (a *ℤ b)
 short_product a b h k = go (at_most_or_less (pos 0) a) (at_most_or_less (pos 0) b)
   where
@@ -52,6 +54,7 @@ pub record RiseFits (dx dy x y : ℤ) : Type 0 where
   pub second : SFits w64 (dy *ℤ x)
   pub difference : SFits w64 (dx *ℤ y -ℤ dy *ℤ x)
 
+-- the rise of numbers of 32 bits is computed in 64: both products fit, and so does their difference
 pub rise_fits : (dx dy x y : ℤ) → SFits w32 dx → SFits w32 dy → SFits w32 x → SFits w32 y → RiseFits dx dy x y
 rise_fits dx dy x y hdx hdy hx hy =
     let s = short_product dx y hdx hy in
@@ -65,6 +68,7 @@ rise_fits dx dy x y hdx hdy hx hy =
     differ y z l h m k = omega (arith, ints, l, h, m, k)
 
 -- ---- one position more
+-- a strip that takes in one more rise keeps its direction and all that lies in it
 pub is_wider : (s t : Strip) (z : ℤ) → t.direction ≡ s.direction → t.least ≡ int_min s.least z → t.greatest ≡ int_max s.greatest z → IsWider s t
 is_wider s t z e f g = record { same = ap (λ (d : Direction). d.dx) e; holds = λ a h. holds (rise s.direction a.x a.y) (rise t.direction a.x a.y) a (ap (λ d. rise d a.x a.y) e) h }
   where
@@ -80,6 +84,7 @@ is_wider s t z e f g = record { same = ap (λ (d : Direction). d.dx) e; holds = 
       greatest = above s.greatest t.greatest z (rise s.direction a.x a.y) (rise t.direction a.x a.y) g d h.greatest;
     }
 
+-- and it holds the position that has this rise
 pub holds_new : (s t : Strip) (a : Position) (z : ℤ) → t.direction ≡ s.direction → t.least ≡ int_min s.least z → t.greatest ≡ int_max s.greatest z → z ≡ rise s.direction a.x a.y → IsInStrip t a
 holds_new s t a z e f g r = record { least = below s.least t.least z (rise t.direction a.x a.y) f here; greatest = above s.greatest t.greatest z (rise t.direction a.x a.y) g here }
   where
@@ -93,14 +98,17 @@ holds_new s t a z e f g r = record { least = below s.least t.least z (rise t.dir
     above g h z u e f = omega (arith, ints, clamps, e, f)
 
 -- ---- one edge more
+-- edges that lie in a strip lie in each wider one
 all_wider : (s t : Strip) (es : List Edge) → IsWider s t → AllByRecursion (LiesInStrip s) es → AllByRecursion (LiesInStrip t) es
 all_wider s t [] w h = tt
 all_wider s t (e ∷ es) w h = (record { start = w.holds e.start h.0.start; end = w.holds e.end h.0.end }, all_wider s t es w h.1)
 
+-- edges in a strip, and one more that lies in it
 all_more : (s : Strip) (es : List Edge) (e : Edge) → AllByRecursion (LiesInStrip s) es → LiesInStrip s e → AllByRecursion (LiesInStrip s) (es ++ e ∷ [])
 all_more s [] e h k = (k, tt)
 all_more s (d ∷ es) e h k = (h.0, all_more s es e h.1 k)
 
+-- once its two ends are taken in, one after the other, the next edge lies in the strip with those before it
 pub one_edge_more : (s m t : Strip) (es : List Edge) (i : ℕ) (e : Edge) (a b : Position) → IsWider s m → IsInStrip m a → IsWider m t → IsInStrip t b → a ≡ e.start → b ≡ e.end
     → i < length es → e ≡ get_or es i e → AllByRecursion (LiesInStrip s) (take i es) → AllByRecursion (LiesInStrip t) (take (i + 1) es)
 one_edge_more s m t es i e a b w ha v hb ea eb within is h =

@@ -8,6 +8,7 @@ records-of : (known : Option (List ℕ)) → (records : List Record) × AreRecor
 records-of None = ([], tt)
 records-of (Some text) = (records_in text, refl)
 
+-- so there are records of all readers of a list
 pub some-records : (known : List (Option (List ℕ))) → (records : List (List Record)) × EachRecordsOf known records
 some-records [] = ([], tt)
 some-records (one ∷ more) =

@@ -66,6 +66,7 @@ Joined = Bound (GeometryArgument Geometry) ColumnPlace
 
 -- ---- faults
 
+-- what was put before stays as it is
 pub keeps-same : (a : Option (List ℕ)) → Keeps a a
 keeps-same None = tt
 keeps-same (Some bytes) = refl
@@ -74,6 +75,7 @@ keeps-same (Some bytes) = refl
 pub memory-none : (A : Type 0) (outcome : Result (List ℕ) Refusal) (reached : ℕ → Type 0) (old : Option (List ℕ)) → Runs {A = A} (Err faults.Memory) outcome reached old old
 memory-none A outcome reached old = inl (keeps-same old)
 
+-- a fault that isn't want of memory is another one
 no-memory : (e : QueryFault) → wants_memory e ≡ false → e ≢ query.OutOfMemory
 no-memory e other same = let both : wants_memory query.OutOfMemory ≡ false = subst (λ x. wants_memory x ≡ false) same other in cc both
 
@@ -84,6 +86,7 @@ refused-by A true e answer next reached old is given = memory-none A (after OfQu
 refused-by A false e answer next reached old is given =
     (ap (λ r. after OfQuery r next) (given (no-memory e is)), keeps-same old)
 
+-- the same, with the fault telling whether it is want of memory
 pub query-refused : (A : Type 0) {X : Type 0} (e : QueryFault) (answer : Result X QueryFault) (next : X → Result (List ℕ) Refusal) (reached : ℕ → Type 0) (old : Option (List ℕ))
     → (e ≢ query.OutOfMemory → answer ≡ Err e) → Runs {A = A} (Err (of_query e)) (after OfQuery answer next) reached old old
 query-refused A e answer next reached old given = refused-by A (wants_memory e) e answer next reached old refl given
@@ -105,6 +108,7 @@ pub of-tables : {A : Type 0} (count : ℕ) (r : Result A Fault) (f : Fault) → 
 of-tables count (Ok a) f is fact = absurd is
 of-tables count (Err e) f is fact = subst (IsOfTables count) (sym is) fact
 
+-- a fault of the query tells of no table
 pub query-of-tables : (count : ℕ) (e : QueryFault) → IsOfTables count (of_query e)
 query-of-tables count e = go (wants_memory e)
   where
@@ -112,10 +116,12 @@ query-of-tables count e = go (wants_memory e)
     go true = tt
     go false = tt
 
+-- nor does one of putting the answer
 pub put-of-tables : (count : ℕ) (e : PutFault) → IsOfTables count (of_put e)
 put-of-tables count put.Sink = tt
 put-of-tables count put.Memory = tt
 
+-- and a fault of loading tells of a table that is one of these
 pub load-of-tables : (count : ℕ) (f : TableFault) → f.table < count → IsOfTables count (of_table f)
 load-of-tables count f within = go (load_wants_memory f.fault)
   where
@@ -176,6 +182,7 @@ stated-after (Ok stated) bound of planned is same =
     ap Ok (same stated these)
 stated-after (Err e) bound of planned is same = cc is
 
+-- what a query is bound to is its statement by its conjuncts
 bound-stated : (written : Written) (definitions : Definitions) (bound : Joined) → binding serving.binding definitions written ≡ Ok bound
     → (statement serving.binding definitions written >>= (λ stated. Ok (by_conjuncts stated))) ≡ Ok bound
 bound-stated written definitions bound is =
@@ -204,6 +211,7 @@ bound-work matrix written database bound plan is first =
 same-error : {X : Type 0} (r : Checked X) (one other : QueryFault) → r ≡ Err one → r ≡ Err other → one ≡ other
 same-error r one other is also = cc
 
+-- a query that isn't bound isn't stated either, by the same fault
 stated-fault : (bound : Checked Joined) (s : Checked Stated) (e : QueryFault) → bound ≡ (s >>= (λ stated. Ok (by_conjuncts stated))) → bound ≡ Err e → s ≡ Err e
 stated-fault bound (Ok stated) e are is = cc
 stated-fault bound (Err other) e are is = ap Err (same-error bound other e are is)
@@ -219,6 +227,7 @@ unbound-runs {A = A} r e matrix written database old is given =
 
 -- ---- tables
 
+-- a fault of loading that is neither want of memory nor failed reading is one that a definition gives
 no-failure : (f : LoadFault) → load_wants_memory f ≡ false → is_of_reading f ≡ false → ¬ (IsFailure f)
 no-failure f other unread (inl same) = let both : is_of_reading load.ReadFailed ≡ false = subst (λ x. is_of_reading x ≡ false) same unread in cc both
 no-failure f other unread (inr same) = let both : load_wants_memory load.OutOfMemory ≡ false = subst (λ x. load_wants_memory x ≡ false) same other in cc both
@@ -234,6 +243,7 @@ table-refused-by A false false table f answer next reached old is of given there
     let same : after OfTable answer next ≡ Err (OfTable (record { table = table; fault = f })) = ap (λ r. after OfTable r next) (given (no-failure f is of)) in
     (subst (λ b. RefusesTable b (reached table) (after OfTable answer next) (record { table = table; fault = f })) (sym of) same, keeps-same old)
 
+-- the same of a result, with the fault telling which of the three it is
 table-refused : {A X : Type 0} (r : Result A Fault) (f : TableFault) (answer : Result X TableFault) (next : X → Result (List ℕ) Refusal) (reached : ℕ → Type 0) (old : Option (List ℕ))
     → IsErrAnd r (λ x. x ≡ of_table f) → (¬ (IsFailure f.fault) → answer ≡ Err f) → reached f.table → Runs r (after OfTable answer next) reached old old
 table-refused {A = A} r f answer next reached old is given there =
@@ -247,6 +257,7 @@ read-outcome : (matrix : MatrixOf) (definitions : Definitions) (records : List (
     → query_of serving.language text ≡ Ok written → outcome record_text serving matrix definitions records text ≡ loaded_outcome record_text serving matrix definitions records written
 read-outcome matrix definitions records text written is = ap (λ r. after OfQuery r (loaded_outcome record_text serving matrix definitions records)) is
 
+-- once the tables are loaded, the outcome is that of the query over them
 loaded-is : (matrix : MatrixOf) (database : Served) (definitions : Definitions) (records : List (List Record)) (written : Written)
     → load_tables serving.reading definitions records ≡ Ok database.tables → database.definitions ≡ definitions
     → query_outcome record_text serving matrix written database ≡ loaded_outcome record_text serving matrix definitions records written
@@ -278,6 +289,7 @@ refuses-more : (unread : Bool) (reached : Type 0) (outcome : Result (List ℕ) R
 refuses-more true reached outcome fault is = absurd is
 refuses-more false reached outcome fault is = is
 
+-- what is said of a run that reads no table holds also where tables are read
 reaches-more : {A : Type 0} (r : Result A Fault) (outcome : Result (List ℕ) Refusal) (reached : ℕ → Type 0) (old new : Option (List ℕ)) → Runs r outcome none_reached old new
     → Runs r outcome reached old new
 reaches-more (Ok a) outcome reached old new fact = fact

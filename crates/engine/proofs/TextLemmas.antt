@@ -22,6 +22,7 @@ first-front (Ok x) a b c first text rest is before after = tt
 first-front (Err e) a b c first text rest is before after =
     subst (λ l. AppendsFront a c (l ++ rest)) is (AppendsFront-then a b c first rest before after)
 
+-- and the same where all of it was put
 pub first-put : {A E : Type 0} (r : Result A E) (a b c : Option (List ℕ)) (first text rest : List ℕ) → first ≡ text → Appends a b first
     → OnOk r (Appends b c rest) → OnOk r (Appends a c (text ++ rest))
 first-put (Ok x) a b c first text rest is before after =

@@ -45,6 +45,7 @@ flat p q r h same = cancel_zero q.W (area p q r) h (nothing_less_nothing _ _ _ (
 pub without_last : (x z : ℤ) → x +ℤ pos 0 *ℤ z ≡ x
 without_last x z = omega (arith, ints)
 
+-- a weighted point of three corners, the last without weight, is one of the first two
 pub three_is_two : (m n : ℕ) (p q r : Point) → weighted_three m p n q 0 r ≡ weighted m p n q
 three_is_two m n p q r = λ i. record {
   X = without_last (pos m *ℤ p.X +ℤ pos n *ℤ q.X) r.X i;
@@ -74,6 +75,7 @@ point_from_segment S s = record {
     positive : (x z : ℤ) → pos 0 <ℤ x → pos 0 <ℤ (pos 1 *ℤ x +ℤ pos 0 *ℤ z)
     positive x z h = omega (arith, ints)
 
+-- so a set with a triangle has a point
 pub point_from_triangle : (S : Point → Type 0) → HasTriangle S → HasPoint S
 point_from_triangle S t = point_from_segment S (segment_from_triangle S t)
 
@@ -118,6 +120,7 @@ only_matrix a b m n h k = same_matrix m n (λ l r. only_dimension (common a l b 
 pub point_of : (S R : Point → Type 0) → ((p : Point) → S p → R p) → HasPoint S → HasPoint R
 point_of S R f h = record { p = h.p; is_point = h.is_point; within = f h.p h.within }
 
+-- the same of a segment
 pub segment_of : (S R : Point → Type 0) → ((p : Point) → S p → R p) → HasSegment S → HasSegment R
 segment_of S R f h = record {
   p = h.p;
@@ -128,6 +131,7 @@ segment_of S R f h = record {
   within = λ m n w. f _ (h.within m n w);
 }
 
+-- and of a triangle
 pub triangle_of : (S R : Point → Type 0) → ((p : Point) → S p → R p) → HasTriangle S → HasTriangle R
 triangle_of S R f h = record {
   p = h.p;
@@ -140,6 +144,7 @@ triangle_of S R f h = record {
   within = λ k m n w. f _ (h.within k m n w);
 }
 
+-- so two sets with the same points have the same dimension
 pub dimension_of : (S R : Point → Type 0) → ((p : Point) → S p → R p) → ((p : Point) → R p → S p) → (d : Dimension) → HasDimension S d → HasDimension R d
 dimension_of S R f g Two h = triangle_of S R f h
 dimension_of S R f g One h = (segment_of S R f h.0, λ t. h.1 (triangle_of R S g t))

@@ -24,6 +24,7 @@ IsGcd-last_divisor (suc turns) a (suc b) h =
     let less : a % suc b < suc b = mod-lt a {m = suc b} (omega arith) in
     IsGcd-from_mod a (suc b) _ (IsGcd-last_divisor turns (suc b) (a % suc b) (omega arith))
 
+-- one turn more than the second number is enough
 pub IsGcd-gcd : (a b : ℕ) → IsGcd a b (gcd a b)
 IsGcd-gcd a b = IsGcd-last_divisor (b + 1) a b (omega arith)
 
@@ -46,6 +47,7 @@ IsGcd-scaled (suc turns) a (suc b) n hn h =
     IsGcd-from_mod (a * n) (suc b * n) _ (subst (λ (z : ℕ). IsGcd (suc b * n) z (last_divisor turns (suc b) (a % suc b) * n)) (sym (mod-scaled a (suc b) n (omega arith) hn))
     (IsGcd-scaled turns (suc b) (a % suc b) n hn (omega arith)))
 
+-- the greatest common divisor of two numbers times n is theirs times n
 pub IsGcd-gcd_scaled : (a b n : ℕ) → 0 < n → IsGcd (a * n) (b * n) (gcd a b * n)
 IsGcd-gcd_scaled a b n hn = IsGcd-scaled (b + 1) a b n hn (omega arith)
 
@@ -78,6 +80,7 @@ pub record Divides (p : Point) : Type 0 where
   pub y : divisor p ∣ unsigned_abs p.Y
   pub w : divisor p ∣ unsigned_abs p.W
 
+-- the divisor of a triple divides each of its numbers
 divides : (p : Point) → Divides p
 divides p =
     let outer = IsGcd-gcd (gcd (unsigned_abs p.X) (unsigned_abs p.Y)) (unsigned_abs p.W) in
@@ -92,6 +95,7 @@ positive_abs : (x : ℤ) → pos 0 <ℤ x → 0 < unsigned_abs x
 positive_abs (pos a) h = omega (arith, ints)
 positive_abs (negsuc a) h = omega (arith, ints)
 
+-- the divisor of a point is above 0, since it divides W
 divisor_positive : (p : Point) → IsPoint p → 0 < divisor p
 divisor_positive p h = pos_of_dvd_of_pos (divides p).w (positive_abs p.W h)
 
@@ -101,6 +105,7 @@ pub record Multiple (p q : Point) (g : ℤ) : Type 0 where
   pub y : q.Y *ℤ g ≡ p.Y
   pub w : q.W *ℤ g ≡ p.W
 
+-- the divisor divides each number, so the quotients times the divisor are the numbers again
 multiple : (p : Point) → Multiple p (least_form p) (pos (divisor p))
 multiple p = record {
   x = exact p.X (divisor p) (divides p).x;
@@ -115,12 +120,14 @@ cross x w k a b e f = ap (λ (z : ℤ). x *ℤ z) (sym f) ∙ solve (x ∷ w ∷
 equal_test : (a b : ℤ) → a ≡ b → int_eq a b ≡ true
 equal_test a b e = (signed_Decides a b).1 e
 
+-- the least form is the same point, since a multiple of a triple is
 pub least_is_same : (p : Point) → same_point (least_form p) p ≡ true
 least_is_same p =
     let m = multiple p in
     let q = least_form p in
     and_from _ _ (equal_test _ _ (cross q.X q.W (pos (divisor p)) p.X p.W m.x m.w)) (equal_test _ _ (cross q.Y q.W (pos (divisor p)) p.Y p.W m.y m.w))
 
+-- its W is above 0, since it is so times the divisor
 pub least_is_point : (p : Point) → IsPoint p → IsPoint (least_form p)
 least_is_point p h = positive (least_form p).W (divisor p) p.W (multiple p).w h
   where
@@ -130,6 +137,8 @@ least_is_point p h = positive (least_form p).W (divisor p) p.W (multiple p).w h
         turned : (x y z : ℤ) → x *ℤ y ≡ z → pos 0 <ℤ z → pos 0 <ℤ (y *ℤ x)
         turned x y z f l = omega (arith, ints)
 
+-- what divides all three numbers of the least form, times the divisor, divides those of the point;
+-- the divisor is the greatest that does, so it is 1
 pub least_is_least : (p : Point) → IsPoint p → IsLeast (least_form p)
 least_is_least p h = λ d hx hy hw. eq-one_of_dvd-one (dvd_of_mul-dvd-mul_right d {n = 1} (divisor_positive p h)
     (subst (λ (n : ℕ). (d * divisor p) ∣ n) (sym (one_times (divisor p))) (greatest p (d * divisor p)
@@ -173,6 +182,7 @@ cancelled a b c d h e f = apart (cancel_zero c (a -ℤ b) h (solve (a ∷ b ∷ 
     apart : a -ℤ b ≡ pos 0 → a ≡ b
     apart g = omega (arith, ints)
 
+-- two least forms of one point are the same: each W divides the other, so they are equal, and then X and Y are
 pub least_is_unique : (p q : Point) → IsPoint p → IsPoint q → IsLeast p → IsLeast q → same_point p q ≡ true → p ≡ q
 least_is_unique p q hp hq lp lq same = λ i. record { X = x i; Y = y i; W = w i }
   where

@@ -32,19 +32,23 @@ not_boundary_off e = cc
 false_is_not : false ≡ true → ⊥
 false_is_not e = cc
 
+-- points: interior exactly where the test passes
 interior_of_two : (t : Bool) (I : Type 0) → (t ≡ true) ↔ I → (one_of_two t ≡ Interior) ↔ I
 interior_of_two true I h = (λ e. h.0 refl, λ x. refl)
 interior_of_two false I h = (λ e. absurd (not_interior_off e), λ x. absurd (false_is_not (h.1 x)))
 
+-- and never boundary
 boundary_of_two : (t : Bool) → (one_of_two t ≡ Boundary) ↔ ⊥
 boundary_of_two true = (λ e. not_interior (sym e), λ x. absurd x)
 boundary_of_two false = (λ e. not_boundary_off e, λ x. absurd x)
 
+-- lines and rings: interior where the second test passes and the first one doesn't
 interior_of_three : (b i : Bool) (B I : Type 0) → (b ≡ true) ↔ B → (i ≡ true) ↔ I → (one_of_three b i ≡ Interior) ↔ (I × ¬ B)
 interior_of_three true i B I h k = (λ e. absurd (not_interior e), λ x. absurd (x.1 (h.0 refl)))
 interior_of_three false true B I h k = (λ e. (k.0 refl, λ y. false_is_not (h.1 y)), λ x. refl)
 interior_of_three false false B I h k = (λ e. absurd (not_interior_off e), λ x. absurd (false_is_not (k.1 x.0)))
 
+-- and boundary where the first test passes
 boundary_of_three : (b i : Bool) (B : Type 0) → (b ≡ true) ↔ B → (one_of_three b i ≡ Boundary) ↔ B
 boundary_of_three true i B h = (λ e. h.0 refl, λ x. refl)
 boundary_of_three false true B h = (λ e. absurd (not_interior (sym e)), λ x. absurd (false_is_not (h.1 x)))
@@ -60,24 +64,30 @@ exterior_of Exterior I B h k = (λ e. (λ x. not_interior_off (h.1 x), λ y. not
 listed : (ps : List Position) (p : Point) → (list_any (stands_at p) ps ≡ true) ↔ IsListed ps p
 listed ps p = (Any-from_list_any (stands_at p) ps, list_any-from_Any (stands_at p) ps)
 
+-- lying on an edge of lines or rings, as a test and as a fact
 lies_on : (ls : List (List Position)) (p : Point) → (on_some ls p ≡ true) ↔ LiesOn ls p
 lies_on ls p = (Any-from_list_any (λ e. on e p) (edges_of_lines ls), list_any-from_Any (λ e. on e p) (edges_of_lines ls))
 
 itself : (b : Bool) → (b ≡ true) ↔ (b ≡ true)
 itself b = (λ x. x, λ x. x)
 
+-- lines: the interior is what lies on them and is no odd end
 lines_interior : (ls : List (List Position)) (p : Point) → (in_lines ls p ≡ Interior) ↔ (LiesOn ls p × ¬ (IsOddEnd ls p))
 lines_interior ls p = interior_of_three (is_odd_end ls p) (on_some ls p) (IsOddEnd ls p) (LiesOn ls p) (itself (is_odd_end ls p)) (lies_on ls p)
 
+-- and the boundary is the odd ends (the mod 2 rule)
 lines_boundary : (ls : List (List Position)) (p : Point) → (in_lines ls p ≡ Boundary) ↔ IsOddEnd ls p
 lines_boundary ls p = boundary_of_three (is_odd_end ls p) (on_some ls p) (IsOddEnd ls p) (itself (is_odd_end ls p))
 
+-- rings: the interior is what has an odd number of edges strictly above it and lies on none
 rings_interior : (rs : List (List Position)) (p : Point) → (in_rings rs p ≡ Interior) ↔ ((odd_above rs p ≡ true) × ¬ (LiesOn rs p))
 rings_interior rs p = interior_of_three (on_some rs p) (odd_above rs p) (LiesOn rs p) (odd_above rs p ≡ true) (lies_on rs p) (itself (odd_above rs p))
 
+-- and the boundary is what lies on an edge
 rings_boundary : (rs : List (List Position)) (p : Point) → (in_rings rs p ≡ Boundary) ↔ LiesOn rs p
 rings_boundary rs p = boundary_of_three (on_some rs p) (odd_above rs p) (LiesOn rs p) (lies_on rs p)
 
+-- the answer is interior exactly at the points of the interior, for each kind of geometry
 pub locates_interior : (g : Geometry) (p : Point) → (locate g p ≡ Interior) ↔ IsInterior g p
 locates_interior (Geometry.Point o) p = interior_of_two (list_any (stands_at p) (option_to_list o)) _ (listed (option_to_list o) p)
 locates_interior (Geometry.MultiPoint ps) p = interior_of_two (list_any (stands_at p) ps) _ (listed ps p)
@@ -86,6 +96,7 @@ locates_interior (Geometry.MultiLineString ls) p = lines_interior ls p
 locates_interior (Geometry.Polygon rs) p = rings_interior rs p
 locates_interior (Geometry.MultiPolygon es) p = rings_interior (joined_rings es) p
 
+-- it is boundary exactly at the points of the boundary
 pub locates_boundary : (g : Geometry) (p : Point) → (locate g p ≡ Boundary) ↔ IsBoundary g p
 locates_boundary (Geometry.Point o) p = boundary_of_two (list_any (stands_at p) (option_to_list o))
 locates_boundary (Geometry.MultiPoint ps) p = boundary_of_two (list_any (stands_at p) ps)
@@ -94,8 +105,10 @@ locates_boundary (Geometry.MultiLineString ls) p = lines_boundary ls p
 locates_boundary (Geometry.Polygon rs) p = rings_boundary rs p
 locates_boundary (Geometry.MultiPolygon es) p = rings_boundary (joined_rings es) p
 
+-- and exterior exactly at the points of neither
 pub locates_exterior : (g : Geometry) (p : Point) → (locate g p ≡ Exterior) ↔ IsExterior g p
 locates_exterior g p = exterior_of (locate g p) (IsInterior g p) (IsBoundary g p) (locates_interior g p) (locates_boundary g p)
 
+-- each point is in exactly one of the three parts, the one that is answered
 pub parts_plane : (g : Geometry) (p : Point) → (l : Location) × part g l p × ((k : Location) → part g k p → k ≡ l)
 parts_plane g p = (locate g p, refl, λ k e. sym e)

@@ -31,6 +31,7 @@ like-transposed (Some p) m = matches-transposed p m
 first_two_swapped : (a b c x y z : Bool) → a ≡ y → b ≡ x → c ≡ z → (a || b || c) ≡ (x || y || z)
 first_two_swapped a b c x y z e f g = grind arith
 
+-- Crosses is the same the other way round: the pattern for two kinds, transposed, is that for the kinds swapped
 crosses-transposed : (k l : Kind) (m : Matrix) → crosses k l m ≡ crosses l k (transposed m)
 crosses-transposed kinds.Point kinds.Point m = refl
 crosses-transposed kinds.Point kinds.Line m = like-transposed (pattern_of_text (codes "T*T******")) m
@@ -42,6 +43,7 @@ crosses-transposed kinds.Area kinds.Point m = like-transposed (pattern_of_text (
 crosses-transposed kinds.Area kinds.Line m = like-transposed (pattern_of_text (codes "T*****T**")) m
 crosses-transposed kinds.Area kinds.Area m = refl
 
+-- Overlaps is the same the other way round, since its patterns are their own transposes
 overlaps-transposed : (k l : Kind) (m : Matrix) → overlaps k l m ≡ overlaps l k (transposed m)
 overlaps-transposed kinds.Point kinds.Point m = like-transposed (pattern_of_text (codes "T*T***T**")) m
 overlaps-transposed kinds.Point kinds.Line m = refl

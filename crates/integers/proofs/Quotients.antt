@@ -13,6 +13,7 @@ pub by_way : (a m b n c k : ℤ) → k *ℤ (b *ℤ m -ℤ a *ℤ n) +ℤ m *ℤ
 by_way a m b n c k = solve (a ∷ m ∷ b ∷ n ∷ c ∷ k ∷ [])
     (var 5 ⊗ (var 2 ⊗ var 1 ⊖ var 0 ⊗ var 3) ⊕ var 1 ⊗ (var 4 ⊗ var 3 ⊖ var 2 ⊗ var 5)) (var 3 ⊗ (var 4 ⊗ var 1 ⊖ var 0 ⊗ var 5)) tt
 
+-- less than is transitive for quotients: the way from the first to the last is the sum of two ways above 0
 pub trans_less : (a m b n c k : ℤ) → pos 0 <ℤ m → pos 0 <ℤ n → pos 0 <ℤ k → (a *ℤ n) <ℤ (b *ℤ m) → (b *ℤ k) <ℤ (c *ℤ n) → (a *ℤ k) <ℤ (c *ℤ m)
 trans_less a m b n c k hm hn hk p q = difference (a *ℤ k) (c *ℤ m) (cancel_positive n (c *ℤ m -ℤ a *ℤ k) (weak n hn) (sum _ _ _ (by_way a m b n c k)
     (strict_plus_plus k (b *ℤ m -ℤ a *ℤ n) hk (apart (a *ℤ n) (b *ℤ m) p)) (strict_plus_plus m (c *ℤ n -ℤ b *ℤ k) hm (apart (b *ℤ k) (c *ℤ n) q))))
@@ -29,6 +30,7 @@ trans_less a m b n c k hm hn hk p q = difference (a *ℤ k) (c *ℤ m) (cancel_p
     difference : (x y : ℤ) → pos 0 <ℤ (y -ℤ x) → x <ℤ y
     difference x y h = omega (arith, ints)
 
+-- and so is at most
 pub trans_at_most : (a m b n c k : ℤ) → pos 0 <ℤ m → pos 0 <ℤ n → pos 0 <ℤ k → (a *ℤ n) ≤ℤ (b *ℤ m) → (b *ℤ k) ≤ℤ (c *ℤ n) → (a *ℤ k) ≤ℤ (c *ℤ m)
 trans_at_most a m b n c k hm hn hk p q = difference (a *ℤ k) (c *ℤ m) (cancel_nonnegative n (c *ℤ m -ℤ a *ℤ k) hn (sum _ _ _ (by_way a m b n c k)
     (plus_plus k (b *ℤ m -ℤ a *ℤ n) (weak k hk) (apart (a *ℤ n) (b *ℤ m) p)) (plus_plus m (c *ℤ n -ℤ b *ℤ k) (weak m hm) (apart (b *ℤ k) (c *ℤ n) q))))
@@ -79,6 +81,7 @@ at_most_scaled k a b h = same_at_most (k *ℤ a) (k *ℤ b) a b
     into : (x y z : ℤ) → y -ℤ x ≡ z → pos 0 ≤ℤ z → x ≤ℤ y
     into x y z e h = omega (arith, ints)
 
+-- the same of a strict test
 pub less_scaled : (k a b : ℤ) → pos 0 <ℤ k → int_lt (k *ℤ a) (k *ℤ b) ≡ int_lt a b
 less_scaled k a b h = same_less (k *ℤ a) (k *ℤ b) a b
     (λ p. from a b (cancel_positive k (b -ℤ a) (weak k h) (apart (k *ℤ a) (k *ℤ b) _ (product_over k a b) p)))

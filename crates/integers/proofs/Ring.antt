@@ -105,6 +105,7 @@ and_true true true h = (tt, tt)
 and_true true false h = absurd h
 and_true false b h = absurd h
 
+-- products that the test takes for the same have the same variables
 same_is : (m n : List ℕ) → T (same_variables m n) → m ≡ n
 same_is [] [] h = refl
 same_is [] (j ∷ n) h = absurd h
@@ -117,6 +118,7 @@ swap_factors a b c = sym (associates a b c) ∙ ap (λ (x : ℤ). x *ℤ c) (*�
 swap_summands : (a b c : ℤ) → a +ℤ (b +ℤ c) ≡ b +ℤ (a +ℤ c)
 swap_summands a b c = omega (arith, ints)
 
+-- a product distributes over a sum on its left
 distributes_right : (a b c : ℤ) → (a +ℤ b) *ℤ c ≡ a *ℤ c +ℤ b *ℤ c
 distributes_right a b c = *ℤ_comm (a +ℤ b) c ∙ distributes c a b ∙ ap₂ (λ (x y : ℤ). x +ℤ y) (*ℤ_comm c a) (*ℤ_comm c b)
 
@@ -125,11 +127,13 @@ choose_variables : (ρ : List ℤ) (v : ℤ) (b : Bool) (x y : List ℕ) → pro
 choose_variables ρ v true x y e f = e
 choose_variables ρ v false x y e f = f
 
+-- a variable put at its place in a product multiplies it
 put_variable_is : (ρ : List ℤ) (i : ℕ) (m : List ℕ) → product ρ (put_variable i m) ≡ at ρ i *ℤ product ρ m
 put_variable_is ρ i [] = refl
 put_variable_is ρ i (j ∷ m) = choose_variables ρ (at ρ i *ℤ (at ρ j *ℤ product ρ m)) (leb i j) (i ∷ (j ∷ m)) (j ∷ put_variable i m) refl
     (ap (λ (x : ℤ). at ρ j *ℤ x) (put_variable_is ρ i m) ∙ swap_factors (at ρ j) (at ρ i) (product ρ m))
 
+-- two products joined are the product of both
 join_is : (ρ : List ℤ) (m n : List ℕ) → product ρ (join m n) ≡ product ρ m *ℤ product ρ n
 join_is ρ [] n = sym (*ℤ_comm (pos 1) (product ρ n) ∙ one_right (product ρ n))
   where
@@ -137,10 +141,12 @@ join_is ρ [] n = sym (*ℤ_comm (pos 1) (product ρ n) ∙ one_right (product �
     one_right z = omega (arith, ints)
 join_is ρ (i ∷ m) n = put_variable_is ρ i (join m n) ∙ ap (λ (x : ℤ). at ρ i *ℤ x) (join_is ρ m n) ∙ sym (associates (at ρ i) (product ρ m) (product ρ n))
 
+-- the same of a choice of sums
 choose_terms : (ρ : List ℤ) (v : ℤ) (b : Bool) (x y : List Term) → (T b → value ρ x ≡ v) → value ρ y ≡ v → value ρ (elim b [ true ↦ x | false ↦ y ]) ≡ v
 choose_terms ρ v true x y e f = e tt
 choose_terms ρ v false x y e f = f
 
+-- a term put into a sum adds its value, also where it is merged with one of the same variables
 put_term_is : (ρ : List ℤ) (t : Term) (p : List Term) → value ρ (put_term t p) ≡ term_value ρ t +ℤ value ρ p
 put_term_is ρ t [] = refl
 put_term_is ρ t (u ∷ p) = choose_terms ρ (term_value ρ t +ℤ (term_value ρ u +ℤ value ρ p)) (same_variables t.variables u.variables)
@@ -149,6 +155,7 @@ put_term_is ρ t (u ∷ p) = choose_terms ρ (term_value ρ t +ℤ (term_value �
     ∙ ap (λ (m : List ℕ). t.coefficient *ℤ product ρ m +ℤ (term_value ρ u +ℤ value ρ p)) (sym (same_is t.variables u.variables h)))
     (ap (λ (x : ℤ). term_value ρ u +ℤ x) (put_term_is ρ t p) ∙ swap_summands (term_value ρ u) (term_value ρ t) (value ρ p))
 
+-- the value of two sums added is the sum of theirs
 add_is : (ρ : List ℤ) (p q : List Term) → value ρ (add p q) ≡ value ρ p +ℤ value ρ q
 add_is ρ [] q = sym (+ℤ_idl (value ρ q))
 add_is ρ (t ∷ p) q = put_term_is ρ t (add p q) ∙ ap (λ (x : ℤ). term_value ρ t +ℤ x) (add_is ρ p q) ∙ sym (+ℤ_assoc (term_value ρ t) (value ρ p) (value ρ q))
@@ -156,16 +163,19 @@ add_is ρ (t ∷ p) q = put_term_is ρ t (add p q) ∙ ap (λ (x : ℤ). term_va
 cross : (a b x y : ℤ) → (a *ℤ b) *ℤ (x *ℤ y) ≡ (a *ℤ x) *ℤ (b *ℤ y)
 cross a b x y = associates a b (x *ℤ y) ∙ ap (λ (z : ℤ). a *ℤ z) (swap_factors b x y) ∙ sym (associates a x (b *ℤ y))
 
+-- that of a sum times a term is the product of theirs
 scale_is : (ρ : List ℤ) (t : Term) (p : List Term) → value ρ (scale t p) ≡ term_value ρ t *ℤ value ρ p
 scale_is ρ t [] = sym (*ℤ_comm (term_value ρ t) (pos 0) ∙ zero-*ℤ (term_value ρ t))
 scale_is ρ t (u ∷ p) = ap₂ (λ (x y : ℤ). x +ℤ y)
     (ap (λ (x : ℤ). (t.coefficient *ℤ u.coefficient) *ℤ x) (join_is ρ t.variables u.variables) ∙ cross t.coefficient u.coefficient (product ρ t.variables) (product ρ u.variables))
     (scale_is ρ t p) ∙ sym (distributes (term_value ρ t) (term_value ρ u) (value ρ p))
 
+-- and that of two sums multiplied is the product of theirs
 multiply_is : (ρ : List ℤ) (p q : List Term) → value ρ (multiply p q) ≡ value ρ p *ℤ value ρ q
 multiply_is ρ [] q = sym (zero-*ℤ (value ρ q))
 multiply_is ρ (t ∷ p) q = add_is ρ (scale t q) (multiply p q) ∙ ap₂ (λ (x y : ℤ). x +ℤ y) (scale_is ρ t q) (multiply_is ρ p q) ∙ sym (distributes_right (term_value ρ t) (value ρ p) (value ρ q))
 
+-- the normal form of an expression has its value, whatever the variables are
 normal_is : (ρ : List ℤ) (e : Expr) → value ρ (normal e) ≡ eval ρ e
 normal_is ρ (var i) = plain (at ρ i)
   where
@@ -187,6 +197,7 @@ nothing_is (pos zero) h = refl
 nothing_is (pos (suc n)) h = absurd h
 nothing_is (negsuc n) h = absurd h
 
+-- a sum whose coefficients are all 0 has the value 0
 all_nothing_is : (ρ : List ℤ) (p : List Term) → T (all_nothing p) → value ρ p ≡ pos 0
 all_nothing_is ρ [] h = refl
 all_nothing_is ρ (t ∷ p) h = let both : T (is_nothing t.coefficient) × T (all_nothing p) = and_true (is_nothing t.coefficient) (all_nothing p) h in

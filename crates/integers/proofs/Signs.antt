@@ -9,12 +9,15 @@ use lib.Signed.{◌≤ℤ◌, ◌<ℤ◌, lt_z as int_lt, le_z as int_le}
 use borrow.Author.Differences.{ints}
 
 -- ---- one of two, one of three
+-- a number is at most another, or more than it
 pub at_most_or_less : (a b : ℤ) → (a ≤ℤ b) ⊎ (b <ℤ a)
 at_most_or_less a b = grind (arith, ints)
 
+-- a number is 0 or it isn't
 pub is_or_not : (z : ℤ) → (z ≡ pos 0) ⊎ (z ≢ pos 0)
 is_or_not z = grind (arith, ints)
 
+-- a number is less than another, equal to it or more
 pub three_ways : (a b : ℤ) → (a <ℤ b) ⊎ ((a ≡ b) ⊎ (b <ℤ a))
 three_ways a b = grind (arith, ints)
 
@@ -48,6 +51,7 @@ minus_minus (negsuc a) (pos zero) h k = omega (arith, ints)
 minus_minus (negsuc a) (pos (suc b)) h k = absurd (omega (arith, ints))
 minus_minus (negsuc a) (negsuc b) h k = omega (arith, ints)
 
+-- the same of numbers that aren't 0
 pub strict_plus_plus : (a b : ℤ) → pos 0 <ℤ a → pos 0 <ℤ b → pos 0 <ℤ (a *ℤ b)
 strict_plus_plus (pos zero) b h k = absurd (omega (arith, ints))
 strict_plus_plus (pos (suc a)) (pos zero) h k = absurd (omega (arith, ints))
@@ -111,6 +115,7 @@ zero_product (negsuc a) (pos zero) e = inr refl
 zero_product (negsuc a) (pos (suc b)) e = absurd (omega (arith, ints))
 zero_product (negsuc a) (negsuc b) e = absurd (omega (arith, ints))
 
+-- so a number whose product with one above 0 is 0 is itself 0
 pub cancel_zero : (a b : ℤ) → pos 0 <ℤ a → a *ℤ b ≡ pos 0 → b ≡ pos 0
 cancel_zero a b h e = go (zero_product a b e)
   where
@@ -126,6 +131,7 @@ zero_times a b e = ap (λ (x : ℤ). x *ℤ b) e ∙ nothing b
     nothing (negsuc b) = omega (arith, ints)
 
 -- ---- tests and facts
+-- the tests of less and of at most: when they pass, when they fail, and what each answer says
 pub less_yes : (a b : ℤ) → a <ℤ b → int_lt a b ≡ true
 less_yes a b h = grind (arith, ints)
 

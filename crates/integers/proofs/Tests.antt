@@ -12,6 +12,7 @@ use Rattle.integers.proofs.Quotients.{less_scaled}
 use Rattle.integers.proofs.Signs.{less_yes, less_no, three_ways, same_less, same_at_most, strict_plus_plus, strict_plus_minus, plus_plus, plus_minus, cancel_positive, cancel_negative, cancel_nonnegative, cancel_nonpositive}
 
 -- ---- which of three
+-- a comparison answers with the order of the two numbers
 pub cmp_less : (a b : ℤ) → a <ℤ b → int_cmp a b ≡ Less
 cmp_less a b h = ap (λ (t : Bool). cond t Less (cond (int_lt b a) Greater Equal)) (less_yes a b h)
 
@@ -53,6 +54,7 @@ cmp_greater_from a b e = go (three_ways a b)
     go (inr (inr h)) = h
 
 -- ---- equality as a test
+-- the test passes at equal numbers and fails at others, and each answer says so
 pub equal_yes : (a b : ℤ) → a ≡ b → int_eq a b ≡ true
 equal_yes a b e = ap is_eq (cmp_equal a b e)
 
@@ -123,9 +125,11 @@ nonpositive_scaled k a h = same_at_most (k *ℤ a) (pos 0) a (pos 0) (λ l. canc
     weak : (x : ℤ) → pos 0 <ℤ x → pos 0 ≤ℤ x
     weak x h = omega (arith, ints)
 
+-- so it compares with 0 as that number does
 pub cmp_scaled : (k a : ℤ) → pos 0 <ℤ k → int_cmp (k *ℤ a) (pos 0) ≡ int_cmp a (pos 0)
 cmp_scaled k a h = ap (λ (t : Bool). cond t Less (cond (int_lt (pos 0) (k *ℤ a)) Greater Equal)) (negative_scaled k a h) ∙ ap (λ (t : Bool). cond (int_lt a (pos 0)) Less (cond t Greater Equal)) (positive_scaled k a h)
 
+-- and it is 0 exactly where that number is
 pub zero_scaled : (k a : ℤ) → pos 0 <ℤ k → int_eq (k *ℤ a) (pos 0) ≡ int_eq a (pos 0)
 zero_scaled k a h = ap is_eq (cmp_scaled k a h)
 

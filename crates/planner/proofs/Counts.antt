@@ -12,6 +12,7 @@ use Rattle.table_model.specs.declared.conditions.Cond.{Cond}
 use Rattle.table_model.specs.declared.conditions.Cond.TheVariants as conds
 use Rattle.planner.specs.Nestings.{left_after}
 
+-- what is left after a sum is what is left after its parts, one after the other
 pub left_after_sum : (a b n : ℕ) → left_after (a + b) n ≡ option_and_then (left_after b) (left_after a n)
 left_after_sum a b n = go (nat_le a n) refl
   where
@@ -19,13 +20,16 @@ left_after_sum a b n = go (nat_le a n) refl
     go true e = grind arith
     go false e = grind arith
 
+-- numbers mapped and then added up, or added up as they are mapped
 gathered : {X : Type 0} (f : X → ℕ) (xs : List X) (n : ℕ) → fold (λ a x. a + x) n (map f xs) ≡ fold (λ a x. a + f x) n xs
 gathered f [] n = refl
 gathered f (x ∷ xs) n = gathered f xs (n + f x)
 
+-- an OR has as many predicates as its parts together
 pub count_or : {A : Type 0} (parts : List (Cond A)) → predicate_count (conds.Or parts) ≡ sum_by predicate_count parts
 count_or {A = A} parts = fold-Or A ℕ predicates_by_parts parts ∙ gathered predicate_count parts 0
 
+-- and so has an AND
 pub count_and : {A : Type 0} (parts : List (Cond A)) → predicate_count (conds.And parts) ≡ sum_by predicate_count parts
 count_and {A = A} parts = fold-And A ℕ predicates_by_parts parts ∙ gathered predicate_count parts 0
 

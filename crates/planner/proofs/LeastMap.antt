@@ -8,6 +8,7 @@ all_map : {X Y : Type 0} (f : X → Y) (test : Y → Bool) (xs : List X) → lis
 all_map f test [] = refl
 all_map f test (x ∷ xs) = ap (λ b. test (f x) && b) (all_map f test xs)
 
+-- what is found among images is the image of what is found
 find_map : {X Y : Type 0} (f : X → Y) (test : Y → Bool) (xs : List X) → find test (map f xs) ≡ option_map f (find (λ x. test (f x)) xs)
 find_map f test [] = refl
 find_map {X = X} {Y = Y} f test (x ∷ xs) = go (test (f x)) (find_map f test xs)

@@ -8,6 +8,7 @@ use Rattle.table_model.specs.PlanLaws.{IsFirstOfLeast}
 use Rattle.table_model.proofs.LeastFacts.{first_is_first, first_is_found, first_is_there}
 use Rattle.planner.specs.Nestings.{cheaper}
 
+-- the first of least number stays the first where the element behind all has no less
 stays : {X : Type 0} (number : X → ℕ) (xs : List X) (x y : X) → IsFirstOfLeast number xs x → number x ≤ number y → IsFirstOfLeast number (xs ++ y ∷ []) x
 stays number xs x y f l = record {
   before = f.before;
@@ -17,6 +18,7 @@ stays number xs x y f l = record {
   none_is_less = All-append (λ z. number x ≤ number z) xs (y ∷ []) f.none_is_less (All-cons (λ z. number x ≤ number z) y [] l (All-nil _));
 }
 
+-- an element with less than all before it is the first of least number
 takes_over : {X : Type 0} (number : X → ℕ) (xs : List X) (y : X) → All (λ z. number y < number z) xs → IsFirstOfLeast number (xs ++ y ∷ []) y
 takes_over number xs y l = record {
   before = xs;

@@ -9,6 +9,8 @@ use Rattle.planner.proofs.LeastMap.{least_map}
 use Rattle.planner.specs.Nestings.{accesses_in}
 use Rattle.planner.specs.declared.accesses.Nesting.{Nesting}
 
+-- the plan of the first nesting of least cost is the first plan of least cost:
+-- the nestings' accesses are the lawful ones in order, and a plan costs what its accesses do
 pub plan_of_least : {G : Type 0} (counts : List ℕ) (references : List Reference) (conjuncts : List (Cond (GeometryArgument G))) (nestings : List Nesting) (least : Option Nesting)
     → map accesses_in nestings ≡ lawful_accesses references conjuncts
     → least ≡ first_of_least (λ n. cost counts (accesses_in n)) nestings

@@ -16,6 +16,7 @@ use Rattle.table_model.specs.declared.conditions.Reference.{Reference}
 abbrev count_of : {V : Type 0} → List (Table V) → Reference → ℕ
 count_of tables r = length (slice_index_or tables r.table [])
 
+-- the numbers of rows are those of the references' tables, in their order
 all_counts : {V : Type 0} (tables : List (Table V)) (references : List Reference) → row_counts tables references ≡ map (count_of tables) references
 all_counts tables [] = refl
 all_counts tables (r ∷ more) = ap (λ ns. count_of tables r ∷ ns) (all_counts tables more)
@@ -36,6 +37,7 @@ one_more_count tables references i r table within is there =
 positive : (n : ℕ) → 1 ≤ suc n
 positive n = omega arith
 
+-- over one reference or two some accesses are lawful, so a plan of least cost is among theirs
 by_references : (tables : List (Table Geometry)) (references : List Reference) (conjuncts : List (Cond (GeometryArgument Geometry))) → (length references ≡ 1) ⊎ (length references ≡ 2)
     → IsSome (first_of_least (λ p. p.cost) (map (plan_of (row_counts tables references) conjuncts) (lawful_accesses references conjuncts)))
 by_references tables [] conjuncts (inl e) = absurd (omega (arith, e))

@@ -20,6 +20,7 @@ of_choice : {X : Type 0} (test : Bool) (x y : X) (o : Option X) (P : Type 0) →
 of_choice true x y o P is other e = is refl
 of_choice false x y o P is other e = other e
 
+-- a byte that writes a character of a pattern is one of a few, each of which is ASCII
 is_character : (byte : ℕ) (c : PatternCharacter) → character_of byte ≡ Some c → byte < 128
 is_character byte c =
     of_choice (byte == 84 || byte == 116) _ c _ (byte < 128) (one_of byte 84 116 (omega arith) (omega arith))
@@ -32,6 +33,7 @@ is_character byte c =
     none : (c : PatternCharacter) → None ≡ Some c → ⊥
     none c e = cc
 
+-- so all bytes that write a pattern are ASCII
 are_characters : (bytes : List ℕ) (cs : List PatternCharacter) → characters_of bytes ≡ Some cs → IsAscii bytes
 are_characters [] cs e i = omega arith
 are_characters (byte ∷ bytes) cs e zero =

@@ -19,6 +19,7 @@ low_end s t n w h = go (or_from (int_le (s *ℤ w) n && int_le n (t *ℤ w)) (in
     go (inl e) = inl (at_most_from (s *ℤ w) n ((and_parts (int_le (s *ℤ w) n) (int_le n (t *ℤ w)) e).0))
     go (inr e) = inr (at_most_from (t *ℤ w) n ((and_parts (int_le (t *ℤ w) n) (int_le n (s *ℤ w)) e).0))
 
+-- and one of the two ends is at least the coordinate
 high_end : (s t n w : ℤ) → between s t n w ≡ true → (n ≤ℤ (s *ℤ w)) ⊎ (n ≤ℤ (t *ℤ w))
 high_end s t n w h = go (or_from (int_le (s *ℤ w) n && int_le n (t *ℤ w)) (int_le (t *ℤ w) n && int_le n (s *ℤ w)) h)
   where
@@ -47,6 +48,7 @@ least_below s t a b p q (inl e) (inr f) h = omega (arith, ints, clamps, e, f, h)
 least_below s t a b p q (inr e) (inl f) h = omega (arith, ints, clamps, e, f, h)
 least_below s t a b p q (inr e) (inr f) h = omega (arith, ints, clamps, e, f, h)
 
+-- two ranges that hold one coordinate meet: the least end of the one isn't past the greatest end of the other
 ranges_meet : (s t p q n w : ℤ) → pos 0 <ℤ w → between s t n w ≡ true → between p q n w ≡ true → int_le (int_min s t) (int_max p q) ≡ true
 ranges_meet s t p q n w hw h k = at_most_yes (int_min s t) (int_max p q) (go (low_end s t n w h) (high_end p q n w k))
   where
@@ -56,6 +58,7 @@ ranges_meet s t p q n w hw h k = at_most_yes (int_min s t) (int_max p q) (go (lo
     go (inr a) (inl b) = least_below s t t p p q (inr refl) (inl refl) (in_order t p n w hw a b)
     go (inr a) (inr b) = least_below s t t q p q (inr refl) (inr refl) (in_order t q n w hw a b)
 
+-- the shared point is between the ends of both edges in x and in y, so their rectangles meet in both
 pub sharing_boxes_overlap : SharingBoxesOverlap
 sharing_boxes_overlap e f h = let w = (shared_point_is_decided e f).0 h in let m = on_parts e w.at w.on_first in let n = on_parts f w.at w.on_second in
     let a = ranges_meet e.start.x e.end.x f.start.x f.end.x w.at.X w.at.W w.is_point m.in_x n.in_x in

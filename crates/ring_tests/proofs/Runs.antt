@@ -43,11 +43,13 @@ run_and_rings run (s ∷ rings) = ap (λ (b : Bool). edges_share run (edges_of_l
     ∙ sym (any_same (λ e. list_any (share_point e) (edges_of_line s ++ edges_of_lines rings)) (λ e. list_any (share_point e) (edges_of_line s) || list_any (share_point e) (edges_of_lines rings)) run
     (λ e. any_join (share_point e) (edges_of_line s) (edges_of_lines rings))))
 
+-- two polygons share a point of their rings exactly where an edge of the one and an edge of the other do, ring by ring
 pub polygons_by_their_edges : PolygonsByTheirEdges
 polygons_by_their_edges [] e = refl
 polygons_by_their_edges (r ∷ d) e = ap₂ (λ (a b : Bool). a || b) (run_and_rings (edges_of_line r) e) (polygons_by_their_edges d e)
     ∙ sym (any_join (λ f. list_any (share_point f) (edges_of_lines e)) (edges_of_line r) (edges_of_lines d))
 
+-- the tests of rings are those of their edges, word for word
 pub rings_by_their_edges : RingsByTheirEdges
 rings_by_their_edges r s = (refl, refl)
 
@@ -55,5 +57,6 @@ no_more : {A : Type 0} (xs : List A) → xs ++ [] ≡ xs
 no_more [] = refl
 no_more (x ∷ xs) = ap (λ l. x ∷ l) (no_more xs)
 
+-- being inside a ring or a polygon is the parity of its edges above the first position
 pub inside_by_edges : InsideByEdges
 inside_by_edges p ps outer holes other = (ap (λ (l : List Edge). is_odd_above l p) (no_more (edges_of_line outer)), refl)

@@ -6,6 +6,7 @@ use Rattle.table_model.specs.declared.tokens.Token.{Token}
 use Rattle.table_model.specs.declared.tokens.TokenKind.TheVariants as k
 use Rattle.table_model.specs.declared.tokens.TokenKind.{TokenKind}
 
+-- bytes that are passed over give no token, and the tokens go on at the place behind them
 pub tokens_from-skip : (s : Bool) (n at : ℕ) (z : List ℕ) → n ≤ length z → tokens_from s n at z ≡ tokens_from s 0 (at + n) (drop n z)
 tokens_from-skip s zero at z h = let e : at ≡ at + 0 = omega arith in ap (λ k. tokens_from s 0 k z) e
 tokens_from-skip s (suc n) at [] h = absurd (omega arith)
@@ -17,6 +18,7 @@ drop-cons : (n b : ℕ) (z : List ℕ) → 1 ≤ n → drop (n - 1) z ≡ drop n
 drop-cons zero b z h = absurd (omega arith)
 drop-cons (suc n) b z h = let e : suc n - 1 ≡ n = omega arith in ap (λ k. drop k z) e
 
+-- the tokens of a text are what stands at its front, and those of what comes behind it
 tokens_from-front : (s : Bool) (at : ℕ) (z : List ℕ) → 0 < length z → 1 ≤ (front s z).1 → (front s z).1 ≤ length z
     → tokens_from s 0 at z ≡ at_front (front s z).0 (front s z).1 at z (tokens_from s 0 (at + (front s z).1) (drop (front s z).1 z))
 tokens_from-front s at [] some least most = absurd (omega arith)

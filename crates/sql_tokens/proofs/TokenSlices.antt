@@ -13,6 +13,7 @@ take_itself zero z = refl
 take_itself (suc n) [] = refl
 take_itself (suc n) (b ∷ z) = ap (λ r. b ∷ r) (take_itself n z)
 
+-- the text of a token is what stands at its place: without the quotes where it is a text
 text_is_slice : (before z : List ℕ) (kind : TokenKind) (len : ℕ) → IsSlice (before ++ z) (record { kind = kind; text = text_of kind len z; at = length before })
 text_is_slice before z kind len = go (same_kind kind k.Text)
   where
@@ -21,6 +22,7 @@ text_is_slice before z kind len = go (same_kind kind k.Text)
     go true = rw drop-append-add (take_itself (len - 2) (drop 1 z))
     go false = rw drop-append_seam (take_itself len z)
 
+-- a token at the front is such a part, and those behind it are so already
 at_front_slices : (whole : List ℕ) (found : Option TokenKind) (len at : ℕ) (z : List ℕ) (more : List Token)
     → ((kind : TokenKind) → IsSlice whole (record { kind = kind; text = text_of kind len z; at = at })) → AllByRecursion (IsSlice whole) more
     → AllByRecursion (IsSlice whole) (at_front found len at z more)
@@ -40,6 +42,7 @@ byte_before s left before b z h =
     subst (λ whole. AllByRecursion (IsSlice whole) (tokens_from s left (length before + 1) z)) (append_assoc before (b ∷ []) z)
     (subst (λ n. AllByRecursion (IsSlice ((before ++ b ∷ []) ++ z)) (tokens_from s left n z)) longer h)
 
+-- so all tokens from a place on are parts of the whole text, one byte after another
 slices_from : (s : Bool) (left : ℕ) (before z : List ℕ) → AllByRecursion (IsSlice (before ++ z)) (tokens_from s left (length before) z)
 slices_from s left before [] = (refl, tt)
 slices_from s (suc left) before (b ∷ z) = byte_before s left before b z (slices_from s left (before ++ b ∷ []) z)
@@ -48,6 +51,7 @@ slices_from s zero before (b ∷ z) =
     (λ kind. text_is_slice before (b ∷ z) kind (front s (b ∷ z)).1)
     (byte_before s ((front s (b ∷ z)).1 - 1) before b z (slices_from s ((front s (b ∷ z)).1 - 1) (before ++ b ∷ []) z))
 
+-- and so are all tokens of a text
 pub tokens_slices : (s : Bool) (text : List ℕ) → AllByRecursion (IsSlice text) (tokens s text)
 unfolding tokens
 tokens_slices s text = slices_from s 0 [] text

@@ -10,6 +10,7 @@ use Rattle.table_model.specs.declared.conditions.Cond.TheViews.{roll-Cond}
 use Rattle.table_model.specs.declared.conditions.Cond.TheOpen.{Cond-F}
 use denote.Hole.Carrier.{roll}
 
+-- at each variant a fold is the step at that variant, of what the fold gives of the parts
 pub fold-Relates : (A B : Type 0) (step : Cond-F A B → B) (predicate : Predicate) (a b : A) → fold-Cond A B step (conds.Relates predicate a b) ≡ step (Cond-F.Relates predicate a b)
 unfolding roll-Cond roll
 fold-Relates A B step predicate a b = fold-roll-Cond A B step (Cond-F.Relates predicate a b)
@@ -26,10 +27,12 @@ pub fold-IsEmpty : (A B : Type 0) (step : Cond-F A B → B) (a : A) → fold-Con
 unfolding roll-Cond roll
 fold-IsEmpty A B step a = fold-roll-Cond A B step (Cond-F.IsEmpty a)
 
+-- NOT takes the fold of its part
 pub fold-Not : (A B : Type 0) (step : Cond-F A B → B) (c : Cond A) → fold-Cond A B step (conds.Not c) ≡ step (Cond-F.Not (fold-Cond A B step c))
 unfolding roll-Cond roll
 fold-Not A B step c = fold-roll-Cond A B step (Cond-F.Not c)
 
+-- AND and OR take the folds of all parts, in order
 pub fold-And : (A B : Type 0) (step : Cond-F A B → B) (parts : List (Cond A)) → fold-Cond A B step (conds.And parts) ≡ step (Cond-F.And (map (fold-Cond A B step) parts))
 unfolding roll-Cond roll
 fold-And A B step parts = fold-roll-Cond A B step (Cond-F.And parts)

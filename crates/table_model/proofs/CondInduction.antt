@@ -15,6 +15,7 @@ abbrev pub Each : {X : Type 0} → (X → Type 0) → List X → Type 0
 Each P [] = Unit {0}
 Each P (x ∷ xs) = P x × Each P xs
 
+-- what holds of all images holds of each element of a mapped list
 each_mapped : {X S : Type 0} (P : X → Type 0) (f : S → X) (g : (s : S) → P (f s)) (ss : List S) → Each P (map f ss)
 each_mapped P f g [] = tt
 each_mapped P f g (s ∷ ss) = (g s, each_mapped P f g ss)
@@ -29,6 +30,7 @@ pub record Cases (A : Type 0) (P : Cond A → Type 0) : Type 0 where
   pub is_empty : (a : A) → P (conds.IsEmpty a)
   pub relates : (predicate : Predicate) (a b : A) → P (conds.Relates predicate a b)
 
+-- one layer of a condition over its parts: what holds of the parts holds of it, by the case of its kind
 layer : {A S : Type 0} (P : Cond A → Type 0) (f : S → Cond A) (g : (s : S) → P (f s)) → Cases A P → (y : Cond-F A S) → P (roll-Cond A (map-Cond A S (Cond A) f y))
 unfolding roll-Cond roll
 layer P f g cases (Cond-F.Or ys) = cases.or (map f ys) (each_mapped P f g ys)
@@ -39,5 +41,6 @@ layer P f g cases (Cond-F.IsNull a) = cases.is_null a
 layer P f g cases (Cond-F.IsEmpty a) = cases.is_empty a
 layer P f g cases (Cond-F.Relates predicate a b) = cases.relates predicate a b
 
+-- what holds of a condition of each kind once it holds of its parts holds of all conditions
 pub by_parts : {A : Type 0} (P : Cond A → Type 0) → Cases A P → (c : Cond A) → P c
 by_parts {A = A} P cases = ind-Cond A P (λ x y e. subst (λ z. P (roll-Cond A z)) e (layer P (λ s. s.0) (λ s. s.1) cases y))

@@ -19,6 +19,7 @@ split {A = A} = fold-Cond A (Split A) split_by_parts
 abbrev IsWhole : {A : Type 0} → Cond A → Type 0
 IsWhole c = (split c).whole ≡ c
 
+-- parts that splitting keeps are kept in a list
 all_whole : {A : Type 0} (parts : List (Cond A)) → Each IsWhole parts → wholes (map split parts) ≡ parts
 all_whole [] each = refl
 all_whole (c ∷ parts) each = ap₂ (λ x xs. x ∷ xs) each.0 (all_whole parts each.1)
@@ -35,16 +36,20 @@ kept {A = A} = by_parts IsWhole (record {
   relates = λ p a b. ap (λ s. s.whole) (fold-Relates A (Split A) split_by_parts p a b);
 })
 
+-- so splitting keeps all parts of a list
 all_kept : {A : Type 0} (parts : List (Cond A)) → wholes (map split parts) ≡ parts
 all_kept [] = refl
 all_kept (c ∷ parts) = ap₂ (λ x xs. x ∷ xs) (kept c) (all_kept parts)
 
+-- the conjuncts gathered while splitting are those of the parts
 flattened : {A : Type 0} (parts : List (Cond A)) → flat_map (λ part. part.conjuncts) (map split parts) ≡ flat_map conjuncts_of parts
 flattened parts = flat_map-map (λ part. part.conjuncts) split parts
 
+-- only an AND is taken apart: a condition of any other kind is its own one conjunct
 pub conjuncts-Or : {A : Type 0} (parts : List (Cond A)) → conjuncts_of (conds.Or parts) ≡ conds.Or parts ∷ []
 conjuncts-Or {A = A} parts = ap (λ s. s.conjuncts) (fold-Or A (Split A) split_by_parts parts) ∙ ap (λ cs. conds.Or cs ∷ []) (all_kept parts)
 
+-- an AND has the conjuncts of its parts, one part after another
 pub conjuncts-And : {A : Type 0} (parts : List (Cond A)) → conjuncts_of (conds.And parts) ≡ flat_map conjuncts_of parts
 conjuncts-And {A = A} parts = ap (λ s. s.conjuncts) (fold-And A (Split A) split_by_parts parts) ∙ flattened parts
 

@@ -39,6 +39,7 @@ next m k = omega arith
 counted : (k j : ℕ) (ks : List ℕ) (n : ℕ) → (j == k) ≡ true → times k ks ≡ n → times k (j ∷ ks) ≡ 1 + n
 counted k j ks n e h = times-cons k j ks ∙ ap (λ b. (if b then 1 else 0) + times k ks) e ∙ ap (λ t. 1 + t) h
 
+-- a first place that is another one adds nothing
 passed : (k j : ℕ) (ks : List ℕ) (n : ℕ) → (j == k) ≡ false → times k ks ≡ n → times k (j ∷ ks) ≡ n
 passed k j ks n e h = times-cons k j ks ∙ ap (λ b. (if b then 1 else 0) + times k ks) e ∙ zero_add (times k ks) ∙ h
 
@@ -65,6 +66,7 @@ once test (x ∷ xs) m (suc k) d l = go (test x) (if test (get_or xs k d) then 1
     go true n rest = passed (m + suc k) m (places_from (m + 1) test xs) n (differ m (m + suc k) (omega arith)) rest
     go false n rest = rest
 
+-- how often a place stands in lists put together is the sum over them
 times-flat_map : {X : Type 0} (k : ℕ) (g : X → List ℕ) (ns : List X) → times k (flat_map g ns) ≡ sum_by (λ n. times k (g n)) ns
 times-flat_map k g [] = refl
 times-flat_map k g (n ∷ ns) = sum_by-append (λ j. cond (j == k) 1 0) (g n) (flat_map g ns) ∙ ap (λ t. times k (g n) + t) (times-flat_map k g ns) ∙ sym (sum_by-cons (λ i. times k (g i)) n ns)
@@ -119,6 +121,7 @@ zeros : (ns : List ℕ) → sum_by (λ n. 0) ns ≡ 0
 zeros [] = refl
 zeros (n ∷ ns) = sum_by-cons (λ n. 0) n ns ∙ zero_add (sum_by (λ n. 0) ns) ∙ zeros ns
 
+-- a number past all conjuncts stands nowhere among the filters
 filters_none : {A : Type 0} (conjuncts : List (Cond A)) (k : ℕ) → length conjuncts ≤ k → times k (filters conjuncts) ≡ 0
 filters_none {A = A} conjuncts k l =
     times-flat_map k (λ n. places_where (λ e. predicate_count e == n) conjuncts) (possible_counts conjuncts)

@@ -15,6 +15,7 @@ pub record IsFound {X : Type 0} (test : X → Bool) (xs : List X) (x : X) : Type
   pub missed : All (λ y. test y ≡ false) before
   pub passed : test x ≡ true
 
+-- what is found passes the test, and all before it fail it
 pub found : {X : Type 0} (test : X → Bool) (xs : List X) (x : X) → find test xs ≡ Some x → IsFound test xs x
 found test [] x e = cc
 found {X = X} test (y ∷ ys) x e = go (test y) refl e (found test ys x)
@@ -51,6 +52,7 @@ at_most_test a b e = grind arith
 pub bound : {X : Type 0} (number : X → ℕ) (xs : List X) (x : X) → list_all (λ y. nat_le (number x) (number y)) xs ≡ true → All (λ y. number x ≤ number y) xs
 bound number xs x e = All-weaker (λ y. nat_le (number x) (number y) ≡ true) (λ y. number x ≤ number y) (λ y t. at_most (number x) (number y) t) xs (AllPass-from_list_all (λ y. nat_le (number x) (number y)) xs e)
 
+-- and the other way round
 pub bound_test : {X : Type 0} (number : X → ℕ) (xs : List X) (x : X) → All (λ y. number x ≤ number y) xs → list_all (λ y. nat_le (number x) (number y)) xs ≡ true
 bound_test number xs x h = list_all-from_AllPass (λ y. nat_le (number x) (number y)) xs (All-weaker (λ y. number x ≤ number y) (λ y. nat_le (number x) (number y) ≡ true) (λ y t. at_most_test (number x) (number y) t) xs h)
 
@@ -67,6 +69,7 @@ more number xs x y h fails = go (less_or_not (number x) (number y))
         let t : list_all (λ z. nat_le (number y) (number z)) xs ≡ true = bound_test number xs y (All-weaker (λ z. number x ≤ number z) (λ z. number y ≤ number z) (λ z l. omega (arith, l, m)) xs h) in
         cc
 
+-- what is found is the first of least number: none has less, and those before it failed the test, so they have more
 pub first_is_first : {X : Type 0} (number : X → ℕ) (xs : List X) (x : X) → first_of_least number xs ≡ Some x → IsFirstOfLeast number xs x
 first_is_first number xs x e =
     let f = found (λ y. list_all (λ z. nat_le (number y) (number z)) xs) xs x e in
@@ -84,10 +87,12 @@ missed : {X : Type 0} (test : X → Bool) (before rest : List X) → All (λ y. 
 missed test [] rest h = refl
 missed test (y ∷ ys) rest h = ap (λ b. cond b (Some y) (find test (ys ++ rest))) (All-head (λ z. test z ≡ false) y ys h) ∙ missed test ys rest (All-tail (λ z. test z ≡ false) y ys h)
 
+-- an element with more than another one of the list fails the test
 fails : {X : Type 0} (number : X → ℕ) (xs : List X) (x y : X) → Contains xs x → number x < number y → (b : Bool) → list_all (λ z. nat_le (number y) (number z)) xs ≡ b → list_all (λ z. nat_le (number y) (number z)) xs ≡ false
 fails number xs x y c l false e = e
 fails number xs x y c l true e = absurd (omega (arith, l, All-contains (λ z. number y ≤ number z) xs x (bound number xs y e) c))
 
+-- the first of least number is what is found: those before it have more, so they fail, and it passes
 pub first_is_found : {X : Type 0} (number : X → ℕ) (xs : List X) (x : X) → IsFirstOfLeast number xs x → first_of_least number xs ≡ Some x
 first_is_found {X = X} number xs x f =
     ap (find test) f.parted
@@ -103,6 +108,7 @@ record Least {X : Type 0} (number : X → ℕ) (xs : List X) : Type 0 where
   place : Contains xs least
   none_is_less : All (λ y. number least ≤ number y) xs
 
+-- among some elements one has the least number: the first one, or the least of the others
 least_there : {X : Type 0} (number : X → ℕ) (x : X) (xs : List X) → Least number (x ∷ xs)
 least_there number x [] = record { least = x; place = (0, omega arith, refl); none_is_less = All-cons (λ y. number x ≤ number y) x [] (omega arith) (All-nil _) }
 least_there number x (y ∷ ys) = go (least_there number y ys)
@@ -122,6 +128,7 @@ least_there number x (y ∷ ys) = go (least_there number y ys)
     go : Least number (y ∷ ys) → Least number (x ∷ y ∷ ys)
     go r = pick r (less_or_not (number x) (number r.least))
 
+-- where nothing is found all fail the test
 none_found : {X : Type 0} (test : X → Bool) (xs : List X) → find test xs ≡ None → All (λ y. test y ≡ false) xs
 none_found test [] e = All-nil _
 none_found {X = X} test (y ∷ ys) e = go (test y) refl e (none_found test ys)
@@ -140,6 +147,7 @@ some_found {X = X} test xs x c e = go (find test xs) refl
         let f : test x ≡ false = All-contains (λ z. test z ≡ false) xs x (none_found test xs is) c in
         cc
 
+-- so among some elements a first of least number is found, since one of least number passes the test
 pub first_is_there : {X : Type 0} (number : X → ℕ) (x : X) (xs : List X) → IsSome (first_of_least number (x ∷ xs))
 first_is_there number x xs =
     let r = least_there number x xs in

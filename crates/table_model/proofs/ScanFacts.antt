@@ -29,6 +29,7 @@ with_each x (y ∷ ys) = ap (λ zs. (x ∷ y ∷ []) ∷ zs) (with_each x ys)
 abbrev scan : ℕ → Access
 scan reference = record { reference = reference; method = methods.Scan }
 
+-- a scan tests nothing, so the candidates over one table are all its places
 pub scan_of_one : {A G : Type 0} (denotes : Rows G → A → Option Geometry) (conjuncts : List (Cond A)) (table : Table G)
     → candidates_among denotes conjuncts (table ∷ []) (scan 0 ∷ []) ≡ choices (table ∷ [])
 scan_of_one denotes conjuncts table =
@@ -43,6 +44,7 @@ pairs denotes conjuncts first second place =
     ∙ sym (with_each place (places_in second))
     ∙ ap (map (λ choice. place ∷ choice)) (sym (product_of_one (places_in second)))
 
+-- and over two tables they are each place of the first with each place of the second, in the order of the choices
 pub scans_of_two : {A G : Type 0} (denotes : Rows G → A → Option Geometry) (conjuncts : List (Cond A)) (first second : Table G)
     → candidates_among denotes conjuncts (first ∷ second ∷ []) (scan 0 ∷ scan 1 ∷ []) ≡ choices (first ∷ second ∷ [])
 scans_of_two denotes conjuncts first second =

@@ -13,6 +13,7 @@ use Rattle.table_model.specs.declared.values.Truth.{Truth}
 use Rattle.table_model.specs.declared.values.Truth.TheVariants.{True, False, Unknown}
 use Rattle.table_model.proofs.CondFolds.{fold-And}
 
+-- an AND is true exactly where both sides are, since unknown isn't true
 pub and_true : (a b : Truth) → is_true (and_of a b) ≡ (is_true a && is_true b)
 and_true True b = refl
 and_true False b = refl
@@ -20,6 +21,7 @@ and_true Unknown True = refl
 and_true Unknown False = refl
 and_true Unknown Unknown = refl
 
+-- the AND of three truths is the same however it is grouped
 and_associates : (a b c : Truth) → and_of (and_of a b) c ≡ and_of a (and_of b c)
 and_associates True b c = refl
 and_associates False b c = refl
@@ -41,6 +43,7 @@ all_from : (t : Truth) (parts : List Truth) → fold and_of t parts ≡ and_of t
 all_from t [] = sym (and_with_true t)
 all_from t (x ∷ parts) = all_from (and_of t x) parts ∙ and_associates t x (all_of parts) ∙ ap (and_of t) (sym (all_from x parts))
 
+-- AND of two lists of parts, one behind the other, is AND of what the two give
 all_joined : (a b : List Truth) → all_of (a ++ b) ≡ and_of (all_of a) (all_of b)
 all_joined [] b = refl
 all_joined (x ∷ a) b =
@@ -51,13 +54,16 @@ pub of_parts : {A G : Type 0} (matrix : Geometry → Geometry → Matrix) (denot
     → truth matrix denotes rows (conds.And parts) ≡ all_of (map (truth matrix denotes rows) parts)
 of_parts {A = A} matrix denotes rows parts = fold-And A Truth (truth_by_parts matrix denotes rows) parts
 
+-- AND of parts is true exactly where each of them is
 pub are_true : {A : Type 0} (f : A → Truth) (parts : List A) → is_true (all_of (map f parts)) ≡ list_all (λ c. is_true (f c)) parts
 are_true f [] = refl
 are_true f (x ∷ parts) = ap is_true (all_from (f x) (map f parts)) ∙ and_true (f x) (all_of (map f parts)) ∙ ap (λ b. is_true (f x) && b) (are_true f parts)
 
+-- so conjuncts are all true exactly where their AND is
 pub conjuncts_are_joined : ConjunctsAreJoined
 conjuncts_are_joined matrix denotes rows conjuncts = ap is_true (of_parts matrix denotes rows conjuncts) ∙ are_true (truth matrix denotes rows) conjuncts
 
+-- an AND within an AND may be dissolved, since the grouping of parts doesn't matter
 pub nested_ands_are_one : NestedAndsAreOne
 nested_ands_are_one matrix denotes rows before inside after =
     of_parts matrix denotes rows (before ++ conds.And inside ∷ after) ∙ ap all_of (map-append f before (conds.And inside ∷ after))

@@ -10,6 +10,7 @@ use Rattle.table_model.specs.declared.queries.WrittenCond.TheViews.{roll-Written
 use Rattle.table_model.specs.declared.queries.WrittenCond.TheOpen.{WrittenCond-F}
 use denote.Hole.Carrier.{roll}
 
+-- at each variant a fold is the step at that variant, of what the fold gives of the parts
 pub fold-Relates : (A B : Type 0) (step : WrittenCond-F A B → B) (at : ℕ) (predicate : WrittenPredicate) (a b : A) → fold-WrittenCond A B step (conds.Relates at predicate a b) ≡ step (WrittenCond-F.Relates at predicate a b)
 unfolding roll-WrittenCond roll
 fold-Relates A B step at predicate a b = fold-roll-WrittenCond A B step (WrittenCond-F.Relates at predicate a b)
@@ -26,10 +27,12 @@ pub fold-IsNull : (A B : Type 0) (step : WrittenCond-F A B → B) (a : WrittenOp
 unfolding roll-WrittenCond roll
 fold-IsNull A B step a = fold-roll-WrittenCond A B step (WrittenCond-F.IsNull a)
 
+-- NOT takes the fold of its part
 pub fold-Not : (A B : Type 0) (step : WrittenCond-F A B → B) (c : WrittenCond A) → fold-WrittenCond A B step (conds.Not c) ≡ step (WrittenCond-F.Not (fold-WrittenCond A B step c))
 unfolding roll-WrittenCond roll
 fold-Not A B step c = fold-roll-WrittenCond A B step (WrittenCond-F.Not c)
 
+-- AND and OR take the folds of all parts, in order
 pub fold-And : (A B : Type 0) (step : WrittenCond-F A B → B) (parts : List (WrittenCond A)) → fold-WrittenCond A B step (conds.And parts) ≡ step (WrittenCond-F.And (map (fold-WrittenCond A B step) parts))
 unfolding roll-WrittenCond roll
 fold-And A B step parts = fold-roll-WrittenCond A B step (WrittenCond-F.And parts)

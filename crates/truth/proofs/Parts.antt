@@ -36,6 +36,7 @@ joined_more join f a b v xs i d within v_is b_is =
     ap (λ y. fold join y (map f (drop (i + 1) xs))) (b_is ∙ ap (join a) v_is)
     ∙ sym (at_drop_more (λ ys. fold join a (map f ys)) xs i d within)
 
+-- numbers that are the same once kept to 64 bits stay so with as many more on both sides
 kept_more : (n w a b : ℕ) → kept_count n ≡ kept_count (w + a) → kept_count (n + b) ≡ kept_count (w + (a + b))
 kept_more n w a b e = omega arith
 
