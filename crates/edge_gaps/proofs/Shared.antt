@@ -1,5 +1,5 @@
 -- The points that an edge shares with others, as they are found one edge after the other.
-use Rattle.std.proofs.Common.{◌≡◌, ◌⊎◌, inl, inr, ℕ, suc, ◌+◌, ◌<◌, ◌≤◌, Bool, true, false, refl, sym, ap, subst, ◌∙◌, List, [], ◌∷◌, ◌++◌, length, get_or, All, Contains, pos, ◌≤ℤ◌, arith}
+use Rattle.std.proofs.Common.{◌≡◌, ◌⊎◌, inl, inr, ℕ, suc, ◌+◌, ◌<◌, ◌≤◌, true, false, refl, sym, ap, subst, ◌∙◌, List, [], ◌∷◌, ◌++◌, length, get_or, All, Contains, pos, ◌≤ℤ◌, arith}
 use Rattle.std.proofs.lemmas.List.{get_or_default}
 use Rattle.std.specs.List.{list_any}
 use Rattle.std.proofs.lemmas.List.Folds.{list_any_at}
@@ -16,10 +16,9 @@ use Rattle.cut_laws.proofs.Lists.{among_from_contains, any_from_some}
 use Rattle.ring_tests.specs.RunLaws.{box_of}
 use Rattle.edge_boxes.specs.Meetings.{places_meeting}
 use Rattle.edge_boxes.specs.OneLine.{meet_on_one_line}
-use Rattle.noding.specs.Meetings.{on_both, named, is_common_cut, IsMeeting, NamesCommonCuts}
+use Rattle.noding.specs.Meetings.{on_both, named, is_common_cut}
 use Rattle.noding.specs.Nodings.{ListsPoint, PutsPointsInOrder}
 use Rattle.noding.specs.declared.answers.Meet.{Meet}
-use Rattle.noding.specs.declared.answers.Meet.TheVariants.{Apart}
 use Rattle.noding.proofs.NamedCuts.{CutOf}
 use Rattle.noding.proofs.NodeCuts.{cut_is_point, cut_of_both, named_on_both}
 use Rattle.noding.proofs.BreakPoints.{Shares, all_of, any_left, any_right, earlier_or_last, point_kept}
@@ -73,6 +72,23 @@ shared_more e others IsAsked n f m xs ys own same s grown h = record { from = fr
         go (inr b) = subst (λ zs. ListsPoint zs p) (sym grown) (any_right (λ q. same_point q p ≡ true) xs (named m)
             (s.names p hp (subst (λ (x : Edge). is_common_cut e x p ≡ true) (sym (same g (subst (λ i. IsAsked i g) b asked))) c)))
 
+-- an edge whose bounds don't meet those of another shares no point with it
+no_common_cut : (e f : Edge) (p : Point) → overlap (box_of f) (box_of e) ≡ false → IsPoint p → is_common_cut e f p ≡ true → ⊥
+no_common_cut e f p off hp k =
+    let both : (on e p ≡ true) × (on f p ≡ true) = and_parts (on e p) (on f p) (and_parts (on_both e f p) _ k).0 in
+    absurd (let clash : true ≡ false = sym (sharing_near e f p hp both.0 both.1) ∙ off in cc)
+
+pub shared_no_more : (e : Edge) (others : List Edge) (IsAsked : ℕ → Edge → Type 0) (n : ℕ) (f : Edge) (points : List Point) → overlap (box_of f) (box_of e) ≡ false → ((g : Edge) → IsAsked n g → f ≡ g)
+    → AreSharedSoFar e others IsAsked n points → AreSharedSoFar e others IsAsked (n + 1) points
+shared_no_more e others IsAsked n f points off same h = record { from = h.from; found = found }
+  where
+    found : (k : ℕ) (g : Edge) → k < n + 1 → IsAsked k g → ListsCommonCuts e g points
+    found k g l asked p hp c = go (earlier_or_last k n l)
+      where
+        go : (k < n) ⊎ (k ≡ n) → ListsPoint points p
+        go (inl b) = h.found k g b asked p hp c
+        go (inr b) = absurd (no_common_cut e f p off hp (subst (λ (x : Edge). is_common_cut e x p ≡ true) (sym (same g (subst (λ i. IsAsked i g) b asked))) c))
+
 -- the edge that is read at a place is the one there
 pub one_at : (others : List Edge) (j : ℕ) (f g : Edge) → j < length others → f ≡ get_or others j f → IsAt others j g → f ≡ g
 one_at others j f g lj hf at = sym (element_stands others j f g lj hf) ∙ at
@@ -95,19 +111,6 @@ all_near_shared e others near n points is past h = record { from = h.from; found
       where
         at : IsNearAt near others f → ListsPoint points p
         at a = h.found a.index f (omega (arith, a.within, past)) (ap (λ i. get_or others i f) (get_or_default near a.index 0 a.place a.within) ∙ a.stands) p hp k
-
--- ---- an edge whose bounds don't meet those of another has nothing in common with it
-pub apart_by_bounds : (e f : Edge) → overlap (box_of f) (box_of e) ≡ false → IsMeeting e f Apart
-apart_by_bounds e f off p hp = no_point (on_both e f p) refl
-  where
-    no_point : (t : Bool) → on_both e f p ≡ t → t ≡ false
-    no_point false k = refl
-    no_point true k =
-        let both : (on e p ≡ true) × (on f p ≡ true) = and_parts (on e p) (on f p) k in
-        absurd (let clash : true ≡ false = sym (sharing_near e f p hp both.0 both.1) ∙ off in cc)
-
-pub names_no_cut : (e f : Edge) → overlap (box_of f) (box_of e) ≡ false → NamesCommonCuts e f Apart
-names_no_cut e f off p hp k = absurd (let clash : true ≡ false = sym (and_parts (on_both e f p) _ k).0 ∙ apart_by_bounds e f off p hp in cc)
 
 pub shared_points : (e : Edge) (others : List Edge) (points : List Point) → AreShared e others points → All IsPoint points
 shared_points e others points h = all_of IsPoint points (λ p c. cut_is_point (e ∷ others) [] p (h.from p c).is_cut)

@@ -1,13 +1,11 @@
 //! The points that an edge shares with others near it.
 
-ghost use Rattle.std.specs.Prelude.{◌≡◌, [], ◌∷◌, ◌++◌, All, OnOk, pos, ◌≤ℤ◌};
-ghost use Rattle.geometry_model.specs.Points.{IsPoint, IsLeast};
-ghost use Rattle.geometry_model.specs.CutPoints.{IsCut};
-ghost use Rattle.fraction.specs.Ranges.{meeting_limit};
+ghost use Rattle.std.specs.Prelude.{◌≡◌, ◌++◌, All, OnOk};
+ghost use Rattle.geometry_model.specs.Points.{IsPoint};
 ghost use Rattle.ring_tests.specs.RunLaws.{box_of};
 ghost use Rattle.edge_boxes.specs.BoxLists.{BoxesOf};
 ghost use Rattle.edge_boxes.specs.Meetings.{places_meeting};
-ghost use Rattle.noding.specs.Meetings.{IsMeeting, named, NamesCommonCuts};
+ghost use Rattle.noding.specs.Meetings.{named};
 ghost use Rattle.noding.specs.Nodings.{PutsPointsInOrder};
 ghost use Rattle.edge_gaps.specs.Steps.{AreShared};
 
@@ -37,23 +35,7 @@ fn push_named(points: &mut SmallVec<RatPoint, 8>, answer: &Meet) -> Result<(), A
     Ok(())
 }
 
-/// What two edges have in common, where the bounds of the first come along: nothing where the bounds of both don't meet.
-fn meet_within(edge: &Segment, bounds: &Bounds, other: &Segment) -> Meet
-    requires { bounds.now ≡ box_of edge.now }
-    ensures exact { IsMeeting edge.now other.now result }
-    ensures cuts { All (IsCut (edge.now ∷ other.now ∷ []) []) (named result) }
-    ensures found { NamesCommonCuts edge.now other.now result }
-    ensures limit { All (λ p. p.W ≤ℤ pos meeting_limit) (named result) }
-    ensures least { All IsLeast (named result) }
-{
-    if Bounds::of(other).overlap(bounds) {
-        meet(edge, other)
-    } else {
-        Meet::Apart
-    }
-}
-
-/// Leaves in the vector the points that the edge shares with others, each of which is asked.
+/// Leaves in the vector the points that the edge shares with others, of which each is asked whose bounds meet its own.
 fn find_among_all(
     edge: &Segment,
     others: &[Segment],
@@ -64,7 +46,9 @@ fn find_among_all(
     let bounds = Bounds::of(edge);
     points.clear();
     for other in others {
-        push_named(points, &meet_within(edge, &bounds, other))?;
+        if Bounds::of(other).overlap(&bounds) {
+            push_named(points, &meet(edge, other))?;
+        }
     }
     Ok(())
 }
