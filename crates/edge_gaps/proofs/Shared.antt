@@ -8,6 +8,7 @@ use Rattle.geometry_model.specs.Points.{Point, IsPoint, same_point}
 use Rattle.geometry_model.specs.Geometries.{Edge}
 use Rattle.geometry_model.specs.Sides.{on, on_one_line}
 use Rattle.geometry_model.specs.FirstFaults.{share_point}
+use Rattle.geometry_model.specs.Envelopes.{overlap}
 use Rattle.geometry_laws.proofs.Scaling.{and_parts, and_from}
 use Rattle.validity_laws.proofs.SharedPoints.{shared_point_is_decided}
 use Rattle.fraction.specs.Ranges.{meeting_limit}
@@ -22,15 +23,15 @@ use Rattle.noding.proofs.NamedCuts.{CutOf}
 use Rattle.noding.proofs.NodeCuts.{cut_is_point, cut_of_both, named_on_both}
 use Rattle.noding.proofs.BreakPoints.{Shares, all_of, any_left, any_right, earlier_or_last, point_kept}
 use Rattle.gap_laws.specs.Gaps.{SharesNoStretch}
-use Rattle.edge_gaps.specs.Steps.{IsSharedPoint, ListsCommonCuts, AreSharedSoFar, AreShared}
-use Rattle.edge_gaps.proofs.Near.{IsNearAt, sharing_is_near}
+use Rattle.edge_gaps.specs.Steps.{IsSharedPoint, ListsCommonCuts, AreSharedSoFar, IsAt, IsAtPlace, AreShared}
+use Rattle.edge_gaps.proofs.Near.{IsNearAt, sharing_near, sharing_is_near}
 
 -- ---- one more edge
 element_stands : {X : Type 0} (xs : List X) (j : ℕ) (x d : X) → j < length xs → x ≡ get_or xs j x → get_or xs j d ≡ x
 element_stands xs j x d h is = get_or_default xs j d x h ∙ sym is
 
-pub first_shared : (e : Edge) (others : List Edge) (near : List ℕ) (points : List Point) → points ≡ [] → AreSharedSoFar e others near 0 points
-first_shared e others near points none = record { from = from; found = λ k d f l. absurd (omega (arith, l)) }
+pub first_shared : (e : Edge) (others : List Edge) (IsAsked : ℕ → Edge → Type 0) (points : List Point) → points ≡ [] → AreSharedSoFar e others IsAsked 0 points
+first_shared e others IsAsked points none = record { from = from; found = λ k f l. absurd (omega (arith, l)) }
   where
     nowhere : (p : Point) → Contains {X = Point} [] p → IsSharedPoint e others p
     nowhere p c = absurd (omega (arith, c.1))
@@ -38,9 +39,9 @@ first_shared e others near points none = record { from = from; found = λ k d f 
     from : (p : Point) → Contains points p → IsSharedPoint e others p
     from p c = nowhere p (subst (λ ps. Contains ps p) none c)
 
-pub shared_more : (e : Edge) (others : List Edge) (near : List ℕ) (n j : ℕ) (f : Edge) (m : Meet) (xs ys : List Point) → n < length near → j ≡ get_or near n j → j < length others → f ≡ get_or others j f
-    → Shares e f m → ys ≡ xs ++ named m → AreSharedSoFar e others near n xs → AreSharedSoFar e others near (n + 1) ys
-shared_more e others near n j f m xs ys hn hj lj hf s grown h = record { from = from; found = found }
+pub shared_more : (e : Edge) (others : List Edge) (IsAsked : ℕ → Edge → Type 0) (n : ℕ) (f : Edge) (m : Meet) (xs ys : List Point) → Contains others f → ((g : Edge) → IsAsked n g → f ≡ g)
+    → Shares e f m → ys ≡ xs ++ named m → AreSharedSoFar e others IsAsked n xs → AreSharedSoFar e others IsAsked (n + 1) ys
+shared_more e others IsAsked n f m xs ys own same s grown h = record { from = from; found = found }
   where
     cut : (p : Point) → Contains (named m) p → CutOf e f p
     cut p c = All-contains (CutOf e f) (named m) p s.cuts c
@@ -49,13 +50,13 @@ shared_more e others near n j f m xs ys hn hj lj hf s grown h = record { from = 
     both p c = and_parts (on e p) (on f p) (named_on_both e f m s.exact p (cut_is_point (e ∷ f ∷ []) [] p (cut p c)) (among_from_contains (named m) p c))
 
     behind : Contains (e ∷ others) f
-    behind = (suc j, omega (arith, lj), sym hf)
+    behind = (suc own.0, omega (arith, own.1), own.2)
 
     either : (p : Point) → Contains xs p ⊎ Contains (named m) p → IsSharedPoint e others p
     either p (inl c) = h.from p c
     either p (inr c) = record {
       on_edge = (both p c).0;
-      on_other = any_from_some (λ g. on g p ≡ true) others (record { found = f; among = among_from_contains others f (j, lj, sym hf); has = (both p c).1 });
+      on_other = any_from_some (λ g. on g p ≡ true) others (record { found = f; among = among_from_contains others f own; has = (both p c).1 });
       is_cut = cut_of_both (e ∷ others) e f p (0, omega arith, refl) behind (cut p c);
       limit = All-contains (λ q. q.W ≤ℤ pos meeting_limit) (named m) p s.limit c;
     }
@@ -63,20 +64,45 @@ shared_more e others near n j f m xs ys hn hj lj hf s grown h = record { from = 
     from : (p : Point) → Contains ys p → IsSharedPoint e others p
     from p c = either p (Contains-append_cases xs (named m) p (subst (λ zs. Contains zs p) grown c))
 
-    at_last : (k d : ℕ) (g : Edge) → k ≡ n → get_or others (get_or near k d) g ≡ f
-    at_last k d g is = ap (λ i. get_or others (get_or near i d) g) is ∙ ap (λ i. get_or others i g) (element_stands near n j d hn hj) ∙ element_stands others j f g lj hf
-
-    found : (k d : ℕ) (g : Edge) → k < n + 1 → ListsCommonCuts e (get_or others (get_or near k d) g) ys
-    found k d g l p hp c = go (earlier_or_last k n l)
+    found : (k : ℕ) (g : Edge) → k < n + 1 → IsAsked k g → ListsCommonCuts e g ys
+    found k g l asked p hp c = go (earlier_or_last k n l)
       where
         go : (k < n) ⊎ (k ≡ n) → ListsPoint ys p
-        go (inl b) = subst (λ zs. ListsPoint zs p) (sym grown) (any_left (λ q. same_point q p ≡ true) xs (named m) (h.found k d g b p hp c))
+        go (inl b) = subst (λ zs. ListsPoint zs p) (sym grown) (any_left (λ q. same_point q p ≡ true) xs (named m) (h.found k g b asked p hp c))
         go (inr b) = subst (λ zs. ListsPoint zs p) (sym grown) (any_right (λ q. same_point q p ≡ true) xs (named m)
-            (s.names p hp (subst (λ (x : Edge). is_common_cut e x p ≡ true) (at_last k d g b) c)))
+            (s.names p hp (subst (λ (x : Edge). is_common_cut e x p ≡ true) (sym (same g (subst (λ i. IsAsked i g) b asked))) c)))
+
+-- an edge whose bounds don't meet those of another shares no point with it
+no_common_cut : (e f : Edge) (p : Point) → overlap (box_of f) (box_of e) ≡ false → IsPoint p → is_common_cut e f p ≡ true → ⊥
+no_common_cut e f p off hp k =
+    let both : (on e p ≡ true) × (on f p ≡ true) = and_parts (on e p) (on f p) (and_parts (on_both e f p) _ k).0 in
+    absurd (let clash : true ≡ false = sym (sharing_near e f p hp both.0 both.1) ∙ off in cc)
+
+pub shared_no_more : (e : Edge) (others : List Edge) (IsAsked : ℕ → Edge → Type 0) (n : ℕ) (f : Edge) (points : List Point) → overlap (box_of f) (box_of e) ≡ false → ((g : Edge) → IsAsked n g → f ≡ g)
+    → AreSharedSoFar e others IsAsked n points → AreSharedSoFar e others IsAsked (n + 1) points
+shared_no_more e others IsAsked n f points off same h = record { from = h.from; found = found }
+  where
+    found : (k : ℕ) (g : Edge) → k < n + 1 → IsAsked k g → ListsCommonCuts e g points
+    found k g l asked p hp c = go (earlier_or_last k n l)
+      where
+        go : (k < n) ⊎ (k ≡ n) → ListsPoint points p
+        go (inl b) = h.found k g b asked p hp c
+        go (inr b) = absurd (no_common_cut e f p off hp (subst (λ (x : Edge). is_common_cut e x p ≡ true) (sym (same g (subst (λ i. IsAsked i g) b asked))) c))
+
+-- the edge that is read at a place is the one there
+pub one_at : (others : List Edge) (j : ℕ) (f g : Edge) → j < length others → f ≡ get_or others j f → IsAt others j g → f ≡ g
+one_at others j f g lj hf at = sym (element_stands others j f g lj hf) ∙ at
+
+pub one_at_place : (others : List Edge) (near : List ℕ) (n j : ℕ) (f g : Edge) → n < length near → j ≡ get_or near n j → j < length others → f ≡ get_or others j f → IsAtPlace others near n g → f ≡ g
+one_at_place others near n j f g hn hj lj hf at = one_at others j f g lj hf (subst (λ i. IsAt others i g) (element_stands near n j 0 hn hj) at)
 
 -- ---- after the last edge
-pub all_shared : (e : Edge) (others : List Edge) (near : List ℕ) (n : ℕ) (points : List Point) → near ≡ places_meeting (box_of e) 0 others → length near ≤ n → AreSharedSoFar e others near n points → AreShared e others points
-all_shared e others near n points is past h = record { from = h.from; found = found }
+pub all_shared : (e : Edge) (others : List Edge) (n : ℕ) (points : List Point) → length others ≤ n → AreSharedSoFar e others (IsAt others) n points → AreShared e others points
+all_shared e others n points past h = record { from = h.from; found = λ f c. h.found c.0 f (omega (arith, c.1, past)) c.2 }
+
+pub all_near_shared : (e : Edge) (others : List Edge) (near : List ℕ) (n : ℕ) (points : List Point) → near ≡ places_meeting (box_of e) 0 others → length near ≤ n
+    → AreSharedSoFar e others (IsAtPlace others near) n points → AreShared e others points
+all_near_shared e others near n points is past h = record { from = h.from; found = found }
   where
     found : (f : Edge) → Contains others f → ListsCommonCuts e f points
     found f c p hp k =
@@ -84,7 +110,7 @@ all_shared e others near n points is past h = record { from = h.from; found = fo
         at (sharing_is_near e others near f p is c hp both.0 both.1)
       where
         at : IsNearAt near others f → ListsPoint points p
-        at a = h.found a.index a.place f (omega (arith, a.within, past)) p hp (subst (λ (x : Edge). is_common_cut e x p ≡ true) (sym a.stands) k)
+        at a = h.found a.index f (omega (arith, a.within, past)) (ap (λ i. get_or others i f) (get_or_default near a.index 0 a.place a.within) ∙ a.stands) p hp k
 
 pub shared_points : (e : Edge) (others : List Edge) (points : List Point) → AreShared e others points → All IsPoint points
 shared_points e others points h = all_of IsPoint points (λ p c. cut_is_point (e ∷ others) [] p (h.from p c).is_cut)

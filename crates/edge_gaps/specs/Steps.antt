@@ -21,10 +21,18 @@ pub record IsSharedPoint (e : Edge) (others : List Edge) (p : Point) : Type 0 wh
 abbrev pub ListsCommonCuts : Edge → Edge → List Point → Type 0
 ListsCommonCuts e f points = (p : Point) → IsPoint p → is_common_cut e f p ≡ true → ListsPoint points p
 
--- shared points, among them the common cuts with the edges at the first of the places
-pub record AreSharedSoFar (e : Edge) (others : List Edge) (places : List ℕ) (count : ℕ) (points : List Point) : Type 0 where
+-- shared points, among them the common cuts with the edges that are asked first
+pub record AreSharedSoFar (e : Edge) (others : List Edge) (IsAsked : ℕ → Edge → Type 0) (count : ℕ) (points : List Point) : Type 0 where
   pub from : (p : Point) → Contains points p → IsSharedPoint e others p
-  pub found : (k d : ℕ) (f : Edge) → k < count → ListsCommonCuts e (get_or others (get_or places k d) f) points
+  pub found : (k : ℕ) (f : Edge) → k < count → IsAsked k f → ListsCommonCuts e f points
+
+-- the edge is the one at a place
+abbrev pub IsAt : List Edge → ℕ → Edge → Type 0
+IsAt others k f = get_or others k f ≡ f
+
+-- the edge is the one at one of the places of a list
+abbrev pub IsAtPlace : List Edge → List ℕ → ℕ → Edge → Type 0
+IsAtPlace others places k f = IsAt others (get_or places k 0) f
 
 -- shared points, among them the common cuts with each of the others
 pub record AreShared (e : Edge) (others : List Edge) (points : List Point) : Type 0 where

@@ -6,20 +6,22 @@ ghost use Rattle.gap_laws.specs.Gaps.{AreGaps, SharesNoStretch};
 
 use crate::sharing::{find_shared, put_in_order};
 use crate::stops::set_stops;
-use edge_boxes::{Bounds, EdgeBoxes};
+use edge_boxes::EdgeBoxes;
 use fraction::RatPoint;
 use orient::Segment;
+use smallvec::SmallVec;
 use std::alloc::{AllocError, Global};
 use std::marker::Model;
 
 /// Where other edges meet an edge: the points that it shares with them, and its stops, in ascending order, from its lesser end
 /// to its greater one, between neighbours of which each of the others holds all points or none (OGC 06-103r4, 6.1.15.2:
-/// intersection; gaps: this project's choice). It is filled for one edge after another, and keeps its memory.
+/// intersection; gaps: this project's choice). It is filled for one edge after another, and keeps its memory; it takes none where
+/// up to 16 others meet an edge in few points.
 #[derive(Debug, Drop)]
 pub struct Gaps {
     near: Vec<usize>,
-    shared: Vec<RatPoint>,
-    stops: Vec<RatPoint>,
+    shared: SmallVec<RatPoint, 8>,
+    stops: SmallVec<RatPoint, 8>,
 }
 
 impl Model for Gaps {
@@ -37,8 +39,8 @@ impl Gaps {
     {
         Gaps {
             near: Vec::new(alloc),
-            shared: Vec::new(alloc),
-            stops: Vec::new(alloc),
+            shared: SmallVec::new(alloc),
+            stops: SmallVec::new(alloc),
         }
     }
 
@@ -52,8 +54,7 @@ impl Gaps {
         requires { BoxesOf boxes.now others.now }
         ensures { OnOk result (AreGaps edge.now others.now self.new) }
     {
-        boxes.meeting(others, &Bounds::of(edge), 0, &mut self.near)?;
-        find_shared(edge, others, self.near.as_slice(), &mut self.shared)?;
+        find_shared(edge, others, boxes, &mut self.near, &mut self.shared)?;
         put_in_order(&mut self.shared);
         set_stops(&mut self.stops, edge, self.shared.as_slice())
     }

@@ -3,19 +3,25 @@
 ghost use Rattle.std.specs.Prelude.{◌≡◌, ◌++◌, All, OnOk};
 ghost use Rattle.geometry_model.specs.Points.{IsPoint};
 ghost use Rattle.ring_tests.specs.RunLaws.{box_of};
+ghost use Rattle.edge_boxes.specs.BoxLists.{BoxesOf};
 ghost use Rattle.edge_boxes.specs.Meetings.{places_meeting};
 ghost use Rattle.noding.specs.Meetings.{named};
 ghost use Rattle.noding.specs.Nodings.{PutsPointsInOrder};
 ghost use Rattle.edge_gaps.specs.Steps.{AreShared};
 
 use crate::places::edge_at;
+use edge_boxes::{Bounds, EdgeBoxes};
 use fraction::RatPoint;
 use noding::{Meet, meet};
 use orient::Segment;
+use smallvec::SmallVec;
 use std::alloc::AllocError;
 
+/// Of as many edges, and fewer, each is asked: they have no boxes, and no list of those near is kept.
+const FEW_EDGES: usize = 16;
+
 /// Appends the points that an answer names.
-fn push_named(points: &mut Vec<RatPoint>, answer: &Meet) -> Result<(), AllocError>
+fn push_named(points: &mut SmallVec<RatPoint, 8>, answer: &Meet) -> Result<(), AllocError>
     ensures { OnOk result (points.new.items ≡ points.old.items ++ named answer.now) }
 {
     match *answer {
@@ -29,12 +35,30 @@ fn push_named(points: &mut Vec<RatPoint>, answer: &Meet) -> Result<(), AllocErro
     Ok(())
 }
 
+/// Leaves in the vector the points that the edge shares with others, of which each is asked whose bounds meet its own.
+fn find_among_all(
+    edge: &Segment,
+    others: &[Segment],
+    points: &mut SmallVec<RatPoint, 8>,
+) -> Result<(), AllocError>
+    ensures { OnOk result (AreShared edge.now others.now points.new.items) }
+{
+    let bounds = Bounds::of(edge);
+    points.clear();
+    for other in others {
+        if Bounds::of(other).overlap(&bounds) {
+            push_named(points, &meet(edge, other))?;
+        }
+    }
+    Ok(())
+}
+
 /// Leaves in the vector the points that the edge shares with others, of which these are near it.
-pub(crate) fn find_shared(
+fn find_among_near(
     edge: &Segment,
     others: &[Segment],
     near: &[usize],
-    points: &mut Vec<RatPoint>,
+    points: &mut SmallVec<RatPoint, 8>,
 ) -> Result<(), AllocError>
     requires { near.now ≡ places_meeting (box_of edge.now) 0 others.now }
     ensures { OnOk result (AreShared edge.now others.now points.new.items) }
@@ -46,8 +70,27 @@ pub(crate) fn find_shared(
     Ok(())
 }
 
+/// Leaves in the vector the points that the edge shares with others, whose boxes come along: of few others it asks each, else
+/// those whose places near it the first vector takes.
+pub(crate) fn find_shared(
+    edge: &Segment,
+    others: &[Segment],
+    boxes: &EdgeBoxes,
+    near: &mut Vec<usize>,
+    points: &mut SmallVec<RatPoint, 8>,
+) -> Result<(), AllocError>
+    requires { BoxesOf boxes.now others.now }
+    ensures { OnOk result (AreShared edge.now others.now points.new.items) }
+{
+    if others.len() <= FEW_EDGES {
+        return find_among_all(edge, others, points);
+    }
+    boxes.meeting(others, &Bounds::of(edge), 0, near)?;
+    find_among_near(edge, others, near.as_slice(), points)
+}
+
 /// Puts points in ascending order, each once.
-pub(crate) fn put_in_order(points: &mut Vec<RatPoint>)
+pub(crate) fn put_in_order(points: &mut SmallVec<RatPoint, 8>)
     requires { All IsPoint points.old.items }
     ensures { PutsPointsInOrder points.old.items points.new.items }
 {

@@ -6,6 +6,7 @@ ghost use Rattle.edge_gaps.specs.Steps.{stops_of};
 
 use fraction::RatPoint;
 use orient::Segment;
+use smallvec::SmallVec;
 use std::alloc::AllocError;
 
 /// Whether the point is an end of the edge.
@@ -18,7 +19,7 @@ fn is_end(edge: &Segment, point: &RatPoint) -> bool
 /// Leaves in the vector the stops of an edge that shares these points with others: its lesser end, those of the points that
 /// don't end it, and its greater end.
 pub(crate) fn set_stops(
-    stops: &mut Vec<RatPoint>,
+    stops: &mut SmallVec<RatPoint, 8>,
     edge: &Segment,
     shared: &[RatPoint],
 ) -> Result<(), AllocError>

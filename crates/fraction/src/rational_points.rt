@@ -136,6 +136,19 @@ impl RatPoint {
     }
 }
 
+impl Default for RatPoint {
+    ghost is_default = { λ p. p ≡ record { X = pos 0; Y = pos 0; W = pos 1 } };
+
+    /// The point (0, 0).
+    fn default() -> RatPoint {
+        RatPoint {
+            numerator_x: 0,
+            numerator_y: 0,
+            denominator: 1,
+        }
+    }
+}
+
 impl Ord for RatPoint {
     ghost cmp = { point_order };
 

@@ -20,7 +20,7 @@ use edge_gaps::Gaps;
 use fraction::RatPoint;
 use geometry_model::Dimension;
 use orient::Segment;
-use std::alloc::{AllocError, Global};
+use std::alloc::AllocError;
 use validity::Valid;
 
 /// Whether it is shown that almost all parts of both geometries' own edges share a point.
@@ -80,9 +80,9 @@ fn raise_edge(
 
 /// Shows what the edges of the first geometry show, until nothing more can come. It may fail for want of memory.
 pub(crate) fn raise_edges(
-    alloc: Global,
     first: &Valid,
     second: &Valid,
+    gaps: &mut Gaps,
     matrix: &mut Matrix,
 ) -> Result<(), AllocError>
     requires first_valid { IsValid first.now }
@@ -92,12 +92,11 @@ pub(crate) fn raise_edges(
     ensures grows { OnOk result (Grows first.now second.now matrix.old matrix.new) }
     ensures covers { OnOk result (All (Covers first.now second.now matrix.new) (edges first.now)) }
 {
-    let mut gaps = Gaps::new(alloc);
     for edge in first.segments() {
         if is_full_off(first, second, matrix) && is_full_on(first, second, matrix) {
             return Ok(());
         }
-        raise_edge(first, second, edge, &mut gaps, matrix)?;
+        raise_edge(first, second, edge, gaps, matrix)?;
     }
     Ok(())
 }
@@ -127,9 +126,9 @@ fn raise_edge_off(
 /// Shows what the edges of the first geometry show where the matrix covers those of the second: what they share is shown then,
 /// and only gaps off the second's edges can show more. It ends where nothing more can come, and may fail for want of memory.
 pub(crate) fn raise_edges_off(
-    alloc: Global,
     first: &Valid,
     second: &Valid,
+    gaps: &mut Gaps,
     matrix: &mut Matrix,
 ) -> Result<(), AllocError>
     requires first_valid { IsValid first.now }
@@ -140,12 +139,11 @@ pub(crate) fn raise_edges_off(
     ensures grows { OnOk result (Grows first.now second.now matrix.old matrix.new) }
     ensures covers { OnOk result (All (Covers first.now second.now matrix.new) (edges first.now)) }
 {
-    let mut gaps = Gaps::new(alloc);
     for edge in first.segments() {
         if is_full_off(first, second, matrix) {
             return Ok(());
         }
-        raise_edge_off(first, second, edge, &mut gaps, matrix)?;
+        raise_edge_off(first, second, edge, gaps, matrix)?;
     }
     Ok(())
 }

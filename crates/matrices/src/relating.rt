@@ -7,6 +7,7 @@ ghost use Rattle.geometry_model.specs.Labels.{labelled_matrix};
 use crate::edges::{raise_edges, raise_edges_off};
 use crate::matrix::Matrix;
 use crate::positions::raise_own_ends;
+use edge_gaps::Gaps;
 use std::alloc::{AllocError, Global};
 use validity::Valid;
 
@@ -19,8 +20,9 @@ pub fn find_matrix(alloc: Global, first: &Valid, second: &Valid) -> Result<Matri
     raise_own_ends(first, second, &mut matrix);
     let mut turned = matrix.transposed();
     raise_own_ends(second, first, &mut turned);
-    raise_edges(alloc, second, first, &mut turned)?;
+    let mut gaps = Gaps::new(alloc);
+    raise_edges(second, first, &mut gaps, &mut turned)?;
     matrix = turned.transposed();
-    raise_edges_off(alloc, first, second, &mut matrix)?;
+    raise_edges_off(first, second, &mut gaps, &mut matrix)?;
     Ok(matrix)
 }
