@@ -1,4 +1,4 @@
-use Rattle.std.proofs.Common.{◌≡◌, Bool, true, false, ◌&&◌, refl, sym, ap, ap₂, subst, ◌∙◌, ℤ, pos, ◌+ℤ◌, ◌-ℤ◌, ◌≤ℤ◌, ◌<ℤ◌, int_le, arith, w64}
+use Rattle.std.proofs.Common.{◌≡◌, Bool, true, false, ◌&&◌, refl, sym, ap, ap₂, subst, ◌∙◌, ℤ, pos, ◌+ℤ◌, ◌-ℤ◌, ◌≤ℤ◌, ◌<ℤ◌, int_le, rules, arith, w64}
 use borrow.Author.Differences.{ints}
 use Rattle.std.proofs.lemmas.Int.{to_z-of_z}
 use mir.Val.{to_z, of_z, SFits}
@@ -89,3 +89,37 @@ returns-then-are_opposite-clause-exact c =
 pub returns-else-are_opposite-clause-exact : goal.returns-else-are_opposite-clause-exact
 returns-else-are_opposite-clause-exact c = beside c.args.first.now c.args.lower c.args.upper c.args.below c.args.above c.requires.below_is c.requires.above_is c.requires.differ
     (test_is c.args.below c.args.above c.ranges.below c.ranges.above c.are_opposite.result c.are_opposite.ensures false c.if-are_opposite.false)
+
+pub point_between-requires-clause-first_weight : goal.point_between-requires-clause-first_weight
+point_between-requires-clause-first_weight c =
+    let r : Read c.args.below c.args.above = reading c.args.below c.args.above c.ranges.below c.ranges.above (test_is c.args.below c.args.above c.ranges.below c.ranges.above c.are_opposite.result c.are_opposite.ensures true c.if-are_opposite.true) c.requires.differ c.requires.limit in
+    subst (λ (z : ℤ). pos 0 ≤ℤ z) (sym r.upper_is) r.upper
+
+-- ---- what the point keeps
+
+pub at_if_on-requires-clause-positive : goal.at_if_on-requires-clause-positive
+at_if_on-requires-clause-positive c = c.point_between.ensures.positive
+
+pub at_if_on-requires-clause-limit : goal.at_if_on-requires-clause-limit
+at_if_on-requires-clause-limit c = c.point_between.ensures.limit
+
+pub at_if_on-requires-clause-least : goal.at_if_on-requires-clause-least
+at_if_on-requires-clause-least c = c.point_between.ensures.least
+
+pub returns-then-are_opposite-clause-points : goal.returns-then-are_opposite-clause-points
+returns-then-are_opposite-clause-points c = c.at_if_on.ensures.points
+
+pub returns-then-are_opposite-clause-limit : goal.returns-then-are_opposite-clause-limit
+returns-then-are_opposite-clause-limit c = c.at_if_on.ensures.limit
+
+pub returns-then-are_opposite-clause-least : goal.returns-then-are_opposite-clause-least
+returns-then-are_opposite-clause-least c = c.at_if_on.ensures.least
+
+pub returns-else-are_opposite-clause-points : goal.returns-else-are_opposite-clause-points
+returns-else-are_opposite-clause-points c = search rules
+
+pub returns-else-are_opposite-clause-limit : goal.returns-else-are_opposite-clause-limit
+returns-else-are_opposite-clause-limit c = search rules
+
+pub returns-else-are_opposite-clause-least : goal.returns-else-are_opposite-clause-least
+returns-else-are_opposite-clause-least c = search rules
