@@ -1,4 +1,4 @@
-use Rattle.std.proofs.Common.{◌≡◌, sym, ap, ◌∙◌, subst, ℤ, ◌-ℤ◌, ◌*ℤ◌, ◌≤◌, ◌*◌, unsigned_abs, to_z, of_z}
+use Rattle.std.proofs.Common.{◌≡◌, sym, ap, ap₂, ◌∙◌, subst, ℤ, ◌-ℤ◌, ◌*ℤ◌, ◌≤◌, ◌*◌, unsigned_abs, to_z, of_z}
 use Rattle.std.proofs.lemmas.Int.{to_z-of_z}
 use mir.Syntax.{w64, w128}
 use mir.Val.{SFits}
@@ -21,6 +21,18 @@ difference px dx py dy ex ey fpx fdx fpy fdy fex fey ix iy hdx hdy hex hey =
       fits = f;
       is = vector_read w128 _ _ _ _ dx ey dy ex (read w128 px dx fpx (ix ∙ to_z-of_z w64 dx fdx)) (to_z-of_z w128 ey fey) (read w128 py dy fpy (iy ∙ to_z-of_z w64 dy fdy)) (to_z-of_z w128 ex fex) f.first f.second;
     }
+
+pub overflow_mul-result : goal.overflow_mul-result
+overflow_mul-result c =
+    let f : VectorFits c.args.dx c.args.dy c.args.ex c.args.ey = vector_fits c.args.dx c.args.dy c.args.ex c.args.ey c.requires.dx_bound c.requires.dy_bound c.requires.ex_bound c.requires.ey_bound in
+    let d = read w128 c.from.result c.args.dx (record { sfits = c.from.type_inv }) (c.from.ensures ∙ to_z-of_z w64 c.args.dx c.ranges.dx) in
+    subst (SFits w128) (sym (ap₂ (λ (x y : ℤ). x *ℤ y) d (to_z-of_z w128 c.args.ey c.ranges.ey))) f.first
+
+pub overflow_mul-result-2 : goal.overflow_mul-result-2
+overflow_mul-result-2 c =
+    let f : VectorFits c.args.dx c.args.dy c.args.ex c.args.ey = vector_fits c.args.dx c.args.dy c.args.ex c.args.ey c.requires.dx_bound c.requires.dy_bound c.requires.ex_bound c.requires.ey_bound in
+    let d = read w128 c.from-2.result c.args.dy (record { sfits = c.from-2.type_inv }) (c.from-2.ensures ∙ to_z-of_z w64 c.args.dy c.ranges.dy) in
+    subst (SFits w128) (sym (ap₂ (λ (x y : ℤ). x *ℤ y) d (to_z-of_z w128 c.args.ex c.ranges.ex))) f.second
 
 pub overflow_sub-result : goal.overflow_sub-result
 overflow_sub-result c =
