@@ -2,19 +2,12 @@ use Rattle.std.proofs.Common.{◌≡◌, ap₂, ◌∙◌, ℤ, pos}
 use mir.Syntax.{w32, w64}
 use Rattle.geometry_model.specs.Points.{Position, Point}
 use Rattle.geometry_model.specs.Sides.{side}
-use Rattle.geometry_model.specs.WellKnownText.{coordinate_limit}
-use Rattle.orient.proofs.Bounds.{read, read_within}
+use Rattle.orient.proofs.Bounds.{read}
 use Rattle.orient.proofs.sides.side_number.Goals as goal
 
 -- a side at places that are equal
 side_of : (n : ℤ) (a b a' b' : Position) (p p' : Point) → n ≡ side a b p → a ≡ a' → b ≡ b' → p ≡ p' → n ≡ side a' b' p'
 side_of n a b a' b' p p' e f g h = e ∙ (λ i. side (f i) (g i) (h i))
-
-pub side_of_position-requires : goal.side_of_position-requires
-side_of_position-requires c = record {
-  x_bound = read_within w32 coordinate_limit c.x.result c.args.at.x (record { sfits = c.x.type_inv }) c.x.ensures.value c.x.ensures.on_grid.x;
-  y_bound = read_within w32 coordinate_limit c.y.result c.args.at.y (record { sfits = c.y.type_inv }) c.y.ensures.value c.y.ensures.on_grid.y;
-}
 
 pub returns-clause-value : goal.returns-clause-value
 returns-clause-value c =
