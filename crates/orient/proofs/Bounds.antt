@@ -1,6 +1,6 @@
 -- The numbers that a side is made of: at points with denominator 1 they fit 64 bits, at others 128.
 use Rattle.std.specs.Prelude.{◌≡◌, ℕ, ◌*◌, ◌^◌, ◌≤◌, [], ◌∷◌, ℤ, pos, ◌-ℤ◌, ◌*ℤ◌, unsigned_abs}
-use Rattle.std.proofs.Common.{sym, ap₂, ◌∙◌, subst, arith, to_z, of_z}
+use Rattle.std.proofs.Common.{sym, ap, ap₂, ◌∙◌, subst, arith, to_z, of_z}
 use Rattle.std.proofs.Math.Nat.{mul-le-mul}
 use Rattle.std.proofs.lemmas.Int.{ints, unsigned_abs-mul, to_z-of_z}
 use mir.Syntax.{Width, w32, w64, w128}
@@ -50,6 +50,12 @@ numerator_fits z w f g = record { one = omega (arith, ints); other = omega (arit
   where
     fits : (z : ℤ) → unsigned_abs z ≤ 2 ^ 31 * 2 ^ 63 → SFits w128 z
     fits z h = omega (arith, ints)
+
+-- the product of a coordinate and a denominator, both widened
+pub widened_product : (z w : ℤ) → SFits w32 z → SFits w64 w → to_z w128 (of_z w128 (to_z w32 (of_z w32 z))) *ℤ to_z w128 (of_z w128 (to_z w64 (of_z w64 w))) ≡ z *ℤ w
+widened_product z w f g =
+    let fits : NumeratorFits z w = numerator_fits z w f g in
+    ap₂ (λ (x y : ℤ). x *ℤ y) (ap (λ (x : ℤ). to_z w128 (of_z w128 x)) (to_z-of_z w32 z f) ∙ to_z-of_z w128 z fits.one) (ap (λ (x : ℤ). to_z w128 (of_z w128 x)) (to_z-of_z w64 w g) ∙ to_z-of_z w128 w fits.other)
 
 -- ---- the numbers of a kept point
 pub record PointWithin (p : Point) : Type 0 where
