@@ -1,5 +1,5 @@
 -- The side of a point, seen from a segment's left end, by the side seen from its start.
-use Rattle.std.specs.Prelude.{◌≡◌, ◌&&◌, Bool, true, false, if◌then◌else◌, [], ◌∷◌, ℤ, pos, ◌-ℤ◌, int_le, int_lt}
+use Rattle.std.specs.Prelude.{◌≡◌, ◌&&◌, Bool, if◌then◌else◌, [], ◌∷◌, ℤ, pos, ◌-ℤ◌, int_le, int_lt}
 use Rattle.std.proofs.Common.{sym, ap, ap₂, ◌∙◌}
 use Rattle.integers.proofs.Ring.{solve, var, lit, ◌⊖◌, ◌⊗◌}
 use Rattle.geometry_model.specs.Points.{Position, Point}
@@ -26,10 +26,3 @@ strictly_from e p n b s t f g h k = ap₂ (λ (x y : Bool). x && y) h (k ∙ ap 
 pub at_or_from : (e : Edge) (p : Point) (n : ℤ) (b s t : Bool) → n ≡ side e.start e.end p → b ≡ int_le e.start.x e.end.x → s ≡ spans e p → t ≡ int_le (if b then n else pos 0 -ℤ n) (pos 0)
     → (s && t) ≡ at_or_above e p
 at_or_from e p n b s t f g h k = ap₂ (λ (x y : Bool). x && y) h (k ∙ ap (λ (z : ℤ). int_le z (pos 0)) (is_rightward e p n b f g))
-
--- where the first of two tests passes the second decides, and where it fails both do
-pub test_decides : (t s u : Bool) → s ≡ true → t ≡ u → t ≡ (s && u)
-test_decides t s u h e = e ∙ ap (λ (b : Bool). b && u) (sym h)
-
-pub test_fails : (t s u : Bool) → s ≡ false → t ≡ false → t ≡ (s && u)
-test_fails t s u h e = e ∙ ap (λ (b : Bool). b && u) (sym h)

@@ -2,7 +2,7 @@ use Rattle.std.specs.Prelude.{pos, ℤ, int_lt}
 use Rattle.std.proofs.Common.{sym, ap, ◌∙◌}
 use mir.Syntax.{w128}
 use Rattle.orient.proofs.Bounds.{read}
-use Rattle.orient.proofs.Rightward.{test_decides, test_fails}
+use Rattle.orient.proofs.Tests.{test_decides, test_fails}
 use Rattle.orient.proofs.crossings.crosses_up.Goals as goal
 
 pub returns-then-spans : goal.returns-then-spans

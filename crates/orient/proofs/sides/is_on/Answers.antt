@@ -1,19 +1,12 @@
-use Rattle.std.specs.Prelude.{◌≡◌, ◌&&◌, Bool, true, false, pos}
+use Rattle.std.specs.Prelude.{pos}
 use Rattle.std.proofs.Common.{sym, ap, ◌∙◌, to_z, of_z}
 use Rattle.std.proofs.lemmas.Int.{to_z-of_z}
 use Rattle.std.proofs.lemmas.Bool.{ne_eqb}
 use mir.Syntax.{w128}
 use Rattle.integers.proofs.Tests.{equal_yes, equal_no}
 use Rattle.geometry_model.specs.Sides.{side}
+use Rattle.orient.proofs.Tests.{others_decide, all_fail}
 use Rattle.orient.proofs.sides.is_on.Goals as goal
-
--- where the first of three tests passes, the others decide
-others_decide : (r s x y : Bool) → s ≡ true → r ≡ (x && y) → r ≡ (s && x && y)
-others_decide r s x y h e = e ∙ ap (λ (b : Bool). b && x && y) (sym h)
-
--- where it fails, so do all
-all_fail : (r s x y : Bool) → s ≡ false → r ≡ false → r ≡ (s && x && y)
-all_fail r s x y h e = e ∙ ap (λ (b : Bool). b && x && y) (sym h)
 
 pub returns-then-side-eq0 : goal.returns-then-side-eq0
 returns-then-side-eq0 c =
