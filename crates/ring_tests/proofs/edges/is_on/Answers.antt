@@ -1,4 +1,4 @@
-use Rattle.std.specs.Prelude.{◌≡◌, pos}
+use Rattle.std.specs.Prelude.{pos}
 use Rattle.std.proofs.Common.{sym, ap, ◌∙◌, to_z, of_z}
 use Rattle.std.proofs.lemmas.Int.{to_z-of_z}
 use Rattle.std.proofs.lemmas.Bool.{ne_eqb}
