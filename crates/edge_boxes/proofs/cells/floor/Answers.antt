@@ -51,4 +51,5 @@ returns-else-denominator-eq1 c =
     let e = cast_read c.div_euclid.result (record { sfits = c.div_euclid.type_inv }) (is_short c) in
     record {
       floor = floor_as c.args.numerator c.args.denominator c.div_euclid.result c.args.numerator c.args.denominator _ refl refl (sym e) (is_floor c);
-      bound = subst (λ (x : ℤ). unsigned_abs x ≤ coordinate_limit) (sym e) (is_short c) }
+      bound = subst (λ (x : ℤ). unsigned_abs x ≤ coordinate_limit) (sym e) (is_short c);
+    }
