@@ -1,33 +1,55 @@
-use Rattle.std.proofs.Common.{◌≡◌, ◌≤◌, ap, ◌∙◌}
+use Rattle.std.proofs.Common.{◌≡◌, ◌≤◌, ◌*◌, sym, ap, ap₂, ◌∙◌, subst, refl, ℤ, pos, to_z, of_z}
 use Rattle.std.specs.Prelude.{unsigned_abs}
 use Rattle.std.specs.Int.{int_div_euclid}
 use Rattle.std.proofs.lemmas.Int.{to_z-of_z}
-use mir.Syntax.{w32, w128}
+use mir.Syntax.{w32, w64, w128}
 use mir.Val.{SFits}
 use Rattle.geometry_model.specs.WellKnownText.{coordinate_limit}
+use Rattle.orient.proofs.Bounds.{read}
 use Rattle.edge_boxes.specs.Cells.{IsFloor}
-use Rattle.edge_boxes.proofs.Floors.{euclid_floor, floor_short, short_fits}
+use Rattle.edge_boxes.proofs.Floors.{euclid_floor, floor_short, floor_as, floor_over_one, short_fits}
 use Rattle.edge_boxes.proofs.cells.floor.Goals as goal
 
 -- the quotient is the floor
 is_floor : (c : goal.After-div_euclid) → IsFloor c.args.numerator c.args.denominator c.div_euclid.result
 is_floor c =
-    let g : SFits w128 c.from.result = record { sfits = c.from.type_inv } in
-    let d : c.from.result ≡ c.args.denominator = simp (to_z-of_z, c.ranges.denominator) at c.from.ensures in
-    let e : c.div_euclid.result ≡ int_div_euclid c.args.numerator c.args.denominator = (simp (to_z-of_z, c.ranges.numerator) at c.div_euclid.ensures) ∙ ap (int_div_euclid c.args.numerator) (to_z-of_z w128 c.from.result g ∙ d) in
-    rw e (euclid_floor c.args.numerator c.args.denominator c.requires.positive)
+    let d = read w128 c.from.result c.args.denominator (record { sfits = c.from.type_inv }) (c.from.ensures ∙ to_z-of_z w64 c.args.denominator c.ranges.denominator) in
+    let e : c.div_euclid.result ≡ int_div_euclid c.args.numerator c.args.denominator = c.div_euclid.ensures ∙ ap₂ int_div_euclid (to_z-of_z w128 c.args.numerator c.ranges.numerator) d in
+    floor_as c.args.numerator c.args.denominator _ c.args.numerator c.args.denominator c.div_euclid.result refl refl (sym e) (euclid_floor c.args.numerator c.args.denominator c.requires.positive)
 
 is_short : (c : goal.After-div_euclid) → unsigned_abs c.div_euclid.result ≤ coordinate_limit
 is_short c = floor_short c.args.numerator c.args.denominator c.div_euclid.result c.requires.positive c.requires.within (is_floor c)
 
-pub returns-else-denominator-eq1-clause-floor : goal.returns-else-denominator-eq1-clause-floor
-returns-else-denominator-eq1-clause-floor c =
-    let f : SFits w128 c.div_euclid.result = record { sfits = c.div_euclid.type_inv } in
-    let s : SFits w32 c.div_euclid.result = short_fits c.div_euclid.result (is_short c) in
-    simp to_z-of_z (is_floor c)
+-- a long number that is short, cast
+cast_read : (q : ℤ) → SFits w128 q → unsigned_abs q ≤ coordinate_limit → to_z w32 (of_z w32 (to_z w128 (of_z w128 q))) ≡ q
+cast_read q f h = ap (λ (x : ℤ). to_z w32 (of_z w32 x)) (to_z-of_z w128 q f) ∙ to_z-of_z w32 q (short_fits q h)
 
-pub returns-else-denominator-eq1-clause-bound : goal.returns-else-denominator-eq1-clause-bound
-returns-else-denominator-eq1-clause-bound c =
-    let f : SFits w128 c.div_euclid.result = record { sfits = c.div_euclid.type_inv } in
-    let s : SFits w32 c.div_euclid.result = short_fits c.div_euclid.result (is_short c) in
-    simp to_z-of_z (is_short c)
+-- a denominator whose bits are those of 1
+is_one : (w : ℤ) → SFits w64 w → of_z w64 w ≡ 1 → w ≡ pos 1
+is_one w f h = sym (to_z-of_z w64 w f) ∙ ap (to_z w64) h
+
+short_over_one : (n w : ℤ) → w ≡ pos 1 → unsigned_abs n ≤ coordinate_limit * unsigned_abs w → unsigned_abs n ≤ coordinate_limit
+short_over_one n w e h = subst (λ (x : ℤ). unsigned_abs n ≤ coordinate_limit * unsigned_abs x) e h
+
+pub overflow_cast-result : goal.overflow_cast-result
+overflow_cast-result c =
+    let one = is_one c.args.denominator c.ranges.denominator c.if-denominator-eq1.true in
+    subst (SFits w32) (sym (to_z-of_z w128 c.args.numerator c.ranges.numerator)) (short_fits c.args.numerator (short_over_one c.args.numerator c.args.denominator one c.requires.within))
+
+pub overflow_cast-result-else-denominator-eq1 : goal.overflow_cast-result-else-denominator-eq1
+overflow_cast-result-else-denominator-eq1 c = subst (SFits w32) (sym (to_z-of_z w128 c.div_euclid.result (record { sfits = c.div_euclid.type_inv }))) (short_fits c.div_euclid.result (is_short c))
+
+pub returns-then-denominator-eq1 : goal.returns-then-denominator-eq1
+returns-then-denominator-eq1 c =
+    let one = is_one c.args.denominator c.ranges.denominator c.if-denominator-eq1.true in
+    let short = short_over_one c.args.numerator c.args.denominator one c.requires.within in
+    let e = cast_read c.args.numerator c.ranges.numerator short in
+    record { floor = floor_over_one c.args.numerator c.args.denominator _ one e; bound = subst (λ (x : ℤ). unsigned_abs x ≤ coordinate_limit) (sym e) short }
+
+pub returns-else-denominator-eq1 : goal.returns-else-denominator-eq1
+returns-else-denominator-eq1 c =
+    let e = cast_read c.div_euclid.result (record { sfits = c.div_euclid.type_inv }) (is_short c) in
+    record {
+      floor = floor_as c.args.numerator c.args.denominator c.div_euclid.result c.args.numerator c.args.denominator _ refl refl (sym e) (is_floor c);
+      bound = subst (λ (x : ℤ). unsigned_abs x ≤ coordinate_limit) (sym e) (is_short c);
+    }

@@ -1,34 +1,45 @@
-use Rattle.std.proofs.Common.{◌≡◌, sym, ap, ap₂, ◌∙◌, ℤ, ◌-ℤ◌, ◌*ℤ◌}
-use Rattle.std.proofs.lemmas.Int.{to_z-of_z}
+use Rattle.std.proofs.Common.{refl, sym, ◌∙◌, ◌*◌}
 use mir.Syntax.{w32, w64}
-use mir.Val.{SFits}
-use Rattle.geometry_model.specs.Points.{Position}
-use Rattle.orient.proofs.Bounds.{side_at}
+use Rattle.geometry_model.specs.WellKnownText.{coordinate_limit}
+use Rattle.orient.proofs.Bounds.{side_at, read, read_within, step_read, vector_of}
 use Rattle.orient.proofs.sides.side_of_position.Goals as goal
 
--- the product of the steps, each read where it comes from
-product_is : (r dx dy ex ey ax ay bx by ax' ay' x y : ℤ) (a b : Position) → r ≡ dx *ℤ ey -ℤ dy *ℤ ex → dx ≡ bx -ℤ ax → dy ≡ by -ℤ ay → ex ≡ x -ℤ ax' → ey ≡ y -ℤ ay'
-    → ax ≡ a.x → ay ≡ a.y → ax' ≡ a.x → ay' ≡ a.y → bx ≡ b.x → by ≡ b.y → r ≡ (b.x -ℤ a.x) *ℤ (y -ℤ a.y) -ℤ (b.y -ℤ a.y) *ℤ (x -ℤ a.x)
-product_is r dx dy ex ey ax ay bx by ax' ay' x y a b e f g h k i1 i2 i3 i4 i5 i6 = e ∙ ap₂ (λ (y z : ℤ). y -ℤ z)
-    (ap₂ (λ (y z : ℤ). y *ℤ z) (f ∙ ap₂ (λ (y z : ℤ). y -ℤ z) i5 i1) (k ∙ ap (λ z. y -ℤ z) i4))
-    (ap₂ (λ (y z : ℤ). y *ℤ z) (g ∙ ap₂ (λ (y z : ℤ). y -ℤ z) i6 i2) (h ∙ ap (λ z. x -ℤ z) i3))
+pub step-dx-requires : goal.step-dx-requires
+step-dx-requires c = record {
+  first = read_within w32 coordinate_limit c.x.result c.args.from.x (record { sfits = c.x.type_inv }) c.x.ensures.value c.x.ensures.on_grid.x;
+  second = read_within w32 coordinate_limit c.x-2.result c.args.to.x (record { sfits = c.x-2.type_inv }) c.x-2.ensures.value c.x-2.ensures.on_grid.x;
+}
+
+pub step-dy-requires : goal.step-dy-requires
+step-dy-requires c = record {
+  first = read_within w32 coordinate_limit c.y.result c.args.from.y (record { sfits = c.y.type_inv }) c.y.ensures.value c.y.ensures.on_grid.y;
+  second = read_within w32 coordinate_limit c.y-2.result c.args.to.y (record { sfits = c.y-2.type_inv }) c.y-2.ensures.value c.y-2.ensures.on_grid.y;
+}
+
+pub step-ex-requires : goal.step-ex-requires
+step-ex-requires c = record {
+  first = read_within w32 coordinate_limit c.x-3.result c.args.from.x (record { sfits = c.x-3.type_inv }) c.x-3.ensures.value c.x-3.ensures.on_grid.x;
+  second = read_within w32 coordinate_limit c.args.x c.args.x c.ranges.x refl c.requires.x_bound;
+}
+
+pub step-ey-requires : goal.step-ey-requires
+step-ey-requires c = record {
+  first = read_within w32 coordinate_limit c.y-3.result c.args.from.y (record { sfits = c.y-3.type_inv }) c.y-3.ensures.value c.y-3.ensures.on_grid.y;
+  second = read_within w32 coordinate_limit c.args.y c.args.y c.ranges.y refl c.requires.y_bound;
+}
+
+pub short_vector_product-requires : goal.short_vector_product-requires
+short_vector_product-requires c = record {
+  dx_bound = read_within w64 (2 * coordinate_limit) c.step-dx.result c.step-dx.result (record { sfits = c.step-dx.type_inv }) refl c.step-dx.ensures.bound;
+  dy_bound = read_within w64 (2 * coordinate_limit) c.step-dy.result c.step-dy.result (record { sfits = c.step-dy.type_inv }) refl c.step-dy.ensures.bound;
+  ex_bound = read_within w64 (2 * coordinate_limit) c.step-ex.result c.step-ex.result (record { sfits = c.step-ex.type_inv }) refl c.step-ex.ensures.bound;
+  ey_bound = read_within w64 (2 * coordinate_limit) c.step-ey.result c.step-ey.result (record { sfits = c.step-ey.type_inv }) refl c.step-ey.ensures.bound;
+}
 
 pub returns : goal.returns
 returns c =
-    let ax : SFits w32 c.x.result = record { sfits = c.x.type_inv } in
-    let bx : SFits w32 c.x-2.result = record { sfits = c.x-2.type_inv } in
-    let ay : SFits w32 c.y.result = record { sfits = c.y.type_inv } in
-    let by : SFits w32 c.y-2.result = record { sfits = c.y-2.type_inv } in
-    let ax' : SFits w32 c.x-3.result = record { sfits = c.x-3.type_inv } in
-    let ay' : SFits w32 c.y-3.result = record { sfits = c.y-3.type_inv } in
-    let dx : SFits w64 c.step-dx.result = record { sfits = c.step-dx.type_inv } in
-    let dy : SFits w64 c.step-dy.result = record { sfits = c.step-dy.type_inv } in
-    let ex : SFits w64 c.step-ex.result = record { sfits = c.step-ex.type_inv } in
-    let ey : SFits w64 c.step-ey.result = record { sfits = c.step-ey.type_inv } in
-    let r : SFits w64 c.short_vector_product.result = record { sfits = c.short_vector_product.type_inv } in
-    to_z-of_z w64 c.short_vector_product.result r
-    ∙ product_is c.short_vector_product.result c.step-dx.result c.step-dy.result c.step-ex.result c.step-ey.result c.x.result c.y.result c.x-2.result c.y-2.result c.x-3.result c.y-3.result c.args.x c.args.y c.args.from c.args.to
-    (simp to_z-of_z at c.short_vector_product.ensures) (simp to_z-of_z at c.step-dx.ensures.value) (simp to_z-of_z at c.step-dy.ensures.value)
-    (simp (to_z-of_z, c.ranges.x, ax') at c.step-ex.ensures.value) (simp (to_z-of_z, c.ranges.y, ay') at c.step-ey.ensures.value)
-    c.x.ensures.value c.y.ensures.value c.x-3.ensures.value c.y-3.ensures.value c.x-2.ensures.value c.y-2.ensures.value
-    ∙ sym (side_at c.args.from c.args.to c.args.x c.args.y)
+    let dx = step_read c.step-dx.result c.x-2.result c.x.result c.args.to.x c.args.from.x (record { sfits = c.step-dx.type_inv }) (record { sfits = c.x-2.type_inv }) (record { sfits = c.x.type_inv }) c.step-dx.ensures.value c.x-2.ensures.value c.x.ensures.value in
+    let dy = step_read c.step-dy.result c.y-2.result c.y.result c.args.to.y c.args.from.y (record { sfits = c.step-dy.type_inv }) (record { sfits = c.y-2.type_inv }) (record { sfits = c.y.type_inv }) c.step-dy.ensures.value c.y-2.ensures.value c.y.ensures.value in
+    let ex = step_read c.step-ex.result c.args.x c.x-3.result c.args.x c.args.from.x (record { sfits = c.step-ex.type_inv }) c.ranges.x (record { sfits = c.x-3.type_inv }) c.step-ex.ensures.value refl c.x-3.ensures.value in
+    let ey = step_read c.step-ey.result c.args.y c.y-3.result c.args.y c.args.from.y (record { sfits = c.step-ey.type_inv }) c.ranges.y (record { sfits = c.y-3.type_inv }) c.step-ey.ensures.value refl c.y-3.ensures.value in
+    read w64 c.short_vector_product.result _ (record { sfits = c.short_vector_product.type_inv }) (c.short_vector_product.ensures ∙ vector_of _ _ _ _ _ _ _ _ dx ey dy ex) ∙ sym (side_at c.args.from c.args.to c.args.x c.args.y)

@@ -1,4 +1,4 @@
-use Rattle.std.proofs.Common.{◌≡◌, ℕ, suc, ◌-◌, not, List, [], ◌∷◌, length, Some, slice_get, refl, sym, ap, ap₂, ◌∙◌, arith}
+use Rattle.std.proofs.Common.{rules, ◌≡◌, ℕ, suc, ◌-◌, not, List, [], ◌∷◌, length, Some, slice_get, refl, sym, ap, ap₂, ◌∙◌, arith}
 use Rattle.std.specs.Option.{option_copied}
 use Rattle.geometry_model.specs.Points.{Position}
 use Rattle.geometry_model.specs.Locations.{last_after}
@@ -26,3 +26,6 @@ returns-in-Some-Some c =
     let first : Some c.in-Some-Some.first.now ≡ slice_get c.args.ring.now 0 = sym (ap option_copied c.in-Some-Some.is-0) ∙ c.first.ensures.value in
     let last : Some c.in-Some-Some.last.now ≡ slice_get c.args.ring.now (length c.args.ring.now - 1) = sym (ap option_copied c.in-Some-Some.is-1) ∙ c.last.ensures.value in
     c.ne.ensures ∙ by_ends c.args.ring.now c.in-Some-Some.first.now c.in-Some-Some.last.now first last
+
+pub returns-in_default-2 : goal.returns-in_default-2
+returns-in_default-2 c = search rules
