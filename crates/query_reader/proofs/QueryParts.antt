@@ -1,0 +1,36 @@
+-- A query is read by its parts.
+use Rattle.std.proofs.Common.{◌≡◌, List, Result, Ok, Err, IfOk, IfErr, refl}
+use Rattle.table_model.specs.Parsers.{Outcome, Parser, Reads, and_then, pure}
+use Rattle.table_model.specs.QueryReading.{Reader, query}
+use Rattle.table_model.specs.declared.faults.QueryFault.{QueryFault}
+use Rattle.table_model.specs.declared.faults.QueryFault.TheVariants as fault
+use Rattle.table_model.specs.declared.tokens.Token.{Token}
+use Rattle.query_reader.specs.Language.{language}
+use Rattle.query_reader.specs.Queries.{by_parts}
+use Rattle.query_reader.specs.Steps.{mapped}
+
+-- steps may be grouped as one likes
+pub grouped : {F A B C : Type 0} (o : Outcome F A) (f : A → Parser F B) (g : B → Parser F C) → and_then (and_then o f) g ≡ and_then o (λ a ts. and_then (f a ts) g)
+grouped (Ok p) f g = refl
+grouped (Err e) f g = refl
+
+-- a query is read part by part
+pub query_is : (ts : List Token) → query language ts ≡ by_parts ts
+unfolding query
+query_is ts = simp grouped
+
+-- a call's answer with what is made of it is what the reader and then that gives
+pub mapped_reads : {A B : Type 0} (f : A → B) (outcome : Outcome QueryFault A) (read : Result A QueryFault) (new : List Token)
+    → Reads fault.OutOfMemory outcome read new
+    → Reads fault.OutOfMemory (and_then outcome (λ x. pure (f x))) (mapped f read) new
+mapped_reads f outcome (Ok x) new r = rw r refl
+mapped_reads f outcome (Err e) new r = λ some. rw (r some) refl
+
+-- a call that goes on from what another read gives what the two readers give
+pub goes_on : {A B : Type 0} (outcome : Outcome QueryFault A) (on : A → Reader B) (read : Result A QueryFault) (result : Result B QueryFault) (mid new : List Token)
+    → Reads fault.OutOfMemory outcome read mid
+    → IfOk read (λ x. Reads fault.OutOfMemory (on x mid) result new)
+    → IfErr read (λ e. result ≡ Err e)
+    → Reads fault.OutOfMemory (and_then outcome on) result new
+goes_on outcome on (Ok x) result mid new r f g = rw r f
+goes_on outcome on (Err e) result mid new r f g = rw g (λ some. rw (r some) refl)
