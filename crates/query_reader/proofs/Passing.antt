@@ -1,5 +1,5 @@
 -- What the answers of calls say of the readers that the calls follow, where an answer is passed on with its fault.
-use Rattle.std.proofs.Common.{◌≡◌, ◌≢◌, ℕ, suc, Bool, true, false, if◌then◌else◌, ◌&&◌, ◌==◌, List, [], ◌∷◌, ◌++◌, Result, Ok, Err, IfOk, IfErr, refl, ap, ◌∙◌}
+use Rattle.std.proofs.Common.{◌≡◌, ◌≢◌, ℕ, suc, Bool, true, false, if◌then◌else◌, ◌&&◌, ◌==◌, List, [], ◌∷◌, ◌++◌, Result, Ok, Err, IfOk, IfErr, refl, ap}
 use Rattle.table_model.specs.Outcomes.{Gives}
 use Rattle.std.specs.Str.Parse.{digits_value}
 use Rattle.table_model.specs.Parsers.{Outcome, Reads, and_then, pure, place, spelling, next, sees, after, parts_from, ◌<$>◌}
