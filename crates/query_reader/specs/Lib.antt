@@ -1,2 +1,4 @@
 pub mod Language
 pub mod Predicates
+pub mod Queries
+pub mod Steps

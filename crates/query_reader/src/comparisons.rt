@@ -5,11 +5,10 @@ ghost use Rattle.table_model.specs.QueryReading as spec;
 ghost use Rattle.table_model.specs.Parsers.{Reads};
 ghost use Rattle.query_reader.specs.Language.{language};
 
-use crate::condition::WrittenCond;
+use crate::condition::{WrittenCond, negated};
 use crate::operands::{WrittenOperand, operand};
 use crate::terminals::{expect, refuse};
 use sql_tokens::cursor::Cursor;
-use sqlite_items::Boxed;
 use std::alloc::Global;
 use table_model::conditions::Comparison;
 use table_model::faults::QueryFault;
@@ -56,13 +55,13 @@ fn null_test<'a>(
 ) -> Result<WrittenCond<'a>, QueryFault>
     ensures { Reads QueryFault.OutOfMemory (spec.null_test left.entry tokens.old) result tokens.new }
 {
-    let negated = tokens.eat(TokenKind::Not);
+    let is_negated = tokens.eat(TokenKind::Not);
     expect(tokens, TokenKind::Null)?;
-    let test = WrittenCond::IsNull(left);
-    if negated {
-        Ok(WrittenCond::Not(Boxed::new(alloc, test)?))
+    let test = Ok(WrittenCond::IsNull(left));
+    if is_negated {
+        negated(alloc, test)
     } else {
-        Ok(test)
+        test
     }
 }
 

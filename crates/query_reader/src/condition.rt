@@ -1,13 +1,16 @@
 //! Reads conditions, with NOT, AND, OR and parentheses.
 
-ghost use Rattle.std.specs.Prelude.{◌≡◌};
+ghost use Rattle.std.specs.Prelude.{◌≡◌, ◌∷◌, ◌++◌, [], false, Ok, Err, IfOk, IfErr};
 ghost use Rattle.table_model.specs.declared.queries.WrittenCond.TheVariants as tree;
+ghost use Rattle.table_model.specs.Outcomes.{Gives};
 ghost use Rattle.table_model.specs.QueryReading as spec;
+ghost use Rattle.table_model.specs.Parsers as steps;
 ghost use Rattle.table_model.specs.Parsers.{Reads};
 ghost use Rattle.query_reader.specs.Language.{language};
+ghost use Rattle.query_reader.specs.Steps.{mapped};
 
 use crate::predicates::predicate;
-use crate::terminals::{expect, refuse};
+use crate::terminals::{closed, refuse};
 use sql_tokens::cursor::Cursor;
 use sqlite_items::{Boxed, Items};
 use std::alloc::Global;
@@ -17,32 +20,102 @@ use table_model::tokens::TokenKind;
 
 pub(crate) type WrittenCond<'a> = table_model::queries::WrittenCond<'a, WrittenGeometry<'a>>;
 
-/// The condition that all of these hold.
-fn all_of<'a>(parts: Items<WrittenCond<'a>>) -> WrittenCond<'a>
-    ensures { result ≡ tree.And parts.entry }
+/// The condition that all of these hold, where they were read.
+fn all_of<'a>(
+    parts: Result<Items<WrittenCond<'a>>, QueryFault>,
+) -> Result<WrittenCond<'a>, QueryFault>
+    ensures { result ≡ mapped tree.And parts.entry }
 {
-    WrittenCond::And(parts)
+    match parts {
+        Ok(parts) => Ok(WrittenCond::And(parts)),
+        Err(fault) => Err(fault),
+    }
 }
 
-/// Reads the rest of a disjunction, after its first part and OR.
+/// The condition that one of these holds, where they were read.
+fn one_of<'a>(
+    parts: Result<Items<WrittenCond<'a>>, QueryFault>,
+) -> Result<WrittenCond<'a>, QueryFault>
+    ensures { result ≡ mapped tree.Or parts.entry }
+{
+    match parts {
+        Ok(parts) => Ok(WrittenCond::Or(parts)),
+        Err(fault) => Err(fault),
+    }
+}
+
+/// What was read, in memory of its own; a fault is passed on.
+fn boxed<T: Drop>(alloc: Global, read: Result<T, QueryFault>) -> Result<Boxed<T>, QueryFault>
+    ensures ok { IfOk read (λ x. Gives QueryFault.OutOfMemory (λ it. it) result (Ok x)) }
+    ensures err { IfErr read (λ fault. result ≡ Err fault) }
+{
+    Ok(Boxed::new(alloc, read?)?)
+}
+
+/// The condition that one that was read doesn't hold; a fault is passed on.
+pub(crate) fn negated<'a>(
+    alloc: Global,
+    read: Result<WrittenCond<'a>, QueryFault>,
+) -> Result<WrittenCond<'a>, QueryFault>
+    ensures ok { IfOk read.entry (λ cond. Gives QueryFault.OutOfMemory (λ it. it) result (Ok (tree.Not cond))) }
+    ensures err { IfErr read.entry (λ fault. result ≡ Err fault) }
+{
+    match boxed(alloc, read) {
+        Ok(cond) => Ok(WrittenCond::Not(cond)),
+        Err(fault) => Err(fault),
+    }
+}
+
+/// A list of a first part that was read, to which more are added; a fault is passed on.
+fn list_of<T: Drop>(alloc: Global, first: Result<T, QueryFault>) -> Result<Items<T>, QueryFault>
+    ensures ok { IfOk first (λ part. Gives QueryFault.OutOfMemory (λ parts. parts) result (Ok (part ∷ []))) }
+    ensures err { IfErr first (λ fault. result ≡ Err fault) }
+{
+    let mut parts = Items::new(alloc);
+    parts.push(first?)?;
+    Ok(parts)
+}
+
+/// Adds a part that was read to those before it; a fault is passed on.
+fn keep<T: Drop>(parts: &mut Items<T>, read: Result<T, QueryFault>) -> Result<(), QueryFault>
+    ensures ok { IfOk read (λ part. Gives QueryFault.OutOfMemory (λ _. parts.new) result (Ok (parts.old ++ part ∷ []))) }
+    ensures err { IfErr read (λ fault. result ≡ Err fault) }
+{
+    parts.push(read?)?;
+    Ok(())
+}
+
+/// Reads the word between parts where a part was read and the word follows, and tells whether it does.
+pub(crate) fn goes_on<T>(
+    tokens: &mut Cursor<'_, '_>,
+    read: &Result<T, QueryFault>,
+    between: TokenKind,
+) -> bool
+    ensures ok { IfOk read.now (λ _. (result ≡ steps.sees between tokens.old) × (tokens.new ≡ steps.after between tokens.old)) }
+    ensures err { IfErr read.now (λ _. result ≡ false) }
+{
+    read.is_ok() && tokens.eat(between)
+}
+
+/// Reads the rest of a disjunction, after a first part and OR.
 #[cycle(conditions)]
 #[tactic(auto, unfolding(table_model::specs::Parsers::parts_from))]
 fn disjuncts<'a>(
     alloc: Global,
     tokens: &mut Cursor<'_, 'a>,
     levels: usize,
-    first: WrittenCond<'a>,
-) -> Result<WrittenCond<'a>, QueryFault>
-    ensures { Reads QueryFault.OutOfMemory
-        (spec.joined TokenKind.Or tree.Or (spec.conjunction (spec.negation language.functions levels))
-        first.entry tokens.old) result tokens.new }
+    first: Result<Items<WrittenCond<'a>>, QueryFault>,
+) -> Result<Items<WrittenCond<'a>>, QueryFault>
+    ensures ok { IfOk first.entry (λ found. Reads QueryFault.OutOfMemory
+        (steps.parts QueryFault.Syntax TokenKind.Or (spec.conjunction (spec.negation language.functions levels)) found tokens.old)
+        result tokens.new) }
+    ensures err { IfErr first.entry (λ fault. result ≡ Err fault) }
 {
-    let mut parts = Items::new(alloc);
-    parts.push(first)?;
+    let mut parts = first?;
     for _turn in 0..tokens.count() {
-        parts.push(conjunction(alloc, tokens, levels)?)?;
+        keep(&mut parts, conjunction(alloc, tokens, levels))?;
         if !tokens.eat(TokenKind::Or) {
-            return Ok(WrittenCond::Or(parts));
+            return Ok(parts);
         }
     }
     Err(refuse(tokens))
@@ -58,32 +131,32 @@ pub(crate) fn condition<'a>(
     ensures { Reads QueryFault.OutOfMemory
         (spec.condition_of (spec.negation language.functions levels) tokens.old) result tokens.new }
 {
-    let first = conjunction(alloc, tokens, levels)?;
-    if tokens.eat(TokenKind::Or) {
-        disjuncts(alloc, tokens, levels, first)
-    } else {
-        Ok(first)
+    let first = conjunction(alloc, tokens, levels);
+    if !goes_on(tokens, &first, TokenKind::Or) {
+        return first;
     }
+    one_of(disjuncts(alloc, tokens, levels, list_of(alloc, first)))
 }
 
-/// Reads the rest of a conjunction, after its first part and AND.
+/// Reads the rest of a conjunction, after a first part and AND.
 #[cycle(conditions)]
 #[tactic(auto, unfolding(table_model::specs::Parsers::parts_from))]
 fn conjuncts<'a>(
     alloc: Global,
     tokens: &mut Cursor<'_, 'a>,
     levels: usize,
-    first: WrittenCond<'a>,
-) -> Result<WrittenCond<'a>, QueryFault>
-    ensures { Reads QueryFault.OutOfMemory (spec.joined TokenKind.And tree.And
-        (spec.negation language.functions levels) first.entry tokens.old) result tokens.new }
+    first: Result<Items<WrittenCond<'a>>, QueryFault>,
+) -> Result<Items<WrittenCond<'a>>, QueryFault>
+    ensures ok { IfOk first.entry (λ found. Reads QueryFault.OutOfMemory
+        (steps.parts QueryFault.Syntax TokenKind.And (spec.negation language.functions levels) found tokens.old)
+        result tokens.new) }
+    ensures err { IfErr first.entry (λ fault. result ≡ Err fault) }
 {
-    let mut parts = Items::new(alloc);
-    parts.push(first)?;
+    let mut parts = first?;
     for _turn in 0..tokens.count() {
-        parts.push(negation(alloc, tokens, levels)?)?;
+        keep(&mut parts, negation(alloc, tokens, levels))?;
         if !tokens.eat(TokenKind::And) {
-            return Ok(all_of(parts));
+            return Ok(parts);
         }
     }
     Err(refuse(tokens))
@@ -99,12 +172,11 @@ fn conjunction<'a>(
     ensures { Reads QueryFault.OutOfMemory
         (spec.conjunction (spec.negation language.functions levels) tokens.old) result tokens.new }
 {
-    let first = negation(alloc, tokens, levels)?;
-    if tokens.eat(TokenKind::And) {
-        conjuncts(alloc, tokens, levels, first)
-    } else {
-        Ok(first)
+    let first = negation(alloc, tokens, levels);
+    if !goes_on(tokens, &first, TokenKind::And) {
+        return first;
     }
+    all_of(conjuncts(alloc, tokens, levels, list_of(alloc, first)))
 }
 
 /// Reads a condition in parentheses, after the left one.
@@ -117,9 +189,33 @@ fn group<'a>(
     ensures { Reads QueryFault.OutOfMemory
         (spec.group (spec.negation language.functions levels) tokens.old) result tokens.new }
 {
-    let inner = condition(alloc, tokens, levels)?;
-    expect(tokens, TokenKind::RightParenthesis)?;
-    Ok(inner)
+    closed(condition(alloc, tokens, levels), tokens)
+}
+
+/// Reads what NOT negates, after it.
+#[cycle(conditions)]
+fn opposite<'a>(
+    alloc: Global,
+    tokens: &mut Cursor<'_, 'a>,
+    levels: usize,
+) -> Result<WrittenCond<'a>, QueryFault>
+    ensures { Reads QueryFault.OutOfMemory
+        (steps.◌<$>◌ tree.Not (spec.negation language.functions levels) tokens.old) result tokens.new }
+{
+    negated(alloc, negation(alloc, tokens, levels))
+}
+
+/// Reads a predicate where neither NOT nor parentheses may stand.
+#[tactic(auto, unfolding(table_model::specs::QueryReading::negation))]
+fn innermost<'a>(alloc: Global, tokens: &mut Cursor<'_, 'a>) -> Result<WrittenCond<'a>, QueryFault>
+    ensures { Reads QueryFault.OutOfMemory
+        (spec.negation language.functions 0 tokens.old) result tokens.new }
+{
+    if tokens.sees(TokenKind::Not) || tokens.sees(TokenKind::LeftParenthesis) {
+        Err(QueryFault::TooDeep(tokens.place()))
+    } else {
+        predicate(alloc, tokens)
+    }
 }
 
 /// Reads NOT and what it negates, a condition in parentheses, or a predicate.
@@ -134,17 +230,10 @@ fn negation<'a>(
         (spec.negation language.functions levels tokens.old) result tokens.new }
 {
     if levels == 0 {
-        if tokens.sees(TokenKind::Not) || tokens.sees(TokenKind::LeftParenthesis) {
-            return Err(QueryFault::TooDeep(tokens.place()));
-        }
-        return predicate(alloc, tokens);
-    }
-    if tokens.sees(TokenKind::Not) {
-        tokens.advance();
-        let inner = negation(alloc, tokens, levels - 1)?;
-        Ok(WrittenCond::Not(Boxed::new(alloc, inner)?))
-    } else if tokens.sees(TokenKind::LeftParenthesis) {
-        tokens.advance();
+        innermost(alloc, tokens)
+    } else if tokens.eat(TokenKind::Not) {
+        opposite(alloc, tokens, levels - 1)
+    } else if tokens.eat(TokenKind::LeftParenthesis) {
         group(alloc, tokens, levels - 1)
     } else {
         predicate(alloc, tokens)

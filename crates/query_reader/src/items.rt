@@ -16,7 +16,7 @@ use table_model::tokens::TokenKind;
 
 type WrittenItem<'a> = table_model::queries::WrittenItem<'a, WrittenColumn<'a>>;
 
-type Selection<'a> = table_model::queries::Selection<'a, WrittenColumn<'a>>;
+pub(crate) type Selection<'a> = table_model::queries::Selection<'a, WrittenColumn<'a>>;
 
 /// Reads a call of ST_AsText in the select list, from its name on.
 fn text_item<'a>(tokens: &mut Cursor<'_, 'a>, at: usize) -> Result<WrittenItem<'a>, QueryFault>

@@ -1,6 +1,6 @@
 //! Reads predicates: calls of the functions that relate geometries, and what they are compared with.
 
-ghost use Rattle.std.specs.Prelude.{◌≡◌, map};
+ghost use Rattle.std.specs.Prelude.{◌≡◌, map, Err, IfOk, IfErr};
 ghost use Rattle.table_model.specs.QueryReading as spec;
 ghost use Rattle.table_model.specs.Parsers as steps;
 ghost use Rattle.table_model.specs.Parsers.{Reads};
@@ -9,13 +9,12 @@ ghost use Rattle.query_reader.specs.Predicates.{named_predicates, named_in, othe
 ghost use Rattle.query_reader.specs.Language.{language};
 
 use crate::comparisons::comparison;
-use crate::condition::WrittenCond;
+use crate::condition::{WrittenCond, goes_on, negated};
 use crate::numbers::truth_digit;
 use crate::operands::geometry;
-use crate::terminals::{calls, expect, refuse, string};
+use crate::terminals::{calls, closed, expect, refuse, string};
 use geometry_model::Predicate;
 use sql_tokens::cursor::Cursor;
-use sqlite_items::Boxed;
 use std::alloc::Global;
 use table_model::faults::QueryFault;
 use table_model::queries::WrittenPredicate;
@@ -33,14 +32,9 @@ const NAMED_PREDICATES: [(&[u8], Predicate); 8] = [
     (b"ST_Overlaps", Predicate::Overlaps),
 ];
 
-/// Reads the 1 or the 0 that a predicate is compared with: 0 negates it.
-#[tactic(auto, unfolding(table_model::specs::QueryReading::truth_value))]
-fn truth_value<'a>(
-    alloc: Global,
-    tokens: &mut Cursor<'_, 'a>,
-    cond: WrittenCond<'a>,
-) -> Result<WrittenCond<'a>, QueryFault>
-    ensures { Reads QueryFault.OutOfMemory (spec.truth_value cond.entry tokens.old) result tokens.new }
+/// Reads the 1 or the 0 that a predicate is compared with: whether it is to hold.
+fn truth(tokens: &mut Cursor<'_, '_>) -> Result<bool, QueryFault>
+    ensures { Reads QueryFault.OutOfMemory (names.truth tokens.old) result tokens.new }
 {
     if !tokens.sees(TokenKind::Integer) {
         return Err(refuse(tokens));
@@ -49,28 +43,27 @@ fn truth_value<'a>(
         None => Err(refuse(tokens)),
         Some(holds) => {
             tokens.advance();
-            if holds {
-                Ok(cond)
-            } else {
-                Ok(WrittenCond::Not(Boxed::new(alloc, cond)?))
-            }
+            Ok(holds)
         }
     }
 }
 
-/// Reads what a predicate is compared with, where it is compared.
-#[tactic(auto, unfolding(table_model::specs::QueryReading::truth_test))]
+/// Reads what a predicate that was read is compared with, where it is compared: 0 negates it. A fault is passed on.
 fn truth_test<'a>(
     alloc: Global,
     tokens: &mut Cursor<'_, 'a>,
-    cond: WrittenCond<'a>,
+    cond: Result<WrittenCond<'a>, QueryFault>,
 ) -> Result<WrittenCond<'a>, QueryFault>
-    ensures { Reads QueryFault.OutOfMemory (spec.truth_test cond.entry tokens.old) result tokens.new }
+    ensures ok { IfOk cond.entry (λ x. Reads QueryFault.OutOfMemory (spec.truth_test x tokens.old) result tokens.new) }
+    ensures err { IfErr cond.entry (λ fault. result ≡ Err fault) }
 {
-    if tokens.eat(TokenKind::Equal) {
-        truth_value(alloc, tokens, cond)
-    } else {
-        Ok(cond)
+    if !goes_on(tokens, &cond, TokenKind::Equal) {
+        return cond;
+    }
+    match truth(tokens) {
+        Ok(true) => cond,
+        Ok(false) => negated(alloc, cond),
+        Err(fault) => Err(fault),
     }
 }
 
@@ -114,9 +107,8 @@ fn related<'a>(
 {
     tokens.advance();
     expect(tokens, TokenKind::LeftParenthesis)?;
-    let cond = relates(tokens, at, predicate)?;
-    expect(tokens, TokenKind::RightParenthesis)?;
-    truth_test(alloc, tokens, cond)
+    let call = closed(relates(tokens, at, predicate), tokens);
+    truth_test(alloc, tokens, call)
 }
 
 /// Reads a call of ST_Relate, from its name on, and what it is compared with.
@@ -130,9 +122,15 @@ fn related_by<'a>(
 {
     tokens.advance();
     expect(tokens, TokenKind::LeftParenthesis)?;
-    let cond = relates_by(tokens, at)?;
-    expect(tokens, TokenKind::RightParenthesis)?;
-    truth_test(alloc, tokens, cond)
+    let call = closed(relates_by(tokens, at), tokens);
+    truth_test(alloc, tokens, call)
+}
+
+/// Reads the argument of ST_IsEmpty, which starts at a place.
+fn empty_argument<'a>(tokens: &mut Cursor<'_, 'a>, at: usize) -> Result<WrittenCond<'a>, QueryFault>
+    ensures { Reads QueryFault.OutOfMemory (names.empty_argument at tokens.old) result tokens.new }
+{
+    Ok(WrittenCond::IsEmpty(at, geometry(tokens)?))
 }
 
 /// Reads a call of ST_IsEmpty, from its name on, and what it is compared with.
@@ -146,9 +144,8 @@ fn emptiness<'a>(
 {
     tokens.advance();
     expect(tokens, TokenKind::LeftParenthesis)?;
-    let argument = geometry(tokens)?;
-    expect(tokens, TokenKind::RightParenthesis)?;
-    truth_test(alloc, tokens, WrittenCond::IsEmpty(at, argument))
+    let call = closed(empty_argument(tokens, at), tokens);
+    truth_test(alloc, tokens, call)
 }
 
 /// The first predicate of a table that is called next, by its name.

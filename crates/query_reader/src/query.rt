@@ -1,24 +1,26 @@
 //! Reads queries.
 
-ghost use Rattle.std.specs.Prelude.{◌≡◌, IfErr, IfOk, Ok};
+ghost use Rattle.std.specs.Prelude.{◌≡◌, Err, IfErr, IfOk, Ok};
 ghost use Rattle.table_model.specs.Outcomes.{Gives};
 ghost use Rattle.table_model.specs.Parsers.{Reads};
 ghost use Rattle.table_model.specs.QueryGrammar.{AnswersQuery, IsQuery};
 ghost use Rattle.table_model.specs.QueryReading as spec;
 ghost use Rattle.table_model.specs.QueryRefusals.{AnswersFirst, StandsInQuery};
 ghost use Rattle.query_reader.specs.Language.{language};
+ghost use Rattle.query_reader.specs.Queries as parts;
+ghost use Rattle.query_reader.specs.Steps.{mapped};
 
 use crate::Query;
 use crate::condition::{WrittenCond, condition};
-use crate::items::selection;
+use crate::items::{Selection, selection};
 use crate::numbers::limit_value;
-use crate::references::{reference, second};
-use crate::terminals::{expect, refuse, says};
+use crate::references::{Second, reference, second};
+use crate::terminals::{expect, present, refuse, says};
 use sql_tokens::cursor::Cursor;
 use sql_tokens::lex::{lex, same_kind};
 use std::alloc::Global;
 use table_model::faults::QueryFault;
-use table_model::queries::{Explain, LEVEL_LIMIT};
+use table_model::queries::{Explain, LEVEL_LIMIT, WrittenReference};
 use table_model::tokens::{TEXT_LIMIT, Token, TokenKind};
 
 /// Reads WHERE and its condition, where they stand.
@@ -31,7 +33,7 @@ fn where_condition<'a>(
         (spec.where_condition language.functions tokens.old) result tokens.new }
 {
     if tokens.eat(TokenKind::Where) {
-        Ok(Some(condition(alloc, tokens, LEVEL_LIMIT)?))
+        present(condition(alloc, tokens, LEVEL_LIMIT))
     } else {
         Ok(None)
     }
@@ -82,30 +84,97 @@ fn explained(tokens: &mut Cursor<'_, '_>) -> Explain
     }
 }
 
-/// Reads a query, to the end of its tokens.
-#[tactic(auto, unfolding(table_model::specs::QueryReading::query))]
-fn query<'a>(alloc: Global, tokens: &mut Cursor<'_, 'a>) -> Result<Query<'a>, QueryFault>
-    ensures { Reads QueryFault.OutOfMemory (spec.query language tokens.old) result tokens.new }
+/// Whether the plan is asked for, and what SELECT lists.
+type Head<'a> = (Explain, Selection<'a>);
+
+/// Reads a query as far as what SELECT lists.
+fn head<'a>(alloc: Global, tokens: &mut Cursor<'_, 'a>) -> Result<Head<'a>, QueryFault>
+    ensures { Reads QueryFault.OutOfMemory (parts.head tokens.old) result tokens.new }
 {
     let explain = explained(tokens);
     expect(tokens, TokenKind::Select)?;
     let selection = selection(alloc, tokens)?;
+    Ok((explain, selection))
+}
+
+/// The first table reference, and the second with its condition.
+type Sources<'a> = (WrittenReference<'a>, Second<'a>);
+
+/// Reads FROM and its tables.
+fn sources<'a>(alloc: Global, tokens: &mut Cursor<'_, 'a>) -> Result<Sources<'a>, QueryFault>
+    ensures { Reads QueryFault.OutOfMemory (parts.sources tokens.old) result tokens.new }
+{
     expect(tokens, TokenKind::From)?;
     let first = reference(tokens)?;
-    let (second, on) = second(alloc, tokens)?;
-    let condition = where_condition(alloc, tokens)?;
+    let second = second(alloc, tokens)?;
+    Ok((first, second))
+}
+
+/// The condition of WHERE and the number of LIMIT.
+type Ending<'a> = (Option<WrittenCond<'a>>, Option<u64>);
+
+/// Reads LIMIT and the end of the tokens after what was read before; a fault is passed on.
+fn with_limit<T: Drop>(
+    read: Result<T, QueryFault>,
+    tokens: &mut Cursor<'_, '_>,
+) -> Result<(T, Option<u64>), QueryFault>
+    ensures ok { IfOk read (λ x. Reads QueryFault.OutOfMemory (parts.with_limit x tokens.old) result tokens.new) }
+    ensures err { IfErr read (λ fault. result ≡ Err fault) }
+{
+    let before = read?;
     let limit = limited(tokens)?;
     tokens.eat(TokenKind::Semicolon);
     expect(tokens, TokenKind::End)?;
-    Ok(Query {
-        explain,
-        selection,
-        first,
-        second,
-        on,
-        condition,
-        limit,
-    })
+    Ok((before, limit))
+}
+
+/// Reads what stands after the tables, to the end of the tokens.
+fn ending<'a>(alloc: Global, tokens: &mut Cursor<'_, 'a>) -> Result<Ending<'a>, QueryFault>
+    ensures { Reads QueryFault.OutOfMemory (parts.ending tokens.old) result tokens.new }
+{
+    with_limit(where_condition(alloc, tokens), tokens)
+}
+
+/// The query of its parts, where the last was read.
+fn assembled<'a>(
+    head: Head<'a>,
+    sources: Sources<'a>,
+    ending: Result<Ending<'a>, QueryFault>,
+) -> Result<Query<'a>, QueryFault>
+    ensures { result ≡ mapped (parts.assembled head.entry sources.entry) ending.entry }
+{
+    match ending {
+        Ok((condition, limit)) => {
+            let (explain, selection) = head;
+            let (first, (second, on)) = sources;
+            Ok(Query {
+                explain,
+                selection,
+                first,
+                second,
+                on,
+                condition,
+                limit,
+            })
+        }
+        Err(fault) => Err(fault),
+    }
+}
+
+/// Reads a query part by part.
+fn query_by_parts<'a>(alloc: Global, tokens: &mut Cursor<'_, 'a>) -> Result<Query<'a>, QueryFault>
+    ensures { Reads QueryFault.OutOfMemory (parts.by_parts tokens.old) result tokens.new }
+{
+    let head = head(alloc, tokens)?;
+    let sources = sources(alloc, tokens)?;
+    assembled(head, sources, ending(alloc, tokens))
+}
+
+/// Reads a query, to the end of its tokens.
+fn query<'a>(alloc: Global, tokens: &mut Cursor<'_, 'a>) -> Result<Query<'a>, QueryFault>
+    ensures { Reads QueryFault.OutOfMemory (spec.query language tokens.old) result tokens.new }
+{
+    query_by_parts(alloc, tokens)
 }
 
 /// The place of the bad token, where there is one.

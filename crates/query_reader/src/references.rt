@@ -4,6 +4,7 @@ ghost use Rattle.table_model.specs.QueryReading as spec;
 ghost use Rattle.table_model.specs.Parsers.{Reads};
 ghost use Rattle.query_reader.specs.Predicates as names;
 ghost use Rattle.query_reader.specs.Language.{language};
+ghost use Rattle.query_reader.specs.Queries as parts;
 
 use crate::condition::{WrittenCond, condition};
 use crate::terminals::{expect, name};
@@ -56,16 +57,25 @@ fn crossed<'a>(tokens: &mut Cursor<'_, 'a>) -> Result<Second<'a>, QueryFault>
     Ok((Some(reference(tokens)?), None))
 }
 
-/// Reads JOIN, a second table reference and its condition.
-#[tactic(auto, unfolding(table_model::specs::QueryReading::joined_on))]
-fn joined_on<'a>(alloc: Global, tokens: &mut Cursor<'_, 'a>) -> Result<Second<'a>, QueryFault>
-    ensures { Reads QueryFault.OutOfMemory (spec.joined_on language.functions tokens.old) result tokens.new }
+/// Reads JOIN, a second table reference and ON.
+fn joined_reference<'a>(tokens: &mut Cursor<'_, 'a>) -> Result<WrittenReference<'a>, QueryFault>
+    ensures { Reads QueryFault.OutOfMemory (parts.joined_reference tokens.old) result tokens.new }
 {
     expect(tokens, TokenKind::Join)?;
     let reference = reference(tokens)?;
     expect(tokens, TokenKind::On)?;
-    let on = condition(alloc, tokens, LEVEL_LIMIT)?;
-    Ok((Some(reference), Some(on)))
+    Ok(reference)
+}
+
+/// Reads JOIN, a second table reference and its condition.
+fn joined_on<'a>(alloc: Global, tokens: &mut Cursor<'_, 'a>) -> Result<Second<'a>, QueryFault>
+    ensures { Reads QueryFault.OutOfMemory (spec.joined_on language.functions tokens.old) result tokens.new }
+{
+    let reference = joined_reference(tokens)?;
+    match condition(alloc, tokens, LEVEL_LIMIT) {
+        Ok(on) => Ok((Some(reference), Some(on))),
+        Err(fault) => Err(fault),
+    }
 }
 
 /// Reads a second table reference and its condition, where they stand.

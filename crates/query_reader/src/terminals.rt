@@ -2,10 +2,11 @@
 //! outcome of the reader of its name in `specs/QueryReading.antt` of `table_model`, which has the grammar,
 //! and so in each file here.
 
-ghost use Rattle.std.specs.Prelude.{◌≡◌};
+ghost use Rattle.std.specs.Prelude.{◌≡◌, Some, Err, IfOk, IfErr};
 ghost use Rattle.table_model.specs.QueryReading as spec;
 ghost use Rattle.table_model.specs.Parsers as steps;
 ghost use Rattle.table_model.specs.Parsers.{Reads};
+ghost use Rattle.query_reader.specs.Steps as passing;
 
 use sql_tokens::cursor::Cursor;
 use table_model::faults::QueryFault;
@@ -32,6 +33,26 @@ pub(crate) fn expect(tokens: &mut Cursor<'_, '_>, wanted: TokenKind) -> Result<(
     } else {
         Err(refuse(tokens))
     }
+}
+
+/// Reads the right parenthesis after what was read in parentheses; a fault is passed on.
+pub(crate) fn closed<T: Drop>(
+    inner: Result<T, QueryFault>,
+    tokens: &mut Cursor<'_, '_>,
+) -> Result<T, QueryFault>
+    ensures ok { IfOk inner (λ x. Reads QueryFault.OutOfMemory (passing.closed x tokens.old) result tokens.new) }
+    ensures err { IfErr inner (λ fault. result ≡ Err fault) }
+{
+    let value = inner?;
+    expect(tokens, TokenKind::RightParenthesis)?;
+    Ok(value)
+}
+
+/// A part that may be left out, where it was read; a fault is passed on.
+pub(crate) fn present<T: Drop>(read: Result<T, QueryFault>) -> Result<Option<T>, QueryFault>
+    ensures { result ≡ passing.mapped Some read }
+{
+    Ok(Some(read?))
 }
 
 /// Reads a name: a word that isn't reserved. With `(` after it, it is a function and no name.
