@@ -1,10 +1,10 @@
 //! The commands of `sfq`, and how its words are read by them.
 
-ghost use Rattle.std.specs.Prelude.{◌≡◌, [], true, false, codes, IfOk, IfErr, IfSome, IfNone, OnOk, option_map};
+ghost use Rattle.std.specs.Prelude.{◌≡◌, [], true, false, codes, IfOk, IfErr, IfSome, IfNone, OnOk, IsOkAnd, option_map};
 ghost use Rattle.std.specs.String.{string_bytes};
 ghost use Rattle.clap.specs.Walk.{texts};
-ghost use Rattle.clap.specs.Words.{app_of, rule_of, rows_of, found_of, first_value, subcommand_rows_of, takes, fault_of, kind_of, HasKind};
-ghost use Rattle.command_line.specs.Orders.{Orders, OrdersBy, HasWords, HasTextsOf, HasRunWords, HasCheckWords, HasRelateWords, name_of, required_word, check, run, relate, sfq};
+ghost use Rattle.clap.specs.Words.{app_of, rule_of, rows_of, found_of, first_value, subcommand_rows_of, takes, fault_of, kind_of, HasKind, with_rule, AddsSubcommand};
+ghost use Rattle.command_line.specs.Orders.{Orders, OrdersBy, HasWords, HasTextsOf, HasRunWords, HasCheckWords, HasRelateWords, name_of, required_word, bare_sfq, check, run, relate, sfq};
 
 use crate::commands::Order;
 use crate::misuse::Misuse;
@@ -25,11 +25,18 @@ pub fn order<'a>(alloc: Global, words: &'a [&'a str]) -> Result<Order, Misuse>
         → kind_of m.error ≡ ErrorKind.OutOfMemory) }
     ensures refused { IfErr result (λ m. HasKind (fault_of sfq (texts words.entry.now)) m.error) }
 {
-    let mut command = sfq_command(alloc)?;
-    let matches = command.try_get_matches_from_mut(words)?;
-    match read_order(alloc, &matches)? {
+    let command = sfq_command(alloc)?;
+    let matches = command.try_get_matches_from(words)?;
+    Ok(given_order(alloc, &matches)?)
+}
+
+// The order of matches in which none of its words is missing: `clap` takes no others.
+fn given_order(alloc: Global, matches: &ArgMatches<'_>) -> Result<Order, AllocError>
+    requires { HasWords (subcommand_rows_of matches.now) }
+    ensures { IfOk result (OrdersBy (subcommand_rows_of matches.now)) }
+{
+    match read_order(alloc, matches)? {
         Some(order) => Ok(order),
-        // `clap` takes no words in which a command or one of its words is missing.
         None => unreachable!(),
     }
 }
@@ -117,15 +124,30 @@ fn text_of(alloc: Global, matches: &ArgMatches<'_>, id: &str) -> Result<Option<S
 fn sfq_command<'a>(alloc: Global) -> Result<Command<'a>, AllocError>
     ensures { IfOk result (λ c. app_of c ≡ sfq) }
 {
+    let with_run = with_command(bare_command(alloc), run_command(alloc))?;
+    let with_check = with_command(with_run, check_command(alloc))?;
+    with_command(with_check, relate_command(alloc))
+}
+
+// The command with one more subcommand, where there was memory for that.
+fn with_command<'a>(
+    command: Command<'a>,
+    subcommand: Result<Command<'a>, AllocError>,
+) -> Result<Command<'a>, AllocError>
+    ensures { IfOk result (λ c. IsOkAnd subcommand.entry (λ s. AddsSubcommand command.entry s c)) }
+{
+    command.subcommand(subcommand?)
+}
+
+// `sfq` before it has its subcommands.
+fn bare_command<'a>(alloc: Global) -> Command<'a>
+    ensures { app_of result ≡ bare_sfq }
+{
     let about = "Answers SQL over tables of an integer grid, by exact geometry";
-    let command = Command::new(alloc, "sfq")
+    Command::new(alloc, "sfq")
         .about(about)
         .version(VERSION)
-        .subcommand_required(true);
-    command
-        .subcommand(run_command(alloc)?)?
-        .subcommand(check_command(alloc)?)?
-        .subcommand(relate_command(alloc)?)
+        .subcommand_required(true)
 }
 
 // The word that names the schema's file.
@@ -161,21 +183,34 @@ Examples of a QUERY:
   SELECT b.id, p.name FROM building b JOIN parcel p ON ST_Within(b.geom, p.geom)
   EXPLAIN ANALYZE SELECT COUNT(*) FROM parcel WHERE geom IS NULL";
 
-// `run SCHEMA DIR QUERY`
-fn run_command<'a>(alloc: Global) -> Result<Command<'a>, AllocError>
-    ensures { IfOk result (λ c. app_of c ≡ run) }
+// The command with the words that name the schema's file and the directory of the tables.
+fn with_places<'a>(alloc: Global, command: Command<'a>) -> Result<Command<'a>, AllocError>
+    ensures { IfOk result (λ c. app_of c ≡ with_rule (with_rule (app_of command.entry)
+        (required_word (codes "schema"))) (required_word (codes "directory"))) }
 {
-    let query = word(
+    command.arg(schema_word(alloc))?.arg(directory_word(alloc))
+}
+
+// The word that is the query.
+fn query_word<'a>(alloc: Global) -> Arg<'a>
+    ensures rule { rule_of result ≡ required_word (codes "query") }
+    ensures local { result.global ≡ false }
+{
+    word(
         alloc,
         "query",
         "QUERY",
         "The SELECT (after -- where it begins with a -)",
-    );
+    )
+}
+
+// `run SCHEMA DIR QUERY`
+fn run_command<'a>(alloc: Global) -> Result<Command<'a>, AllocError>
+    ensures { IfOk result (λ c. app_of c ≡ run) }
+{
     let about = "Writes the rows that a SELECT means, as CSV";
     let run = Command::new(alloc, "run").about(about).after_help(EXAMPLES);
-    run.arg(schema_word(alloc))?
-        .arg(directory_word(alloc))?
-        .arg(query)
+    with_places(alloc, run)?.arg(query_word(alloc))
 }
 
 // `check SCHEMA DIR`
@@ -183,29 +218,42 @@ fn check_command<'a>(alloc: Global) -> Result<Command<'a>, AllocError>
     ensures { IfOk result (λ c. app_of c ≡ check) }
 {
     let about = "Loads every table, and tells how many rows each has";
-    let check = Command::new(alloc, "check").about(about);
-    check.arg(schema_word(alloc))?.arg(directory_word(alloc))
+    with_places(alloc, Command::new(alloc, "check").about(about))
+}
+
+// The word that is the first geometry.
+fn first_word<'a>(alloc: Global) -> Arg<'a>
+    ensures rule { rule_of result ≡ required_word (codes "first") }
+    ensures local { result.global ≡ false }
+{
+    word(
+        alloc,
+        "first",
+        "WKT",
+        "The first geometry, such as POINT(1 2)",
+    )
+}
+
+// The word that is the second geometry.
+fn second_word<'a>(alloc: Global) -> Arg<'a>
+    ensures rule { rule_of result ≡ required_word (codes "second") }
+    ensures local { result.global ≡ false }
+{
+    word(
+        alloc,
+        "second",
+        "WKT",
+        "The second geometry, such as MULTIPOINT((1 2),(3 4))",
+    )
 }
 
 // `relate WKT WKT`
 fn relate_command<'a>(alloc: Global) -> Result<Command<'a>, AllocError>
     ensures { IfOk result (λ c. app_of c ≡ relate) }
 {
-    let first = word(
-        alloc,
-        "first",
-        "WKT",
-        "The first geometry, such as POINT(1 2)",
-    );
-    let second = word(
-        alloc,
-        "second",
-        "WKT",
-        "The second geometry, such as MULTIPOINT((1 2),(3 4))",
-    );
     let about = "Writes the DE-9IM matrix of two geometries in well-known text";
     let relate = Command::new(alloc, "relate").about(about);
-    relate.arg(first)?.arg(second)
+    relate.arg(first_word(alloc))?.arg(second_word(alloc))
 }
 
 // A required word in its place.

@@ -1,14 +1,14 @@
 -- The tables of a database, one after the other.
-use Rattle.std.proofs.Common.{◌≡◌, ◌∙◌, ◌+◌, ◌++◌, ◌<◌, ℕ, List, [], ◌∷◌, Option, None, Some, Result, Ok, Err, ap, arith, drop, get_or, length, map, refl, subst, sym, take}
+use Rattle.std.proofs.Common.{◌≡◌, ◌∙◌, ◌+◌, ◌++◌, ◌<◌, ℕ, List, [], ◌∷◌, Option, None, Some, Result, Ok, Err, IfErr, ap, ap₂, arith, drop, get_or, length, map, refl, subst, sym, take}
 use Rattle.std.proofs.lemmas.List.{append-nil, append_assoc, drop_more, get_or-map, length-append, length-map, take-append-drop, take_all}
 use Rattle.std.proofs.lemmas.List.FromFn.{get_or-enumerate_from, length-enumerate_from}
 use Rattle.std.proofs.lemmas.Slice.Zip.{get_or-zip}
 use Rattle.std.specs.List.{enumerate_from, zip}
 use Rattle.feature_table.proofs.EachLemmas.{Passed, passed_all, passed_fault, passed_front, passed_more}
 use Rattle.feature_table.proofs.LoadingLemmas.{at_place, drop_front}
-use Rattle.feature_table.specs.Outcomes.{IsFailure}
+use Rattle.feature_table.specs.Outcomes.{IsFailure, LoadsTable}
 use Rattle.feature_table.proofs.ReaderRecords.{each-append, each-more, fill, length-each}
-use Rattle.feature_table.specs.Tables.{AreOfRecords, AreRecordsOf, EachRecordsOf, records_in, table_in}
+use Rattle.feature_table.specs.Tables.{AreOfRecords, AreRecordsOf, EachRecordsOf, EarlierLoad, records_in, tables_in}
 use Rattle.table_model.specs.Databases.{at_table, load_tables, loaded_tables}
 use Rattle.table_model.specs.Loading.{GeometryReader, Record, load}
 use Rattle.table_model.specs.Meanings.{Table}
@@ -28,35 +28,6 @@ length-loaded geometry definitions records same =
     let pairs = length-zip_same definitions records same in
     simp (length-map, length-enumerate_from) pairs
 
--- the same where the tables are given as texts
-pub length-tables : {T G : Type 0} (geometry : GeometryReader T G) (definitions : List (TableDef T)) (texts : List (List ℕ)) → length definitions ≡ length texts
-    → length (loaded_tables geometry definitions (map records_in texts)) ≡ length definitions
-length-tables geometry definitions texts same =
-    let size : length (map records_in texts) ≡ length texts = simp length-map in
-    length-loaded geometry definitions (map records_in texts) (omega (arith, size, same))
-
--- the text of a reader
-pub text_at : {R : Type 0} (remaining : R → Option (List ℕ)) (readers : List R) (texts : List (List ℕ)) (i : ℕ) (reader : R) → i < length readers
-    → map remaining readers ≡ map Some texts → reader ≡ get_or readers i reader → (i < length texts) × (remaining reader ≡ Some (get_or texts i []))
-text_at {R = R} remaining readers texts i reader within known is =
-    let n : length (map remaining readers) ≡ length readers = simp length-map in
-    let m : length (map {B = Option (List ℕ)} Some texts) ≡ length texts = simp length-map in
-    let same = ap length known in
-    let inside : i < length texts = omega (arith, n, m, same) in
-    let d = remaining reader in
-    let left = get_or-map remaining readers i reader d within in
-    let right = get_or-map {Y = Option (List ℕ)} Some texts i [] d inside in
-    (inside, ap remaining is ∙ sym left ∙ ap (λ (os : List (Option (List ℕ))). get_or os i d) known ∙ right)
-
--- as many texts as readers
-pub length-texts : {R : Type 0} (remaining : R → Option (List ℕ)) (readers : List R) (texts : List (List ℕ)) → map remaining readers ≡ map Some texts
-    → length readers ≡ length texts
-length-texts remaining readers texts known =
-    let n : length (map remaining readers) ≡ length readers = simp length-map in
-    let m : length (map {B = Option (List ℕ)} Some texts) ≡ length texts = simp length-map in
-    let same = ap length known in
-    omega (arith, n, m, same)
-
 -- the table of the records at a place
 loaded_at : {T G : Type 0} (geometry : GeometryReader T G) (definitions : List (TableDef T)) (records : List (List Record)) (i : ℕ) (t : TableDef T) (e : List Record)
     (d : Result (Table G) TableFault) → length definitions ≡ length records → i < length definitions
@@ -71,18 +42,8 @@ loaded_at {T = T} geometry definitions records i t e d same within =
     let whole : get_or (enumerate_from 0 (zip definitions records)) i (0, (t, e)) ≡ (i, (get_or definitions i t, get_or records i e)) = rw (n, pair) at item in
     get_or-map one (enumerate_from 0 (zip definitions records)) i (0, (t, e)) d (omega (arith, numbered, pairs)) ∙ ap one whole
 
--- the table of the text at a place
-pub table_at : {T G : Type 0} (geometry : GeometryReader T G) (definitions : List (TableDef T)) (texts : List (List ℕ)) (i : ℕ) (t : TableDef T)
-    (d : Result (Table G) TableFault) → length definitions ≡ length texts → i < length definitions
-    → get_or (loaded_tables geometry definitions (map records_in texts)) i d ≡ at_table i (table_in geometry (get_or definitions i t) (get_or texts i []))
-table_at geometry definitions texts i t d same within =
-    let size : length (map records_in texts) ≡ length texts = simp length-map in
-    let text = get_or-map records_in texts i [] (records_in []) (omega (arith, same)) in
-    loaded_at geometry definitions (map records_in texts) i t (records_in []) d (omega (arith, size, same)) within
-    ∙ ap (λ (records : List Record). at_table i (load geometry (get_or definitions i t) records)) text
-
 -- a number that stands for no table
-pub no_table : {G : Type 0} → Result (Table G) TableFault
+no_table : {G : Type 0} → Result (Table G) TableFault
 no_table = Err (record { table = 0; fault = fault.TooManyRows })
 
 pub no_definition : {T : Type 0} → TableDef T
@@ -185,3 +146,20 @@ fault_loaded geometry definitions known n tables view t next f a within many pla
 pub known_at : {R : Type 0} (remaining : R → Option (List ℕ)) (readers : List R) (n : ℕ) (reader : R) → n < length readers → reader ≡ get_or readers n reader
     → remaining reader ≡ get_or (map remaining readers) n None
 known_at remaining readers n reader within is = ap remaining is ∙ sym (get_or-map remaining readers n reader None within)
+
+-- what readers of known bytes give are the records of their texts
+texts_records : (texts : List (List ℕ)) (records : List (List Record)) → EachRecordsOf (map Some texts) records → records ≡ map records_in texts
+texts_records [] [] h = refl
+texts_records [] (r ∷ rs) h = absurd h
+texts_records (t ∷ ts) [] h = absurd h
+texts_records (t ∷ ts) (r ∷ rs) h = ap₂ (λ (x : List Record) (xs : List (List Record)). x ∷ xs) h.0 (texts_records ts rs h.1)
+
+-- an answer of records of readers whose texts are known is that of the texts
+pub loads_texts : {T G X : Type 0} (geometry : GeometryReader T G) (definitions : List (TableDef T)) (known : List (Option (List ℕ))) (view : X → List (Table G))
+    (answer : Result X TableFault) (texts : List (List ℕ)) → AreOfRecords geometry definitions known view answer → known ≡ map Some texts
+    → LoadsTable view answer (tables_in geometry definitions texts) × IfErr answer (λ f. EarlierLoad geometry definitions (map records_in texts) f.table)
+loads_texts geometry definitions known view answer texts a is =
+    let same = texts_records texts a.records (subst (λ (ks : List (Option (List ℕ))). EachRecordsOf ks a.records) is a.are_of) in (
+      subst (λ (records : List (List Record)). LoadsTable view answer (load_tables geometry definitions records)) same a.loads,
+      subst (λ (records : List (List Record)). IfErr answer (λ f. EarlierLoad geometry definitions records f.table)) same a.earlier,
+    )

@@ -65,6 +65,30 @@ fn load_table<I: EnvelopeIndex + Drop, R: Read + Drop>(
     }
 }
 
+/// Loads the tables of a schema in its order, each from the CSV text of one reader.
+fn load_tables<I: EnvelopeIndex + Drop, R: Read + Drop>(
+    alloc: Global,
+    schema: &Schema,
+    readers: Vec<R>,
+) -> Result<Vec<Table<I>>, TableFault>
+    requires { length readers.items ≡ length schema.now }
+    ensures records { AreOfRecords reading schema.now (map R.remaining readers.items)
+        (λ tables. tables.items) result }
+    ensures table { IfErr result (λ f. f.table < length schema.now) }
+{
+    let mut tables = Vec::new(alloc);
+    for (place, reader) in readers.into_iter().enumerate() {
+        let table = load_table(alloc, schema, place, reader)?;
+        if tables.push(table).is_err() {
+            return Err(TableFault {
+                table: place,
+                fault: LoadFault::OutOfMemory,
+            });
+        }
+    }
+    Ok(tables)
+}
+
 impl<'s, I: EnvelopeIndex + Drop> Database<'s, I> {
     /// Loads the tables of a schema in its order, each from the CSV text of one reader. The answer is the
     /// first fault where there is one, with its table: `Table::load` says which. So also a fault of reading
@@ -89,16 +113,7 @@ impl<'s, I: EnvelopeIndex + Drop> Database<'s, I> {
     {
         // The definitions are lawful, as those of a database are.
         let _definitions = schema.tables();
-        let mut tables = Vec::new(alloc);
-        for (place, reader) in readers.into_iter().enumerate() {
-            let table = load_table(alloc, schema, place, reader)?;
-            if tables.push(table).is_err() {
-                return Err(TableFault {
-                    table: place,
-                    fault: LoadFault::OutOfMemory,
-                });
-            }
-        }
+        let tables = load_tables(alloc, schema, readers)?;
         Ok(Database { schema, tables })
     }
 

@@ -5,7 +5,7 @@ use geometry_model::Predicate;
 use sqlite_items::{Boxed, Items};
 
 /// A sign of comparison. (SQL, comparison.)
-#[derive(Clone, Copy, Debug, PartialEq, Eq)]
+#[derive(Clone, Copy, PartialEq, Eq)]
 pub enum Comparison {
     Equal,
     NotEqual,
@@ -16,21 +16,21 @@ pub enum Comparison {
 }
 
 /// Where a column stands: the place of its reference in the query and its own in the table, both from 0.
-#[derive(Clone, Copy, Debug, PartialEq, Eq)]
+#[derive(Clone, Copy, PartialEq, Eq)]
 pub struct ColumnPlace {
     pub reference: usize,
     pub column: usize,
 }
 
 /// A geometry argument, generic in what a geometry is. (06-104r4, 7.2.)
-#[derive(Debug, Drop)]
+#[derive(Drop)]
 pub enum GeometryArgument<G> {
     Column(ColumnPlace),
     Literal(G),
 }
 
 /// A side of a comparison, generic in what a geometry argument is. (SQL, comparison; of geometries: 06-103r4, 6.1.2.2.)
-#[derive(Debug, Drop)]
+#[derive(Drop)]
 pub enum Operand<A> {
     Column(ColumnPlace),
     Integer(i64),
@@ -43,7 +43,7 @@ pub enum Operand<A> {
 
 /// A condition, generic in what a geometry argument is. `= 0` after a predicate is a NOT, `= 1` leaves no trace.
 /// (SQL, the search condition; of geometries: 06-103r4, 6.1.15.)
-#[derive(Debug, Drop)]
+#[derive(Drop)]
 pub enum Cond<A> {
     Or(Items<Cond<A>>),
     And(Items<Cond<A>>),
@@ -56,7 +56,7 @@ pub enum Cond<A> {
 
 /// An item of the select list, generic in what the argument of a function is.
 /// (SQL, the select list; of geometries: 06-103r4, 6.1.2.2.)
-#[derive(Debug, Drop)]
+#[derive(Drop)]
 pub enum Item<C> {
     Column(ColumnPlace),
     AsText(C),
@@ -66,7 +66,7 @@ pub enum Item<C> {
 
 /// A table reference: the table's place in the schema, and the bytes of the name that stands before the columns of
 /// an answer over two tables. (SQL, FROM.)
-#[derive(Debug, Drop)]
+#[derive(Drop)]
 pub struct Reference {
     pub table: usize,
     pub name: Items<u8>,
@@ -74,7 +74,7 @@ pub struct Reference {
 
 /// A bound query: its one or two references, its items, none where COUNT(*) stands, its conjuncts, those of ON before
 /// those of WHERE, and its limit, where there is one. (SQL, the query.)
-#[derive(Debug, Drop)]
+#[derive(Drop)]
 pub struct Bound<A, C> {
     pub explain: Explain,
     pub references: Items<Reference>,

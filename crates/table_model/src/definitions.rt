@@ -13,7 +13,7 @@ pub const COLUMN_LIMIT: usize = 32;
 pub const ROW_LIMIT: usize = 100_000;
 
 /// The type of a column, generic in what names a type of geometry. (SQL; 06-104r4, 7.2.)
-#[derive(Debug, Drop)]
+#[derive(Drop)]
 pub enum ColumnType<T> {
     /// Whole numbers of 64 bits with a sign.
     Integer,
@@ -24,7 +24,7 @@ pub enum ColumnType<T> {
 }
 
 /// A column of a table. (06-104r4, feature tables.)
-#[derive(Debug, Drop)]
+#[derive(Drop)]
 pub struct ColumnDef<T> {
     /// The name as the schema spells it.
     pub name: OwnedText,
@@ -34,7 +34,7 @@ pub struct ColumnDef<T> {
 }
 
 /// A table: its columns in order, one of which is the feature key. (06-104r4, feature tables.)
-#[derive(Debug, Drop)]
+#[derive(Drop)]
 pub struct TableDef<T> {
     /// The name as the schema spells it.
     pub name: OwnedText,

@@ -20,7 +20,7 @@ pub struct Access {
 }
 
 /// A plan of a query.
-#[derive(Debug, Drop)]
+#[derive(Drop)]
 pub struct Plan {
     /// One access for each reference, the outer one first.
     pub accesses: Items<Access>,

@@ -9,21 +9,21 @@ use sqlite_items::{Boxed, Items};
 pub const LEVEL_LIMIT: usize = 64;
 
 /// A name or a string, and the byte from 0 at which its token starts in the query's text.
-#[derive(Debug, Drop)]
+#[derive(Drop)]
 pub struct Name<'a> {
     pub text: Slice<'a>,
     pub at: usize,
 }
 
 /// A column as it is written, with the name of its reference where one is written. (SQL, column names.)
-#[derive(Debug, Drop)]
+#[derive(Drop)]
 pub struct WrittenColumn<'a> {
     pub reference: Option<Name<'a>>,
     pub name: Name<'a>,
 }
 
 /// A geometry argument as it is written. (06-104r4, 7.2.)
-#[derive(Debug, Drop)]
+#[derive(Drop)]
 pub enum WrittenGeometry<'a> {
     Column(WrittenColumn<'a>),
     /// ST_GeomFromText of a string.
@@ -32,7 +32,7 @@ pub enum WrittenGeometry<'a> {
 
 /// A side of a comparison as it is written, generic in what a geometry argument is.
 /// (SQL, comparison; of geometries: 06-103r4, 6.1.2.2.)
-#[derive(Debug, Drop)]
+#[derive(Drop)]
 pub enum WrittenOperand<'a, A> {
     Column(WrittenColumn<'a>),
     Integer(i64),
@@ -45,7 +45,7 @@ pub enum WrittenOperand<'a, A> {
 }
 
 /// Which DE-9IM predicate is written: ST_Relate has its pattern as a string. (06-103r4, 6.1.15.)
-#[derive(Debug, Drop)]
+#[derive(Drop)]
 pub enum WrittenPredicate<'a> {
     Named(Predicate),
     Relate(Name<'a>),
@@ -53,7 +53,7 @@ pub enum WrittenPredicate<'a> {
 
 /// A condition as it is written, generic in what a geometry argument is. The number of a predicate is the byte
 /// at which it starts. (SQL, the search condition.)
-#[derive(Debug, Drop)]
+#[derive(Drop)]
 pub enum WrittenCond<'a, A> {
     Or(Items<WrittenCond<'a, A>>),
     And(Items<WrittenCond<'a, A>>),
@@ -65,7 +65,7 @@ pub enum WrittenCond<'a, A> {
 }
 
 /// An item of the select list as it is written, generic in what the argument of a function is. (SQL, the select list.)
-#[derive(Debug, Drop)]
+#[derive(Drop)]
 pub enum WrittenItem<'a, C> {
     Column(WrittenColumn<'a>),
     /// ST_AsText, ST_Dimension and ST_IsEmpty, each with the byte of that word.
@@ -75,7 +75,7 @@ pub enum WrittenItem<'a, C> {
 }
 
 /// What SELECT lists. (SQL, the select list.)
-#[derive(Debug, Drop)]
+#[derive(Drop)]
 pub enum Selection<'a, C> {
     /// `*`
     All,
@@ -85,14 +85,14 @@ pub enum Selection<'a, C> {
 }
 
 /// A table reference as it is written. (SQL, FROM.)
-#[derive(Debug, Drop)]
+#[derive(Drop)]
 pub struct WrittenReference<'a> {
     pub table: Name<'a>,
     pub alias: Option<Name<'a>>,
 }
 
 /// Whether a query is to be answered, or its plan to be told.
-#[derive(Clone, Copy, Debug, PartialEq, Eq)]
+#[derive(Clone, Copy, PartialEq, Eq)]
 pub enum Explain {
     /// Rows are wanted.
     No,
@@ -104,7 +104,7 @@ pub enum Explain {
 
 /// A SELECT as it is written, generic in what a geometry argument is in a condition (`A`) and what the argument
 /// of a function is in the select list (`C`). (SQL, the query.)
-#[derive(Debug, Drop)]
+#[derive(Drop)]
 pub struct Query<'a, A, C> {
     pub explain: Explain,
     pub selection: Selection<'a, C>,

@@ -7,7 +7,7 @@ use std::alloc::{AllocError, Global};
 use std::marker::Model;
 
 /// A part of a text that lives for `'a`, which contracts see as its bytes.
-#[derive(Debug, Drop)]
+#[derive(Drop)]
 pub struct Slice<'a> {
     bytes: &'a [u8],
 }
@@ -47,7 +47,7 @@ impl<'a> Slice<'a> {
 }
 
 /// A text of its own, which contracts see as its bytes in UTF-8.
-#[derive(Debug, Drop)]
+#[derive(Drop)]
 pub struct OwnedText {
     text: String,
 }

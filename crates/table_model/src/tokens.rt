@@ -6,7 +6,7 @@ use crate::texts::Slice;
 pub const TEXT_LIMIT: usize = 65_536;
 
 /// What a token is. A reserved word has a kind of its own.
-#[derive(Clone, Copy, Debug, PartialEq, Eq)]
+#[derive(Clone, Copy, PartialEq, Eq)]
 pub enum TokenKind {
     /// A word that isn't reserved.
     Word,
@@ -50,7 +50,7 @@ pub enum TokenKind {
 }
 
 /// A token: its kind, its text, and the byte from 0 at which it starts in the whole text.
-#[derive(Debug, Drop)]
+#[derive(Drop)]
 pub struct Token<'a> {
     pub kind: TokenKind,
     pub text: Slice<'a>,

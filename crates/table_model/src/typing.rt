@@ -3,7 +3,7 @@
 use crate::conditions::ColumnPlace;
 
 /// The type of a part of a query. (SQL, comparison.)
-#[derive(Clone, Copy, Debug, PartialEq, Eq)]
+#[derive(Clone, Copy, PartialEq, Eq)]
 pub enum OperandType {
     Integer,
     Text,
@@ -13,14 +13,14 @@ pub enum OperandType {
 }
 
 /// What the name of a column stands for.
-#[derive(Clone, Copy, Debug, PartialEq, Eq)]
+#[derive(Clone, Copy, PartialEq, Eq)]
 pub struct Found {
     pub place: ColumnPlace,
     pub column_type: OperandType,
 }
 
 /// A part of a query with the type that it has.
-#[derive(Debug, Drop)]
+#[derive(Drop)]
 pub struct Typed<P> {
     pub part: P,
     pub part_type: OperandType,

@@ -3,7 +3,7 @@
 use crate::texts::OwnedText;
 
 /// A field of a typed row, generic in what a geometry is. (SQL; 06-104r4, feature tables.)
-#[derive(Debug, Drop)]
+#[derive(Drop)]
 pub enum Value<G> {
     /// No value.
     Null,
@@ -16,7 +16,7 @@ pub enum Value<G> {
 }
 
 /// The three values of a condition: what is neither true nor false is unknown. (SQL's three-valued logic.)
-#[derive(Clone, Copy, Debug, PartialEq, Eq)]
+#[derive(Clone, Copy, PartialEq, Eq)]
 pub enum Truth {
     True,
     False,

@@ -4,7 +4,7 @@ use Rattle.clap.specs.Words.{App, HasKind, fault_of, is_simple_and_free, subcomm
 use Rattle.clap.specs.Simple.{is_simple}
 use Rattle.clap.specs.Walk.{texts}
 use Rattle.command_line.specs.Orders.{HasWords, sfq}
-use Rattle.command_line.proofs.OrderLemmas.{misuse-keeps, none-there, sfq-free, sfq-simple}
+use Rattle.command_line.proofs.OrderLemmas.{misuse-keeps, sfq-free, sfq-simple}
 use Rattle.command_line.proofs.TakenWords.{has-order}
 use Rattle.command_line.proofs.reading.order.Goals as goal
 
@@ -32,14 +32,13 @@ returns-clause-accepted c =
     ap (λ (a : App). fault_of a words) (sym command_is)
     ∙ c.in_ok-matches.ensures.kinds (ap is_simple_and_free command_is ∙ sfq-free)
 
--- words that pass have an order, so one is read
-pub unreachable-requires : goal.unreachable-requires
-unreachable-requires c =
+-- words that pass have an order
+pub given_order-requires : goal.given_order-requires
+given_order-requires c =
     let command_is : _ ≡ sfq = c.in_ok-command.ensures in
     let words = texts c.args.words.now in
     let passed : fault_of sfq words ≡ [] = ap (λ (a : App). fault_of a words) (sym command_is)
     ∙ c.in_ok-matches.ensures.kinds (ap is_simple_and_free command_is ∙ sfq-free) in
     let met : subcommand_rows_of c.in_ok-matches.matches ≡ subcommand_of sfq words =
-    (c.in_ok-matches.ensures.ok.2 (ap is_simple command_is ∙ sfq-simple)).1 ∙ ap (λ (a : App). subcommand_of a words) command_is in
-    none-there c.in_ok-order.field-0 (HasWords (subcommand_rows_of c.in_ok-matches.matches)) c.in-None.is c.in_ok-order.ensures.none
-    (subst HasWords (sym met) (has-order words passed))
+    (c.in_ok-matches.ensures.matches (ap is_simple command_is ∙ sfq-simple)).1 ∙ ap (λ (a : App). subcommand_of a words) command_is in
+    subst HasWords (sym met) (has-order words passed)

@@ -1,4 +1,4 @@
-use Rattle.std.proofs.Common.{None, Ok, ◌∙◌, ◌≡◌, ap, map, refl, subst, sym}
+use Rattle.std.proofs.Common.{rules, None, Ok, ◌∙◌, ◌≡◌, ap, map, refl, subst, sym}
 use Rattle.std.specs.Prelude.{IsPermutation}
 use Rattle.feature_table.proofs.AscentLemmas.{ascending_alone, ascending_order, keys_moved}
 use Rattle.feature_table.proofs.OrderLemmas.{the_keyed_order}
@@ -36,3 +36,12 @@ returns-clause-ok c =
     let moved = subst (λ l. IsPermutation l sorted) given c.sort_keyed.ensures.moved in
     let order = the_keyed_order (λ (k : KeyedRow). k.number) (λ (k : KeyedRow). k.row) (keyed_row key) key rows sorted (λ r. refl) (λ r. refl) none moved c.sort_keyed.ensures.sorted in
     rw none (ap Ok (order ∙ sym c.in_ok-rows-in-None.ensures))
+
+pub returns-in-Some-clause-ok : goal.returns-in-Some-clause-ok
+returns-in-Some-clause-ok c = search rules
+
+pub returns-in-Some-clause-not_reading : goal.returns-in-Some-clause-not_reading
+returns-in-Some-clause-not_reading c = search rules
+
+pub returns-in-Some-clause-fault : goal.returns-in-Some-clause-fault
+returns-in-Some-clause-fault c = search rules

@@ -1,222 +1,51 @@
-use Rattle.std.proofs.Common.{List, [], inr, refl, ◌∙◌, ◌≡◌, ap, arith, get_or, length, map, rules, true, vec_len}
-use Rattle.std.proofs.lemmas.Iterator.Adapters.{YieldsList-from_vec}
-use Rattle.std.proofs.lemmas.Iterator.Consumers.{YieldsList-end, YieldsList-from_enumerate, YieldsList-turn}
-use Rattle.std.proofs.lemmas.List.FromFn.{length-enumerate_from}
-use Rattle.std.proofs.lemmas.List.{length-map, length_push}
+-- The tables are those of some records, and where the texts are known these are the records of the texts.
+use Rattle.std.proofs.Common.{◌≡◌, arith, length, map}
+use Rattle.std.proofs.lemmas.List.{length-map}
 use Rattle.std.proofs.lemmas.Result.{err_from_is_err_and}
-use Rattle.std.specs.Iterator.Adapters.{enumerate_source}
-use Rattle.std.specs.Result.{is_ok}
-use Rattle.std.specs.Vec.Iter.{into_iter_items, into_iter_len}
-use Rattle.feature_table.proofs.DatabaseLemmas.{all_loaded, fault_loaded, known_at, length-tables, length-texts, loaded_more, no_definition, no_table, reader_at, table_at, text_at}
-use Rattle.feature_table.proofs.ReaderRecords.{length-each}
-use Rattle.feature_table.proofs.EachLemmas.{passed_all, passed_fault, passed_front, passed_more}
+use Rattle.feature_table.proofs.DatabaseLemmas.{loads_texts}
 use Rattle.feature_table.proofs.GeometryFieldLemmas.{tables_database}
-use Rattle.feature_table.specs.GeometryFields.{GeometryValue, reading}
-use Rattle.feature_table.specs.Tables.{records_in}
-use Rattle.table_model.specs.Databases.{load_tables, loaded_tables}
-use Rattle.table_model.specs.Meanings.{Table}
-use Rattle.table_model.specs.declared.faults.LoadFault.TheVariants as fault
+use Rattle.feature_table.proofs.ReaderRecords.{length-each}
+use Rattle.feature_table.specs.GeometryFields.{reading}
 use Rattle.feature_table.proofs.databases.Database.load.Goals as goal
 
 pub invariant_of-result : goal.invariant_of-result
 invariant_of-result g c =
     let readers = c.args.readers.items in
-    let start = c.into_iter-place-iterator.ensures.into_iter_gives in
-    let size : vec_len c.args.readers ≡ length readers = omega (arith, c.args.readers.ok.0) in
-    let items = c.enumerate-place-items.result in
-    let from = c.enumerate-place-items.ensures.source in
-    let source = YieldsList-from_vec {s = enumerate_source items} readers (ap into_iter_items from ∙ c.into_iter.ensures.rest) (ap into_iter_len from ∙ c.into_iter.ensures.len ∙ size) in
-    let all = YieldsList-from_enumerate {s = items} source c.enumerate-place-items.ensures.count in
-    let t = YieldsList-end all c.loop-place.yielded _ (rw start at c.loop-place.yielded_by) c.next.result c.next.new.self c.in-None.is c.next.ensures.steps in
-    let numbered = length-enumerate_from 0 readers in
-    let n = length c.loop-place.yielded in
     let known = map g.R.Read.remaining readers in
     let many : length known ≡ length readers = simp length-map in
-    let some = all_loaded reading c.args.schema.now known n c.loop-place.tables.items (λ (tables : List (Table GeometryValue)). tables) c.loop-place.tables.items c.loop-place.invariant.loaded
-    (omega (arith, numbered, t.1, c.requires)) (omega (arith, many, c.requires)) refl in
+    let some = c.in_ok-tables.ensures.records in
     let count : length some.records ≡ length c.args.schema.now = omega (arith, length-each known some.records some.are_of, many, c.requires) in
-    tables_database c.args.schema.now some.records c.loop-place.tables.items c.tables-definitions.ensures.lawful count some.loads
+    tables_database c.args.schema.now some.records c.in_ok-tables.tables.items c.tables-definitions.ensures.lawful count some.loads
 
-pub loop-place-preserved : goal.loop-place-preserved
-loop-place-preserved g c =
-    let readers = c.args.readers.items in
-    let start = c.into_iter-place-iterator.ensures.into_iter_gives in
-    let size : vec_len c.args.readers ≡ length readers = omega (arith, c.args.readers.ok.0) in
-    let items = c.enumerate-place-items.result in
-    let from = c.enumerate-place-items.ensures.source in
-    let source = YieldsList-from_vec {s = enumerate_source items} readers (ap into_iter_items from ∙ c.into_iter.ensures.rest) (ap into_iter_len from ∙ c.into_iter.ensures.len ∙ size) in
-    let all = YieldsList-from_enumerate {s = items} source c.enumerate-place-items.ensures.count in
-    let t = YieldsList-turn all c.loop-place.yielded _ (rw start at c.loop-place.yielded_by) c.next.result c.next.new.self (c.in-Some.place, c.in-Some.reader) c.in-Some.is c.next.ensures.steps in
-    let n = length c.loop-place.yielded in
-    let turned = reader_at readers n c.in-Some.place c.in-Some.reader t.0 t.1 in
-    let good : is_ok c.push.result ≡ true = search rules in
-    let pushed = rw good at c.push.ensures.items in
-    let longer = length_push c.loop-place.yielded (c.in-Some.place, c.in-Some.reader) in
-    record {
-      count = omega (arith, longer, rw good at c.push.ensures.len, c.loop-place.invariant.count);
-      passed = λ texts known.
-          let tables = loaded_tables reading c.args.schema.now (map records_in texts) in
-          let text = text_at g.R.Read.remaining readers texts n c.in-Some.reader turned.0 known turned.2 in
-          let many = length-texts g.R.Read.remaining readers texts known in
-          let same : length c.args.schema.now ≡ length texts = omega (arith, many, c.requires) in
-          let whole = length-tables reading c.args.schema.now texts same in
-          let here = rw turned.1 at (c.in_ok-table.ensures.loads (get_or texts n []) no_definition text.1) in
-          rw (longer, pushed) (passed_more tables n c.loop-place.tables.items c.in_ok-table.table no_table (omega (arith, whole, turned.0, c.requires))
-          (c.loop-place.invariant.passed texts known) (table_at reading c.args.schema.now texts n no_definition no_table same (omega (arith, turned.0, c.requires)) ∙ here));
-      loaded =
-          let known = map g.R.Read.remaining readers in
-          let many : length known ≡ length readers = simp length-map in
-          let some = rw turned.1 at (c.in_ok-table.ensures.records no_definition) in
-          let of = rw (known_at g.R.Read.remaining readers n c.in-Some.reader turned.0 turned.2) at some.1 in
-          rw (longer, pushed)
-          (loaded_more reading c.args.schema.now known n c.loop-place.tables.items no_definition some.0 c.in_ok-table.table c.loop-place.invariant.loaded (omega (arith, turned.0, many)) of some.2);
-    }
-
-pub returns-in_err-table-clause-loads : goal.returns-in_err-table-clause-loads
-unfolding load_tables
-returns-in_err-table-clause-loads g c texts known =
-    let readers = c.args.readers.items in
-    let start = c.into_iter-place-iterator.ensures.into_iter_gives in
-    let size : vec_len c.args.readers ≡ length readers = omega (arith, c.args.readers.ok.0) in
-    let items = c.enumerate-place-items.result in
-    let from = c.enumerate-place-items.ensures.source in
-    let source = YieldsList-from_vec {s = enumerate_source items} readers (ap into_iter_items from ∙ c.into_iter.ensures.rest) (ap into_iter_len from ∙ c.into_iter.ensures.len ∙ size) in
-    let all = YieldsList-from_enumerate {s = items} source c.enumerate-place-items.ensures.count in
-    let t = YieldsList-turn all c.loop-place.yielded _ (rw start at c.loop-place.yielded_by) c.next.result c.next.new.self (c.in-Some.place, c.in-Some.reader) c.in-Some.is c.next.ensures.steps in
-    let n = length c.loop-place.yielded in
-    let turned = reader_at readers n c.in-Some.place c.in-Some.reader t.0 t.1 in
-    let tables = loaded_tables reading c.args.schema.now (map records_in texts) in
-    let text = text_at g.R.Read.remaining readers texts n c.in-Some.reader turned.0 known turned.2 in
-    let many = length-texts g.R.Read.remaining readers texts known in
-    let same : length c.args.schema.now ≡ length texts = omega (arith, many, c.requires) in
-    let whole = length-tables reading c.args.schema.now texts same in
+pub returns-in_err-tables-clause-loads : goal.returns-in_err-tables-clause-loads
+returns-in_err-tables-clause-loads g c texts known =
     let p = err_from_is_err_and c.from_residual.result c.from_residual.ensures.1 in
-    rw (p.1, p.2) (λ other.
-    let here = rw turned.1 at (c.in_err-table.ensures.loads (get_or texts n []) no_definition text.1 other) in
-    passed_fault tables n c.loop-place.tables.items c.in_err-table.field-0.0 no_table (omega (arith, whole, turned.0, c.requires))
-    (c.loop-place.invariant.passed texts known) (table_at reading c.args.schema.now texts n no_definition no_table same (omega (arith, turned.0, c.requires)) ∙ here))
+    rw (p.1, p.2) (loads_texts reading c.args.schema.now _ _ _ texts c.in_err-tables.ensures.records known).0
+
+pub returns-in_err-tables-clause-earlier : goal.returns-in_err-tables-clause-earlier
+returns-in_err-tables-clause-earlier g c texts known =
+    let p = err_from_is_err_and c.from_residual.result c.from_residual.ensures.1 in
+    rw (p.1, p.2) (loads_texts reading c.args.schema.now _ _ _ texts c.in_err-tables.ensures.records known).1
+
+pub returns-in_err-tables-clause-records : goal.returns-in_err-tables-clause-records
+returns-in_err-tables-clause-records g c =
+    let some = c.in_err-tables.ensures.records in
+    let p = err_from_is_err_and c.from_residual.result c.from_residual.ensures.1 in
+    rw (p.1, p.2) (record { records = some.records; are_of = some.are_of; loads = some.loads; earlier = some.earlier })
 
 pub returns-clause-loads : goal.returns-clause-loads
-unfolding load_tables
-returns-clause-loads g c texts known =
-    let readers = c.args.readers.items in
-    let start = c.into_iter-place-iterator.ensures.into_iter_gives in
-    let size : vec_len c.args.readers ≡ length readers = omega (arith, c.args.readers.ok.0) in
-    let items = c.enumerate-place-items.result in
-    let from = c.enumerate-place-items.ensures.source in
-    let source = YieldsList-from_vec {s = enumerate_source items} readers (ap into_iter_items from ∙ c.into_iter.ensures.rest) (ap into_iter_len from ∙ c.into_iter.ensures.len ∙ size) in
-    let all = YieldsList-from_enumerate {s = items} source c.enumerate-place-items.ensures.count in
-    let t = YieldsList-end all c.loop-place.yielded _ (rw start at c.loop-place.yielded_by) c.next.result c.next.new.self c.in-None.is c.next.ensures.steps in
-    let numbered = length-enumerate_from 0 readers in
-    let tables = loaded_tables reading c.args.schema.now (map records_in texts) in
-    let many = length-texts g.R.Read.remaining readers texts known in
-    let same : length c.args.schema.now ≡ length texts = omega (arith, many, c.requires) in
-    let whole = length-tables reading c.args.schema.now texts same in
-    passed_all tables (length c.loop-place.yielded) c.loop-place.tables.items (omega (arith, whole, numbered, t.1, c.requires)) (c.loop-place.invariant.passed texts known)
-
-pub returns-in_err-table-clause-earlier : goal.returns-in_err-table-clause-earlier
-returns-in_err-table-clause-earlier g c texts known =
-    let readers = c.args.readers.items in
-    let start = c.into_iter-place-iterator.ensures.into_iter_gives in
-    let size : vec_len c.args.readers ≡ length readers = omega (arith, c.args.readers.ok.0) in
-    let items = c.enumerate-place-items.result in
-    let from = c.enumerate-place-items.ensures.source in
-    let source = YieldsList-from_vec {s = enumerate_source items} readers (ap into_iter_items from ∙ c.into_iter.ensures.rest) (ap into_iter_len from ∙ c.into_iter.ensures.len ∙ size) in
-    let all = YieldsList-from_enumerate {s = items} source c.enumerate-place-items.ensures.count in
-    let t = YieldsList-turn all c.loop-place.yielded _ (rw start at c.loop-place.yielded_by) c.next.result c.next.new.self (c.in-Some.place, c.in-Some.reader) c.in-Some.is c.next.ensures.steps in
-    let n = length c.loop-place.yielded in
-    let turned = reader_at readers n c.in-Some.place c.in-Some.reader t.0 t.1 in
-    let tables = loaded_tables reading c.args.schema.now (map records_in texts) in
-    let p = err_from_is_err_and c.from_residual.result c.from_residual.ensures.1 in
-    rw (p.1, p.2, c.in_err-table.ensures.place, turned.1) (passed_front tables n c.loop-place.tables.items (c.loop-place.invariant.passed texts known))
-
-pub returns-then-is_err-clause-earlier : goal.returns-then-is_err-clause-earlier
-returns-then-is_err-clause-earlier g c texts known =
-    let readers = c.args.readers.items in
-    let start = c.into_iter-place-iterator.ensures.into_iter_gives in
-    let size : vec_len c.args.readers ≡ length readers = omega (arith, c.args.readers.ok.0) in
-    let items = c.enumerate-place-items.result in
-    let from = c.enumerate-place-items.ensures.source in
-    let source = YieldsList-from_vec {s = enumerate_source items} readers (ap into_iter_items from ∙ c.into_iter.ensures.rest) (ap into_iter_len from ∙ c.into_iter.ensures.len ∙ size) in
-    let all = YieldsList-from_enumerate {s = items} source c.enumerate-place-items.ensures.count in
-    let t = YieldsList-turn all c.loop-place.yielded _ (rw start at c.loop-place.yielded_by) c.next.result c.next.new.self (c.in-Some.place, c.in-Some.reader) c.in-Some.is c.next.ensures.steps in
-    let n = length c.loop-place.yielded in
-    let turned = reader_at readers n c.in-Some.place c.in-Some.reader t.0 t.1 in
-    let tables = loaded_tables reading c.args.schema.now (map records_in texts) in
-    rw turned.1 (passed_front tables n c.loop-place.tables.items (c.loop-place.invariant.passed texts known))
-
-pub returns-in_err-table-clause-records : goal.returns-in_err-table-clause-records
-returns-in_err-table-clause-records g c =
-    let readers = c.args.readers.items in
-    let start = c.into_iter-place-iterator.ensures.into_iter_gives in
-    let size : vec_len c.args.readers ≡ length readers = omega (arith, c.args.readers.ok.0) in
-    let items = c.enumerate-place-items.result in
-    let from = c.enumerate-place-items.ensures.source in
-    let source = YieldsList-from_vec {s = enumerate_source items} readers (ap into_iter_items from ∙ c.into_iter.ensures.rest) (ap into_iter_len from ∙ c.into_iter.ensures.len ∙ size) in
-    let all = YieldsList-from_enumerate {s = items} source c.enumerate-place-items.ensures.count in
-    let t = YieldsList-turn all c.loop-place.yielded _ (rw start at c.loop-place.yielded_by) c.next.result c.next.new.self (c.in-Some.place, c.in-Some.reader) c.in-Some.is c.next.ensures.steps in
-    let n = length c.loop-place.yielded in
-    let turned = reader_at readers n c.in-Some.place c.in-Some.reader t.0 t.1 in
-    let known = map g.R.Read.remaining readers in
-    let many : length known ≡ length readers = simp length-map in
-    let some = rw turned.1 at (c.in_err-table.ensures.records no_definition) in
-    let of = rw (known_at g.R.Read.remaining readers n c.in-Some.reader turned.0 turned.2) at some.1 in
-    let p = err_from_is_err_and c.from_residual.result c.from_residual.ensures.1 in
-    rw (p.1, p.2)
-    (fault_loaded reading c.args.schema.now known n c.loop-place.tables.items _ no_definition some.0 c.in_err-table.field-0.0 c.loop-place.invariant.loaded (omega (arith, turned.0, c.requires))
-    (omega (arith, many, c.requires)) (c.in_err-table.ensures.place ∙ turned.1) of some.2)
-
-pub returns-then-is_err-clause-records : goal.returns-then-is_err-clause-records
-returns-then-is_err-clause-records g c =
-    let readers = c.args.readers.items in
-    let start = c.into_iter-place-iterator.ensures.into_iter_gives in
-    let size : vec_len c.args.readers ≡ length readers = omega (arith, c.args.readers.ok.0) in
-    let items = c.enumerate-place-items.result in
-    let from = c.enumerate-place-items.ensures.source in
-    let source = YieldsList-from_vec {s = enumerate_source items} readers (ap into_iter_items from ∙ c.into_iter.ensures.rest) (ap into_iter_len from ∙ c.into_iter.ensures.len ∙ size) in
-    let all = YieldsList-from_enumerate {s = items} source c.enumerate-place-items.ensures.count in
-    let t = YieldsList-turn all c.loop-place.yielded _ (rw start at c.loop-place.yielded_by) c.next.result c.next.new.self (c.in-Some.place, c.in-Some.reader) c.in-Some.is c.next.ensures.steps in
-    let n = length c.loop-place.yielded in
-    let turned = reader_at readers n c.in-Some.place c.in-Some.reader t.0 t.1 in
-    let known = map g.R.Read.remaining readers in
-    let many : length known ≡ length readers = simp length-map in
-    let some = rw turned.1 at (c.in_ok-table.ensures.records no_definition) in
-    let of = rw (known_at g.R.Read.remaining readers n c.in-Some.reader turned.0 turned.2) at some.1 in
-    rw turned.1
-    (fault_loaded reading c.args.schema.now known n c.loop-place.tables.items _ no_definition some.0 (record { table = n; fault = fault.OutOfMemory }) c.loop-place.invariant.loaded
-    (omega (arith, turned.0, c.requires)) (omega (arith, many, c.requires)) refl of (λ other. absurd (other (inr refl))))
+returns-clause-loads g c texts known = (loads_texts reading c.args.schema.now _ _ _ texts c.in_ok-tables.ensures.records known).0
 
 pub returns-clause-records : goal.returns-clause-records
 returns-clause-records g c =
-    let readers = c.args.readers.items in
-    let start = c.into_iter-place-iterator.ensures.into_iter_gives in
-    let size : vec_len c.args.readers ≡ length readers = omega (arith, c.args.readers.ok.0) in
-    let items = c.enumerate-place-items.result in
-    let from = c.enumerate-place-items.ensures.source in
-    let source = YieldsList-from_vec {s = enumerate_source items} readers (ap into_iter_items from ∙ c.into_iter.ensures.rest) (ap into_iter_len from ∙ c.into_iter.ensures.len ∙ size) in
-    let all = YieldsList-from_enumerate {s = items} source c.enumerate-place-items.ensures.count in
-    let t = YieldsList-end all c.loop-place.yielded _ (rw start at c.loop-place.yielded_by) c.next.result c.next.new.self c.in-None.is c.next.ensures.steps in
-    let numbered = length-enumerate_from 0 readers in
-    let known = map g.R.Read.remaining readers in
-    let many : length known ≡ length readers = simp length-map in
-    all_loaded reading c.args.schema.now known (length c.loop-place.yielded) c.loop-place.tables.items _ _ c.loop-place.invariant.loaded (omega (arith, numbered, t.1, c.requires))
-    (omega (arith, many, c.requires)) refl
+    let some = c.in_ok-tables.ensures.records in
+    record { records = some.records; are_of = some.are_of; loads = some.loads; earlier = some.earlier }
 
 pub returns-clause-database : goal.returns-clause-database
 returns-clause-database g c =
     let readers = c.args.readers.items in
-    let start = c.into_iter-place-iterator.ensures.into_iter_gives in
-    let size : vec_len c.args.readers ≡ length readers = omega (arith, c.args.readers.ok.0) in
-    let items = c.enumerate-place-items.result in
-    let from = c.enumerate-place-items.ensures.source in
-    let source = YieldsList-from_vec {s = enumerate_source items} readers (ap into_iter_items from ∙ c.into_iter.ensures.rest) (ap into_iter_len from ∙ c.into_iter.ensures.len ∙ size) in
-    let all = YieldsList-from_enumerate {s = items} source c.enumerate-place-items.ensures.count in
-    let t = YieldsList-end all c.loop-place.yielded _ (rw start at c.loop-place.yielded_by) c.next.result c.next.new.self c.in-None.is c.next.ensures.steps in
-    let numbered = length-enumerate_from 0 readers in
-    let n = length c.loop-place.yielded in
     let known = map g.R.Read.remaining readers in
     let many : length known ≡ length readers = simp length-map in
-    let some = all_loaded reading c.args.schema.now known n c.loop-place.tables.items (λ (tables : List (Table GeometryValue)). tables) c.loop-place.tables.items c.loop-place.invariant.loaded
-    (omega (arith, numbered, t.1, c.requires)) (omega (arith, many, c.requires)) refl in
+    let some = c.in_ok-tables.ensures.records in
     let count : length some.records ≡ length c.args.schema.now = omega (arith, length-each known some.records some.are_of, many, c.requires) in
-    tables_database c.args.schema.now some.records c.loop-place.tables.items c.tables-definitions.ensures.lawful count some.loads
+    tables_database c.args.schema.now some.records c.in_ok-tables.tables.items c.tables-definitions.ensures.lawful count some.loads

@@ -1,0 +1,16 @@
+use Rattle.std.proofs.Common.{◌≡◌, ◌∙◌, ap, codes}
+use Rattle.std.proofs.lemmas.Result.{IfOk-weaker}
+use Rattle.clap.specs.Simple.{app_of_fields}
+use Rattle.clap.specs.Words.{app_of, new_app}
+use Rattle.command_line.proofs.OrderLemmas.{word-added}
+use Rattle.command_line.proofs.reading.relate_command.Goals as goal
+
+pub returns : goal.returns
+returns c =
+    let bare_is : app_of c.about-relate.result ≡ new_app (codes "relate") = ap app_of_fields c.about-relate.ensures ∙ c.new.ensures.app in
+    let first_is = word-added c.about-relate.result c.in_ok-arg.field-0 c.first_word.result _ _ bare_is c.first_word.ensures.local
+    c.first_word.ensures.rule c.in_ok-arg.ensures in
+    IfOk-weaker c.arg-2.result _ _
+    (λ command added. word-added c.in_ok-arg.field-0 command c.second_word.result _ _ first_is c.second_word.ensures.local
+    c.second_word.ensures.rule added)
+    c.arg-2.ensures
