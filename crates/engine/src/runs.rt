@@ -1,6 +1,6 @@
 //! A run: from a query's text and the tables' texts to the text of the answer.
 
-ghost use Rattle.std.specs.Prelude.{◌≡◌, ◌∷◌, [], ℕ, IfErr, IfOk, List, Some, length, map, OnOk};
+ghost use Rattle.std.specs.Prelude.{◌≡◌, ◌∷◌, [], ℕ, IfErr, IfOk, List, Ok, Some, length, map, OnOk};
 ghost use Rattle.csv.specs.Records.{fields_of};
 ghost use Rattle.std.specs.List.{concat};
 ghost use Rattle.engine.specs.Puts.{PutsText};
@@ -16,6 +16,7 @@ ghost use Rattle.table_model.specs.ExplainTexts.{analyze_text, explain_text};
 ghost use Rattle.table_model.specs.Loading.{Record};
 ghost use Rattle.table_model.specs.Meanings.{referenced};
 ghost use Rattle.table_model.specs.Plans.{IsLawful};
+ghost use Rattle.table_model.specs.QueryReading.{query_of};
 ghost use Rattle.table_model.specs.RunOutcomes.{ByEveryMatrix, kept_count};
 ghost use Rattle.table_model.specs.Work as spec;
 
@@ -61,8 +62,33 @@ pub fn run<I: EnvelopeIndex + Drop, R: Read + Drop, S: Sink>(
     ensures table { IfErr result (IsOfTables (length schema.now)) }
 {
     let query = read_query(alloc, query)?;
+    load_and_answer::<I, R, S>(alloc, schema, readers, &query, sink)
+}
+
+// Loads all tables and answers a query over them. What is said of the query is said of each text that reads as it does.
+fn load_and_answer<I: EnvelopeIndex + Drop, R: Read + Drop, S: Sink>(
+    alloc: Global,
+    schema: &Schema,
+    readers: Vec<R>,
+    query: &Query<'_>,
+    sink: &mut S,
+) -> Result<Work, Fault>
+    requires { length readers.items ≡ length schema.now }
+    ensures texts { (text : List ℕ) (texts : List (List ℕ)) → query_of serving.language text ≡ Ok query.now
+        → map R.remaining readers.items ≡ map Some texts
+        → RunsOver serving result schema.now (map records_in texts) text (S.taken sink.old) (S.taken sink.new) }
+    ensures work { (text : List ℕ) (texts : List (List ℕ)) → query_of serving.language text ≡ Ok query.now
+        → map R.remaining readers.items ≡ map Some texts
+        → CountsOver serving result schema.now (map records_in texts) text }
+    ensures records { (text : List ℕ) → query_of serving.language text ≡ Ok query.now
+        → (records : List (List Record)) × EachRecordsOf (map R.remaining readers.items) records
+        × RunsOver serving result schema.now records text (S.taken sink.old) (S.taken sink.new)
+        × CountsOver serving result schema.now records text }
+    ensures failures { S.failures sink.new ≡ count_after (S.failures sink.old) result }
+    ensures table { IfErr result (IsOfTables (length schema.now)) }
+{
     let database: Database<'_, I> = Database::load(alloc, schema, readers)?;
-    answer_query(alloc, &query, &database, sink)
+    answer_query(alloc, query, &database, sink)
 }
 
 // Answers a query over a database: binds it, chooses its plan, and puts its answer. At Ok all of the answer has been

@@ -13,6 +13,7 @@ use std::alloc::{AllocError, Global};
 use std::env;
 use std::io::{BufWriter, ErrorKind, Read};
 use std::process::ExitCode;
+use std::str::Lines;
 use validity::{CheckFault, Valid, check};
 use wkt::{Sink, StdSink, WktFault, print, put_all, read};
 
@@ -20,7 +21,7 @@ use wkt::{Sink, StdSink, WktFault, print, put_all, read};
 const TEXT_BYTES: u64 = 1 << 24;
 
 /// Why a measure ends without an answer; each has its status.
-#[derive(Clone, Copy, Debug, PartialEq, Eq)]
+#[derive(Clone, Copy)]
 enum Failure {
     /// The words of the command line aren't those of a measure.
     Misuse,
@@ -76,24 +77,22 @@ fn main(rt: HostRuntime) -> ExitCode {
 
 // Does what the words of the command line say to what stands on standard input, and writes the answer.
 fn gauge(rt: &HostRuntime) -> Result<(), Failure> {
+    let words = words_of(rt)?;
+    let text = read_input(rt)?;
+    let buffer = BufWriter::new(rt.alloc(), rt.stdout()).map_err(|_| Failure::OutOfMemory)?;
+    let mut out = StdSink::new(buffer);
+    put_answer(rt.alloc(), words.as_slice(), text.as_str(), &mut out)?;
+    put(b"\n", &mut out)?;
+    out.flush().map_err(|_| Failure::Failed)
+}
+
+// The words of the command line.
+fn words_of(rt: &HostRuntime) -> Result<Vec<String>, Failure> {
     let mut words = Vec::new(rt.alloc());
     for word in env::args(rt).map_err(|_| Failure::Misuse)? {
         words.push(word).map_err(AllocError::from)?;
     }
-    let text = read_input(rt)?;
-    let buffer = BufWriter::new(rt.alloc(), rt.stdout()).map_err(|_| Failure::OutOfMemory)?;
-    let mut out = StdSink::new(buffer);
-    match words.as_slice() {
-        [_] => put_again(rt.alloc(), text.as_bytes(), &mut out)?,
-        [_, word] if word.as_str() == "pairs" => put_pairs(rt.alloc(), text.as_str(), &mut out)?,
-        [_, word, times] => {
-            let times = times.parse::<u32>().map_err(|_| Failure::Misuse)?;
-            put_measured(rt.alloc(), word.as_str(), times, text.as_str(), &mut out)?;
-        }
-        _ => return Err(Failure::Misuse),
-    }
-    put_all(&mut out, b"\n").map_err(|_| Failure::Failed)?;
-    out.flush().map_err(|_| Failure::Failed)
+    Ok(words)
 }
 
 // What stands on standard input.
@@ -104,6 +103,29 @@ fn read_input(rt: &HostRuntime) -> Result<String, Failure> {
         Err(error) if error.kind() == ErrorKind::OutOfMemory => Err(Failure::OutOfMemory),
         _ => Err(Failure::Failed),
     }
+}
+
+// Puts what the words of the command line ask of a text.
+fn put_answer<S: Sink>(
+    alloc: Global,
+    words: &[String],
+    text: &str,
+    sink: &mut S,
+) -> Result<(), Failure> {
+    match words {
+        [_] => put_again(alloc, text.as_bytes(), sink),
+        [_, word] if word.as_str() == "pairs" => put_pairs(alloc, text, sink),
+        [_, word, times] => {
+            let times = times.parse::<u32>().map_err(|_| Failure::Misuse)?;
+            put_measured(alloc, word.as_str(), times, text, sink)
+        }
+        _ => Err(Failure::Misuse),
+    }
+}
+
+// Puts some bytes.
+fn put<S: Sink>(bytes: &[u8], sink: &mut S) -> Result<(), Failure> {
+    put_all(sink, bytes).map_err(|_| Failure::Failed)
 }
 
 // Puts the canonical text of the geometry that a text spells.
@@ -117,7 +139,7 @@ fn put_again<S: Sink>(alloc: Global, text: &[u8], sink: &mut S) -> Result<(), Fa
 // Puts a number's digits.
 fn put_number<S: Sink>(number: usize, sink: &mut S) -> Result<(), Failure> {
     let mut buffer = itoa::Buffer::new();
-    put_all(sink, buffer.format(number).as_bytes()).map_err(|_| Failure::Failed)
+    put(buffer.format(number).as_bytes(), sink)
 }
 
 // Does one thing this often, and puts its answer: of `relate` the matrix of the geometries in the first two lines, else a number.
@@ -130,7 +152,7 @@ fn put_measured<S: Sink>(
 ) -> Result<(), Failure> {
     if word == "relate" {
         let matrix = related(alloc, times, text)?;
-        return put_all(sink, &matrix.text()).map_err(|_| Failure::Failed);
+        return put(&matrix.text(), sink);
     }
     put_number(measured(alloc, word, times, text)?, sink)
 }
@@ -138,27 +160,54 @@ fn put_measured<S: Sink>(
 // Relates the geometries in the first two lines this often, and once before.
 fn related(alloc: Global, times: u32, text: &str) -> Result<Matrix, Failure> {
     let mut lines = text.lines();
-    let first = check(alloc, read(alloc, lines.next().unwrap_or("").as_bytes())?)?;
-    let second = check(alloc, read(alloc, lines.next().unwrap_or("").as_bytes())?)?;
+    let first = checked(alloc, lines.next())?;
+    let second = checked(alloc, lines.next())?;
+    Ok(relate_often(alloc, &first, &second, times)?)
+}
+
+// Relates two geometries this often, and once before.
+fn relate_often(
+    alloc: Global,
+    first: &Valid,
+    second: &Valid,
+    times: u32,
+) -> Result<Matrix, AllocError> {
     let mut work = Work::new();
-    let mut matrix = relate(alloc, &first, &second, &mut work)?;
+    let mut matrix = relate(alloc, first, second, &mut work)?;
     for _ in 0..times {
-        matrix = relate(alloc, &first, &second, &mut work)?;
+        matrix = relate(alloc, first, second, &mut work)?;
     }
     Ok(matrix)
+}
+
+// The valid geometry that a line spells; no line is an empty one.
+fn checked(alloc: Global, line: Option<&str>) -> Result<Valid, Failure> {
+    let geometry = read(alloc, line.unwrap_or("").as_bytes())?;
+    Ok(check(alloc, geometry)?)
 }
 
 // Relates the geometries of each two lines.
 fn put_pairs<S: Sink>(alloc: Global, text: &str, sink: &mut S) -> Result<(), Failure> {
     let mut lines = text.lines();
     while let Some(first) = lines.next() {
-        let second = lines.next().unwrap_or("");
-        match (valid(alloc, first)?, valid(alloc, second)?) {
-            (Some(first), Some(second)) => put_both(alloc, &first, &second, sink)?,
-            _ => put_all(sink, b"invalid\n").map_err(|_| Failure::Failed)?,
-        }
+        put_pair(alloc, first, lines.next().unwrap_or(""), sink)?;
     }
     Ok(())
+}
+
+// Relates the geometries that two texts spell.
+fn put_pair<S: Sink>(
+    alloc: Global,
+    first: &str,
+    second: &str,
+    sink: &mut S,
+) -> Result<(), Failure> {
+    let first = valid(alloc, first)?;
+    let second = valid(alloc, second)?;
+    match (&first, &second) {
+        (Some(first), Some(second)) => put_both(alloc, first, second, sink),
+        _ => put(b"invalid\n", sink),
+    }
 }
 
 // The valid geometry that a text spells; None where it has a fault of validity.
@@ -177,35 +226,47 @@ fn put_both<S: Sink>(
     second: &Valid,
     sink: &mut S,
 ) -> Result<(), Failure> {
-    let mut work = Work::new();
-    let by_edges = relate(alloc, first, second, &mut work)?;
+    let by_edges = relate_often(alloc, first, second, 0)?;
     let by_labels = matrix_of_labels(&labels(alloc, first, second)?);
-    for piece in [&by_edges.text()[..], b" ", &by_labels.text()[..], b"\n"] {
-        put_all(sink, piece).map_err(|_| Failure::Failed)?;
-    }
-    Ok(())
+    put(&by_edges.text(), sink)?;
+    put(b" ", sink)?;
+    put(&by_labels.text(), sink)?;
+    put(b"\n", sink)
 }
 
 // Does one thing this often, and answers its number: of `read` its lines or rings, of `check` 1 where the geometry is valid, of
 // `locate` how many of the points in the further lines aren't in its exterior.
 fn measured(alloc: Global, word: &str, times: u32, text: &str) -> Result<usize, Failure> {
-    let mut lines = text.lines();
-    let first = lines.next().unwrap_or("").as_bytes();
     match word {
-        "read" => read_often(alloc, first, times),
-        "check" => check_often(alloc, first, times),
-        "locate" => {
-            let valid = check(alloc, read(alloc, first)?)?;
-            let mut points = Vec::new(alloc);
-            for line in lines {
-                points
-                    .push(point(alloc, line.as_bytes())?)
-                    .map_err(AllocError::from)?;
-            }
-            Ok(locate_often(&valid, points.as_slice(), times))
-        }
+        "read" => read_often(alloc, first_line(text), times),
+        "check" => check_often(alloc, first_line(text), times),
+        "locate" => located(alloc, text, times),
         _ => Err(Failure::Misuse),
     }
+}
+
+// The first line of a text.
+fn first_line(text: &str) -> &[u8] {
+    text.lines().next().unwrap_or("").as_bytes()
+}
+
+// Locates the points in the further lines in the geometry of the first, this often.
+fn located(alloc: Global, text: &str, times: u32) -> Result<usize, Failure> {
+    let mut lines = text.lines();
+    let valid = checked(alloc, lines.next())?;
+    let points = points_in(alloc, lines)?;
+    Ok(locate_often(&valid, points.as_slice(), times))
+}
+
+// The points that lines spell.
+fn points_in(alloc: Global, lines: Lines<'_>) -> Result<Vec<RatPoint>, Failure> {
+    let mut points = Vec::new(alloc);
+    for line in lines {
+        points
+            .push(point(alloc, line.as_bytes())?)
+            .map_err(AllocError::from)?;
+    }
+    Ok(points)
 }
 
 // Reads a text this often; answers how many lines or rings it has.

@@ -1,2 +1,3 @@
+pub mod ConditionFacts
 pub mod Outcomes
 pub mod PatternTexts

@@ -8,10 +8,11 @@ ghost use Rattle.query_binder.specs.Scopes.{
   relation_in,
   cond_in,
 };
-ghost use Rattle.std.specs.Prelude.{map};
+ghost use Rattle.std.specs.Prelude.{map, Ok};
 ghost use Rattle.table_model.specs.Binding as spec;
 ghost use Rattle.table_model.specs.GeometryColumns.{bound_pattern};
 ghost use Rattle.table_model.specs.Loading.{each};
+ghost use Rattle.table_model.specs.declared.conditions.Cond.TheVariants as conds;
 
 use crate::Cond;
 use crate::arguments::{bound_argument, geometry_only};
@@ -104,6 +105,13 @@ fn relation(
     Ok(Cond::Relates(predicate, left, right))
 }
 
+/// NOT of a bound condition. (SQL, the search condition.)
+fn negated(alloc: Global, part: Cond) -> Result<Cond, QueryFault>
+    ensures { Binds result (Ok (conds.Not part)) }
+{
+    Ok(Cond::Not(Boxed::new(alloc, part)?))
+}
+
 /// A written condition, bound as it stands. (SQL, the search condition.)
 #[cycle(conditions)]
 pub fn bound_cond(
@@ -118,7 +126,7 @@ pub fn bound_cond(
         WrittenCond::And(parts) => Ok(Cond::And(bound_parts(alloc, scope, parts.as_slice())?)),
         WrittenCond::Not(part) => {
             let part = bound_cond(alloc, scope, part.get())?;
-            Ok(Cond::Not(Boxed::new(alloc, part)?))
+            negated(alloc, part)
         }
         WrittenCond::Compare(at, sign, a, b) => comparison(alloc, scope, *at, *sign, a, b),
         WrittenCond::IsNull(operand) => null_test(alloc, scope, operand),

@@ -1,7 +1,8 @@
 //! The conditions of ON and WHERE as lists of conjuncts.
 
-ghost use Rattle.query_binder.specs.Scopes.{Binds, conjuncts_in};
+ghost use Rattle.query_binder.specs.Scopes.{Binds, cond_in, conjuncts_in};
 ghost use Rattle.std.specs.Prelude.{◌≡◌, [], ◌∷◌, map, IfOk};
+ghost use Rattle.binding_laws.specs.FilterLaws as laws;
 ghost use Rattle.binding_laws.specs.FilterLaws.{joined_in_order};
 
 use crate::Cond;
@@ -18,6 +19,18 @@ fn only(alloc: Global, cond: Cond) -> Result<Items<Cond>, AllocError>
     let mut conjuncts = Items::new(alloc);
     conjuncts.push(cond)?;
     Ok(conjuncts)
+}
+
+/// A written condition as its own only conjunct.
+fn alone(
+    alloc: Global,
+    scope: Scope<'_>,
+    written: &WrittenCond<'_>,
+) -> Result<Items<Cond>, QueryFault>
+    ensures { Binds result (laws.only (cond_in scope.entry written.now)) }
+{
+    let cond = bound_cond(alloc, scope, written)?;
+    Ok(only(alloc, cond)?)
 }
 
 /// The conjuncts of a written condition: those of the parts of an AND, in order; any other condition is one. (SQL, the
@@ -37,10 +50,7 @@ pub fn bound_conjuncts(
         | WrittenCond::Compare(_, _, _, _)
         | WrittenCond::IsNull(_)
         | WrittenCond::IsEmpty(_, _)
-        | WrittenCond::Relates(_, _, _, _) => {
-            let cond = bound_cond(alloc, scope, written)?;
-            Ok(only(alloc, cond)?)
-        }
+        | WrittenCond::Relates(_, _, _, _) => alone(alloc, scope, written),
     }
 }
 

@@ -1,5 +1,5 @@
 -- The conjuncts of an AND are those of its parts; any other condition is one.
-use Rattle.std.proofs.Common.{◌≡◌, ◌⊎◌, inl, inr, ℕ, List, map, Ok, sym, ap, subst, ◌∙◌}
+use Rattle.std.proofs.Common.{◌≡◌, ◌⊎◌, inl, inr, ℕ, List, map, sym, ap, subst, ◌∙◌}
 use Rattle.table_model.specs.GeometryColumns.{geometry_binding}
 use Rattle.table_model.specs.declared.conditions.Comparison.{Comparison}
 use Rattle.table_model.specs.declared.queries.WrittenCond.{WrittenCond}
@@ -30,13 +30,13 @@ IsOther w =
     ⊎ (((at : ℕ) × (a : WrittenGeometry) × (w ≡ written.IsEmpty at a))
     ⊎ ((at : ℕ) × (predicate : WrittenPredicate) × (a : WrittenGeometry) × (b : WrittenGeometry) × (w ≡ written.Relates at predicate a b))))))
 
-alone : (scope : Scope) (w : WrittenCond WrittenGeometry) → IsOther w → IsAlone scope w
-alone scope w (inl o) = subst (IsAlone scope) (sym o.1) ((by_parts scope).or o.0)
-alone scope w (inr (inl o)) = subst (IsAlone scope) (sym o.1) ((by_parts scope).not o.0)
-alone scope w (inr (inr (inl o))) = subst (IsAlone scope) (sym o.4) ((by_parts scope).compare o.0 o.1 o.2 o.3)
-alone scope w (inr (inr (inr (inl o)))) = subst (IsAlone scope) (sym o.1) ((by_parts scope).is_null o.0)
-alone scope w (inr (inr (inr (inr (inl o))))) = subst (IsAlone scope) (sym o.2) ((by_parts scope).is_empty o.0 o.1)
-alone scope w (inr (inr (inr (inr (inr o))))) = subst (IsAlone scope) (sym o.4) ((by_parts scope).relates o.0 o.1 o.2 o.3)
+is-alone : (scope : Scope) (w : WrittenCond WrittenGeometry) → IsOther w → IsAlone scope w
+is-alone scope w (inl o) = subst (IsAlone scope) (sym o.1) ((by_parts scope).or o.0)
+is-alone scope w (inr (inl o)) = subst (IsAlone scope) (sym o.1) ((by_parts scope).not o.0)
+is-alone scope w (inr (inr (inl o))) = subst (IsAlone scope) (sym o.4) ((by_parts scope).compare o.0 o.1 o.2 o.3)
+is-alone scope w (inr (inr (inr (inl o)))) = subst (IsAlone scope) (sym o.1) ((by_parts scope).is_null o.0)
+is-alone scope w (inr (inr (inr (inr (inl o))))) = subst (IsAlone scope) (sym o.2) ((by_parts scope).is_empty o.0 o.1)
+is-alone scope w (inr (inr (inr (inr (inr o))))) = subst (IsAlone scope) (sym o.4) ((by_parts scope).relates o.0 o.1 o.2 o.3)
 
 pub bound_conjuncts-returns-in-And : goal.bound_conjuncts-returns-in-And
 bound_conjuncts-returns-in-And t c =
@@ -46,6 +46,5 @@ bound_conjuncts-returns-in-And t c =
     ∙ ap (λ parts. joined_in_order (map (conjuncts_in c.args.scope) parts)) (sym c.as_slice.ensures)))
     c.joined.ensures
 
-pub bound_conjuncts-returns-in_ok-only-in-Or : goal.bound_conjuncts-returns-in_ok-only-in-Or
-bound_conjuncts-returns-in_ok-only-in-Or t c =
-    alone c.args.scope c.args.written.now c.in-Or.is ∙ ap only c.in_ok-cond-in-Or.ensures ∙ ap Ok (sym c.in_ok-only-in-Or.ensures)
+pub bound_conjuncts-returns-in-Or : goal.bound_conjuncts-returns-in-Or
+bound_conjuncts-returns-in-Or t c = subst (Binds c.alone.result) (sym (is-alone c.args.scope c.args.written.now c.in-Or.is)) c.alone.ensures
