@@ -21,9 +21,8 @@ pub boxes_of_same : (g h : Geometry) (boxes : EdgeBoxes) → g ≡ h → BoxesOf
 boxes_of_same g h boxes e are = subst (λ (k : Geometry). BoxesOf boxes (edges k)) e are
 
 -- where no fault is found the geometry is kept with its boxes and its odd ends
-pub is_kept : (g : Geometry) (segments : List Edge) (boxes : EdgeBoxes) (odd_ends : List Position) → segments ≡ edges g → BoxesOf boxes segments → AreOddEnds odd_ends (ended_lines g) → validity_fault g ≡ None
-    → IsKept g boxes odd_ends
-is_kept g segments boxes odd_ends e are odd none = record { valid = no_fault_valid g none; over_edges = subst (BoxesOf boxes) e are; odd = odd }
+pub is_kept : (g : Geometry) (boxes : EdgeBoxes) (odd_ends : List Position) → BoxesOf boxes (edges g) → AreOddEnds odd_ends (ended_lines g) → validity_fault g ≡ None → IsKept g boxes odd_ends
+is_kept g boxes odd_ends are odd none = record { valid = no_fault_valid g none; over_edges = are; odd = odd }
 
 -- the boxes that are kept are those of the geometry's edges
 pub boxes_of_points : (k : Content) (now g : Geometry) (boxes : EdgeBoxes) → geometry_of k ≡ now → IsKeptIn k → k ≡ content.Points g boxes → BoxesOf boxes (edges now)

@@ -309,6 +309,28 @@ fn element_inside(
     Ok(None)
 }
 
+/// The first fault of the rings of polygons, by which of them are near one another: V4 to V6.
+fn fault_among_rings(
+    alloc: Global,
+    outline: &Outline,
+    rings: &Neighbours,
+) -> Result<Option<ValidityFault>, AllocError>
+    requires closed { HasClosedRings outline.now }
+    requires rings { rings.now ≡ ring_envelopes outline.now }
+    ensures { IfOk result (λ fault. fault ≡ first_of outline.now
+        (rings_meeting outline.now ++ holes_outside outline.now ++ nested_holes outline.now)) }
+{
+    let meeting = rings_meet(alloc, outline, rings)?;
+    if meeting.is_some() {
+        return Ok(meeting);
+    }
+    let outside = hole_outside(alloc, outline)?;
+    if outside.is_some() {
+        return Ok(outside);
+    }
+    holes_nested(alloc, outline, rings)
+}
+
 /// The first fault of the rings of polygons: V4 to V6.
 fn fault_of_rings(alloc: Global, outline: &Outline) -> Result<Option<ValidityFault>, AllocError>
     requires { HasClosedRings outline.now }
@@ -319,15 +341,26 @@ fn fault_of_rings(alloc: Global, outline: &Outline) -> Result<Option<ValidityFau
         return Ok(None);
     }
     let rings = Neighbours::of_rings(alloc, outline)?;
-    let meeting = rings_meet(alloc, outline, &rings)?;
+    fault_among_rings(alloc, outline, &rings)
+}
+
+/// The first fault of two polygons, by which of them are near one another: V7 and V8.
+fn fault_among_elements(
+    alloc: Global,
+    outline: &Outline,
+    elements: &Neighbours,
+) -> Result<Option<ValidityFault>, AllocError>
+    requires closed { HasClosedRings outline.now }
+    requires elements { elements.now ≡ element_envelopes outline.now }
+    ensures { IfOk result (λ fault. fault ≡ first_of outline.now
+        (of_two_elements ValidityFault.ElementsMeet outline.now
+        ++ of_other_elements ValidityFault.ElementInside outline.now)) }
+{
+    let meeting = elements_meet(alloc, outline, elements)?;
     if meeting.is_some() {
         return Ok(meeting);
     }
-    let outside = hole_outside(alloc, outline)?;
-    if outside.is_some() {
-        return Ok(outside);
-    }
-    holes_nested(alloc, outline, &rings)
+    element_inside(alloc, outline, elements)
 }
 
 /// The first fault of two polygons: V7 and V8.
@@ -341,11 +374,7 @@ fn fault_of_elements(alloc: Global, outline: &Outline) -> Result<Option<Validity
         return Ok(None);
     }
     let elements = Neighbours::of_elements(alloc, outline)?;
-    let meeting = elements_meet(alloc, outline, &elements)?;
-    if meeting.is_some() {
-        return Ok(meeting);
-    }
-    element_inside(alloc, outline, &elements)
+    fault_among_elements(alloc, outline, &elements)
 }
 
 /// The first fault of a geometry in the order of tests: V1 to V8, and within one the least numbers first.

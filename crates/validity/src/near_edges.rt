@@ -52,18 +52,30 @@ fn clashes_later(
     Ok(clashes_with(edges, i, e, near.as_slice()))
 }
 
+/// Whether two of the edges of a ring clash.
+fn clash_at_all(
+    edges: &[Segment],
+    boxes: &EdgeBoxes,
+    near: &mut Vec<usize>,
+) -> Result<bool, AllocError>
+    requires { BoxesOf boxes.now edges.now }
+    ensures { IfOk result (λ clash. clash ≡ edges_clash edges.now) }
+{
+    for i in 0..edges.len() {
+        if clashes_later(edges, boxes, i, edge_at(edges, i), near)? {
+            return Ok(true);
+        }
+    }
+    Ok(false)
+}
+
 /// Whether a ring of these edges meets or covers itself (06-103r4, 6.1.7: a LinearRing is simple).
 pub(crate) fn is_not_simple(alloc: Global, edges: &[Segment]) -> Result<bool, AllocError>
     ensures { IfOk result (λ clash. clash ≡ edges_clash edges.now) }
 {
     let boxes = EdgeBoxes::build(alloc, edges)?;
     let mut near = Vec::new(alloc);
-    for i in 0..edges.len() {
-        if clashes_later(edges, &boxes, i, &edges[i], &mut near)? {
-            return Ok(true);
-        }
-    }
-    Ok(false)
+    clash_at_all(edges, &boxes, &mut near)
 }
 
 /// Whether one of the edges, of which these are near another, shares a point with it.

@@ -190,13 +190,20 @@ fn kept(alloc: Global, outline: Outline) -> Result<Valid, AllocError>
     })
 }
 
+/// The boxes over all edges of a geometry.
+fn boxes_over(alloc: Global, outline: &Outline) -> Result<EdgeBoxes, AllocError>
+    ensures { IfOk result (λ boxes. BoxesOf boxes (spec.edges outline.now)) }
+{
+    EdgeBoxes::build(alloc, outline.segments())
+}
+
 /// A geometry of edges with what these are asked by.
 fn with_boxes(alloc: Global, outline: Outline) -> Result<Edged, AllocError>
     requires { validity_fault outline ≡ None }
     ensures same { IfOk result (λ edged. edged.outline ≡ outline) }
     ensures kept { IfOk result (λ edged. IsKept edged.outline edged.boxes edged.odd_ends.items) }
 {
-    let boxes = EdgeBoxes::build(alloc, outline.segments())?;
+    let boxes = boxes_over(alloc, &outline)?;
     let odd_ends = odd_ends(alloc, outline.geometry())?;
     Ok(Edged {
         outline,

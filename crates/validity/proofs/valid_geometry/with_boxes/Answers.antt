@@ -5,5 +5,5 @@ use Rattle.validity.proofs.Kept.{is_kept}
 use Rattle.validity.proofs.valid_geometry.with_boxes.Goals as goal
 
 pub returns-clause-kept : goal.returns-clause-kept
-returns-clause-kept c = is_kept c.args.outline c.segments.result.now c.in_ok-boxes.boxes c.in_ok-odd_ends.odd_ends.items c.segments.ensures c.in_ok-boxes.ensures
+returns-clause-kept c = is_kept c.args.outline c.in_ok-boxes.boxes c.in_ok-odd_ends.odd_ends.items c.in_ok-boxes.ensures
     (subst (λ (g : Geometry). AreOddEnds c.in_ok-odd_ends.odd_ends.items (ended_lines g)) c.geometry.ensures c.in_ok-odd_ends.ensures) c.requires
