@@ -22,7 +22,7 @@ use orient::Segment;
 use std::alloc::{AllocError, Global};
 
 /// A box over a run of consecutive edges. It stands behind the boxes of its subtree.
-#[derive(Clone, Copy, Debug)]
+#[derive(Clone, Copy)]
 pub(crate) struct EdgeBox {
     pub(crate) run: Run,
     /// How many boxes its subtree has, itself not counted; a leaf has none.
@@ -33,7 +33,7 @@ pub(crate) struct EdgeBox {
 
 /// A flat list of boxes over consecutive edges, in postorder. It answers about the edges it was built over, which it
 /// doesn't keep.
-#[derive(Debug, Drop)]
+#[derive(Drop)]
 pub struct EdgeBoxes {
     boxes: Vec<EdgeBox>,
 }

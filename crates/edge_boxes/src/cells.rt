@@ -8,7 +8,7 @@ use fraction::RatPoint;
 
 /// The floors and ceilings of a point's coordinates. By them positions and bounds are compared with the point without
 /// a product.
-#[derive(Clone, Copy, Debug)]
+#[derive(Clone, Copy)]
 pub(crate) struct Cell {
     pub(crate) floor_x: i32,
     pub(crate) ceiling_x: i32,

@@ -10,7 +10,7 @@ use orient::Segment;
 use std::alloc::AllocError;
 
 /// What is asked for: the edges from a place on whose bounds meet these.
-#[derive(Clone, Copy, Debug)]
+#[derive(Clone, Copy)]
 pub(crate) struct Asked {
     pub(crate) bounds: Bounds,
     pub(crate) from: usize,

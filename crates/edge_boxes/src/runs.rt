@@ -9,7 +9,7 @@ use crate::strips::Strip;
 use orient::Segment;
 
 /// The first and the last x of a chain of edges, where the run is one as far as it can be told by them.
-#[derive(Clone, Copy, Debug)]
+#[derive(Clone, Copy)]
 pub(crate) struct Ends {
     pub(crate) first_x: i32,
     pub(crate) last_x: i32,
@@ -17,7 +17,7 @@ pub(crate) struct Ends {
 }
 
 /// The bounds and the ends of a run of edges, and a strip of them where one was taken.
-#[derive(Clone, Copy, Debug)]
+#[derive(Clone, Copy)]
 pub(crate) struct Run {
     pub(crate) bounds: Bounds,
     pub(crate) ends: Ends,

@@ -9,7 +9,7 @@ use fraction::GridPoint;
 use orient::Segment;
 
 /// A direction, to the right in the strips that are taken.
-#[derive(Clone, Copy, Debug)]
+#[derive(Clone, Copy)]
 pub(crate) struct Direction {
     pub(crate) dx: i32,
     pub(crate) dy: i32,
@@ -17,7 +17,7 @@ pub(crate) struct Direction {
 
 /// The strip between two lines of a direction, by what is least and greatest of how far a place in it lies above the line
 /// through the origin, times the direction's way to the right.
-#[derive(Clone, Copy, Debug)]
+#[derive(Clone, Copy)]
 pub(crate) struct Strip {
     pub(crate) direction: Direction,
     pub(crate) least: i64,

@@ -14,7 +14,7 @@ use std::marker::Model;
 use wkt::{Geometry, LineString};
 
 /// A geometry with its edges. Contracts see it as that geometry.
-#[derive(Debug, Drop)]
+#[derive(Drop)]
 pub(crate) struct Outline {
     geometry: Geometry,
     /// The edges of its lines or rings.

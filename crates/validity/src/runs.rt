@@ -13,7 +13,7 @@ use std::marker::Model;
 use wkt::LineString;
 
 /// The edges of lines or rings. Contracts see them as the list of the lines' lists of edges.
-#[derive(Debug, Drop)]
+#[derive(Drop)]
 pub(crate) struct Runs {
     /// The edges of all lines, in order.
     segments: Vec<Segment>,

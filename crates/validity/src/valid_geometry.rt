@@ -26,21 +26,21 @@ use std::marker::Model;
 use wkt::Geometry;
 
 /// A geometry without fault (06-103r4, 6.1.7 and 6.1.11). Contracts see it as that geometry.
-#[derive(Debug, Drop)]
+#[derive(Drop)]
 pub struct Valid {
     content: Content,
 }
 
 /// What is kept of a geometry: of points, which have no edges, nothing else but a list without boxes, and of others all
 /// behind one pointer, so that a list of points is small.
-#[derive(Debug, Drop)]
+#[derive(Drop)]
 pub(crate) enum Content {
     Points(Geometry, EdgeBoxes),
     Edged(Box<Edged>),
 }
 
 /// A geometry of lines or areas, with what its edges are asked by.
-#[derive(Debug, Drop)]
+#[derive(Drop)]
 pub(crate) struct Edged {
     outline: Outline,
     /// The boxes over its edges.
