@@ -1,8 +1,8 @@
 -- What the answers of calls say of the readers that the calls follow, where an answer is passed on with its fault.
-use Rattle.std.proofs.Common.{◌≡◌, ◌≢◌, ℕ, suc, Bool, true, false, if◌then◌else◌, ◌&&◌, ◌==◌, List, [], ◌∷◌, ◌++◌, Result, Ok, Err, IfOk, IfErr, refl, ap}
+use Rattle.std.proofs.Common.{◌≡◌, ◌≢◌, ℕ, suc, Bool, true, false, if◌then◌else◌, ◌&&◌, ◌==◌, List, [], ◌∷◌, ◌++◌, Result, Ok, Err, IfOk, IfErr, refl, ap, ◌∙◌}
 use Rattle.table_model.specs.Outcomes.{Gives}
 use Rattle.std.specs.Str.Parse.{digits_value}
-use Rattle.table_model.specs.Parsers.{Outcome, Reads, and_then, pure, place, spelling, next, sees, after, parts_from, ◌<$>◌}
+use Rattle.table_model.specs.Parsers.{Outcome, Reads, and_then, pure, place, spelling, next, sees, after, expect, parts_from, ◌<$>◌}
 use Rattle.table_model.specs.QueryReading.{Reader, truth_value, truth_test, negation, group, predicate}
 use Rattle.table_model.specs.declared.faults.QueryFault.{QueryFault}
 use Rattle.table_model.specs.declared.faults.QueryFault.TheVariants as fault
@@ -12,7 +12,9 @@ use Rattle.table_model.specs.declared.queries.WrittenGeometry.{WrittenGeometry}
 use Rattle.table_model.specs.declared.tokens.Token.{Token}
 use Rattle.table_model.specs.declared.tokens.TokenKind.{TokenKind}
 use Rattle.table_model.specs.declared.tokens.TokenKind.TheVariants as k
-use Rattle.query_reader.specs.Predicates.{truth, given}
+use Rattle.query_reader.specs.Predicates.{truth, comparand, tested, given, arguments, call}
+use Rattle.query_reader.specs.declared.predicates.Function.{Function}
+use Rattle.query_reader.specs.Steps.{closed}
 
 -- ---- a turn of a list of parts: a part is read and kept, and the word between parts is looked for
 
@@ -87,15 +89,6 @@ predicate_below n ts mid later new result isnt same is at r =
 
 -- ---- what a predicate is compared with
 
--- a predicate that isn't compared is to hold
-pub untested : {A : Type 0} (cond : Result (WrittenCond A) QueryFault) (ts later : List Token) (more : Bool)
-    → IfOk cond (λ _. (more ≡ sees k.Equal ts) × (later ≡ after k.Equal ts))
-    → more ≡ false
-    → IfOk cond (λ x. Reads fault.OutOfMemory (truth_test x ts) cond later)
-unfolding truth_test
-untested (Ok x) ts later more f isnt = rw (← f.0, isnt, ← f.1) refl
-untested (Err e) ts later more f isnt = tt
-
 -- the digit says whether the predicate or its NOT is read
 pub truth_gives : {A : Type 0} (x : WrittenCond A) (ts : List Token) → truth_value x ts ≡ and_then (truth ts) (λ holds. pure (given holds x))
 unfolding truth_value
@@ -108,25 +101,6 @@ truth_gives {A = A} x ts = go (sees k.Integer ts && digits_value 10 (spelling ts
     go false true = refl
     go false false = refl
 
--- a predicate that is compared, by its digit
-pub tested : {A : Type 0} (x : WrittenCond A) (ts later : List Token) (more : Bool)
-    → more ≡ sees k.Equal ts
-    → later ≡ after k.Equal ts
-    → more ≡ true
-    → truth_test x ts ≡ and_then (truth later) (λ holds. pure (given holds x))
-unfolding truth_test
-tested x ts later more is at does = rw (← is, does, ← at) (truth_gives x later)
-
--- a predicate that is compared with 1
-pub tested_true : {A : Type 0} (cond : Result (WrittenCond A) QueryFault) (ts later new : List Token) (more holds : Bool)
-    → IfOk cond (λ _. (more ≡ sees k.Equal ts) × (later ≡ after k.Equal ts))
-    → more ≡ true
-    → truth later ≡ Ok (holds, new)
-    → holds ≡ true
-    → IfOk cond (λ x. Reads fault.OutOfMemory (truth_test x ts) cond new)
-tested_true (Ok x) ts later new more holds f does read is = rw (tested x ts later more f.0 f.1 does, read, is) refl
-tested_true (Err e) ts later new more holds f does read is = tt
-
 -- a call that may want memory answers what the reader gives
 pub given_reads : {A : Type 0} (outcome : Outcome QueryFault A) (y : A) (result : Result A QueryFault) (new : List Token)
     → Gives fault.OutOfMemory (λ it. it) result (Ok y)
@@ -137,23 +111,69 @@ given_reads outcome y (Ok x) new g e =
     rw (e, same) refl
 given_reads outcome y (Err f) new g e = λ some. let never : Ok y ≡ Err f = g some in cc
 
--- a predicate that is compared with 0
-pub tested_false : {A : Type 0} (cond result : Result (WrittenCond A) QueryFault) (ts later new : List Token) (more holds : Bool)
-    → IfOk cond (λ _. (more ≡ sees k.Equal ts) × (later ≡ after k.Equal ts))
-    → more ≡ true
-    → truth later ≡ Ok (holds, new)
-    → holds ≡ false
-    → IfOk cond (λ x. Gives fault.OutOfMemory (λ it. it) result (Ok (tree.Not x)))
-    → IfOk cond (λ x. Reads fault.OutOfMemory (truth_test x ts) result new)
-tested_false (Ok x) result ts later new more holds f does read is g =
-    given_reads (truth_test x ts) (tree.Not x) result new g (rw (tested x ts later more f.0 f.1 does, read, is) refl)
-tested_false (Err e) result ts later new more holds f does read is g = tt
+-- a predicate with what it is compared with is itself or its NOT
+pub test_gives : {A : Type 0} (x : WrittenCond A) (ts : List Token) → truth_test x ts ≡ and_then (comparand ts) (λ holds. pure (given holds x))
+unfolding truth_test
+test_gives {A = A} x ts = go (sees k.Equal ts) (after k.Equal ts)
+  where
+    go : (compared : Bool) (later : List Token)
+        → ◌≡◌ {A = Outcome QueryFault (WrittenCond A)} ((if compared then truth_value x else pure x) later) (and_then ((if compared then truth else pure true) later) (λ holds. pure (given holds x)))
+    go true later = truth_gives x later
+    go false later = refl
 
--- a predicate that is compared with something else
-pub tested_fails : {A : Type 0} (cond : Result (WrittenCond A) QueryFault) (ts later new : List Token) (more : Bool) (e : QueryFault)
-    → IfOk cond (λ _. (more ≡ sees k.Equal ts) × (later ≡ after k.Equal ts))
-    → more ≡ true
-    → (e ≢ fault.OutOfMemory → truth later ≡ Err e)
-    → IfOk cond (λ x. Reads fault.OutOfMemory (truth_test x ts) (Err e) new)
-tested_fails (Ok x) ts later new more e f does read = λ some. rw (tested x ts later more f.0 f.1 does, read some) refl
-tested_fails (Err e') ts later new more e f does read = tt
+-- the same after the arguments of the predicate
+test_after : {A : Type 0} (o : Outcome QueryFault (WrittenCond A))
+    → and_then o truth_test ≡ and_then {A = WrittenCond A × Bool} (and_then o (λ call ts. and_then (comparand ts) (λ holds. pure (call, holds)))) (λ test. pure (given test.1 test.0))
+test_after (Ok p) = test_gives p.0 p.1 ∙ split p.0 (comparand p.1)
+  where
+    split : {A : Type 0} (call : WrittenCond A) (o : Outcome QueryFault Bool)
+        → ◌≡◌ {A = Outcome QueryFault (WrittenCond A)} (and_then o (λ holds. pure (given holds call))) (and_then {A = WrittenCond A × Bool} (and_then o (λ holds. pure (call, holds))) (λ test. pure (given test.1 test.0)))
+    split call (Ok p) = refl
+    split call (Err e) = refl
+test_after (Err e) = refl
+
+-- a call that may want memory answers what is made of what was read before
+made_reads : {A B : Type 0} (made : A → B) (outcome : Outcome QueryFault A) (read : Result A QueryFault) (result : Result B QueryFault) (new : List Token)
+    → Reads fault.OutOfMemory outcome read new
+    → IfOk read (λ x. Gives fault.OutOfMemory (λ it. it) result (Ok (made x)))
+    → IfErr read (λ e. result ≡ Err e)
+    → Reads fault.OutOfMemory (and_then outcome (λ x. pure (made x))) result new
+made_reads made outcome (Ok x) result new r f g = given_reads (and_then outcome (λ y. pure (made y))) (made x) result new f (rw r refl)
+made_reads made outcome (Err e) result new r f g = rw g (λ some. rw (r some) refl)
+
+-- a call of a predicate, from its arguments on
+call_reads : {A : Type 0} (outcome : Outcome QueryFault (WrittenCond A)) (read : Result (WrittenCond A) QueryFault) (test : Result (WrittenCond A × Bool) QueryFault) (result : Result (WrittenCond A) QueryFault) (mid new : List Token)
+    → Reads fault.OutOfMemory outcome read mid
+    → IfOk read (λ x. Reads fault.OutOfMemory (tested x mid) test new)
+    → IfErr read (λ e. test ≡ Err e)
+    → IfOk test (λ it. Gives fault.OutOfMemory (λ it. it) result (Ok (given it.1 it.0)))
+    → IfErr test (λ e. result ≡ Err e)
+    → Reads fault.OutOfMemory (and_then (and_then outcome closed) truth_test) result new
+call_reads outcome (Ok x) test result mid new r f g h i =
+    rw (r, test_after (closed x mid)) (made_reads (λ it. given it.1 it.0) (tested x mid) test result new f h i)
+call_reads outcome (Err e) test result mid new r f g h i =
+    let failed : result ≡ Err e = rw g at i in
+    rw failed (λ some. rw (r some) refl)
+
+-- after a step that reads no value the rest is read
+opened_reads : {A : Type 0} (o : Outcome QueryFault (Unit {0})) (reader : Reader (WrittenCond A)) (result : Result (WrittenCond A) QueryFault) (u : Unit {0}) (later new : List Token)
+    → o ≡ Ok (u, later)
+    → Reads fault.OutOfMemory (and_then (and_then (reader later) closed) truth_test) result new
+    → Reads fault.OutOfMemory (and_then (and_then o (λ _ ts. and_then (reader ts) closed)) truth_test) result new
+opened_reads o reader result u later new e r = rw e r
+
+-- a call of a predicate, from its name on
+pub call_gives : (function : Function) (at : ℕ) (ts begun later mid new : List Token) (u : Unit {0}) (read : Result (WrittenCond WrittenGeometry) QueryFault) (test : Result (WrittenCond WrittenGeometry × Bool) QueryFault) (result : Result (WrittenCond WrittenGeometry) QueryFault)
+    → at ≡ place ts
+    → begun ≡ next ts
+    → expect fault.Syntax k.LeftParenthesis begun ≡ Ok (u, later)
+    → Reads fault.OutOfMemory (arguments function at later) read mid
+    → IfOk read (λ x. Reads fault.OutOfMemory (tested x mid) test new)
+    → IfErr read (λ e. test ≡ Err e)
+    → IfOk test (λ it. Gives fault.OutOfMemory (λ it. it) result (Ok (given it.1 it.0)))
+    → IfErr test (λ e. result ≡ Err e)
+    → Reads fault.OutOfMemory (call function ts) result new
+call_gives function at ts begun later mid new u read test result there follows opens r f g h i =
+    opened_reads (expect fault.Syntax k.LeftParenthesis (next ts)) (arguments function (place ts)) result u later new
+    (rw follows at opens)
+    (call_reads (arguments function (place ts) later) read test result mid new (rw there at r) f g h i)

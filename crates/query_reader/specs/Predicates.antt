@@ -4,7 +4,7 @@ use Rattle.std.specs.Str.Parse.{digits_value}
 use Rattle.geometry_model.specs.declared.relations.Predicate.{Predicate}
 use Rattle.geometry_model.specs.declared.relations.Predicate.TheVariants as p
 use Rattle.table_model.specs.declared.faults.QueryFault.TheVariants as fault
-use Rattle.table_model.specs.Parsers.{place, next, sees, spelling, ◌<$>◌}
+use Rattle.table_model.specs.Parsers.{place, next, sees, spelling, ◌<$>◌, ◌>>=◌, pure, eat}
 use Rattle.table_model.specs.QueryReading.{Reader, Functions, calls, called_or, name, column, geometry, operand_functions, relates, relates_by, truth_tested, comparison}
 use Rattle.table_model.specs.Served.{ServedCond, ServedItem, ServedOperand}
 use Rattle.table_model.specs.declared.queries.WrittenCond.{WrittenCond}
@@ -14,6 +14,9 @@ use Rattle.table_model.specs.declared.queries.WrittenOperand.TheVariants as o
 use Rattle.table_model.specs.declared.queries.Name.{Name}
 use Rattle.table_model.specs.declared.tokens.Token.{Token}
 use Rattle.table_model.specs.declared.tokens.TokenKind.TheVariants as k
+use Rattle.query_reader.specs.Steps.{closed}
+use Rattle.query_reader.specs.declared.predicates.Function.{Function}
+use Rattle.query_reader.specs.declared.predicates.Function.TheVariants as f
 
 -- the predicates of two geometries with the names of their functions (06-103r4, 6.1.15.3)
 abbrev pub named_predicates : List (List ℕ × Predicate)
@@ -38,6 +41,19 @@ abbrev pub given : {A : Type 0} → Bool → WrittenCond A → WrittenCond A
 given true x = x
 given false x = c.Not x
 
+-- what a predicate is compared with, where it is: whether the predicate is to hold
+abbrev pub comparand : Reader Bool
+comparand = do
+  compared ← eat k.Equal
+  if compared then truth else pure true
+
+-- a call whose arguments were read, and whether it is to hold
+abbrev pub tested : {A : Type 0} → A → Reader (A × Bool)
+tested x = do
+  call ← closed x
+  is_to_hold ← comparand
+  pure (call, is_to_hold)
+
 -- what stands between the parentheses of ST_IsEmpty in a condition
 abbrev pub empty_argument : ℕ → Reader (ServedCond true)
 empty_argument at = c.IsEmpty at <$> geometry
@@ -46,14 +62,29 @@ empty_argument at = c.IsEmpty at <$> geometry
 abbrev pub other_functions : ℕ → Functions (ServedCond true)
 other_functions at = (codes "ST_Relate", truth_tested (relates_by at)) ∷ (codes "ST_IsEmpty", truth_tested (empty_argument at)) ∷ []
 
--- a predicate that is none of two geometries by its name
-abbrev pub other_predicate : Reader (ServedCond true)
-other_predicate ts = called_or (other_functions (place ts)) (comparison true) ts
+-- which of them is called next
+abbrev pub other_function : List Token → Option Function
+other_function ts = if calls (codes "ST_Relate") ts then Some f.Relate else (if calls (codes "ST_IsEmpty") ts then Some f.IsEmpty else None)
 
--- a predicate, where the one of two geometries that is called next is known
-abbrev pub predicate_by : Option Predicate → Reader (ServedCond true)
-predicate_by (Some predicate) ts = truth_tested (relates (place ts) predicate) (next ts)
-predicate_by None ts = other_predicate ts
+-- the function that is called next, where the predicate of two geometries that is called next is known
+abbrev pub function_by : Option Predicate → List Token → Option Function
+function_by (Some predicate) ts = Some (f.Named predicate)
+function_by None ts = other_function ts
+
+-- the arguments of a function whose name starts at a place
+abbrev pub arguments : Function → ℕ → Reader (ServedCond true)
+arguments (f.Named predicate) at = relates at predicate
+arguments f.Relate at = relates_by at
+arguments f.IsEmpty at = empty_argument at
+
+-- a call of a function, from its name on
+abbrev pub call : Function → Reader (ServedCond true)
+call function ts = truth_tested (arguments function (place ts)) (next ts)
+
+-- a predicate, where the function that is called next is known
+abbrev pub predicate_by : Option Function → Reader (ServedCond true)
+predicate_by (Some function) ts = call function ts
+predicate_by None ts = comparison true ts
 
 -- an operand that is a call of a function or a column
 abbrev pub other_operand : Reader (ServedOperand true)

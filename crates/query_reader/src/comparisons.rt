@@ -5,8 +5,8 @@ ghost use Rattle.table_model.specs.QueryReading as spec;
 ghost use Rattle.table_model.specs.Parsers.{Reads};
 ghost use Rattle.query_reader.specs.Language.{language};
 
-use crate::condition::{WrittenCond, negated};
-use crate::operands::{WrittenOperand, operand};
+use crate::condition::{CondOf, WrittenCond, negated};
+use crate::operands::{OperandOf, WrittenOperand, operand};
 use crate::terminals::{expect, refuse};
 use sql_tokens::cursor::Cursor;
 use std::alloc::Global;
@@ -48,16 +48,16 @@ fn compared<'a>(
 
 /// Reads the rest of IS NULL or IS NOT NULL, after IS.
 #[tactic(auto, unfolding(table_model::specs::QueryReading::null_test))]
-fn null_test<'a>(
+fn null_test<'a, A: Drop>(
     alloc: Global,
     tokens: &mut Cursor<'_, 'a>,
-    left: WrittenOperand<'a>,
-) -> Result<WrittenCond<'a>, QueryFault>
+    left: OperandOf<'a, A>,
+) -> Result<CondOf<'a, A>, QueryFault>
     ensures { Reads QueryFault.OutOfMemory (spec.null_test left.entry tokens.old) result tokens.new }
 {
     let is_negated = tokens.eat(TokenKind::Not);
     expect(tokens, TokenKind::Null)?;
-    let test = Ok(WrittenCond::IsNull(left));
+    let test = Ok(CondOf::IsNull(left));
     if is_negated {
         negated(alloc, test)
     } else {

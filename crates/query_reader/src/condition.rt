@@ -18,7 +18,9 @@ use table_model::faults::QueryFault;
 use table_model::queries::WrittenGeometry;
 use table_model::tokens::TokenKind;
 
-pub(crate) type WrittenCond<'a> = table_model::queries::WrittenCond<'a, WrittenGeometry<'a>>;
+pub(crate) use table_model::queries::WrittenCond as CondOf;
+
+pub(crate) type WrittenCond<'a> = CondOf<'a, WrittenGeometry<'a>>;
 
 /// The condition that all of these hold, where they were read.
 fn all_of<'a>(
@@ -53,15 +55,15 @@ fn boxed<T: Drop>(alloc: Global, read: Result<T, QueryFault>) -> Result<Boxed<T>
 }
 
 /// The condition that one that was read doesn't hold; a fault is passed on.
-pub(crate) fn negated<'a>(
+pub(crate) fn negated<'a, A: Drop>(
     alloc: Global,
-    read: Result<WrittenCond<'a>, QueryFault>,
-) -> Result<WrittenCond<'a>, QueryFault>
+    read: Result<CondOf<'a, A>, QueryFault>,
+) -> Result<CondOf<'a, A>, QueryFault>
     ensures ok { IfOk read.entry (λ cond. Gives QueryFault.OutOfMemory (λ it. it) result (Ok (tree.Not cond))) }
     ensures err { IfErr read.entry (λ fault. result ≡ Err fault) }
 {
     match boxed(alloc, read) {
-        Ok(cond) => Ok(WrittenCond::Not(cond)),
+        Ok(cond) => Ok(CondOf::Not(cond)),
         Err(fault) => Err(fault),
     }
 }
@@ -86,7 +88,7 @@ fn keep<T: Drop>(parts: &mut Items<T>, read: Result<T, QueryFault>) -> Result<()
 }
 
 /// Reads the word between parts where a part was read and the word follows, and tells whether it does.
-pub(crate) fn goes_on<T>(
+fn goes_on<T>(
     tokens: &mut Cursor<'_, '_>,
     read: &Result<T, QueryFault>,
     between: TokenKind,

@@ -14,7 +14,9 @@ use table_model::faults::QueryFault;
 use table_model::queries::WrittenGeometry;
 use table_model::tokens::TokenKind;
 
-pub(crate) type WrittenOperand<'a> = table_model::queries::WrittenOperand<'a, WrittenGeometry<'a>>;
+pub(crate) use table_model::queries::WrittenOperand as OperandOf;
+
+pub(crate) type WrittenOperand<'a> = OperandOf<'a, WrittenGeometry<'a>>;
 
 /// Reads digits, whose number may be negated.
 #[tactic(auto, unfolding(table_model::specs::QueryReading::integer))]

@@ -1,15 +1,15 @@
 //! Reads predicates: calls of the functions that relate geometries, and what they are compared with.
 
-ghost use Rattle.std.specs.Prelude.{◌≡◌, map, Err, IfOk, IfErr};
+ghost use Rattle.std.specs.Prelude.{◌≡◌, map, Ok, Err, IfOk, IfErr};
+ghost use Rattle.table_model.specs.Outcomes.{Gives};
 ghost use Rattle.table_model.specs.QueryReading as spec;
-ghost use Rattle.table_model.specs.Parsers as steps;
 ghost use Rattle.table_model.specs.Parsers.{Reads};
 ghost use Rattle.query_reader.specs.Predicates as names;
-ghost use Rattle.query_reader.specs.Predicates.{named_predicates, named_in, other_predicate, predicate_by};
+ghost use Rattle.query_reader.specs.Predicates.{named_predicates, named_in};
 ghost use Rattle.query_reader.specs.Language.{language};
 
 use crate::comparisons::comparison;
-use crate::condition::{WrittenCond, goes_on, negated};
+use crate::condition::{CondOf, WrittenCond, negated};
 use crate::numbers::truth_digit;
 use crate::operands::geometry;
 use crate::terminals::{calls, closed, expect, refuse, string};
@@ -48,21 +48,44 @@ fn truth(tokens: &mut Cursor<'_, '_>) -> Result<bool, QueryFault>
     }
 }
 
-/// Reads what a predicate that was read is compared with, where it is compared: 0 negates it. A fault is passed on.
-fn truth_test<'a>(
-    alloc: Global,
-    tokens: &mut Cursor<'_, 'a>,
-    cond: Result<WrittenCond<'a>, QueryFault>,
-) -> Result<WrittenCond<'a>, QueryFault>
-    ensures ok { IfOk cond.entry (λ x. Reads QueryFault.OutOfMemory (spec.truth_test x tokens.old) result tokens.new) }
-    ensures err { IfErr cond.entry (λ fault. result ≡ Err fault) }
+/// Reads what a predicate is compared with, where it is compared: whether it is to hold.
+fn comparand(tokens: &mut Cursor<'_, '_>) -> Result<bool, QueryFault>
+    ensures { Reads QueryFault.OutOfMemory (names.comparand tokens.old) result tokens.new }
 {
-    if !goes_on(tokens, &cond, TokenKind::Equal) {
-        return cond;
+    if tokens.eat(TokenKind::Equal) {
+        truth(tokens)
+    } else {
+        Ok(true)
     }
-    match truth(tokens) {
-        Ok(true) => cond,
-        Ok(false) => negated(alloc, cond),
+}
+
+/// Reads the right parenthesis after the arguments of a predicate, and what it is compared with: whether it is
+/// to hold. A fault is passed on.
+fn tested<T: Drop>(
+    arguments: Result<T, QueryFault>,
+    tokens: &mut Cursor<'_, '_>,
+) -> Result<(T, bool), QueryFault>
+    ensures ok { IfOk arguments (λ x. Reads QueryFault.OutOfMemory
+        (names.tested x tokens.old) result tokens.new) }
+    ensures err { IfErr arguments (λ fault. result ≡ Err fault) }
+{
+    let call = closed(arguments, tokens)?;
+    let is_to_hold = comparand(tokens)?;
+    Ok((call, is_to_hold))
+}
+
+/// A condition that was read, or its NOT where it isn't to hold; a fault is passed on.
+fn given<'a, A: Drop>(
+    alloc: Global,
+    read: Result<(CondOf<'a, A>, bool), QueryFault>,
+) -> Result<CondOf<'a, A>, QueryFault>
+    ensures ok { IfOk read.entry (λ test. Gives QueryFault.OutOfMemory (λ it. it) result
+        (Ok (names.given test.1 test.0))) }
+    ensures err { IfErr read.entry (λ fault. result ≡ Err fault) }
+{
+    match read {
+        Ok((cond, true)) => Ok(cond),
+        Ok((cond, false)) => negated(alloc, Ok(cond)),
         Err(fault) => Err(fault),
     }
 }
@@ -95,37 +118,6 @@ fn relates_by<'a>(tokens: &mut Cursor<'_, 'a>, at: usize) -> Result<WrittenCond<
     Ok(WrittenCond::Relates(at, WrittenPredicate::Relate(pattern), a, b))
 }
 
-/// Reads a call of a predicate of two geometries, from its name on, and what it is compared with.
-fn related<'a>(
-    alloc: Global,
-    tokens: &mut Cursor<'_, 'a>,
-    at: usize,
-    predicate: Predicate,
-) -> Result<WrittenCond<'a>, QueryFault>
-    ensures { Reads QueryFault.OutOfMemory
-        (spec.truth_tested (spec.relates at predicate) (steps.next tokens.old)) result tokens.new }
-{
-    tokens.advance();
-    expect(tokens, TokenKind::LeftParenthesis)?;
-    let call = closed(relates(tokens, at, predicate), tokens);
-    truth_test(alloc, tokens, call)
-}
-
-/// Reads a call of ST_Relate, from its name on, and what it is compared with.
-fn related_by<'a>(
-    alloc: Global,
-    tokens: &mut Cursor<'_, 'a>,
-    at: usize,
-) -> Result<WrittenCond<'a>, QueryFault>
-    ensures { Reads QueryFault.OutOfMemory
-        (spec.truth_tested (spec.relates_by at) (steps.next tokens.old)) result tokens.new }
-{
-    tokens.advance();
-    expect(tokens, TokenKind::LeftParenthesis)?;
-    let call = closed(relates_by(tokens, at), tokens);
-    truth_test(alloc, tokens, call)
-}
-
 /// Reads the argument of ST_IsEmpty, which starts at a place.
 fn empty_argument<'a>(tokens: &mut Cursor<'_, 'a>, at: usize) -> Result<WrittenCond<'a>, QueryFault>
     ensures { Reads QueryFault.OutOfMemory (names.empty_argument at tokens.old) result tokens.new }
@@ -133,19 +125,43 @@ fn empty_argument<'a>(tokens: &mut Cursor<'_, 'a>, at: usize) -> Result<WrittenC
     Ok(WrittenCond::IsEmpty(at, geometry(tokens)?))
 }
 
-/// Reads a call of ST_IsEmpty, from its name on, and what it is compared with.
-fn emptiness<'a>(
-    alloc: Global,
+/// A function that is a predicate.
+#[derive(Clone, Copy)]
+pub enum Function {
+    /// One of two geometries, by its name.
+    Named(Predicate),
+    Relate,
+    IsEmpty,
+}
+
+/// Reads the arguments of a function, whose name starts at a place.
+fn arguments<'a>(
     tokens: &mut Cursor<'_, 'a>,
     at: usize,
+    function: Function,
 ) -> Result<WrittenCond<'a>, QueryFault>
-    ensures { Reads QueryFault.OutOfMemory
-        (spec.truth_tested (names.empty_argument at) (steps.next tokens.old)) result tokens.new }
+    ensures { Reads QueryFault.OutOfMemory (names.arguments function at tokens.old) result tokens.new }
 {
+    match function {
+        Function::Named(predicate) => relates(tokens, at, predicate),
+        Function::Relate => relates_by(tokens, at),
+        Function::IsEmpty => empty_argument(tokens, at),
+    }
+}
+
+/// Reads a call of a function, from its name on, and what it is compared with.
+fn call<'a>(
+    alloc: Global,
+    tokens: &mut Cursor<'_, 'a>,
+    function: Function,
+) -> Result<WrittenCond<'a>, QueryFault>
+    ensures { Reads QueryFault.OutOfMemory (names.call function tokens.old) result tokens.new }
+{
+    let at = tokens.place();
     tokens.advance();
     expect(tokens, TokenKind::LeftParenthesis)?;
-    let call = closed(empty_argument(tokens, at), tokens);
-    truth_test(alloc, tokens, call)
+    let arguments = arguments(tokens, at, function);
+    given(alloc, tested(arguments, tokens))
 }
 
 /// The first predicate of a table that is called next, by its name.
@@ -169,20 +185,26 @@ fn named_predicate(tokens: &Cursor<'_, '_>) -> Option<Predicate>
     called_of(&NAMED_PREDICATES, tokens)
 }
 
-/// Reads ST_Relate, ST_IsEmpty or a comparison.
-fn other_predicate<'a>(
-    alloc: Global,
-    tokens: &mut Cursor<'_, 'a>,
-) -> Result<WrittenCond<'a>, QueryFault>
-    ensures { Reads QueryFault.OutOfMemory (other_predicate tokens.old) result tokens.new }
+/// ST_Relate or ST_IsEmpty, where it is called next.
+fn other_function(tokens: &Cursor<'_, '_>) -> Option<Function>
+    ensures { result ≡ names.other_function tokens.now }
 {
-    let at = tokens.place();
     if calls(tokens, b"ST_Relate") {
-        related_by(alloc, tokens, at)
+        Some(Function::Relate)
     } else if calls(tokens, b"ST_IsEmpty") {
-        emptiness(alloc, tokens, at)
+        Some(Function::IsEmpty)
     } else {
-        comparison(alloc, tokens)
+        None
+    }
+}
+
+/// The function that is called next, where it is a predicate.
+fn called(tokens: &Cursor<'_, '_>) -> Option<Function>
+    ensures { result ≡ names.function_by (named_in named_predicates tokens.now) tokens.now }
+{
+    match named_predicate(tokens) {
+        Some(predicate) => Some(Function::Named(predicate)),
+        None => other_function(tokens),
     }
 }
 
@@ -192,12 +214,12 @@ fn predicate_by_name<'a>(
     tokens: &mut Cursor<'_, 'a>,
 ) -> Result<WrittenCond<'a>, QueryFault>
     ensures { Reads QueryFault.OutOfMemory
-        (predicate_by (named_in named_predicates tokens.old) tokens.old) result tokens.new }
+        (names.predicate_by (names.function_by (named_in named_predicates tokens.old) tokens.old) tokens.old)
+        result tokens.new }
 {
-    let at = tokens.place();
-    match named_predicate(tokens) {
-        Some(predicate) => related(alloc, tokens, at, predicate),
-        None => other_predicate(alloc, tokens),
+    match called(tokens) {
+        Some(function) => call(alloc, tokens, function),
+        None => comparison(alloc, tokens),
     }
 }
 
