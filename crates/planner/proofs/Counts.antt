@@ -1,7 +1,7 @@
 -- Numbers of predicates.
-use Rattle.std.specs.Prelude.{◌≡◌, refl, ℕ, ◌+◌, ◌-◌, ◌<◌, Bool, true, false, cond, nat_le, List, [], ◌∷◌, ◌++◌, map, sum_by, length, get_or, drop, Some, None, option_and_then}
-use Rattle.std.proofs.Common.{arith, ap, ◌∙◌, sym}
-use Rattle.std.specs.List.{flat_map, fold, range_with_len}
+use Rattle.std.specs.Prelude.{◌≡◌, refl, ℕ, ◌+◌, ◌-◌, ◌<◌, Bool, true, false, cond, if◌then◌else◌, nat_le, List, [], ◌∷◌, ◌++◌, map, sum_by, length, get_or, drop, Some, None, option_and_then}
+use Rattle.std.proofs.Common.{append_assoc, arith, ap, ◌∙◌, sym}
+use Rattle.std.specs.List.{cons_option, enumerate_from, filter_map, flat_map, fold, range_with_len}
 use Rattle.std.proofs.lemmas.List.{append-nil, drop_more, map-id}
 use Rattle.std.proofs.lemmas.List.Concat.{flat_map-append}
 use Rattle.std.proofs.lemmas.List.FromFn.{map-range_with_len_more}
@@ -47,3 +47,22 @@ one_more_count f n =
     ap (flat_map f) (sym (map-id (range_with_len 0 (n + 1))) ∙ map-range_with_len_more (λ x. x) 0 n n (omega arith) ∙ ap (λ t. t ++ n ∷ []) (map-id (range_with_len 0 n)))
     ∙ flat_map-append f (range_with_len 0 n) (n ∷ [])
     ∙ ap (λ t. flat_map f (range_with_len 0 n) ++ t) (append-nil (f n))
+
+-- the place of an element that is wanted, before others
+placed : (wanted : Bool) (i : ℕ) (others : List ℕ) → cons_option (if wanted then Some i else None) others ≡ (if wanted then i ∷ [] else []) ++ others
+placed true i others = refl
+placed false i others = refl
+
+-- the place of one element more, where that is wanted
+pub one_more_place : {X : Type 0} (wanted : X → Bool) (xs : List X) (i : ℕ) (x : X) (old new whole : List ℕ) → i < length xs → x ≡ get_or xs i x
+    → new ≡ old ++ (if wanted x then i ∷ [] else [])
+    → old ++ filter_map (λ p. if wanted p.1 then Some p.0 else None) (enumerate_from i (drop i xs)) ≡ whole
+    → new ++ filter_map (λ p. if wanted p.1 then Some p.0 else None) (enumerate_from (i + 1) (drop (i + 1) xs)) ≡ whole
+one_more_place {X} wanted xs i x old new whole within is added before =
+    let places : List X → ℕ → List ℕ = λ ys n. filter_map (λ p. if wanted p.1 then Some p.0 else None) (enumerate_from n ys) in
+    let others = places (drop (i + 1) xs) (i + 1) in
+    ap (λ l. l ++ others) added
+    ∙ append_assoc old (if wanted x then i ∷ [] else []) others
+    ∙ ap (λ l. old ++ l) (sym (placed (wanted x) i others))
+    ∙ ap (λ l. old ++ places l i) (sym (drop_more xs i x within ∙ ap (λ y. y ∷ drop (i + 1) xs) (sym is)))
+    ∙ before

@@ -1,6 +1,6 @@
 //! The order in which conjuncts are evaluated.
 
-ghost use Rattle.std.specs.Prelude.{◌≡◌, ◌++◌, ◌+◌, ◌==◌, sum_by, IfOk, IfSome, OnOk};
+ghost use Rattle.std.specs.Prelude.{◌≡◌, ◌++◌, ◌+◌, ◌==◌, ◌∷◌, [], if◌then◌else◌, sum_by, IfOk, IfSome, OnOk};
 ghost use Rattle.planner.specs.Nestings.{left_after};
 ghost use Rattle.table_model.specs.Plans as spec;
 
@@ -55,6 +55,22 @@ fn possible_counts<A>(conjuncts: &[Cond<A>]) -> Option<usize>
     }
 }
 
+// Adds the place of a conjunct, where that has so many predicates.
+fn push_place<A>(
+    places: &mut Items<usize>,
+    place: usize,
+    conjunct: &Cond<A>,
+    count: usize,
+) -> Result<(), AllocError>
+    ensures { OnOk result (places.new
+        ≡ places.old ++ (if spec.predicate_count conjunct.now == count then place ∷ [] else [])) }
+{
+    if has_count(conjunct, count) {
+        places.push(place)?;
+    }
+    Ok(())
+}
+
 // Adds the places of the conjuncts with so many predicates.
 fn push_places<A>(
     places: &mut Items<usize>,
@@ -65,9 +81,7 @@ fn push_places<A>(
         (places.new ≡ places.old ++ spec.places_where (λ c. spec.predicate_count c == count) conjuncts.now) }
 {
     for (place, conjunct) in conjuncts.iter().enumerate() {
-        if has_count(conjunct, count) {
-            places.push(place)?;
-        }
+        push_place(places, place, conjunct, count)?;
     }
     Ok(())
 }
