@@ -21,7 +21,7 @@ fn bounds(alloc: Global, text: &str) -> Result<Option<Bounds>, Fail> {
 
 #[test]
 fn envelopes_of_geometries(rt: HostRuntime) -> Result<(), Fail> {
-    for (text, wanted) in [
+    for (text, wanted) in &[
         ("POINT(3 -4)", Some((3, 3, -4, -4))),
         ("MULTIPOINT(1 5,-2 7,0 6)", Some((-2, 1, 5, 7))),
         ("LINESTRING(0 9,4 1)", Some((0, 4, 1, 9))),
@@ -38,7 +38,7 @@ fn envelopes_of_geometries(rt: HostRuntime) -> Result<(), Fail> {
         ("MULTILINESTRING EMPTY", None),
         ("POLYGON EMPTY", None),
     ] {
-        assert!(rt; bounds(rt.alloc(), text)? == wanted);
+        assert!(rt; bounds(rt.alloc(), text)? == *wanted);
     }
     Ok(())
 }

@@ -34,103 +34,121 @@ fn fill(alloc: Global, gaps: &mut Gaps, edge: &Segment, others: &[Segment]) -> R
     Ok(may_share)
 }
 
+const LEVEL: Line = ((0, 0), (10, 0));
+
+// An edge and others, the points that they share, the stops, and whether they may share a stretch.
+type Row = (
+    Line,
+    &'static [Line],
+    &'static [Numbers],
+    &'static [Numbers],
+    bool,
+);
+
+const GAPS: [Row; 8] = [
+    // None, and one far from it.
+    (LEVEL, &[], &[], &[(0, 0, 1), (10, 0, 1)], false),
+    (
+        LEVEL,
+        &[((20, 20), (30, 31))],
+        &[],
+        &[(0, 0, 1), (10, 0, 1)],
+        false,
+    ),
+    // One that crosses it.
+    (
+        LEVEL,
+        &[((3, -1), (4, 2))],
+        &[(10, 0, 3)],
+        &[(0, 0, 1), (10, 0, 3), (10, 0, 1)],
+        false,
+    ),
+    // One that touches it at its end.
+    (
+        LEVEL,
+        &[((10, 0), (12, 5))],
+        &[(10, 0, 1)],
+        &[(0, 0, 1), (10, 0, 1)],
+        false,
+    ),
+    // One that lies along it.
+    (
+        LEVEL,
+        &[((7, 0), (5, 0))],
+        &[(5, 0, 1), (7, 0, 1)],
+        &[(0, 0, 1), (5, 0, 1), (7, 0, 1), (10, 0, 1)],
+        true,
+    ),
+    // All of these, one that ends on it and two through one point of it, and the edge from its end to its start.
+    (
+        ((10, 0), (0, 0)),
+        &[
+            ((7, 0), (5, 0)),
+            ((10, 0), (12, 5)),
+            ((20, 20), (30, 31)),
+            ((3, -1), (4, 2)),
+            ((2, 0), (2, 4)),
+            ((5, -1), (7, 1)),
+            ((7, -1), (5, 1)),
+        ],
+        &[
+            (2, 0, 1),
+            (10, 0, 3),
+            (5, 0, 1),
+            (6, 0, 1),
+            (7, 0, 1),
+            (10, 0, 1),
+        ],
+        &[
+            (0, 0, 1),
+            (2, 0, 1),
+            (10, 0, 3),
+            (5, 0, 1),
+            (6, 0, 1),
+            (7, 0, 1),
+            (10, 0, 1),
+        ],
+        true,
+    ),
+    // An upright one that goes down, and one that lies along it past its end.
+    (
+        ((1, 5), (1, -4)),
+        &[((1, 3), (1, 9))],
+        &[(1, 3, 1), (1, 5, 1)],
+        &[(1, -4, 1), (1, 3, 1), (1, 5, 1)],
+        true,
+    ),
+    // One beside it that is parallel.
+    (
+        ((0, 0), (9, 9)),
+        &[((1, 0), (9, 8))],
+        &[],
+        &[(0, 0, 1), (9, 9, 1)],
+        false,
+    ),
+];
+
+// Whether the numbers of some points are these.
+fn have(alloc: Global, points: &[RatPoint], wanted: &[Numbers]) -> Result<bool, Fail> {
+    Ok(numbers(alloc, points)?.as_slice() == wanted)
+}
+
+// Whether the gaps for an edge among others are filled as a row tells.
+fn is_filled(alloc: Global, gaps: &mut Gaps, row: &Row) -> Result<bool, Fail> {
+    let (edge, others, shared, stops, may_share) = row;
+    let edge = segment(edge.0, edge.1)?;
+    let others = segments(alloc, others)?;
+    let told = fill(alloc, gaps, &edge, others.as_slice())?;
+    let are_shared = have(alloc, gaps.shared(), shared)?;
+    let are_stops = have(alloc, gaps.stops(), stops)?;
+    Ok(told == *may_share && are_shared && are_stops)
+}
+
 #[test]
 fn gaps(rt: HostRuntime) -> Result<(), Fail> {
-    let alloc = rt.alloc();
-    let level = ((0, 0), (10, 0));
-    // An edge and others, the points that they share, the stops, and whether they may share a stretch.
-    let cases: [(Line, &[Line], &[Numbers], &[Numbers], bool); 8] = [
-        // None, and one far from it.
-        (level, &[], &[], &[(0, 0, 1), (10, 0, 1)], false),
-        (
-            level,
-            &[((20, 20), (30, 31))],
-            &[],
-            &[(0, 0, 1), (10, 0, 1)],
-            false,
-        ),
-        // One that crosses it.
-        (
-            level,
-            &[((3, -1), (4, 2))],
-            &[(10, 0, 3)],
-            &[(0, 0, 1), (10, 0, 3), (10, 0, 1)],
-            false,
-        ),
-        // One that touches it at its end.
-        (
-            level,
-            &[((10, 0), (12, 5))],
-            &[(10, 0, 1)],
-            &[(0, 0, 1), (10, 0, 1)],
-            false,
-        ),
-        // One that lies along it.
-        (
-            level,
-            &[((7, 0), (5, 0))],
-            &[(5, 0, 1), (7, 0, 1)],
-            &[(0, 0, 1), (5, 0, 1), (7, 0, 1), (10, 0, 1)],
-            true,
-        ),
-        // All of these, one that ends on it and two through one point of it, and the edge from its end to its start.
-        (
-            ((10, 0), (0, 0)),
-            &[
-                ((7, 0), (5, 0)),
-                ((10, 0), (12, 5)),
-                ((20, 20), (30, 31)),
-                ((3, -1), (4, 2)),
-                ((2, 0), (2, 4)),
-                ((5, -1), (7, 1)),
-                ((7, -1), (5, 1)),
-            ],
-            &[
-                (2, 0, 1),
-                (10, 0, 3),
-                (5, 0, 1),
-                (6, 0, 1),
-                (7, 0, 1),
-                (10, 0, 1),
-            ],
-            &[
-                (0, 0, 1),
-                (2, 0, 1),
-                (10, 0, 3),
-                (5, 0, 1),
-                (6, 0, 1),
-                (7, 0, 1),
-                (10, 0, 1),
-            ],
-            true,
-        ),
-        // An upright one that goes down, and one that lies along it past its end.
-        (
-            ((1, 5), (1, -4)),
-            &[((1, 3), (1, 9))],
-            &[(1, 3, 1), (1, 5, 1)],
-            &[(1, -4, 1), (1, 3, 1), (1, 5, 1)],
-            true,
-        ),
-        // One beside it that is parallel.
-        (
-            ((0, 0), (9, 9)),
-            &[((1, 0), (9, 8))],
-            &[],
-            &[(0, 0, 1), (9, 9, 1)],
-            false,
-        ),
-    ];
-    let mut gaps = Gaps::new(alloc);
-    for (edge, others, shared, stops, may_share) in cases {
-        let edge = segment(edge.0, edge.1)?;
-        let others = segments(alloc, others)?;
-        let told = fill(alloc, &mut gaps, &edge, others.as_slice())?;
-        assert!(rt;
-            told == may_share
-                && numbers(alloc, gaps.shared())?.as_slice() == shared
-                && numbers(alloc, gaps.stops())?.as_slice() == stops
-        );
+    let mut gaps = Gaps::new(rt.alloc());
+    for row in &GAPS {
+        assert!(rt; is_filled(rt.alloc(), &mut gaps, row)?);
     }
     Ok(())
 }

@@ -20,12 +20,12 @@ fn envelopes_of_positions(rt: HostRuntime) -> Result<(), Fail> {
     let up = (envelope.least_y(), envelope.greatest_y());
     assert!(rt; across == (-1, 3) && up == (-2, 7));
     let square = framed((0, 0), (4, 4))?;
-    for (a, b, wanted) in [
+    for (a, b, wanted) in &[
         ((4, 1), (6, 2), true),
         ((5, 0), (6, 4), false),
         ((1, -1), (2, 9), true),
     ] {
-        assert!(rt; meets(square, framed(a, b)?) == wanted);
+        assert!(rt; meets(square, framed(*a, *b)?) == *wanted);
     }
     Ok(())
 }
@@ -84,15 +84,15 @@ fn on_a_line(alloc: Global) -> Result<Vec<Option<Envelope>>, Fail> {
 fn opened_nodes(rt: HostRuntime) -> Result<(), Fail> {
     let envelopes = on_a_line(rt.alloc())?;
     let tree = RTree::build(rt.alloc(), envelopes.as_slice())?;
-    for (asked, opened) in [
-        (framed((0, 0), (4, 4))?, 3),
-        (framed((500, 500), (500, 500))?, 0),
-        (framed((8, 1), (9, 1))?, 4),
-        (framed((0, 0), (100, 9))?, 16),
-        (None, 0),
+    for (a, b, opened) in &[
+        ((0, 0), (4, 4), 3),
+        ((500, 500), (500, 500), 0),
+        ((8, 1), (9, 1), 4),
+        ((0, 0), (100, 9), 16),
     ] {
-        assert!(rt; tree.opened(asked) == opened);
+        assert!(rt; tree.opened(framed(*a, *b)?) == *opened);
     }
+    assert!(rt; tree.opened(None) == 0);
     let mut places = Vec::new(rt.alloc());
     tree.search(framed((0, 0), (4, 4))?, &mut places)?;
     assert!(rt; places.as_slice() == [96, 97, 98, 99].as_slice());

@@ -39,89 +39,94 @@ fn push_position(draws: &mut Draws, text: &mut String, alloc: Global) -> Result<
     text.push_str(draws.below(SIDE).to_string(alloc)?.as_str())
 }
 
-// Adds a list of so many positions.
-fn push_line(
+// Adds further positions to a list of one, until it has so many.
+fn push_others(
     draws: &mut Draws,
     text: &mut String,
     count: u64,
     alloc: Global,
 ) -> Result<(), AllocError> {
-    text.push_str("(")?;
-    push_position(draws, text, alloc)?;
     for _ in 1..count {
         text.push_str(",")?;
         push_position(draws, text, alloc)?;
     }
+    Ok(())
+}
+
+// Adds a beginning, a list of so many positions and its end.
+fn push_line(
+    draws: &mut Draws,
+    text: &mut String,
+    front: &str,
+    count: u64,
+    alloc: Global,
+) -> Result<(), AllocError> {
+    text.push_str(front)?;
+    push_position(draws, text, alloc)?;
+    push_others(draws, text, count, alloc)?;
     text.push_str(")")
 }
 
-// Adds a ring of so many positions, the closing one not counted.
+// Adds a beginning, a ring of so many positions, the closing one not counted, and the end of it and of its polygon.
 fn push_ring(
     draws: &mut Draws,
     text: &mut String,
+    front: &str,
     count: u64,
     alloc: Global,
 ) -> Result<(), AllocError> {
     let mut start = String::new(alloc);
     push_position(draws, &mut start, alloc)?;
-    text.push_str("(")?;
+    text.push_str(front)?;
     text.push_str(start.as_str())?;
-    for _ in 1..count {
-        text.push_str(",")?;
-        push_position(draws, text, alloc)?;
-    }
+    push_others(draws, text, count, alloc)?;
     text.push_str(",")?;
     text.push_str(start.as_str())?;
+    text.push_str("))")
+}
+
+// Adds two lines of drawn lengths.
+fn push_lines(draws: &mut Draws, text: &mut String, alloc: Global) -> Result<(), AllocError> {
+    let count = 2 + draws.below(3);
+    push_line(draws, text, "MULTILINESTRING((", count, alloc)?;
+    let count = 2 + draws.below(3);
+    push_line(draws, text, ",(", count, alloc)?;
     text.push_str(")")
 }
 
-// The text of a drawn geometry of a drawn type, which may be refused.
-fn drawn_text(draws: &mut Draws, alloc: Global) -> Result<String, AllocError> {
-    let mut text = String::new(alloc);
+// Adds two triangles.
+fn push_polygons(draws: &mut Draws, text: &mut String, alloc: Global) -> Result<(), AllocError> {
+    push_ring(draws, text, "MULTIPOLYGON(((", 3, alloc)?;
+    push_ring(draws, text, ",((", 3, alloc)?;
+    text.push_str(")")
+}
+
+// Adds a drawn geometry of a drawn type, which may be refused.
+fn push_drawn(draws: &mut Draws, text: &mut String, alloc: Global) -> Result<(), AllocError> {
     match draws.below(8) {
-        0 => {
-            text.push_str("POINT")?;
-            push_line(draws, &mut text, 1, alloc)?;
-        }
+        0 => push_line(draws, text, "POINT(", 1, alloc),
         1 => {
             let count = 1 + draws.below(5);
-            text.push_str("MULTIPOINT")?;
-            push_line(draws, &mut text, count, alloc)?;
+            push_line(draws, text, "MULTIPOINT(", count, alloc)
         }
         2 => {
             let count = 2 + draws.below(5);
-            text.push_str("LINESTRING")?;
-            push_line(draws, &mut text, count, alloc)?;
+            push_line(draws, text, "LINESTRING(", count, alloc)
         }
-        3 => {
-            text.push_str("MULTILINESTRING(")?;
-            let count = 2 + draws.below(3);
-            push_line(draws, &mut text, count, alloc)?;
-            text.push_str(",")?;
-            let count = 2 + draws.below(3);
-            push_line(draws, &mut text, count, alloc)?;
-            text.push_str(")")?;
-        }
+        3 => push_lines(draws, text, alloc),
         4 | 5 => {
             let count = 3 + draws.below(4);
-            text.push_str("POLYGON(")?;
-            push_ring(draws, &mut text, count, alloc)?;
-            text.push_str(")")?;
+            push_ring(draws, text, "POLYGON((", count, alloc)
         }
-        6 => {
-            text.push_str("POLYGON((-1 -1,5 -1,5 5,-1 5,-1 -1),")?;
-            push_ring(draws, &mut text, 3, alloc)?;
-            text.push_str(")")?;
-        }
-        _ => {
-            text.push_str("MULTIPOLYGON((")?;
-            push_ring(draws, &mut text, 3, alloc)?;
-            text.push_str("),(")?;
-            push_ring(draws, &mut text, 3, alloc)?;
-            text.push_str("))")?;
-        }
+        6 => push_ring(
+            draws,
+            text,
+            "POLYGON((-1 -1,5 -1,5 5,-1 5,-1 -1),(",
+            3,
+            alloc,
+        ),
+        _ => push_polygons(draws, text, alloc),
     }
-    Ok(text)
 }
 
 // How often a geometry is drawn until one is valid.
@@ -130,7 +135,8 @@ const DRAWS: u64 = 50;
 // A drawn geometry that is valid.
 fn drawn(draws: &mut Draws, alloc: Global) -> Result<Valid, Fail> {
     for _ in 0..DRAWS {
-        let text = drawn_text(draws, alloc)?;
+        let mut text = String::new(alloc);
+        push_drawn(draws, &mut text, alloc)?;
         if let Ok(geometry) = read(alloc, text.as_bytes()) {
             if let Ok(valid) = check(alloc, geometry) {
                 return Ok(valid);

@@ -6,17 +6,17 @@ use std::cmp::Ordering;
 
 #[test]
 fn a_position_is_within_the_limit(rt: HostRuntime) {
-    for (x, y, taken) in [
+    for (x, y, taken) in &[
         (10_000_000, -10_000_000, true),
         (10_000_001, 0, false),
         (0, -10_000_001, false),
         (i32::MIN, i32::MAX, false),
     ] {
-        let kept = match GridPoint::new(x, y) {
-            Some(position) => position.x() == x && position.y() == y,
+        let kept = match GridPoint::new(*x, *y) {
+            Some(position) => position.x() == *x && position.y() == *y,
             None => false,
         };
-        assert!(rt; kept == taken);
+        assert!(rt; kept == *taken);
     }
 }
 

@@ -55,8 +55,8 @@ fn named_predicates(rt: HostRuntime) -> Result<(), Fail> {
         let (first, second, wanted) = parts_of(row)?;
         let (matrix, first, second) = related(alloc, first, second, &mut Work::new())?;
         let mut told = String::new(alloc);
-        for (predicate, name) in NAMED {
-            if holds(predicate, first, second, &matrix) {
+        for (predicate, name) in &NAMED {
+            if holds(*predicate, first, second, &matrix) {
                 told.push_str(name)?;
             }
         }
@@ -89,7 +89,7 @@ fn patterns_match(rt: HostRuntime) -> Result<(), Fail> {
 
 #[test]
 fn patterns_are_read(rt: HostRuntime) {
-    for text in ["T*F**F**", "T*F**F****", "T*F**F**3", "T*F**F** ", ""] {
+    for text in &["T*F**F**", "T*F**F****", "T*F**F**3", "T*F**F** ", ""] {
         assert!(rt; Pattern::read(text).is_none());
     }
     assert!(rt; Pattern::read("t*f**f***") == Pattern::read("T*F**F***"));
@@ -97,12 +97,12 @@ fn patterns_are_read(rt: HostRuntime) {
 
 #[test]
 fn predicates_that_force_meeting(rt: HostRuntime) -> Result<(), Fail> {
-    for (predicate, name) in NAMED {
-        assert!(rt; predicate.forces_meeting() == (name != "disjoint,"));
+    for (predicate, name) in &NAMED {
+        assert!(rt; predicate.forces_meeting() == (*name != "disjoint,"));
     }
-    for (text, wanted) in [("****2****", true), ("**T**T222", false)] {
+    for (text, wanted) in &[("****2****", true), ("**T**T222", false)] {
         let pattern = Pattern::read(text).ok_or("no pattern")?;
-        assert!(rt; Predicate::Relate(pattern).forces_meeting() == wanted);
+        assert!(rt; Predicate::Relate(pattern).forces_meeting() == *wanted);
     }
     Ok(())
 }

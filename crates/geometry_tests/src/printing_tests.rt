@@ -29,7 +29,7 @@ fn shown(alloc: Global, text: &str) -> Result<Shown, Fail> {
 #[test]
 fn geometries_show_their_parts(rt: HostRuntime) -> Result<(), Fail> {
     use GeometryType::{LineString, MultiLineString, MultiPoint, MultiPolygon, Point, Polygon};
-    for (text, wanted) in [
+    for (text, wanted) in &[
         ("POINT(1 -2)", (Point, Kind::Point, false, 1, 0, 0)),
         ("POINT EMPTY", (Point, Kind::Point, true, 0, 0, 0)),
         (
@@ -60,7 +60,7 @@ fn geometries_show_their_parts(rt: HostRuntime) -> Result<(), Fail> {
             (MultiPolygon, Kind::Area, false, 0, 2, 3),
         ),
     ] {
-        assert!(rt; shown(rt.alloc(), text)? == wanted);
+        assert!(rt; shown(rt.alloc(), text)? == *wanted);
     }
     Ok(())
 }
@@ -81,14 +81,14 @@ fn a_failed_put_leaves_a_beginning(rt: HostRuntime) -> Result<(), Fail> {
 
 #[test]
 fn a_fault_of_reading_tells_of_the_text(rt: HostRuntime) {
-    for (fault, told) in [
+    for (fault, told) in &[
         (WktFault::Syntax(9), Some(TextFault::Syntax(9))),
         (WktFault::OffGrid(6), Some(TextFault::OffGrid(6))),
         (WktFault::OutOfRange(6), Some(TextFault::OutOfRange(6))),
         (WktFault::TooLong, Some(TextFault::TooLong)),
         (WktFault::OutOfMemory, None),
     ] {
-        assert!(rt; fault.text_fault() == told);
+        assert!(rt; fault.text_fault() == *told);
     }
     assert!(rt; WktFault::from(AllocError) == WktFault::OutOfMemory);
 }

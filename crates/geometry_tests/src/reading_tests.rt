@@ -14,7 +14,7 @@ fn reprinted(alloc: Global, text: &str) -> Result<MemorySink, Fail> {
 // Each canonical text is read as the same geometry as the text beside it.
 #[test]
 fn canonical_texts(rt: HostRuntime) -> Result<(), Fail> {
-    for (text, canonical) in [
+    for (text, canonical) in &[
         ("POINT(1 2)", "POINT(1 2)"),
         ("POINT(+1.00 01)", "POINT(1 1)"),
         ("POINT(1. .0)", "POINT(1 0)"),
@@ -52,7 +52,7 @@ fn canonical_texts(rt: HostRuntime) -> Result<(), Fail> {
         ),
         ("multipolygon empty", "MULTIPOLYGON EMPTY"),
     ] {
-        for spelled in [text, canonical] {
+        for spelled in [*text, *canonical] {
             assert!(rt; reprinted(rt.alloc(), spelled)?.bytes() == canonical.as_bytes());
         }
     }
@@ -61,7 +61,7 @@ fn canonical_texts(rt: HostRuntime) -> Result<(), Fail> {
 
 #[test]
 fn texts_that_are_refused(rt: HostRuntime) {
-    for (text, fault) in [
+    for (text, fault) in &[
         ("", WktFault::Syntax(0)),
         ("POIN", WktFault::Syntax(0)),
         ("  CIRCLE(1 2)", WktFault::Syntax(2)),
@@ -102,7 +102,7 @@ fn texts_that_are_refused(rt: HostRuntime) {
             WktFault::OutOfRange(13),
         ),
     ] {
-        assert!(rt; read(rt.alloc(), text.as_bytes()).err() == Some(fault));
+        assert!(rt; read(rt.alloc(), text.as_bytes()).err() == Some(*fault));
     }
 }
 
@@ -122,14 +122,16 @@ fn fault_of(
     Ok(read(alloc, text.as_slice()).err())
 }
 
+// The fault of a text of more positions or parts than there may be.
+const TOO_LONG: Option<WktFault> = Some(WktFault::TooLong);
+
 #[test]
 fn counted_positions_and_parts(rt: HostRuntime) -> Result<(), Fail> {
-    let too_long = Some(WktFault::TooLong);
-    for (front, item, count, rest, fault) in [
+    for (front, item, count, rest, fault) in &[
         ("MULTIPOINT(", "0 0,", 9_999, "0 0)", None),
-        ("MULTIPOINT(", "0 0,", 10_000, "0 0)", too_long),
-        ("MULTIPOINT(", "0 0,", 10_000, "1.5 0)", too_long),
-        ("MULTIPOINT(", "0 0,", 10_000, "(10000001 0))", too_long),
+        ("MULTIPOINT(", "0 0,", 10_000, "0 0)", TOO_LONG),
+        ("MULTIPOINT(", "0 0,", 10_000, "1.5 0)", TOO_LONG),
+        ("MULTIPOINT(", "0 0,", 10_000, "(10000001 0))", TOO_LONG),
         (
             "MULTIPOINT(",
             "0 0,",
@@ -138,19 +140,19 @@ fn counted_positions_and_parts(rt: HostRuntime) -> Result<(), Fail> {
             Some(WktFault::Syntax(40_011)),
         ),
         ("POLYGON(", "(0 0),", 999, "(0 0))", None),
-        ("POLYGON(", "(0 0),", 1_000, "(0 0))", too_long),
-        ("MULTIPOLYGON(", "((0 0)),", 1_000, "((1.5 0)))", too_long),
-        ("MULTILINESTRING(", "(0 0),", 1_000, "(", too_long),
+        ("POLYGON(", "(0 0),", 1_000, "(0 0))", TOO_LONG),
+        ("MULTIPOLYGON(", "((0 0)),", 1_000, "((1.5 0)))", TOO_LONG),
+        ("MULTILINESTRING(", "(0 0),", 1_000, "(", TOO_LONG),
         (
             "MULTILINESTRING((0 0),(",
             "0 0,",
             9_999,
             "1.5 0))",
-            too_long,
+            TOO_LONG,
         ),
     ] {
         let (front, item, rest) = (front.as_bytes(), item.as_bytes(), rest.as_bytes());
-        assert!(rt; fault_of(rt.alloc(), front, item, count, rest)? == fault);
+        assert!(rt; fault_of(rt.alloc(), front, item, *count, rest)? == *fault);
     }
     Ok(())
 }

@@ -16,7 +16,7 @@ fn kept(alloc: Global, text: &str, sink: &mut MemorySink) -> Result<(Kind, bool,
 
 #[test]
 fn points_and_lines_are_kept(rt: HostRuntime) -> Result<(), Fail> {
-    for (text, canonical, wanted) in [
+    for (text, canonical, wanted) in &[
         ("POINT EMPTY", "POINT EMPTY", (Kind::Point, true, 0)),
         ("POINT(1 2)", "POINT(1 2)", (Kind::Point, false, 0)),
         (
@@ -47,14 +47,14 @@ fn points_and_lines_are_kept(rt: HostRuntime) -> Result<(), Fail> {
     ] {
         let mut sink = MemorySink::new(rt.alloc());
         let told = kept(rt.alloc(), text, &mut sink)?;
-        assert!(rt; told == wanted && sink.bytes() == canonical.as_bytes());
+        assert!(rt; told == *wanted && sink.bytes() == canonical.as_bytes());
     }
     Ok(())
 }
 
 #[test]
 fn refusals_tell_the_fault(rt: HostRuntime) {
-    let cases = [
+    for (refusal, fault) in &[
         (
             CheckFault::TooFewPoints(3),
             Some(ValidityFault::TooFewPoints(3)),
@@ -88,8 +88,7 @@ fn refusals_tell_the_fault(rt: HostRuntime) {
             Some(ValidityFault::ElementInside(1, 0)),
         ),
         (CheckFault::OutOfMemory, None),
-    ];
-    for (refusal, fault) in cases {
-        assert!(rt; refusal.validity_fault() == fault);
+    ] {
+        assert!(rt; refusal.validity_fault() == *fault);
     }
 }
