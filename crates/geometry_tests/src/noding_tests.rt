@@ -57,22 +57,34 @@ fn common(alloc: Global, one: &Segment, other: &Segment) -> Result<String, Fail>
     Ok(told)
 }
 
-// The segment, and the same from its end to its start.
-fn both_ways(segment: Segment) -> Result<[Segment; 2], Fail> {
-    let turned = Segment::new(segment.end(), segment.start());
-    Ok([segment, turned.ok_or("equal ends")?])
+// The segment from its end to its start.
+fn turned(segment: &Segment) -> Result<Segment, Fail> {
+    Ok(Segment::new(segment.end(), segment.start()).ok_or("equal ends")?)
+}
+
+// Whether two segments have that in common, in either order.
+fn meet_as(alloc: Global, one: &Segment, other: &Segment, wanted: &str) -> Result<bool, Fail> {
+    let (told, told_back) = (common(alloc, one, other)?, common(alloc, other, one)?);
+    Ok(told.as_str() == wanted && told_back.as_str() == wanted)
+}
+
+// Whether two segments have that in common, each of them also from its end to its start.
+fn meet_either_way(alloc: Global, a: &Segment, b: &Segment, wanted: &str) -> Result<bool, Fail> {
+    let (a_turned, b_turned) = (turned(a)?, turned(b)?);
+    Ok(
+        meet_as(alloc, a, b, wanted)?
+            && meet_as(alloc, a, &b_turned, wanted)?
+            && meet_as(alloc, &a_turned, b, wanted)?
+            && meet_as(alloc, &a_turned, &b_turned, wanted)?,
+    )
 }
 
 #[test]
 fn meetings_either_way(rt: HostRuntime) -> Result<(), Fail> {
     for row in MEETINGS.lines() {
         let (first, second, wanted) = parts_of(row)?;
-        for one in both_ways(segment(first)?)? {
-            for other in both_ways(segment(second)?)? {
-                assert!(rt; common(rt.alloc(), &one, &other)?.as_str() == wanted);
-                assert!(rt; common(rt.alloc(), &other, &one)?.as_str() == wanted);
-            }
-        }
+        let (first, second) = (segment(first)?, segment(second)?);
+        assert!(rt; meet_either_way(rt.alloc(), &first, &second, wanted)?);
     }
     Ok(())
 }
@@ -93,18 +105,30 @@ fn noded(alloc: Global, segments: &[Segment], listed: &[GridPoint]) -> Result<St
     Ok(told)
 }
 
+// The segments of a list.
+fn segments_of(alloc: Global, lines: &str) -> Result<Vec<Segment>, Fail> {
+    let mut segments = Vec::new(alloc);
+    for line in lines.split("; ") {
+        segments.push(segment(line)?)?;
+    }
+    Ok(segments)
+}
+
+// The positions of a list.
+fn positions_of(alloc: Global, places: &str) -> Result<Vec<GridPoint>, Fail> {
+    let mut positions = Vec::new(alloc);
+    for place in places.split("; ") {
+        positions.push(position(place)?)?;
+    }
+    Ok(positions)
+}
+
 #[test]
 fn nodes_and_pieces_of_segments(rt: HostRuntime) -> Result<(), Fail> {
     for row in NODED.lines() {
         let (lines, places, wanted) = parts_of(row)?;
-        let mut segments = Vec::new(rt.alloc());
-        for line in lines.split("; ") {
-            segments.push(segment(line)?)?;
-        }
-        let mut listed = Vec::new(rt.alloc());
-        for place in places.split("; ") {
-            listed.push(position(place)?)?;
-        }
+        let segments = segments_of(rt.alloc(), lines)?;
+        let listed = positions_of(rt.alloc(), places)?;
         let told = noded(rt.alloc(), segments.as_slice(), listed.as_slice())?;
         assert!(rt; told.as_str() == wanted);
     }

@@ -151,16 +151,19 @@ fn by_labels(alloc: Global, first: &Valid, second: &Valid) -> Result<Matrix, Fai
     Ok(matrix_of_labels(&labels(alloc, first, second)?))
 }
 
+// Whether the matrix of two geometries that are drawn from a seed is that which their labels show.
+fn agree(alloc: Global, seed: u64) -> Result<bool, Fail> {
+    let mut draws = Draws { state: seed };
+    let first = drawn(&mut draws, alloc)?;
+    let second = drawn(&mut draws, alloc)?;
+    let matrix = relate(alloc, &first, &second, &mut Work::new())?;
+    Ok(matrix.text() == by_labels(alloc, &first, &second)?.text())
+}
+
 #[test]
 fn matrices_of_drawn_pairs(rt: HostRuntime) -> Result<(), Fail> {
-    let alloc = rt.alloc();
     for seed in 0..400 {
-        let mut draws = Draws { state: seed };
-        let first = drawn(&mut draws, alloc)?;
-        let second = drawn(&mut draws, alloc)?;
-        let matrix = relate(alloc, &first, &second, &mut Work::new())?;
-        let labelled = by_labels(alloc, &first, &second)?;
-        assert!(rt; matrix.text() == labelled.text());
+        assert!(rt; agree(rt.alloc(), seed)?);
     }
     Ok(())
 }

@@ -2,9 +2,10 @@
 
 use crate::rows::{parts_of, related};
 use de9im::{
-    Dimension, Location, MatrixPattern, Pattern, Predicate, SpatialPredicate, Work, holds,
+    Dimension, Location, Matrix, MatrixPattern, Pattern, Predicate, SpatialPredicate, Work, holds,
 };
-use std::alloc::Global;
+use geometry_model::Kind;
+use std::alloc::{AllocError, Global};
 use std::test::Fail;
 
 // The predicates, by the words of the tables.
@@ -48,19 +49,23 @@ const UNMATCHED: &str = "POINT(9 9) | POLYGON((0 0,4 0,4 4,0 4,0 0)) | T*F**F***
 POINT(1 1) | POLYGON((0 0,4 0,4 4,0 4,0 0)) | 0FFFFF211
 POINT EMPTY | POINT EMPTY | ********F";
 
+// The predicates that hold of two kinds of geometries by their matrix.
+fn told(alloc: Global, matrix: &Matrix, first: Kind, second: Kind) -> Result<String, AllocError> {
+    let mut told = String::new(alloc);
+    for (predicate, name) in &NAMED {
+        if holds(*predicate, first, second, matrix) {
+            told.push_str(name)?;
+        }
+    }
+    Ok(told)
+}
+
 #[test]
 fn named_predicates(rt: HostRuntime) -> Result<(), Fail> {
-    let alloc = rt.alloc();
     for row in HELD.lines() {
         let (first, second, wanted) = parts_of(row)?;
-        let (matrix, first, second) = related(alloc, first, second, &mut Work::new())?;
-        let mut told = String::new(alloc);
-        for (predicate, name) in &NAMED {
-            if holds(*predicate, first, second, &matrix) {
-                told.push_str(name)?;
-            }
-        }
-        assert!(rt; told.as_str() == wanted);
+        let (matrix, first, second) = related(rt.alloc(), first, second, &mut Work::new())?;
+        assert!(rt; told(rt.alloc(), &matrix, first, second)?.as_str() == wanted);
     }
     Ok(())
 }

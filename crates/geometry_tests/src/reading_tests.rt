@@ -11,6 +11,11 @@ fn reprinted(alloc: Global, text: &str) -> Result<MemorySink, Fail> {
     Ok(sink)
 }
 
+// Whether that is printed of the geometry that a text spells.
+fn is_printed(alloc: Global, text: &str, canonical: &str) -> Result<bool, Fail> {
+    Ok(reprinted(alloc, text)?.bytes() == canonical.as_bytes())
+}
+
 // Each canonical text is read as the same geometry as the text beside it.
 #[test]
 fn canonical_texts(rt: HostRuntime) -> Result<(), Fail> {
@@ -52,9 +57,8 @@ fn canonical_texts(rt: HostRuntime) -> Result<(), Fail> {
         ),
         ("multipolygon empty", "MULTIPOLYGON EMPTY"),
     ] {
-        for spelled in [*text, *canonical] {
-            assert!(rt; reprinted(rt.alloc(), spelled)?.bytes() == canonical.as_bytes());
-        }
+        assert!(rt; is_printed(rt.alloc(), text, canonical)?);
+        assert!(rt; is_printed(rt.alloc(), canonical, canonical)?);
     }
     Ok(())
 }
