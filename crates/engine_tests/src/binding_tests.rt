@@ -3,7 +3,7 @@
 use de9im::Work;
 use feature_table::{Database, Schema};
 use rtree::ListIndex;
-use spatial_sql::{Cond, Truth, bind, read_query, read_schema, value};
+use spatial_sql::{Bound, Cond, Truth, bind, read_query, read_schema, value};
 use std::alloc::Global;
 use std::test::Fail;
 
@@ -47,20 +47,36 @@ fn truths(
     Ok(truths)
 }
 
+// A query over the table, bound.
+fn bound(alloc: Global, text: &str, database: &Database<'_, ListIndex>) -> Result<Bound, Fail> {
+    let query = read_query(alloc, text)?;
+    Ok(bind(alloc, &query, database)?)
+}
+
+// The truths of the first conjunct of a query at the rows of the loaded table.
+fn truths_over(
+    alloc: Global,
+    text: &str,
+    database: &Database<'_, ListIndex>,
+    work: &mut Work,
+) -> Result<String, Fail> {
+    let bound = bound(alloc, text, database)?;
+    let cond = bound.conjuncts.get(0).ok_or("no conjunct")?;
+    truths(alloc, cond, database, work)
+}
+
 // The truths of the first conjunct of a query at the rows of the table.
 fn truths_of(alloc: Global, text: &str, work: &mut Work) -> Result<String, Fail> {
     let schema = read_schema(alloc, SCHEMA)?;
     let database = loaded(alloc, &schema)?;
-    let bound = bind(alloc, &read_query(alloc, text)?, &database)?;
-    let cond = bound.conjuncts.get(0).ok_or("no conjunct")?;
-    truths(alloc, cond, &database, work)
+    truths_over(alloc, text, &database, work)
 }
 
 /// The truth of a condition at each row, and how many matrices it takes. Of geometries they are a point inside, none, one
 /// outside, an empty one.
 #[test]
 fn truths_at_rows(rt: HostRuntime) -> Result<(), Fail> {
-    for (text, wanted, count) in [
+    for (text, wanted, count) in &[
         (
             "SELECT id FROM t WHERE NOT (pop > 5 AND NOT name = 'b')",
             "FTUU",
@@ -101,7 +117,7 @@ fn truths_at_rows(rt: HostRuntime) -> Result<(), Fail> {
     ] {
         let mut work = Work::new();
         let truths = truths_of(rt.alloc(), text, &mut work)?;
-        assert!(rt; truths.as_str() == wanted && work.count() == count);
+        assert!(rt; truths.as_str() == *wanted && work.count() == *count);
     }
     Ok(())
 }

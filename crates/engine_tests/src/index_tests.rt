@@ -1,6 +1,7 @@
 //! Runs over an index that hasn't the memory for each search: only a probe meets it, and what was found before stays put.
 
 use engine::{Fault, run};
+use feature_table::Schema;
 use rtree::{Envelope, EnvelopeIndex, ListIndex};
 use schema_reader::read_schema;
 use std::alloc::{AllocError, Global};
@@ -47,6 +48,24 @@ impl EnvelopeIndex for Starved {
     }
 }
 
+// Runs a query over the points, by their schema; what it puts is left in the sink.
+fn run_over(
+    alloc: Global,
+    schema: &Schema,
+    query: &str,
+    sink: &mut MemorySink,
+) -> Result<Result<u64, Fault>, Fail> {
+    if schema.tables().len() != 1 {
+        return Err(Fail::from("not one table"));
+    }
+    let mut readers = Vec::new(alloc);
+    readers.push(POINTS.as_bytes())?;
+    match run::<Starved, &[u8], MemorySink>(alloc, schema, readers, query, sink) {
+        Ok(work) => Ok(Ok(work.count())),
+        Err(fault) => Ok(Err(fault)),
+    }
+}
+
 // Runs a query over the points; what it puts is left in the sink.
 fn run_starved(
     alloc: Global,
@@ -54,15 +73,7 @@ fn run_starved(
     sink: &mut MemorySink,
 ) -> Result<Result<u64, Fault>, Fail> {
     let schema = read_schema(alloc, SCHEMA)?;
-    if schema.tables().len() != 1 {
-        return Err(Fail::from("not one table"));
-    }
-    let mut readers = Vec::new(alloc);
-    readers.push(POINTS.as_bytes())?;
-    match run::<Starved, &[u8], MemorySink>(alloc, &schema, readers, query, sink) {
-        Ok(work) => Ok(Ok(work.count())),
-        Err(fault) => Ok(Err(fault)),
-    }
+    run_over(alloc, &schema, query, sink)
 }
 
 /// A probe is refused with its search, which is made once the header was put; rows are put as they are found, those before
@@ -70,7 +81,7 @@ fn run_starved(
 /// answered is the number of matrices.
 #[test]
 fn plans_meet_their_index(rt: HostRuntime) -> Result<(), Fail> {
-    for (query, wanted, text) in [
+    for (query, wanted, text) in &[
         (
             "SELECT id FROM big WHERE ST_Intersects(geom, ST_GeomFromText('POLYGON((4 0,8 0,8 4,4 4,4 0))'))",
             Err(Fault::Memory),
@@ -95,7 +106,7 @@ fn plans_meet_their_index(rt: HostRuntime) -> Result<(), Fail> {
     ] {
         let mut sink = MemorySink::new(rt.alloc());
         let answer = run_starved(rt.alloc(), query, &mut sink)?;
-        assert!(rt; answer == wanted && sink.bytes() == text.as_bytes());
+        assert!(rt; answer == *wanted && sink.bytes() == text.as_bytes());
     }
     Ok(())
 }

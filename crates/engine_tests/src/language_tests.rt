@@ -8,7 +8,7 @@ use table_model::queries::{Explain, WrittenCond, WrittenGeometry, WrittenPredica
 /// The first fault of a text, with its byte.
 #[test]
 fn texts_are_taken_or_refused(rt: HostRuntime) {
-    for (text, fault) in [
+    for (text, fault) in &[
         ("SELECT id FROM t WHERE", Some(QueryFault::Syntax(22))),
         ("SELECT id -- c\n", Some(QueryFault::Syntax(15))),
         (
@@ -47,7 +47,7 @@ fn texts_are_taken_or_refused(rt: HostRuntime) {
             None,
         ),
     ] {
-        assert!(rt; read_query(rt.alloc(), text).err() == fault);
+        assert!(rt; read_query(rt.alloc(), text).err() == *fault);
     }
 }
 

@@ -84,24 +84,26 @@ fn first_run_loads(rt: HostRuntime) -> Result<(), Fail> {
     Ok(())
 }
 
+// Texts of tables, and what is wrong with each.
+const FAULTS: [(&[u8], Option<LoadFault>); 8] = [
+    (b"id,name\n", Some(LoadFault::MissingColumn)),
+    (b"id,pop,name,POP\n1\n", Some(LoadFault::DoubleHeader)),
+    (b"x,NAME,x,Pop,ID\n", None),
+    (b"id,pop,name\n1,2,\n2\n", Some(LoadFault::UnequalRecord(2))),
+    (b"id,pop,name\n1,2,\xff\n", Some(LoadFault::NotUtf8(1))),
+    (b"id,pop,name\n1,1.0,a\n", Some(LoadFault::BadInteger(1))),
+    (b"id,pop,name\n,x,a\n", Some(LoadFault::NullNotAllowed(1))),
+    (
+        b"id,pop,name\n1,,\n2,,\n1,,\n",
+        Some(LoadFault::DoubleKey(3)),
+    ),
+];
+
 #[test]
 fn each_fault(rt: HostRuntime) -> Result<(), Fail> {
     let schema = schema(rt.alloc())?;
-    let cases: [(&[u8], Option<LoadFault>); 8] = [
-        (b"id,name\n", Some(LoadFault::MissingColumn)),
-        (b"id,pop,name,POP\n1\n", Some(LoadFault::DoubleHeader)),
-        (b"x,NAME,x,Pop,ID\n", None),
-        (b"id,pop,name\n1,2,\n2\n", Some(LoadFault::UnequalRecord(2))),
-        (b"id,pop,name\n1,2,\xff\n", Some(LoadFault::NotUtf8(1))),
-        (b"id,pop,name\n1,1.0,a\n", Some(LoadFault::BadInteger(1))),
-        (b"id,pop,name\n,x,a\n", Some(LoadFault::NullNotAllowed(1))),
-        (
-            b"id,pop,name\n1,,\n2,,\n1,,\n",
-            Some(LoadFault::DoubleKey(3)),
-        ),
-    ];
-    for (text, want) in cases {
-        assert!(rt; loaded(rt.alloc(), &schema, text)?.err() == want);
+    for (text, want) in &FAULTS {
+        assert!(rt; loaded(rt.alloc(), &schema, text)?.err() == *want);
     }
     Ok(())
 }
@@ -133,22 +135,22 @@ fn shapes(alloc: Global) -> Result<Schema, Fail> {
 #[test]
 fn each_fault_of_a_geometry(rt: HostRuntime) -> Result<(), Fail> {
     let schema = shapes(rt.alloc())?;
-    let off_grid = GeometryFault::Text(TextFault::OffGrid(6));
-    let not_simple = GeometryFault::Invalid(ValidityFault::RingNotSimple(0));
-    let cases: [(&[u8], Option<LoadFault>); 4] = [
+    for (text, want) in &[
         (
-            b"id,geom\n1,POINT(1.5 2)\n",
-            Some(LoadFault::BadGeometry(1, off_grid)),
+            "id,geom\n1,POINT(1.5 2)\n",
+            Some(LoadFault::BadGeometry(1, GeometryFault::Text(TextFault::OffGrid(6)))),
         ),
         (
-            b"id,geom\n1,\n2,\"POLYGON((0 0,4 4,4 0,0 4,0 0))\"\n",
-            Some(LoadFault::BadGeometry(2, not_simple)),
+            "id,geom\n1,\n2,\"POLYGON((0 0,4 4,4 0,0 4,0 0))\"\n",
+            Some(LoadFault::BadGeometry(
+                2,
+                GeometryFault::Invalid(ValidityFault::RingNotSimple(0)),
+            )),
         ),
-        (b"id,geom\n1,POINT(1 2)\n", Some(LoadFault::WrongType(1))),
-        (b"id,geom\n1,\n2,POLYGON EMPTY\n", None),
-    ];
-    for (text, want) in cases {
-        assert!(rt; loaded(rt.alloc(), &schema, text)?.err() == want);
+        ("id,geom\n1,POINT(1 2)\n", Some(LoadFault::WrongType(1))),
+        ("id,geom\n1,\n2,POLYGON EMPTY\n", None),
+    ] {
+        assert!(rt; loaded(rt.alloc(), &schema, text.as_bytes())?.err() == *want);
     }
     Ok(())
 }

@@ -14,8 +14,8 @@ fn status_of(rt: &HostRuntime, words: &[&str]) -> u8 {
 
 #[test]
 fn run_has_its_three_words(rt: HostRuntime) -> Result<(), Fail> {
-    let words = ["sfq", "run", "--", "schema.sql", "data", "-- c"];
-    let given = order(rt.alloc(), words.as_slice()).ok().ok_or("an order")?;
+    let words = &["sfq", "run", "--", "schema.sql", "data", "-- c"];
+    let given = order(rt.alloc(), words).ok().ok_or("an order")?;
     let Order::Run { schema, query, .. } = &given else {
         return Err(Fail::from("run"));
     };
@@ -25,8 +25,8 @@ fn run_has_its_three_words(rt: HostRuntime) -> Result<(), Fail> {
 
 #[test]
 fn check_has_its_two_words(rt: HostRuntime) -> Result<(), Fail> {
-    let words = ["sfq", "check", "schema.sql", "data"];
-    let given = order(rt.alloc(), words.as_slice()).ok().ok_or("an order")?;
+    let words = &["sfq", "check", "schema.sql", "data"];
+    let given = order(rt.alloc(), words).ok().ok_or("an order")?;
     let Order::Check { schema, directory } = &given else {
         return Err(Fail::from("check"));
     };
@@ -36,8 +36,8 @@ fn check_has_its_two_words(rt: HostRuntime) -> Result<(), Fail> {
 
 #[test]
 fn relate_has_its_two_words(rt: HostRuntime) -> Result<(), Fail> {
-    let words = ["sfq", "relate", "POINT(1 2)", "MULTIPOINT((1 2),(3 4))"];
-    let given = order(rt.alloc(), words.as_slice()).ok().ok_or("an order")?;
+    let words = &["sfq", "relate", "POINT(1 2)", "MULTIPOINT((1 2),(3 4))"];
+    let given = order(rt.alloc(), words).ok().ok_or("an order")?;
     let Order::Relate { first, second } = &given else {
         return Err(Fail::from("relate"));
     };
@@ -45,17 +45,24 @@ fn relate_has_its_two_words(rt: HostRuntime) -> Result<(), Fail> {
     Ok(())
 }
 
-/// Help and the version end with 0, mistakes with 2, want of memory with 7.
+// Help and the version end with 0, mistakes with 2.
+const STATUSES: [(&[&str], u8); 8] = [
+    (&["sfq", "--version"], 0),
+    (&["sfq", "help", "relate"], 0),
+    (&["sfq"], 2),
+    (&["sfq", "relate", "POINT(1 1)"], 2),
+    (&["sfq", "run", "a", "b", "-- c"], 2),
+    (&["sfq", "check", "--help"], 0),
+    (&["sfq", "check", "a"], 2),
+    (&["sfq", "check", "a", "b", "c"], 2),
+];
+
+/// Help, mistakes, and want of memory, which ends with 7.
 #[test]
 fn statuses(rt: HostRuntime) {
-    assert!(rt; status_of(&rt, &["sfq", "--version"]) == 0);
-    assert!(rt; status_of(&rt, &["sfq", "help", "relate"]) == 0);
-    assert!(rt; status_of(&rt, &["sfq"]) == 2);
-    assert!(rt; status_of(&rt, &["sfq", "relate", "POINT(1 1)"]) == 2);
-    assert!(rt; status_of(&rt, &["sfq", "run", "a", "b", "-- c"]) == 2);
-    assert!(rt; status_of(&rt, &["sfq", "check", "--help"]) == 0);
-    assert!(rt; status_of(&rt, &["sfq", "check", "a"]) == 2);
-    assert!(rt; status_of(&rt, &["sfq", "check", "a", "b", "c"]) == 2);
+    for (words, status) in &STATUSES {
+        assert!(rt; status_of(&rt, words) == *status);
+    }
     assert!(rt; Misuse::from(AllocError).status() == 7);
 }
 
@@ -66,19 +73,34 @@ fn shown(rt: &HostRuntime, words: &[&str]) -> Result<String, Fail> {
     Ok(misuse.to_string(rt.alloc())?)
 }
 
-/// What is shown names the missing word, and help each word of a command; that of `run` shows a spatial query.
+// Whether a text has each of these parts.
+fn has_all(text: &str, parts: &[&str]) -> bool {
+    parts.iter().all(|part| text.contains(*part))
+}
+
+// Command lines that are no orders, and what is shown for each: the missing word, or each word of a command; the help of
+// `run` shows a spatial query.
+const SHOWN: [(&[&str], &[&str]); 4] = [
+    (&["sfq", "run", "a", "b"], &["<QUERY>"]),
+    (
+        &["sfq", "run", "--help"],
+        &[
+            "<SCHEMA> <DIR> <QUERY>",
+            "t.csv for table t",
+            "\n  SELECT name FROM parcel WHERE ST_Touches(geom, ST_GeomFromText('POINT(4 4)'))\n",
+        ],
+    ),
+    (&["sfq", "check", "a"], &["<DIR>"]),
+    (
+        &["sfq", "check", "--help"],
+        &["<SCHEMA> <DIR>\n", "how many rows each has"],
+    ),
+];
+
 #[test]
 fn texts_tell_what_each_word_is(rt: HostRuntime) -> Result<(), Fail> {
-    assert!(rt; shown(&rt, &["sfq", "run", "a", "b"])?.contains("<QUERY>"));
-    let help = shown(&rt, &["sfq", "run", "--help"])?;
-    assert!(rt; help.contains("<SCHEMA> <DIR> <QUERY>") && help.contains("t.csv for table t"));
-    assert!(rt;
-        help.contains(
-            "\n  SELECT name FROM parcel WHERE ST_Touches(geom, ST_GeomFromText('POINT(4 4)'))\n"
-        )
-    );
-    assert!(rt; shown(&rt, &["sfq", "check", "a"])?.contains("<DIR>"));
-    let help = shown(&rt, &["sfq", "check", "--help"])?;
-    assert!(rt; help.contains("<SCHEMA> <DIR>\n") && help.contains("how many rows each has"));
+    for (words, parts) in &SHOWN {
+        assert!(rt; has_all(shown(&rt, words)?.as_str(), parts));
+    }
     Ok(())
 }

@@ -112,7 +112,7 @@ id,name,geom
 
 // The text of the file at a path.
 fn text_at(path: &str) -> Option<&'static str> {
-    for (file, text) in [
+    for (file, text) in &[
         ("s", SCHEMA),
         ("d/owner.csv", OWNER),
         ("d/parcel.csv", PARCEL),
@@ -121,8 +121,8 @@ fn text_at(path: &str) -> Option<&'static str> {
         ("d/path.csv", PATH),
         ("d/well.csv", WELL),
     ] {
-        if path == file {
-            return Some(text);
+        if path == *file {
+            return Some(*text);
         }
     }
     None
@@ -157,7 +157,7 @@ fn the_tables_are_checked(rt: HostRuntime) -> Result<(), Fail> {
 
 #[test]
 fn questions_about_one_table(rt: HostRuntime) -> Result<(), Fail> {
-    let rows = [
+    let rows = &[
         (
             "SELECT id, name FROM parcel WHERE ST_Intersects(geom, ST_GeomFromText('POINT(6 2)'))",
             "id,name\n101,Mill\n102,Quay House\n",
@@ -186,13 +186,13 @@ fn questions_about_one_table(rt: HostRuntime) -> Result<(), Fail> {
             "id,name,since\n1,Alder family,1962\n3,O'Connor,1988\n",
         ),
     ];
-    assert!(rt; are_answered(rt.alloc(), &rows)?);
+    assert!(rt; are_answered(rt.alloc(), rows)?);
     Ok(())
 }
 
 #[test]
 fn questions_about_two_tables(rt: HostRuntime) -> Result<(), Fail> {
-    let rows = [
+    let rows = &[
         (
             "SELECT b.id, b.name FROM parcel a JOIN parcel b ON ST_Touches(a.geom, b.geom) WHERE a.id = 103",
             "b.id,b.name\n102,Quay House\n108,Boatyard\n",
@@ -236,13 +236,13 @@ fn questions_about_two_tables(rt: HostRuntime) -> Result<(), Fail> {
             "b.purpose,p.name\ndwelling,Quay House\n",
         ),
     ];
-    assert!(rt; are_answered(rt.alloc(), &rows)?);
+    assert!(rt; are_answered(rt.alloc(), rows)?);
     Ok(())
 }
 
 #[test]
 fn counts_and_first_rows(rt: HostRuntime) -> Result<(), Fail> {
-    let rows = [
+    let rows = &[
         (
             "SELECT COUNT(*) FROM well w JOIN parcel p ON ST_Touches(w.geom, p.geom)",
             "COUNT(*)\n7\n",
@@ -254,13 +254,13 @@ fn counts_and_first_rows(rt: HostRuntime) -> Result<(), Fail> {
              104,\"POLYGON((0 6,8 6,8 14,0 14,0 6),(2 8,6 8,6 12,2 12,2 8))\"\n",
         ),
     ];
-    assert!(rt; are_answered(rt.alloc(), &rows)?);
+    assert!(rt; are_answered(rt.alloc(), rows)?);
     Ok(())
 }
 
 #[test]
 fn plans_are_told(rt: HostRuntime) -> Result<(), Fail> {
-    let rows = [
+    let rows = &[
         (
             "EXPLAIN SELECT b.purpose, p.name FROM building b JOIN parcel p ON ST_Within(b.geom, p.geom) \
              WHERE b.built > 1900",
@@ -272,6 +272,6 @@ fn plans_are_told(rt: HostRuntime) -> Result<(), Fail> {
             "cost 36\nouter b scan\ninner p probe 1\nfilter 2 1\nwork 6\n",
         ),
     ];
-    assert!(rt; are_answered(rt.alloc(), &rows)?);
+    assert!(rt; are_answered(rt.alloc(), rows)?);
     Ok(())
 }

@@ -10,7 +10,25 @@ use spatial_sql::{bind, read_query, read_schema};
 use std::alloc::Global;
 use std::test::Fail;
 
-// The first row of a query over tables of these texts, and the work after it, from a start of 0.
+// The first row of a query over loaded tables, and the work after it, from a start of 0.
+fn first_of(
+    alloc: Global,
+    database: &Database<'_, RTree>,
+    query: &str,
+) -> Result<(Option<RowPair>, u64), Fail> {
+    let query = read_query(alloc, query)?;
+    let bound = bind(alloc, &query, database)?;
+    let plan = choose(alloc, database, &bound)?;
+    let mut rows = Rows::new(alloc, database, &bound, &plan, Work::new());
+    let first = match rows.next() {
+        Some(row) => Some(row?),
+        None => None,
+    };
+    let work = rows.work().count();
+    Ok((first, work))
+}
+
+// The first row of a query over tables of these texts, and the work after it.
 fn first_row(
     alloc: Global,
     schema: &str,
@@ -22,41 +40,35 @@ fn first_row(
         return Err(Fail::from("not a text for each table"));
     }
     let database: Database<'_, RTree> = Database::load(alloc, &schema, texts)?;
-    let query = read_query(alloc, query)?;
-    let bound = bind(alloc, &query, &database)?;
-    let plan = choose(alloc, &database, &bound)?;
-    let mut rows = Rows::new(alloc, &database, &bound, &plan, Work::new());
-    let first = match rows.next() {
-        Some(row) => Some(row?),
-        None => None,
-    };
-    let work = rows.work().count();
-    Ok((first, work))
+    first_of(alloc, &database, query)
 }
 
-/// Where rows come as they are found, the first takes the work of the candidates up to it; where they are put in order
-/// first, all.
+/// Where rows come as they are found, the first takes the work of the candidates up to it.
 #[test]
-fn work_after_the_first_row(rt: HostRuntime) -> Result<(), Fail> {
-    let alloc = rt.alloc();
-    let points = points_up_to(alloc, 100)?;
+fn work_after_a_row_that_is_found(rt: HostRuntime) -> Result<(), Fail> {
+    let points = points_up_to(rt.alloc(), 100)?;
     let query = "SELECT id FROM big WHERE id > 99 OR ST_Intersects(geom, $S)";
-    let query = query.replace(alloc, "$S", SQUARE)?;
-    let texts = vec![in alloc; points.as_bytes()]?;
-    let (row, work) = first_row(alloc, POINTS_SCHEMA, texts, query.as_str())?;
+    let query = query.replace(rt.alloc(), "$S", SQUARE)?;
+    let texts = vec![in rt.alloc(); points.as_bytes()]?;
+    let (row, work) = first_row(rt.alloc(), POINTS_SCHEMA, texts, query.as_str())?;
     let wanted = RowPair {
         first: 0,
         second: None,
     };
-    assert!(rt; row == Some(wanted));
-    assert!(rt; work == 1);
-    let texts = vec![in alloc; points.as_bytes(), SQUARES.as_bytes()]?;
-    let (row, work) = first_row(alloc, TWO_SCHEMA, texts, JOINED)?;
+    assert!(rt; row == Some(wanted) && work == 1);
+    Ok(())
+}
+
+/// Where rows are put in order first, the first takes all the work.
+#[test]
+fn work_after_a_row_in_order(rt: HostRuntime) -> Result<(), Fail> {
+    let points = points_up_to(rt.alloc(), 100)?;
+    let texts = vec![in rt.alloc(); points.as_bytes(), SQUARES.as_bytes()]?;
+    let (row, work) = first_row(rt.alloc(), TWO_SCHEMA, texts, JOINED)?;
     let wanted = RowPair {
         first: 0,
         second: Some(0),
     };
-    assert!(rt; row == Some(wanted));
-    assert!(rt; work == 8);
+    assert!(rt; row == Some(wanted) && work == 8);
     Ok(())
 }

@@ -7,7 +7,7 @@ use std::test::Fail;
 /// The first fault of a schema, with its byte.
 #[test]
 fn faults_of_schemas(rt: HostRuntime) {
-    for (text, wanted) in [
+    for (text, wanted) in &[
         ("create table t (a int primary key); -- the end", None),
         (
             "CREATE TABLE t (a TEXT NOT NULL, b BIGINT NOT NULL PRIMARY KEY)",
@@ -40,7 +40,7 @@ fn faults_of_schemas(rt: HostRuntime) {
             Some(SchemaFault::TwoKeys(41)),
         ),
     ] {
-        assert!(rt; read_schema(rt.alloc(), text.as_bytes()).err() == wanted);
+        assert!(rt; read_schema(rt.alloc(), text.as_bytes()).err() == *wanted);
     }
 }
 

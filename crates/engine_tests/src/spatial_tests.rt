@@ -41,8 +41,12 @@ const SQUARES_PAIRED: &str = "a.id,a.geom,b.id,b.geom
 2,\"POLYGON((4 0,8 0,8 4,4 4,4 0))\",2,\"POLYGON((4 0,8 0,8 4,4 4,4 0))\"
 ";
 
+// What `$J` stands for in a query.
 pub(crate) const JOINED: &str =
     "SELECT b.id, s.id FROM big b JOIN sq s ON ST_Intersects(b.geom, s.geom) WHERE b.id <> 2";
+
+// What it prints, of ten points and of more.
+const JOINED_ROWS: &str = "b.id,s.id\n1,1\n3,1\n4,1\n4,2\n5,2\n6,2\n7,2\n8,2\n";
 
 // The files of a command: a schema, and the texts of its tables, where they are there.
 #[derive(Clone, Copy)]
@@ -129,7 +133,7 @@ fn files_of<'a>(schema: &'a str) -> Files<'a> {
 fn geometries_stand_in_rows(rt: HostRuntime) -> Result<(), Fail> {
     let mut files = files_of(MIXED_SCHEMA);
     files.mixed = MIXED;
-    let rows = [
+    let rows = &[
         ("SELECT id FROM t WHERE NOT ST_Within(geom, $S)", "id\n3\n"),
         (
             "SELECT id FROM t WHERE NOT ST_Within(geom, $S) OR geom IS NULL",
@@ -141,7 +145,7 @@ fn geometries_stand_in_rows(rt: HostRuntime) -> Result<(), Fail> {
             "id,pop,geom\n1,2,POINT(1 1)\n2,7,\n3,9,POINT(9 9)\n",
         ),
     ];
-    assert!(rt; are_answered(rt.alloc(), &files, &rows)?);
+    assert!(rt; are_answered(rt.alloc(), &files, rows)?);
     Ok(())
 }
 
@@ -151,8 +155,7 @@ fn points_are_found(rt: HostRuntime) -> Result<(), Fail> {
     let points = points_up_to(rt.alloc(), 100)?;
     let mut files = files_of(POINTS_SCHEMA);
     files.points = points.as_str();
-    let apart = keys_between(rt.alloc(), 5, 100)?;
-    let rows = [
+    let rows = &[
         (
             "SELECT id FROM big WHERE ST_Intersects(geom, $S)",
             "id\n1\n2\n3\n4\n",
@@ -160,10 +163,6 @@ fn points_are_found(rt: HostRuntime) -> Result<(), Fail> {
         (
             "SELECT id FROM big WHERE id > 99 OR ST_Intersects(geom, $S)",
             "id\n1\n2\n3\n4\n100\n",
-        ),
-        (
-            "SELECT id FROM big WHERE ST_Disjoint(geom, $S)",
-            apart.as_str(),
         ),
         (
             "SELECT id FROM big WHERE id > 99 OR ST_Intersects(geom, $S) LIMIT 2",
@@ -176,7 +175,19 @@ fn points_are_found(rt: HostRuntime) -> Result<(), Fail> {
         ("SELECT id FROM big LIMIT 0", "id\n"),
         ("SELECT COUNT(*) FROM big LIMIT 0", "COUNT(*)\n"),
     ];
-    assert!(rt; are_answered(rt.alloc(), &files, &rows)?);
+    assert!(rt; are_answered(rt.alloc(), &files, rows)?);
+    Ok(())
+}
+
+/// All points but those that meet a square.
+#[test]
+fn points_apart_are_found(rt: HostRuntime) -> Result<(), Fail> {
+    let points = points_up_to(rt.alloc(), 100)?;
+    let mut files = files_of(POINTS_SCHEMA);
+    files.points = points.as_str();
+    let query = "SELECT id FROM big WHERE ST_Disjoint(geom, $S)";
+    let apart = keys_between(rt.alloc(), 5, 100)?;
+    assert!(rt; run_over(rt.alloc(), &files, query)?.is(apart.as_str(), "", 0));
     Ok(())
 }
 
@@ -186,7 +197,7 @@ fn plans_are_told(rt: HostRuntime) -> Result<(), Fail> {
     let points = points_up_to(rt.alloc(), 100)?;
     let mut files = files_of(POINTS_SCHEMA);
     files.points = points.as_str();
-    let rows = [
+    let rows = &[
         (
             "EXPLAIN SELECT id FROM big WHERE ST_Intersects(geom, $S)",
             "cost 14\nouter big probe 1\nfilter 1\n",
@@ -224,7 +235,7 @@ fn plans_are_told(rt: HostRuntime) -> Result<(), Fail> {
             "cost 14\nouter big probe 1\nfilter 1\ncount\nwork 4\n",
         ),
     ];
-    assert!(rt; are_answered(rt.alloc(), &files, &rows)?);
+    assert!(rt; are_answered(rt.alloc(), &files, rows)?);
     Ok(())
 }
 
@@ -233,7 +244,7 @@ fn plans_are_told(rt: HostRuntime) -> Result<(), Fail> {
 fn squares_touch(rt: HostRuntime) -> Result<(), Fail> {
     let mut files = files_of(SQUARES_SCHEMA);
     files.squares = SQUARES;
-    let rows = [
+    let rows = &[
         (
             "SELECT a.id, b.id FROM sq a, sq b WHERE ST_Touches(a.geom, b.geom)",
             "a.id,b.id\n1,2\n2,1\n",
@@ -252,7 +263,7 @@ fn squares_touch(rt: HostRuntime) -> Result<(), Fail> {
         ),
         ("SELECT * FROM sq a CROSS JOIN sq b", SQUARES_PAIRED),
     ];
-    assert!(rt; are_answered(rt.alloc(), &files, &rows)?);
+    assert!(rt; are_answered(rt.alloc(), &files, rows)?);
     Ok(())
 }
 
@@ -271,35 +282,29 @@ fn few_rows_are_scanned(rt: HostRuntime) -> Result<(), Fail> {
 /// Two tables of which the second is the outer one: the rows come by the first's key, also under LIMIT.
 #[test]
 fn points_are_joined_with_squares(rt: HostRuntime) -> Result<(), Fail> {
-    let points = points_up_to(rt.alloc(), 10)?;
-    let many = points_up_to(rt.alloc(), 100)?;
-    let limited = JOINED.replace(rt.alloc(), "b.id <> 2", "b.id <> 2 LIMIT 1")?;
-    let told = JOINED.replace(rt.alloc(), "SELECT", "EXPLAIN ANALYZE SELECT")?;
-    let told_limited = limited.replace(rt.alloc(), "SELECT", "EXPLAIN ANALYZE SELECT")?;
-    let rows = "b.id,s.id\n1,1\n3,1\n4,1\n4,2\n5,2\n6,2\n7,2\n8,2\n";
-    let plan = "cost 30\nouter s scan\ninner b probe 1\nfilter 2 1\nwork 8\n";
-    let plan_limited = "cost 30\nouter s scan\ninner b probe 1\nfilter 2 1\nlimit 1\nwork 8\n";
-    for (text, squares, query, out) in [
-        (points.as_str(), SQUARES, JOINED, rows),
-        (many.as_str(), SQUARES, JOINED, rows),
-        (many.as_str(), SQUARES, told.as_str(), plan),
+    for (count, squares, query, out) in &[
+        (10, SQUARES, "$J", JOINED_ROWS),
+        (100, SQUARES, "$J", JOINED_ROWS),
         (
-            many.as_str(),
-            SQUARES_EXCHANGED,
-            limited.as_str(),
-            "b.id,s.id\n1,2\n",
+            100,
+            SQUARES,
+            "EXPLAIN ANALYZE $J",
+            "cost 30\nouter s scan\ninner b probe 1\nfilter 2 1\nwork 8\n",
         ),
+        (100, SQUARES_EXCHANGED, "$J LIMIT 1", "b.id,s.id\n1,2\n"),
         (
-            many.as_str(),
+            100,
             SQUARES_EXCHANGED,
-            told_limited.as_str(),
-            plan_limited,
+            "EXPLAIN ANALYZE $J LIMIT 1",
+            "cost 30\nouter s scan\ninner b probe 1\nfilter 2 1\nlimit 1\nwork 8\n",
         ),
     ] {
+        let points = points_up_to(rt.alloc(), *count)?;
+        let query = query.replace(rt.alloc(), "$J", JOINED)?;
         let mut files = files_of(TWO_SCHEMA);
-        files.points = text;
-        files.squares = squares;
-        assert!(rt; run_over(rt.alloc(), &files, query)?.is(out, "", 0));
+        files.points = points.as_str();
+        files.squares = *squares;
+        assert!(rt; run_over(rt.alloc(), &files, query.as_str())?.is(out, "", 0));
     }
     Ok(())
 }
@@ -309,7 +314,7 @@ fn points_are_joined_with_squares(rt: HostRuntime) -> Result<(), Fail> {
 fn empty_geometries_are_equal(rt: HostRuntime) -> Result<(), Fail> {
     let mut files = files_of(EMPTY_SCHEMA);
     files.empty = EMPTY;
-    let rows = [
+    let rows = &[
         (
             "SELECT id FROM e WHERE ST_Equals(geom, ST_GeomFromText('MULTIPOINT EMPTY'))",
             "id\n1\n2\n5\n",
@@ -319,18 +324,19 @@ fn empty_geometries_are_equal(rt: HostRuntime) -> Result<(), Fail> {
             "cost 4\nouter e probe 1\nfilter 1\nwork 3\n",
         ),
     ];
-    assert!(rt; are_answered(rt.alloc(), &files, &rows)?);
+    assert!(rt; are_answered(rt.alloc(), &files, rows)?);
     Ok(())
 }
+
+const FUNCTIONS: &str = "SELECT ST_AsText(geom), ST_Dimension(geom), ST_IsEmpty(geom) FROM e";
 
 /// Functions of the select list; of NULL each is an empty field.
 #[test]
 fn functions_are_printed(rt: HostRuntime) -> Result<(), Fail> {
-    let functions = "SELECT ST_AsText(geom), ST_Dimension(geom), ST_IsEmpty(geom) FROM e";
-    for (table, query, out) in [
+    for (table, query, out) in &[
         (
             "id,geom\n1,\"multipoint ( 1 2 , 3 4.0 )\"\n",
-            functions,
+            FUNCTIONS,
             "ST_AsText(geom),ST_Dimension(geom),ST_IsEmpty(geom)\n\"MULTIPOINT((1 2),(3 4))\",0,0\n",
         ),
         (
@@ -340,12 +346,12 @@ fn functions_are_printed(rt: HostRuntime) -> Result<(), Fail> {
         ),
         (
             "id,geom\n1,polygon empty\n2,\n",
-            functions,
+            FUNCTIONS,
             "ST_AsText(geom),ST_Dimension(geom),ST_IsEmpty(geom)\nPOLYGON EMPTY,2,1\n,,\n",
         ),
     ] {
         let mut files = files_of(EMPTY_SCHEMA);
-        files.empty = table;
+        files.empty = *table;
         assert!(rt; run_over(rt.alloc(), &files, query)?.is(out, "", 0));
     }
     Ok(())
@@ -354,7 +360,7 @@ fn functions_are_printed(rt: HostRuntime) -> Result<(), Fail> {
 /// What is refused of a table and of a query, each with its line.
 #[test]
 fn rows_and_queries_are_refused(rt: HostRuntime) -> Result<(), Fail> {
-    for (table, query, out, line, status) in [
+    for (table, query, out, line, status) in &[
         ("id,pop,geom\n", "SELECT id FROM t", "id\n", "", 0),
         (
             "id,pop,geom\n1,,\n2,,\n1,,\n",
@@ -405,8 +411,8 @@ fn rows_and_queries_are_refused(rt: HostRuntime) -> Result<(), Fail> {
         ),
     ] {
         let mut files = files_of(MIXED_SCHEMA);
-        files.mixed = table;
-        assert!(rt; run_over(rt.alloc(), &files, query)?.is(out, line, status));
+        files.mixed = *table;
+        assert!(rt; run_over(rt.alloc(), &files, query)?.is(out, line, *status));
     }
     Ok(())
 }
