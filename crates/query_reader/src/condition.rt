@@ -15,10 +15,9 @@ use sql_tokens::cursor::Cursor;
 use sqlite_items::{Boxed, Items};
 use std::alloc::Global;
 use table_model::faults::QueryFault;
+pub(crate) use table_model::queries::WrittenCond as CondOf;
 use table_model::queries::WrittenGeometry;
 use table_model::tokens::TokenKind;
-
-pub(crate) use table_model::queries::WrittenCond as CondOf;
 
 pub(crate) type WrittenCond<'a> = CondOf<'a, WrittenGeometry<'a>>;
 
@@ -88,11 +87,7 @@ fn keep<T: Drop>(parts: &mut Items<T>, read: Result<T, QueryFault>) -> Result<()
 }
 
 /// Reads the word between parts where a part was read and the word follows, and tells whether it does.
-fn goes_on<T>(
-    tokens: &mut Cursor<'_, '_>,
-    read: &Result<T, QueryFault>,
-    between: TokenKind,
-) -> bool
+fn goes_on<T>(tokens: &mut Cursor<'_, '_>, read: &Result<T, QueryFault>, between: TokenKind) -> bool
     ensures ok { IfOk read.now (λ _. (result ≡ steps.sees between tokens.old) × (tokens.new ≡ steps.after between tokens.old)) }
     ensures err { IfErr read.now (λ _. result ≡ false) }
 {

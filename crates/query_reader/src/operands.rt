@@ -12,9 +12,8 @@ use crate::terminals::{calls, column, expect, refuse, string};
 use sql_tokens::cursor::Cursor;
 use table_model::faults::QueryFault;
 use table_model::queries::WrittenGeometry;
-use table_model::tokens::TokenKind;
-
 pub(crate) use table_model::queries::WrittenOperand as OperandOf;
+use table_model::tokens::TokenKind;
 
 pub(crate) type WrittenOperand<'a> = OperandOf<'a, WrittenGeometry<'a>>;
 
