@@ -6,7 +6,8 @@ side), the parcels against themselves by ST_Touches, and lines by ST_Crosses acr
 1,000) and across the parcels (300 to 30,000). Each run is one process: start, load, index, answer. It compares the answers, and
 prints a Markdown table: the processor time of each, its start-up left out (its run over tables without rows), the ratio to each
 peer and to the best, the exponent by which the time of `sfq` grows in rows of the first table, and peak memory. Times are the
-least of several runs. The peers don't test validity.
+least of several runs. Under `--instructions` it counts the instructions of `sfq` and of GEOS instead, by valgrind. The peers
+don't test validity.
 
 It needs Python's standard library, the built program (run ./sfq once), and from the distribution's packages `gcc`,
 `libgeos-dev`, `sqlite3` and `libsqlite3-mod-spatialite`. It is no test: the gate doesn't run it.
@@ -19,7 +20,7 @@ import random
 import tempfile
 from typing import Callable, NamedTuple, Optional
 
-from peers import Comparison, build_geos, is_ready, print_table_heads, spatialite_command
+from peers import Comparison, add_options, build_geos, is_ready, print_table_heads, spatialite_command
 from timing import PROGRAM
 
 SPAN = 1_000_000
@@ -153,25 +154,25 @@ def make_tables(folder, case, size):
 
 def main():
     parser = argparse.ArgumentParser(description=__doc__.splitlines()[0])
-    parser.add_argument("--repeats", type=int, default=9, help="runs of each command (9)")
+    add_options(parser)
     parser.add_argument("--only", default="", help="the joins whose name has this word")
     options = parser.parse_args()
     is_ready()
     with tempfile.TemporaryDirectory() as name:
         geos = build_geos(pathlib.Path(name))
-        print_table_heads("joins")
+        print_table_heads("joins", options)
         for number, case in enumerate(CASES):
             if options.only in case.label:
                 folder = pathlib.Path(name) / str(number)
                 folder.mkdir()
-                measure_case(case, geos, folder, options.repeats)
+                measure_case(case, geos, folder, options)
 
 
-def measure_case(case, geos, folder, repeats):
+def measure_case(case, geos, folder, options):
     """Measures a join at its sizes, and prints its rows."""
     runs = commands(geos, case.predicate, "first" if case.second is None else "second")
     make_tables(folder / "bare", case, None)
-    comparison = Comparison(runs, folder / "bare", repeats)
+    comparison = Comparison(runs, folder / "bare", options)
     for size in case.sizes:
         tables = folder / str(size[0])
         first, second = make_tables(tables, case, size)

@@ -4,10 +4,14 @@ import pathlib
 import shutil
 import subprocess
 import sys
+import time
 
-from timing import PROGRAM, best, exponent, figure, print_columns, print_heads, ratios
+from timing import PROGRAM, exponent, figure, instructions, measure, print_columns, print_heads, ratios
 
 TABLES = pathlib.Path(__file__).resolve().parent / "geos_tables.c"
+
+# A row is measured for as many seconds at the least, so that short runs are measured often.
+SECONDS = 8
 
 
 def is_ready():
@@ -36,8 +40,17 @@ def spatialite_command(tables, *statements):
     return ["sqlite3", ":memory:", *script, *made, ".headers on", ".separator , \\n", answer]
 
 
-def print_table_heads(title):
+def add_options(parser):
+    """The options that the measures share."""
+    parser.add_argument("--repeats", type=int, default=9, help="runs of each command (9)")
+    parser.add_argument("--instructions", action="store_true", help="count instructions of sfq and GEOS in place of time")
+
+
+def print_table_heads(title, options):
     """Prints the heads of the columns that a comparison's rows have."""
+    if options.instructions:
+        print_heads([title, "sfq, millions", "GEOS, millions", "ratio", "growth"])
+        return
     peers = ["SpatiaLite ms", "ratio", "GEOS ms", "ratio", "to the best"]
     print_heads([title, "sfq ms", *peers, "growth", "sfq, SpatiaLite, GEOS MB"])
 
@@ -45,19 +58,49 @@ def print_table_heads(title):
 class Comparison:
     """The rows of a case, from size to size: `sfq` beside its peers, each in one process, start-up left out."""
 
-    def __init__(self, commands, bare, repeats):
-        """Takes the start-up of each program: its run in a folder with tables without rows, whose noise counts in each row."""
-        self.repeats = repeats
-        self.start = {who: best(command, bare, 3 * repeats)[1] for who, command in commands.items()}
+    def __init__(self, commands, bare, options):
+        """Takes the commands that run in a folder with tables without rows, which is the start-up of each program."""
+        self.starts, self.bare, self.options = commands, bare, options
         self.before = None
 
+    def measured(self, commands, folder):
+        """Of each program the processor seconds of its start-up and of its command, and peak kilobytes. Times are the least of
+        several runs, more of short ones, the programs in turn and each start-up beside its command, so that what else
+        runs on the machine meets all of them."""
+        starts, times, peaks = ({who: [] for who in commands} for _ in range(3))
+        begun = time.monotonic()
+        turns = 0
+        while turns < self.options.repeats or time.monotonic() < begun + SECONDS:
+            for who, command in commands.items():
+                starts[who].append(measure(self.starts[who], self.bare)[1])
+                _, processor, peak = measure(command, folder)
+                times[who].append(processor)
+                peaks[who].append(peak)
+            turns += 1
+        return {who: (min(starts[who]), min(times[who]), max(peaks[who])) for who in commands}
+
+    def counted(self, who, commands, folder):
+        """The instructions of a program's command beyond its start-up, in millions."""
+        return (instructions(commands[who], folder) - instructions(self.starts[who], self.bare)) / 1e6
+
     def print_row(self, label, rows, commands, folder):
-        """Measures each command in a folder, and prints processor times, ratios, the exponent of growth in rows, and memory."""
+        """Measures each command in a folder, and prints what was asked for."""
+        if self.options.instructions:
+            ours, theirs = (self.counted(who, commands, folder) for who in ("sfq", "geos"))
+            growth = exponent(self.before, (rows, ours))
+            print_columns([label, figure(ours), figure(theirs), f"{ours / theirs:.2g}", growth])
+            self.before = rows, ours
+        else:
+            self.print_times(label, rows, commands, folder)
+
+    def print_times(self, label, rows, commands, folder):
+        """Prints processor times, ratios, the exponent of growth in rows, and memory, and compares the answers."""
         times, peaks, answers = {}, [], {}
-        for who, command in commands.items():
-            _, processor, peak, _ = best(command, folder, self.repeats)
-            times[who] = max(processor - self.start[who], 1e-5) * 1e3
+        for who, (start, processor, peak) in self.measured(commands, folder).items():
+            times[who] = max(processor - start, 1e-5) * 1e3
             peaks.append(f"{peak / 1024:.0f}")
+        for who, command in commands.items():
+            measure(command, folder)
             answers[who] = set((folder / "output").read_text().splitlines()[1:])
         ours, *peers = times.values()
         growth = exponent(self.before, (rows, ours))

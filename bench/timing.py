@@ -3,6 +3,8 @@
 import math
 import os
 import pathlib
+import re
+import shutil
 import subprocess
 import sys
 
@@ -41,6 +43,18 @@ def best(command, folder, repeats):
     with open(folder / "output", "rb") as output:
         lines = sum(1 for _ in output)
     return min(r[0] for r in runs), min(r[1] for r in runs), max(r[2] for r in runs), lines
+
+
+def instructions(command, folder):
+    """How many instructions a command takes, as valgrind counts them: the same whatever else runs on the machine."""
+    if shutil.which("valgrind") is None:
+        sys.exit("valgrind isn't installed: apt-get install valgrind")
+    counting = ["valgrind", "--tool=cachegrind", "--cache-sim=no", f"--cachegrind-out-file={os.devnull}"]
+    with open(os.devnull) as given, open(folder / "output", "wb") as output:
+        ran = subprocess.run(
+            [*counting, *map(str, command)], cwd=folder, stdin=given, stdout=output, stderr=subprocess.PIPE, text=True, check=True
+        )
+    return int(re.search(r"I +refs: +([\d,]+)", ran.stderr)[1].replace(",", ""))
 
 
 def exponent(before, now):

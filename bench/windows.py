@@ -6,8 +6,8 @@ found by `sfq run`, by `sqlite3` with SpatiaLite importing the same CSV into mem
 reads the same CSV (`geos_tables.c`, the polygon prepared). Each run is one process: start, load, answer. It compares
 the answers, and prints a Markdown table: the processor time of each, its start-up left out (its run over a table without
 rows, beside a polygon of 5 positions), the ratio to each peer and to the best, the exponent by which the time of `sfq`
-grows in rows, and peak memory. Times are the least of several runs. The peers don't test the points' or the polygon's
-validity.
+grows in rows, and peak memory. Times are the least of several runs. Under `--instructions` it counts the instructions of
+`sfq` and of GEOS instead, by valgrind. The peers don't test the points' or the polygon's validity.
 
 It needs Python's standard library, the built program (run ./sfq once), and from the distribution's packages `gcc`,
 `libgeos-dev`, `sqlite3` and `libsqlite3-mod-spatialite`. It is no test: the gate doesn't run it.
@@ -19,7 +19,7 @@ import pathlib
 import random
 import tempfile
 
-from peers import Comparison, build_geos, is_ready, print_table_heads, spatialite_command
+from peers import Comparison, add_options, build_geos, is_ready, print_table_heads, spatialite_command
 from timing import PROGRAM
 
 SIZES = (1_000, 10_000, 100_000)
@@ -65,15 +65,15 @@ def commands(folder, geos, text):
 
 def main():
     parser = argparse.ArgumentParser(description=__doc__.splitlines()[0])
-    parser.add_argument("--repeats", type=int, default=9, help="runs of each command (9)")
+    add_options(parser)
     options = parser.parse_args()
     is_ready()
     with tempfile.TemporaryDirectory() as name:
         geos = build_geos(pathlib.Path(name))
-        print_table_heads("points in a polygon")
+        print_table_heads("points in a polygon", options)
         for positions in POSITIONS:
             bare = new_folder(name, positions, 0)
-            comparison = Comparison(commands(bare, geos, window(5)), bare, options.repeats)
+            comparison = Comparison(commands(bare, geos, window(5)), bare, options)
             for rows in SIZES:
                 folder = new_folder(name, positions, rows)
                 runs = commands(folder, geos, window(positions))
