@@ -380,13 +380,13 @@ fn unread_second<'a>(path: &str, table: &'a [u8]) -> Option<StopReader<'a>> {
 /// A failed reading is told of its table, unless a table before it doesn't load.
 #[test]
 fn a_failed_reading_is_told_of_its_table(rt: HostRuntime) -> Result<(), Fail> {
-    for (table, line, wanted) in &[
+    for (table, line, wanted) in [
         ("id\n1\n", "sfq: u L11\n", 6),
         ("id\nx\n", "sfq: t L5 record 1\n", 4),
     ] {
         let order = run_order(rt.alloc(), "SELECT id FROM t")?;
         let opener = move |path: &str| unread_second(path, table.as_bytes());
-        assert!(rt; Printed::of(rt.alloc(), &order, opener).is("", line, *wanted));
+        assert!(rt; Printed::of(rt.alloc(), &order, opener).is("", line, wanted));
     }
     Ok(())
 }

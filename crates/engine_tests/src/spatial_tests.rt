@@ -41,12 +41,8 @@ const SQUARES_PAIRED: &str = "a.id,a.geom,b.id,b.geom
 2,\"POLYGON((4 0,8 0,8 4,4 4,4 0))\",2,\"POLYGON((4 0,8 0,8 4,4 4,4 0))\"
 ";
 
-// What `$J` stands for in a query.
 pub(crate) const JOINED: &str =
     "SELECT b.id, s.id FROM big b JOIN sq s ON ST_Intersects(b.geom, s.geom) WHERE b.id <> 2";
-
-// What it prints, of ten points and of more.
-const JOINED_ROWS: &str = "b.id,s.id\n1,1\n3,1\n4,1\n4,2\n5,2\n6,2\n7,2\n8,2\n";
 
 // The files of a command: a schema, and the texts of its tables, where they are there.
 #[derive(Clone, Copy)]
@@ -282,29 +278,35 @@ fn few_rows_are_scanned(rt: HostRuntime) -> Result<(), Fail> {
 /// Two tables of which the second is the outer one: the rows come by the first's key, also under LIMIT.
 #[test]
 fn points_are_joined_with_squares(rt: HostRuntime) -> Result<(), Fail> {
-    for (count, squares, query, out) in &[
-        (10, SQUARES, "$J", JOINED_ROWS),
-        (100, SQUARES, "$J", JOINED_ROWS),
+    let points = points_up_to(rt.alloc(), 10)?;
+    let many = points_up_to(rt.alloc(), 100)?;
+    let limited = JOINED.replace(rt.alloc(), "b.id <> 2", "b.id <> 2 LIMIT 1")?;
+    let told = JOINED.replace(rt.alloc(), "SELECT", "EXPLAIN ANALYZE SELECT")?;
+    let told_limited = limited.replace(rt.alloc(), "SELECT", "EXPLAIN ANALYZE SELECT")?;
+    let rows = "b.id,s.id\n1,1\n3,1\n4,1\n4,2\n5,2\n6,2\n7,2\n8,2\n";
+    let plan = "cost 30\nouter s scan\ninner b probe 1\nfilter 2 1\nwork 8\n";
+    let plan_limited = "cost 30\nouter s scan\ninner b probe 1\nfilter 2 1\nlimit 1\nwork 8\n";
+    for (text, squares, query, out) in [
+        (points.as_str(), SQUARES, JOINED, rows),
+        (many.as_str(), SQUARES, JOINED, rows),
+        (many.as_str(), SQUARES, told.as_str(), plan),
         (
-            100,
-            SQUARES,
-            "EXPLAIN ANALYZE $J",
-            "cost 30\nouter s scan\ninner b probe 1\nfilter 2 1\nwork 8\n",
-        ),
-        (100, SQUARES_EXCHANGED, "$J LIMIT 1", "b.id,s.id\n1,2\n"),
-        (
-            100,
+            many.as_str(),
             SQUARES_EXCHANGED,
-            "EXPLAIN ANALYZE $J LIMIT 1",
-            "cost 30\nouter s scan\ninner b probe 1\nfilter 2 1\nlimit 1\nwork 8\n",
+            limited.as_str(),
+            "b.id,s.id\n1,2\n",
+        ),
+        (
+            many.as_str(),
+            SQUARES_EXCHANGED,
+            told_limited.as_str(),
+            plan_limited,
         ),
     ] {
-        let points = points_up_to(rt.alloc(), *count)?;
-        let query = query.replace(rt.alloc(), "$J", JOINED)?;
         let mut files = files_of(TWO_SCHEMA);
-        files.points = points.as_str();
-        files.squares = *squares;
-        assert!(rt; run_over(rt.alloc(), &files, query.as_str())?.is(out, "", 0));
+        files.points = text;
+        files.squares = squares;
+        assert!(rt; run_over(rt.alloc(), &files, query)?.is(out, "", 0));
     }
     Ok(())
 }
