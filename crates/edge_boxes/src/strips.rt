@@ -40,7 +40,8 @@ fn rise(direction: Direction, x: i32, y: i32) -> i64
 
 /// Whether two numbers are both below what is least, or both above what is greatest.
 fn are_beside(one: i64, other: i64, least: i64, greatest: i64) -> bool
-    ensures { result ≡ (int_lt one least && int_lt other least || int_lt greatest one && int_lt greatest other) }
+    ensures { result
+        ≡ (int_lt one least && int_lt other least || int_lt greatest one && int_lt greatest other) }
 {
     (one < least) & (other < least) | (greatest < one) & (greatest < other)
 }

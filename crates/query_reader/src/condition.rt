@@ -58,7 +58,8 @@ pub(crate) fn negated<'a, A: Drop>(
     alloc: Global,
     read: Result<CondOf<'a, A>, QueryFault>,
 ) -> Result<CondOf<'a, A>, QueryFault>
-    ensures ok { IfOk read.entry (λ cond. Gives QueryFault.OutOfMemory (λ it. it) result (Ok (tree.Not cond))) }
+    ensures ok { IfOk read.entry (λ cond.
+        Gives QueryFault.OutOfMemory (λ it. it) result (Ok (tree.Not cond))) }
     ensures err { IfErr read.entry (λ fault. result ≡ Err fault) }
 {
     match boxed(alloc, read) {
@@ -79,7 +80,8 @@ fn list_of<T: Drop>(alloc: Global, first: Result<T, QueryFault>) -> Result<Items
 
 /// Adds a part that was read to those before it; a fault is passed on.
 fn keep<T: Drop>(parts: &mut Items<T>, read: Result<T, QueryFault>) -> Result<(), QueryFault>
-    ensures ok { IfOk read (λ part. Gives QueryFault.OutOfMemory (λ _. parts.new) result (Ok (parts.old ++ part ∷ []))) }
+    ensures ok { IfOk read (λ part.
+        Gives QueryFault.OutOfMemory (λ _. parts.new) result (Ok (parts.old ++ part ∷ []))) }
     ensures err { IfErr read (λ fault. result ≡ Err fault) }
 {
     parts.push(read?)?;
@@ -88,7 +90,8 @@ fn keep<T: Drop>(parts: &mut Items<T>, read: Result<T, QueryFault>) -> Result<()
 
 /// Reads the word between parts where a part was read and the word follows, and tells whether it does.
 fn goes_on<T>(tokens: &mut Cursor<'_, '_>, read: &Result<T, QueryFault>, between: TokenKind) -> bool
-    ensures ok { IfOk read.now (λ _. (result ≡ steps.sees between tokens.old) × (tokens.new ≡ steps.after between tokens.old)) }
+    ensures ok { IfOk read.now (λ _.
+        (result ≡ steps.sees between tokens.old) × (tokens.new ≡ steps.after between tokens.old)) }
     ensures err { IfErr read.now (λ _. result ≡ false) }
 {
     read.is_ok() && tokens.eat(between)

@@ -118,7 +118,8 @@ fn with_limit<T: Drop>(
     read: Result<T, QueryFault>,
     tokens: &mut Cursor<'_, '_>,
 ) -> Result<(T, Option<u64>), QueryFault>
-    ensures ok { IfOk read (λ x. Reads QueryFault.OutOfMemory (parts.with_limit x tokens.old) result tokens.new) }
+    ensures ok { IfOk read (λ x.
+        Reads QueryFault.OutOfMemory (parts.with_limit x tokens.old) result tokens.new) }
     ensures err { IfErr read (λ fault. result ≡ Err fault) }
 {
     let before = read?;

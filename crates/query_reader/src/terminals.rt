@@ -40,7 +40,8 @@ pub(crate) fn closed<T: Drop>(
     inner: Result<T, QueryFault>,
     tokens: &mut Cursor<'_, '_>,
 ) -> Result<T, QueryFault>
-    ensures ok { IfOk inner (λ x. Reads QueryFault.OutOfMemory (passing.closed x tokens.old) result tokens.new) }
+    ensures ok { IfOk inner (λ x.
+        Reads QueryFault.OutOfMemory (passing.closed x tokens.old) result tokens.new) }
     ensures err { IfErr inner (λ fault. result ≡ Err fault) }
 {
     let value = inner?;
