@@ -5,8 +5,10 @@ use Rattle.table_model.specs.QueryReading.{Reader, Second, explained, selection,
 use Rattle.table_model.specs.Served.{ServedCond, ServedQuery}
 use Rattle.table_model.specs.declared.faults.QueryFault.TheVariants as fault
 use Rattle.table_model.specs.declared.queries.Explain.{Explain}
+use Rattle.table_model.specs.declared.queries.Query.{Query}
 use Rattle.table_model.specs.declared.queries.Selection.{Selection}
 use Rattle.table_model.specs.declared.queries.WrittenColumn.{WrittenColumn}
+use Rattle.table_model.specs.declared.queries.WrittenCond.{WrittenCond}
 use Rattle.table_model.specs.declared.queries.WrittenReference.{WrittenReference}
 use Rattle.table_model.specs.declared.tokens.TokenKind.TheVariants as k
 use Rattle.query_reader.specs.Language.{language}
@@ -48,7 +50,7 @@ joined_reference = do
   pure reference
 
 -- the query of these parts
-abbrev pub assembled : Explain × Selection WrittenColumn → WrittenReference × Second true → Option (ServedCond true) × Option ℕ → ServedQuery language
+abbrev pub assembled : {A C : Type 0} → Explain × Selection C → WrittenReference × (Option WrittenReference × Option (WrittenCond A)) → Option (WrittenCond A) × Option ℕ → Query A C
 assembled h s e = record { explain = h.0; selection = h.1; first = s.0; second = s.1.0; on = s.1.1; condition = e.0; limit = e.1 }
 
 -- a query, part by part

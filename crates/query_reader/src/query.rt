@@ -11,16 +11,18 @@ ghost use Rattle.query_reader.specs.Queries as parts;
 ghost use Rattle.query_reader.specs.Steps.{mapped};
 
 use crate::Query;
-use crate::condition::{WrittenCond, condition};
+use crate::condition::{CondOf, WrittenCond, condition};
 use crate::items::{Selection, selection};
 use crate::numbers::limit_value;
-use crate::references::{Second, reference, second};
+use crate::references::{Second, SecondOf, reference, second};
 use crate::terminals::{expect, present, refuse, says};
 use sql_tokens::cursor::Cursor;
 use sql_tokens::lex::{lex, same_kind};
 use std::alloc::Global;
 use table_model::faults::QueryFault;
-use table_model::queries::{Explain, LEVEL_LIMIT, WrittenReference};
+use table_model::queries::{
+    Explain, LEVEL_LIMIT, Query as QueryOf, Selection as SelectionOf, WrittenReference,
+};
 use table_model::tokens::{TEXT_LIMIT, Token, TokenKind};
 
 /// Reads WHERE and its condition, where they stand.
@@ -137,18 +139,18 @@ fn ending<'a>(alloc: Global, tokens: &mut Cursor<'_, 'a>) -> Result<Ending<'a>, 
 }
 
 /// The query of its parts, where the last was read.
-fn assembled<'a>(
-    head: Head<'a>,
-    sources: Sources<'a>,
-    ending: Result<Ending<'a>, QueryFault>,
-) -> Result<Query<'a>, QueryFault>
+fn assembled<'a, A: Drop, C: Drop>(
+    head: (Explain, SelectionOf<'a, C>),
+    sources: (WrittenReference<'a>, SecondOf<'a, A>),
+    ending: Result<(Option<CondOf<'a, A>>, Option<u64>), QueryFault>,
+) -> Result<QueryOf<'a, A, C>, QueryFault>
     ensures { result ≡ mapped (parts.assembled head.entry sources.entry) ending.entry }
 {
     match ending {
         Ok((condition, limit)) => {
             let (explain, selection) = head;
             let (first, (second, on)) = sources;
-            Ok(Query {
+            Ok(QueryOf {
                 explain,
                 selection,
                 first,
