@@ -76,7 +76,8 @@ fn load_and_answer<I: EnvelopeIndex + Drop, R: Read + Drop, S: Sink>(
     requires { length readers.items ≡ length schema.now }
     ensures texts { (text : List ℕ) (texts : List (List ℕ)) → query_of serving.language text ≡ Ok query.now
         → map R.remaining readers.items ≡ map Some texts
-        → RunsOver serving result schema.now (map records_in texts) text (S.taken sink.old) (S.taken sink.new) }
+        → RunsOver serving result schema.now (map records_in texts) text (S.taken sink.old)
+        (S.taken sink.new) }
     ensures work { (text : List ℕ) (texts : List (List ℕ)) → query_of serving.language text ≡ Ok query.now
         → map R.remaining readers.items ≡ map Some texts
         → CountsOver serving result schema.now (map records_in texts) text }

@@ -107,7 +107,8 @@ fn disjuncts<'a>(
     first: Result<Items<WrittenCond<'a>>, QueryFault>,
 ) -> Result<Items<WrittenCond<'a>>, QueryFault>
     ensures ok { IfOk first.entry (λ found. Reads QueryFault.OutOfMemory
-        (steps.parts QueryFault.Syntax TokenKind.Or (spec.conjunction (spec.negation language.functions levels)) found tokens.old)
+        (steps.parts QueryFault.Syntax TokenKind.Or
+        (spec.conjunction (spec.negation language.functions levels)) found tokens.old)
         result tokens.new) }
     ensures err { IfErr first.entry (λ fault. result ≡ Err fault) }
 {
@@ -148,7 +149,8 @@ fn conjuncts<'a>(
     first: Result<Items<WrittenCond<'a>>, QueryFault>,
 ) -> Result<Items<WrittenCond<'a>>, QueryFault>
     ensures ok { IfOk first.entry (λ found. Reads QueryFault.OutOfMemory
-        (steps.parts QueryFault.Syntax TokenKind.And (spec.negation language.functions levels) found tokens.old)
+        (steps.parts QueryFault.Syntax TokenKind.And
+        (spec.negation language.functions levels) found tokens.old)
         result tokens.new) }
     ensures err { IfErr first.entry (λ fault. result ≡ Err fault) }
 {

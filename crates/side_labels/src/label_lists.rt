@@ -94,7 +94,8 @@ impl Model for Labels {
 
     ghost Value = { spec.Labels };
 
-    ghost view = { λ l. record { of_points = l.points.items; of_pieces = l.pieces.items; of_sides = l.sides.items } };
+    ghost view = { λ l. record
+        { of_points = l.points.items; of_pieces = l.pieces.items; of_sides = l.sides.items } };
 }
 
 impl Labels {

@@ -45,7 +45,8 @@ pub(crate) fn comparison(
     rows: &[Row<'_>],
 ) -> Result<Truth, AllocError>
     ensures truth { IfOk result (λ t. t ≡ spec.compared sign
-        (spec.order_of (spec.operand_value denoted rows.now a.now) (spec.operand_value denoted rows.now b.now))) }
+        (spec.order_of (spec.operand_value denoted rows.now a.now)
+        (spec.operand_value denoted rows.now b.now))) }
     ensures no_memory { is_as_text a.now || is_as_text b.now ≡ false → IsOk result }
 {
     let left = operand_side(alloc, rows, a)?;

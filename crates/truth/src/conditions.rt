@@ -83,7 +83,8 @@ fn joined_parts(
     work: &mut Work,
 ) -> Result<Truth, AllocError>
     ensures truth { ByEveryMatrix (λ matrix. IfOk result (λ t. t
-        ≡ fold (joined_by junction) (of_none junction) (map (spec.truth matrix denoted rows.now) parts.now))) }
+        ≡ fold (joined_by junction) (of_none junction)
+        (map (spec.truth matrix denoted rows.now) parts.now))) }
     ensures counted { OnOk result
         (kept_count work.new ≡ kept_count (work.old + sum (map (computed denoted rows.now) parts.now))) }
     ensures kept { kept_count work.old ≤ kept_count work.new }
