@@ -1,42 +1,12 @@
 //! The spatial predicates of two geometries.
 
 ghost use Rattle.std.specs.Prelude.{◌≡◌};
-ghost use Rattle.geometry_model.specs.Predicates.{like, crosses, overlaps, holds, wants_point, wants_common_point, forces_meeting};
-ghost use Rattle.geometry_model.specs.declared.relations.Predicate.{Predicate};
+ghost use Rattle.geometry_model.specs.Predicates.{like, crosses, overlaps, holds};
 
 use crate::pattern::MatrixPattern;
-use geometry_model::{Kind, Pattern, PatternCharacter, Predicate};
+use geometry_model::{Kind, Pattern, Predicate};
 use matrices::Matrix;
-
-/// What a spatial predicate says of itself. [`Predicate`] alone has it.
-pub trait SpatialPredicate {
-    // The predicate that a value is.
-    ghost predicate: { Self → Predicate };
-
-    /// Whether the envelopes of two geometries meet wherever the predicate holds of them: of Equals,
-    /// Intersects, Touches, Crosses, Within, Contains and Overlaps, and of a pattern with T, 0, 1 or 2 in a cell of
-    /// interiors and boundaries alone. It takes no memory.
-    fn forces_meeting(&self) -> bool
-        ensures { result ≡ forces_meeting (predicate self.now) };
-}
-
-impl SpatialPredicate for Predicate {
-    ghost predicate = { λ p. p };
-
-    fn forces_meeting(&self) -> bool {
-        match self {
-            Predicate::Disjoint => false,
-            Predicate::Equals
-            | Predicate::Intersects
-            | Predicate::Touches
-            | Predicate::Crosses
-            | Predicate::Within
-            | Predicate::Contains
-            | Predicate::Overlaps => true,
-            Predicate::Relate(pattern) => wants_common_point(pattern),
-        }
-    }
-}
+use matrix_patterns::PatternText;
 
 /// Whether the predicate holds of two geometries of these kinds whose DE-9IM matrix this is (06-103r4, 6.1.15.3; the
 /// patterns of each predicate are this project's). It takes no memory.
@@ -93,21 +63,4 @@ fn overlaps(first: Kind, second: Kind, matrix: &Matrix) -> bool
         (Kind::Line, Kind::Line) => like("1*T***T**", matrix),
         _ => false,
     }
-}
-
-// Whether the pattern wants a point that both geometries have.
-fn wants_common_point(pattern: &Pattern) -> bool
-    ensures { result ≡ wants_common_point pattern.now }
-{
-    wants_point(pattern.interior_interior)
-        || wants_point(pattern.interior_boundary)
-        || wants_point(pattern.boundary_interior)
-        || wants_point(pattern.boundary_boundary)
-}
-
-// Whether no empty cell matches the character.
-fn wants_point(character: PatternCharacter) -> bool
-    ensures { result ≡ wants_point character }
-{
-    !matches!(character, PatternCharacter::False | PatternCharacter::Any)
 }

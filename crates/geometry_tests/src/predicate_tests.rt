@@ -2,7 +2,8 @@
 
 use crate::rows::{parts_of, related};
 use de9im::{
-    Dimension, Location, Matrix, MatrixPattern, Pattern, Predicate, SpatialPredicate, Work, holds,
+    Dimension, Location, Matrix, MatrixPattern, Pattern, PatternText, Predicate, SpatialPredicate,
+    Work, holds,
 };
 use geometry_model::Kind;
 use std::alloc::{AllocError, Global};

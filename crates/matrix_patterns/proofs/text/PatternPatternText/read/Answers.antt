@@ -1,6 +1,6 @@
 use Rattle.std.proofs.Common.{sym, ◌∙◌, arith}
-use Rattle.de9im.proofs.PatternFacts.{pattern_of_text-none, pattern_of_text-nine}
-use Rattle.de9im.proofs.pattern.PatternMatrixPattern.read.Goals as goal
+use Rattle.matrix_patterns.proofs.PatternFacts.{pattern_of_text-none, pattern_of_text-nine}
+use Rattle.matrix_patterns.proofs.text.PatternPatternText.read.Goals as goal
 
 pub returns-in_ok-character-in-len9-9 : goal.returns-in_ok-character-in-len9-9
 returns-in_ok-character-in-len9-9 c =
