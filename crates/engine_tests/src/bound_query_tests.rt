@@ -127,7 +127,7 @@ fn binds_every_part(rt: HostRuntime) -> Result<(), Fail> {
     ) = within.get() else {
         panic!(rt; "no constant")
     };
-    assert!(rt; !constant.is_empty());
+    assert!(rt; !constant.get().is_empty());
     assert!(rt;
         matches!(named, Cond::Compare(_, _, Operand::Text(bytes)) if bytes.as_slice() == b"o'k".as_slice())
     );

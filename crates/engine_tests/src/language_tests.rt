@@ -1,9 +1,9 @@
 //! The whole query language, with places counted by hand.
 
-use query_reader::read_query;
+use query_reader::{Argument, read_query};
 use std::test::Fail;
 use table_model::faults::QueryFault;
-use table_model::queries::{Explain, WrittenCond, WrittenGeometry, WrittenPredicate};
+use table_model::queries::{Explain, WrittenCond, WrittenPredicate};
 
 /// The first fault of a text, with its byte.
 #[test]
@@ -52,7 +52,7 @@ fn texts_are_taken_or_refused(rt: HostRuntime) {
 }
 
 // Where a predicate starts.
-fn predicate_at(cond: &WrittenCond<'_, WrittenGeometry<'_>>) -> Option<usize> {
+fn predicate_at(cond: &WrittenCond<'_, Argument<'_>>) -> Option<usize> {
     match cond {
         WrittenCond::Relates(at, _, _, _) => Some(*at),
         _ => None,
@@ -60,7 +60,7 @@ fn predicate_at(cond: &WrittenCond<'_, WrittenGeometry<'_>>) -> Option<usize> {
 }
 
 // Where ST_Relate and its pattern start, as the second part of a conjunction.
-fn relate_at(cond: &WrittenCond<'_, WrittenGeometry<'_>>) -> Option<(usize, usize)> {
+fn relate_at(cond: &WrittenCond<'_, Argument<'_>>) -> Option<(usize, usize)> {
     let WrittenCond::And(parts) = cond else {
         return None;
     };
@@ -88,7 +88,7 @@ fn has_every_part(rt: HostRuntime) -> Result<(), Fail> {
 }
 
 // Where the comparison starts that is the first part of a conjunction.
-fn compared_at(cond: &WrittenCond<'_, WrittenGeometry<'_>>) -> Option<usize> {
+fn compared_at(cond: &WrittenCond<'_, Argument<'_>>) -> Option<usize> {
     let WrittenCond::And(parts) = cond else {
         return None;
     };

@@ -1,8 +1,6 @@
 //! The land register of examples/parcels: the texts of its files, and each query of its README with its answer.
 
-use crate::commands::{Printed, check_order, run_order};
-use command_line::Order;
-use std::alloc::Global;
+use crate::commands::plays;
 use std::test::Fail;
 
 const SCHEMA: &str = "\
@@ -110,168 +108,152 @@ id,name,geom
 8,Lost Well,
 ";
 
-// The text of the file at a path.
-fn text_at(path: &str) -> Option<&'static str> {
-    for (file, text) in &[
-        ("s", SCHEMA),
-        ("d/owner.csv", OWNER),
-        ("d/parcel.csv", PARCEL),
-        ("d/building.csv", BUILDING),
-        ("d/water.csv", WATER),
-        ("d/path.csv", PATH),
-        ("d/well.csv", WELL),
-    ] {
-        if path == *file {
-            return Some(*text);
-        }
-    }
-    None
-}
+// The register's files.
+const FILES: [(&str, &str); 7] = [
+    ("s", SCHEMA),
+    ("d/owner.csv", OWNER),
+    ("d/parcel.csv", PARCEL),
+    ("d/building.csv", BUILDING),
+    ("d/water.csv", WATER),
+    ("d/path.csv", PATH),
+    ("d/well.csv", WELL),
+];
 
-// What an order prints over the register.
-fn printed(alloc: Global, order: &Order) -> Printed {
-    Printed::of(
-        alloc,
-        order,
-        |path: &str| text_at(path).map(|text| text.as_bytes()),
-    )
-}
+// How many rows each table has, and questions about one table.
+const ONE_TABLE: &str = "check
+owner 5
+parcel 13
+building 6
+water 2
+path 4
+well 8
 
-// Whether each query has the answer beside it.
-fn are_answered(alloc: Global, rows: &[(&str, &str)]) -> Result<bool, Fail> {
-    for (query, answer) in rows {
-        if !printed(alloc, &run_order(alloc, query)?).is(answer, "", 0) {
-            return Ok(false);
-        }
-    }
-    Ok(true)
-}
+SELECT id, name FROM parcel WHERE ST_Intersects(geom, ST_GeomFromText('POINT(6 2)'))
+id,name
+101,Mill
+102,Quay House
 
-#[test]
-fn the_tables_are_checked(rt: HostRuntime) -> Result<(), Fail> {
-    let order = check_order(rt.alloc())?;
-    let rows = "owner 5\nparcel 13\nbuilding 6\nwater 2\npath 4\nwell 8\n";
-    assert!(rt; printed(rt.alloc(), &order).is(rows, "", 0));
-    Ok(())
-}
+SELECT id, name FROM parcel WHERE ST_Within(geom, ST_GeomFromText('POLYGON((8 3,21 3,21 15,8 15,8 3))'))
+id,name
+106,Common
+107,Middle Meadow
+108,Boatyard
+110,Hill Field
+
+SELECT id, name FROM parcel WHERE NOT ST_Within(geom, ST_GeomFromText('POLYGON((8 3,21 3,21 15,8 15,8 3))'))
+id,name
+101,Mill
+102,Quay House
+103,Long Garden
+104,Church Green
+105,Churchyard
+109,Old Claim
+112,Bleach Green
+113,Glebe
+
+SELECT id, name FROM parcel WHERE geom IS NULL
+id,name
+111,Allotments
+
+SELECT id, name, ST_AsText(geom), ST_Dimension(geom) FROM parcel WHERE ST_IsEmpty(geom)
+id,name,ST_AsText(geom),ST_Dimension(geom)
+112,Bleach Green,POLYGON EMPTY,2
+
+SELECT * FROM owner WHERE name = 'O''Connor' OR since < 1970
+id,name,since
+1,Alder family,1962
+3,O'Connor,1988";
 
 #[test]
 fn questions_about_one_table(rt: HostRuntime) -> Result<(), Fail> {
-    let rows = &[
-        (
-            "SELECT id, name FROM parcel WHERE ST_Intersects(geom, ST_GeomFromText('POINT(6 2)'))",
-            "id,name\n101,Mill\n102,Quay House\n",
-        ),
-        (
-            "SELECT id, name FROM parcel \
-             WHERE ST_Within(geom, ST_GeomFromText('POLYGON((8 3,21 3,21 15,8 15,8 3))'))",
-            "id,name\n106,Common\n107,Middle Meadow\n108,Boatyard\n110,Hill Field\n",
-        ),
-        (
-            "SELECT id, name FROM parcel \
-             WHERE NOT ST_Within(geom, ST_GeomFromText('POLYGON((8 3,21 3,21 15,8 15,8 3))'))",
-            "id,name\n101,Mill\n102,Quay House\n103,Long Garden\n104,Church Green\n105,Churchyard\n\
-             109,Old Claim\n112,Bleach Green\n113,Glebe\n",
-        ),
-        (
-            "SELECT id, name FROM parcel WHERE geom IS NULL",
-            "id,name\n111,Allotments\n",
-        ),
-        (
-            "SELECT id, name, ST_AsText(geom), ST_Dimension(geom) FROM parcel WHERE ST_IsEmpty(geom)",
-            "id,name,ST_AsText(geom),ST_Dimension(geom)\n112,Bleach Green,POLYGON EMPTY,2\n",
-        ),
-        (
-            "SELECT * FROM owner WHERE name = 'O''Connor' OR since < 1970",
-            "id,name,since\n1,Alder family,1962\n3,O'Connor,1988\n",
-        ),
-    ];
-    assert!(rt; are_answered(rt.alloc(), rows)?);
-    Ok(())
+    plays(rt.alloc(), &FILES, ONE_TABLE)
 }
+
+const TWO_TABLES: &str =
+    "SELECT b.id, b.name FROM parcel a JOIN parcel b ON ST_Touches(a.geom, b.geom) WHERE a.id = 103
+b.id,b.name
+102,Quay House
+108,Boatyard
+
+SELECT b.name FROM parcel a JOIN parcel b ON ST_Relate(a.geom, b.geom, 'F***1****') WHERE a.name = 'Middle Meadow'
+b.name
+Common
+Hill Field
+
+SELECT b.purpose, p.id, p.name FROM building b JOIN parcel p ON ST_Within(b.geom, p.geom)
+b.purpose,p.id,p.name
+mill,101,Mill
+dwelling,102,Quay House
+chapel,105,Churchyard
+chapel,113,Glebe
+
+SELECT b.purpose, p.id, p.name FROM building b JOIN parcel p ON ST_Overlaps(b.geom, p.geom)
+b.purpose,p.id,p.name
+barn,101,Mill
+barn,102,Quay House
+boathouse,108,Boatyard
+
+SELECT a.name, b.name FROM parcel a, parcel b WHERE a.id < b.id AND ST_Overlaps(a.geom, b.geom)
+a.name,b.name
+Mill,Old Claim
+Quay House,Old Claim
+Church Green,Old Claim
+
+SELECT a.id, a.name, b.id, b.name FROM parcel a, parcel b WHERE a.id < b.id AND ST_Equals(a.geom, b.geom)
+a.id,a.name,b.id,b.name
+105,Churchyard,113,Glebe
+
+SELECT w.name, p.name FROM path w JOIN parcel p ON ST_Crosses(w.geom, p.geom)
+w.name,p.name
+Mill Lane,Old Claim
+Church Walk,Church Green
+Church Walk,Churchyard
+Church Walk,Glebe
+Ridge Path,Common
+Ridge Path,Middle Meadow
+Ridge Path,Hill Field
+
+SELECT p.name, o.name FROM parcel p JOIN owner o ON p.owner = o.id WHERE ST_Intersects(p.geom, ST_GeomFromText('LINESTRING(-1 5,11 5,19 3)'))
+p.name,o.name
+Boatyard,Dale Carpentry
+Old Claim,Alder family
+
+SELECT b.purpose, p.name FROM building b JOIN parcel p ON ST_Within(b.geom, p.geom) WHERE b.built > 1900
+b.purpose,p.name
+dwelling,Quay House";
 
 #[test]
 fn questions_about_two_tables(rt: HostRuntime) -> Result<(), Fail> {
-    let rows = &[
-        (
-            "SELECT b.id, b.name FROM parcel a JOIN parcel b ON ST_Touches(a.geom, b.geom) WHERE a.id = 103",
-            "b.id,b.name\n102,Quay House\n108,Boatyard\n",
-        ),
-        (
-            "SELECT b.name FROM parcel a JOIN parcel b ON ST_Relate(a.geom, b.geom, 'F***1****') \
-             WHERE a.name = 'Middle Meadow'",
-            "b.name\nCommon\nHill Field\n",
-        ),
-        (
-            "SELECT b.purpose, p.id, p.name FROM building b JOIN parcel p ON ST_Within(b.geom, p.geom)",
-            "b.purpose,p.id,p.name\nmill,101,Mill\ndwelling,102,Quay House\nchapel,105,Churchyard\n\
-             chapel,113,Glebe\n",
-        ),
-        (
-            "SELECT b.purpose, p.id, p.name FROM building b JOIN parcel p ON ST_Overlaps(b.geom, p.geom)",
-            "b.purpose,p.id,p.name\nbarn,101,Mill\nbarn,102,Quay House\nboathouse,108,Boatyard\n",
-        ),
-        (
-            "SELECT a.name, b.name FROM parcel a, parcel b WHERE a.id < b.id AND ST_Overlaps(a.geom, b.geom)",
-            "a.name,b.name\nMill,Old Claim\nQuay House,Old Claim\nChurch Green,Old Claim\n",
-        ),
-        (
-            "SELECT a.id, a.name, b.id, b.name FROM parcel a, parcel b \
-             WHERE a.id < b.id AND ST_Equals(a.geom, b.geom)",
-            "a.id,a.name,b.id,b.name\n105,Churchyard,113,Glebe\n",
-        ),
-        (
-            "SELECT w.name, p.name FROM path w JOIN parcel p ON ST_Crosses(w.geom, p.geom)",
-            "w.name,p.name\nMill Lane,Old Claim\nChurch Walk,Church Green\nChurch Walk,Churchyard\n\
-             Church Walk,Glebe\nRidge Path,Common\nRidge Path,Middle Meadow\nRidge Path,Hill Field\n",
-        ),
-        (
-            "SELECT p.name, o.name FROM parcel p JOIN owner o ON p.owner = o.id \
-             WHERE ST_Intersects(p.geom, ST_GeomFromText('LINESTRING(-1 5,11 5,19 3)'))",
-            "p.name,o.name\nBoatyard,Dale Carpentry\nOld Claim,Alder family\n",
-        ),
-        (
-            "SELECT b.purpose, p.name FROM building b JOIN parcel p ON ST_Within(b.geom, p.geom) \
-             WHERE b.built > 1900",
-            "b.purpose,p.name\ndwelling,Quay House\n",
-        ),
-    ];
-    assert!(rt; are_answered(rt.alloc(), rows)?);
-    Ok(())
+    plays(rt.alloc(), &FILES, TWO_TABLES)
 }
 
-#[test]
-fn counts_and_first_rows(rt: HostRuntime) -> Result<(), Fail> {
-    let rows = &[
-        (
-            "SELECT COUNT(*) FROM well w JOIN parcel p ON ST_Touches(w.geom, p.geom)",
-            "COUNT(*)\n7\n",
-        ),
-        (
-            "SELECT id, ST_AsText(geom) FROM parcel LIMIT 4",
-            "id,ST_AsText(geom)\n101,\"POLYGON((0 0,6 0,6 4,0 4,0 0))\"\n\
-             102,\"POLYGON((6 0,10 0,10 4,6 4,6 0))\"\n103,\"POLYGON((10 0,14 0,14 4,10 4,10 0))\"\n\
-             104,\"POLYGON((0 6,8 6,8 14,0 14,0 6),(2 8,6 8,6 12,2 12,2 8))\"\n",
-        ),
-    ];
-    assert!(rt; are_answered(rt.alloc(), rows)?);
-    Ok(())
-}
+// Counts, first rows, and plans with their work.
+const COUNTS_AND_PLANS: &str =
+    "SELECT COUNT(*) FROM well w JOIN parcel p ON ST_Touches(w.geom, p.geom)
+COUNT(*)
+7
+
+SELECT id, ST_AsText(geom) FROM parcel LIMIT 4
+id,ST_AsText(geom)
+101,\"POLYGON((0 0,6 0,6 4,0 4,0 0))\"
+102,\"POLYGON((6 0,10 0,10 4,6 4,6 0))\"
+103,\"POLYGON((10 0,14 0,14 4,10 4,10 0))\"
+104,\"POLYGON((0 6,8 6,8 14,0 14,0 6),(2 8,6 8,6 12,2 12,2 8))\"
+
+EXPLAIN SELECT b.purpose, p.name FROM building b JOIN parcel p ON ST_Within(b.geom, p.geom) WHERE b.built > 1900
+cost 36
+outer b scan
+inner p probe 1
+filter 2 1
+
+EXPLAIN ANALYZE SELECT b.purpose, p.name FROM building b JOIN parcel p ON ST_Within(b.geom, p.geom) WHERE b.built > 1900
+cost 36
+outer b scan
+inner p probe 1
+filter 2 1
+work 6";
 
 #[test]
-fn plans_are_told(rt: HostRuntime) -> Result<(), Fail> {
-    let rows = &[
-        (
-            "EXPLAIN SELECT b.purpose, p.name FROM building b JOIN parcel p ON ST_Within(b.geom, p.geom) \
-             WHERE b.built > 1900",
-            "cost 36\nouter b scan\ninner p probe 1\nfilter 2 1\n",
-        ),
-        (
-            "EXPLAIN ANALYZE SELECT b.purpose, p.name FROM building b \
-             JOIN parcel p ON ST_Within(b.geom, p.geom) WHERE b.built > 1900",
-            "cost 36\nouter b scan\ninner p probe 1\nfilter 2 1\nwork 6\n",
-        ),
-    ];
-    assert!(rt; are_answered(rt.alloc(), rows)?);
-    Ok(())
+fn counts_and_plans(rt: HostRuntime) -> Result<(), Fail> {
+    plays(rt.alloc(), &FILES, COUNTS_AND_PLANS)
 }

@@ -1,6 +1,7 @@
 //! Rows that come one after another: the first, and the work after it.
 
-use crate::spatial_tests::{JOINED, POINTS_SCHEMA, SQUARE, SQUARES, TWO_SCHEMA, points_up_to};
+use crate::commands::SQUARE;
+use crate::spatial_tests::{JOINED, POINTS_SCHEMA, SQUARES, TWO_SCHEMA, points_up_to};
 use de9im::Work;
 use executor::{RowPair, Rows};
 use feature_table::Database;

@@ -10,6 +10,8 @@ use crate::Argument;
 use crate::columns::bound_column;
 use crate::scope::Scope;
 use crate::strings::unquoted;
+use query_reader::Argument as WrittenArgument;
+use sqlite_items::Boxed;
 use std::alloc::Global;
 use table_model::conditions::{ColumnPlace, GeometryArgument};
 use table_model::faults::QueryFault;
@@ -38,7 +40,7 @@ fn literal(alloc: Global, string: &Name<'_>) -> Result<Typed<Argument>, QueryFau
     let bytes = unquoted(alloc, string.text.bytes())?;
     match read_valid(alloc, bytes.as_slice())? {
         Ok(valid) => Ok(Typed {
-            part: GeometryArgument::Literal(valid),
+            part: GeometryArgument::Literal(Boxed::new(alloc, valid)?),
             part_type: OperandType::Geometry,
         }),
         Err(fault) => Err(QueryFault::BadGeometry(string.at, fault)),
@@ -49,11 +51,11 @@ fn literal(alloc: Global, string: &Name<'_>) -> Result<Typed<Argument>, QueryFau
 pub fn bound_argument(
     alloc: Global,
     scope: Scope<'_>,
-    written: &WrittenGeometry<'_>,
+    written: &WrittenArgument<'_>,
 ) -> Result<Typed<Argument>, QueryFault>
     ensures { Binds result (argument_in scope.entry written.now) }
 {
-    match written {
+    match written.get() {
         WrittenGeometry::Column(column) => {
             let found = bound_column(scope, column)?;
             Ok(Typed {

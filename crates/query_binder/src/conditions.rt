@@ -20,16 +20,17 @@ use crate::operands::{bound_operand, comparable};
 use crate::patterns::bound_pattern;
 use crate::scope::Scope;
 use geometry_model::Predicate;
+use query_reader::Argument as WrittenArgument;
 use sqlite_items::{Boxed, Items};
 use std::alloc::Global;
 use table_model::conditions::Comparison;
 use table_model::faults::QueryFault;
-use table_model::queries::{WrittenGeometry, WrittenPredicate};
+use table_model::queries::WrittenPredicate;
 
-type WrittenOperand<'a> = table_model::queries::WrittenOperand<'a, WrittenGeometry<'a>>;
+type WrittenOperand<'a> = table_model::queries::WrittenOperand<'a, WrittenArgument<'a>>;
 
 /// A condition as it is written. (SQL, the search condition.)
-pub type WrittenCond<'a> = table_model::queries::WrittenCond<'a, WrittenGeometry<'a>>;
+pub type WrittenCond<'a> = table_model::queries::WrittenCond<'a, WrittenArgument<'a>>;
 
 /// A comparison that starts at a byte; its sides are bound first. (SQL, comparison.)
 fn comparison(
@@ -67,7 +68,7 @@ fn emptiness(
     alloc: Global,
     scope: Scope<'_>,
     at: usize,
-    argument: &WrittenGeometry<'_>,
+    argument: &WrittenArgument<'_>,
 ) -> Result<Cond, QueryFault>
     ensures { Binds result (emptiness_in scope.entry at argument.now) }
 {
@@ -92,8 +93,8 @@ fn relation(
     scope: Scope<'_>,
     at: usize,
     predicate: &WrittenPredicate<'_>,
-    a: &WrittenGeometry<'_>,
-    b: &WrittenGeometry<'_>,
+    a: &WrittenArgument<'_>,
+    b: &WrittenArgument<'_>,
 ) -> Result<Cond, QueryFault>
     ensures { Binds result (relation_in scope.entry at predicate.now a.now b.now) }
 {

@@ -16,6 +16,7 @@ mod strings;
 
 use geometry_model::GeometryType;
 pub use query::bind;
+use sqlite_items::Boxed;
 use table_model::conditions::{ColumnPlace, GeometryArgument};
 pub use table_model::faults::QueryFault;
 use validity::Valid;
@@ -26,8 +27,9 @@ pub type ColumnShape = Option<GeometryType>;
 /// A table of a schema. (06-104r4, feature tables.)
 pub type TableDef = table_model::definitions::TableDef<ColumnShape>;
 
-/// A geometry argument of a condition: the place of a column, or a valid geometry that was read once. (06-104r4, 7.2.)
-pub type Argument = GeometryArgument<Valid>;
+/// A geometry argument of a condition: the place of a column, or a valid geometry that was read once, in memory of its own,
+/// so that conditions stay small. (06-104r4, 7.2.)
+pub type Argument = GeometryArgument<Boxed<Valid>>;
 
 /// A condition over the rows of a bound query. (SQL, the search condition.)
 pub type Cond = table_model::conditions::Cond<Argument>;

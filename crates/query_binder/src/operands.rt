@@ -9,17 +9,18 @@ use crate::arguments::{bound_argument, geometry_only};
 use crate::columns::bound_column;
 use crate::scope::Scope;
 use crate::strings::unquoted;
+use query_reader::Argument as WrittenArgument;
 use std::alloc::Global;
 use table_model::conditions::Operand;
 use table_model::faults::QueryFault;
-use table_model::queries::{WrittenGeometry, WrittenOperand};
+use table_model::queries::WrittenOperand;
 use table_model::typing::{OperandType, Typed};
 
 /// A side of a comparison, with its type. (SQL, comparison; of geometries: 06-103r4, 6.1.2.2.)
 pub fn bound_operand(
     alloc: Global,
     scope: Scope<'_>,
-    written: &WrittenOperand<'_, WrittenGeometry<'_>>,
+    written: &WrittenOperand<'_, WrittenArgument<'_>>,
 ) -> Result<Typed<Operand<Argument>>, QueryFault>
     ensures { Binds result (operand_in scope.entry written.now) }
 {

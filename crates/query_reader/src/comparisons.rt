@@ -31,6 +31,7 @@ fn comparison_of(kind: TokenKind) -> Option<Comparison>
 /// Reads the rest of a comparison, after its left side, which starts at a place.
 #[tactic(auto, unfolding(table_model::specs::QueryReading::compared))]
 fn compared<'a>(
+    alloc: Global,
     tokens: &mut Cursor<'_, 'a>,
     at: usize,
     left: WrittenOperand<'a>,
@@ -42,7 +43,7 @@ fn compared<'a>(
         return Err(refuse(tokens));
     };
     tokens.advance();
-    let right = operand(tokens)?;
+    let right = operand(alloc, tokens)?;
     Ok(WrittenCond::Compare(at, comparison, left, right))
 }
 
@@ -74,10 +75,10 @@ pub(crate) fn comparison<'a>(
     ensures { Reads QueryFault.OutOfMemory (spec.comparison language.functions tokens.old) result tokens.new }
 {
     let at = tokens.place();
-    let left = operand(tokens)?;
+    let left = operand(alloc, tokens)?;
     if tokens.eat(TokenKind::Is) {
         null_test(alloc, tokens, left)
     } else {
-        compared(tokens, at, left)
+        compared(alloc, tokens, at, left)
     }
 }

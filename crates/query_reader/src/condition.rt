@@ -9,17 +9,17 @@ ghost use Rattle.table_model.specs.Parsers.{Reads};
 ghost use Rattle.query_reader.specs.Language.{language};
 ghost use Rattle.query_reader.specs.Steps.{mapped};
 
+use crate::Argument;
 use crate::predicates::predicate;
-use crate::terminals::{closed, refuse};
+use crate::terminals::{boxed, closed, refuse};
 use sql_tokens::cursor::Cursor;
-use sqlite_items::{Boxed, Items};
+use sqlite_items::Items;
 use std::alloc::Global;
 use table_model::faults::QueryFault;
 pub(crate) use table_model::queries::WrittenCond as CondOf;
-use table_model::queries::WrittenGeometry;
 use table_model::tokens::TokenKind;
 
-pub(crate) type WrittenCond<'a> = CondOf<'a, WrittenGeometry<'a>>;
+pub(crate) type WrittenCond<'a> = CondOf<'a, Argument<'a>>;
 
 /// The condition that all of these hold, where they were read.
 fn all_of<'a>(
@@ -43,14 +43,6 @@ fn one_of<'a>(
         Ok(parts) => Ok(WrittenCond::Or(parts)),
         Err(fault) => Err(fault),
     }
-}
-
-/// What was read, in memory of its own; a fault is passed on.
-fn boxed<T: Drop>(alloc: Global, read: Result<T, QueryFault>) -> Result<Boxed<T>, QueryFault>
-    ensures ok { IfOk read (λ x. Gives QueryFault.OutOfMemory (λ it. it) result (Ok x)) }
-    ensures err { IfErr read (λ fault. result ≡ Err fault) }
-{
-    Ok(Boxed::new(alloc, read?)?)
 }
 
 /// The condition that one that was read doesn't hold; a fault is passed on.

@@ -7,15 +7,17 @@ ghost use Rattle.query_reader.specs.Predicates as names;
 ghost use Rattle.query_reader.specs.Predicates.{other_operand};
 ghost use Rattle.query_reader.specs.Language.{language};
 
+use crate::Argument;
 use crate::numbers::integer_value;
-use crate::terminals::{calls, column, expect, refuse, string};
+use crate::terminals::{boxed, calls, column, expect, refuse, string};
 use sql_tokens::cursor::Cursor;
+use std::alloc::Global;
 use table_model::faults::QueryFault;
 use table_model::queries::WrittenGeometry;
 pub(crate) use table_model::queries::WrittenOperand as OperandOf;
 use table_model::tokens::TokenKind;
 
-pub(crate) type WrittenOperand<'a> = OperandOf<'a, WrittenGeometry<'a>>;
+pub(crate) type WrittenOperand<'a> = OperandOf<'a, Argument<'a>>;
 
 /// Reads digits, whose number may be negated.
 #[tactic(auto, unfolding(table_model::specs::QueryReading::integer))]
@@ -39,7 +41,7 @@ fn integer<'a>(
 
 /// Reads a geometry argument: a column, or ST_GeomFromText of a string.
 #[tactic(auto, unfolding(table_model::specs::QueryReading::geometry))]
-pub(crate) fn geometry<'a>(tokens: &mut Cursor<'_, 'a>) -> Result<WrittenGeometry<'a>, QueryFault>
+fn geometry<'a>(tokens: &mut Cursor<'_, 'a>) -> Result<WrittenGeometry<'a>, QueryFault>
     ensures { Reads QueryFault.OutOfMemory (spec.geometry tokens.old) result tokens.new }
 {
     if calls(tokens, b"ST_GeomFromText") {
@@ -53,8 +55,19 @@ pub(crate) fn geometry<'a>(tokens: &mut Cursor<'_, 'a>) -> Result<WrittenGeometr
     }
 }
 
+/// Reads a geometry argument, in memory of its own.
+pub(crate) fn argument<'a>(
+    alloc: Global,
+    tokens: &mut Cursor<'_, 'a>,
+) -> Result<Argument<'a>, QueryFault>
+    ensures { Reads QueryFault.OutOfMemory (spec.geometry tokens.old) result tokens.new }
+{
+    boxed(alloc, geometry(tokens))
+}
+
 /// Reads a call of ST_AsText, from its name on.
 fn text_operand<'a>(
+    alloc: Global,
     tokens: &mut Cursor<'_, 'a>,
     at: usize,
 ) -> Result<WrittenOperand<'a>, QueryFault>
@@ -63,13 +76,14 @@ fn text_operand<'a>(
 {
     tokens.advance();
     expect(tokens, TokenKind::LeftParenthesis)?;
-    let argument = geometry(tokens)?;
+    let argument = argument(alloc, tokens)?;
     expect(tokens, TokenKind::RightParenthesis)?;
     Ok(WrittenOperand::AsText(at, argument))
 }
 
 /// Reads a call of ST_Dimension, from its name on.
 fn dimension_operand<'a>(
+    alloc: Global,
     tokens: &mut Cursor<'_, 'a>,
     at: usize,
 ) -> Result<WrittenOperand<'a>, QueryFault>
@@ -78,7 +92,7 @@ fn dimension_operand<'a>(
 {
     tokens.advance();
     expect(tokens, TokenKind::LeftParenthesis)?;
-    let argument = geometry(tokens)?;
+    let argument = argument(alloc, tokens)?;
     expect(tokens, TokenKind::RightParenthesis)?;
     Ok(WrittenOperand::Dimension(at, argument))
 }
@@ -91,14 +105,17 @@ fn column_operand<'a>(tokens: &mut Cursor<'_, 'a>) -> Result<WrittenOperand<'a>,
 }
 
 /// Reads ST_AsText, ST_Dimension or a column.
-fn other_operand<'a>(tokens: &mut Cursor<'_, 'a>) -> Result<WrittenOperand<'a>, QueryFault>
+fn other_operand<'a>(
+    alloc: Global,
+    tokens: &mut Cursor<'_, 'a>,
+) -> Result<WrittenOperand<'a>, QueryFault>
     ensures { Reads QueryFault.OutOfMemory (other_operand tokens.old) result tokens.new }
 {
     let at = tokens.place();
     if calls(tokens, b"ST_AsText") {
-        text_operand(tokens, at)
+        text_operand(alloc, tokens, at)
     } else if calls(tokens, b"ST_Dimension") {
-        dimension_operand(tokens, at)
+        dimension_operand(alloc, tokens, at)
     } else {
         column_operand(tokens)
     }
@@ -106,7 +123,10 @@ fn other_operand<'a>(tokens: &mut Cursor<'_, 'a>) -> Result<WrittenOperand<'a>, 
 
 /// Reads a side of a comparison.
 #[tactic(auto, unfolding(table_model::specs::QueryReading::operand))]
-pub(crate) fn operand<'a>(tokens: &mut Cursor<'_, 'a>) -> Result<WrittenOperand<'a>, QueryFault>
+pub(crate) fn operand<'a>(
+    alloc: Global,
+    tokens: &mut Cursor<'_, 'a>,
+) -> Result<WrittenOperand<'a>, QueryFault>
     ensures { Reads QueryFault.OutOfMemory (spec.operand language.functions tokens.old) result tokens.new }
 {
     if tokens.sees(TokenKind::Null) {
@@ -125,6 +145,6 @@ pub(crate) fn operand<'a>(tokens: &mut Cursor<'_, 'a>) -> Result<WrittenOperand<
     } else if tokens.sees(TokenKind::Integer) {
         integer(tokens, false)
     } else {
-        other_operand(tokens)
+        other_operand(alloc, tokens)
     }
 }

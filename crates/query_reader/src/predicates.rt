@@ -11,7 +11,7 @@ ghost use Rattle.query_reader.specs.Language.{language};
 use crate::comparisons::comparison;
 use crate::condition::{CondOf, WrittenCond, negated};
 use crate::numbers::truth_digit;
-use crate::operands::geometry;
+use crate::operands::argument;
 use crate::terminals::{calls, closed, expect, refuse, string};
 use geometry_model::Predicate;
 use sql_tokens::cursor::Cursor;
@@ -93,36 +93,45 @@ fn given<'a, A: Drop>(
 /// Reads the arguments of a predicate of two geometries, which starts at a place.
 #[tactic(auto, unfolding(table_model::specs::QueryReading::relates))]
 fn relates<'a>(
+    alloc: Global,
     tokens: &mut Cursor<'_, 'a>,
     at: usize,
     predicate: Predicate,
 ) -> Result<WrittenCond<'a>, QueryFault>
     ensures { Reads QueryFault.OutOfMemory (spec.relates at predicate tokens.old) result tokens.new }
 {
-    let a = geometry(tokens)?;
+    let a = argument(alloc, tokens)?;
     expect(tokens, TokenKind::Comma)?;
-    let b = geometry(tokens)?;
+    let b = argument(alloc, tokens)?;
     Ok(WrittenCond::Relates(at, WrittenPredicate::Named(predicate), a, b))
 }
 
 /// Reads the arguments of ST_Relate, which starts at a place.
 #[tactic(auto, unfolding(table_model::specs::QueryReading::relates_by))]
-fn relates_by<'a>(tokens: &mut Cursor<'_, 'a>, at: usize) -> Result<WrittenCond<'a>, QueryFault>
+fn relates_by<'a>(
+    alloc: Global,
+    tokens: &mut Cursor<'_, 'a>,
+    at: usize,
+) -> Result<WrittenCond<'a>, QueryFault>
     ensures { Reads QueryFault.OutOfMemory (spec.relates_by at tokens.old) result tokens.new }
 {
-    let a = geometry(tokens)?;
+    let a = argument(alloc, tokens)?;
     expect(tokens, TokenKind::Comma)?;
-    let b = geometry(tokens)?;
+    let b = argument(alloc, tokens)?;
     expect(tokens, TokenKind::Comma)?;
     let pattern = string(tokens)?;
     Ok(WrittenCond::Relates(at, WrittenPredicate::Relate(pattern), a, b))
 }
 
 /// Reads the argument of ST_IsEmpty, which starts at a place.
-fn empty_argument<'a>(tokens: &mut Cursor<'_, 'a>, at: usize) -> Result<WrittenCond<'a>, QueryFault>
+fn empty_argument<'a>(
+    alloc: Global,
+    tokens: &mut Cursor<'_, 'a>,
+    at: usize,
+) -> Result<WrittenCond<'a>, QueryFault>
     ensures { Reads QueryFault.OutOfMemory (names.empty_argument at tokens.old) result tokens.new }
 {
-    Ok(WrittenCond::IsEmpty(at, geometry(tokens)?))
+    Ok(WrittenCond::IsEmpty(at, argument(alloc, tokens)?))
 }
 
 /// A function that is a predicate.
@@ -136,6 +145,7 @@ pub enum Function {
 
 /// Reads the arguments of a function, whose name starts at a place.
 fn arguments<'a>(
+    alloc: Global,
     tokens: &mut Cursor<'_, 'a>,
     at: usize,
     function: Function,
@@ -143,9 +153,9 @@ fn arguments<'a>(
     ensures { Reads QueryFault.OutOfMemory (names.arguments function at tokens.old) result tokens.new }
 {
     match function {
-        Function::Named(predicate) => relates(tokens, at, predicate),
-        Function::Relate => relates_by(tokens, at),
-        Function::IsEmpty => empty_argument(tokens, at),
+        Function::Named(predicate) => relates(alloc, tokens, at, predicate),
+        Function::Relate => relates_by(alloc, tokens, at),
+        Function::IsEmpty => empty_argument(alloc, tokens, at),
     }
 }
 
@@ -160,7 +170,7 @@ fn call<'a>(
     let at = tokens.place();
     tokens.advance();
     expect(tokens, TokenKind::LeftParenthesis)?;
-    let arguments = arguments(tokens, at, function);
+    let arguments = arguments(alloc, tokens, at, function);
     given(alloc, tested(arguments, tokens))
 }
 

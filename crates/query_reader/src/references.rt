@@ -6,12 +6,13 @@ ghost use Rattle.query_reader.specs.Predicates as names;
 ghost use Rattle.query_reader.specs.Language.{language};
 ghost use Rattle.query_reader.specs.Queries as parts;
 
+use crate::Argument;
 use crate::condition::{CondOf, condition};
 use crate::terminals::{expect, name};
 use sql_tokens::cursor::Cursor;
 use std::alloc::Global;
 use table_model::faults::QueryFault;
-use table_model::queries::{LEVEL_LIMIT, Name, WrittenGeometry, WrittenReference};
+use table_model::queries::{LEVEL_LIMIT, Name, WrittenReference};
 use table_model::tokens::TokenKind;
 
 /// Reads the name of an alias.
@@ -50,7 +51,7 @@ pub(crate) fn reference<'a>(tokens: &mut Cursor<'_, 'a>) -> Result<WrittenRefere
 pub(crate) type SecondOf<'a, A> = (Option<WrittenReference<'a>>, Option<CondOf<'a, A>>);
 
 /// A second table reference and its condition of ON, or neither.
-pub(crate) type Second<'a> = SecondOf<'a, WrittenGeometry<'a>>;
+pub(crate) type Second<'a> = SecondOf<'a, Argument<'a>>;
 
 /// Reads a second table reference, which has no condition.
 #[tactic(auto, unfolding(table_model::specs::QueryReading::crossed))]

@@ -2,13 +2,16 @@
 //! outcome of the reader of its name in `specs/QueryReading.antt` of `table_model`, which has the grammar,
 //! and so in each file here.
 
-ghost use Rattle.std.specs.Prelude.{◌≡◌, Some, Err, IfOk, IfErr};
+ghost use Rattle.std.specs.Prelude.{◌≡◌, Some, Ok, Err, IfOk, IfErr};
+ghost use Rattle.table_model.specs.Outcomes.{Gives};
 ghost use Rattle.table_model.specs.QueryReading as spec;
 ghost use Rattle.table_model.specs.Parsers as steps;
 ghost use Rattle.table_model.specs.Parsers.{Reads};
 ghost use Rattle.query_reader.specs.Steps as passing;
 
 use sql_tokens::cursor::Cursor;
+use sqlite_items::Boxed;
+use std::alloc::Global;
 use table_model::faults::QueryFault;
 use table_model::queries::{Name, WrittenColumn};
 use table_model::texts::same_name;
@@ -47,6 +50,17 @@ pub(crate) fn closed<T: Drop>(
     let value = inner?;
     expect(tokens, TokenKind::RightParenthesis)?;
     Ok(value)
+}
+
+/// What was read, in memory of its own; a fault is passed on.
+pub(crate) fn boxed<T: Drop>(
+    alloc: Global,
+    read: Result<T, QueryFault>,
+) -> Result<Boxed<T>, QueryFault>
+    ensures ok { IfOk read (λ x. Gives QueryFault.OutOfMemory (λ it. it) result (Ok x)) }
+    ensures err { IfErr read (λ fault. result ≡ Err fault) }
+{
+    Ok(Boxed::new(alloc, read?)?)
 }
 
 /// A part that may be left out, where it was read; a fault is passed on.

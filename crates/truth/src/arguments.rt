@@ -39,6 +39,6 @@ pub(crate) fn geometry_at<'a>(rows: &[Row<'a>], argument: &'a Argument) -> Optio
 {
     match argument {
         GeometryArgument::Column(place) => geometry_in(field_at(rows, *place)),
-        GeometryArgument::Literal(geometry) => Some(geometry),
+        GeometryArgument::Literal(geometry) => Some(geometry.get()),
     }
 }
