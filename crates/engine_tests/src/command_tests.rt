@@ -18,7 +18,7 @@ const QUERY: &str = "SELECT id, name FROM t WHERE pop > 5 AND NOT name = 'b'";
 const TWO_TABLES: &str =
     "CREATE TABLE t (id INTEGER PRIMARY KEY); CREATE TABLE u (id INTEGER PRIMARY KEY)";
 
-// A table and a number of rows of it: what `check` prints over the other.
+// The text of the table u, and what `check` prints over it and two rows of t.
 const CHECKED: [(&str, &str); 2] = [
     ("id\n7\n", "t 2\nu 1"),
     ("id\nx\n", "! sfq: u L5 record 1\nstatus 4"),
