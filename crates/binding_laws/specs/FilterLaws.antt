@@ -30,12 +30,12 @@ pub record ConjunctsByParts (A : Type 0) : Type 0 where
   pub is_empty : (a : A) → conjuncts_of (conds.IsEmpty a) ≡ conds.IsEmpty a ∷ []
   pub relates : (predicate : Predicate) (a b : A) → conjuncts_of (conds.Relates predicate a b) ≡ conds.Relates predicate a b ∷ []
 
--- a query is bound to the conjuncts of its ON and its WHERE as they stand, and both bindings have one fault
+-- a query is bound to the conjuncts of its ON and its WHERE as they are written, and both bindings have one fault
 abbrev pub BoundOfStatement : (T A B C D : Type 0) → Type 0
 BoundOfStatement T A B C D = (how : GeometryBinding T A B C D) (schema : List (TableDef T)) (query : Query A C)
     → binding how schema query ≡ (statement how schema query >>= (λ stated. Ok (by_conjuncts stated)))
 
--- the lists that are answered, joined, or the first fault
+-- the lists that are found, joined, or the first fault
 abbrev pub joined_in_order : {X : Type 0} → List (Checked (List X)) → Checked (List X)
 joined_in_order [] = Ok []
 joined_in_order (r ∷ more) = do

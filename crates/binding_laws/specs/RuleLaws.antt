@@ -1,4 +1,4 @@
--- The laws of what a query is bound to: the functions of binding answer what the rules say, and the rules say what they answer.
+-- The laws of what a query is bound to: the functions of binding return what the rules say, and the rules say what they return.
 use Rattle.std.specs.Prelude.{◌≡◌, List, Option, Ok, Err, IfOk, IfErr}
 use Rattle.table_model.specs.Binding.{Checked, GeometryBinding, binding, bound_column, bound_cond, bound_references, statement}
 use Rattle.table_model.specs.BindingRules.{GeometryRules, IsBoundColumn, IsRefusedColumn, IsCond, IsRefusedCond, geometry_rules}
@@ -14,7 +14,7 @@ use Rattle.table_model.specs.declared.queries.WrittenCond.{WrittenCond}
 use Rattle.table_model.specs.declared.queries.WrittenGeometry.{WrittenGeometry}
 use Rattle.table_model.specs.declared.queries.WrittenReference.{WrittenReference}
 
--- an answer agrees with rules: what is answered they say, and what they say is answered, so that they say one thing at most
+-- a result agrees with rules: what is returned they say, and what they say is returned, so that they say one thing at most
 pub record Agrees {X : Type 0} (Is : X → Type 0) (Refused : QueryFault → Type 0) (answer : Checked X) : Type 0 where
   pub stands : IfOk answer Is
   pub refused : IfErr answer Refused
@@ -44,7 +44,7 @@ abbrev pub ConditionsAgree : Type 0
 ConditionsAgree = (schema : List (TableDef ColumnShape)) (references : List Reference) (written : WrittenCond WrittenGeometry)
     → Agrees (IsCond geometry_rules schema references written) (IsRefusedCond geometry_rules schema references written) (bound_cond geometry_binding schema references written)
 
--- what a query with geometries is bound to as it stands, and where it is refused, is what the rules say (06-104r4, 7.2)
+-- what a query with geometries is bound to as it is written, and where it is refused, is what the rules say (06-104r4, 7.2)
 abbrev pub StatementsAgree : Type 0
 StatementsAgree = (schema : List (TableDef ColumnShape)) (query : Query WrittenGeometry WrittenColumn)
     → Agrees (IsStatement geometry_rules schema query) (IsRefusedQuery geometry_rules schema query) (statement geometry_binding schema query)

@@ -15,7 +15,7 @@ pub fn conjuncts_by_parts<A>()
     ensures { ConjunctsByParts A }
 {}
 
-/// A query is bound to the conjuncts of its ON and its WHERE as they stand, and both bindings have one fault.
+/// A query is bound to the conjuncts of its ON and its WHERE as they are written, and both bindings have one fault.
 pub fn bound_of_statement<T, A, B, C, D>()
     ensures { BoundOfStatement T A B C D }
 {}

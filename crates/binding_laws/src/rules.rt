@@ -18,7 +18,7 @@ pub fn conditions_agree()
     ensures { ConditionsAgree }
 {}
 
-/// What a query with geometries is bound to as it stands, and the fault that it is refused for, is what the rules say.
+/// What a query with geometries is bound to as it is written, and the fault that it is refused for, is what the rules say.
 pub fn statements_agree()
     ensures { StatementsAgree }
 {}

@@ -51,7 +51,7 @@ IsSound a b m = IsPartOf m (labelled_matrix a b)
 abbrev pub IsNoCut : Geometry → Geometry → Point → Type 0
 IsNoCut a b x = IsCut (edges_of_both a b) (listed a ++ listed b) x → ⊥
 
--- of a point the matrix shows a point where it stands; of one that is no cut a piece, and where the edge isn't upright both sides
+-- of a point the matrix shows a point where it lies; of one that is no cut a piece, and where the edge isn't upright both sides
 pub record ShowsPoint (a b : Geometry) (m : Matrix) (e : Edge) (x : Point) : Type 0 where
   pub point : Shows m (locate a x) (locate b x) Zero
   pub piece : IsNoCut a b x → Shows m (locate a x) (locate b x) One

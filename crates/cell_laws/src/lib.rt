@@ -13,12 +13,12 @@ ghost use Rattle.cell_laws.specs.CellLaws.{
   CoversTurned,
 };
 
-/// The parts of two geometries in which a point stands share at least a point (06-103r4, 6.1.15.2).
+/// The parts of two geometries in which a point lies share at least a point (06-103r4, 6.1.15.2).
 pub fn point_is_there()
     ensures { PointIsThere }
 {}
 
-/// The parts in which a point of an edge stands that is no cut share at least a stretch (06-103r4, 6.1.15.2).
+/// The parts in which a point of an edge lies that is no cut share at least a stretch (06-103r4, 6.1.15.2).
 pub fn piece_is_there()
     ensures { PieceIsThere }
 {}

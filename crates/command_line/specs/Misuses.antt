@@ -3,7 +3,7 @@ use Rattle.std.specs.Prelude.{ℕ}
 use Rattle.clap.specs.declared.error.kind.ErrorKind.{ErrorKind}
 use Rattle.clap.specs.declared.error.kind.ErrorKind.TheVariants as kind
 
--- 0 for help and for the version, 7 for want of memory, else 2
+-- 0 for help and for the version, 7 when memory ran out, else 2
 abbrev pub status_of : ErrorKind → ℕ
 status_of kind.DisplayHelp = 0
 status_of kind.DisplayVersion = 0

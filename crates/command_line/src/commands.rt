@@ -3,7 +3,7 @@
 /// A command with its words, as texts of its own.
 #[derive(Debug, Drop)]
 pub enum Order {
-    /// Answer a query over the tables of a directory.
+    /// Run a query over the tables of a directory.
     Run {
         /// The path of the schema.
         schema: String,
@@ -12,7 +12,7 @@ pub enum Order {
         /// The text of the SELECT.
         query: String,
     },
-    /// Load every table of a directory, and tell how many rows each has.
+    /// Load every table of a directory, and list how many rows each has.
     Check {
         /// The path of the schema.
         schema: String,

@@ -5,8 +5,8 @@ use clap::error::ErrorKind;
 use std::alloc::{AllocError, AllocFailed};
 use std::{fmt, io};
 
-/// What `clap` answers in place of an order: a mistake in the words, the help that they ask for, or
-/// want of memory. Its `Display` is `clap`'s text for the user.
+/// What `clap` returns in place of an order: a mistake in the words, the help that they ask for, or
+/// running out of memory. Its `Display` is `clap`'s text for the user.
 #[derive(Debug, Drop)]
 pub struct Misuse {
     /// The answer of `clap`.
@@ -18,7 +18,7 @@ impl Misuse {
     ghost use Rattle.clap.specs.Words.{kind_of};
     ghost use Rattle.command_line.specs.Misuses.{status_of};
 
-    /// The status to end with: 0 for help and for the version, 7 for want of memory, else 2.
+    /// The status to end with: 0 for help and for the version, 7 when memory ran out, else 2.
     pub fn status(&self) -> u8
         ensures { result ≡ status_of (kind_of self.now.error) }
     {
@@ -29,7 +29,7 @@ impl Misuse {
         }
     }
 
-    /// Prints `clap`'s text: help and version on standard output, all else on standard error. It answers the
+    /// Prints `clap`'s text: help and version on standard output, all else on standard error. It returns the
     /// error of the stream that it prints on.
     pub fn print<R: Print + Eprint>(&self, rt: &R) -> io::Result<()> {
         self.error.print(rt)

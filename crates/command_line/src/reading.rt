@@ -12,12 +12,12 @@ use clap::error::ErrorKind;
 use clap::{Arg, ArgMatches, Command};
 use std::alloc::{AllocError, Global};
 
-/// What `--version` tells.
+/// What `--version` prints.
 const VERSION: &str = "0.1.0";
 
 /// Reads the words of a command line, the program's name first, by `clap`. At Ok they are the
-/// command and its words, and no step of `clap` refuses them. A misuse is want of memory or of a kind
-/// that the step which refuses the words names, so it is want of memory where `clap` takes them.
+/// command and its words, and no step of `clap` refuses them. A misuse is memory that ran out or of a kind
+/// that the step which refuses the words names, so it is memory that ran out where `clap` takes them.
 pub fn order<'a>(alloc: Global, words: &'a [&'a str]) -> Result<Order, Misuse>
     ensures ok { IfOk result (Orders (texts words.entry.now)) }
     ensures accepted { OnOk result (fault_of sfq (texts words.entry.now) ≡ []) }
@@ -143,7 +143,7 @@ fn with_command<'a>(
 fn bare_command<'a>(alloc: Global) -> Command<'a>
     ensures { app_of result ≡ bare_sfq }
 {
-    let about = "Answers SQL over tables of an integer grid, by exact geometry";
+    let about = "Runs SQL over tables of an integer grid, by exact geometry";
     Command::new(alloc, "sfq")
         .about(about)
         .version(VERSION)
@@ -217,7 +217,7 @@ fn run_command<'a>(alloc: Global) -> Result<Command<'a>, AllocError>
 fn check_command<'a>(alloc: Global) -> Result<Command<'a>, AllocError>
     ensures { IfOk result (λ c. app_of c ≡ check) }
 {
-    let about = "Loads every table, and tells how many rows each has";
+    let about = "Loads every table and lists how many rows each has";
     with_places(alloc, Command::new(alloc, "check").about(about))
 }
 

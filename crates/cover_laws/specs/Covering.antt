@@ -23,7 +23,7 @@ pub record ShowsOff (a : Geometry) (m : Matrix) (e : Edge) (l : Location) : Type
   pub outer : e.start.x ≢ e.end.x → Shows m Exterior l Two
   pub inner : kind a ≡ kinds.Area → e.start.x ≢ e.end.x → Shows m Interior l Two
 
--- of a gap that an edge of b shares: the gap itself, and its sides as they stand at a point of it
+-- of a gap that an edge of b shares: the gap itself, and its sides as they lie at a point of it
 pub record ShowsOn (a b : Geometry) (m : Matrix) (e : Edge) (y : Point) : Type 0 where
   pub piece : Shows m (of_own_edges (kind a)) (of_own_edges (kind b)) One
   pub lower : e.start.x ≢ e.end.x → Shows m (below a y) (below b y) Two

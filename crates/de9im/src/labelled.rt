@@ -1,4 +1,4 @@
-//! The matrix that the labels of two geometries show: another way to the matrix that `relate` answers, by every node and every
+//! The matrix that the labels of two geometries show: another way to the matrix that `relate` returns, by every node and every
 //! piece. Tests compare the two.
 
 ghost use Rattle.std.specs.Prelude.{◌≡◌};

@@ -9,7 +9,7 @@ use matrices::{Matrix, find_matrix};
 use std::alloc::{AllocError, Global};
 use validity::Valid;
 
-/// The DE-9IM matrix of two geometries (06-103r4, 6.1.15.2). It adds one to the work. It fails only for want of memory, and
+/// The DE-9IM matrix of two geometries (06-103r4, 6.1.15.2). It adds one to the work. It fails only when memory runs out, and
 /// then leaves the work as it was.
 pub fn relate(
     alloc: Global,

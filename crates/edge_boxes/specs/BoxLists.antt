@@ -1,4 +1,4 @@
--- Lists of boxes over consecutive edges. Each box stands behind those of its subtree, which it counts.
+-- Lists of boxes over consecutive edges. Each box comes after those of its subtree, which it counts.
 use Rattle.std.specs.Prelude.{◌≡◌, ◌⊎◌, ℕ, zero, suc, ◌-◌, ◌≤◌, List, ◌++◌, length, drop, Option, Some, None, slice_get}
 use Rattle.geometry_model.specs.Geometries.{Edge}
 use Rattle.edge_boxes.specs.Runs.{SumsUp}
@@ -24,7 +24,7 @@ pub record IsRun (edges : List Edge) (run : Run) (first end : ℕ) : Type 0 wher
   pub ordered : first ≤ end
   pub within : end ≤ length edges
 
--- at its place the box stands behind its subtree, with the run of all edges of it
+-- at its place the box comes after its subtree, with the run of all edges of it
 pub record IsBoxAt (edges : List Edge) (boxes : List EdgeBox) (place : ℕ) (b : EdgeBox) : Type 0 where
   pub subtree : b.size ≤ place
   pub run : IsRun edges b.run (covered boxes (place - b.size)) b.end

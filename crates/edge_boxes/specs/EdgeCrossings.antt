@@ -37,10 +37,10 @@ pub record AreCrossings (c : Crossings) (edges : List Edge) (p : Point) : Type 0
 abbrev pub lie_apart : Envelope → Cell → Bool
 lie_apart b c = int_lt b.greatest_x c.ceiling_x || int_lt c.floor_x b.least_x || int_lt b.greatest_y c.ceiling_y
 
--- what a run tells of a point in a cell holds, whatever the run's edges are
+-- what a run shows of a point in a cell holds, whatever the run's edges are
 abbrev pub IsTold : Run → Cell → Crossings → Type 0
 IsTold run cell c = (p : Point) (es : List Edge) → IsCellOf cell p → SumsUp run es → AreCrossings c es p
 
--- what a run's strip and ends tell of a point in a cell holds, whatever the run's edges are
+-- what a run's strip and ends show of a point in a cell holds, whatever the run's edges are
 abbrev pub IsToldByStrip : Strip → Ends → Cell → Crossings → Type 0
 IsToldByStrip strip ends cell c = (p : Point) (es : List Edge) → IsCellOf cell p → IsStripOf strip es → SumsUpEnds ends es → AreCrossings c es p

@@ -17,7 +17,7 @@ meet_on_one_line e f = on_one_line e f && share_point e f
 abbrev pub SharesNone : Run → Edge → Type 0
 SharesNone run e = (es : List Edge) → SumsUp run es → list_any (share_point e) es ≡ false
 
--- a step to an earlier place tells whether one of the edges between is on one line with the edge and shares a point with it
+-- a step to an earlier place returns whether one of the edges between is on one line with the edge and shares a point with it
 pub record IsLineStep (boxes : List EdgeBox) (edges : List Edge) (e : Edge) (place next : ℕ) (found : Bool) : Type 0 where
   pub earlier : next < place
   pub own : List Edge

@@ -21,7 +21,7 @@ use fraction::RatPoint;
 use orient::Segment;
 use std::alloc::{AllocError, Global};
 
-/// A box over a run of consecutive edges. It stands behind the boxes of its subtree.
+/// A box over a run of consecutive edges. It comes after the boxes of its subtree.
 #[derive(Clone, Copy)]
 pub(crate) struct EdgeBox {
     pub(crate) run: Run,
@@ -31,7 +31,7 @@ pub(crate) struct EdgeBox {
     pub(crate) end: u32,
 }
 
-/// A flat list of boxes over consecutive edges, in postorder. It answers about the edges it was built over, which it
+/// A flat list of boxes over consecutive edges, in postorder. It is about the edges it was built over, which it
 /// doesn't keep.
 #[derive(Drop)]
 pub struct EdgeBoxes {
@@ -40,7 +40,7 @@ pub struct EdgeBoxes {
 
 impl EdgeBoxes {
     /// The boxes over some edges, in one pass: leaves of up to 8 edges, other boxes over up to 4 subtrees, none where
-    /// there are 16 edges or fewer. It may fail for want of memory.
+    /// there are 16 edges or fewer. It may run out of memory.
     pub fn build(alloc: Global, edges: &[Segment]) -> Result<EdgeBoxes, AllocError>
         ensures { IfOk result (λ boxes. BoxesOf boxes edges.now) }
     {
@@ -73,7 +73,7 @@ impl EdgeBoxes {
         is_one_on_line_among(self.boxes.as_slice(), edges, edge)
     }
 
-    /// Leaves in the vector the places, from one on, of the edges whose bounds meet these, ascending. It may fail for want
+    /// Leaves in the vector the places, from one on, of the edges whose bounds meet these, ascending. It may run out
     /// of memory.
     pub fn meeting(
         &self,

@@ -224,7 +224,7 @@ fn run_of_last(boxes: &[EdgeBox], last: &EdgeBox, count: usize) -> (Run, usize)
     (run, place)
 }
 
-/// The place of the first box of a subtree whose last one stands before a place.
+/// The place of the first box of a subtree whose last one is before a place.
 fn before(place: usize, root: &EdgeBox) -> usize
     ensures value { result ≡ place - 1 - root.now.size }
 {

@@ -89,7 +89,7 @@ fn is_over(bounds: &Bounds, cell: &Cell) -> bool
     cell.floor_y < bounds.least_y
 }
 
-/// How the point lies to a run of edges that doesn't hold it, where the run's strip and ends tell.
+/// How the point lies to a run of edges that doesn't hold it, where the run's strip and ends show.
 fn told_by_strip(strip: &Strip, ends: &Ends, cell: &Cell) -> Option<Crossings>
     ensures { IfSome result (IsToldByStrip strip.now ends.now cell.now) }
 {
@@ -102,7 +102,7 @@ fn told_by_strip(strip: &Strip, ends: &Ends, cell: &Cell) -> Option<Crossings>
     }
 }
 
-/// How the point lies to a run of edges that doesn't hold it, where the run's bounds and ends tell, or its strip and ends.
+/// How the point lies to a run of edges that doesn't hold it, where the run's bounds and ends show it, or its strip and ends.
 pub(crate) fn told(run: &Run, cell: &Cell) -> Option<Crossings>
     ensures { IfSome result (IsTold run.now cell.now) }
 {

@@ -3,7 +3,7 @@
 
 ghost use Rattle.edge_boxes.specs.LineCrossings.{CrossingsOfLines};
 
-/// How a point lies to the edges of lines or rings is what its place in a geometry is told by (06-103r4, 6.1.7 and
+/// How a point lies to the edges of lines or rings decides its place in a geometry (06-103r4, 6.1.7 and
 /// 6.1.11.1).
 pub fn crossings_of_lines()
     ensures { CrossingsOfLines }

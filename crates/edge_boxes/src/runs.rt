@@ -8,7 +8,7 @@ use crate::bounds::Bounds;
 use crate::strips::Strip;
 use orient::Segment;
 
-/// The first and the last x of a chain of edges, where the run is one as far as it can be told by them.
+/// The first and the last x of a chain of edges, where the run is one as far as they show.
 #[derive(Clone, Copy)]
 pub(crate) struct Ends {
     pub(crate) first_x: i32,

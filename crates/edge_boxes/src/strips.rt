@@ -46,7 +46,7 @@ fn are_beside(one: i64, other: i64, least: i64, greatest: i64) -> bool
     (one < least) & (other < least) | (greatest < one) & (greatest < other)
 }
 
-/// The direction between two positions, to the right; none where one stands above the other.
+/// The direction between two positions, to the right; none where one is above the other.
 fn direction_between(one: GridPoint, other: GridPoint) -> Option<Direction>
     ensures { IfSome result (λ direction. pos 0 <ℤ direction.dx) }
 {

@@ -44,7 +44,7 @@ impl Gaps {
         }
     }
 
-    /// Fills it for an edge among others, whose boxes come along. It may fail for want of memory.
+    /// Fills it for an edge among others, whose boxes come along. It may run out of memory.
     pub fn find(
         &mut self,
         edge: &Segment,
@@ -59,7 +59,7 @@ impl Gaps {
         set_stops(&mut self.stops, edge, self.shared.as_slice())
     }
 
-    /// Whether one of the others may share a stretch with the edge: where it answers no, none does. It may fail for want of
+    /// Whether one of the others may share a stretch with the edge: where it returns false, none does. It may fail for want of
     /// memory, and forgets what it was filled with.
     pub fn may_share_stretch(
         &mut self,

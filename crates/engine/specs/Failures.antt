@@ -28,7 +28,7 @@ failure_text f.OutOfMemory = memory_text
 abbrev pub failure_line : Failure → List ℕ
 failure_line failure = line_of (failure_text failure)
 
--- the status of a failure: 6 where reading or writing failed, 7 for want of memory
+-- the status of a failure: 6 where reading or writing failed, 7 when memory ran out
 abbrev pub failure_status : Failure → ℕ
 failure_status (f.Schema fault) = schema_status fault
 failure_status f.SchemaUnreadable = 6

@@ -1,4 +1,4 @@
--- Relating two geometries that stand as texts: their matrix, or the failure.
+-- Relating two geometries that are given as texts: their matrix, or the failure.
 use Rattle.std.specs.Prelude.{◌≡◌, ◌⊎◌, ℕ, List, Option, Some, None, Result, Ok, Err}
 use Rattle.geometry_model.specs.CheckedTexts.{tested}
 use Rattle.geometry_model.specs.Dimensions.{IsMatrix, Matrix}
@@ -12,7 +12,7 @@ use Rattle.engine.specs.declared.failure.Failure.TheVariants as f
 use Rattle.engine.specs.declared.failure.GeometryWord.{GeometryWord}
 use Rattle.engine.specs.declared.failure.GeometryWord.TheVariants.{First, Second}
 
--- a geometry, or the refusal of the text where it should stand
+-- a geometry, or the refusal of the text in its place
 abbrev pub or_refused : GeometryWord → Result Geometry GeometryFault → Result Geometry Failure
 or_refused word (Ok g) = Ok g
 or_refused word (Err fault) = Err (f.Refused word fault)
@@ -37,11 +37,11 @@ relation matrix first second =
 abbrev pub RelatesTexts : List ℕ → List ℕ → Matrix → Type 0
 RelatesTexts first second m = (a b : Geometry) × Spells first a × Spells second b × IsMatrix a b m
 
--- the failure is that of the outcome, or of want of memory
+-- the failure is that of the outcome, or of running out of memory
 abbrev pub IsFailureOf : {A : Type 0} → Result A Failure → Failure → Type 0
 IsFailureOf outcome failure = (failure ≡ f.OutOfMemory) ⊎ (outcome ≡ Err failure)
 
--- the failure that a geometry's fault is, and want of memory where there is none
+-- the failure that a geometry's fault is, and running out of memory where there is none
 abbrev pub refused_or_memory : GeometryWord → Option GeometryFault → Failure
 refused_or_memory word (Some fault) = f.Refused word fault
 refused_or_memory word None = f.OutOfMemory

@@ -1,4 +1,4 @@
--- What a run answers and puts. It is generic in how geometries are served.
+-- What a run returns and writes. It is generic in how geometries are served.
 use Rattle.std.specs.Prelude.{◌≡◌, ◌<◌, ◌⊎◌, ⊤, ℕ, Bool, true, false, IfOk, IsOk, List, ◌∷◌, [], codes, length, map, Option, Result, Ok, Err}
 use Rattle.std.specs.Option.{option_map_or}
 use Rattle.std.specs.Io.KnownBytes.{Appends, Keeps}
@@ -54,7 +54,7 @@ count_text limit count = records_text record_text ((codes "COUNT(*)" ∷ []) ∷
 
 -- ---- plans
 
--- the work of a bound query by a plan: none where the plan alone is told, and a count of 64 bits
+-- the work of a bound query by a plan: none where the plan alone is printed, and a count of 64 bits
 abbrev pub planned_work : {T G B D : Type 0} → Explain → Serving T G B D → MatrixOf → List (Table G) → Bound B D → Plan → ℕ
 planned_work explains.No serving matrix tables query plan = kept_count (work matrix serving.denotes tables query plan)
 planned_work explains.Plan serving matrix tables query plan = 0
@@ -102,13 +102,13 @@ abbrev pub RefusesTable : Bool → Type 0 → Result (List ℕ) Refusal → Tabl
 RefusesTable true reached outcome fault = reached
 RefusesTable false reached outcome fault = outcome ≡ Err (OfTable fault)
 
--- a beginning of the text that is the outcome was put
+-- a beginning of the text that is the outcome was written
 abbrev pub PutsFront : Result (List ℕ) Refusal → Option (List ℕ) → Option (List ℕ) → Type 0
 PutsFront outcome old new = (text : List ℕ) × (outcome ≡ Ok text) × AppendsFront old new text
 
--- what a run promises: at Ok the outcome is a text and exactly it was put; where the query or a table is refused the outcome is that
--- fault, or the reading of that table failed, and nothing was put; where the sink failed the outcome is a text and a beginning of it
--- was put; where memory ran out nothing was put, or such a beginning
+-- what a run promises: at Ok the outcome is a text and exactly it was written; where the query or a table is refused the outcome is that
+-- fault, or the reading of that table failed, and nothing was written; where the sink failed the outcome is a text and a beginning of it
+-- was written; where memory ran out nothing was written, or such a beginning
 abbrev pub Runs : {A : Type 0} → Result A Fault → Result (List ℕ) Refusal → (ℕ → Type 0) → Option (List ℕ) → Option (List ℕ) → Type 0
 Runs (Ok a) outcome reached old new = (text : List ℕ) × (outcome ≡ Ok text) × Appends old new text
 Runs (Err (faults.Query f)) outcome reached old new = (outcome ≡ Err (OfQuery f)) × Keeps old new
@@ -130,11 +130,11 @@ abbrev pub RunsOver : {A T G B D : Type 0} → Serving T G B D → Result A Faul
 RunsOver serving result definitions records text old new =
     ByEveryMatrix (λ matrix. Runs result (outcome record_text serving matrix definitions records text) (IsReached serving definitions records text) old new)
 
--- a number that a call answers is the outcome
+-- a number that a call returns is the outcome
 abbrev pub Counts : Result ℕ Fault → Result ℕ Refusal → Type 0
 Counts result outcome = IfOk result (λ work. outcome ≡ Ok work)
 
--- what a query over a database answers is its work, by every function that gives the matrix (06-103r4, 6.1.15)
+-- what a query over a database returns is its work, by every function that gives the matrix (06-103r4, 6.1.15)
 abbrev pub CountsQuery : {T G B D : Type 0} → (serving : Serving T G B D) → Result ℕ Fault → Database T G → ServedQuery serving.language → Type 0
 CountsQuery serving result database query = ByEveryMatrix (λ matrix. Counts result (query_work serving matrix query database))
 
@@ -142,7 +142,7 @@ CountsQuery serving result database query = ByEveryMatrix (λ matrix. Counts res
 abbrev pub CountsOver : {T G B D : Type 0} → Serving T G B D → Result ℕ Fault → List (TableDef T) → List (List Record) → List ℕ → Type 0
 CountsOver serving result definitions records text = ByEveryMatrix (λ matrix. Counts result (work_outcome serving matrix definitions records text))
 
--- a fault of loading tells of one of so many tables
+-- a fault of loading names one of so many tables
 abbrev pub IsOfTables : ℕ → Fault → Type 0
 IsOfTables count (faults.Load table f) = table < count
 IsOfTables count (faults.Query f) = ⊤

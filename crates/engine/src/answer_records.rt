@@ -19,7 +19,7 @@ use std::alloc::{AllocError, Global};
 use table_model::conditions::{ColumnPlace, Item, Reference};
 use wkt::{MemorySink, print};
 
-/// The header record of a query's answer. It fails only for want of memory.
+/// The header record of a query's answer. It fails only when memory runs out.
 pub fn header_record(
     alloc: Global,
     definitions: &[TableDef],
@@ -35,8 +35,8 @@ pub fn header_record(
     Ok(fields)
 }
 
-/// Makes a record that of some rows, one for each reference of the query; what stood in it is gone. It fails only for want
-/// of memory.
+/// Makes a record that of some rows, one for each reference of the query; what was in it is gone. It fails only when
+/// memory runs out.
 pub fn row_record(
     alloc: Global,
     fields: &mut ByteRecord,
@@ -254,7 +254,7 @@ fn push_number(fields: &mut ByteRecord, number: i64) -> Result<(), AllocError>
     fields.push_field(buffer.format(number).as_bytes())
 }
 
-// Adds the canonical text of a geometry. A sink over memory fails for want of memory alone.
+// Adds the canonical text of a geometry. A sink over memory fails only when memory runs out.
 fn push_geometry(
     alloc: Global,
     fields: &mut ByteRecord,

@@ -24,7 +24,7 @@ type ColumnIndex = RTree;
 /// How many bytes of a schema's file are read: one more than a schema may have.
 const SCHEMA_BYTES: u64 = TEXT_LIMIT as u64 + 1;
 
-/// Does what the order says: puts the answer on `out` and the line of a failure on `err`, and answers the status.
+/// Does what the order says: writes the answer on `out` and the line of a failure to `err`, and returns the status.
 /// The opener gives the reader of the file at a path, and None where it can't be opened.
 pub fn serve<R: Read + Drop, F: FnMut(&str) -> Option<R>, S: Sink, E: Sink>(
     alloc: Global,
@@ -58,7 +58,7 @@ pub fn serve<R: Read + Drop, F: FnMut(&str) -> Option<R>, S: Sink, E: Sink>(
     }
 }
 
-// Where the files of a command stand.
+// Where the files of a command are.
 #[derive(Drop)]
 struct Paths<'a> {
     schema: &'a str,
@@ -105,8 +105,8 @@ fn run_over<'s, R: Read + Drop, F: FnMut(&str) -> Option<R>, S: Sink>(
     }
 }
 
-// Loads every table, and puts a line for each, in the schema's order: its name and how many rows it has. The files are
-// opened as for a run, and nothing is put where one of them doesn't load.
+// Loads every table, and writes a line for each, in the schema's order: its name and how many rows it has. The files are
+// opened as for a run, and nothing is written where one of them doesn't load.
 fn serve_check<R: Read + Drop, F: FnMut(&str) -> Option<R>, S: Sink, E: Sink>(
     alloc: Global,
     paths: &Paths<'_>,
@@ -126,7 +126,7 @@ fn serve_check<R: Read + Drop, F: FnMut(&str) -> Option<R>, S: Sink, E: Sink>(
     }
 }
 
-// Opens the files of all tables, loads these, and puts their lines.
+// Opens the files of all tables, loads these, and writes their lines.
 fn check_over<'s, R: Read + Drop, F: FnMut(&str) -> Option<R>, S: Sink>(
     alloc: Global,
     schema: &'s Schema,
@@ -147,7 +147,7 @@ fn check_over<'s, R: Read + Drop, F: FnMut(&str) -> Option<R>, S: Sink>(
     }
 }
 
-// Puts a line for each table: its name, a blank and the number of its rows.
+// Writes a line for each table: its name, a blank and the number of its rows.
 fn put_counts<I: EnvelopeIndex + Drop, S: Sink>(
     database: &Database<'_, I>,
     out: &mut S,
@@ -163,7 +163,7 @@ fn put_counts<I: EnvelopeIndex + Drop, S: Sink>(
     Ok(())
 }
 
-// Puts the nine characters of the matrix of two geometries, and a line feed.
+// Writes the nine characters of the matrix of two geometries, and a line feed.
 fn serve_relate<S: Sink, E: Sink>(
     alloc: Global,
     first: &str,
@@ -181,7 +181,7 @@ fn serve_relate<S: Sink, E: Sink>(
     }
 }
 
-/// Puts the line of a failure, and answers its status, also where the line can't be put.
+/// Writes the line of a failure, and returns its status, also where the line can't be written.
 pub fn failed<E: Sink>(failure: &Failure<'_>, err: &mut E) -> u8
     ensures { result ≡ failure_status failure.now }
 {

@@ -58,8 +58,8 @@ struct Words<'a> {
     fault: FaultWords<'a>,
 }
 
-/// Puts the line of a failure: `sfq: `, its text and a line feed. It takes no memory. At Err the sink failed, and
-/// a beginning of the line has been put.
+/// Writes the line of a failure: `sfq: `, its text and a line feed. It takes no memory. At Err the sink failed, and
+/// a beginning of the line has been written.
 pub fn fault_line<S: Sink>(failure: &Failure<'_>, sink: &mut S) -> Result<(), SinkFault>
     ensures ok { OnOk result (Appends (S.taken sink.old) (S.taken sink.new) (failure_line failure.now)) }
     ensures front { OnErr result
@@ -87,7 +87,7 @@ fn digits<'b>(number: Option<usize>, buffer: &'b mut Buffer) -> &'b str
 }
 
 /// The status that the program ends with: 3 for the schema, 4 for a table, 5 for the query or a geometry of
-/// `relate`, 6 where reading or writing failed, 7 for want of memory.
+/// `relate`, 6 where reading or writing failed, 7 when memory ran out.
 pub fn status(failure: &Failure<'_>) -> u8
     ensures { result ≡ failure_status failure.now }
 {
@@ -106,7 +106,7 @@ pub fn status(failure: &Failure<'_>) -> u8
     }
 }
 
-// Puts the program's name, the parts of a text with the digits of its numbers, and a line feed.
+// Writes the program's name, the parts of a text with the digits of its numbers, and a line feed.
 fn put_line<'l, S: Sink>(
     sink: &mut S,
     words: &Words<'l>,

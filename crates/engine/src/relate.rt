@@ -22,7 +22,7 @@ use validity::{CheckFault, Valid, check};
 use wkt::{WktFault, read};
 
 /// The DE-9IM matrix of the valid geometries that two texts spell, of any types. Where a text spells none, or one that
-/// isn't valid, it is refused: the first text is read and checked before the second. It fails for want of memory too.
+/// isn't valid, it is refused: the first text is read and checked before the second. It fails when memory runs out too.
 /// (06-103r4, 6.1.15.2; the order is this project's.)
 pub fn relate_texts(alloc: Global, first: &[u8], second: &[u8]) -> Result<Matrix, Failure<'static>>
     ensures ok { ByEveryMatrix (λ matrix. IfOk result (λ m. relation matrix first.now second.now ≡ Ok m)) }

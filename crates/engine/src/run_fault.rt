@@ -5,7 +5,7 @@ use std::alloc::AllocError;
 use table_model::faults::{LoadFault, QueryFault, TableFault};
 use thiserror::Error;
 
-/// Why a run ends without an answer, in the order of its steps but for want of memory, which may come at each.
+/// Why a run ends without an answer, in the order of its steps but for running out of memory, which may come at each.
 #[derive(Clone, Copy, Debug, PartialEq, Eq, Error)]
 pub enum Fault {
     /// The query isn't taken.

@@ -39,9 +39,9 @@ use table_model::queries::Explain;
 use wkt::Sink;
 
 /// Answers a query over the tables that the readers give, one for each table of the schema, in its order: reads
-/// the query, loads all tables, binds, chooses the plan, and puts the header and the rows, or what EXPLAIN tells. Where
+/// the query, loads all tables, binds, chooses the plan, and writes the header and the rows, or what EXPLAIN prints. Where
 /// the readers' texts are known the answer is that of the records that `csv` reads of them; whatever the readers are,
-/// there are records of which this is the answer. The work answered is that of the chosen plan, and none under EXPLAIN.
+/// there are records of which this is the answer. The work returned is that of the chosen plan, and none under EXPLAIN.
 pub fn run<I: EnvelopeIndex + Drop, R: Read + Drop, S: Sink>(
     alloc: Global,
     schema: &Schema,
@@ -65,7 +65,7 @@ pub fn run<I: EnvelopeIndex + Drop, R: Read + Drop, S: Sink>(
     load_and_answer::<I, R, S>(alloc, schema, readers, &query, sink)
 }
 
-// Loads all tables and answers a query over them. What is said of the query is said of each text that reads as it does.
+// Loads all tables and runs a query over them. What is said of the query is said of each text that reads as it does.
 fn load_and_answer<I: EnvelopeIndex + Drop, R: Read + Drop, S: Sink>(
     alloc: Global,
     schema: &Schema,
@@ -92,8 +92,8 @@ fn load_and_answer<I: EnvelopeIndex + Drop, R: Read + Drop, S: Sink>(
     answer_query(alloc, query, &database, sink)
 }
 
-// Answers a query over a database: binds it, chooses its plan, and puts its answer. At Ok all of the answer has been
-// put; nothing where the query isn't bound, and a beginning where the sink failed or memory ran out.
+// Runs a query over a database: binds it, chooses its plan, and writes its answer. At Ok all of the answer has been
+// written; nothing where the query isn't bound, and a beginning where the sink failed or memory ran out.
 fn answer_query<I: EnvelopeIndex + Drop, S: Sink>(
     alloc: Global,
     query: &Query<'_>,
@@ -112,7 +112,7 @@ fn answer_query<I: EnvelopeIndex + Drop, S: Sink>(
     Ok(work)
 }
 
-// Puts what a bound query asks for, by a lawful plan, and answers the work.
+// Writes what a bound query asks for, by a lawful plan, and returns the work.
 fn put_planned<I: EnvelopeIndex + Drop, S: Sink>(
     alloc: Global,
     database: &Database<'_, I>,
@@ -136,7 +136,7 @@ fn put_planned<I: EnvelopeIndex + Drop, S: Sink>(
     }
 }
 
-// Puts the rows that a bound query means as a lawful plan finds them, and answers the work.
+// Writes the rows that a bound query means as a lawful plan finds them, and returns the work.
 fn put_rows<I: EnvelopeIndex + Drop, S: Sink>(
     alloc: Global,
     database: &Database<'_, I>,
@@ -158,7 +158,7 @@ fn put_rows<I: EnvelopeIndex + Drop, S: Sink>(
     Ok(rows.into_work())
 }
 
-// Puts what EXPLAIN tells of a plan. Nothing is executed, so there is no work.
+// Writes what EXPLAIN prints of a plan. Nothing is executed, so there is no work.
 fn put_plan<S: Sink>(query: &Bound, plan: &Plan, sink: &mut S) -> Result<Work, PutFault>
     ensures text { PutsText result (explain_text query.now plan.now)
         (S.taken sink.old) (S.taken sink.new) (S.failures sink.old) (S.failures sink.new) }
@@ -168,7 +168,7 @@ fn put_plan<S: Sink>(query: &Bound, plan: &Plan, sink: &mut S) -> Result<Work, P
     Ok(Work::new())
 }
 
-// Executes a lawful plan to its end, puts what EXPLAIN ANALYZE tells of it, and answers the work.
+// Executes a lawful plan to its end, writes what EXPLAIN ANALYZE prints of it, and returns the work.
 fn put_analysis<I: EnvelopeIndex + Drop, S: Sink>(
     alloc: Global,
     database: &Database<'_, I>,
@@ -192,7 +192,7 @@ fn put_analysis<I: EnvelopeIndex + Drop, S: Sink>(
     Ok(work)
 }
 
-// Puts the answer of a query, of which these rows are still to come: how many there are under COUNT(*), else the header
+// Writes the answer of a query, of which these rows are still to come: how many there are under COUNT(*), else the header
 // and the record of each row, as it comes.
 fn put_answer<I: EnvelopeIndex + Drop, S: Sink>(
     alloc: Global,
@@ -219,7 +219,7 @@ fn put_answer<I: EnvelopeIndex + Drop, S: Sink>(
     put_records(alloc, database, query, rows, &mut writer, sink)
 }
 
-// Takes rows to their end, and tells how many there were. A number past 64 bits is told as want of memory.
+// Takes rows to their end, and returns how many there were. A number past 64 bits counts as running out of memory.
 fn count_rows<I: EnvelopeIndex + Drop>(rows: &mut Rows<'_, I>) -> Result<u64, AllocError>
     ensures count { ByEveryMatrix (λ matrix. IfOk result (λ n. n ≡ length (to_come matrix rows.old))) }
     ensures work { ByEveryMatrix (λ matrix. OnOk result (rows.new.work ≡ work_at_end matrix rows.old)) }
@@ -235,7 +235,7 @@ fn count_rows<I: EnvelopeIndex + Drop>(rows: &mut Rows<'_, I>) -> Result<u64, Al
     Ok(count)
 }
 
-// Puts the header of COUNT(*), and the record of the number; under LIMIT 0 there is none.
+// Writes the header of COUNT(*), and the record of the number; under LIMIT 0 there is none.
 fn put_count<S: Sink>(
     alloc: Global,
     limit: Option<u64>,
@@ -264,7 +264,7 @@ fn one_field(alloc: Global, field: &[u8]) -> Result<ByteRecord, AllocError>
     Ok(fields)
 }
 
-// Puts a record of one field.
+// Writes a record of one field.
 fn put_field<S: Sink>(
     alloc: Global,
     field: &[u8],
@@ -280,7 +280,7 @@ fn put_field<S: Sink>(
     writer.put(alloc, &fields, sink)
 }
 
-// Puts the record of each row that is still to come, as it comes.
+// Writes the record of each row that is still to come, as it comes.
 fn put_records<I: EnvelopeIndex + Drop, S: Sink>(
     alloc: Global,
     database: &Database<'_, I>,

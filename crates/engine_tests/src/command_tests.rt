@@ -104,7 +104,7 @@ fn queries_are_answered_or_refused(rt: HostRuntime) -> Result<(), Fail> {
     plays(rt.alloc(), &[("s", SCHEMA), ("d/t.csv", TABLE)], QUERIES)
 }
 
-// A schema, a table t, a query, and what is printed. Faults of schemas and tables, and which of two is told: that of the
+// A schema, a table t, a query, and what is printed. Faults of schemas and tables, and which of two is printed: that of the
 // query's text before that of a table, and that before a name that isn't there.
 const LOADED: [(&str, &str, &str, &str); 8] = [
     (SCHEMA, "id,pop,name\n", "SELECT id FROM t", "id"),
@@ -227,7 +227,7 @@ fn repeated(
     Ok(whole)
 }
 
-// A query whose condition stands in so many parentheses prints this.
+// A query whose condition is in so many parentheses prints this.
 fn nested(alloc: Global, levels: usize, told: &str) -> Result<(), Fail> {
     let opened = repeated(alloc, "SELECT id FROM t WHERE ", levels, "(", "id = 1")?;
     let query = repeated(alloc, opened.as_str(), levels, ")", "")?;
@@ -239,7 +239,7 @@ fn nested(alloc: Global, levels: usize, told: &str) -> Result<(), Fail> {
     )
 }
 
-/// A condition in 64 parentheses is answered, and one in 65 refused.
+/// A condition in 64 parentheses is accepted, and one in 65 refused.
 #[test]
 fn depth_is_limited(rt: HostRuntime) -> Result<(), Fail> {
     nested(rt.alloc(), 64, "id\n1")?;
@@ -395,7 +395,7 @@ fn refused_unread(rt: &HostRuntime, table: &str, line: &[u8], wanted: u8) -> Res
     Ok(out.bytes().is_empty() && err.bytes() == line && status == wanted)
 }
 
-/// A failed reading is told of its table, unless a table before it doesn't load.
+/// A failed reading names its table, unless a table before it doesn't load.
 #[test]
 fn a_failed_reading_is_told_of_its_table(rt: HostRuntime) -> Result<(), Fail> {
     assert!(rt; refused_unread(&rt, "id\n1\n", b"sfq: u L11\n", 6)?);

@@ -1,4 +1,4 @@
-//! Commands over memory, told as scripts: a command, and below it what it prints.
+//! Commands over memory, written as scripts: a command, and below it what it prints.
 
 use command_line::Order;
 use engine::serve;
@@ -61,7 +61,7 @@ fn order_of(alloc: Global, command: &str) -> Result<Order, Fail> {
     }
 }
 
-/// What stands on standard output, then the line on standard error after `! `, then the status where it isn't 0.
+/// What is on standard output, then the line on standard error after `! `, then the status where it isn't 0.
 fn transcript(
     alloc: Global,
     out: &MemorySink,
@@ -110,8 +110,8 @@ pub(crate) fn prints(
     }
 }
 
-/// Fails at the first command of a script that prints anything else over some files than what stands below it. An empty
-/// line stands between a command's text and the next command.
+/// Fails at the first command of a script that prints anything else over some files than what is below it. An empty
+/// line is between a command's text and the next command.
 pub(crate) fn plays(alloc: Global, files: Files<'_>, script: &str) -> Result<(), Fail> {
     let mut rest = Some(script);
     for _ in 0..script.len() {

@@ -1,4 +1,4 @@
-//! Runs over an index that hasn't the memory for each search: only a probe meets it, and what was found before stays put.
+//! Runs over an index that hasn't the memory for each search: only a probe meets it, and what was found before stays written.
 
 use engine::{Fault, run};
 use feature_table::Schema;
@@ -48,7 +48,7 @@ impl EnvelopeIndex for Starved {
     }
 }
 
-// Runs a query over the points, by their schema; what it puts is left in the sink.
+// Runs a query over the points, by their schema; what it writes is left in the sink.
 fn run_over(
     alloc: Global,
     schema: &Schema,
@@ -66,7 +66,7 @@ fn run_over(
     }
 }
 
-// Runs a query over the points; what it puts is left in the sink.
+// Runs a query over the points; what it writes is left in the sink.
 fn run_starved(
     alloc: Global,
     query: &str,
@@ -76,9 +76,9 @@ fn run_starved(
     run_over(alloc, &schema, query, sink)
 }
 
-/// A probe is refused with its search, which is made once the header was put; rows are put as they are found, those before
-/// a search that is refused among them; a number is put once all rows were counted; a scan asks no index. The work
-/// answered is the number of matrices.
+/// A probe is refused with its search, which is made once the header was written; rows are written as they are found, those before
+/// a search that is refused among them; a number is written once all rows were counted; a scan asks no index. The work
+/// returned is the number of matrices.
 #[test]
 fn plans_meet_their_index(rt: HostRuntime) -> Result<(), Fail> {
     for (query, wanted, text) in &[

@@ -57,7 +57,7 @@ const STATUSES: [(&[&str], u8); 8] = [
     (&["sfq", "check", "a", "b", "c"], 2),
 ];
 
-/// Help, mistakes, and want of memory, which ends with 7.
+/// Help, mistakes, and running out of memory, which ends with 7.
 #[test]
 fn statuses(rt: HostRuntime) {
     for (words, status) in &STATUSES {

@@ -4,7 +4,7 @@ use crate::commands::plays;
 use std::test::Fail;
 
 const SCHEMA: &str = "\
--- The land register of a small town: its parcels and who owns them, and what stands, runs and lies on them.
+-- The land register of a small town: its parcels and who owns them, and what is on them or runs through them.
 -- The grid's unit is ten metres.
 
 CREATE TABLE owner (

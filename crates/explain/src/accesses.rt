@@ -27,7 +27,7 @@ fn name_at(references: &[Reference], place: usize) -> &[u8]
     }
 }
 
-// Puts the line of an access with the name of its reference and the text of its method, this in two parts.
+// Writes the line of an access with the name of its reference and the text of its method, this in two parts.
 fn put_line<'l, S: Sink>(
     sink: &mut S,
     role: &'l [u8],
@@ -45,7 +45,7 @@ fn put_line<'l, S: Sink>(
     put_parts(sink, &parts)
 }
 
-// Puts the line of an access.
+// Writes the line of an access.
 fn put_access<S: Sink>(
     sink: &mut S,
     references: &[Reference],
@@ -68,7 +68,7 @@ fn put_access<S: Sink>(
     }
 }
 
-// Puts the lines of the accesses.
+// Writes the lines of the accesses.
 pub(crate) fn put_accesses<S: Sink>(
     sink: &mut S,
     references: &[Reference],

@@ -13,8 +13,8 @@ use table_model::conditions::Bound;
 use table_model::plans::Plan;
 
 /// Puts what EXPLAIN says of a plan of a query: its cost, a line for each access, the filters in the order in which
-/// they are evaluated, and lines for COUNT(*) and LIMIT where these stand. It takes no memory. At Err the sink failed,
-/// and a beginning of the text has been put.
+/// they are evaluated, and lines for COUNT(*) and LIMIT if they are there. It takes no memory. At Err the sink failed,
+/// and a beginning of the text has been written.
 pub fn explain<S: Sink, A, C>(
     query: &Bound<A, C>,
     plan: &Plan,
@@ -33,8 +33,8 @@ pub fn explain<S: Sink, A, C>(
     put_limit(sink, query.limit)
 }
 
-/// Puts what EXPLAIN ANALYZE says of a plan of a query: the text of EXPLAIN, and the work that was done. It takes no
-/// memory. At Err the sink failed, and a beginning of the text has been put.
+/// Writes what EXPLAIN ANALYZE says of a plan of a query: the text of EXPLAIN, and the work that was done. It takes no
+/// memory. At Err the sink failed, and a beginning of the text has been written.
 pub fn analyze<S: Sink, A, C>(
     query: &Bound<A, C>,
     plan: &Plan,
@@ -51,7 +51,7 @@ pub fn analyze<S: Sink, A, C>(
     put_number(sink, b"work", work)
 }
 
-// Puts the lines of a plan's accesses.
+// Writes the lines of a plan's accesses.
 fn put_plan_accesses<S: Sink, A, C>(
     sink: &mut S,
     query: &Bound<A, C>,
@@ -66,7 +66,7 @@ fn put_plan_accesses<S: Sink, A, C>(
     put_accesses(sink, query.references.as_slice(), plan.accesses.as_slice())
 }
 
-// Puts the line of a plan's filters.
+// Writes the line of a plan's filters.
 fn put_plan_filters<S: Sink>(sink: &mut S, plan: &Plan) -> Result<(), SinkFault>
     ensures ok { OnOk result (Appends (S.taken sink.old) (S.taken sink.new)
         (line (codes "filter") (filters_text plan.now.filters))) }

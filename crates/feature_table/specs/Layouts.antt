@@ -1,4 +1,4 @@
--- Where the columns of a table stand in a header.
+-- Where the columns of a table are in a header.
 use Rattle.std.specs.Prelude.{◌≡◌, List, length, map}
 use Rattle.feature_table.specs.declared.headers.Layout.{Layout}
 use Rattle.table_model.specs.Loading.{Record, place_in}

@@ -1,4 +1,4 @@
--- What loading answers where reading may fail or memory run out.
+-- What loading returns where reading may fail or memory run out.
 use Rattle.std.specs.Prelude.{◌≡◌, ◌⊎◌, Bool, true, false, Result, Ok, Err}
 use Rattle.table_model.specs.declared.faults.LoadFault.{LoadFault}
 use Rattle.table_model.specs.declared.faults.LoadFault.TheVariants as fault
@@ -28,7 +28,7 @@ abbrev pub Loads : {X Y : Type 0} → (X → Y) → Result X LoadFault → Resul
 Loads view (Ok x) answer = answer ≡ Ok (view x)
 Loads view (Err f) answer = ¬ (IsFailure f) → answer ≡ Err f
 
--- the same of an answer whose fault tells of a table
+-- the same of a result whose fault names a table
 abbrev pub LoadsTable : {X Y : Type 0} → (X → Y) → Result X TableFault → Result Y TableFault → Type 0
 LoadsTable view (Ok x) answer = answer ≡ Ok (view x)
 LoadsTable view (Err f) answer = ¬ (IsFailure f.fault) → answer ≡ Err f

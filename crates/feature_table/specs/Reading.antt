@@ -18,7 +18,7 @@ pub record IsSteady {R : Type 0} (reader : Reader R) : Type 0 where
   pub flexible : is_flexible reader ≡ true
   pub config : reader_config reader ≡ default_config
 
--- the bytes of a reader are known, it stands between two records of them, and it still gives these
+-- the bytes of a reader are known, it is between two records of them, and it still gives these
 pub record StillGives {R : Type 0} (remaining : R → Option (List ℕ)) (reader : Reader R) (rest : List Record) : Type 0 where
   pub bytes : List ℕ
   pub source : source_of remaining reader ≡ Some bytes

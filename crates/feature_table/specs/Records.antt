@@ -6,7 +6,7 @@ use Rattle.feature_table.specs.Reading.{IsSteady, StillGives, TakesFirst}
 use Rattle.feature_table.specs.declared.records.Records.{Records}
 use Rattle.table_model.specs.Loading.{Record, row_limit}
 
--- the most records that are asked for: the header, as many as a table has rows, and one that tells of more
+-- the most records that are asked for: the header, as many as a table has rows, and one that shows that there are more
 abbrev pub record_limit : ℕ
 record_limit = 1 + row_limit + 1
 
@@ -14,11 +14,11 @@ record_limit = 1 + row_limit + 1
 abbrev pub asked : {R : Type 0} → Records R → ℕ
 asked r = r.asked
 
--- whether csv answered the last time that reading failed
+-- whether csv returned the last time that reading failed
 abbrev pub read_failed : {R : Type 0} → Records R → Bool
 read_failed r = r.read_failed
 
--- whether csv answered an error, and one of reading
+-- whether csv returned an error, and one of reading
 abbrev pub tells_of_reading : {A : Type 0} → Result A Error → Bool
 tells_of_reading (Ok x) = false
 tells_of_reading (Err e) = is_io (error_kind e)

@@ -1,4 +1,4 @@
--- What reading the next row of a table answers.
+-- What reading the next row of a table returns.
 use Rattle.std.specs.Prelude.{◌≡◌, ℕ, List, [], ◌∷◌, Option, Some, None, Result, Ok, Err, ⊤}
 use Rattle.feature_table.specs.Outcomes.{IsFailure, Loads}
 use Rattle.feature_table.specs.Records.{Gives}

@@ -39,7 +39,7 @@ impl<'s, I: EnvelopeIndex> Model for Database<'s, I> {
         IsDatabase takes (record { definitions = d.schema.now; tables = d.tables.items }) };
 }
 
-/// Loads the table at a place of a schema, and tells of that place with a fault.
+/// Loads the table at a place of a schema, and adds that place to a fault.
 fn load_table<I: EnvelopeIndex + Drop, R: Read + Drop>(
     alloc: Global,
     schema: &Schema,

@@ -23,7 +23,7 @@ fn is_blank(byte: u8) -> bool
     byte == b' ' || byte == b'\t'
 }
 
-/// How many blanks stand at the front of a text.
+/// How many blanks are at the front of a text.
 fn blanks_at_front(text: &[u8]) -> usize
     ensures within { result ≤ length text.now }
     ensures count { result ≡ prefix_len spec.is_space_or_tab text.now }
@@ -31,7 +31,7 @@ fn blanks_at_front(text: &[u8]) -> usize
     text.iter().take_while(|byte| is_blank(**byte)).count()
 }
 
-/// How many blanks stand at the end of a text.
+/// How many blanks are at the end of a text.
 fn blanks_at_end(text: &[u8]) -> usize
     ensures within { result ≤ length text.now }
     ensures count { result ≡ prefix_len spec.is_space_or_tab (reverse text.now) }

@@ -1,4 +1,4 @@
-//! What stands in a geometry column: the one module that says what the type of such a column is and what a
+//! What is in a geometry column: the one module that says what the type of such a column is and what a
 //! geometry is.
 
 ghost use Rattle.std.specs.Prelude.{◌≡◌, IfErr, false};

@@ -1,4 +1,4 @@
-//! Where the columns of a table stand in a header.
+//! Where the columns of a table are in a header.
 
 ghost use Rattle.std.specs.Prelude.{◌≡◌, ◌≢◌, [], IfErr, IfOk, MatchResult, None, Some, false, length, vec_len};
 ghost use Rattle.std.specs.List.{slice_index_or};
@@ -50,7 +50,7 @@ fn place_of(header: &ByteRecord, name: &[u8]) -> Result<usize, LoadFault>
     found.ok_or(LoadFault::MissingColumn)
 }
 
-/// Where each column stands in a header, or the first fault of a column's name there.
+/// Where each column is in a header, or the first fault of a column's name there.
 pub(crate) fn layout_of(
     alloc: Global,
     columns: &[ColumnDef],

@@ -23,7 +23,7 @@ pub(crate) struct Indexes<I> {
 }
 
 impl<I: EnvelopeIndex + Drop> Indexes<I> {
-    /// The indexes of the columns of a table. It fails only for want of memory.
+    /// The indexes of the columns of a table. It fails only when memory runs out.
     pub(crate) fn build(
         alloc: Global,
         table: &TableDef,
@@ -71,7 +71,7 @@ fn own_index<I: EnvelopeIndex + Drop>(
     }
 }
 
-/// The index of what stands in a column.
+/// The index of what is in a column.
 fn index_of<I: EnvelopeIndex + Drop>(
     alloc: Global,
     rows: &[Items<Value<Geometry>>],
@@ -100,7 +100,7 @@ fn bare_index<I: EnvelopeIndex + Drop>(
     I::build(alloc, envelopes.as_slice())
 }
 
-/// The envelope of what stands in a column of a row.
+/// The envelope of what is in a column of a row.
 fn envelope_in(row: &[Value<Geometry>], column: usize) -> Option<Envelope>
     ensures { result ≡ field_envelope (field_in column row.now) }
 {

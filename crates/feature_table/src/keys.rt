@@ -87,7 +87,7 @@ fn with_keys(
     Ok(keyed)
 }
 
-/// The rows of those that stand beside their keys.
+/// The rows of those that are beside their keys.
 fn without_keys(
     alloc: Global,
     keyed: Vec<KeyedRow>,
@@ -101,7 +101,7 @@ fn without_keys(
     Ok(rows)
 }
 
-/// Puts rows that stand beside their keys into the order of the keys.
+/// Puts rows that are beside their keys into the order of the keys.
 fn sort_keyed(keyed: &mut Vec<KeyedRow>)
     ensures moved { IsPermutation keyed.old.items keyed.new.items }
     ensures sorted { IsSortedByKey (λ k. k.number) int_cmp keyed.new.items }
@@ -109,14 +109,14 @@ fn sort_keyed(keyed: &mut Vec<KeyedRow>)
     keyed.sort_unstable_by_key(|keyed_row| keyed_row.number);
 }
 
-/// Whether each key is below the next, of rows that stand beside their keys.
+/// Whether each key is below the next, of rows that are beside their keys.
 fn keyed_ascend(keyed: &[KeyedRow]) -> bool
     ensures { IsAllAdjacentAnswer (λ row next below. below ≡ int_lt row.number next.number) keyed.now result }
 {
     keyed.is_sorted_by(|row, next| row.number < next.number)
 }
 
-/// The number, from 1, of the first of some keys that an earlier one equals, where rows stand beside the same
+/// The number, from 1, of the first of some keys that an earlier one equals, where rows are beside the same
 /// keys in an order of their own. Where these ascend there is none, and no set is made.
 fn double_among(
     alloc: Global,
@@ -132,7 +132,7 @@ fn double_among(
     double_key(alloc, keys)
 }
 
-/// Puts rows into the order of their keys. The fault tells of two rows of one key.
+/// Puts rows into the order of their keys. The fault says that two rows have one key.
 pub(crate) fn order_by_key(
     alloc: Global,
     rows: &mut Vec<Items<Value<Geometry>>>,

@@ -21,7 +21,7 @@ use table_model::definitions::ROW_LIMIT;
 use table_model::faults::LoadFault;
 use table_model::values::Value;
 
-/// Reads the next record, and answers its row where there is one.
+/// Reads the next record, and returns its row where there is one.
 fn next_row<R: Read + Drop>(
     alloc: Global,
     table: &TableDef,

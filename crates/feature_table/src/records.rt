@@ -16,13 +16,13 @@ use std::io::Read;
 use table_model::faults::LoadFault;
 
 /// The records of a table's CSV text, the header among them, taken one by one. No more than 100,002 are asked
-/// for: the header, as many as a table may have rows, and one that tells of more.
+/// for: the header, as many as a table may have rows, and one that shows that there are more.
 #[derive(Drop)]
 pub struct Records<R> {
     reader: Reader<R>,
     /// How many records `csv` was asked for.
     asked: usize,
-    /// Whether `csv` answered the last time that reading failed.
+    /// Whether `csv` returned the last time that reading failed.
     read_failed: bool,
 }
 
@@ -61,7 +61,7 @@ impl<R: Read + Drop> Records<R> {
         self.asked
     }
 
-    /// Whether `csv` answered the last time that reading failed.
+    /// Whether `csv` returned the last time that reading failed.
     pub fn read_failed(&self) -> bool
         ensures { result ≡ read_failed self.now }
     {
@@ -69,7 +69,7 @@ impl<R: Read + Drop> Records<R> {
     }
 
     /// Asks `csv` for the next record, and says whether there is one. An error is that of `csv`; it is one of
-    /// reading or tells that memory ran out, and no record is asked for after it.
+    /// reading or reports that memory ran out, and no record is asked for after it.
     pub fn read(&mut self, record: &mut ByteRecord) -> Result<bool, Error>
         requires ready { IsReady self.old }
         requires limit { asked self.old < record_limit }
@@ -93,7 +93,7 @@ impl<R: Read + Drop> Records<R> {
     }
 }
 
-/// The fault of an error: one of reading only where `csv` tells of a fault of reading.
+/// The fault of an error: one of reading only where `csv` reports a fault of reading.
 fn fault_of(error: &Error) -> LoadFault
     ensures { result ≡ (if is_io (error_kind error.now) then fault.ReadFailed else fault.OutOfMemory) }
 {

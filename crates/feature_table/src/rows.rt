@@ -30,7 +30,7 @@ fn is_required(table: &TableDef, place: usize, column: &ColumnDef) -> bool
     column.not_null || place == table.key
 }
 
-/// The value of a record's field in the column at a place. The columns stand at these places of the header.
+/// The value of a record's field in the column at a place. The columns are at these places of the header.
 fn value_at(
     alloc: Global,
     table: &TableDef,
@@ -60,7 +60,7 @@ fn value_at(
     )
 }
 
-/// The values of a record's fields in the columns of a table, which stand at these places of the header.
+/// The values of a record's fields in the columns of a table, which are at these places of the header.
 fn row_of(
     alloc: Global,
     table: &TableDef,

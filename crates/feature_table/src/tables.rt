@@ -86,7 +86,7 @@ impl<I: EnvelopeIndex> Model for Table<I> {
 impl<I: EnvelopeIndex + Drop> Table<I> {
     /// Loads the table of a definition, which is lawful by itself, from the CSV text that a reader gives. The
     /// answer is the first fault where there is one: of the header, then of the records in order, then a
-    /// repeated key. A fault of reading is answered where it comes. Whatever the reader is, there are records
+    /// repeated key. A fault of reading is returned where it comes. Whatever the reader is, there are records
     /// of which this is the answer, and at Ok the rows are those of a table of this definition. It is
     /// `Table::load_from` over the records of the reader, so at most 100,002 of them are read, the header
     /// among them. (06-104r4, feature tables.)
@@ -107,7 +107,7 @@ impl<I: EnvelopeIndex + Drop> Table<I> {
 
     /// Loads the table of a definition, which is lawful by itself, from records of which none was asked for
     /// yet. The answer is that of `Table::load`. It asks for at most 100,002 records, the header among them,
-    /// and answers that reading failed only where `csv` answered an error of reading, and where no record
+    /// and returns that reading failed only where `csv` returned an error of reading, and where no record
     /// before that one has a fault.
     pub fn load_from<R: Read + Drop>(
         alloc: Global,

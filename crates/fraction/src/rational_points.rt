@@ -188,7 +188,7 @@ impl PartialEq for RatPoint {
 
     ghost laws = { partial_equiv_from_equiv (eq_by_cmp_equiv point_order_total) };
 
-    /// Whether the two are one point. In least form a point has one triple, so the triples tell.
+    /// Whether the two are one point. In least form a point has one triple, so the triples decide.
     fn eq(&self, other: &RatPoint) -> bool
         ensures order { result ≡ eq_by_cmp point_order self.now other.now }
         ensures exact { result ≡ same_point self.now other.now }

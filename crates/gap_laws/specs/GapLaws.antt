@@ -21,7 +21,7 @@ GapHasMediant = (e : Edge) (fs : List Edge) (p q : Point) → IsGap e fs p q →
 abbrev pub GapHasNoCut : Type 0
 GapHasNoCut = (e : Edge) (fs : List Edge) (p q : Point) → IsGap e fs p q → (es : List Edge) (ps : List Position) → (x : Point) × IsBetween e p q x × (IsCut es ps x → ⊥)
 
--- all points strictly between the ends of a gap stand alike, but for listed positions and odd ends (06-103r4, 6.1.15.2)
+-- all points strictly between the ends of a gap lie alike, but for listed positions and odd ends (06-103r4, 6.1.15.2)
 abbrev pub GapIsAlike : Type 0
 GapIsAlike = (b : Geometry) → HasClosedRings b → (e : Edge) (p q : Point) → IsGap e (edges b) p q → (x y : Point) → IsBetween e p q x → IsBetween e p q y → mostly b x ≡ mostly b y
 
@@ -30,7 +30,7 @@ abbrev pub GapEndIsAlike : Type 0
 GapEndIsAlike = (b : Geometry) → HasClosedRings b → (e : Edge) (p q : Point) → IsGap e (edges b) p q → (x y : Point) → IsBetween e p q y → IsPoint x → on e x ≡ true → IsWithin (record { lesser = p; greater = q }) x
     → All (λ f. on f x ≡ false) (edges b) → (mostly b x ≡ mostly b y) × All (λ f. on f y ≡ false) (edges b)
 
--- a point stands where almost all do, unless an odd number of ends stand there or it is a listed position (06-103r4, 6.1.8.1)
+-- a point lies where almost all do, unless an odd number of ends are there or it is a listed position (06-103r4, 6.1.8.1)
 abbrev pub MostlyIsLocated : Type 0
 MostlyIsLocated = (g : Geometry) (x : Point) → IsPoint x → (kind g ≡ kinds.Line → is_odd_end (lines g) x ≡ false) → All (λ a. stands_at x a ≡ false) (listed g) → locate g x ≡ mostly g x
 
@@ -64,7 +64,7 @@ abbrev pub SidesWithinOwnEdge : Type 0
 SidesWithinOwnEdge = (a : Geometry) → IsValid a → kind a ≡ kinds.Area → (e : Edge) → Contains (edges a) e → e.start.x ≢ e.end.x → (p q x : Point) → IsPoint p → IsPoint q → on e p ≡ true → on e q ≡ true → IsBetween e p q x
     → ArePartedAs (below a x) (above a x)
 
--- all along an edge of a valid area that isn't upright, strictly between two of its points, each side stands alike (06-103r4, 6.1.11.1)
+-- all along an edge of a valid area that isn't upright, strictly between two of its points, each side lies alike (06-103r4, 6.1.11.1)
 abbrev pub SidesAlongOwnEdge : Type 0
 SidesAlongOwnEdge = (a : Geometry) → IsValid a → (e : Edge) → Contains (edges a) e → e.start.x ≢ e.end.x → (p q x y : Point) → IsPoint p → IsPoint q → on e p ≡ true → on e q ≡ true → IsBetween e p q x → IsBetween e p q y
     → (below a x ≡ below a y) × (above a x ≡ above a y)

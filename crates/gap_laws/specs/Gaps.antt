@@ -57,17 +57,17 @@ pub record AreGaps (e : Edge) (others : List Edge) (g : EdgeGaps) : Type 0 where
   pub whole : (x : Point) → IsPoint x → on e x ≡ true → Any (λ c. IsWithin c x) (stretches g.stops)
   pub limits : All (λ p. p.W ≤ℤ pos meeting_limit) g.stops
 
--- where almost all points of a stretch stand in a geometry of this kind: the listed positions of points and the odd ends of lines don't count
+-- where almost all points of a stretch lie in a geometry of this kind: the listed positions of points and the odd ends of lines don't count
 abbrev pub mostly_of : Kind → Geometry → Point → Location
 mostly_of kinds.Point g p = Exterior
 mostly_of kinds.Line g p = if on_some (lines g) p then Interior else Exterior
 mostly_of kinds.Area g p = in_rings (rings g) p
 
--- where almost all points of a stretch stand in a geometry
+-- where almost all points of a stretch lie in a geometry
 abbrev pub mostly : Geometry → Point → Location
 mostly g p = mostly_of (kind g) g p
 
--- where almost all points of its own edges stand in a geometry: in the interior of lines, on the boundary of an area (points have no edges)
+-- where almost all points of its own edges lie in a geometry: in the interior of lines, on the boundary of an area (points have no edges)
 abbrev pub of_own_edges : Kind → Location
 of_own_edges kinds.Point = Exterior
 of_own_edges kinds.Line = Interior

@@ -27,12 +27,12 @@ pub fn shared_gap_holds_ends()
     ensures { SharedGapHoldsEnds }
 {}
 
-/// All points strictly between the ends of a gap stand alike, but for listed positions and odd ends (06-103r4, 6.1.15.2).
+/// All points strictly between the ends of a gap lie alike, but for listed positions and odd ends (06-103r4, 6.1.15.2).
 pub fn gap_is_alike()
     ensures { GapIsAlike }
 {}
 
-/// A point from the one end of a gap to the other, both counted, that no edge holds stands as the points strictly between the
+/// A point from the one end of a gap to the other, both counted, that no edge holds lies as the points strictly between the
 /// ends do, and then no edge holds those (06-103r4, 6.1.15.2).
 pub fn gap_end_is_alike()
     ensures { GapEndIsAlike }

@@ -23,7 +23,7 @@ pub fn sides_within_own_edge()
     ensures { SidesWithinOwnEdge }
 {}
 
-/// All along an edge of a valid geometry that isn't upright, strictly between two of its points, each side stands alike
+/// All along an edge of a valid geometry that isn't upright, strictly between two of its points, each side lies alike
 /// (06-103r4, 6.1.11.1).
 pub fn sides_along_own_edge()
     ensures { SidesAlongOwnEdge }

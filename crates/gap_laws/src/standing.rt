@@ -1,13 +1,13 @@
-//! Laws of where almost all points of a stretch stand in a geometry.
+//! Laws of where almost all points of a stretch lie in a geometry.
 
 ghost use Rattle.gap_laws.specs.GapLaws.{MostlyIsLocated, NoCutIsMostly, OwnEdgesAreMostly, OffEdgesIsNoBoundary};
 
-/// A point stands where almost all do, unless an odd number of ends stand there or it is a listed position (06-103r4, 6.1.8.1).
+/// A point lies where almost all do, unless an odd number of ends are there or it is a listed position (06-103r4, 6.1.8.1).
 pub fn mostly_is_located()
     ensures { MostlyIsLocated }
 {}
 
-/// A point that is no cut stands where almost all do, in both geometries (06-103r4, 6.1.8.1).
+/// A point that is no cut lies where almost all do, in both geometries (06-103r4, 6.1.8.1).
 pub fn no_cut_is_mostly()
     ensures { NoCutIsMostly }
 {}

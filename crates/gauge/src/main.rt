@@ -1,4 +1,4 @@
-//! The program `gauge`: it does one thing to well-known texts, as often as it is told, so that the measures in bench/ can
+//! The program `gauge`: it does one thing to well-known texts, as often as it is asked to, so that the measures in bench/ can
 //! time it beside others. Without words it writes the canonical text of a geometry.
 #![tactic(auto)]
 
@@ -75,7 +75,7 @@ fn main(rt: HostRuntime) -> ExitCode {
     }
 }
 
-// Does what the words of the command line say to what stands on standard input, and writes the answer.
+// Does what the words of the command line say to what is on standard input, and writes the answer.
 fn gauge(rt: &HostRuntime) -> Result<(), Failure> {
     let words = words_of(rt)?;
     let text = read_input(rt)?;
@@ -95,7 +95,7 @@ fn words_of(rt: &HostRuntime) -> Result<Vec<String>, Failure> {
     Ok(words)
 }
 
-// What stands on standard input.
+// What is on standard input.
 fn read_input(rt: &HostRuntime) -> Result<String, Failure> {
     let mut text = String::new(rt.alloc());
     match rt.stdin().take(TEXT_BYTES + 1).read_to_string(&mut text) {
@@ -105,7 +105,7 @@ fn read_input(rt: &HostRuntime) -> Result<String, Failure> {
     }
 }
 
-// Puts what the words of the command line ask of a text.
+// Writes what the words of the command line ask of a text.
 fn put_answer<S: Sink>(
     alloc: Global,
     words: &[String],
@@ -128,7 +128,7 @@ fn put<S: Sink>(bytes: &[u8], sink: &mut S) -> Result<(), Failure> {
     put_all(sink, bytes).map_err(|_| Failure::Failed)
 }
 
-// Puts the canonical text of the geometry that a text spells.
+// Writes the canonical text of the geometry that a text spells.
 fn put_again<S: Sink>(alloc: Global, text: &[u8], sink: &mut S) -> Result<(), Failure>
     ensures { OnOk result (Reprints text.now (S.taken sink.old) (S.taken sink.new)) }
 {
@@ -136,13 +136,13 @@ fn put_again<S: Sink>(alloc: Global, text: &[u8], sink: &mut S) -> Result<(), Fa
     print(&geometry, sink).map_err(|_| Failure::Failed)
 }
 
-// Puts a number's digits.
+// Writes a number's digits.
 fn put_number<S: Sink>(number: usize, sink: &mut S) -> Result<(), Failure> {
     let mut buffer = itoa::Buffer::new();
     put(buffer.format(number).as_bytes(), sink)
 }
 
-// Does one thing this often, and puts its answer: of `relate` the matrix of the geometries in the first two lines, else a number.
+// Does one thing this often, and writes its result: of `relate` the matrix of the geometries in the first two lines, else a number.
 fn put_measured<S: Sink>(
     alloc: Global,
     word: &str,
@@ -219,7 +219,7 @@ fn valid(alloc: Global, text: &str) -> Result<Option<Valid>, Failure> {
     }
 }
 
-// Puts the matrix that is found by edges, and the one that labels show.
+// Writes the matrix that is found by edges, and the one that labels show.
 fn put_both<S: Sink>(
     alloc: Global,
     first: &Valid,
@@ -234,7 +234,7 @@ fn put_both<S: Sink>(
     put(b"\n", sink)
 }
 
-// Does one thing this often, and answers its number: of `read` its lines or rings, of `check` 1 where the geometry is valid, of
+// Does one thing this often, and returns its number: of `read` its lines or rings, of `check` 1 where the geometry is valid, of
 // `locate` how many of the points in the further lines aren't in its exterior.
 fn measured(alloc: Global, word: &str, times: u32, text: &str) -> Result<usize, Failure> {
     match word {
@@ -269,7 +269,7 @@ fn points_in(alloc: Global, lines: Lines<'_>) -> Result<Vec<RatPoint>, Failure> 
     Ok(points)
 }
 
-// Reads a text this often; answers how many lines or rings it has.
+// Reads a text this often; returns how many lines or rings it has.
 fn read_often(alloc: Global, text: &[u8], times: u32) -> Result<usize, Failure> {
     let mut lines = 0;
     for _ in 0..times {
@@ -278,7 +278,7 @@ fn read_often(alloc: Global, text: &[u8], times: u32) -> Result<usize, Failure> 
     Ok(lines)
 }
 
-// Reads and tests a text this often; answers 1 where the geometry is valid, and else 0.
+// Reads and tests a text this often; returns 1 where the geometry is valid, and else 0.
 fn check_often(alloc: Global, text: &[u8], times: u32) -> Result<usize, Failure> {
     let mut answer = 0;
     for _ in 0..times {
@@ -298,7 +298,7 @@ fn point(alloc: Global, text: &[u8]) -> Result<RatPoint, Failure> {
     Ok(RatPoint::of_grid(*position))
 }
 
-// Locates each of some points this often; answers how many aren't in the exterior.
+// Locates each of some points this often; returns how many aren't in the exterior.
 fn locate_often(valid: &Valid, points: &[RatPoint], times: u32) -> usize {
     let mut inside = 0;
     for _ in 0..times {

@@ -58,12 +58,12 @@ pub record FirstAbove (es : List Edge) (x : Point) : Type 0 where
 abbrev pub FirstIsAbove : Type 0
 FirstIsAbove = (es : List Edge) (x : Point) → IsPoint x → All (λ e. strictly_above e x ≡ false) es ⊎ FirstAbove es x
 
--- no upright edge goes through the point, and no listed position stands there
+-- no upright edge goes through the point, and no listed position is there
 pub record IsSlantAt (g : Geometry) (p : Point) : Type 0 where
   pub edges : All (λ e. on e p ≡ true → e.start.x ≡ e.end.x → ⊥) (edges g)
   pub positions : All (λ a. stands_at p a ≡ false) (listed g)
 
--- just below and just above such a point there are triangles of points that stand as the sides say
+-- just below and just above such a point there are triangles of points that lie as the sides say
 abbrev pub SidesHaveTriangles : Type 0
 SidesHaveTriangles = (a b : Geometry) → HasClosedRings a → HasClosedRings b → (s : Point) → IsPoint s → IsSlantAt a s → IsSlantAt b s
     → HasTriangle (common a (below a s) b (below b s)) × HasTriangle (common a (above a s) b (above b s))
@@ -74,7 +74,7 @@ pub record IsJustBelow (k : ℕ) (p q : Point) : Type 0 where
   pub lower : IsLower p q
   pub near : (pos k *ℤ (q.Y *ℤ p.W -ℤ p.Y *ℤ q.W)) <ℤ (p.W *ℤ q.W)
 
--- a point straight below s and one straight above it, both nearer than 1/k, that stand in g as below and above say
+-- a point straight below s and one straight above it, both nearer than 1/k, that lie in g as below and above say
 pub record NearSides (g : Geometry) (s : Point) (k : ℕ) : Type 0 where
   pub under : Point
   pub over : Point
@@ -85,16 +85,16 @@ pub record NearSides (g : Geometry) (s : Point) (k : ℕ) : Type 0 where
   pub under_stands : locate g under ≡ below g s
   pub over_stands : locate g over ≡ above g s
 
--- straight below and straight above a point through which no upright edge goes there are, arbitrarily near, points that stand as below and above say
+-- straight below and straight above a point through which no upright edge goes there are, arbitrarily near, points that lie as below and above say
 abbrev pub SidesAreNear : Type 0
 SidesAreNear = (g : Geometry) (s : Point) → IsPoint s → IsSlantAt g s → (k : ℕ) → NearSides g s k
 
--- nearer than some 1/k, all points straight below s stand in g as below says, and all straight above it as above says
+-- nearer than some 1/k, all points straight below s lie in g as below says, and all straight above it as above says
 pub record AllNearStand (g : Geometry) (s : Point) : Type 0 where
   pub k : ℕ
   pub under_stand : (t : Point) → IsPoint t → IsJustBelow k t s → locate g t ≡ below g s
   pub over_stand : (t : Point) → IsPoint t → IsJustBelow k s t → locate g t ≡ above g s
 
--- straight below and straight above a point through which no upright edge goes, all points near enough stand as below and above say
+-- straight below and straight above a point through which no upright edge goes, all points near enough lie as below and above say
 abbrev pub NearPointsStandSo : Type 0
 NearPointsStandSo = (g : Geometry) (s : Point) → IsPoint s → IsSlantAt g s → AllNearStand g s

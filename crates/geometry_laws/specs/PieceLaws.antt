@@ -29,7 +29,7 @@ IsPieceOf a b c = IsPiece (edges_of_both a b) (listed a ++ listed b) c
 abbrev pub IsInside : (a b : Geometry) (c : Piece) → IsPieceOf a b c → Point → Type 0
 IsInside a b c h x = Inside (edges_of_both a b) (listed a ++ listed b) c h x
 
--- all points strictly within a piece stand alike in both geometries
+-- all points strictly within a piece lie alike in both geometries
 abbrev pub LabelsAreConstant : Type 0
 LabelsAreConstant = (a b : Geometry) → HasClosedRings a → HasClosedRings b → (c : Piece) (h : IsPieceOf a b c) → (x y : Point) → IsInside a b c h x → IsInside a b c h y
     → (locate a x ≡ locate a y) × (locate b x ≡ locate b y)
@@ -39,11 +39,11 @@ abbrev pub SidesAreConstant : Type 0
 SidesAreConstant = (a b : Geometry) → HasClosedRings a → HasClosedRings b → (c : Piece) (h : IsPieceOf a b c) → is_upright c ≡ false → (x y : Point) → IsInside a b c h x → IsInside a b c h y
     → ((above a x ≡ above a y) × (above b x ≡ above b y)) × ((below a x ≡ below a y) × (below b x ≡ below b y))
 
--- no edge goes through the point, and no listed position stands there
+-- no edge goes through the point, and no listed position is there
 pub record IsOff (g : Geometry) (p : Point) : Type 0 where
   pub edges : All (λ e. on e p ≡ false) (edges g)
   pub positions : All (λ a. stands_at p a ≡ false) (listed g)
 
--- around a point off both geometries there is a triangle of points that stand where it does
+-- around a point off both geometries there is a triangle of points that lie where it does
 abbrev pub OffHasTriangle : Type 0
 OffHasTriangle = (a b : Geometry) → HasClosedRings a → HasClosedRings b → (p : Point) → IsPoint p → IsOff a p → IsOff b p → HasTriangle (common a (locate a p) b (locate b p))

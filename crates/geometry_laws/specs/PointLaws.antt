@@ -80,6 +80,6 @@ OddAboveRespects = (rs : List (List Position)) → Respects (odd_above rs)
 abbrev pub OddAtOrAboveRespects : Type 0
 OddAtOrAboveRespects = (rs : List (List Position)) → Respects (odd_at_or_above rs)
 
--- nor where it stands in a geometry: interior, boundary and exterior are sets of points (06-103r4, 6.1.15.1)
+-- nor where it lies in a geometry: interior, boundary and exterior are sets of points (06-103r4, 6.1.15.1)
 abbrev pub LocateRespects : Type 0
 LocateRespects = (g : Geometry) → Respects (locate g)

@@ -17,17 +17,17 @@ pub fn first_is_above()
     ensures { FirstIsAbove }
 {}
 
-/// Just below and just above a point through which no upright edge goes there are triangles of points that stand as the sides say.
+/// Just below and just above a point through which no upright edge goes there are triangles of points that lie as the sides say.
 pub fn sides_have_triangles()
     ensures { SidesHaveTriangles }
 {}
 
-/// Straight below and straight above a point through which no upright edge goes there are, arbitrarily near, points that stand as `below` and `above` say.
+/// Straight below and straight above a point through which no upright edge goes there are, arbitrarily near, points that lie as `below` and `above` say.
 pub fn sides_are_near()
     ensures { SidesAreNear }
 {}
 
-/// Straight below and straight above such a point, all points near enough stand as `below` and `above` say.
+/// Straight below and straight above such a point, all points near enough lie as `below` and `above` say.
 pub fn near_points_stand_so()
     ensures { NearPointsStandSo }
 {}

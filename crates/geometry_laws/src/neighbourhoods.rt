@@ -2,7 +2,7 @@
 
 ghost use Rattle.geometry_laws.specs.PieceLaws.{LabelsAreConstant, SidesAreConstant, OffHasTriangle};
 
-/// All points strictly within a piece of two geometries stand alike in both.
+/// All points strictly within a piece of two geometries lie alike in both.
 pub fn labels_are_constant()
     ensures { LabelsAreConstant }
 {}
@@ -12,7 +12,7 @@ pub fn sides_are_constant()
     ensures { SidesAreConstant }
 {}
 
-/// Around a point off both geometries there is a triangle of points that stand where it does.
+/// Around a point off both geometries there is a triangle of points that lie where it does.
 pub fn off_has_triangle()
     ensures { OffHasTriangle }
 {}

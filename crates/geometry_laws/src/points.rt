@@ -77,7 +77,7 @@ pub fn odd_at_or_above_respects()
     ensures { OddAtOrAboveRespects }
 {}
 
-/// Where a point stands in a geometry doesn't depend on its triple: interior, boundary and exterior are sets of points (06-103r4, 6.1.15.1).
+/// Where a point lies in a geometry doesn't depend on its triple: interior, boundary and exterior are sets of points (06-103r4, 6.1.15.1).
 pub fn locate_respects()
     ensures { LocateRespects }
 {}

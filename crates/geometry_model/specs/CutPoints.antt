@@ -43,7 +43,7 @@ if_on_both e f p =
 abbrev pub crossings : Edge → Edge → List Point
 crossings e f = if_on_both e f (least_form (meeting_point e f))
 
--- x before y and the rest, in its place behind y, or left out where it stands there already
+-- x before y and the rest, in its place behind y, or left out where it is there already
 abbrev pub placed : {A : Type 0} → Ordering → A → A → List A → List A → List A
 placed Less x y rest behind = x ∷ y ∷ rest
 placed Equal x y rest behind = y ∷ rest

@@ -29,15 +29,15 @@ with_both f (Ok a) (Ok b) = Some (f a b)
 abbrev pub relate : List ℕ → List ℕ → Option (List ℕ)
 relate s t = with_both (λ a b. matrix_text (labelled_matrix a b)) (read_text s) (read_text t)
 
--- where the point (X/W, Y/W) stands in the geometry of a text
+-- where the point (X/W, Y/W) lies in the geometry of a text
 abbrev pub place : List ℕ → Point → Option Location
 place s p = with_one (λ a. locate a p) (read_text s)
 
--- where what is just below the point (X/W, Y/W) stands in the geometry of a text
+-- where what is just below the point (X/W, Y/W) lies in the geometry of a text
 abbrev pub just_below : List ℕ → Point → Option Location
 just_below s p = with_one (λ a. below a p) (read_text s)
 
--- where what is just above it stands
+-- where what is just above it lies
 abbrev pub just_above : List ℕ → Point → Option Location
 just_above s p = with_one (λ a. above a p) (read_text s)
 
@@ -81,7 +81,7 @@ square = codes "POLYGON((0 0,4 0,4 4,0 4,0 0))"
 abbrev pub frame : List ℕ
 frame = codes "POLYGON((0 0,10 0,10 10,0 10,0 0),(4 4,6 4,6 6,4 6,4 4))"
 
--- a square that stands on a corner
+-- a square on its corner
 abbrev pub diamond : List ℕ
 diamond = codes "POLYGON((0 2,2 0,4 2,2 4,0 2))"
 

@@ -19,7 +19,7 @@ pub record Label : Type 0 where
   pub first : Location
   pub second : Location
 
--- the label of a point: where it stands in both geometries
+-- the label of a point: where it lies in both geometries
 abbrev pub label : Geometry → Geometry → Point → Label
 label a b p = record { first = locate a p; second = locate b p }
 

@@ -8,7 +8,7 @@ use Rattle.geometry_model.specs.Crossings.{odd, odd_above}
 use Rattle.geometry_model.specs.declared.point_sets.Location.{Location}
 use Rattle.geometry_model.specs.declared.point_sets.Location.TheVariants.{Interior, Boundary, Exterior}
 
--- the point stands at the position (06-103r4, 6.1.4)
+-- the point is at the position (06-103r4, 6.1.4)
 abbrev pub stands_at : Point → Position → Bool
 stands_at p a = same_point (point_at a) p
 
@@ -26,7 +26,7 @@ ends (a ∷ rest) = a ∷ last_after a rest ∷ []
 abbrev pub on_some : List (List Position) → Point → Bool
 on_some ls p = list_any (λ e. on e p) (edges_of_lines ls)
 
--- an odd number of element ends stand at the point (06-103r4, 6.1.8.1: the mod 2 rule)
+-- an odd number of element ends are at the point (06-103r4, 6.1.8.1: the mod 2 rule)
 abbrev pub is_odd_end : List (List Position) → Point → Bool
 is_odd_end ls p = odd (count_by (stands_at p) (flat_map ends ls))
 
@@ -34,7 +34,7 @@ is_odd_end ls p = odd (count_by (stands_at p) (flat_map ends ls))
 abbrev pub in_points : List Position → Point → Location
 in_points ps p = if list_any (stands_at p) ps then Interior else Exterior
 
--- lines: the boundary is the points at which an odd number of element ends stand; the interior is the rest of the lines (06-103r4, 6.1.6.1 and 6.1.8.1: the mod 2 rule)
+-- lines: the boundary is the points at which an odd number of element ends are; the interior is the rest of the lines (06-103r4, 6.1.6.1 and 6.1.8.1: the mod 2 rule)
 abbrev pub in_lines : List (List Position) → Point → Location
 in_lines ls p =
     if is_odd_end ls p then Boundary
@@ -48,7 +48,7 @@ in_rings rs p =
     else if odd_above rs p then Interior
     else Exterior
 
--- where a point stands in a geometry (06-103r4, 6.1.15.2)
+-- where a point lies in a geometry (06-103r4, 6.1.15.2)
 abbrev pub locate : Geometry → Point → Location
 locate (Geometry.Point o) p = in_points (option_to_list o) p
 locate (Geometry.MultiPoint ps) p = in_points ps p

@@ -1,4 +1,4 @@
--- Interior, boundary and exterior said as facts about a point, in the standard's words, beside the function that answers which.
+-- Interior, boundary and exterior said as facts about a point, in the standard's words, beside the function that returns which.
 use Rattle.std.specs.Prelude.{List, [], ◌∷◌, IsTrue, Any, option_to_list}
 use Rattle.geometry_model.specs.Points.{Position, Point}
 use Rattle.geometry_model.specs.Geometries.{Geometry, edges_of_lines, joined_rings}
@@ -6,7 +6,7 @@ use Rattle.geometry_model.specs.Sides.{on}
 use Rattle.geometry_model.specs.Crossings.{odd_above}
 use Rattle.geometry_model.specs.Locations.{stands_at, is_odd_end}
 
--- the point stands at one of the positions (06-103r4, 6.1.4 and 6.1.5)
+-- the point is at one of the positions (06-103r4, 6.1.4 and 6.1.5)
 abbrev pub IsListed : List Position → Point → Type 0
 IsListed ps p = Any (λ a. IsTrue (stands_at p a)) ps
 
@@ -14,7 +14,7 @@ IsListed ps p = Any (λ a. IsTrue (stands_at p a)) ps
 abbrev pub LiesOn : List (List Position) → Point → Type 0
 LiesOn ls p = Any (λ e. IsTrue (on e p)) (edges_of_lines ls)
 
--- an odd number of element ends stand at the point (06-103r4, 6.1.8.1: the mod 2 rule)
+-- an odd number of element ends are at the point (06-103r4, 6.1.8.1: the mod 2 rule)
 abbrev pub IsOddEnd : List (List Position) → Point → Type 0
 IsOddEnd ls p = IsTrue (is_odd_end ls p)
 

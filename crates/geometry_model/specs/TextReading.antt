@@ -47,7 +47,7 @@ after n i = record { left = drop n i.left; at = i.at + n }
 abbrev pub sees : (ℕ → Bool) → Reader Bool
 sees test i = Ok (begins_with test i.left, i)
 
--- the byte where reading stands
+-- the byte that is read next
 abbrev pub place : Reader ℕ
 place i = Ok (i.at, i)
 
@@ -109,7 +109,7 @@ pub record FoundNumber : Type 0 where
   pub whole : List ℕ
   pub fraction : List ℕ
 
--- the longest number that stands here; W1 where none does (06-103r4, 7.2.2: signed numeric literal; W1: this project's choice)
+-- the longest number that begins here; W1 where none does (06-103r4, 7.2.2: signed numeric literal; W1: this project's choice)
 unfoldable pub numeral : Reader FoundNumber
 numeral = do
   at ← place
@@ -124,7 +124,7 @@ coordinate n i = if is_whole n.fraction
     then (if nat_lt coordinate_limit (digits_value 10 n.whole) then Err (OutOfRange n.at) else Ok (signed n.minus n.whole, i))
     else Err (OffGrid n.at)
 
--- white space, which has to stand here
+-- white space, which has to come here
 unfoldable pub space : Reader (List ℕ)
 space = do
   at ← place
@@ -180,7 +180,7 @@ polygons (suc turns) count room = do
   goes_on ← eat 44
   if goes_on then (polygons turns (count - length x) (room - length (flat_map (λ ring. ring) x)) >>= λ more. pure (x ∷ more)) else pure (x ∷ [])
 
--- the word EMPTY, or what stands in parentheses (06-103r4, 7.2.2: empty set)
+-- the word EMPTY, or what is in parentheses (06-103r4, 7.2.2: empty set)
 unfoldable pub body : {A : Type 0} → Reader (List A) → Reader (List A)
 body inner = do
   run is_white
@@ -209,7 +209,7 @@ abbrev pub first : List Position → Option Position
 first [] = None
 first (p ∷ ps) = Some p
 
--- what stands behind a type's name
+-- what comes after a type's name
 unfoldable pub typed : ℕ → List ℕ → Reader Geometry
 typed at name =
     if str_eq_ignore_ascii_case name (codes "POINT") then (lone >>= λ ps. pure (Point (first ps)))
@@ -220,7 +220,7 @@ typed at name =
     else if str_eq_ignore_ascii_case name (codes "MULTIPOLYGON") then (nested_lists >>= λ es. pure (MultiPolygon es))
     else refuse at
 
--- a type's name and what stands behind it (06-103r4, 7.2.2: tagged text)
+-- a type's name and what comes after it (06-103r4, 7.2.2: tagged text)
 unfoldable pub tagged : Reader Geometry
 tagged = do
   at ← place

@@ -1,4 +1,4 @@
--- Which texts are refused, and as what, said apart from any reading: by the bytes that stand before the fault.
+-- Which texts are refused, and as what, said apart from any reading: by the bytes that come before the fault.
 use Rattle.std.specs.Prelude.{◌≡◌, ℕ, ◌+◌, ◌<◌, ◌==◌, ◌||◌, ◌⊎◌, Bool, true, false, List, ◌++◌, length, codes}
 use Rattle.std.specs.List.{list_any}
 use Rattle.std.specs.Char.{is_ascii_digit}
@@ -8,7 +8,7 @@ use Rattle.geometry_model.specs.WellKnownText.{begins_with, Numeral, Writes, Spe
 use Rattle.geometry_model.specs.declared.text_faults.TextFault.{TextFault}
 use Rattle.geometry_model.specs.declared.text_faults.TextFault.TheVariants.{Syntax, OffGrid, OutOfRange, TooLong}
 
--- the text begins a geometry, and a new number can stand behind it: a plus can, which stands nowhere but at the beginning of a number
+-- the text begins a geometry, and a new number can follow it: a plus can, which is nowhere but at the beginning of a number
 abbrev pub TakesNumber : List ℕ → Type 0
 TakesNumber front = Begins (front ++ codes "+")
 
@@ -22,7 +22,7 @@ pub record IsFirstNumber (text : List ℕ) (minus : Bool) (whole fraction : List
   pub no_digit : begins_with is_ascii_digit rest ≡ false
   pub no_point : (begins_with (λ c. c == 46) rest ≡ false) ⊎ (list_any (λ c. c == 46) number ≡ true)
 
--- at this byte, where a new number can stand, stands a number with this sign and these digits
+-- at this byte, where a new number can begin, is a number with this sign and these digits
 pub record HasNumber (text : List ℕ) (at : ℕ) (minus : Bool) (whole fraction : List ℕ) : Type 0 where
   pub front : List ℕ
   pub tail : List ℕ
@@ -52,7 +52,7 @@ pub record IsOutOfRange (text : List ℕ) (at : ℕ) : Type 0 where
 abbrev pub begins_more : ℕ → Bool
 begins_more c = is_ascii_digit c || c == 40
 
--- W4 by a position: its first number stands where, the counts set aside, one position more than they allow can be the last
+-- W4 by a position: its first number is where, the counts set aside, one position more than they allow can be the last
 pub record HasTooManyPositions (text : List ℕ) : Type 0 where
   pub front : List ℕ
   pub tail : List ℕ
@@ -67,7 +67,7 @@ pub record HasTooManyPositions (text : List ℕ) : Type 0 where
   pub spelled : Writes written (front ++ codes "+0 0" ++ closing)
   pub counted : length (written_positions written) ≡ position_limit + 1
 
--- W4 by a part: its parenthesis stands where one part more than the count allows can be the last
+-- W4 by a part: its parenthesis is where one part more than the count allows can be the last
 pub record HasTooManyParts (text : List ℕ) : Type 0 where
   pub front : List ℕ
   pub tail : List ℕ
@@ -78,14 +78,14 @@ pub record HasTooManyParts (text : List ℕ) : Type 0 where
   pub spelled : Writes written (front ++ codes "(+0 0" ++ closing)
   pub counted : length (written_parts written) ≡ part_limit + 1
 
--- W2, W3 or W4 stands
+-- W2, W3 or W4 applies
 abbrev pub IsRefusedAs : List ℕ → TextFault → Type 0
 IsRefusedAs text (Syntax at) = ⊥
 IsRefusedAs text (OffGrid at) = IsOffGrid text at
 IsRefusedAs text (OutOfRange at) = IsOutOfRange text at
 IsRefusedAs text TooLong = HasTooManyPositions text ⊎ HasTooManyParts text
 
--- the refusal of a text; W1 stands where it spells nothing and no other does (the byte of W1 is shown by examples)
+-- the refusal of a text; W1 applies where it spells nothing and no other does (the byte of W1 is shown by examples)
 abbrev pub IsRefused : List ℕ → TextFault → Type 0
 IsRefused text (Syntax at) = ((g : Geometry) → Spells text g → ⊥) × ((fault : TextFault) → IsRefusedAs text fault → ⊥)
 IsRefused text (OffGrid at) = IsOffGrid text at

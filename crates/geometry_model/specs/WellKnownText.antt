@@ -1,4 +1,4 @@
--- Well-known text: which text spells which geometry. Each rule says which texts it takes, and stands as the grammar is printed.
+-- Well-known text: which text spells which geometry. Each rule says which texts it takes, and reads as the grammar is printed.
 use Rattle.std.specs.Prelude.{◌≡◌, ℕ, ◌+◌, ◌<◌, ◌≤◌, ◌==◌, ◌⊎◌, ℤ, pos, neg_ℤ, Bool, true, false, ◌&&◌, ◌||◌, List, [], ◌∷◌, ◌++◌, length, map, codes}
 use Rattle.std.specs.Char.{is_ascii_digit}
 use Rattle.std.specs.Ordering.{int_eq}
@@ -118,12 +118,12 @@ LineText ps = Enclosed (Separated PositionText ps)
 abbrev pub PolygonText : List (List Position) → Rule
 PolygonText rings = Enclosed (Separated LineText rings)
 
--- what stands behind the type's name: EMPTY, or the parts in parentheses (06-103r4, 7.2.2: empty set)
+-- what comes after the type's name: EMPTY, or the parts in parentheses (06-103r4, 7.2.2: empty set)
 abbrev pub Body : {A : Type 0} → (A → Rule) → List A → Rule
 Body P [] = Space ⨾ Word (codes "EMPTY")
 Body P (x ∷ more) = Blank ⨾ Enclosed (Separated P (x ∷ more))
 
--- the type's name and what stands behind it, with the positions as they are written, also equal ones
+-- the type's name and what comes after it, with the positions as they are written, also equal ones
 -- (06-103r4, 7.2.2: the tagged texts)
 abbrev pub TaggedText : Geometry → Rule
 TaggedText (Point p) = Word (codes "POINT") ⨾ Body PositionText (option_to_list p)

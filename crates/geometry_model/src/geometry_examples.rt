@@ -48,7 +48,7 @@ pub fn rational_points()
         ≡ point (pos 6) (pos 2) (pos 6) }
 {}
 
-/// Where points stand: ends of lines, corners of rings, holes (06-103r4, 6.1.15.2).
+/// Where points lie: ends of lines, corners of rings, holes (06-103r4, 6.1.15.2).
 pub fn locations()
     ensures two_ends { place (codes "MULTILINESTRING((0 0,2 0),(2 0,4 0))") (point (pos 2) (pos 0) (pos 1))
         ≡ Some Interior }

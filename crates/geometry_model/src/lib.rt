@@ -1,6 +1,6 @@
 //! The geometry of OGC 06-103r4 (Simple Features, part 1) as definitions: what the contracts of the crates
 //! above mean by a point, a geometry, its interior, boundary and exterior, its dimension, the DE-9IM matrix and
-//! the spatial predicates. The definitions stand in `specs/`. The code has the small plain types that the
+//! the spatial predicates. The definitions are in `specs/`. The code has the small plain types that the
 //! definitions and the programs share.
 #![tactic(auto)]
 

@@ -3,7 +3,7 @@
 
 ghost use Rattle.geometry_model.specs.PointSetLaws.{LocatesInterior, LocatesBoundary, LocatesExterior, PartsPlane};
 
-/// The part of a point that is answered is the part that the standard's words give (06-103r4, 6.1.4 to 6.1.11).
+/// The part of a point that is returned is the part that the standard's words give (06-103r4, 6.1.4 to 6.1.11).
 pub fn parts_are_located()
     ensures interior { LocatesInterior }
     ensures boundary { LocatesBoundary }

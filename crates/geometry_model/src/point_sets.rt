@@ -1,4 +1,4 @@
-//! Where a point stands in a geometry, and how large a set of points is.
+//! Where a point lies in a geometry, and how large a set of points is.
 
 /// Which of the three point sets of a geometry a point belongs to (06-103r4, 6.1.15.2).
 #[derive(Clone, Copy, Debug, PartialEq, Eq)]

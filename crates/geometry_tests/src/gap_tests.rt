@@ -26,7 +26,7 @@ fn numbers(alloc: Global, points: &[RatPoint]) -> Result<Vec<Numbers>, Fail> {
     Ok(numbers)
 }
 
-/// Fills the gaps for an edge among others. It answers whether they may share a stretch.
+/// Fills the gaps for an edge among others. It returns whether they may share a stretch.
 fn fill(alloc: Global, gaps: &mut Gaps, edge: &Segment, others: &[Segment]) -> Result<bool, Fail> {
     let boxes = EdgeBoxes::build(alloc, others)?;
     let may_share = gaps.may_share_stretch(edge, others, &boxes)?;
@@ -133,7 +133,7 @@ fn have(alloc: Global, points: &[RatPoint], wanted: &[Numbers]) -> Result<bool, 
     Ok(numbers(alloc, points)?.as_slice() == wanted)
 }
 
-// Whether the gaps for an edge among others are filled as a row tells.
+// Whether the gaps for an edge among others are filled as a row says.
 fn is_filled(alloc: Global, gaps: &mut Gaps, row: &Row) -> Result<bool, Fail> {
     let (edge, others, shared, stops, may_share) = row;
     let edge = segment(edge.0, edge.1)?;

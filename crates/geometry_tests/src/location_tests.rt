@@ -1,4 +1,4 @@
-//! Where points stand in geometries.
+//! Where points lie in geometries.
 
 use crate::rows::{number, parts_of, position};
 use crate::shapes::valid;
@@ -7,7 +7,7 @@ use side_labels::{Labels, Location, labels, locate};
 use std::alloc::Global;
 use std::test::Fail;
 
-// A geometry, a point by both numerators and the denominator, and where it stands. A closed line has no boundary, two ends at
+// A geometry, a point by both numerators and the denominator, and where it lies. A closed line has no boundary, two ends at
 // one point cancel, and three don't.
 const LOCATED: &str = "POINT(1 2) | 1 2 over 1 | interior
 POINT(1 2) | 2 1 over 1 | exterior
@@ -48,7 +48,7 @@ fn point(text: &str) -> Result<RatPoint, Fail> {
     Ok(RatPoint::reduced(i128::from(at.x()), i128::from(at.y()), i64::from(w)))
 }
 
-// Where a point stands in the geometry of a text.
+// Where a point lies in the geometry of a text.
 fn located(alloc: Global, text: &str, point: &RatPoint) -> Result<&'static str, Fail> {
     Ok(match locate(&valid(alloc, text)?, point) {
         Location::Interior => "interior",

@@ -1,4 +1,4 @@
-//! Segments that cross, touch, overlap and miss one another, with values worked out by hand. Points are told by both
+//! Segments that cross, touch, overlap and miss one another, with values worked out by hand. Points are given by both
 //! numerators and the denominator.
 
 use crate::rows::{parts_of, position, segment};

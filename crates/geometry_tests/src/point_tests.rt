@@ -37,7 +37,7 @@ fn orders(a: &RatPoint, b: &RatPoint) -> (Ordering, Ordering, Ordering) {
     (a.cmp_x(b), a.cmp_y(b), a.cmp(b))
 }
 
-/// Points stand by the numbers that they stand for.
+/// Points are ordered by the numbers that they stand for.
 #[test]
 fn points_stand_by_their_numbers(rt: HostRuntime) {
     let half = RatPoint::reduced(1, 0, 2);

@@ -1,4 +1,4 @@
-//! Tables of tests, a row a line, and what their parts tell.
+//! Tables of tests, a row a line, and what their parts say.
 
 use crate::shapes::{self, valid};
 use de9im::{Matrix, Work, relate};

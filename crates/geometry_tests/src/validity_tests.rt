@@ -1,4 +1,4 @@
-//! Geometries of points and lines, and the faults that a refusal tells of.
+//! Geometries of points and lines, and the faults that a refusal names.
 
 use crate::shapes::valid;
 use geometry_model::{Kind, ValidityFault};
@@ -7,7 +7,7 @@ use std::test::Fail;
 use validity::CheckFault;
 use wkt::{MemorySink, print};
 
-// The kind of the valid geometry of a text, whether it is empty, and how many segments it has; its text is put.
+// The kind of the valid geometry of a text, whether it is empty, and how many segments it has; its text is written.
 fn kept(alloc: Global, text: &str, sink: &mut MemorySink) -> Result<(Kind, bool, usize), Fail> {
     let valid = valid(alloc, text)?;
     print(valid.geometry(), sink)?;

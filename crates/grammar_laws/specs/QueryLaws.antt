@@ -18,10 +18,10 @@ QueryIsRead = (served : Served) (text : List ℕ) (query : ServedQuery served) �
 abbrev pub OneTree : Type 0
 OneTree = (served : Served) (text : List ℕ) (a b : ServedQuery served) → IsQuery served text a → IsQuery served text b → a ≡ b
 
--- a fault at a token that a text is refused for stands there
+-- a fault at a token that a text is refused for applies there
 abbrev pub RefusalStands : Type 0
 RefusalStands = (served : Served) (text : List ℕ) → IfErr (query_of served text) (StandsInQuery served text)
 
--- where faults at a token stand in a text, the first of them is what it is refused for
+-- where faults at a token apply in a text, the first of them is what it is refused for
 abbrev pub FirstIsRead : Type 0
 FirstIsRead = (served : Served) (text : List ℕ) → AnswersFirst served text (query_of served text)

@@ -18,10 +18,10 @@ SchemaIsRead T = (geometry : List ℕ → Option T) (text : List ℕ) (tables : 
 abbrev pub OneSchema : Type 0 → Type 0
 OneSchema T = (geometry : List ℕ → Option T) (text : List ℕ) (a b : List (TableDef T)) → IsSchema geometry text a → IsSchema geometry text b → a ≡ b
 
--- a fault at a token that a text is refused for stands there
+-- a fault at a token that a text is refused for applies there
 abbrev pub SchemaRefusalStands : Type 0 → Type 0
 SchemaRefusalStands T = (geometry : List ℕ → Option T) (text : List ℕ) → IfErr (schema_of geometry text) (StandsInSchema geometry text)
 
--- where faults at a token stand in a text, the first of them is what it is refused for
+-- where faults at a token apply in a text, the first of them is what it is refused for
 abbrev pub FirstSchemaFaultIsRead : Type 0 → Type 0
 FirstSchemaFaultIsRead T = (geometry : List ℕ → Option T) (text : List ℕ) → AnswersFirst geometry text (schema_of geometry text)

@@ -18,7 +18,7 @@ pub fn one_tree()
     ensures { OneTree }
 {}
 
-/// A condition nested too deep, or a number too big, that a text is refused for stands there by the grammar.
+/// A condition nested too deep, or a number too big, that a text is refused for applies there by the grammar.
 pub fn refusal_stands()
     ensures { RefusalStands }
 {}

@@ -24,12 +24,12 @@ pub fn one_schema<T>()
     ensures { OneSchema T }
 {}
 
-/// A refusal at a token that a text is refused for stands there by the grammar.
+/// A refusal at a token that a text is refused for applies there by the grammar.
 pub fn schema_refusal_stands<T>()
     ensures { SchemaRefusalStands T }
 {}
 
-/// Where refusals at a token stand, the first of them is what a text is refused for.
+/// Where refusals at a token apply, the first of them is what a text is refused for.
 pub fn first_schema_fault_is_read<T>()
     ensures { FirstSchemaFaultIsRead T }
 {}

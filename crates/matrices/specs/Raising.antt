@@ -31,7 +31,7 @@ pub record Grows (a b : Geometry) (m n : Matrix) : Type 0 where
   pub grown : IsPartOf m n
   pub sound : IsValid a → IsValid b → IsSound a b m → IsSound a b n
 
--- the matrix shows where the position stands, if it is on the boundary of a (06-103r4, 6.1.15.2)
+-- the matrix shows where the position lies, if it is on the boundary of a (06-103r4, 6.1.15.2)
 abbrev pub CoversEnd : Geometry → Geometry → Matrix → Position → Type 0
 CoversEnd a b m p = locate a (point_at p) ≡ Boundary → CoversPosition a b m p
 
@@ -39,7 +39,7 @@ CoversEnd a b m p = locate a (point_at p) ≡ Boundary → CoversPosition a b m 
 abbrev pub CoversEndsOf : Geometry → Geometry → Matrix → List Position → Type 0
 CoversEndsOf a b m line = All (CoversEnd a b m) (ends line)
 
--- the matrix shows where all listed positions of a stand in b, and all ends of its lines that are on its boundary (06-103r4, 6.1.8.1: the mod 2 rule)
+-- the matrix shows where all listed positions of a lie in b, and all ends of its lines that are on its boundary (06-103r4, 6.1.8.1: the mod 2 rule)
 pub record ShowsOwnEnds (a b : Geometry) (m : Matrix) : Type 0 where
   pub positions : All (CoversPosition a b m) (listed a)
   pub odd_ends : kind a ≡ kinds.Line → All (CoversEndsOf a b m) (lines a)

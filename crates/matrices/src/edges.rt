@@ -50,7 +50,7 @@ fn raise_shared(first: &Valid, second: &Valid, shared: &[RatPoint], matrix: &mut
     }
 }
 
-/// Shows what an edge of the first geometry shows. It may fail for want of memory.
+/// Shows what an edge of the first geometry shows. It may run out of memory.
 fn raise_edge(
     first: &Valid,
     second: &Valid,
@@ -78,7 +78,7 @@ fn raise_edge(
     Ok(())
 }
 
-/// Shows what the edges of the first geometry show, until nothing more can come. It may fail for want of memory.
+/// Shows what the edges of the first geometry show, until nothing more can come. It may run out of memory.
 pub(crate) fn raise_edges(
     first: &Valid,
     second: &Valid,
@@ -101,7 +101,7 @@ pub(crate) fn raise_edges(
     Ok(())
 }
 
-/// Shows what an edge of the first geometry shows off the second's edges. It may fail for want of memory.
+/// Shows what an edge of the first geometry shows off the second's edges. It may run out of memory.
 fn raise_edge_off(
     first: &Valid,
     second: &Valid,
@@ -124,7 +124,7 @@ fn raise_edge_off(
 }
 
 /// Shows what the edges of the first geometry show where the matrix covers those of the second: what they share is shown then,
-/// and only gaps off the second's edges can show more. It ends where nothing more can come, and may fail for want of memory.
+/// and only gaps off the second's edges can show more. It ends where nothing more can come, and may run out of memory.
 pub(crate) fn raise_edges_off(
     first: &Valid,
     second: &Valid,

@@ -9,7 +9,7 @@ use crate::matrix::Matrix;
 use geometry_model::{Dimension, Kind, Location};
 use validity::Valid;
 
-/// Where almost all points of its own edges stand in a geometry of this kind: in the interior of lines, on the boundary of an
+/// Where almost all points of its own edges lie in a geometry of this kind: in the interior of lines, on the boundary of an
 /// area (OGC 06-103r4, 6.1.8.1 and 6.1.11.1). Points have no edges.
 pub(crate) fn of_own_edges(kind: Kind) -> Location
     ensures { result ≡ of_own_edges kind }

@@ -33,7 +33,7 @@ fn crossings(valid: &Valid, p: &RatPoint) -> Crossings
     valid.boxes().crossings(valid.segments(), p)
 }
 
-/// Where a point off the edges of a geometry of this kind stands in it, by the parity of the edges above the point.
+/// Where a point off the edges of a geometry of this kind lies in it, by the parity of the edges above the point.
 fn off_edges(kind: Kind, is_odd_above: bool) -> Location
     ensures { result ≡ off_edges kind is_odd_above }
 {
@@ -73,8 +73,8 @@ fn raise_sides(first: &Sides, second: &Sides, matrix: &mut Matrix)
     matrix.raise(first.upper, second.upper, Dimension::Two);
 }
 
-/// Shows what the point of a gap shows at which the gap is asked for. Off the second geometry's edges `raise_off` tells it. A gap
-/// that one of them shares shows itself and, where it isn't upright, its sides as they stand at the point in both geometries
+/// Shows what the point of a gap shows at which the gap is asked for. Off the second geometry's edges `raise_off` says it. A gap
+/// that one of them shares shows itself and, where it isn't upright, its sides as they lie at the point in both geometries
 /// (OGC 06-103r4, 6.1.15.2).
 fn raise_at(first: &Valid, second: &Valid, edge: &Segment, p: &RatPoint, matrix: &mut Matrix)
     ensures { IsRaisedTo (λ m. ShowsAt first.now second.now m edge.now p.now) matrix.old matrix.new }

@@ -17,7 +17,7 @@ use side_labels::locate;
 use validity::Valid;
 use wkt::LineString;
 
-/// Shows that the parts in which a point stands share it (OGC 06-103r4, 6.1.15.2).
+/// Shows that the parts in which a point lies share it (OGC 06-103r4, 6.1.15.2).
 pub(crate) fn raise_point(first: &Valid, second: &Valid, p: &RatPoint, matrix: &mut Matrix)
     requires { IsPoint p.now }
     ensures grows { Grows first.now second.now matrix.old matrix.new }
@@ -54,7 +54,7 @@ fn shows_row(matrix: &Matrix, part: Location, kind: Kind) -> bool
         && (kind == Kind::Point || matrix.shows(part, Location::Boundary, Dimension::Zero))
 }
 
-/// Shows where the listed positions of the first geometry stand in the second, until nothing more can come.
+/// Shows where the listed positions of the first geometry lie in the second, until nothing more can come.
 fn raise_listed(first: &Valid, second: &Valid, matrix: &mut Matrix)
     ensures grows { Grows first.now second.now matrix.old matrix.new }
     ensures shows { All (CoversPosition first.now second.now matrix.new) (listed first.now) }
@@ -67,7 +67,7 @@ fn raise_listed(first: &Valid, second: &Valid, matrix: &mut Matrix)
     }
 }
 
-/// Shows where the two ends of a line stand.
+/// Shows where the two ends of a line lie.
 fn raise_ends_of(first: &Valid, second: &Valid, line: &[GridPoint], matrix: &mut Matrix)
     ensures grows { Grows first.now second.now matrix.old matrix.new }
     ensures shows { All (CoversPosition first.now second.now matrix.new) (ends line.now) }
@@ -79,7 +79,7 @@ fn raise_ends_of(first: &Valid, second: &Valid, line: &[GridPoint], matrix: &mut
     raise_position(first, second, line[line.len() - 1], matrix);
 }
 
-/// Shows where those ends of the first geometry's lines stand that are on its boundary, until nothing more can come
+/// Shows where those ends of the first geometry's lines lie that are on its boundary, until nothing more can come
 /// (OGC 06-103r4, 6.1.8.1: the mod 2 rule).
 fn raise_line_ends(first: &Valid, second: &Valid, lines: &[LineString], matrix: &mut Matrix)
     ensures grows { Grows first.now second.now matrix.old matrix.new }
@@ -93,7 +93,7 @@ fn raise_line_ends(first: &Valid, second: &Valid, lines: &[LineString], matrix: 
     }
 }
 
-/// Shows where the listed positions of the first geometry and the boundary of its lines stand in the second.
+/// Shows where the listed positions of the first geometry and the boundary of its lines lie in the second.
 pub(crate) fn raise_own_ends(first: &Valid, second: &Valid, matrix: &mut Matrix)
     ensures grows { Grows first.now second.now matrix.old matrix.new }
     ensures shows { ShowsOwnEnds first.now second.now matrix.new }

@@ -11,7 +11,7 @@ use edge_gaps::Gaps;
 use std::alloc::{AllocError, Global};
 use validity::Valid;
 
-/// The DE-9IM matrix of two valid geometries (06-103r4, 6.1.15.2). It fails only for want of memory.
+/// The DE-9IM matrix of two valid geometries (06-103r4, 6.1.15.2). It fails only when memory runs out.
 pub fn find_matrix(alloc: Global, first: &Valid, second: &Valid) -> Result<Matrix, AllocError>
     ensures labelled { IfOk result (λ m. m ≡ labelled_matrix first.now second.now) }
     ensures point_sets { IfOk result (λ m. IsMatrix first.now second.now m) }

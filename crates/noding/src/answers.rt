@@ -1,4 +1,4 @@
-//! The answers to what two segments have in common.
+//! The values that say what two segments have in common.
 
 use fraction::RatPoint;
 

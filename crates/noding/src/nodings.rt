@@ -57,7 +57,7 @@ fn push_stretches(
 /// and their order: this project's choice). Both are exact and ascend, each once, and the denominators are at most 8 L L, L being the
 /// limit of coordinates. The segments are swept from left
 /// to right, and only those pairs are tried whose ranges of x overlap; a segment asks the listed positions by x, those in its
-/// range alone. It fails only for want of memory.
+/// range alone. It fails only when memory runs out.
 pub fn node(alloc: Global, segments: &[Segment], listed: &[GridPoint]) -> Result<Noded, AllocError>
     ensures tests { IfOk result (λ noded. noded.tests ≡ min (overlapping_pairs segments.now) (2 ^ 64 - 1)) }
     ensures exact_nodes { IfOk result (λ noded. noded.nodes ≡ cut_points segments.now listed.now) }

@@ -116,7 +116,7 @@ fn try_following(
     Ok(())
 }
 
-/// Tries each segment, and answers how many pairs were tried.
+/// Tries each segment, and returns how many pairs were tried.
 fn sweep(order: &[Segment], breaks: &mut [Breaks]) -> Result<u64, AllocError>
     requires lengths { length breaks.old ≡ length order.now }
     requires ascend { Ascends order.now }

@@ -89,7 +89,7 @@ fn is_at_most(side: i128, is_rightward: bool) -> bool
     (side == 0) | ((side < 0) == is_rightward)
 }
 
-/// How the point lies to the segment, all told by one side.
+/// How the point lies to the segment, all decided by one side.
 pub fn crossing_at(segment: &Segment, p: &RatPoint) -> Crossing
     ensures on { result.on ≡ on segment.now p.now }
     ensures strictly_above { result.strictly_above ≡ spec.strictly_above segment.now p.now }

@@ -15,7 +15,7 @@ pub fn probes_lose_none()
     ensures { ProbesLoseNone }
 {}
 
-/// No choice of places stands twice among the candidates of a lawful plan.
+/// No choice of places is twice among the candidates of a lawful plan.
 pub fn candidates_differ()
     ensures { CandidatesDiffer }
 {}

@@ -2,7 +2,7 @@
 
 ghost use Rattle.plan_laws.specs.MeaningLaws.{MeantIsMeaning, PlansGiveMeaning, DatabaseHasValid, BoundHasValid};
 
-/// What stands at the places of a meaning is the meaning of the query as it stands, whatever a geometry is. (SQL, the
+/// What is at the places of a meaning is the meaning of the query as it is written, whatever a geometry is. (SQL, the
 /// query.)
 pub fn meant_is_meaning<G, A, C>()
     ensures { MeantIsMeaning G A C }

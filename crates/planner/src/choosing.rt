@@ -48,7 +48,7 @@ fn plan_of<A>(
 
 /// The chosen plan of a bound query, where `rows` holds the number of rows of each reference's table, in the query's
 /// order: the first lawful plan whose cost no lawful plan undercuts. None where the query has no reference or more
-/// than two, since no plan is lawful for it. It fails only for want of memory.
+/// than two, since no plan is lawful for it. It fails only when memory runs out.
 pub fn choose_by_counts<G, C>(
     alloc: Global,
     query: &Bound<GeometryArgument<G>, C>,

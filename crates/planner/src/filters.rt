@@ -44,7 +44,7 @@ fn has_count<A>(condition: &Cond<A>, count: usize) -> bool
     }
 }
 
-// How many numbers of predicates a conjunct may have: from none to all that there are. None where more of them stand
+// How many numbers of predicates a conjunct may have: from none to all that there are. None where more of them are
 // than places can number.
 fn possible_counts<A>(conjuncts: &[Cond<A>]) -> Option<usize>
     ensures { IfSome result (λ n. n ≡ sum_by spec.predicate_count conjuncts.now + 1) }

@@ -40,7 +40,7 @@ fn row_counts<I: EnvelopeIndex + Drop>(
 }
 
 /// The chosen plan of a query that was bound to a database: the first lawful plan whose cost no lawful plan undercuts. It
-/// fails only for want of memory.
+/// fails only when memory runs out.
 pub fn choose<I: EnvelopeIndex + Drop>(
     alloc: Global,
     database: &Database<'_, I>,

@@ -16,7 +16,7 @@ use Rattle.geometry_laws.specs.RingLaws.{Misses}
 use Rattle.geometry_laws.specs.PieceLaws.{HasClosedRings}
 use Rattle.geometry_laws.specs.CoverLaws.{NearSides, AllNearStand}
 
--- no point of the straight stretch from p to q stands at the position
+-- no point of the straight stretch from p to q is at the position
 abbrev pub PassesBy : Point → Point → Position → Type 0
 PassesBy p q a = (m n : ℕ) → 0 < m + n → stands_at (weighted m p n q) a ≡ false
 
@@ -62,7 +62,7 @@ RingsPart = (g : Geometry) → IsValid g → (ring : List Position) → Contains
 abbrev pub ArePartedAs : Location → Location → Type 0
 ArePartedAs l k = ((l ≡ Interior) × (k ≡ Exterior)) ⊎ ((l ≡ Exterior) × (k ≡ Interior))
 
--- in a valid area, at such a point, one of below and above is interior and the other exterior; straight below and straight above it there are, arbitrarily near, points that stand so, and all that are near enough do (06-103r4, 6.1.11.1 and 6.1.14)
+-- in a valid area, at such a point, one of below and above is interior and the other exterior; straight below and straight above it there are, arbitrarily near, points that lie so, and all that are near enough do (06-103r4, 6.1.11.1 and 6.1.14)
 abbrev pub SidesOfARing : Type 0
 SidesOfARing = (g : Geometry) → IsValid g → (ring : List Position) → Contains (rings g) ring → (e : Edge) → Contains (edges_of_line ring) e
     → (p : Point) → IsPoint p → on e p ≡ true → stands_at p e.start ≡ false → stands_at p e.end ≡ false → e.start.x ≢ e.end.x

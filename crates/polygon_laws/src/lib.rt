@@ -41,7 +41,7 @@ pub fn rings_part()
     ensures { RingsPart }
 {}
 
-/// In a valid area, at a point strictly within a ring edge that isn't upright, one of `below` and `above` is interior and the other exterior; straight below and straight above it there are, arbitrarily near, points that stand so, and all that are near enough do (06-103r4, 6.1.11.1).
+/// In a valid area, at a point strictly within a ring edge that isn't upright, one of `below` and `above` is interior and the other exterior; straight below and straight above it there are, arbitrarily near, points that lie so, and all that are near enough do (06-103r4, 6.1.11.1).
 pub fn sides_of_a_ring()
     ensures { SidesOfARing }
 {}

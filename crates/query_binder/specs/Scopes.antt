@@ -24,7 +24,7 @@ use Rattle.table_model.specs.declared.typing.Found.{Found}
 use Rattle.table_model.specs.declared.typing.Typed.{Typed}
 use Rattle.query_binder.specs.declared.scope.Scope.{Scope}
 
--- a call answers what the definitions give; want of memory may stand in the place of any answer
+-- a call returns what the definitions give, unless memory ran out
 abbrev pub Binds : {X : Type 0} → Checked X → Checked X → Type 0
 Binds result answer = Gives faults.OutOfMemory (λ x. x) result answer
 
@@ -64,7 +64,7 @@ emptiness_in scope = spec.bound_emptiness geometry_binding scope.definitions.now
 abbrev pub relation_in : Scope → ℕ → WrittenPredicate → WrittenGeometry → WrittenGeometry → Checked (Cond Argument)
 relation_in scope = spec.bound_relation geometry_binding scope.definitions.now scope.references.now
 
--- a condition as it stands (SQL, the search condition)
+-- a condition as it is written (SQL, the search condition)
 abbrev pub cond_in : Scope → WrittenCond WrittenGeometry → Checked (Cond Argument)
 cond_in scope = spec.bound_cond geometry_binding scope.definitions.now scope.references.now
 

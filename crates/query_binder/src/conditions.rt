@@ -1,4 +1,4 @@
-//! Conditions, bound as they stand.
+//! Conditions, bound as they are written.
 
 ghost use Rattle.query_binder.specs.Scopes.{
   Binds,
@@ -113,7 +113,7 @@ fn negated(alloc: Global, part: Cond) -> Result<Cond, QueryFault>
     Ok(Cond::Not(Boxed::new(alloc, part)?))
 }
 
-/// A written condition, bound as it stands. (SQL, the search condition.)
+/// A written condition, bound as it is written. (SQL, the search condition.)
 #[cycle(conditions)]
 pub fn bound_cond(
     alloc: Global,
@@ -136,7 +136,7 @@ pub fn bound_cond(
     }
 }
 
-/// The parts of a written condition, bound as they stand.
+/// The parts of a written condition, bound as they are written.
 #[cycle(conditions)]
 fn bound_parts(
     alloc: Global,

@@ -7,7 +7,7 @@ ghost use Rattle.table_model.specs.Binding as spec;
 use sqlite_items::Items;
 use std::alloc::{AllocError, Global};
 
-/// What stands after the first byte that a string holds, two quotes in a row being one.
+/// What comes after the first byte that a string holds, two quotes in a row being one.
 fn after_first(text: &[u8]) -> &[u8]
     ensures { result.now ≡ after_first text.entry.now }
 {

@@ -54,7 +54,7 @@ tested x = do
   is_to_hold ← comparand
   pure (call, is_to_hold)
 
--- what stands between the parentheses of ST_IsEmpty in a condition
+-- what is between the parentheses of ST_IsEmpty in a condition
 abbrev pub empty_argument : ℕ → Reader (ServedCond true)
 empty_argument at = c.IsEmpty at <$> geometry
 
@@ -90,11 +90,11 @@ predicate_by None ts = comparison true ts
 abbrev pub other_operand : Reader (ServedOperand true)
 other_operand ts = called_or (operand_functions true (place ts)) (o.Column <$> column) ts
 
--- what stands between the parentheses of ST_AsText, as an operand
+-- what is between the parentheses of ST_AsText, as an operand
 abbrev pub text_argument : ℕ → Reader (ServedOperand true)
 text_argument at = o.AsText at <$> geometry
 
--- what stands between the parentheses of ST_Dimension, as an operand
+-- what is between the parentheses of ST_Dimension, as an operand
 abbrev pub dimension_argument : ℕ → Reader (ServedOperand true)
 dimension_argument at = o.Dimension at <$> geometry
 
@@ -102,15 +102,15 @@ dimension_argument at = o.Dimension at <$> geometry
 abbrev pub column_operand : Reader (ServedOperand true)
 column_operand = o.Column <$> column
 
--- what stands between the parentheses of ST_AsText, as an item
+-- what is between the parentheses of ST_AsText, as an item
 abbrev pub text_item : ℕ → Reader (ServedItem true)
 text_item at = i.AsText at <$> column
 
--- what stands between the parentheses of ST_Dimension, as an item
+-- what is between the parentheses of ST_Dimension, as an item
 abbrev pub dimension_item : ℕ → Reader (ServedItem true)
 dimension_item at = i.Dimension at <$> column
 
--- what stands between the parentheses of ST_IsEmpty, as an item
+-- what is between the parentheses of ST_IsEmpty, as an item
 abbrev pub empty_item : ℕ → Reader (ServedItem true)
 empty_item at = i.IsEmpty at <$> column
 
@@ -118,6 +118,6 @@ empty_item at = i.IsEmpty at <$> column
 abbrev pub column_item : Reader (ServedItem true)
 column_item = i.Column <$> column
 
--- the name of an alias, where one stands
+-- the name of an alias, if one comes next
 abbrev pub some_name : Reader (Option Name)
 some_name = Some <$> name

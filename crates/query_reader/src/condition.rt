@@ -80,7 +80,7 @@ fn keep<T: Drop>(parts: &mut Items<T>, read: Result<T, QueryFault>) -> Result<()
     Ok(())
 }
 
-/// Reads the word between parts where a part was read and the word follows, and tells whether it does.
+/// Reads the word between parts where a part was read and the word follows, and returns whether it does.
 fn goes_on<T>(tokens: &mut Cursor<'_, '_>, read: &Result<T, QueryFault>, between: TokenKind) -> bool
     ensures ok { IfOk read.now (λ _.
         (result ≡ steps.sees between tokens.old) × (tokens.new ≡ steps.after between tokens.old)) }
@@ -199,7 +199,7 @@ fn opposite<'a>(
     negated(alloc, negation(alloc, tokens, levels))
 }
 
-/// Reads a predicate where neither NOT nor parentheses may stand.
+/// Reads a predicate where neither NOT nor parentheses may come.
 #[tactic(auto, unfolding(table_model::specs::QueryReading::negation))]
 fn innermost<'a>(alloc: Global, tokens: &mut Cursor<'_, 'a>) -> Result<WrittenCond<'a>, QueryFault>
     ensures { Reads QueryFault.OutOfMemory

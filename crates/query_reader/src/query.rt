@@ -25,7 +25,7 @@ use table_model::queries::{
 };
 use table_model::tokens::{TEXT_LIMIT, Token, TokenKind};
 
-/// Reads WHERE and its condition, where they stand.
+/// Reads WHERE and its condition, if they come next.
 #[tactic(auto, unfolding(table_model::specs::QueryReading::where_condition))]
 fn where_condition<'a>(
     alloc: Global,
@@ -58,7 +58,7 @@ fn limit_number(tokens: &mut Cursor<'_, '_>) -> Result<Option<u64>, QueryFault>
     }
 }
 
-/// Reads LIMIT and its integer, where they stand.
+/// Reads LIMIT and its integer, if they come next.
 fn limited(tokens: &mut Cursor<'_, '_>) -> Result<Option<u64>, QueryFault>
     ensures { Reads QueryFault.OutOfMemory (spec.limited language tokens.old) result tokens.new }
 {
@@ -70,7 +70,7 @@ fn limited(tokens: &mut Cursor<'_, '_>) -> Result<Option<u64>, QueryFault>
     }
 }
 
-/// Reads EXPLAIN, and ANALYZE after it, where they stand.
+/// Reads EXPLAIN, and ANALYZE after it, if they come next.
 fn explained(tokens: &mut Cursor<'_, '_>) -> Explain
     ensures { spec.explained language tokens.old ≡ Ok (result, tokens.new) }
 {
@@ -131,7 +131,7 @@ fn with_limit<T: Drop>(
     Ok((before, limit))
 }
 
-/// Reads what stands after the tables, to the end of the tokens.
+/// Reads what comes after the tables, to the end of the tokens.
 fn ending<'a>(alloc: Global, tokens: &mut Cursor<'_, 'a>) -> Result<Ending<'a>, QueryFault>
     ensures { Reads QueryFault.OutOfMemory (parts.ending tokens.old) result tokens.new }
 {
@@ -212,10 +212,10 @@ fn read<'a>(alloc: Global, text: &'a str) -> Result<Query<'a>, QueryFault>
 /// EXPLAIN and ANALYZE, `*` or columns and functions of columns or `COUNT(*)`, a table reference, a second
 /// one with its condition, a condition of WHERE, LIMIT, and `;` at the end or not.
 ///
-/// Faults carry the byte, from 0, of the first token that can't stand, or the text's length: TooLong past
+/// Faults carry the byte, from 0, of the first token that can't be there, or the text's length: TooLong past
 /// 65,536 bytes; Lex where a byte of the text begins no token, or a string isn't closed; then, whichever is
 /// met first, Syntax, TooDeep at the 65th level of NOT and parentheses, and NumberTooBig at the first digit
-/// of a number that 64 bits don't hold. OutOfMemory may come in the place of any answer.
+/// of a number that 64 bits don't hold. OutOfMemory may come in place of any result.
 pub fn read_query<'a>(alloc: Global, text: &'a str) -> Result<Query<'a>, QueryFault>
     ensures ok { IfOk result (λ q. IsQuery language text.now q) }
     ensures only { AnswersQuery language text.now result }

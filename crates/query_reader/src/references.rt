@@ -22,7 +22,7 @@ fn some_name<'a>(tokens: &mut Cursor<'_, 'a>) -> Result<Option<Name<'a>>, QueryF
     Ok(Some(name(tokens)?))
 }
 
-/// Reads an alias, where one stands.
+/// Reads an alias, if one comes next.
 #[tactic(auto, unfolding(table_model::specs::QueryReading::alias))]
 fn alias<'a>(tokens: &mut Cursor<'_, 'a>) -> Result<Option<Name<'a>>, QueryFault>
     ensures { Reads QueryFault.OutOfMemory (spec.alias tokens.old) result tokens.new }
@@ -82,7 +82,7 @@ fn joined_on<'a>(alloc: Global, tokens: &mut Cursor<'_, 'a>) -> Result<Second<'a
     }
 }
 
-/// Reads a second table reference and its condition, where they stand.
+/// Reads a second table reference and its condition, if they come next.
 pub(crate) fn second<'a>(
     alloc: Global,
     tokens: &mut Cursor<'_, 'a>,

@@ -128,7 +128,7 @@ pub(crate) fn calls(tokens: &Cursor<'_, '_>, function: &[u8]) -> bool
         && same_name(tokens.spelling(), function)
 }
 
-/// Whether this word stands next, in any ASCII case, and is no function.
+/// Whether this word comes next, in any ASCII case, and is no function.
 #[tactic(auto, unfolding(table_model::specs::QueryReading::says))]
 pub(crate) fn says(tokens: &Cursor<'_, '_>, word: &[u8]) -> bool
     ensures { result ≡ spec.says word.now tokens.now }

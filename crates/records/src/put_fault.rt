@@ -1,9 +1,9 @@
-//! Why a record isn't put.
+//! Why a record isn't written.
 
 use sinks::SinkFault;
 use std::alloc::AllocError;
 
-/// Why a record isn't put.
+/// Why a record isn't written.
 #[derive(Clone, Copy, Debug, PartialEq, Eq)]
 pub enum PutFault {
     /// The sink failed.

@@ -12,10 +12,10 @@ use csv::{ByteRecord, Writer, WriterBuilder};
 use sinks::{Sink, put_all};
 use std::alloc::{AllocError, Global};
 
-/// How many bytes of records that were put are kept at most, before they are let go.
+/// How many bytes of records that were written are kept at most, before they are let go.
 const KEPT_BYTES: usize = 65_536;
 
-/// Makes the text of each record in memory and puts it. A `csv` writer has a buffer of its own, which costs
+/// Makes the text of each record in memory and writes it. A `csv` writer has a buffer of its own, which costs
 /// more to set up than a record to write, so one is kept from record to record, and with it the last records'
 /// text, up to 64 KiB.
 #[derive(Drop)]
@@ -33,7 +33,7 @@ impl RecordWriter {
         }
     }
 
-    /// Puts the text of a record, ended by a line feed: all of it at Ok, and a beginning of it where the sink
+    /// Writes the text of a record, ended by a line feed: all of it at Ok, and a beginning of it where the sink
     /// fails or memory runs out. At Ok it is ready for the next record, which needs as many fields as this
     /// one.
     pub fn put<S: Sink>(

@@ -1,4 +1,4 @@
-//! The packed tree: envelopes near one another stand together below one node.
+//! The packed tree: envelopes near one another are together below one node.
 
 ghost use Rattle.std.specs.Prelude.{◌≡◌, ◌++◌, ◌≤◌, ◌-◌, [], length, map, count_by, List, Option, Some, OnOk};
 ghost use Rattle.std.specs.Vec.{vec_items};
@@ -37,7 +37,7 @@ impl Model for RTree {
 
 impl RTree {
     /// How many nodes, leaves among them, have an envelope that meets the one asked for; none meets an absent
-    /// one. It tells of the packing alone, and nothing of what a search visits.
+    /// one. It counts nodes of the packing alone, and says nothing of what a search visits.
     pub fn opened(&self, asked: Option<Envelope>) -> usize
         ensures { result ≡ opened self.now asked }
     {

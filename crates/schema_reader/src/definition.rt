@@ -166,7 +166,7 @@ fn column_type(tokens: &mut Cursor<'_, '_>) -> Result<ColumnType, SchemaFault>
     Ok(column_type)
 }
 
-/// Reads NOT NULL, where it stands, and tells whether it does.
+/// Reads NOT NULL, if it comes next, and returns whether it does.
 #[tactic(auto, unfolding(table_model::specs::SchemaReading::null_mark))]
 fn null_mark(tokens: &mut Cursor<'_, '_>) -> Result<bool, SchemaFault>
     ensures { Reads SchemaFault.OutOfMemory (spec.null_mark tokens.old) result tokens.new }
@@ -189,7 +189,7 @@ fn is_integer(column_type: &ColumnType) -> bool
     }
 }
 
-/// Reads PRIMARY KEY, where it stands, and tells whether it does.
+/// Reads PRIMARY KEY, if it comes next, and returns whether it does.
 #[tactic(auto, unfolding(table_model::specs::SchemaReading::key_mark))]
 fn key_mark(
     tokens: &mut Cursor<'_, '_>,
@@ -214,7 +214,7 @@ fn key_mark(
     Ok(true)
 }
 
-/// Reads the marks of a column: whether NOT NULL stands, and whether PRIMARY KEY does.
+/// Reads the marks of a column: whether NOT NULL is there, and whether PRIMARY KEY is.
 #[tactic(auto, unfolding(table_model::specs::SchemaReading::marks))]
 fn marks(
     tokens: &mut Cursor<'_, '_>,
@@ -242,7 +242,7 @@ fn has_column(columns: &[ColumnDef], name: &[u8]) -> bool
     false
 }
 
-/// Reads a column after those that were read, and tells whether it is the key.
+/// Reads a column after those that were read, and returns whether it is the key.
 #[tactic(auto, unfolding(table_model::specs::SchemaReading::column))]
 fn column(
     alloc: Global,

@@ -17,7 +17,7 @@ use std::alloc::Global;
 use table_model::faults::SchemaFault;
 use table_model::tokens::{TEXT_LIMIT, TokenKind};
 
-/// Reads a semicolon, where one stands, and tells whether a table follows it.
+/// Reads a semicolon, if one comes next, and returns whether a table follows it.
 #[tactic(auto, unfolding(table_model::specs::SchemaReading::goes_on))]
 fn goes_on(tokens: &mut Cursor<'_, '_>) -> bool
     ensures { spec.goes_on tokens.old ≡ Ok (result, tokens.new) }
@@ -74,7 +74,7 @@ fn read(alloc: Global, text: &[u8]) -> Result<Schema, SchemaFault>
 
 /// Reads the text of a schema: tables in the grammar of `specs/SchemaReading.antt` of `table_model`. Words are taken
 /// in any ASCII case. A text of more than 65,536 bytes is `TooLong`. Otherwise the first fault from left to right is
-/// answered, with its byte: `Syntax` at the first token that can't stand there, or at the text's length;
+/// returned, with its byte: `Syntax` at the first token that can't be there, or at the text's length;
 /// `TooMany` at the name of the 17th table or the 33rd column of a table; `DoubleName` at the second of two equal
 /// names of tables, or of columns of a table; `TwoKeys` at the second PRIMARY of a table; `NoKey` at the closing
 /// parenthesis of a table without key; or `OutOfMemory`. (SQL, CREATE TABLE)

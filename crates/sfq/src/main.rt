@@ -16,7 +16,7 @@ use std::{env, fs};
 /// The status for words of the command line that are no order.
 const MISUSE: u8 = 2;
 
-/// What is told of words that aren't UTF-8, which `clap` never sees.
+/// What is printed of words that aren't UTF-8, which `clap` never sees.
 const NOT_UTF8: &[u8] = b"error: invalid UTF-8 was detected in one or more arguments\n";
 
 fn main(rt: HostRuntime) -> ExitCode {
@@ -54,7 +54,7 @@ fn read_words(rt: &HostRuntime) -> io::Result<Vec<String>> {
     Ok(words)
 }
 
-// Tells why the words of the command line can't be had, and answers the status: memory ran out, or they aren't UTF-8.
+// Prints why the words of the command line can't be read, and returns the status: memory ran out, or they aren't UTF-8.
 fn failed_words<E: Sink>(error: &io::Error, err: &mut E) -> u8 {
     if error.kind() == ErrorKind::OutOfMemory {
         return failed(&Failure::OutOfMemory, err);
@@ -63,7 +63,7 @@ fn failed_words<E: Sink>(error: &io::Error, err: &mut E) -> u8 {
     MISUSE
 }
 
-// Prints `clap`'s text, and answers the status. Help that can't be written is an answer that can't be.
+// Prints `clap`'s text, and returns the status. Help that can't be written counts as an answer that can't.
 fn failed_order<E: Sink>(rt: &HostRuntime, misuse: &Misuse, err: &mut E) -> u8 {
     let is_printed = misuse.print(rt).is_ok();
     let status = misuse.status();

@@ -7,10 +7,10 @@ use std::io::{self, IsTerminal, Read, Write};
 use std::path::Path;
 use std::time::{Duration, Instant};
 
-/// How many seconds pass before anything is told.
+/// How many seconds pass before anything is printed.
 const PATIENCE_SECONDS: u64 = 1;
 
-/// How many milliseconds a line stands before it is written anew.
+/// How many milliseconds a line stays before it is written anew.
 const PAUSE_MILLISECONDS: u64 = 100;
 
 /// What takes a line away: back to its first column, and all from there on is erased.
@@ -19,17 +19,17 @@ const CLEAR: &[u8] = b"\r\x1b[K";
 /// How many bytes are a megabyte.
 const MEGABYTE: u64 = 1_000_000;
 
-/// How far loading is. It tells nothing where standard error is no terminal.
+/// How far loading is. It prints nothing where standard error is no terminal.
 #[derive(Drop)]
 pub struct Progress<'r> {
     rt: &'r HostRuntime,
-    // When the program began; None where nothing is told.
+    // When the program began; None where nothing is printed.
     start: Option<Instant>,
     // How many files were opened. The schema's is the first.
     opened: Cell<u64>,
     // How long after the start a line may be written next.
     due: Cell<Duration>,
-    // Whether a line stands on the terminal.
+    // Whether a line is on the terminal.
     stands: Cell<bool>,
 }
 
@@ -50,7 +50,7 @@ impl<'r> Progress<'r> {
         }
     }
 
-    /// The reader of an opened file, whose reading is told by its name. Want of memory costs the name.
+    /// The reader of an opened file, whose reading is reported by its name. Without memory the name is left out.
     pub fn follow(&self, path: &str, file: File) -> Followed<'_> {
         let place = self.opened.get();
         self.opened.set(place.saturating_add(1));
@@ -63,7 +63,7 @@ impl<'r> Progress<'r> {
         }
     }
 
-    // The name of the table whose file stands at a path, where it is told.
+    // The name of the table whose file is at a path, where it is reported.
     fn name_of(&self, path: &str) -> Option<String> {
         self.start?;
         let stem = Path::new(path).file_stem()?;
@@ -88,7 +88,7 @@ impl<'r> Progress<'r> {
         self.stands.set(true);
     }
 
-    // Takes the line away that stands on the terminal.
+    // Removes the line from the terminal.
     fn clear(&self) {
         if self.stands.replace(false) {
             let _ = self.rt.stderr().write_all(CLEAR);

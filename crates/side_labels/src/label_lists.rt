@@ -1,4 +1,4 @@
-//! Labels: where the nodes, the pieces and their sides of two geometries stand in both.
+//! Labels: where the nodes, the pieces and their sides of two geometries lie in both.
 
 ghost use Rattle.std.specs.Prelude.{◌≡◌};
 ghost use Rattle.geometry_model.specs.Labels.{same_location};
@@ -6,12 +6,12 @@ ghost use Rattle.geometry_model.specs.Labels.{same_location};
 use geometry_model::Location;
 use std::marker::Model;
 
-/// Where a point stands in the first geometry and in the second (OGC 06-103r4, 6.1.15.2; labels: this project's choice).
+/// Where a point lies in the first geometry and in the second (OGC 06-103r4, 6.1.15.2; labels: this project's choice).
 #[derive(Clone, Copy, Debug, PartialEq, Eq)]
 pub struct Label {
-    /// Where it stands in the first geometry.
+    /// Where it lies in the first geometry.
     pub first: Location,
-    /// Where it stands in the second geometry.
+    /// Where it lies in the second geometry.
     pub second: Location,
 }
 

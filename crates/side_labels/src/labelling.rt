@@ -22,7 +22,7 @@ use validity::Valid;
 /// A stretch between two nodes, its lesser end first.
 type Piece = (RatPoint, RatPoint);
 
-/// Where a point stands in both geometries.
+/// Where a point lies in both geometries.
 fn label(first: &Valid, second: &Valid, p: &RatPoint) -> Label
     ensures { result ≡ spec.label first.now second.now p.now }
 {
@@ -162,7 +162,7 @@ fn labels_of_sides(
 
 /// The labels of two geometries: of the nodes of their segments and listed positions, of the pieces between them, each at its
 /// sample, and of the two sides of each piece that isn't upright (OGC 06-103r4, 6.1.15.2; labels: this project's choice). It
-/// fails only for want of memory.
+/// fails only when memory runs out.
 pub fn labels(alloc: Global, first: &Valid, second: &Valid) -> Result<Labels, AllocError>
     ensures exact { IfOk result (λ labels. labels ≡ spec.labels first.now second.now) }
     ensures first_valid { OnOk result (IsValid first.now) }

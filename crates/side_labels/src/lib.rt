@@ -1,4 +1,4 @@
-//! Where points stand in a geometry, and the labels of the nodes, the pieces and their sides of two geometries.
+//! Where points lie in a geometry, and the labels of the nodes, the pieces and their sides of two geometries.
 #![tactic(auto)]
 
 pub mod label_lists;

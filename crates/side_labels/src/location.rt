@@ -1,4 +1,4 @@
-//! Where a point stands in a geometry: in its interior, on its boundary or in its exterior.
+//! Where a point lies in a geometry: in its interior, on its boundary or in its exterior.
 
 ghost use Rattle.std.specs.Prelude.{◌≡◌};
 ghost use Rattle.std.specs.List.{list_any};
@@ -14,8 +14,8 @@ use orient::Segment;
 use validity::Valid;
 use wkt::LineString;
 
-/// Where a point stands in a geometry (06-103r4, 6.1.15.2). Of points the listed ones are the interior, and the boundary
-/// is empty (6.1.4 and 6.1.5). Of lines the boundary is the points at which an odd number of element ends stand, and the
+/// Where a point lies in a geometry (06-103r4, 6.1.15.2). Of points the listed ones are the interior, and the boundary
+/// is empty (6.1.4 and 6.1.5). Of lines the boundary is the points at which an odd number of element ends are, and the
 /// interior is the rest of them (6.1.8.1: the mod 2 rule). Of an area the boundary is its rings, and the interior what is
 /// inside an odd number of them (6.1.11.1 and 6.1.14). It takes no memory.
 pub fn locate(valid: &Valid, p: &RatPoint) -> Location
@@ -29,7 +29,7 @@ pub fn locate(valid: &Valid, p: &RatPoint) -> Location
     }
 }
 
-/// Where a point stands in the geometry of these listed positions.
+/// Where a point lies in the geometry of these listed positions.
 fn locate_in_points(listed: &[GridPoint], p: &RatPoint) -> Location
     ensures { result ≡ spec.in_points listed.now p.now }
 {
@@ -40,7 +40,7 @@ fn locate_in_points(listed: &[GridPoint], p: &RatPoint) -> Location
     }
 }
 
-/// Where a point stands in a geometry of lines, which come along. The odd ends are searched first: they are kept.
+/// Where a point lies in a geometry of lines, which come along. The odd ends are searched first: they are kept.
 fn locate_in_lines(valid: &Valid, lines: &[LineString], p: &RatPoint) -> Location
     requires ended { ended_lines valid.now ≡ lines.now }
     requires edges { edges valid.now ≡ edges_of_lines lines.now }
@@ -55,7 +55,7 @@ fn locate_in_lines(valid: &Valid, lines: &[LineString], p: &RatPoint) -> Locatio
     }
 }
 
-/// Where a point stands in the area of these rings, whose edges and the boxes over those come along.
+/// Where a point lies in the area of these rings, whose edges and the boxes over those come along.
 fn locate_in_rings(
     rings: &[LineString],
     segments: &[Segment],
@@ -76,7 +76,7 @@ fn locate_in_rings(
     }
 }
 
-/// Whether the point stands at one of these positions.
+/// Whether the point is at one of these positions.
 fn is_listed(listed: &[GridPoint], p: &RatPoint) -> bool
     ensures { result ≡ list_any (spec.stands_at p.now) listed.now }
 {

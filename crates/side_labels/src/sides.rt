@@ -1,4 +1,4 @@
-//! Where the two sides of a piece stand in a geometry, asked at a point within it.
+//! Where the two sides of a piece lie in a geometry, asked at a point within it.
 
 ghost use Rattle.std.specs.Prelude.{◌≡◌, if◌then◌else◌};
 ghost use Rattle.geometry_model.specs.Points.{Point};
@@ -11,12 +11,12 @@ use fraction::RatPoint;
 use geometry_model::{Kind, Location};
 use validity::Valid;
 
-/// Where what lies just below a piece that isn't upright stands in a geometry, and what lies just above it.
+/// Where what is just below a piece that isn't upright lies in a geometry, and what is just above it.
 #[derive(Clone, Copy, Debug, PartialEq, Eq)]
 pub struct Sides {
-    /// Where what lies just below stands.
+    /// Where what is just below lies.
     pub lower: Location,
-    /// Where what lies just above stands.
+    /// Where what is just above lies.
     pub upper: Location,
 }
 
@@ -26,7 +26,7 @@ const EXTERIOR: Sides = Sides {
     upper: Location::Exterior,
 };
 
-/// Where the two sides of a piece that isn't upright stand in a geometry, by a point within the piece: in the interior of an
+/// Where the two sides of a piece that isn't upright lie in a geometry, by a point within the piece: in the interior of an
 /// area where an odd number of its edges are, for the lower side, at or above the point, and for the upper one strictly above
 /// it, else in the exterior (OGC 06-103r4, 6.1.15.2; sides: this project's choice). It takes no memory, and looks for the
 /// edges of an area once.

@@ -1,4 +1,4 @@
-//! Sinks, readers and writers that fail where a test tells them to.
+//! Sinks, readers and writers that fail where a test makes them.
 
 ghost use Rattle.std.specs.Prelude.{◌≡◌, ◌≤◌, [], Some, IfErr};
 ghost use Rattle.std.specs.IoError.{error_kind};
@@ -52,7 +52,7 @@ impl StopSink {
         self.failures
     }
 
-    // Goes one call on, and tells whether it is the failing one.
+    // Goes one call on, and returns whether it is the failing one.
     fn fails_now(&mut self) -> bool
         ensures fails { IsTrue result ↔ (calls_to_failure self.old ≡ 1) }
         ensures after { calls_to_failure self.new ≡ calls_to_failure self.old - 1 }
@@ -143,7 +143,7 @@ impl Read for StopReader<'_> {
     }
 }
 
-/// A writer that takes no byte and answers no error.
+/// A writer that takes no byte and returns no error.
 #[derive(Clone, Copy, Debug, Default)]
 pub struct ZeroWriter;
 

@@ -16,7 +16,7 @@ pub struct SinkFault;
 /// they are, of standard output never), and the number of its failures so far, which stays at
 /// `u64::MAX` once it is there.
 pub trait Sink {
-    // The bytes taken so far; None where nobody can tell them.
+    // The bytes taken so far; None where nobody knows them.
     ghost taken: { Self → Option (List ℕ) };
     // How often a put failed so far.
     ghost failures: { Self → ℕ };

@@ -16,7 +16,7 @@ use table_model::faults::QueryFault;
 /// Binds a query to a database: names of tables and columns become their places, without regard to ASCII case, strings
 /// the bytes that they hold, and each text of ST_GeomFromText a valid geometry, read and tested once. The faults, each
 /// with its byte, and their order are those of `query_binder::bind` over the definitions of the database. What it
-/// answers is bound to them: its tables and columns are there, and its types fit. (SQL; 06-104r4, 7.2; the order: this
+/// returns is bound to them: its tables and columns are there, and its types fit. (SQL; 06-104r4, 7.2; the order: this
 /// project's choice.)
 pub fn bind<I: EnvelopeIndex + Drop>(
     alloc: Global,

@@ -11,7 +11,7 @@ use table_model::queries::Name;
 use table_model::texts::Slice;
 use table_model::tokens::{Token, TokenKind};
 
-/// The tokens that are left to be read. Past the last one stands the kind Bad, at place 0.
+/// The tokens that are left to be read. Past the last one is the kind Bad, at place 0.
 #[derive(Drop)]
 pub struct Cursor<'t, 'a> {
     left: &'t [Token<'a>],
@@ -121,7 +121,7 @@ impl<'t, 'a> Cursor<'t, 'a> {
         same_kind(self.second_kind(), wanted)
     }
 
-    /// Goes past the next token where it is of a kind, and tells whether it is.
+    /// Goes past the next token where it is of a kind, and returns whether it is.
     #[tactic(auto, unfolding(table_model::specs::Parsers::after))]
     pub fn eat(&mut self, wanted: TokenKind) -> bool
         ensures found { result ≡ spec.sees wanted self.old }

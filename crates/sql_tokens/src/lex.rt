@@ -185,7 +185,7 @@ fn string(text: &[u8]) -> (TokenKind, usize)
 }
 
 #[tactic(auto, unfolding(table_model::specs::Tokens::front))]
-/// What stands at the front of a text: its kind, or none for white space and comments, and its length in bytes.
+/// What is at the front of a text: its kind, or none for white space and comments, and its length in bytes.
 fn front(text: &[u8], strings: bool) -> (Option<TokenKind>, usize)
     requires { 0 < length text.now }
     ensures value { result ≡ spec.front strings text.now }
@@ -211,7 +211,7 @@ fn front(text: &[u8], strings: bool) -> (Option<TokenKind>, usize)
     }
 }
 
-/// The text of a token of this kind and length at the front of a text. A string's stands between its quotes.
+/// The text of a token of this kind and length at the front of a text. A string's is between its quotes.
 fn text_of<'a>(kind: TokenKind, len: usize, text: &'a [u8]) -> &'a [u8]
     requires { (1 ≤ len) × (len ≤ length text.now) }
     ensures { result.now ≡ spec.text_of kind len text.now }
@@ -253,7 +253,7 @@ fn cut<'a>(alloc: Global, text: &'a [u8], strings: bool) -> Result<Items<Token<'
 /// The tokens of a text in their order. The last one is Bad, which is the first byte that begins no token or the
 /// first quote of a string that isn't closed, or else End, at the text's length. Strings are tokens where `strings`
 /// says so. Each token's text is the part of the text at its place, a string's after its first quote. It fails only
-/// for want of memory.
+/// for lack of memory.
 pub fn lex<'a>(alloc: Global, text: &'a [u8], strings: bool) -> Result<Items<Token<'a>>, AllocError>
     ensures tokens { IfOk result (λ tokens. tokens ≡ spec.tokens strings text.now) }
     ensures slices { IfOk result (λ tokens. AllByRecursion (spec.IsSlice text.now) tokens) }

@@ -1,4 +1,4 @@
--- Laws of double keys: when the number of a record with a double key is answered, and which.
+-- Laws of double keys: when the number of a record with a double key is returned, and which.
 use Rattle.std.specs.Prelude.{◌≡◌, ◌≢◌, ◌↔◌, ◌+◌, ◌++◌, ℕ, ℤ, List, ◌∷◌, None, Some, length}
 use Rattle.std.specs.List.{AllPairs, Contains}
 use Rattle.table_model.specs.Loading.{double_key}
@@ -13,10 +13,10 @@ pub record IsFirstDouble (keys : List ℤ) (number : ℕ) : Type 0 where
   pub is_double : Contains before key
   pub none_is_before : AllPairs (λ a b. a ≢ b) before
 
--- the number that is answered is that of the first double key
+-- the number that is returned is that of the first double key
 abbrev pub DoubleIsFirst : Type 0
 DoubleIsFirst = (keys : List ℤ) (number : ℕ) → (double_key keys ≡ Some number) ↔ IsFirstDouble keys number
 
--- none is answered exactly where no two keys are equal
+-- none is returned exactly where no two keys are equal
 abbrev pub NoneIsDouble : Type 0
 NoneIsDouble = (keys : List ℤ) → (double_key keys ≡ None) ↔ AllPairs (λ a b. a ≢ b) keys

@@ -16,7 +16,7 @@ Ascends key rows = AllPairs (λ a b. key_of key a <ℤ key_of key b) rows
 abbrev pub AreTyped : {T G : Type 0} → GeometryReader T G → TableDef T → List Record → List (Row G) → Type 0
 AreTyped geometry table records typed = rows_of geometry table (unwrap_or (slice_get records 0) []) (drop 1 records) ≡ Ok typed
 
--- the rows of a table that loads stand in strictly ascending order of their keys (06-104r4, feature tables)
+-- the rows of a table that loads are in strictly ascending order of their keys (06-104r4, feature tables)
 abbrev pub RowsAscend : (T G : Type 0) → Type 0
 RowsAscend T G = (geometry : GeometryReader T G) (table : TableDef T) (records : List Record) (rows : Table G)
     → load geometry table records ≡ Ok rows → Ascends table.key rows

@@ -2,7 +2,7 @@
 
 ghost use Rattle.table_laws.specs.LoadLaws.{RowsAscend, RowsArePermuted, RowsFit, RequiredAreFilled};
 
-/// The rows of a table that loads stand in strictly ascending order of their keys (06-104r4, feature tables).
+/// The rows of a table that loads are in strictly ascending order of their keys (06-104r4, feature tables).
 pub fn rows_ascend<T, G>()
     ensures { RowsAscend T G }
 {}

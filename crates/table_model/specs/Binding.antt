@@ -42,7 +42,7 @@ use Rattle.table_model.specs.declared.conditions.Item.TheVariants as items
 use Rattle.table_model.specs.declared.conditions.Reference.{Reference}
 use Rattle.table_model.specs.declared.conditions.Bound.{Bound}
 
--- ---- faults: of several the first from left to right is answered
+-- ---- faults: of several the first from left to right is returned
 
 -- an answer, or the fault of a query
 abbrev pub Checked : Type 0 → Type 0
@@ -79,7 +79,7 @@ reference_at schema written None = Err (UnknownTable written.table.at)
 abbrev pub bound_reference : {T : Type 0} → List (TableDef T) → WrittenReference → Checked Reference
 bound_reference schema written = reference_at schema written (table_place schema written.table.text)
 
--- the byte at which the name of a reference stands
+-- the byte at which the name of a reference is
 abbrev pub name_start : Name → Option Name → ℕ
 name_start table (Some alias) = alias.at
 name_start table None = table.at
@@ -198,14 +198,14 @@ bound_operand how schema references (written_operand.Dimension at a) = do
   x ← geometry_only at typed
   Ok (record { part = operands.Dimension x; part_type = types.Integer })
 
--- whether a side of this type may stand where an integer is wanted
+-- whether a side of this type may be used as integer
 abbrev pub fits_integer : OperandType → Bool
 fits_integer types.Integer = true
 fits_integer types.Text = false
 fits_integer types.Geometry = false
 fits_integer types.Null = true
 
--- whether a side of this type may stand where a text is wanted
+-- whether a side of this type may be used as text
 abbrev pub fits_text : OperandType → Bool
 fits_text types.Integer = false
 fits_text types.Text = true
@@ -274,7 +274,7 @@ bound_by_parts how schema references (WrittenCond-F.IsNull a) = bound_null_test 
 bound_by_parts how schema references (WrittenCond-F.IsEmpty at a) = bound_emptiness how schema references at a
 bound_by_parts how schema references (WrittenCond-F.Relates at predicate a b) = bound_relation how schema references at predicate a b
 
--- a written condition, bound as it stands, or its first fault (SQL, the search condition)
+-- a written condition, bound as it is written, or its first fault (SQL, the search condition)
 abbrev pub bound_cond : {T A B C D : Type 0} → GeometryBinding T A B C D → List (TableDef T) → List Reference → WrittenCond A → Checked (Cond B)
 bound_cond {A = A} {B = B} how schema references = fold-WrittenCond A (Checked (Cond B)) (bound_by_parts how schema references)
 
@@ -347,7 +347,7 @@ binding how schema query = do
   filtering ← bound_condition how schema references query.condition
   Ok (record { explain = query.explain; references = references; items = listed; conjuncts = joining ++ filtering; counts = counts query.selection; limit = query.limit })
 
--- a query bound as it stands: the tables of FROM first, then the select list, ON and WHERE (SQL, the query)
+-- a query bound as it is written: the tables of FROM first, then the select list, ON and WHERE (SQL, the query)
 abbrev pub statement : {T A B C D : Type 0} → GeometryBinding T A B C D → List (TableDef T) → Query A C → Checked (Statement B D)
 statement how schema query = do
   references ← bound_references schema query.first query.second

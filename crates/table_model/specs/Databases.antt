@@ -17,7 +17,7 @@ pub record Database (T G : Type 0) : Type 0 where
   pub definitions : List (TableDef T)
   pub tables : List (Table G)
 
--- whether a value may stand in a column of this type: null may stand in each (SQL)
+-- whether a column of this type may hold a value: each may hold null (SQL)
 abbrev pub fits_type : {T G : Type 0} → ColumnType T → Value G → Bool
 fits_type kind value.Null = true
 fits_type column.Integer (value.Integer n) = true

@@ -37,12 +37,12 @@ filters_text (place ∷ more) = join_with_byte 32 (map conjunct_number (place �
 abbrev pub line : List ℕ → List ℕ → List ℕ
 line word text = word ++ codes " " ++ text ++ codes "\n"
 
--- the line of COUNT(*), where it stands
+-- the line of COUNT(*), if there is one
 abbrev pub count_line : Bool → List ℕ
 count_line true = codes "count\n"
 count_line false = []
 
--- the line of LIMIT, where it stands
+-- the line of LIMIT, if there is one
 abbrev pub limit_line : Option ℕ → List ℕ
 limit_line (Some n) = line (codes "limit") (decimal n)
 limit_line None = []

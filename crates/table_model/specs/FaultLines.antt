@@ -11,7 +11,7 @@ use Rattle.table_model.specs.declared.faults.LoadFault.TheVariants as l
 use Rattle.table_model.specs.declared.faults.QueryFault.{QueryFault}
 use Rattle.table_model.specs.declared.faults.QueryFault.TheVariants as q
 
--- want of memory, in words
+-- running out of memory, in words
 abbrev pub memory_text : List ℕ
 memory_text = codes "out of memory"
 
@@ -75,7 +75,7 @@ query_text q.OutOfMemory = memory_text
 abbrev pub line_of : List ℕ → List ℕ
 line_of text = codes "sfq: " ++ text ++ codes "\n"
 
--- the status of a schema fault: 3, and 7 for want of memory
+-- the status of a schema fault: 3, and 7 when memory ran out
 abbrev pub schema_status : SchemaFault → ℕ
 schema_status (s.Syntax at) = 3
 schema_status (s.DoubleName at) = 3
@@ -85,7 +85,7 @@ schema_status (s.TooMany at) = 3
 schema_status s.TooLong = 3
 schema_status s.OutOfMemory = 7
 
--- the status of a fault of loading: 4, 6 where reading failed, and 7 for want of memory
+-- the status of a fault of loading: 4, 6 where reading failed, and 7 when memory ran out
 abbrev pub load_status : LoadFault → ℕ
 load_status l.MissingColumn = 4
 load_status l.DoubleHeader = 4
@@ -100,7 +100,7 @@ load_status l.TooManyRows = 4
 load_status l.ReadFailed = 6
 load_status l.OutOfMemory = 7
 
--- the status of a query fault: 5, and 7 for want of memory
+-- the status of a query fault: 5, and 7 when memory ran out
 abbrev pub query_status : QueryFault → ℕ
 query_status (q.Lex at) = 5
 query_status (q.Syntax at) = 5

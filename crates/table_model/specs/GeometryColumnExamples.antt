@@ -125,7 +125,7 @@ bound_where condition = bound (selections.Items (written_item.Column (bare (code
 abbrev pub shaped : ℕ → Value Geometry → Row Geometry
 shaped id geometry = values.Integer (pos id) ∷ values.Null ∷ geometry ∷ []
 
--- where the geometry column stands
+-- where the geometry column is
 abbrev pub geometry_place : ColumnPlace
 geometry_place = record { reference = 0; column = 2 }
 

@@ -63,7 +63,7 @@ written_join = record {
   limit = None;
 }
 
--- the query that it is, bound as it stands
+-- the query that it is, bound as it is written
 abbrev pub join : Statement (GeometryArgument Geometry) ColumnPlace
 join = record {
   explain = explains.No;

@@ -26,7 +26,7 @@ Record = List (List ℕ)
 abbrev pub GeometryReader : Type 0 → Type 0 → Type 0
 GeometryReader T G = ℕ → T → List ℕ → Result G LoadFault
 
--- an answer goes on with the next step, a fault stands
+-- a value goes on to the next step, a fault stays
 abbrev pub and_then : {A B F : Type 0} → Result A F → (A → Result B F) → Result B F
 and_then (Ok x) next = next x
 and_then (Err f) next = Err f
@@ -147,7 +147,7 @@ whole_number (Some (value.Geometry g)) = pos 0
 abbrev pub key_of : {G : Type 0} → ℕ → Row G → ℤ
 key_of key row = whole_number (slice_get row key)
 
--- the number of the first of these keys that an earlier one equals, where this many stand before them
+-- the number of the first of these keys that an earlier one equals, where this many come before them
 abbrev pub double_from : List ℤ → ℕ → List ℤ → Option ℕ
 double_from earlier number [] = None
 double_from earlier number (key ∷ keys) =

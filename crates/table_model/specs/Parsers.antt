@@ -1,5 +1,5 @@
 -- What a reader of tokens is, and the steps that its rules are made of. A reader takes the tokens that are left, and
--- answers what it read with those that are left then, or the first fault.
+-- returns what it read with those that are left then, or the first fault.
 use Rattle.std.specs.Prelude.{◌≡◌, ◌≢◌, ℕ, zero, suc, Bool, if◌then◌else◌, List, [], ◌∷◌, ◌++◌, length, Result, Ok, Err}
 use Rattle.table_model.specs.declared.queries.Name.{Name}
 use Rattle.table_model.specs.declared.tokens.Token.{Token}
@@ -79,7 +79,7 @@ f <$> p = p >>= (λ x. pure (f x))
 abbrev pub refuse : {F A : Type 0} → (ℕ → F) → Parser F A
 refuse syntax = λ ts. Err (syntax (place ts))
 
--- reads the next token where it is of a kind, and tells whether it is
+-- reads the next token where it is of a kind, and returns whether it is
 abbrev pub eat : {F : Type 0} → TokenKind → Parser F Bool
 eat wanted = λ ts. Ok (sees wanted ts, after wanted ts)
 
@@ -104,9 +104,9 @@ abbrev pub value_of : {F A : Type 0} → Outcome F A → Result A F
 value_of (Ok p) = Ok p.0
 value_of (Err e) = Err e
 
--- ---- what a function that reads ensures: the reader's outcome; want of memory may stand in its place
+-- ---- what a function that reads ensures: the reader's outcome, unless memory ran out
 
--- the call's answer and the tokens left after it are the reader's outcome; want of memory may stand in the place of any
+-- the call's answer and the tokens left after it are the reader's outcome, unless memory ran out
 abbrev pub Reads : {F A : Type 0} → F → Outcome F A → Result A F → List Token → Type 0
 Reads memory outcome (Ok a) new = outcome ≡ Ok (a, new)
 Reads memory outcome (Err e) new = e ≢ memory → outcome ≡ Err e

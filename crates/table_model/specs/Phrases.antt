@@ -1,4 +1,4 @@
--- What the rules of the grammars of schemas and queries are made of: phrases, which tell what tokens are written for.
+-- What the rules of the grammars of schemas and queries are made of: phrases, which say what tokens are written for.
 use Rattle.std.specs.Prelude.{◌≡◌, ◌⊎◌, ℕ, true, List, [], ◌∷◌, ◌++◌}
 use Rattle.table_model.specs.declared.tokens.Token.{Token}
 use Rattle.table_model.specs.declared.tokens.TokenKind.{TokenKind}

@@ -166,7 +166,7 @@ near_and_joined = query (of 0 (codes "b") ∷ of 1 (codes "s") ∷ []) (with_lit
 abbrev pub touching : Query
 touching = query (of 0 (codes "a") ∷ of 0 (codes "b") ∷ []) (of_both predicates.Touches ∷ [])
 
--- what stands at the places of the meaning, by the label matrix
+-- what is at the places of the meaning, by the label matrix
 abbrev pub wanted : List (Table Geometry) → Query → List (List (Row Geometry))
 wanted tables q = map (query_rows tables q) (meant (truth labelled_matrix denoted) tables q)
 

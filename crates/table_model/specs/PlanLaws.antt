@@ -55,7 +55,7 @@ abbrev pub ScanGivesPlaces : Type 0
 ScanGivesPlaces = (denotes : Rows Geometry → GeometryArgument Geometry → Option Geometry) (tables : List (Table Geometry)) (query : GeometryQuery) → length query.references ≡ 1
     → candidates denotes tables query (record { reference = 0; method = methods.Scan } ∷ []) ≡ choices (referenced tables query.references)
 
--- the filters of every plan are all conjuncts, each once: the place of a conjunct stands once among them, and no other
+-- the filters of every plan are all conjuncts, each once: the place of a conjunct is once among them, and no other
 -- number does
 abbrev pub FiltersAreConjuncts : Type 0
 FiltersAreConjuncts = (conjuncts : List (Cond (GeometryArgument Geometry))) (place : ℕ)

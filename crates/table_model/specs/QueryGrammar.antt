@@ -51,13 +51,13 @@ IsDigits negative n = IsOne (λ t. (t.kind ≡ k.Integer) × (integer_value nega
 abbrev pub IsInteger : ℤ → Phrase
 IsInteger n ts = IsDigits false n ts ⊎ (IsToken k.Plus ▸ IsDigits false n) ts ⊎ (IsToken k.Minus ▸ IsDigits true n) ts
 
--- a string's text is what stands between its quotes
+-- a string's text is what is between its quotes
 abbrev pub IsString : Name → Phrase
 IsString text = IsOne (λ t. (t.kind ≡ k.Text) × (text ≡ record { text = t.text; at = t.at }))
 
 -- ---- functions
 
--- a function with what stands between its parentheses
+-- a function with what is between its parentheses
 abbrev pub IsCall : List ℕ → Phrase → Phrase
 IsCall function P = IsWord function ▸ IsToken k.LeftParenthesis ▸ P ▸ IsToken k.RightParenthesis
 
@@ -187,7 +187,7 @@ IsItem functions item ts =
     ((column : WrittenColumn) × (item ≡ i.Column column) × IsColumn column ts)
     ⊎ IsItemFunction functions item ts
 
--- items = '*' | item (',' item)* | 'COUNT' '(' '*' ')', which stands alone, where it is served (SQL, the select list)
+-- items = '*' | item (',' item)* | 'COUNT' '(' '*' ')', which is alone, where it is served (SQL, the select list)
 abbrev pub IsSelection : (served : Served) → Selection (ItemArgument served.functions) → Phrase
 IsSelection served selection ts =
     ((selection ≡ l.All) × IsToken k.Star ts)
@@ -257,6 +257,6 @@ IsSelect served query =
 unfoldable pub IsQuery : (served : Served) → List ℕ → ServedQuery served → Type 0
 IsQuery served text query = (length text ≤ most_bytes) × (bad_place (tokens true text) ≡ None) × IsSelect served query (tokens true text)
 
--- a reader of a text answers the query that it is, whichever that is; want of memory may stand in its place
+-- a reader of a text returns the query that it is, whichever that is, unless memory ran out
 abbrev pub AnswersQuery : (served : Served) → List ℕ → Result (ServedQuery served) QueryFault → Type 0
 AnswersQuery served text result = (query : ServedQuery served) → IsQuery served text query → Gives fault.OutOfMemory (λ q. q) result (Ok query)

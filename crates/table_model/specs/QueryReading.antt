@@ -55,7 +55,7 @@ column = do
 unfoldable pub calls : List ℕ → List Token → Bool
 calls function ts = sees k.Word ts && sees k.LeftParenthesis (next ts) && same_name (spelling ts) function
 
--- functions by their names, each with the reader of what stands after its name
+-- functions by their names, each with the reader of what comes after its name
 abbrev pub Functions : Type 0 → Type 0
 Functions A = List (List ℕ × Reader A)
 
@@ -64,7 +64,7 @@ abbrev pub called_or : {A : Type 0} → Functions A → Reader A → Reader A
 called_or [] other ts = other ts
 called_or (f ∷ more) other ts = if calls f.0 ts then f.1 (next ts) else called_or more other ts
 
--- what stands between parentheses
+-- what is between parentheses
 abbrev pub enclosed : {A : Type 0} → Reader A → Reader A
 enclosed reader = do
   expect fault.Syntax k.LeftParenthesis
@@ -127,7 +127,7 @@ comparison_of k.Greater = Some m.Greater
 comparison_of k.GreaterOrEqual = Some m.GreaterOrEqual
 comparison_of _ = None
 
--- the rest of a comparison by its sign; where there is none the token can't stand there
+-- the rest of a comparison by its sign; where there is none the token can't be there
 abbrev pub compared_by : (functions : Bool) → ℕ → ServedOperand functions → Option Comparison → Reader (ServedCond functions)
 compared_by functions at left None = refuse fault.Syntax
 compared_by functions at left (Some comparison) = λ ts. (c.Compare at comparison left <$> operand functions) (next ts)
@@ -272,7 +272,7 @@ items functions = parts fault.Syntax k.Comma (item functions) []
 abbrev pub counted : {C : Type 0} → Reader (Selection C)
 counted = expect fault.Syntax k.Star >> pure l.Count
 
--- the function that stands alone in the select list, COUNT, where it is served (SQL, COUNT(*))
+-- the function that is alone in the select list, COUNT, where it is served (SQL, COUNT(*))
 abbrev pub count_function : {C : Type 0} → (count : Bool) → Functions (Selection C)
 count_function false = []
 count_function true = (codes "COUNT", enclosed counted) ∷ []
@@ -348,7 +348,7 @@ limit_number ts = if sees k.Integer ts then limit_or (limit_value (spelling ts))
 abbrev pub limited : Served → Reader (Option ℕ)
 limited served ts = if served.limit && sees k.Limit ts then limit_number (next ts) else Ok (None, ts)
 
--- Whether this word stands next, in any ASCII case. It isn't reserved; with `(` after it, it is a function.
+-- Whether this word comes next, in any ASCII case. It isn't reserved; with `(` after it, it is a function.
 unfoldable pub says : List ℕ → List Token → Bool
 says word ts = sees k.Word ts && not (sees k.LeftParenthesis (next ts)) && same_name (spelling ts) word
 

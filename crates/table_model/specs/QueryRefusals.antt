@@ -37,26 +37,26 @@ IsAnyCondition functions = IsConditionOf (IsAnyNegation functions)
 
 -- ---- fronts of it
 
--- what stands up to the first table reference
+-- what comes up to the first table reference
 abbrev pub BeforeSecond : Served → Phrase
 BeforeSecond served ts =
     (told : Explain) × (selection : Selection (ItemArgument served.functions)) × (first : WrittenReference)
     × (IsExplain served told ▸ IsToken k.Select ▸ IsSelection served selection ▸ IsToken k.From ▸ IsReference first) ts
 
--- what stands before the condition of ON
+-- what comes before the condition of ON
 abbrev pub BeforeOn : Served → Phrase
 BeforeOn served ts =
     (served.second_reference ≡ true) × (second : WrittenReference)
     × (BeforeSecond served ▸ IsOptional k.Inner ▸ IsToken k.Join ▸ IsReference second ▸ IsToken k.On) ts
 
--- what stands up to the last table reference and its condition
+-- what comes up to the last table reference and its condition
 abbrev pub ThroughFrom : Served → Phrase
 ThroughFrom served ts =
     BeforeSecond served ts
     ⊎ ((served.second_reference ≡ true) × (second : WrittenReference) × (BeforeSecond served ▸ IsCrossed second) ts)
     ⊎ ((on : ServedCond served.functions) × (BeforeOn served ▸ IsAnyCondition served.functions on) ts)
 
--- what stands before the condition of WHERE
+-- what comes before the condition of WHERE
 abbrev pub BeforeWhere : Served → Phrase
 BeforeWhere served = ThroughFrom served ▸ IsToken k.Where
 
@@ -65,24 +65,24 @@ abbrev pub IsAnyWhere : Bool → Phrase
 IsAnyWhere functions ts =
     (ts ≡ []) ⊎ ((condition : ServedCond functions) × (IsToken k.Where ▸ IsAnyCondition functions condition) ts)
 
--- what stands before the integer of LIMIT, where LIMIT is served
+-- what comes before the integer of LIMIT, where LIMIT is served
 abbrev pub BeforeLimit : Served → Phrase
 BeforeLimit served ts = (served.limit ≡ true) × (ThroughFrom served ▸ IsAnyWhere served.functions ▸ IsToken k.Limit) ts
 
--- the parts of a condition that stand before one more: (conj 'OR')* (neg 'AND')*
+-- the parts of a condition that come before one more: (conj 'OR')* (neg 'AND')*
 abbrev pub AreParts : Bool → Phrase
 AreParts functions ts =
     (ors ands : List (ServedCond functions))
     × (AreEnded (IsToken k.Or) (IsConjunction (IsAnyNegation functions)) ors ▸ AreEnded (IsToken k.And) (IsAnyNegation functions) ands) ts
 
--- what stands before a neg at which so many NOT and parentheses are open
+-- what comes before a neg at which so many NOT and parentheses are open
 unfoldable pub BeforeNegation : Served → ℕ → Phrase
 BeforeNegation served zero ts = ((BeforeOn served ▸ AreParts served.functions) ts) ⊎ ((BeforeWhere served ▸ AreParts served.functions) ts)
 BeforeNegation served (suc opened) ts =
     (BeforeNegation served opened ▸ IsToken k.Not) ts
     ⊎ (BeforeNegation served opened ▸ IsToken k.LeftParenthesis ▸ AreParts served.functions) ts
 
--- what stands before an operand: before a predicate, or between a comparison's left side and its right
+-- what comes before an operand: before a predicate, or between a comparison's left side and its right
 abbrev pub BeforeOperand : Served → Phrase
 BeforeOperand served ts =
     (opened : ℕ)
@@ -105,13 +105,13 @@ IsTooBig served before t =
     ⊎ ((integer_value true t.text ≡ None) × (BeforeOperand served ▸ IsToken k.Minus) before)
     ⊎ ((limit_value t.text ≡ None) × BeforeLimit served before))
 
--- a fault stands at a token, after these tokens; none of the others is one at a token
+-- a fault applies at a token, after these tokens; none of the others is one at a token
 abbrev pub StandsAt : Served → List Token → Token → QueryFault → Type 0
 StandsAt served before t (fault.TooDeep at) = (at ≡ t.at) × IsTooDeep served before t
 StandsAt served before t (fault.NumberTooBig at) = (at ≡ t.at) × IsTooBig served before t
 StandsAt served before t _ = ⊥
 
--- a fault stands at one of these tokens
+-- a fault applies at one of these tokens
 abbrev pub StandsIn : Served → List Token → QueryFault → Type 0
 StandsIn served ts f = (before after : List Token) × (t : Token) × (ts ≡ before ++ t ∷ after) × StandsAt served before t f
 
@@ -121,14 +121,14 @@ is_at_token (fault.TooDeep at) = true
 is_at_token (fault.NumberTooBig at) = true
 is_at_token _ = false
 
--- a fault that is one of those at a token stands in the text, which isn't too long and is made of tokens
+-- a fault that is one of those at a token applies in the text, which isn't too long and is made of tokens
 abbrev pub StandsInQuery : Served → List ℕ → QueryFault → Type 0
 StandsInQuery served text f =
     is_at_token f ≡ true → (length text ≤ most_bytes) × (bad_place (tokens true text) ≡ None) × StandsIn served (tokens true text) f
 
--- Where a fault stands at a token of a text that isn't too long and is made of tokens, a reader answers one that stands
--- at that token or before it: so the first that stands is answered, and a query or another fault only where none
--- stands. Want of memory may stand in its place.
+-- Where a fault applies at a token of a text that isn't too long and is made of tokens, a reader returns one that applies
+-- at that token or before it: so the first that applies is returned, and a query or another fault only where none
+-- applies. Running out of memory may come instead.
 abbrev pub AnswersFirst : (served : Served) → List ℕ → Result (ServedQuery served) QueryFault → Type 0
 AnswersFirst served text result = (before after : List Token) (t : Token) (g : QueryFault)
     → length text ≤ most_bytes → bad_place (tokens true text) ≡ None → tokens true text ≡ before ++ t ∷ after → StandsAt served before t g

@@ -84,13 +84,13 @@ IsRefusedItem rules schema references (written_item.AsText at a) = IsRefusedFunc
 IsRefusedItem rules schema references (written_item.Dimension at a) = IsRefusedFunction rules schema references at a
 IsRefusedItem rules schema references (written_item.IsEmpty at a) = IsRefusedFunction rules schema references at a
 
--- a reference and a column of its table stand at these places
+-- a reference and a column of its table are at these places
 abbrev pub IsThere : {T : Type 0} → List (TableDef T) → List Reference → ColumnPlace → Type 0
 IsThere {T} schema references place =
     (reference : Reference) × (column : ColumnDef T)
     × (slice_get references place.reference ≡ Some reference) × (slice_get (columns_of schema reference) place.column ≡ Some column)
 
--- one column stands before another: that of the earlier reference, and of one reference the earlier column
+-- one column comes before another: that of the earlier reference, and of one reference the earlier column
 abbrev pub StandsBefore : ColumnPlace → ColumnPlace → Type 0
 StandsBefore a b = (a.reference < b.reference) ⊎ ((a.reference ≡ b.reference) × (a.column < b.column))
 
@@ -98,7 +98,7 @@ StandsBefore a b = (a.reference < b.reference) ⊎ ((a.reference ≡ b.reference
 abbrev pub IsListed : List ColumnPlace → ColumnPlace → Type 0
 IsListed places place = IsSomewhere (λ listed. listed ≡ place) places
 
--- each of some places stands before all that are listed after it
+-- each of some places comes before all that are listed after it
 abbrev pub AreInOrder : List ColumnPlace → Type 0
 AreInOrder [] = Unit {0}
 AreInOrder (first ∷ places) = ((later : ColumnPlace) → IsListed places later → StandsBefore first later) × AreInOrder places
@@ -135,7 +135,7 @@ abbrev pub IsRefusedWhole : {T A B C D : Type 0} → GeometryRules T A B C D →
 IsRefusedWhole rules schema references (Some written) = FirstFault (IsCond rules schema references written) (IsRefusedCond rules schema references written) (λ cond fault. ⊥)
 IsRefusedWhole rules schema references None = λ fault. ⊥
 
--- what a query is bound to as it stands; EXPLAIN, COUNT(*) and LIMIT are carried over (SQL, the query)
+-- what a query is bound to as it is written; EXPLAIN, COUNT(*) and LIMIT are carried over (SQL, the query)
 pub record IsStatement {T A B C D : Type 0} (rules : GeometryRules T A B C D) (schema : List (TableDef T)) (query : Query A C) (stated : Statement B D) : Type 0 where
   pub references : IsFrom schema query.first query.second stated.references
   pub items : AreItems rules schema stated.references query.selection stated.items

@@ -28,17 +28,17 @@ IsNotNull = IsToken k.Not ▸ IsToken k.Null
 abbrev pub IsPrimaryKey : Phrase
 IsPrimaryKey = IsWord (codes "PRIMARY") ▸ IsWord (codes "KEY")
 
--- a phrase that stands, or nothing
+-- a phrase, or nothing
 abbrev pub IsMark : Bool → Phrase → Phrase
 IsMark true P = P
 IsMark false P = λ ts. ts ≡ []
 
--- mark*, in either order, each at most once: whether NOT NULL stands, and whether PRIMARY KEY does
+-- mark*, in either order, each at most once: whether NOT NULL is there, and whether PRIMARY KEY is
 abbrev pub AreMarks : Bool → Bool → Phrase
 AreMarks not_null is_key ts =
     (IsMark not_null IsNotNull ▸ IsMark is_key IsPrimaryKey) ts ⊎ (IsMark is_key IsPrimaryKey ▸ IsMark not_null IsNotNull) ts
 
--- a column, and whether PRIMARY KEY stands on it
+-- a column, and whether PRIMARY KEY is on it
 abbrev pub Marked : Type 0 → Type 0
 Marked T = ColumnDef T × Bool
 
@@ -70,6 +70,6 @@ AreTables {T} geometry tables ts =
 unfoldable pub IsSchema : {T : Type 0} → (List ℕ → Option T) → List ℕ → List (TableDef T) → Type 0
 IsSchema geometry text tables = (length text ≤ most_bytes) × (lawful tables ≡ true) × AreTables geometry tables (tokens false text)
 
--- a reader of a text answers the tables whose schema it is, whichever those are; want of memory may stand in their place
+-- a reader of a text returns the tables whose schema it is, whichever those are, unless memory ran out
 abbrev pub AnswersSchema : {T : Type 0} → (List ℕ → Option T) → List ℕ → Result (List (TableDef T)) SchemaFault → Type 0
 AnswersSchema {T} geometry text result = (tables : List (TableDef T)) → IsSchema geometry text tables → Gives fault.OutOfMemory (λ t. t) result (Ok tables)

@@ -80,7 +80,7 @@ key_mark has_key type ts =
     else (if has_key then Err (fault.TwoKeys (place ts))
     else ((λ read. true) <$> expect_word (codes "KEY")) (next ts)))
 
--- mark*, each mark once: whether NOT NULL stands, and whether PRIMARY KEY does
+-- mark*, each mark once: whether NOT NULL is there, and whether PRIMARY KEY is
 unfoldable pub marks : {T : Type 0} → Bool → ColumnType T → Reader (Bool × Bool)
 marks has_key type = do
   before ← null_mark
@@ -163,7 +163,7 @@ table geometry tables = do
   read ← columns geometry
   close name read
 
--- reads a semicolon, where one stands, and tells whether a table follows it
+-- reads a semicolon, if one comes next, and returns whether a table follows it
 unfoldable pub goes_on : Reader Bool
 goes_on = do
   separated ← eat k.Semicolon

@@ -19,11 +19,11 @@ use Rattle.table_model.specs.Phrases.{Phrase, IsToken, ◌▸◌, IsParts, AreEn
 
 -- ---- the grammar with those rules set aside
 
--- a table as it is written: its name, and its columns with whether PRIMARY KEY stands on each
+-- a table as it is written: its name, and its columns with whether PRIMARY KEY is on each
 abbrev pub Written : Type 0 → Type 0
 Written T = List ℕ × List (Marked T)
 
--- column = name type mark*, PRIMARY KEY standing on INTEGER columns alone
+-- column = name type mark*, PRIMARY KEY being on INTEGER columns alone
 abbrev pub IsColumn : {T : Type 0} → (List ℕ → Option T) → Marked T → Phrase
 IsColumn geometry column ts = (column.1 ≡ true → is_integer column.0.column_type ≡ true) × IsMarked geometry column ts
 
@@ -39,24 +39,24 @@ IsWritten {T} geometry table ts =
 
 -- ---- fronts of it
 
--- what stands before the name of a table, after these tables
+-- what comes before the name of a table, after these tables
 abbrev pub BeforeTable : {T : Type 0} → (List ℕ → Option T) → List (Written T) → Phrase
 BeforeTable geometry tables = AreEnded (IsToken k.Semicolon) (IsWritten geometry) tables ▸ IsCreateTable
 
--- what stands before the first column of a table of this name
+-- what comes before the first column of a table of this name
 abbrev pub BeforeColumns : {T : Type 0} → (List ℕ → Option T) → List (Written T) → List ℕ → Phrase
 BeforeColumns geometry tables name = BeforeTable geometry tables ▸ IsNamed name ▸ IsToken k.LeftParenthesis
 
--- what stands before the name of a column, after these columns of the table
+-- what comes before the name of a column, after these columns of the table
 abbrev pub BeforeColumn : {T : Type 0} → (List ℕ → Option T) → List (Written T) → List ℕ → List (Marked T) → Phrase
 BeforeColumn geometry tables name columns = BeforeColumns geometry tables name ▸ AreEnded (IsToken k.Comma) (IsColumn geometry) columns
 
--- what stands before the marks of a column, or between NOT NULL and PRIMARY
+-- what comes before the marks of a column, or between NOT NULL and PRIMARY
 abbrev pub BeforeKey : {T : Type 0} → (List ℕ → Option T) → List (Written T) → List ℕ → List (Marked T) → List ℕ → ColumnType T → Bool → Phrase
 BeforeKey geometry tables name columns column type not_null =
     BeforeColumn geometry tables name columns ▸ IsNamed column ▸ IsType geometry type ▸ IsMark not_null IsNotNull
 
--- what stands before the parenthesis that closes a table
+-- what comes before the parenthesis that closes a table
 abbrev pub BeforeClose : {T : Type 0} → (List ℕ → Option T) → List (Written T) → List ℕ → Marked T → List (Marked T) → Phrase
 BeforeClose geometry tables name first more = BeforeColumns geometry tables name ▸ IsParts k.Comma (IsColumn geometry) first more
 
@@ -70,7 +70,7 @@ IsName t = t.kind ≡ k.Word
 abbrev pub is_among : Token → List (List ℕ) → Bool
 is_among t names = list_any (λ name. same_name name t.text) names
 
--- whether PRIMARY KEY stands on one of these columns
+-- whether PRIMARY KEY is on one of these columns
 abbrev pub has_key : {T : Type 0} → List (Marked T) → Bool
 has_key columns = list_any (λ c. c.1) columns
 
@@ -109,7 +109,7 @@ IsCloseWithoutKey {T} geometry before t =
     × (tables : List (Written T)) × (name : List ℕ) × (first : Marked T) × (more : List (Marked T)) × (has_key (first ∷ more) ≡ false)
     × BeforeClose geometry tables name first more before
 
--- a fault stands at a token, after these tokens; none of the others is one at a token
+-- a fault applies at a token, after these tokens; none of the others is one at a token
 abbrev pub StandsAt : {T : Type 0} → (List ℕ → Option T) → List Token → Token → SchemaFault → Type 0
 StandsAt geometry before t (fault.TooMany at) = (at ≡ t.at) × IsTooMany geometry before t
 StandsAt geometry before t (fault.DoubleName at) = (at ≡ t.at) × IsDoubleName geometry before t
@@ -119,7 +119,7 @@ StandsAt geometry before t (fault.Syntax at) = ⊥
 StandsAt geometry before t fault.TooLong = ⊥
 StandsAt geometry before t fault.OutOfMemory = ⊥
 
--- a fault stands at one of these tokens
+-- a fault applies at one of these tokens
 abbrev pub StandsIn : {T : Type 0} → (List ℕ → Option T) → List Token → SchemaFault → Type 0
 StandsIn geometry ts f = (before after : List Token) × (t : Token) × (ts ≡ before ++ t ∷ after) × StandsAt geometry before t f
 
@@ -133,13 +133,13 @@ is_at_token (fault.Syntax at) = false
 is_at_token fault.TooLong = false
 is_at_token fault.OutOfMemory = false
 
--- a fault that is one of those at a token stands in the text
+-- a fault that is one of those at a token applies in the text
 abbrev pub StandsInSchema : {T : Type 0} → (List ℕ → Option T) → List ℕ → SchemaFault → Type 0
 StandsInSchema geometry text f = is_at_token f ≡ true → StandsIn geometry (tokens false text) f
 
--- Where a fault stands at a token of a text that isn't too long, a reader answers one that stands at that token or
--- before it: so the first that stands is answered, and tables or another fault only where none stands. Want of memory
--- may stand in its place.
+-- Where a fault applies at a token of a text that isn't too long, a reader returns one that applies at that token or
+-- before it: so the first that applies is returned, and tables or another fault only where none applies. Running out of memory
+-- may come instead.
 abbrev pub AnswersFirst : {T : Type 0} → (List ℕ → Option T) → List ℕ → Result (List (TableDef T)) SchemaFault → Type 0
 AnswersFirst geometry text result = (before after : List Token) (t : Token) (g : SchemaFault)
     → length text ≤ most_bytes → tokens false text ≡ before ++ t ∷ after → StandsAt geometry before t g

@@ -1,4 +1,4 @@
--- The parts of the query language that a reader of queries serves. All that differs with them stands here; the rules
+-- The parts of the query language that a reader of queries serves. All that differs with them is here; the rules
 -- of the language take it as a parameter.
 use Rattle.std.specs.Prelude.{Bool, true, false}
 use Rattle.table_model.specs.declared.queries.Query.{Query}

@@ -1,4 +1,4 @@
--- A bound query as it stands, with the whole conditions of ON and WHERE, and the list of its conjuncts.
+-- A bound query as it is written, with the whole conditions of ON and WHERE, and the list of its conjuncts.
 use Rattle.std.specs.Prelude.{ℕ, Bool, List, [], ◌∷◌, ◌++◌, map, Option, Some, None}
 use Rattle.std.specs.List.{flat_map}
 use Rattle.table_model.specs.declared.conditions.Cond.{Cond}
@@ -46,7 +46,7 @@ conjuncts_in None = []
 
 -- ---- queries
 
--- a query bound as it stands: its references, its items, the conditions of ON and WHERE, whether COUNT(*) is listed, and its limit (SQL, the query)
+-- a query bound as it is written: its references, its items, the conditions of ON and WHERE, whether COUNT(*) is listed, and its limit (SQL, the query)
 pub record Statement (A C : Type 0) : Type 0 where
   pub explain : Explain
   pub references : List Reference

@@ -69,7 +69,7 @@ symbol b next =
 -- ---- strings
 
 -- The place after the quote that closes a string, for its bytes from a place on; none where it isn't closed. A
--- doubled quote doesn't close. The Bool tells that the byte before is a quote that isn't the second of two.
+-- doubled quote doesn't close. The Bool says that the byte before is a quote that isn't the second of two.
 abbrev pub closing : ℕ → Bool → List ℕ → Option ℕ
 closing at true [] = Some at
 closing at false [] = None
@@ -87,7 +87,7 @@ string z = string_to (closing 1 false (drop 1 z))
 
 -- ---- tokens
 
--- The kind and the length of what stands at the front of a text that isn't empty: no kind for white space and
+-- The kind and the length of what is at the front of a text that isn't empty: no kind for white space and
 -- comments, Bad for a byte that begins no token. Strings are tokens where the Bool says so.
 unfoldable pub front : Bool → List ℕ → Option TokenKind × ℕ
 front strings z =
@@ -100,7 +100,7 @@ front strings z =
     else (if is_ascii_digit b then (Some k.Integer, prefix_len is_ascii_digit z)
     else (if strings && b == 39 then some (string z) else some (symbol b next)))))
 
--- the text of a token of this kind and length at the front of a text: a string's stands between its quotes
+-- the text of a token of this kind and length at the front of a text: a string's is between its quotes
 abbrev pub text_of : TokenKind → ℕ → List ℕ → List ℕ
 text_of kind len z = if same_kind kind k.Text then take (len - 2) (drop 1 z) else take len z
 

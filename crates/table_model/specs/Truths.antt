@@ -23,7 +23,7 @@ use Rattle.table_model.specs.declared.conditions.Cond.{Cond}
 use Rattle.table_model.specs.declared.conditions.Cond.TheFolds.{fold-Cond}
 use Rattle.table_model.specs.declared.conditions.Cond.TheOpen.{Cond-F}
 
--- NOT (SQL's three-valued logic, which 06-104r4 stands on)
+-- NOT (SQL's three-valued logic, which 06-104r4 uses)
 abbrev pub not_of : Truth → Truth
 not_of True = False
 not_of False = True

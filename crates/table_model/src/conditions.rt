@@ -15,7 +15,7 @@ pub enum Comparison {
     GreaterOrEqual,
 }
 
-/// Where a column stands: the place of its reference in the query and its own in the table, both from 0.
+/// Where a column is: the place of its reference in the query and its own in the table, both from 0.
 #[derive(Clone, Copy, PartialEq, Eq)]
 pub struct ColumnPlace {
     pub reference: usize,
@@ -64,7 +64,7 @@ pub enum Item<C> {
     IsEmpty(C),
 }
 
-/// A table reference: the table's place in the schema, and the bytes of the name that stands before the columns of
+/// A table reference: the table's place in the schema, and the bytes of the name that comes before the columns of
 /// an answer over two tables. (SQL, FROM.)
 #[derive(Drop)]
 pub struct Reference {
@@ -72,7 +72,7 @@ pub struct Reference {
     pub name: Items<u8>,
 }
 
-/// A bound query: its one or two references, its items, none where COUNT(*) stands, its conjuncts, those of ON before
+/// A bound query: its one or two references, its items, none under COUNT(*), its conjuncts, those of ON before
 /// those of WHERE, and its limit, where there is one. (SQL, the query.)
 #[derive(Drop)]
 pub struct Bound<A, C> {
@@ -80,7 +80,7 @@ pub struct Bound<A, C> {
     pub references: Items<Reference>,
     pub items: Items<Item<C>>,
     pub conjuncts: Items<Cond<A>>,
-    /// Whether COUNT(*) stands: the number of rows is wanted.
+    /// Whether COUNT(*) is listed: the number of rows is wanted.
     pub counts: bool,
     /// LIMIT: so many rows at most are wanted.
     pub limit: Option<u64>,

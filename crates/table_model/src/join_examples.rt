@@ -1,4 +1,4 @@
-//! A worked row of two tables joined by ON, computed: the query bound as it stands, its conjuncts, and the records of
+//! A worked row of two tables joined by ON, computed: the query bound as it is written, its conjuncts, and the records of
 //! its answer.
 
 ghost use Rattle.std.specs.Prelude.{◌≡◌, [], ◌∷◌, codes, Ok, map};
@@ -15,7 +15,7 @@ ghost use Rattle.table_model.specs.JoinExamples.{
 };
 ghost use Rattle.table_model.specs.Statements.{by_conjuncts};
 
-/// The conditions of ON and of WHERE stand apart, and are the two conjuncts in this order.
+/// The conditions of ON and of WHERE are apart, and are the two conjuncts in this order.
 pub fn binding_of_a_join()
     ensures whole { statement geometry_binding points_and_squares written_join ≡ Ok join }
     ensures conjuncts { binding geometry_binding points_and_squares written_join ≡ Ok (by_conjuncts join) }

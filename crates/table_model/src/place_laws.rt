@@ -8,18 +8,18 @@ ghost use Rattle.table_model.specs.PlaceLaws.{
   UpToPassingIsFront,
 };
 
-/// What stands at all choices of places is the product of the tables. (SQL, FROM.)
+/// What is at all choices of places is the product of the tables. (SQL, FROM.)
 pub fn choices_give_product<G>()
     ensures { ChoicesGiveProduct G }
 {}
 
-/// What stands at the choices of places that ON and WHERE select are the rows at which every conjunct is true.
+/// What is at the choices of places that ON and WHERE select are the rows at which every conjunct is true.
 /// (SQL, WHERE.)
 pub fn selected_gives_passing<G, A, C>()
     ensures { SelectedGivesPassing G A C }
 {}
 
-/// What stands at the places of a meaning are the rows that LIMIT leaves. (SQL, LIMIT.)
+/// What is at the places of a meaning are the rows that LIMIT leaves. (SQL, LIMIT.)
 pub fn meant_gives_limited<G, A, C>()
     ensures { MeantGivesLimited G A C }
 {}

@@ -73,7 +73,7 @@ pub fn work_of_filters()
         ≡ Some (codes "cost 100\nouter big scan\nfilter 1\nwork 200\n") }
 {}
 
-/// Two references of one table of two squares: of equal costs the first is chosen, and where no conjunct stands
+/// Two references of one table of two squares: of equal costs the first is chosen, and where there is no conjunct
 /// there is no filter.
 pub fn squares_with_squares()
     ensures costs { costs (squares ∷ [])
@@ -118,7 +118,7 @@ pub fn scans_of_small_tables()
         ≡ Some (codes "cost 4\nouter t scan\nfilter 1\n") }
 {}
 
-/// An outer reference that can be probed: each line of the cost and of the expected rows tells in one of the costs, and of
+/// An outer reference that can be probed: each line of the cost and of the expected rows counts in one of the costs, and of
 /// two plans that cost the same the earlier one is chosen.
 pub fn probes_of_outer_references()
     ensures costs { costs (point_rows 1 100 ∷ squares ∷ []) near_and_joined

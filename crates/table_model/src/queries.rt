@@ -80,7 +80,7 @@ pub enum Selection<'a, C> {
     /// `*`
     All,
     Items(Items<WrittenItem<'a, C>>),
-    /// `COUNT(*)`, the number of rows; it stands alone.
+    /// `COUNT(*)`, the number of rows; it is alone.
     Count,
 }
 
@@ -91,7 +91,7 @@ pub struct WrittenReference<'a> {
     pub alias: Option<Name<'a>>,
 }
 
-/// Whether a query is to be answered, or its plan to be told.
+/// Whether a query is to be run, or its plan to be printed.
 #[derive(Clone, Copy, PartialEq, Eq)]
 pub enum Explain {
     /// Rows are wanted.

@@ -94,7 +94,7 @@ pub fn conditions_are_functions()
         (operands.Dimension 52 (from_text (codes "POINT EMPTY") 81)) ∷ [])) }
 {}
 
-/// What may stand after a predicate: no sign, no number but 1 and 0, and no other comparison.
+/// What may come after a predicate: no sign, no number but 1 and 0, and no other comparison.
 pub fn truth_values_are_one_and_zero()
     ensures minus { read_where (codes "ST_IsEmpty(geom) = -1") ≡ Err (Syntax 41) }
     ensures plus { read_where (codes "ST_IsEmpty(geom) = +0") ≡ Err (Syntax 41) }
@@ -174,7 +174,7 @@ pub fn rows_are_limited()
         ≡ under selections.All (table (codes "t") 14) None (Some 9223372036854775807) }
 {}
 
-/// LIMIT's integer has no sign and is within 64 bits with a sign; LIMIT stands once, at the end, and is no name.
+/// LIMIT's integer has no sign and is within 64 bits with a sign; LIMIT comes once, at the end, and is no name.
 pub fn limits_are_refused()
     ensures minus { read (codes "SELECT id FROM big LIMIT -1") ≡ Err (Syntax 25) }
     ensures plus { read (codes "SELECT id FROM big LIMIT +1") ≡ Err (Syntax 25) }
@@ -190,7 +190,7 @@ pub fn limits_are_refused()
     ensures name { read (codes "SELECT * FROM limit") ≡ Err (Syntax 14) }
 {}
 
-/// COUNT(*) stands alone, and only in the select list.
+/// COUNT(*) is alone, and only in the select list.
 pub fn counts_are_refused()
     ensures before_item { read (codes "SELECT COUNT(*), id FROM t") ≡ Err (Syntax 15) }
     ensures behind_item { read (codes "SELECT id, COUNT(*) FROM t") ≡ Err (Syntax 11) }

@@ -64,7 +64,7 @@ impl Model for OwnedText {
 }
 
 impl OwnedText {
-    /// A copy of a text. It fails only for want of memory.
+    /// A copy of a text. It fails only when memory runs out.
     pub fn copy_of(alloc: Global, text: &str) -> Result<OwnedText, AllocError>
         ensures { IfOk result (λ t. t ≡ text.now) }
     {

@@ -12,7 +12,7 @@ pub enum TokenKind {
     Word,
     /// One or more digits.
     Integer,
-    /// A string, whose text is what stands between its quotes, each quote in it doubled.
+    /// A string, whose text is what is between its quotes, each quote in it doubled.
     Text,
     LeftParenthesis,
     RightParenthesis,

@@ -27,7 +27,7 @@ CanonicalTextSpells = (text : List ℕ) (g : Geometry) → Spells text g → Spe
 abbrev pub CanonicalTextIsRead : Type 0
 CanonicalTextIsRead = (text : List ℕ) (g : Geometry) → read_text text ≡ Ok g → read_text (canonical_text g) ≡ Ok g
 
--- where reading answers W2, W3 or W4, that refusal stands
+-- where reading returns W2, W3 or W4, that refusal applies
 abbrev pub RefusalsStand : Type 0
 RefusalsStand = (text : List ℕ) (at : ℕ)
     → (read_text text ≡ Err (OffGrid at) → IsOffGrid text at)

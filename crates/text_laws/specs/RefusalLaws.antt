@@ -1,4 +1,4 @@
--- Laws of the refusals of well-known text: what reading answers is what stands.
+-- Laws of the refusals of well-known text: what reading returns is what applies.
 use Rattle.std.specs.Prelude.{◌≡◌, ℕ, List, Err}
 use Rattle.geometry_model.specs.Geometries.{Geometry}
 use Rattle.geometry_model.specs.WellKnownText.{Writes, IsWithinCounts}
@@ -7,18 +7,18 @@ use Rattle.geometry_model.specs.TextRefusals.{IsRefusedAs, IsRefused}
 use Rattle.geometry_model.specs.declared.text_faults.TextFault.{TextFault}
 use Rattle.geometry_model.specs.declared.text_faults.TextFault.TheVariants.{Syntax, TooLong}
 
--- where W2, W3 or W4 stands, reading answers it: so no two of them stand, and none at two bytes
+-- where W2, W3 or W4 applies, reading returns it: so no two of them apply, and none at two bytes
 abbrev pub RefusalIsAnswered : Type 0
 RefusalIsAnswered = (text : List ℕ) (fault : TextFault) → IsRefusedAs text fault → read_text text ≡ Err fault
 
--- where W1 stands, reading answers it, at some byte
+-- where W1 applies, reading returns it, at some byte
 abbrev pub SyntaxIsAnswered : Type 0
 SyntaxIsAnswered = (text : List ℕ) (at : ℕ) → IsRefused text (Syntax at) → (byte : ℕ) × (read_text text ≡ Err (Syntax byte))
 
--- the fault that reading answers stands: W1 where the text spells nothing and no other fault stands
+-- the fault that reading returns applies: W1 where the text spells nothing and no other fault applies
 abbrev pub AnswerStands : Type 0
 AnswerStands = (text : List ℕ) (fault : TextFault) → read_text text ≡ Err fault → IsRefused text fault
 
--- a text of the grammar with more positions or parts than the counts allow is answered W4
+-- a text of the grammar with more positions or parts than the counts allow is W4
 abbrev pub TooManyIsTooLong : Type 0
 TooManyIsTooLong = (text : List ℕ) (written : Geometry) → Writes written text → ¬ (IsWithinCounts written) → read_text text ≡ Err TooLong

@@ -33,7 +33,7 @@ pub fn canonical_text_is_read()
     ensures { CanonicalTextIsRead }
 {}
 
-/// Where reading answers W2, W3 or W4, that refusal stands.
+/// Where reading returns W2, W3 or W4, that refusal applies.
 pub fn refusals_stand()
     ensures { RefusalsStand }
 {}

@@ -1,22 +1,22 @@
-//! What reading answers, and which refusal stands.
+//! What reading returns, and which refusal applies.
 ghost use Rattle.text_laws.specs.RefusalLaws.{RefusalIsAnswered, SyntaxIsAnswered, AnswerStands, TooManyIsTooLong};
 
-/// Where W2, W3 or W4 stands, reading answers it.
+/// Where W2, W3 or W4 applies, reading returns it.
 pub fn refusal_is_answered()
     ensures { RefusalIsAnswered }
 {}
 
-/// Where W1 stands, reading answers it.
+/// Where W1 applies, reading returns it.
 pub fn syntax_is_answered()
     ensures { SyntaxIsAnswered }
 {}
 
-/// The fault that reading answers stands.
+/// The fault that reading returns applies.
 pub fn answer_stands()
     ensures { AnswerStands }
 {}
 
-/// A text of the grammar with more positions or parts than the counts allow is answered W4.
+/// A text of the grammar with more positions or parts than the counts allow is W4.
 pub fn too_many_is_too_long()
     ensures { TooManyIsTooLong }
 {}

@@ -21,7 +21,7 @@ use table_model::values::Truth;
 /// The truth of a condition at rows, one for each reference in the query's order: TEXT is compared by bytes, a
 /// comparison or a spatial predicate with NULL is unknown, and so is NOT of what is unknown. Each predicate is
 /// evaluated, from left to right, without short cut; one of two geometries computes their matrix once, which the work
-/// counts. A place that the rows don't have is NULL. It fails only for want of memory, and takes none where no matrix
+/// counts. A place that the rows don't have is NULL. It fails only when memory runs out, and takes none where no matrix
 /// is computed and the condition has no ST_AsText; after a refusal the work is not less than before. (SQL's
 /// three-valued logic; 06-103r4, 6.1.15.3; order of texts: this project's choice.)
 pub fn value(

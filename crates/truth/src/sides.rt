@@ -43,7 +43,7 @@ fn field_side(field: Field<'_>) -> Side<'_>
     }
 }
 
-/// The canonical text of a geometry, which is ST_AsText. It fails only for want of memory. (06-103r4, 6.1.2.2.)
+/// The canonical text of a geometry, which is ST_AsText. It fails only when memory runs out. (06-103r4, 6.1.2.2.)
 fn printed(alloc: Global, geometry: &Valid) -> Result<MemorySink, AllocError>
     ensures { IfOk result (λ sink. memory_bytes sink ≡ canonical_text geometry.now) }
 {

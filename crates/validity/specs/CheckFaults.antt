@@ -1,4 +1,4 @@
--- The fault of a geometry that a refusal tells of.
+-- The fault of a geometry that a refusal names.
 use Rattle.std.specs.Prelude.{◌≡◌, Option, Some, None, MatchOption}
 use Rattle.geometry_model.specs.Geometries.{Geometry}
 use Rattle.geometry_model.specs.Validity.{HasFault}
@@ -21,14 +21,14 @@ fault_in (fault.ElementsMeet i j) = Some (validity.ElementsMeet i j)
 fault_in (fault.ElementInside i j) = Some (validity.ElementInside i j)
 fault_in fault.OutOfMemory = None
 
--- the refusal is of the fault that is found first, or of want of memory
+-- the refusal is of the fault that is found first, or of running out of memory
 abbrev pub IsFaultOf : Geometry → CheckFault → Type 0
 IsFaultOf g f = MatchOption (fault_in f) (Unit {0}) (λ found. validity_fault g ≡ Some found)
 
--- the refusal is of a fault that stands of this geometry, said of rational points, or of want of memory (06-103r4, 6.1.7, 6.1.11.1 and 6.1.14)
+-- the refusal is of a fault that applies to this geometry, said of rational points, or of running out of memory (06-103r4, 6.1.7, 6.1.11.1 and 6.1.14)
 abbrev pub IsStandingFaultOf : Geometry → CheckFault → Type 0
 IsStandingFaultOf g f = MatchOption (fault_in f) (Unit {0}) (λ found. HasFault g found)
 
--- the refusal is of the first fault that stands in the order of tests, V1 to V8 and within each the least numbers first, or of want of memory (the order is this project's)
+-- the refusal is of the first fault that applies in the order of tests, V1 to V8 and within each the least numbers first, or of running out of memory (the order is this project's)
 abbrev pub IsFirstFaultOf : Geometry → CheckFault → Type 0
 IsFirstFaultOf g f = MatchOption (fault_in f) (Unit {0}) (λ found. IsFirst g found)

@@ -6,7 +6,7 @@ use Rattle.geometry_model.specs.FirstFaults.{has_fault, numbers, of_pairs, of_ev
 use Rattle.geometry_model.specs.declared.validity_faults.ValidityFault.{ValidityFault}
 use Rattle.geometry_model.specs.declared.validity_faults.ValidityFault.TheVariants.{RingsMeet, HoleOutside, HolesNested}
 
--- the first of some faults that stands of a geometry
+-- the first of some faults that applies to a geometry
 abbrev pub first_of : Geometry → List ValidityFault → Option ValidityFault
 first_of g faults = find (has_fault g) faults
 

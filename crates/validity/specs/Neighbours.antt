@@ -29,7 +29,7 @@ element_envelope rings = envelope_of_positions (flat_map (λ ring. ring) rings)
 abbrev pub element_envelopes : Geometry → List (Option Envelope)
 element_envelopes g = map element_envelope (elements g)
 
--- of the faults of these numbers, those from one on and before another, the first that stands
+-- of the faults of these numbers, those from one on and before another, the first that applies
 abbrev pub first_near : Geometry → (ℕ → ValidityFault) → ℕ → ℕ → List ℕ → Option ValidityFault
 first_near g fault from end [] = None
 first_near g fault from end (number ∷ rest) = cond (nat_le from number && nat_lt number end && has_fault g (fault number)) (Some (fault number)) (first_near g fault from end rest)

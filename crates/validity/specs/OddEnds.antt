@@ -1,4 +1,4 @@
--- The positions on which an odd number of ends of lines stand.
+-- The positions at which an odd number of ends of lines are.
 use Rattle.std.specs.Prelude.{◌≡◌, ℕ, ◌+◌, ◌-◌, ◌<◌, ◌≤◌, Bool, false, ◌&&◌, nat_lt, cond, List, [], ◌∷◌, ◌++◌, length, take, get_or, count_by}
 use Rattle.std.specs.List.{All, list_any}
 use Rattle.std.specs.List.Sorted.{IsStrictlySortedBy}
@@ -20,7 +20,7 @@ ended_lines (Geometry.MultiLineString ls) = ls
 ended_lines (Geometry.Polygon rs) = []
 ended_lines (Geometry.MultiPolygon es) = []
 
--- the positions ascend, each listed once, and a point stands at one of them exactly where an odd number of the lines' ends stand at it (06-103r4, 6.1.8.1: the mod 2 rule)
+-- the positions ascend, each listed once, and a point is at one of them exactly where an odd number of the lines' ends are at it (06-103r4, 6.1.8.1: the mod 2 rule)
 pub record AreOddEnds (positions : List Position) (ls : List (List Position)) : Type 0 where
   pub ascend : IsStrictlySortedBy position_order positions
   pub exact : (p : Point) → IsPoint p → list_any (stands_at p) positions ≡ is_odd_end ls p
@@ -33,7 +33,7 @@ ends_in positions a = nat_lt 0 (length positions) && same_position (get_or posit
 abbrev pub toggled : List Position → Position → List Position
 toggled positions a = cond (ends_in positions a) (take (length positions - 1) positions) (positions ++ a ∷ [])
 
--- an odd number of either list stand at the same points
+-- an odd number of either list are at the same points
 abbrev pub HasParityOf : List Position → List Position → Type 0
 HasParityOf positions given = (p : Point) → odd (count_by (stands_at p) positions) ≡ odd (count_by (stands_at p) given)
 

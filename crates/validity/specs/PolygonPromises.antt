@@ -72,6 +72,6 @@ pub record IsWithinSlantOfRing (g : Geometry) (p : Point) : Type 0 where
 abbrev pub RingsPart : Geometry → Type 0
 RingsPart g = (p : Point) → IsWithinSlantOfRing g p → exactly_one (odd_above (rings g) p) (odd_at_or_above (rings g) p) ≡ true
 
--- of below and above one is interior there and the other exterior; arbitrarily near there are points that stand so, and all near enough do (06-103r4, 6.1.11.1)
+-- of below and above one is interior there and the other exterior; arbitrarily near there are points that lie so, and all near enough do (06-103r4, 6.1.11.1)
 abbrev pub RingsHaveSides : Geometry → Type 0
 RingsHaveSides g = (p : Point) → IsWithinSlantOfRing g p → ArePartedAs (below g p) (above g p) × ((k : ℕ) → NearSides g p k) × AllNearStand g p

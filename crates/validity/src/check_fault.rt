@@ -8,7 +8,7 @@ use std::alloc::AllocError;
 use thiserror::Error;
 
 /// Why a geometry isn't taken as valid: its first fault (06-103r4, 6.1.7, 6.1.11.1 and 6.1.14; the order is this
-/// project's), or want of memory. Elements are numbered from 0, and so are rings, through all elements; the first ring
+/// project's), or running out of memory. Elements are numbered from 0, and so are rings, through all elements; the first ring
 /// of an element is its outer one.
 #[derive(Clone, Copy, Debug, PartialEq, Eq, Error)]
 pub enum CheckFault {
@@ -42,7 +42,7 @@ pub enum CheckFault {
 }
 
 impl CheckFault {
-    /// The refusal that tells of a fault.
+    /// The refusal that names a fault.
     pub(crate) fn of(fault: ValidityFault) -> CheckFault
         ensures { fault_in result ≡ Some fault }
     {

@@ -1,4 +1,4 @@
-//! The positions on which an odd number of ends of lines stand: the boundary of lines (06-103r4, 6.1.8.1: the mod 2 rule).
+//! The positions at which an odd number of ends of lines are: the boundary of lines (06-103r4, 6.1.8.1: the mod 2 rule).
 
 ghost use Rattle.std.specs.Prelude.{◌≡◌, ◌++◌, [], flat_map, IfOk, OnOk};
 ghost use Rattle.std.specs.List.{list_any};
@@ -14,7 +14,7 @@ use std::alloc::{AllocError, Global};
 use std::cmp::Ordering;
 use wkt::{Geometry, LineString};
 
-/// Those of a geometry: of an area and of points none. It may fail for want of memory.
+/// Those of a geometry: of an area and of points none. It may run out of memory.
 pub(crate) fn odd_ends(alloc: Global, geometry: &Geometry) -> Result<Vec<GridPoint>, AllocError>
     ensures { IfOk result (λ found. AreOddEnds found.items (spec_ended_lines geometry.now)) }
 {
@@ -88,7 +88,7 @@ fn odd_ones(alloc: Global, given: &[GridPoint]) -> Result<Vec<GridPoint>, AllocE
     Ok(found)
 }
 
-/// Whether the point stands at one of ascending positions: each look halves those that are left.
+/// Whether the point is at one of ascending positions: each look halves those that are left.
 pub(crate) fn stands_at_one(positions: &[GridPoint], p: &RatPoint) -> bool
     requires { IsStrictlySortedBy position_order positions.now }
     ensures stands { result ≡ list_any (spec.stands_at p.now) positions.now }

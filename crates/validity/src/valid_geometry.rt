@@ -45,7 +45,7 @@ pub(crate) struct Edged {
     outline: Outline,
     /// The boxes over its edges.
     boxes: EdgeBoxes,
-    /// The positions on which an odd number of ends of its lines stand.
+    /// The positions at which an odd number of ends of its lines are.
     odd_ends: Vec<GridPoint>,
 }
 
@@ -106,7 +106,7 @@ impl Valid {
         }
     }
 
-    /// Lends the positions on which an odd number of ends of its lines stand, ascending, each once: the boundary of lines
+    /// Lends the positions at which an odd number of ends of its lines are, ascending, each once: the boundary of lines
     /// (06-103r4, 6.1.8.1: the mod 2 rule). Points and areas have none.
     pub fn odd_ends(&self) -> &[GridPoint]
         ensures { AreOddEnds result.now (ended_lines self.now) }
@@ -117,7 +117,7 @@ impl Valid {
         }
     }
 
-    /// Whether an odd number of ends of its lines stand at the point (06-103r4, 6.1.8.1: the mod 2 rule). It takes no memory.
+    /// Whether an odd number of ends of its lines are at the point (06-103r4, 6.1.8.1: the mod 2 rule). It takes no memory.
     pub fn is_odd_end(&self, p: &RatPoint) -> bool
         ensures { result ≡ is_odd_end (ended_lines self.now) p.now }
     {
@@ -125,9 +125,9 @@ impl Valid {
     }
 }
 
-/// Takes a geometry as valid where it has no fault, and otherwise answers its first fault: the faults are tested in
+/// Takes a geometry as valid where it has no fault, and otherwise returns its first fault: the faults are tested in
 /// their order, V1 to V8, and within one the least numbers first (06-103r4, 6.1.7, 6.1.11.1 and 6.1.14; the order is
-/// this project's). Points need no test. It may fail for want of memory too. Of a geometry that is taken the interior
+/// this project's). Points need no test. It may run out of memory too. Of a geometry that is taken the interior
 /// is what its elements' outer rings hold less the holes, and the rings part it from the exterior (06-103r4, 6.1.11.1).
 #[tactic(auto, using(crate::proofs::Faults::no_fault_valid))]
 pub fn check(alloc: Global, geometry: Geometry) -> Result<Valid, CheckFault>
@@ -164,7 +164,7 @@ fn of_points(alloc: Global, geometry: Geometry) -> Result<Valid, AllocError>
     })
 }
 
-/// Takes a geometry as valid where it has no fault, and otherwise answers its first one.
+/// Takes a geometry as valid where it has no fault, and otherwise returns its first one.
 fn of_edges(alloc: Global, geometry: Geometry) -> Result<Valid, CheckFault>
     ensures same { IfOk result (λ valid. valid ≡ geometry) }
     ensures faultless { OnOk result (validity_fault geometry ≡ None) }
@@ -179,7 +179,7 @@ fn of_edges(alloc: Global, geometry: Geometry) -> Result<Valid, CheckFault>
     }
 }
 
-/// Puts what is kept of a geometry of edges behind one pointer.
+/// Writes what is kept of a geometry of edges behind one pointer.
 fn kept(alloc: Global, outline: Outline) -> Result<Valid, AllocError>
     requires { validity_fault outline ≡ None }
     ensures { IfOk result (λ valid. valid ≡ outline) }

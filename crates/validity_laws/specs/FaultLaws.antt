@@ -14,7 +14,7 @@ AreClosed g = (i : ℕ) → HasFault g (RingNotClosed i) → ⊥
 abbrev pub FaultIsDecided : Type 0
 FaultIsDecided = (g : Geometry) (fault : ValidityFault) → AreClosed g → (has_fault g fault ≡ true) ↔ HasFault g fault
 
--- the first fault that is found stands
+-- the first fault that is found applies
 abbrev pub FirstFaultStands : Type 0
 FirstFaultStands = (g : Geometry) (fault : ValidityFault) → validity_fault g ≡ Some fault → HasFault g fault
 
@@ -22,7 +22,7 @@ FirstFaultStands = (g : Geometry) (fault : ValidityFault) → validity_fault g �
 abbrev pub NoneIsFoundWhereValid : Type 0
 NoneIsFoundWhereValid = (g : Geometry) → (validity_fault g ≡ None) ↔ IsValid g
 
--- the fault stands, at a place in the order of tests before which none stands
+-- the fault applies, at a place in the order of tests before which none applies
 pub record IsFirst (g : Geometry) (fault : ValidityFault) : Type 0 where
   pub before : List ValidityFault
   pub after : List ValidityFault
@@ -30,11 +30,11 @@ pub record IsFirst (g : Geometry) (fault : ValidityFault) : Type 0 where
   pub stands : HasFault g fault
   pub none_before : (earlier : ValidityFault) → Contains before earlier → HasFault g earlier → ⊥
 
--- the fault that is found is the first that stands
+-- the fault that is found is the first that applies
 abbrev pub FirstFaultIsFirst : Type 0
 FirstFaultIsFirst = (g : Geometry) (fault : ValidityFault) → validity_fault g ≡ Some fault → IsFirst g fault
 
--- wherever the order of tests is split at the fault that is found, none before it stands
+-- wherever the order of tests is split at the fault that is found, none before it applies
 abbrev pub NoEarlierFaultStands : Type 0
 NoEarlierFaultStands = (g : Geometry) (fault : ValidityFault) (before after : List ValidityFault) → validity_fault g ≡ Some fault → in_order g ≡ before ++ fault ∷ after
     → (earlier : ValidityFault) → Contains before earlier → HasFault g earlier → ⊥

@@ -13,17 +13,17 @@ pub fn fault_is_decided()
     ensures { FaultIsDecided }
 {}
 
-/// The first fault that is found stands.
+/// The first fault that is found applies.
 pub fn first_fault_stands()
     ensures { FirstFaultStands }
 {}
 
-/// The fault that is found is the first that stands: none before it in the order of tests does.
+/// The fault that is found is the first that applies: none before it in the order of tests does.
 pub fn first_fault_is_first()
     ensures { FirstFaultIsFirst }
 {}
 
-/// Wherever the order of tests is split at the fault that is found, none before it stands.
+/// Wherever the order of tests is split at the fault that is found, none before it applies.
 pub fn no_earlier_fault_stands()
     ensures { NoEarlierFaultStands }
 {}

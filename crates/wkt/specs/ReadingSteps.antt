@@ -1,4 +1,4 @@
--- What a function answers that reads well-known text with a cursor.
+-- What a function returns that reads well-known text with a cursor.
 use Rattle.std.specs.Prelude.{◌≡◌, ℕ, ◌-◌, ◌==◌, Bool, true, false, if◌then◌else◌, length, codes, List, [], ◌∷◌, map, Option, Some, None, Result, Ok, Err}
 use Rattle.std.specs.Char.{is_ascii_alphabetic, is_ascii_digit}
 use Rattle.std.specs.List.{flat_map}
@@ -28,12 +28,12 @@ abbrev pub ReadsAs : {X A : Type 0} → (X → A) → Result (A × Input) TextFa
 ReadsAs view outcome (Ok x) after = outcome ≡ Ok (view x, after)
 ReadsAs view outcome (Err fault) after = outcome ≡ Err fault
 
--- the same where memory may run out, which may stand in the place of any answer
+-- the same where memory may run out, which may come in place of any result
 abbrev pub ReadsInMemory : {X A : Type 0} → (X → A) → Result (A × Input) TextFault → Result X WktFault → Input → Type 0
 ReadsInMemory view outcome (Ok x) after = outcome ≡ Ok (view x, after)
 ReadsInMemory view outcome (Err e) after = (fault : TextFault) → text_fault e ≡ Some fault → outcome ≡ Err fault
 
--- whether the word EMPTY stands here, and no other word may (06-103r4, 7.2.2: empty set)
+-- whether the word EMPTY comes here, and no other word may (06-103r4, 7.2.2: empty set)
 unfoldable pub empty_word : Reader Bool
 empty_word = do
   run is_white
@@ -41,7 +41,7 @@ empty_word = do
   word ← run is_ascii_alphabetic
   if length word == 0 then pure false else (if str_eq_ignore_ascii_case word (codes "EMPTY") then pure true else refuse at)
 
--- nothing where EMPTY stands, and otherwise what stands in parentheses (06-103r4, 7.2.2: empty set)
+-- nothing where the word is EMPTY, and otherwise what is in parentheses (06-103r4, 7.2.2: empty set)
 abbrev pub body : {A : Type 0} → Reader (List A) → Reader (List A)
 body inner = empty_word >>= λ empty. if empty then pure [] else enclosed inner
 
@@ -87,7 +87,7 @@ whole_room = record { parts = part_limit; positions = position_limit }
 abbrev pub without_room : {A B : Type 0} → Reader (A × B) → Reader A
 without_room step = step >>= λ found. pure found.0
 
--- what stands behind the name of each type, with the geometry that is meant (06-103r4, 7.2.2: the tagged texts)
+-- what comes after the name of each type, with the geometry that is meant (06-103r4, 7.2.2: the tagged texts)
 abbrev pub point_text : Reader Geometry
 point_text = body (padded (position position_limit) >>= λ p. pure (p ∷ [])) >>= λ ps. pure (Point (first ps))
 

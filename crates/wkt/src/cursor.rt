@@ -77,7 +77,7 @@ impl<'a> Cursor<'a> {
         Cursor { left: text, at: 0 }
     }
 
-    /// The byte, from 0, where reading stands.
+    /// The byte, from 0, that is read next.
     pub fn place(&self) -> usize
         ensures { result ≡ self.now.at }
     {
@@ -101,7 +101,7 @@ impl<'a> Cursor<'a> {
         }
     }
 
-    /// Goes past the next byte where it is this one, and tells whether it is.
+    /// Goes past the next byte where it is this one, and returns whether it is.
     pub fn eat(&mut self, byte: u8) -> bool
         ensures { steps.eat byte self.old ≡ Ok (result, self.new) }
     {
@@ -126,7 +126,7 @@ impl<'a> Cursor<'a> {
         }
     }
 
-    /// Goes past the next bytes that are of a class, and answers them.
+    /// Goes past the next bytes that are of a class, and returns them.
     pub fn run(&mut self, class: ByteClass) -> &'a [u8]
         ensures value { steps.run (of_class class) self.old ≡ Ok (result.now, self.new) }
         ensures all { list_all (of_class class) result.now ≡ true }

@@ -1,4 +1,4 @@
-//! Geometries, whose facts stand in the type.
+//! Geometries, whose facts are in the type.
 
 ghost use Rattle.std.specs.Prelude.{◌≡◌, ◌<◌, IfOk, IfErr, Some, length, slice_get};
 ghost use Rattle.geometry_model.specs.Geometries as spec;
@@ -22,7 +22,7 @@ pub struct Geometry {
     shape: Shape,
 }
 
-/// The content: a POINT stands in the value itself, and what may be larger behind one pointer, so that a list of points is
+/// The content: a POINT is in the value itself, and what may be larger behind one pointer, so that a list of points is
 /// small.
 #[derive(Debug, Drop)]
 pub(crate) enum Shape {

@@ -1,4 +1,4 @@
-//! The facts that stand in the type of geometries leave no geometry out that a text spells.
+//! The facts that are in the type of geometries leave no geometry out that a text spells.
 
 ghost use Rattle.wkt.specs.KeptGeometries.{SpelledIsKept};
 

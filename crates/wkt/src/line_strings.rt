@@ -1,4 +1,4 @@
-//! Lines and rings, whose facts stand in the type.
+//! Lines and rings, whose facts are in the type.
 
 ghost use Rattle.std.specs.Prelude.{◌≡◌, ◌≤◌, vec_len};
 ghost use Rattle.geometry_model.specs.WellKnownText.{position_limit, without_repeats};

@@ -86,7 +86,7 @@ fn push_new(
     Ok(())
 }
 
-/// Reads positions of a line or ring, one or more with commas between, where so many may still come, and tells how many may
+/// Reads positions of a line or ring, one or more with commas between, where so many may still come, and returns how many may
 /// come behind it. One that repeats the one before it is left out.
 pub fn line_positions(
     alloc: Global,
@@ -111,7 +111,7 @@ pub fn line_positions(
     }
 }
 
-/// Reads a ring or element, and tells the room that it leaves. One too many is refused behind its parenthesis.
+/// Reads a ring or element, and returns the room that it leaves. One too many is refused behind its parenthesis.
 #[tactic(auto, unfolding(crate::specs::ReadingSteps::ring))]
 fn ring(alloc: Global, cursor: &mut Cursor<'_>, room: Room) -> Result<(LineString, Room), WktFault>
     requires { room.positions ≤ position_limit }
@@ -147,7 +147,7 @@ fn padded_ring(
     Ok(found)
 }
 
-/// Reads rings or elements, one or more with commas between, and tells the room that they leave.
+/// Reads rings or elements, one or more with commas between, and returns the room that they leave.
 pub fn rings(
     alloc: Global,
     cursor: &mut Cursor<'_>,

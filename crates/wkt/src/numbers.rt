@@ -63,7 +63,7 @@ fn fraction<'a>(cursor: &mut Cursor<'a>) -> &'a [u8]
     }
 }
 
-/// Reads the longest number that stands here.
+/// Reads the longest number that begins here.
 #[tactic(auto, unfolding(geometry_model::specs::TextReading::numeral))]
 pub fn numeral<'a>(cursor: &mut Cursor<'a>) -> Result<Number<'a>, TextFault>
     ensures { ReadsAs (λ n. n) (spec.numeral cursor.old) result cursor.new }

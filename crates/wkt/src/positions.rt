@@ -10,7 +10,7 @@ use crate::numbers::numeral;
 use fraction::GridPoint;
 use geometry_model::text_faults::TextFault;
 
-/// Reads white space, which has to stand here.
+/// Reads white space, which has to come here.
 #[tactic(auto, unfolding(geometry_model::specs::TextReading::space))]
 fn space<'a>(cursor: &mut Cursor<'a>) -> Result<&'a [u8], TextFault>
     ensures { ReadsAs (λ white. white.now) (spec.space cursor.old) result cursor.new }

@@ -19,7 +19,7 @@ use sinks::{Sink, SinkFault, put_all, put_parts};
 /// Puts the canonical text of a geometry: the type's name in capitals; ` EMPTY` for an empty one; else the positions,
 /// elements, rings or polygons in parentheses, with commas between, no white space but one space between x and y, numbers in
 /// shortest decimal form, and each point of a MULTIPOINT in parentheses (06-103r4, 7.2.2; which of its texts: this project's choice). It takes no
-/// memory. At Err the sink failed, and a beginning of the text has been put.
+/// memory. At Err the sink failed, and a beginning of the text has been written.
 pub fn print<S: Sink>(geometry: &Geometry, sink: &mut S) -> Result<(), SinkFault>
     ensures ok { OnOk result (Appends (S.taken sink.old) (S.taken sink.new) (canonical_text geometry.now)) }
     ensures front { OnErr result
@@ -30,7 +30,7 @@ pub fn print<S: Sink>(geometry: &Geometry, sink: &mut S) -> Result<(), SinkFault
     put_shape(sink, geometry.shape())
 }
 
-// Puts the text of a content.
+// Writes the text of a content.
 fn put_shape<S: Sink>(sink: &mut S, shape: &Shape) -> Result<(), SinkFault>
     ensures ok { OnOk result
         (Appends (S.taken sink.old) (S.taken sink.new) (canonical_text (geometry_in shape.now))) }
@@ -44,7 +44,7 @@ fn put_shape<S: Sink>(sink: &mut S, shape: &Shape) -> Result<(), SinkFault>
     }
 }
 
-// Puts the text of a content that is no POINT.
+// Writes the text of a content that is no POINT.
 fn put_larger<S: Sink>(sink: &mut S, content: &Larger) -> Result<(), SinkFault>
     ensures ok { OnOk result
         (Appends (S.taken sink.old) (S.taken sink.new) (canonical_text (larger_in content.now))) }
@@ -75,7 +75,7 @@ fn put_point<S: Sink>(sink: &mut S, position: Option<GridPoint>) -> Result<(), S
     }
 }
 
-// Puts the text of the MULTIPOINT of these points.
+// Writes the text of the MULTIPOINT of these points.
 fn put_multi_point<S: Sink>(sink: &mut S, points: &[GridPoint]) -> Result<(), SinkFault>
     ensures ok { OnOk result (Appends (S.taken sink.old) (S.taken sink.new)
         (tagged_text (codes "MULTIPOINT") (map point_text points.now))) }
@@ -108,7 +108,7 @@ fn put_line_string<S: Sink>(sink: &mut S, positions: &[GridPoint]) -> Result<(),
     }
 }
 
-// Puts the text of the MULTILINESTRING of these elements.
+// Writes the text of the MULTILINESTRING of these elements.
 fn put_multi_line_string<S: Sink>(sink: &mut S, lines: &[LineString]) -> Result<(), SinkFault>
     ensures ok { OnOk result (Appends (S.taken sink.old) (S.taken sink.new)
         (tagged_text (codes "MULTILINESTRING") (map line_text lines.now))) }
@@ -123,7 +123,7 @@ fn put_multi_line_string<S: Sink>(sink: &mut S, lines: &[LineString]) -> Result<
     }
 }
 
-// Puts the text of the POLYGON of these rings.
+// Writes the text of the POLYGON of these rings.
 fn put_polygon<S: Sink>(sink: &mut S, rings: &[LineString]) -> Result<(), SinkFault>
     ensures ok { OnOk result (Appends (S.taken sink.old) (S.taken sink.new)
         (tagged_text (codes "POLYGON") (map line_text rings.now))) }
@@ -138,7 +138,7 @@ fn put_polygon<S: Sink>(sink: &mut S, rings: &[LineString]) -> Result<(), SinkFa
     }
 }
 
-// Puts the text of the MULTIPOLYGON of these polygons.
+// Writes the text of the MULTIPOLYGON of these polygons.
 fn put_multi_polygon<S: Sink>(sink: &mut S, polygons: &Polygons) -> Result<(), SinkFault>
     ensures ok { OnOk result (Appends (S.taken sink.old) (S.taken sink.new)
         (tagged_text (codes "MULTIPOLYGON") (map polygon_text polygons.now))) }
@@ -153,7 +153,7 @@ fn put_multi_polygon<S: Sink>(sink: &mut S, polygons: &Polygons) -> Result<(), S
     }
 }
 
-// Puts a text, these polygons with commas between, and a parenthesis.
+// Writes a text, these polygons with commas between, and a parenthesis.
 fn put_polygons<'p, S: Sink>(
     sink: &mut S,
     before: &'p [u8],
@@ -184,7 +184,7 @@ fn put_joined_polygons<S: Sink>(sink: &mut S, polygons: &Polygons) -> Result<(),
     Ok(())
 }
 
-// Puts a text, these lines or rings with commas between, and a parenthesis.
+// Writes a text, these lines or rings with commas between, and a parenthesis.
 fn put_lines<'p, S: Sink>(
     sink: &mut S,
     before: &'p [u8],
@@ -215,7 +215,7 @@ fn put_joined_lines<S: Sink>(sink: &mut S, lines: &[LineString]) -> Result<(), S
     Ok(())
 }
 
-// What stands before a list in parentheses of this number.
+// What comes before a list in parentheses of this number.
 fn opening(index: usize) -> &'static [u8]
     ensures { result.now ≡ opening_text index }
 {

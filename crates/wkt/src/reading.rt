@@ -38,7 +38,7 @@ impl From<TextFault> for WktFault {
     }
 }
 
-/// Reads the word EMPTY where a word stands, and tells whether one does.
+/// Reads the word EMPTY if a word comes next, and returns whether one does.
 #[tactic(auto, unfolding(crate::specs::ReadingSteps::empty_word))]
 fn reads_empty(cursor: &mut Cursor<'_>) -> Result<bool, TextFault>
     ensures { ReadsAs (λ empty. empty) (empty_word cursor.old) result cursor.new }
@@ -138,7 +138,7 @@ fn multi_polygon_text(alloc: Global, cursor: &mut Cursor<'_>) -> Result<Shape, W
     Shape::larger(alloc, Larger::MultiPolygon(polygons))
 }
 
-/// Reads what stands behind a type's name, which stands at a byte.
+/// Reads what comes after a type's name, which is at a byte.
 #[tactic(auto, unfolding(geometry_model::specs::TextReading::typed))]
 fn typed(alloc: Global, cursor: &mut Cursor<'_>, at: usize, name: &[u8]) -> Result<Shape, WktFault>
     ensures { ReadsInMemory geometry_in (meant (spec.typed at name.now) cursor.old) result cursor.new }
@@ -160,7 +160,7 @@ fn typed(alloc: Global, cursor: &mut Cursor<'_>, at: usize, name: &[u8]) -> Resu
     }
 }
 
-/// Reads a type's name and what stands behind it.
+/// Reads a type's name and what comes after it.
 #[tactic(auto, unfolding(geometry_model::specs::TextReading::tagged))]
 fn tagged(alloc: Global, cursor: &mut Cursor<'_>) -> Result<Shape, WktFault>
     ensures { ReadsInMemory geometry_in (meant spec.tagged cursor.old) result cursor.new }
@@ -193,7 +193,7 @@ fn whole(alloc: Global, cursor: &mut Cursor<'_>) -> Result<Shape, WktFault>
 /// have there, or at the text's length where it ends too soon; at the first byte of a number `OffGrid` where a digit
 /// behind its point isn't 0, and else `OutOfRange` where it is past the limit; `TooLong` at the first number of the
 /// 10,001st position, before the faults of that number, and behind the parenthesis of the 1,001st ring or element.
-/// `OutOfMemory` may come in the place of any answer.
+/// `OutOfMemory` may come in place of any result.
 pub fn read(alloc: Global, text: &[u8]) -> Result<Geometry, WktFault>
     ensures ok { IfOk result (λ g. read_text text.now ≡ Ok g) }
     ensures fault { IfErr result (λ e. IfSome (text_fault e) (λ fault. read_text text.now ≡ Err fault)) }

@@ -11,7 +11,7 @@ use thiserror::Error;
 /// right (06-103r4, 7.2; the cases are this project's).
 #[derive(Clone, Copy, Debug, PartialEq, Eq, Error)]
 pub enum WktFault {
-    /// W1: no geometry text can have at this byte what stands there, or the text ends here too soon.
+    /// W1: no geometry text can have at this byte what is there, or the text ends here too soon.
     #[error("syntax at {0}")]
     Syntax(usize),
     /// W2: the number that begins at this byte isn't whole.
