@@ -65,7 +65,7 @@ struct Paths<'a> {
     directory: &'a str,
 }
 
-// Answers a query: the schema's file is read first, then the schema, then all files of tables are opened in the
+// Runs a query: the schema's file is read first, then the schema, then all files of tables are opened in the
 // schema's order, and then the query is run.
 fn serve_run<R: Read + Drop, F: FnMut(&str) -> Option<R>, S: Sink, E: Sink>(
     alloc: Global,

@@ -38,7 +38,7 @@ use table_model::plans::Plan;
 use table_model::queries::Explain;
 use wkt::Sink;
 
-/// Answers a query over the tables that the readers give, one for each table of the schema, in its order: reads
+/// Runs a query over the tables that the readers give, one for each table of the schema, in its order: reads
 /// the query, loads all tables, binds, chooses the plan, and writes the header and the rows, or what EXPLAIN prints. Where
 /// the readers' texts are known the answer is that of the records that `csv` reads of them; whatever the readers are,
 /// there are records of which this is the answer. The work returned is that of the chosen plan, and none under EXPLAIN.

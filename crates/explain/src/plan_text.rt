@@ -12,7 +12,7 @@ use sinks::{Sink, SinkFault};
 use table_model::conditions::Bound;
 use table_model::plans::Plan;
 
-/// Puts what EXPLAIN says of a plan of a query: its cost, a line for each access, the filters in the order in which
+/// Writes what EXPLAIN says of a plan of a query: its cost, a line for each access, the filters in the order in which
 /// they are evaluated, and lines for COUNT(*) and LIMIT if they are there. It takes no memory. At Err the sink failed,
 /// and a beginning of the text has been written.
 pub fn explain<S: Sink, A, C>(

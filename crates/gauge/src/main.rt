@@ -123,7 +123,7 @@ fn put_answer<S: Sink>(
     }
 }
 
-// Puts some bytes.
+// Writes some bytes.
 fn put<S: Sink>(bytes: &[u8], sink: &mut S) -> Result<(), Failure> {
     put_all(sink, bytes).map_err(|_| Failure::Failed)
 }

@@ -48,7 +48,7 @@ impl RTree {
         opened
     }
 
-    // Puts the positions of the envelopes that meet the one asked for, ascending, in an empty vector.
+    // Leaves the positions of the envelopes that meet the one asked for, ascending, in an empty vector.
     fn push_meeting(&self, asked: &Envelope, found: &mut Vec<usize>) -> Result<(), AllocError>
         requires { found.old.items ≡ [] }
         ensures { OnOk result (found.new.items ≡ meeting_places self.now (Some asked.now)) }

@@ -70,7 +70,7 @@ impl<'r> Progress<'r> {
         String::from_str(self.rt.alloc(), stem).ok()
     }
 
-    // Tells how far a table is read, where it is time for a line. A line that can't be written is left out.
+    // Prints how far a table is read, where it is time for a line. A line that can't be written is left out.
     fn tell(&self, name: &str, place: u64, bytes: u64) {
         let Some(elapsed) = self.start.and_then(|start| start.elapsed(self.rt).ok()) else {
             return;

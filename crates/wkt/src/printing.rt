@@ -16,7 +16,7 @@ use fraction::GridPoint;
 use itoa::Buffer;
 use sinks::{Sink, SinkFault, put_all, put_parts};
 
-/// Puts the canonical text of a geometry: the type's name in capitals; ` EMPTY` for an empty one; else the positions,
+/// Writes the canonical text of a geometry: the type's name in capitals; ` EMPTY` for an empty one; else the positions,
 /// elements, rings or polygons in parentheses, with commas between, no white space but one space between x and y, numbers in
 /// shortest decimal form, and each point of a MULTIPOINT in parentheses (06-103r4, 7.2.2; which of its texts: this project's choice). It takes no
 /// memory. At Err the sink failed, and a beginning of the text has been written.
@@ -61,7 +61,7 @@ fn put_larger<S: Sink>(sink: &mut S, content: &Larger) -> Result<(), SinkFault>
     }
 }
 
-// Puts the text of the POINT at a position, or of the empty one.
+// Writes the text of the POINT at a position, or of the empty one.
 fn put_point<S: Sink>(sink: &mut S, position: Option<GridPoint>) -> Result<(), SinkFault>
     ensures ok { OnOk result (Appends (S.taken sink.old) (S.taken sink.new)
         (tagged_text (codes "POINT") (map position_text (option_to_list position)))) }
@@ -93,7 +93,7 @@ fn put_multi_point<S: Sink>(sink: &mut S, points: &[GridPoint]) -> Result<(), Si
     }
 }
 
-// Puts the text of the LINESTRING through these positions.
+// Writes the text of the LINESTRING through these positions.
 fn put_line_string<S: Sink>(sink: &mut S, positions: &[GridPoint]) -> Result<(), SinkFault>
     ensures ok { OnOk result (Appends (S.taken sink.old) (S.taken sink.new)
         (tagged_text (codes "LINESTRING") (map position_text positions.now))) }
@@ -170,7 +170,7 @@ fn put_polygons<'p, S: Sink>(
     put_all(sink, b")")
 }
 
-// Puts these polygons with commas between.
+// Writes these polygons with commas between.
 fn put_joined_polygons<S: Sink>(sink: &mut S, polygons: &Polygons) -> Result<(), SinkFault>
     ensures ok { OnOk result
         (Appends (S.taken sink.old) (S.taken sink.new) (join_with_byte 44 (map polygon_text polygons.now))) }
@@ -201,7 +201,7 @@ fn put_lines<'p, S: Sink>(
     put_all(sink, b")")
 }
 
-// Puts these lines or rings with commas between.
+// Writes these lines or rings with commas between.
 fn put_joined_lines<S: Sink>(sink: &mut S, lines: &[LineString]) -> Result<(), SinkFault>
     ensures ok { OnOk result
         (Appends (S.taken sink.old) (S.taken sink.new) (join_with_byte 44 (map line_text lines.now))) }
@@ -222,7 +222,7 @@ fn opening(index: usize) -> &'static [u8]
     if index == 0 { b"(" } else { b",(" }
 }
 
-// Puts a text, these positions with commas between, and a parenthesis.
+// Writes a text, these positions with commas between, and a parenthesis.
 fn put_line<'p, S: Sink>(
     sink: &mut S,
     before: &'p [u8],
@@ -239,7 +239,7 @@ fn put_line<'p, S: Sink>(
     put_all(sink, b")")
 }
 
-// Puts these positions with commas between.
+// Writes these positions with commas between.
 fn put_joined_positions<S: Sink>(sink: &mut S, line: &[GridPoint]) -> Result<(), SinkFault>
     ensures ok { OnOk result
         (Appends (S.taken sink.old) (S.taken sink.new) (join_with_byte 44 (map position_text line.now))) }
@@ -256,7 +256,7 @@ fn put_joined_positions<S: Sink>(sink: &mut S, line: &[GridPoint]) -> Result<(),
     }
 }
 
-// Puts the texts of these positions, with these texts before and behind each.
+// Writes the texts of these positions, with these texts before and behind each.
 fn put_more<'p, S: Sink>(
     sink: &mut S,
     before: &'p [u8],
@@ -275,7 +275,7 @@ fn put_more<'p, S: Sink>(
     Ok(())
 }
 
-// Puts the numbers of a position, with these texts before and behind.
+// Writes the numbers of a position, with these texts before and behind.
 fn put_position<'p, S: Sink>(
     sink: &mut S,
     before: &'p [u8],
@@ -295,7 +295,7 @@ fn put_position<'p, S: Sink>(
     put_numbers(sink, before, x, y, behind)
 }
 
-// Puts two numbers with a space between, and these texts before and behind.
+// Writes two numbers with a space between, and these texts before and behind.
 fn put_numbers<'p, S: Sink>(
     sink: &mut S,
     before: &'p [u8],
