@@ -1,122 +1,201 @@
 #!/usr/bin/env python3
-"""Writes DEFINITIONS.md: what contracts mean, from the comments of the specifications, and which calls carry it.
+"""Writes DEFINITIONS.md: what has to be believed, from the comments of the specifications.
 
-Run it in this folder. A definition's comment is the line before it, and its clause of the standard the parenthesis at that
-line's end. A call carries a definition where a clause of its contract names it.
+Run it anywhere: python3 docs/definitions.py. With --check it writes nothing and ends with status 1
+where the page isn't what it would write.
+
+A definition's words are the comment above it, and its clause of the standard the parenthesis at the
+end of that comment. PAGE lists the sections, their files, and in each file the helpers that are left
+out. SHOWN names the definitions that are printed whole.
 """
 
 import pathlib
 import re
+import sys
 
-CRATES = pathlib.Path("../crates")
-MODELS = ["geometry_model", "table_model"]
+HERE = pathlib.Path(__file__).resolve().parent
+CRATES = HERE.parent / "crates"
 DEFINITION = re.compile(r"^(?:abbrev |unfoldable )?pub (?:data |record |abbrev )?([^\s:({]+)")
 STANDARD = re.compile(r"\s*\(((?:06-10[34]r4|SQL|clause)[^()]*(?:\([^()]*\)[^()]*)*)\)$")
+
+G, T = "geometry_model", "table_model"
+# Sections: a title, a sentence or two, and files with the names that they leave out.
+PAGE = [
+    ("Points and geometries",
+     "A point of the plane is a triple of whole numbers X, Y, W with W at least 1. It means (X/W, Y/W).",
+     [(G, "Points", "compare_x compare_y compare mediant IsLeast last_divisor gcd divided least_form"),
+      (G, "Geometries", "type_of kind_of_type joined_rings positions edges_of_lines"),
+      (G, "Sides", "between on_one_line"),
+      (G, "Crossings", "reaches exactly_one odd at_or_above odd_at_or_above")]),
+    ("Interior, boundary and exterior",
+     "The three sets are said twice: as facts about a point in the standard's words, and as the function"
+     " `locate`. The law `parts_are_located` proves that both agree.",
+     [(G, "PointSets", ""),
+      (G, "Locations", "last_after on_some in_points")]),
+    ("Dimension and the DE-9IM matrix",
+     "The dimension of a set of points is the largest kind of piece that it holds: a triangle, a segment,"
+     " a point, nothing.",
+     [(G, "Dimensions", "weighted_three matrix_of transposed"),
+      (G, "GivenMatrix", "")]),
+    ("Patterns and predicates",
+     "A predicate is a set of patterns, chosen by the kinds of the two geometries.",
+     [(G, "Patterns", "character_of characters_of pattern_of dimension_character"),
+      (G, "Predicates", "like wants_point wants_common_point forces_meeting")]),
+    ("Validity",
+     "Each fault is a fact about rational points. A geometry without fault is valid.",
+     [(G, "Validity", "Element elements_from numbered_elements IsRing")]),
+    ("Well-known text",
+     "A relation for each rule of the grammar, between a text and what it spells. Refusals are said apart"
+     " from any reading, by the bytes before them.",
+     [(G, "WellKnownText", "begins_with Blank Space Padded Enclosed Separated is_white Byte Rule"
+       " same_position written_positions written_parts Begins"),
+      (G, "TextRefusals", "TakesNumber begins_more IsFirstNumber"),
+      (G, "CanonicalText", "listed_text"),
+      (G, "CheckedTexts", "valid_or tested")]),
+    ("Tokens and schemas",
+     "A schema is a list of lawful tables. A relation for each rule of its grammar.",
+     [(T, "Tokens", "same_kind is_in_line kind_in word_kind symbol_of_one symbol closing string_to string"
+       " front text_of at_front tokens_from text_place IsSlice"),
+      (T, "SchemaGrammar", "IsNamed IsMark Marked key_places AnswersSchema IsNotNull IsPrimaryKey"),
+      (T, "Definitions", "is_integer column_names"),
+      (T, "SchemaRefusals", "Written IsColumn IsCreateTable IsWritten BeforeTable BeforeColumns BeforeColumn"
+       " BeforeKey BeforeClose IsName is_among has_key names_of StandsAt StandsIn is_at_token")]),
+    ("Queries",
+     "A relation for each rule of the grammar, between a tree and the tokens that are written for it.",
+     [(T, "QueryGrammar", "IsDigits IsCall IsOperandFunction IsNumber IsPair IsPredicate IsChain IsCondition"
+       " IsNegation IsRowCount IsCrossed IsJoined IsItemFunction AnswersQuery"),
+      (T, "QueryRefusals", "IsAnyInteger IsAnyOperand IsAnyNegation IsAnyCondition BeforeSecond BeforeOn"
+       " ThroughFrom BeforeWhere IsAnyWhere BeforeLimit AreParts BeforeNegation BeforeOperand StandsAt"
+       " StandsIn is_at_token")]),
+    ("Binding: what names mean",
+     "Rules that say what each name, condition and query is bound to, and where it is refused. Laws prove"
+     " that the functions of binding, which contracts name, follow them.",
+     [(T, "BindingRules", "IsNowhere IsSomewhere IsTwice IsFirst IsOnly Then FirstFault AreOneName"
+       " IsBoundPredicate IsRefusedPredicate IsRefusedOperand GeometryRules IsGeometryPart"),
+      (T, "QueryRules", "IsTableNamed IsThere StandsBefore IsListed AreInOrder IsRefusedWhole IsWhole")]),
+    ("Tables and loading",
+     "A record is a list of fields, each some bytes. Loading gives the typed rows by ascending key, or the"
+     " first fault.",
+     [(T, "FeatureTables", ""),
+      (T, "GeometryColumns", "of_shape literal bound_argument bound_place pattern_or bound_pattern"
+       " geometry_binding"),
+      (T, "Loading", "GeometryReader and_then unless each is_space_or_tab trimmed number_in place_in"
+       " field_under first_fault whole_number double_from insert_by_key keyed_rows rows_of filled_value is_number"),
+      (T, "Databases", "at_table fits_type fits_columns")]),
+    ("Truth and meaning",
+     "Truth has three values. The meaning of a query is the rows of the product of its tables at which ON"
+     " and WHERE are true.",
+     [(T, "Truths", "truth_of order_of truth_by_parts text_value dimension_value"),
+      (T, "Arguments", ""),
+      (T, "Meanings", "passing_rows all_true")]),
+    ("The answer and its outcome",
+     "The records of the answer, their text, and what a run gives in place of an answer.",
+     [(T, "AnswerTexts", "Writing name_of column_name reference_header column_header"),
+      (T, "RunOutcomes", "RecordText counted_text after"),
+      ("engine", "Runs", "rows_text bound_text rows_of_choices choice_text count_text planned_work planned_text"
+       " answer_work query_work loaded_work work_outcome IsReached RefusesTable none_reached Counts IsOfTables"
+       " PutsFront AnswersQuery CountsQuery"),
+      (T, "Outcomes", ""),
+      (T, "FaultLines", "memory_text")]),
+    ("Plans and work",
+     "Only EXPLAIN and EXPLAIN ANALYZE show these. The rows of an answer don't depend on them.",
+     [(T, "Plans", "is_column_of is_known places_where access_methods accesses_of nested predicates_by_parts"
+       " possible_counts plan_of row_counts"),
+      (T, "Work", "computed_by_parts computes is_as_text as_text_by_parts has_as_text filters_of passes_filters"
+       " work_of up_to_passing candidates_to_row work_to_row counted"),
+      (T, "ExplainTexts", "conjunct_number line count_line limit_line")]),
+]
+SHOWN = ["IsPoint", "side", "on", "IsInterior", "IsBoundary", "IsExterior", "HasTriangle", "HasDimension", "common",
+         "IsMatrix", "GivesMatrix", "matches", "crosses", "holds", "IsValid", "Spells", "IsQuery", "and_of",
+         "related", "search_condition", "filtered", "meaning", "answer", "outcome", "ByEveryMatrix", "RunsOver"]
 HEAD = """# Definitions
 
-What contracts mean, in the order in which it is best read: the geometry, its texts and validity, then schemas, queries,
-tables and answers, then plans. This page is made from the specifications by `definitions.py`, which stands beside it: a
-definition's words are the comment that it has there.
+For whoever doubts the proof. The machine proves that the program does what the definitions say. It
+can't prove that the definitions say what the standards mean. People have to judge that, and this
+page is what they have to read.
 
-The third column names the clause of OGC 06-103r4 or 06-104r4, or the part of SQL, that a definition comes from; where it names
-none, this project chose. The last names the calls whose contracts speak of the definition; where it names none, no public
-call names it itself: a definition below it carries it, or a function within a crate, or the laws alone. Definitions that only serve to compute another one stand beside it in the specifications
-and are left out here, as are the words of worked rows.
+Each row is a definition: its name, what it says, and its clause of OGC 06-103r4 or 06-104r4, or its
+part of SQL. Where no clause is named, this project chose. The definitions that matter most are
+printed whole. [PROVED](PROVED.md) lists the ten that carry the headline, in order.
 
-The laws of these definitions, and worked rows computed from them, stand on public functions without a body, so that the gate
-proves them: in the crates of laws that `crates.txt` lists second, and in `geometry_model` and `table_model` themselves.
+Three things are left out, since nobody has to believe them: helpers of a definition, functions that
+a law ties to a definition on this page, and labels, cut points and pieces, by which the proof goes.
+Worked examples are proved by computing, in the files `src/*_examples.rt` of the two models.
+
+`docs/definitions.py` makes this page from the comments in the specifications. Change it there.
 """
 
 
 def entries(path):
-    """The definitions of a file: name, words, clause."""
-    comment = []
-    found = []
-    for line in path.read_text(encoding="utf-8").splitlines():
+    """The definitions of a file: name, words, clause, text."""
+    comment, found = [], []
+    lines = path.read_text(encoding="utf-8").splitlines()
+    for number, line in enumerate(lines):
         if line.startswith("-- ----"):
             comment = []
         elif line.startswith("-- "):
             comment.append(line[3:])
         else:
             match = DEFINITION.match(line)
-            if match and comment and " : " in line + " : ":
-                words = " ".join(comment)
-                words = re.sub(r"\s*\(profile[^()]*\)$", "", words)
+            if match and comment:
+                words = re.sub(r"\s*\(profile[^()]*\)$", "", " ".join(comment))
                 clause = STANDARD.search(words)
-                if clause:
-                    words = words[: clause.start()]
-                found.append((match.group(1), words, clause.group(1) if clause else ""))
+                words = words[: clause.start()] if clause else words
+                end = number
+                while end < len(lines) and lines[end].strip():
+                    end += 1
+                text = "\n".join(lines[number:end])
+                found.append((match.group(1), words, clause.group(1) if clause else "", text))
             if line.strip() and not line.startswith("infix"):
                 comment = []
     return found
-
-
-def imports(text):
-    """The words that a file of code takes from specifications, each with its module, and the names that stand for modules."""
-    words, modules = {}, {}
-    for module, names in re.findall(r"ghost use Rattle\.[\w.]*specs\.(\w+)\.\{([^}]*)\}", text):
-        for name in names.replace("\n", " ").split(","):
-            parts = name.strip().split(" as ")
-            if parts[0]:
-                words[parts[-1]] = (module, parts[0])
-    for module, alias in re.findall(r"ghost use Rattle\.[\w.]*specs\.(\w+) as (\w+);", text):
-        modules.setdefault(alias, []).append(module)
-    for alias in re.findall(r"ghost mod (\w+) \{", text):
-        modules.setdefault(alias, [])
-    return words, modules
-
-
-def carriers():
-    """For each module and word, the public calls whose contracts name it."""
-    calls = {}
-    for path in sorted(CRATES.glob("*/src/**/*.rt")):
-        crate = path.parts[2]
-        if crate in MODELS or crate.endswith("_laws") or "example" in path.name or "tests" in path.name:
-            continue
-        text = path.read_text(encoding="utf-8")
-        words, modules = imports(text)
-        name = ""
-        for line in text.splitlines():
-            function = re.match(r"\s*pub fn ([a-z_0-9]+)", line) or re.match(r"\s*(fn|impl|struct|pub struct|pub enum)\b", line)
-            if function:
-                name = function.group(1) if function.group(0).lstrip().startswith("pub fn") else ""
-            if not name or not re.search(r"\b(ensures|requires)\b|^\s*[→×⊎]", line):
-                continue
-            met = [words[w] for w in re.findall(r"[A-Za-z_][A-Za-z_0-9]*", line) if w in words]
-            for alias, word in re.findall(r"\b(\w+)\.(\w+)", line):
-                met += [(module, word) for module in modules.get(alias, [])]
-            for key in met:
-                if f"`{name}`" not in calls.setdefault(key, []):
-                    calls[key].append(f"`{name}`")
-    return calls
 
 
 def cell(text):
     return text.replace("|", "\\|")
 
 
-def section(crate, module, calls):
-    path = CRATES / crate / "specs" / f"{module}.antt"
-    title = path.read_text(encoding="utf-8").splitlines()[0].lstrip("- ").rstrip(".")
-    rows = [e for e in entries(path) if e[0][0].isalpha()]
-    if not rows or module.endswith(("Examples", "Laws")):
-        return ""
-    text = f"\n### {title} (`{module}.antt`)\n\n| name | what it is | clause | carried by |\n|---|---|---|---|\n"
-    for name, words, clause in rows:
-        carried = ", ".join(calls.get((module, name), [])[:6])
-        text += f"| `{name}` | {cell(words)} | {cell(clause)} | {carried} |\n"
-    return text
+def wrapped(text, width=100):
+    lines = [""]
+    for word in text.split():
+        if lines[-1] and len(re.sub(r"\]\([^)]*\)", "]", lines[-1])) + 1 + len(word) > width:
+            lines.append("")
+        lines[-1] += (" " if lines[-1] else "") + word
+    return "\n".join(lines)
+
+
+def section(title, words, files, problems):
+    links = [f"[{module}](../crates/{crate}/specs/{module}.antt)" for crate, module, _ in files]
+    lead = "Files: " if len(links) > 1 else "File: "
+    text = f"\n## {title}\n\n{wrapped(words)}\n\n{lead}" + ",\n".join(links) + ".\n"
+    rows, shown = "", ""
+    for crate, module, left_out in files:
+        path = CRATES / crate / "specs" / f"{module}.antt"
+        if not path.is_file():
+            problems.append(f"no file {crate}/specs/{module}.antt")
+            continue
+        found = entries(path)
+        names = [name for name, _, _, _ in found]
+        problems += [f"no definition {name} in {module}" for name in left_out.split() if name not in names]
+        for name, said, clause, whole in found:
+            if name[0].isalpha() and name not in left_out.split():
+                rows += f"| `{name}` | {cell(said)} | {cell(clause)} |\n"
+                shown += f"{whole}\n\n" if name in SHOWN else ""
+    text += f"\n| name | what it is | clause |\n|---|---|---|\n{rows}"
+    return text + (f"\n```text\n{shown.rstrip()}\n```\n" if shown else "")
 
 
 def main():
-    calls = carriers()
-    text = HEAD
-    for crate in MODELS:
-        text += f"\n## `{crate}`\n"
-        library = (CRATES / crate / "specs" / "Lib.antt").read_text(encoding="utf-8")
-        for module in re.findall(r"pub mod (\w+)", library):
-            text += section(crate, module, calls)
-    pathlib.Path("DEFINITIONS.md").write_text(text, encoding="utf-8")
+    problems = []
+    text = HEAD + "".join(section(*part, problems) for part in PAGE)
+    page = HERE / "DEFINITIONS.md"
+    for problem in problems:
+        print(f"definitions.py: {problem}", file=sys.stderr)
+    if "--check" in sys.argv[1:]:
+        return 1 if problems or page.read_text(encoding="utf-8") != text else 0
+    page.write_text(text, encoding="utf-8")
+    return 1 if problems else 0
 
 
-main()
+if __name__ == "__main__":
+    sys.exit(main())
