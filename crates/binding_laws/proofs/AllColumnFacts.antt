@@ -52,7 +52,7 @@ listed_joined (x ∷ xs) ys v (inr is) = elim (listed_joined xs ys v is) [
   | inr right ↦ inr right
 ]
 
--- lists in order, of which each place of the first stands before each of the second, are in order when joined
+-- lists in order, of which each place of the first comes before each of the second, are in order when joined
 in_order_joined : (xs ys : List ColumnPlace) → AreInOrder xs → AreInOrder ys → ((a b : ColumnPlace) → IsListed xs a → IsListed ys b → StandsBefore a b) → AreInOrder (xs ++ ys)
 in_order_joined [] ys are too apart = too
 in_order_joined (x ∷ xs) ys are too apart = (
@@ -160,7 +160,7 @@ all_columns {T} schema references = record {
 
 -- ---- no other list is
 
--- no two places stand before one another
+-- no two places come before one another
 never_both : (a b : ColumnPlace) → StandsBefore a b → StandsBefore b a → ⊥
 never_both a b (inl is) (inl too) = omega arith
 never_both a b (inl is) (inr too) = less a.reference b.reference is too.0
@@ -176,7 +176,7 @@ never_both a b (inr is) (inr too) = less a.column b.column is.1 too.1
     less : (m n : ℕ) → m < n → n < m → ⊥
     less m n is too = omega arith
 
--- two lists in order with the same places are one: were their first places two, each would stand before the other
+-- two lists in order with the same places are one: were their first places two, each would come before the other
 one_order : (xs ys : List ColumnPlace) → AreInOrder xs → AreInOrder ys → ((v : ColumnPlace) → IsListed xs v → IsListed ys v) → ((v : ColumnPlace) → IsListed ys v → IsListed xs v) → xs ≡ ys
 one_order [] [] are too to from = refl
 one_order [] (y ∷ ys) are too to from = absurd (from y (inl refl))
@@ -228,7 +228,7 @@ items_are schema k (reference ∷ references) =
     ap₂ (λ is more. is ++ more) (own_items k 0 (columns_of schema reference)) (items_are schema (k + 1) references)
     ∙ sym (map_joined items.Column (places_in k 0 (columns_of schema reference)) (places_of schema (k + 1) references))
 
--- the asterisk is answered a list that the rules allow, and they allow just one
+-- the asterisk is bound to a list that the rules allow, and they allow just one
 pub all_agree : {T D : Type 0} (schema : List (TableDef T)) (references : List Reference)
     → Agrees (Then (AreAllColumns schema references) (λ places listed. listed ≡ map items.Column places)) (λ fault. ⊥) (Ok (all_items {D = D} schema references))
 all_agree schema references = record {

@@ -56,7 +56,7 @@ use Rattle.binding_laws.specs.BoundLaws.{GeometryQueriesAreBound}
 
 -- ---- steps
 
--- a step, and what follows from what it answers
+-- a step, and what follows from what it returns
 then_ok : {X Y : Type 0} (r : Checked X) (f : X → Checked Y) (Q : X → Type 0) (P : Y → Type 0) → IfOk r Q → ((x : X) → Q x → IfOk (f x) P) → IfOk (r >>= f) P
 then_ok (Ok x) f Q P is next = next x is
 then_ok (Err e) f Q P is next = tt
@@ -488,7 +488,7 @@ answered : {X : Type 0} (r s : Checked X) (P : X → Type 0) → IfOk s P → Gi
 answered (Ok x) s P is gives = subst (λ t. IfOk t P) gives is
 answered (Err e) s P is gives = tt
 
--- a binder that answers what binding gives, or runs out of memory, answers what is bound to these definitions
+-- a binder that returns what binding gives, or runs out of memory, returns what is bound to these definitions
 pub geometry_answer_is_bound : (definitions : List (TableDef ColumnShape)) (query : Query WrittenGeometry WrittenColumn) (r : Checked (Bound (GeometryArgument Geometry) ColumnPlace))
     → Gives query_fault.OutOfMemory (λ b. b) r (binding geometry_binding definitions query) → IfOk r (IsBound geometry_fits definitions)
 geometry_answer_is_bound definitions query r gives = answered r (binding geometry_binding definitions query) (IsBound geometry_fits definitions) (geometry_queries_are_bound definitions query) gives

@@ -88,7 +88,7 @@ relation_agrees rules how agrees schema references at w a b =
     (λ p p_is. sequence (IsGeometryPart left) (IsNoGeometry at left) _ _ (geometry_only at left) _ (geometry_agrees at left)
     (λ x x_is. answered (IsGeometryPart right) (IsNoGeometry at right) (geometry_only at right) (λ y. conds.Relates p x y) (geometry_agrees at right)))))
 
--- ---- conditions: what is answered, the rules say
+-- ---- conditions: what is returned, the rules say
 
 Forward : {T A B C D : Type 0} (rules : GeometryRules T A B C D) (how : GeometryBinding T A B C D) (schema : List (TableDef T)) (references : List Reference) → WrittenCond A → Checked (Cond B) → Type 0
 Forward rules how schema references w r = IfOk r (IsCond rules schema references w) × IfErr r (IsRefusedCond rules schema references w)
@@ -145,9 +145,9 @@ conds_forward {T} {A} {B} {C} {D} rules how agrees schema references = by_writte
       (relation_agrees rules how agrees schema references at p a b).stands (relation_agrees rules how agrees schema references at p a b).refused);
 })
 
--- ---- what the rules say, is answered
+-- ---- what the rules say, is returned
 
--- by induction over the rules: the parts that they bind are answered so, and with them the condition
+-- by induction over the rules: the parts that they bind are returned so, and with them the condition
 mutual
   cond_answers : {T A B C D : Type 0} (rules : GeometryRules T A B C D) (how : GeometryBinding T A B C D) (agrees : GeometryAgrees rules how) (schema : List (TableDef T)) (references : List Reference) (w : WrittenCond A) (c : Cond B)
       → IsCond rules schema references w c → bound_cond how schema references w ≡ Ok c
@@ -198,7 +198,7 @@ mutual
   conds_refuse rules how agrees schema references ws f (rule.InLater part parts bound fault is are) =
       ap₂ (λ r s. and_then r (λ x. and_then s (λ xs. Ok (x ∷ xs)))) (cond_answers rules how agrees schema references part bound is) (conds_refuse rules how agrees schema references parts fault are)
 
--- what is answered the rules say, and what they say is answered
+-- what is returned the rules say, and what they say is returned
 pub cond_agrees : {T A B C D : Type 0} (rules : GeometryRules T A B C D) (how : GeometryBinding T A B C D) → GeometryAgrees rules how → (schema : List (TableDef T)) (references : List Reference) (w : WrittenCond A)
     → Agrees (IsCond rules schema references w) (IsRefusedCond rules schema references w) (bound_cond how schema references w)
 unfolding Forward

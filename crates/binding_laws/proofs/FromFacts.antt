@@ -48,7 +48,7 @@ placed_from p k (x ∷ xs) = at (p x) refl (placed_from p (k + 1) xs)
 placed : {X : Type 0} (p : X → Bool) (xs : List X) → Placed p 0 xs (position p xs)
 placed p xs = subst (Placed p 0 xs) (sym (position_from-zero p xs)) (placed_from p 0 xs)
 
--- the first that passes stands at its place
+-- the first that passes is at its place
 first_there : {X : Type 0} (P : X → Type 0) (xs : List X) (place : ℕ) (x : X) → IsFirst P xs place x → slice_get xs place ≡ Some x
 first_there P [] place x is = absurd is
 first_there P (y ∷ ys) zero x is = ap Some is.0
@@ -81,7 +81,7 @@ same_reference {T} schema w a b is too = λ i. record { table = one.0 i; name = 
     one : (a.table ≡ b.table) × (is.0 ≡ too.0)
     one = first_is_one (IsTableNamed w.table.text) schema a.table b.table is.0 too.0 is.1 too.1
 
--- what is answered the rules say, and they say one thing at most
+-- what is returned the rules say, and they say one thing at most
 pub reference_agrees : {T : Type 0} (schema : List (TableDef T)) (w : WrittenReference) → Agrees (IsBoundReference schema w) (IsRefusedReference schema w) (bound_reference schema w)
 reference_agrees schema w =
     agreed (IsBoundReference schema w) (IsRefusedReference schema w) (bound_reference schema w)

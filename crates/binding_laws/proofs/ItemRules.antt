@@ -70,14 +70,14 @@ one_stands Is Refused x xs (Ok y) (Ok ys) a b = (a, b)
 one_stands Is Refused x xs (Ok y) (Err e) a b = tt
 one_stands Is Refused x xs (Err e) s a b = tt
 
--- the other way round: what the rules bind all to, item by item, is answered
+-- the other way round: what the rules bind all to, item by item, is returned
 one_answers : {X Y : Type 0} (Is : X → Y → Type 0) (Refused : X → QueryFault → Type 0) (x : X) (xs : List X) (r : Checked Y) (s : Checked (List Y)) → Agrees (Is x) (Refused x) r
     → Agrees (AllZip Is xs) (FirstOf Refused xs) s → (ys : List Y) → AllZip Is (x ∷ xs) ys → both r s ≡ Ok ys
 unfolding both
 one_answers Is Refused x xs r s a b [] is = absurd is
 one_answers Is Refused x xs r s a b (y ∷ ys) is = ap₂ (λ q t. and_then q (λ z. and_then t (λ zs. Ok (z ∷ zs)))) (a.answers y is.0) (b.answers ys is.1)
 
--- and the fault of the first item that the rules refuse is answered, since those before it are bound
+-- and the fault of the first item that the rules refuse is returned, since those before it are bound
 one_refuses : {X Y : Type 0} (Is : X → Y → Type 0) (Refused : X → QueryFault → Type 0) (x : X) (xs : List X) (r : Checked Y) (s : Checked (List Y)) → Agrees (Is x) (Refused x) r
     → Agrees (AllZip Is xs) (FirstOf Refused xs) s → (fault : QueryFault) (place : ℕ) (item : X) → IsFirst (λ w. (f : QueryFault) × Refused w f) (x ∷ xs) place item → Refused item fault → both r s ≡ Err fault
 unfolding both FirstOf

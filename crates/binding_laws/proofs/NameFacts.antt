@@ -55,7 +55,7 @@ looked name k (column ∷ columns) = at_name (same_name column.name name) refl (
     at_name true is more = (zero, column, start k, (refl, is), refl)
     at_name false is more = further name k column columns (column_named name (k + 1) columns) (λ h. differ (sym is ∙ h)) more
 
--- what stands first, alone or twice stands somewhere
+-- what is first, alone or twice is somewhere
 pub somewhere : {X : Type 0} (P : X → Type 0) (xs : List X) (place : ℕ) (x : X) → IsFirst P xs place x → IsSomewhere P xs
 somewhere P [] place x is = is
 somewhere P (y ∷ ys) zero x is = inl is.1
@@ -76,7 +76,7 @@ not_nowhere P [] is none = is
 not_nowhere P (x ∷ xs) (inl is) none = none.0 is
 not_nowhere P (x ∷ xs) (inr is) none = not_nowhere P xs is none.1
 
--- what stands just once doesn't stand twice
+-- what is just once isn't twice
 not_twice : {X : Type 0} (P : X → Type 0) (xs : List X) (place : ℕ) (x : X) → IsOnly P xs place x → IsTwice P xs → ⊥
 not_twice P [] place x is two = two
 not_twice P (y ∷ ys) zero x is (inl two) = not_nowhere P ys two.1 is.2
@@ -92,7 +92,7 @@ first_is_one P (z ∷ zs) zero (suc j) x y is too = absurd (too.0 is.1)
 first_is_one P (z ∷ zs) (suc i) zero x y is too = absurd (is.0 too.1)
 first_is_one P (z ∷ zs) (suc i) (suc j) x y is too = (ap suc (first_is_one P zs i j x y is.1 too.1).0, (first_is_one P zs i j x y is.1 too.1).1)
 
--- what stands just once has one place
+-- what is just once has one place
 only_is_one : {X : Type 0} (P : X → Type 0) (xs : List X) (i j : ℕ) (x y : X) → IsOnly P xs i x → IsOnly P xs j y → (i ≡ j) × (x ≡ y)
 only_is_one P [] i j x y is too = absurd is
 only_is_one P (z ∷ zs) zero zero x y is too = (refl, sym is.0 ∙ too.0)
@@ -211,13 +211,13 @@ same_fault schema references w d e (inl is) (inr two) = absurd (not_nowhere (Has
 same_fault schema references w d e (inr two) (inl is) = absurd (not_nowhere (HasColumn schema w) references (twice_somewhere (HasColumn schema w) references two.0) is.0)
 same_fault schema references w d e (inr is) (inr too) = is.1 ∙ sym too.1
 
--- rules that say one thing at most are what is answered, where what is answered they say
+-- rules that say one thing at most are what is returned, where what is returned they say
 pub agreed : {X : Type 0} (Is : X → Type 0) (Refused : QueryFault → Type 0) (r : Checked X) → IfOk r Is → IfErr r Refused
     → ((x y : X) → Is x → Is y → x ≡ y) → ((x : X) (e : QueryFault) → Is x → Refused e → ⊥) → ((d e : QueryFault) → Refused d → Refused e → d ≡ e) → Agrees Is Refused r
 agreed Is Refused (Ok x) is none one either fault = record { stands = is; refused = tt; answers = λ y too. ap Ok (one x y is too); refuses = λ e refused. absurd (either x e is refused) }
 agreed Is Refused (Err d) none is one either fault = record { stands = tt; refused = is; answers = λ y too. absurd (either y d too is); refuses = λ e refused. ap Err (fault d e is refused) }
 
--- what is answered the rules say, and they say one thing at most
+-- what is returned the rules say, and they say one thing at most
 pub columns_agree : (T : Type 0) → ColumnsAgree T
 columns_agree T schema references w =
     agreed (IsBoundColumn schema references w) (IsRefusedColumn schema references w) (bound_column schema references w)

@@ -59,13 +59,13 @@ steps_agree rules how agrees schema query =
     (λ on on_is. answered (IsWhole rules schema references query.condition) (IsRefusedWhole rules schema references query.condition) (bound_whole how schema references query.condition)
     (λ condition. stated query references listed on condition) (whole_agrees rules how agrees schema references query.condition))))
 
--- what the steps answer is what the rules say of a query, part by part
+-- what the steps return is what the rules say of a query, part by part
 of_steps : {T A B C D : Type 0} (rules : GeometryRules T A B C D) (schema : List (TableDef T)) (query : Query A C) (s : Statement B D) → InSteps rules schema query s → IsStatement rules schema query s
 unfolding InSteps stated
 of_steps rules schema query s is =
     subst (IsStatement rules schema query) (sym is.2.2.2.2) (record { references = is.1; items = is.2.1; on = is.2.2.1; condition = is.2.2.2.1; explain = refl; counts = refl; limit = refl })
 
--- and what the rules say, the steps answer
+-- and what the rules say, the steps return
 to_steps : {T A B C D : Type 0} (rules : GeometryRules T A B C D) (schema : List (TableDef T)) (query : Query A C) (s : Statement B D) → IsStatement rules schema query s → InSteps rules schema query s
 unfolding InSteps stated
 to_steps rules schema query s is = (
@@ -86,14 +86,14 @@ to_steps rules schema query s is = (
   ),
 )
 
--- so a query as it stands agrees with the rules
+-- so a query as it is written agrees with the rules
 statement_agrees : {T A B C D : Type 0} (rules : GeometryRules T A B C D) (how : GeometryBinding T A B C D) → GeometryAgrees rules how → (schema : List (TableDef T)) (query : Query A C)
     → Agrees (IsStatement rules schema query) (IsRefusedQuery rules schema query) (statement how schema query)
 statement_agrees rules how agrees schema query =
     restated (InSteps rules schema query) (IsStatement rules schema query) (IsRefusedQuery rules schema query) (statement how schema query) (of_steps rules schema query) (to_steps rules schema query)
     (steps_agree rules how agrees schema query)
 
--- with its conjuncts it is refused where it is refused as it stands
+-- with its conjuncts it is refused where it is refused as it is written
 with_conjuncts : {A C : Type 0} (Is : Statement A C → Type 0) (Refused : QueryFault → Type 0) (r : Checked (Statement A C)) → Agrees Is Refused r
     → Agrees (Then Is (λ s bound. bound ≡ by_conjuncts s)) Refused (r >>= (λ s. Ok (by_conjuncts s)))
 with_conjuncts Is Refused r a = record {
@@ -111,7 +111,7 @@ with_conjuncts Is Refused r a = record {
 pub statements_agree : StatementsAgree
 statements_agree schema query = statement_agrees geometry_rules geometry_binding geometry_agrees schema query
 
--- binding to conjuncts is binding as it stands with the conjuncts taken last, which refuses nothing
+-- binding to conjuncts is binding as it is written with the conjuncts taken last, which refuses nothing
 pub bindings_agree : BindingsAgree
 bindings_agree schema query =
     subst (Agrees (IsBinding geometry_rules schema query) (IsRefusedQuery geometry_rules schema query)) (sym (bound_of_statement _ _ _ _ _ geometry_binding schema query))

@@ -26,17 +26,17 @@ differ h = subst IsNot h tt
 
 -- ---- steps
 
--- what a step answers
+-- what a step returns
 pub pure : {X : Type 0} (v : X) → Agrees (λ x. x ≡ v) (λ fault. ⊥) (Ok v)
 pure v = record { stands = refl; refused = tt; answers = λ x is. ap Ok (sym is); refuses = λ fault is. absurd is }
 
--- what a second step answers behind what the first one answered, the rules of both say
+-- what a second step returns behind what the first one returned, the rules of both say
 answers_then : {X Y : Type 0} (First : X → Type 0) (Refused : QueryFault → Type 0) (Second : X → Y → Type 0) (then_refused : X → QueryFault → Type 0) (r : Checked X) (f : X → Checked Y)
     → Agrees First Refused r → ((x : X) → First x → Agrees (Second x) (then_refused x) (f x)) → IfOk (r >>= f) (Then First Second)
 answers_then First Refused Second then_refused (Ok x) f a next = if_ok (f x) (Second x) (Then First Second) (λ y is. (x, a.stands, is)) (next x a.stands).stands
 answers_then First Refused Second then_refused (Err e) f a next = tt
 
--- a fault is the first step's, or the second's behind what the first one answered
+-- a fault is the first step's, or the second's behind what the first one returned
 faults_then : {X Y : Type 0} (First : X → Type 0) (Refused : QueryFault → Type 0) (Second : X → Y → Type 0) (then_refused : X → QueryFault → Type 0) (r : Checked X) (f : X → Checked Y)
     → Agrees First Refused r → ((x : X) → First x → Agrees (Second x) (then_refused x) (f x)) → IfErr (r >>= f) (FirstFault First Refused then_refused)
 faults_then First Refused Second then_refused (Ok x) f a next = if_err (f x) (then_refused x) (FirstFault First Refused then_refused) (λ e is. inr (x, a.stands, is)) (next x a.stands).refused

@@ -114,7 +114,7 @@ within_of a b e c x hx h f = within_piece (edges' a b) (listed' a b) e x (among_
 inside_sample : (a b : Geometry) (x : Point) (w : Within (edges' a b) (listed' a b) x) → Inside (edges' a b) (listed' a b) w.piece w.is_piece (sample w.piece)
 inside_sample a b x w = sample_inside (edges' a b) (listed' a b) w.piece w.is_piece w.ends
 
--- all points within a piece stand alike, so its sample's label has the point's parts
+-- all points within a piece lie alike, so its sample's label has the point's parts
 piece_at : (a b : Geometry) → HasClosedRings a → HasClosedRings b → (x : Point) → Within (edges' a b) (listed' a b) x → some_piece a b (locate a x) (locate b x) ≡ true
 piece_at a b ca cb x w = any_by (λ c. label a b (sample c)) (is_pair (locate a x) (locate b x)) (pieces' a b) w.piece w.listed
     (pair_of (locate a x) (locate b x) (locate a (sample w.piece)) (locate b (sample w.piece))

@@ -43,7 +43,7 @@ pub sfq-simple : is_simple sfq ≡ true
 unfolding clap_on_literals
 sfq-simple = refl
 
--- where nothing is answered, what nothing denies isn't there
+-- where nothing is returned, what nothing denies isn't there
 pub none-there : {X : Type 0} (o : Option X) (P : Type 0) → o ≡ None → IfNone o (P → ⊥) → P → ⊥
 none-there None P is denied there = denied there
 none-there (Some x) P is denied there = cc

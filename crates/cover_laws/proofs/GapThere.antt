@@ -1,4 +1,4 @@
--- What a gap shows is there: a point of it that is no cut stands as its sample does.
+-- What a gap shows is there: a point of it that is no cut lies as its sample does.
 use Rattle.std.proofs.Common.{◌≡◌, ◌≢◌, ◌⊎◌, inl, inr, true, false, refl, sym, ◌∙◌, List, ◌++◌, All, Contains}
 use Rattle.geometry_model.specs.Points.{Point, IsPoint}
 use Rattle.geometry_model.specs.Geometries.{Edge, Geometry, kind, edges, listed}
@@ -37,7 +37,7 @@ pub record SameSides (a b : Geometry) (x y : Point) : Type 0 where
   pub second_below : below b x ≡ below b y
   pub second_above : above b x ≡ above b y
 
--- each side stands alike all along an own edge: in a along the gap's edge, and in b along the edge that shares it
+-- each side lies alike all along an own edge: in a along the gap's edge, and in b along the edge that shares it
 pub same_sides : (a b : Geometry) → IsValid a → IsValid b → (e : Edge) → Contains (edges a) e → e.start.x ≢ e.end.x → (p q : Point) → IsGap e (edges b) p q → (f : Edge) → Contains (edges b) f → IsShared e p q f
     → (x y : Point) → IsBetween e p q x → IsBetween e p q y → SameSides a b x y
 same_sides a b va vb e c n p q g f d s x y i j = go (shared_gap_holds_ends e (edges b) p q f g d s)
@@ -58,14 +58,14 @@ off_along e fs p q g x y i j h = all_from_each (λ f. on f x ≡ false) fs (each
     go f k (inr s) = absurd (let z : true ≡ false = sym (s.1 y j) ∙ k in cc)
 
 -- ---- what is there at a point of the gap that is no cut
--- where the point stands, and what the label matrix shows of it and of its sides
+-- where the point lies, and what the label matrix shows of it and of its sides
 pub record AtNoCut (a b : Geometry) (e : Edge) (x : Point) : Type 0 where
   pub stands : StandsMostly a b x
   pub no_cut : IsNoCut a b x
   pub piece : Shows (labelled_matrix a b) (locate a x) (locate b x) One
   pub sides : e.start.x ≢ e.end.x → Shows (labelled_matrix a b) (below a x) (below b x) Two × Shows (labelled_matrix a b) (above a x) (above b x) Two
 
--- a point that is no cut stands where almost all do, and its piece and its sides are there
+-- a point that is no cut lies where almost all do, and its piece and its sides are there
 at_no_cut : (a b : Geometry) → IsValid a → IsValid b → (e : Edge) → Contains (edges a) e → (p q x : Point) → IsBetween e p q x → IsNoCut a b x → AtNoCut a b e x
 at_no_cut a b va vb e c p q x i f = record {
   stands = no_cut_stands a b e c x i.is_point i.is_on f;
@@ -97,7 +97,7 @@ inner_there a b va e c x hx h f k n l u v = parted (sides_of_own_edge a b va k e
     parted (inr q) = shows_at (labelled_matrix a b) Two (above a x) Interior l l q.1 refl v
 
 -- ---- the gap's sample off b's edges
--- it stands as the point that is no cut, so what is there of that one is what it shows
+-- it lies as the point that is no cut, so what is there of that one is what it shows
 off_there : (a b : Geometry) → IsValid a → IsValid b → (e : Edge) → Contains (edges a) e → (p q x y : Point) → IsGap e (edges b) p q → IsBetween e p q x → IsBetween e p q y → AtNoCut a b e x → IsOffEdges b y → ShowsOff a (labelled_matrix a b) e (mostly b y)
 off_there a b va vb e c p q x y g i j t o = record {
   piece = shows_at (labelled_matrix a b) One (locate a x) (of_own_edges (kind a)) (locate b x) (mostly b y) (t.stands).0 ((t.stands).1 ∙ alike) t.piece;
@@ -118,7 +118,7 @@ off_there a b va vb e c p q x y g i j t o = record {
     upper n = shows_at (labelled_matrix a b) Two (above a x) (above a x) (above b x) (mostly b y) refl ((sides_off_edges b x i.is_point off).1 ∙ alike) ((t.sides n).1)
 
 -- ---- the gap's sample on an edge of b
--- all along a shared gap the sides stand alike, so what is there of the point that is no cut is what it shows
+-- all along a shared gap the sides lie alike, so what is there of the point that is no cut is what it shows
 on_there : (a b : Geometry) → IsValid a → IsValid b → (e : Edge) → Contains (edges a) e → (p q x y : Point) → IsGap e (edges b) p q → IsBetween e p q x → IsBetween e p q y → AtNoCut a b e x → (f : Edge) → Contains (edges b) f → IsShared e p q f → ShowsOn a b (labelled_matrix a b) e y
 on_there a b va vb e c p q x y g i j t f d s = record {
   piece = shows_at (labelled_matrix a b) One (locate a x) (of_own_edges (kind a)) (locate b x) (of_own_edges (kind b)) (t.stands).0 ((t.stands).1 ∙ own_edges_are_mostly b f d x (s.1 x i)) t.piece;

@@ -86,7 +86,7 @@ between a b m e c x hx k h f = go (stands e h.p h.q x (h.gap).lesser_is_point (h
     go (Stands.AtGreater s) = absurd (f (cut_of_same (edges_of_both a b) (listed a ++ listed b) h.q x (h.gap).greater_is_point hx (same_symmetric h.q x ∙ s) (cut_of_both a b e c h.q h.greater_is_cut)))
     go (Stands.Amid i) = i
 
--- ---- off b's edges the point stands as the gap's sample
+-- ---- off b's edges the point lies as the gap's sample
 -- so what the matrix shows by the sample it shows of the point too
 off_shown : (a b : Geometry) → IsValid b → (m : Matrix) → ShowsEnds a b m → (e : Edge) → Contains (edges a) e → (x : Point) → IsPoint x → on e x ≡ true → Held a b m e x → IsOffEdges b x → ShowsPoint a b m e x
 off_shown a b vb m t e c x hx k h o = go (gap_end_is_alike b (valid_rings_are_closed b vb) e h.p h.q h.gap x (h.shows).sample (h.shows).between hx k h.within o)

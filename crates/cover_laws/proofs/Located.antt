@@ -1,4 +1,4 @@
--- What of a point of an edge a matrix has to show, by where the point and its sides stand.
+-- What of a point of an edge a matrix has to show, by where the point and its sides lie.
 use Rattle.std.proofs.Common.{◌≡◌, ◌≢◌, ◌⊎◌, inl, inr, Bool, true, false, if◌then◌else◌, refl, sym, ap, ◌∙◌, List, [], ◌∷◌, ◌++◌, All, Contains}
 use Rattle.std.specs.List.{list_any}
 use Rattle.geometry_model.specs.Points.{Position, Point, IsPoint, point_at}
@@ -81,7 +81,7 @@ upper_side g x = go (is_area (kind g)) (odd_above (rings g) x) refl
     go (inl k) true e = inr (k, ap (λ (t : Bool). if t then Interior else Exterior) e)
     go (inl k) false e = inl (ap (λ (t : Bool). if t then Interior else Exterior) e)
 
--- ---- a point of an edge of a is shown as an end, or stands where almost all points do
+-- ---- a point of an edge of a is shown as an end, or lies where almost all points do
 -- a geometry with an edge isn't of points, so it has no listed position
 no_listed : (a : Geometry) (e : Edge) → Contains (edges a) e → (p : Position) → Among p (listed a) → ⊥
 no_listed (Geometry.Point o) e c p m = among_from_contains [] e c
@@ -91,7 +91,7 @@ no_listed (Geometry.MultiLineString ls) e c p m = m
 no_listed (Geometry.Polygon rs) e c p m = m
 no_listed (Geometry.MultiPolygon es) e c p m = m
 
--- so none stands at the point
+-- so none is at the point
 none_listed : (a : Geometry) (e : Edge) → Contains (edges a) e → (x : Point) → All (λ p. stands_at x p ≡ false) (listed a)
 none_listed a e c x = all_from_each (λ p. stands_at x p ≡ false) (listed a) (each_none (listed a) (no_listed a e c))
   where
@@ -108,7 +108,7 @@ odd_end_or_not g x = go (is_line (kind g)) (is_odd_end (lines g) x) refl
     go (inl k) false e = inr (λ l. e)
     go (inr n) t e = inr (λ l. absurd (n l))
 
--- a listed position stands at the point, or none does
+-- a listed position is at the point, or none is
 listed_or_not : (b : Geometry) (x : Point) → Passing (stands_at x) (listed b) ⊎ All (λ p. stands_at x p ≡ false) (listed b)
 listed_or_not b x = go (list_any (stands_at x) (listed b)) refl
   where
@@ -116,11 +116,11 @@ listed_or_not b x = go (list_any (stands_at x) (listed b)) refl
     go true e = inl (some_passed (stands_at x) (listed b) e)
     go false e = inr (all_from_each (λ p. stands_at x p ≡ false) (listed b) (none_passed (stands_at x) (listed b) e))
 
--- it stands on a's own edges, and in b where almost all points about it do
+-- it lies on a's own edges, and in b where almost all points about it do
 abbrev pub StandsMostly : Geometry → Geometry → Point → Type 0
 StandsMostly a b x = (locate a x ≡ of_own_edges (kind a)) × (locate b x ≡ mostly b x)
 
--- an odd end or a listed position is among the ends that are shown, and any other point stands where almost all do
+-- an odd end or a listed position is among the ends that are shown, and any other point lies where almost all do
 pub shown_or_mostly : (a b : Geometry) (m : Matrix) → ShowsEnds a b m → (e : Edge) → Contains (edges a) e → (x : Point) → IsPoint x → on e x ≡ true → Shows m (locate a x) (locate b x) Zero ⊎ StandsMostly a b x
 shown_or_mostly a b m s e c x hx h = go (odd_end_or_not a x) (odd_end_or_not b x) (listed_or_not b x)
   where
@@ -137,7 +137,7 @@ shown_or_mostly a b m s e c x hx h = go (odd_end_or_not a x) (odd_end_or_not b x
     go (inr u) (inr v) (inl p) = inl (at_listed p)
     go (inr u) (inr v) (inr w) = inr (mostly_is_located a x hx u (none_listed a e c x) ∙ own_edges_are_mostly a e c x h, mostly_is_located b x hx v w)
 
--- a point that is no cut stands so
+-- a point that is no cut lies so
 pub no_cut_stands : (a b : Geometry) (e : Edge) → Contains (edges a) e → (x : Point) → IsPoint x → on e x ≡ true → IsNoCut a b x → StandsMostly a b x
 no_cut_stands a b e c x hx h f = ((no_cut_is_mostly a b x hx f).0 ∙ own_edges_are_mostly a e c x h, (no_cut_is_mostly a b x hx f).1)
 
@@ -147,7 +147,7 @@ side_off : (a : Geometry) (m : Matrix) (e : Edge) (k l : Location) → e.start.x
 side_off a m e k l n s (inl q) = shows_at m Two Exterior l k k (sym q) refl (s.outer n)
 side_off a m e k l n s (inr q) = shows_at m Two Interior l k k (sym q.1) refl (s.inner q.0 n)
 
--- where the gap's piece and sides are shown the point is: it stands as the gap does, or it is an end that is shown
+-- where the gap's piece and sides are shown the point is: it lies as the gap does, or it is an end that is shown
 pub off_is_shown : (a b : Geometry) (m : Matrix) → ShowsEnds a b m → (e : Edge) → Contains (edges a) e → (x : Point) → IsPoint x → on e x ≡ true → IsOffEdges b x → ShowsOff a m e (mostly b x) → ShowsPoint a b m e x
 off_is_shown a b m t e c x hx h o s = record {
   point = point (shown_or_mostly a b m t e c x hx h);

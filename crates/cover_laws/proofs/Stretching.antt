@@ -85,7 +85,7 @@ back f x hx g k = record {
     nothing : pos 0 -ℤ pos 0 ≡ pos 0
     nothing = omega (arith, ints)
 
--- .. since the edge holds the point and neither end stands at it
+-- .. since the edge holds the point and neither end is at it
 pub spread : (f : Edge) (x : Point) → IsPoint x → on f x ≡ true → is_end f x ≡ false → Spread f x
 spread f x hx h n = go (compare (point_at f.start) x) refl (compare (point_at f.end) x) refl
   where

@@ -15,7 +15,7 @@ run_then_rest xs first end h =
     sym (take-append-drop (end - first) (drop first xs)) ∙ ap (λ l. take (end - first) (drop first xs) ++ l) (drop-drop (end - first) first xs ∙ ap (λ n. drop n xs) e)
 
 -- ---- the box before a place
--- the box that is read right before a place within the list stands there
+-- the box that is read right before a place within the list is there
 pub found_before : (boxes : List EdgeBox) (place : ℕ) (b : EdgeBox) → 0 < place → place ≤ length boxes → b ≡ get_or boxes (place - 1) b → slice_get boxes (place - 1) ≡ Some b
 found_before boxes place b h k is = slice_get_read boxes (length boxes) (place - 1) b refl (omega (arith, h, k)) is
 

@@ -142,7 +142,7 @@ both_zero c d u v e hu hv signs = (first (zero_product c u (left (c *ℤ u) (d *
     second (inl z) = z
     second (inr z) = absurd (hv z)
 
--- a point on an edge's line and between its ends in x, above or below both in a direction, stands straight above or below both
+-- a point on an edge's line and between its ends in x, above or below both in a direction, lies straight above or below both
 stands_upright : (dx dy : ℤ) (e : Edge) (p : Point) → int_eq (side e.start e.end p) (pos 0) ≡ true → between e.start.x e.end.x p.X p.W ≡ true
     → ((pos 0 <ℤ beyond dx dy e.start p) × (pos 0 <ℤ beyond dx dy e.end p)) ⊎ ((beyond dx dy e.start p <ℤ pos 0) × (beyond dx dy e.end p <ℤ pos 0))
     → (p.X -ℤ e.start.x *ℤ p.W ≡ pos 0) × (p.X -ℤ e.end.x *ℤ p.W ≡ pos 0)
@@ -195,7 +195,7 @@ lower dx dy a p hx e h = no_less p.Y (a.y *ℤ p.W) (cancel_negative dx (p.Y -�
     no_less : (x y : ℤ) → (x -ℤ y) <ℤ pos 0 → int_le y x ≡ false
     no_less x y h = at_most_no y x (omega (arith, ints, h))
 
--- an edge holds no point above both its ends in a direction: on its line such a point would stand straight above both,
+-- an edge holds no point above both its ends in a direction: on its line such a point would be straight above both,
 -- past them in y
 pub on_off_beyond : (dx dy : ℤ) (e : Edge) (p : Point) → pos 0 <ℤ dx → pos 0 <ℤ beyond dx dy e.start p → pos 0 <ℤ beyond dx dy e.end p → on e p ≡ false
 on_off_beyond dx dy e p hx h k = off_in_y (int_eq (side e.start e.end p) (pos 0)) (between e.start.x e.end.x p.X p.W) (between e.start.y e.end.y p.Y p.W)

@@ -14,7 +14,7 @@ use Rattle.edge_boxes.specs.Cells.{IsFloor, IsCeiling}
 weak : (x : ℤ) → pos 0 <ℤ x → pos 0 ≤ℤ x
 weak x h = omega (arith, ints)
 
--- a floor is what its multiple and the next one tell
+-- a floor is what its multiple and the next one show
 by_multiples : (n w q : ℤ) → pos 0 <ℤ w → (q *ℤ w) ≤ℤ n → n <ℤ (q *ℤ w +ℤ w) → IsFloor n w q
 by_multiples n w q hw low high a = same_at_most (a *ℤ w) n a q (λ h. go h (at_most_or_less a q))
     (λ h. into (a *ℤ w) (q *ℤ w) ((q -ℤ a) *ℤ w) (solve (q ∷ a ∷ w ∷ []) ((var 0 ⊖ var 1) ⊗ var 2) (var 0 ⊗ var 2 ⊖ var 1 ⊗ var 2) tt) (plus_plus (q -ℤ a) w (gap a q h) (weak w hw)) low)

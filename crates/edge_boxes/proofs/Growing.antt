@@ -56,7 +56,7 @@ box_still boxes edges b c place h k = record {
     go (inl e) = inl e
     go (inr e) = inr (covered_still boxes b place h ∙ e)
 
--- a box that is found stands within the list
+-- a box that is found is within the list
 within_boxes : (boxes : List EdgeBox) (c : EdgeBox) (i : ℕ) → slice_get boxes i ≡ Some c → i ≤ length boxes
 within_boxes [] c i e = absurd (let n : None ≡ Some c = e in cc)
 within_boxes (x ∷ boxes) c zero e = omega arith

@@ -38,7 +38,7 @@ line_skip boxes edges e place b are h k is far =
       told = sym (none_on_line e box.run.own (far box.run.own box.run.sums));
     }
 
--- a leaf tells what its own edges do
+-- a leaf shows what its own edges do
 pub line_leaf : (boxes : List EdgeBox) (edges : List Edge) (e : Edge) (place : ℕ) (b : EdgeBox) (found : Bool) → AreBoxes boxes edges → 0 < place → place ≤ length boxes → b ≡ get_or boxes (place - 1) b → b.size ≡ 0
     → found ≡ list_any (meet_on_one_line e) (slice_range edges (covered boxes (place - 1)) b.end) → IsLineStep boxes edges e place (place - 1) found
 line_leaf boxes edges e place b found are h k is leaf of =
@@ -50,7 +50,7 @@ line_leaf boxes edges e place b found are h k is leaf of =
       told = of;
     }
 
--- a box that is entered tells nothing itself, since the boxes before it go over the same edges
+-- a box that is entered shows nothing itself, since the boxes before it go over the same edges
 pub line_inner : (boxes : List EdgeBox) (edges : List Edge) (e : Edge) (place : ℕ) (b : EdgeBox) → AreBoxes boxes edges → 0 < place → place ≤ length boxes → b ≡ get_or boxes (place - 1) b → (b.size ≡ 0 → ⊥)
     → IsLineStep boxes edges e place (place - 1) false
 line_inner boxes edges e place b are h k is inner =
@@ -71,23 +71,23 @@ one_from : (edges : List Edge) (n : ℕ) (e : Edge) → list_any (meet_on_one_li
 one_from edges n e h = ap (list_any (meet_on_one_line e)) (sym (take-append-drop n edges)) ∙ list_any-append (meet_on_one_line e) (take n edges) (drop n edges)
     ∙ or_true (list_any (meet_on_one_line e) (take n edges)) (list_any (meet_on_one_line e) (drop n edges)) h
 
--- from where a step leads to, there is such an edge where the step tells of one or there was one behind it
+-- from where a step leads to, there is such an edge where the step shows one or there was one behind it
 stepped : (boxes : List EdgeBox) (edges : List Edge) (e : Edge) (place next : ℕ) (found : Bool) (s : IsLineStep boxes edges e place next found)
     → list_any (meet_on_one_line e) (drop (covered boxes next) edges) ≡ (found || list_any (meet_on_one_line e) (drop (covered boxes place) edges))
 stepped boxes edges e place next found s = ap (list_any (meet_on_one_line e)) s.split ∙ list_any-append (meet_on_one_line e) s.own (drop (covered boxes place) edges)
     ∙ ap (λ (b : Bool). b || list_any (meet_on_one_line e) (drop (covered boxes place) edges)) (sym s.told)
 
--- where a step tells of such an edge, there is one among all edges
+-- where a step shows such an edge, there is one among all edges
 pub one_at_step : (boxes : List EdgeBox) (edges : List Edge) (e : Edge) (place next : ℕ) (found : Bool) → IsLineStep boxes edges e place next found → found ≡ true → list_any (meet_on_one_line e) edges ≡ true
 one_at_step boxes edges e place next found s h =
     one_from edges (covered boxes next) e (stepped boxes edges e place next found s ∙ ap (λ (b : Bool). b || list_any (meet_on_one_line e) (drop (covered boxes place) edges)) h)
 
--- where it tells of none and there was none behind it, there is none from where it leads to
+-- where it reports of none and there was none behind it, there is none from where it leads to
 pub none_at_step : (boxes : List EdgeBox) (edges : List Edge) (e : Edge) (place next : ℕ) (found : Bool) → IsLineStep boxes edges e place next found → found ≡ false
     → list_any (meet_on_one_line e) (drop (covered boxes place) edges) ≡ false → list_any (meet_on_one_line e) (drop (covered boxes next) edges) ≡ false
 none_at_step boxes edges e place next found s h k = stepped boxes edges e place next found s ∙ ap₂ (λ (a b : Bool). a || b) h k
 
--- the edges from a place to the end, cut out as a run, tell the same as the edges from there on
+-- the edges from a place to the end, cut out as a run, show the same as the edges from there on
 pub uncovered_is : (edges : List Edge) (n m : ℕ) (e : Edge) (run : List Edge) → n ≡ m → m ≤ length edges → run ≡ slice_range edges n (length edges) → list_any (meet_on_one_line e) run ≡ list_any (meet_on_one_line e) (drop m edges)
 uncovered_is edges n m e run same h is = ap (list_any (meet_on_one_line e)) (is ∙ ap (λ k. slice_range edges k (length edges)) same ∙ rest_is edges m h)
 

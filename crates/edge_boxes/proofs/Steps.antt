@@ -20,7 +20,7 @@ use Rattle.edge_boxes.proofs.Telling.{none_found}
 pub box_before : (boxes : List EdgeBox) (edges : List Edge) (place : ℕ) (b : EdgeBox) → AreBoxes boxes edges → 0 < place → place ≤ length boxes → b ≡ get_or boxes (place - 1) b → IsBoxAt edges boxes (place - 1) b
 box_before boxes edges place b are h k is = are (place - 1) b (found_before boxes place b h k is)
 
--- a box that tells
+-- a box that shows
 pub told_step : (boxes : List EdgeBox) (edges : List Edge) (p : Point) (place : ℕ) (b : EdgeBox) (cell : Cell) (c : Crossings) → AreBoxes boxes edges → 0 < place → place ≤ length boxes → b ≡ get_or boxes (place - 1) b
     → IsCellOf cell p → IsTold b.run cell c → IsStep boxes edges p place (place - 1 - b.size) c
 told_step boxes edges p place b cell c are h k is of tells =
@@ -72,7 +72,7 @@ inner_step boxes edges p place b c are h k is inner e =
       told = rw e (none_found [] p tt);
     }
 
--- what was found, with what a step tells
+-- what was found, with what a step shows
 pub step_joined : (boxes : List EdgeBox) (edges : List Edge) (p : Point) (place next : ℕ) (own found all : Crossings) → IsStep boxes edges p place next own
     → ((q : Point) (xs ys : List Edge) → AreCrossings own xs q → AreCrossings found ys q → AreCrossings all (xs ++ ys) q)
     → AreCrossings found (drop (covered boxes place) edges) p → AreCrossings all (drop (covered boxes next) edges) p
@@ -87,17 +87,17 @@ or_true false b e = e
 pub on_from : (edges : List Edge) (n : ℕ) (p : Point) → on_any (drop n edges) p ≡ true → on_any edges p ≡ true
 on_from edges n p e = ap (λ l. on_any l p) (sym (take-append-drop n edges)) ∙ list_any-append (λ s. on s p) (take n edges) (drop n edges) ∙ or_true (on_any (take n edges) p) (on_any (drop n edges) p) e
 
--- from where a step leads to, the point is on an edge where the step tells so or it was on one behind it
+-- from where a step leads to, the point is on an edge where the step shows so or it was on one behind it
 stepped : (boxes : List EdgeBox) (edges : List Edge) (p : Point) (place next : ℕ) (own : Crossings) (s : IsStep boxes edges p place next own)
     → on_any (drop (covered boxes next) edges) p ≡ (own.on || on_any (drop (covered boxes place) edges) p)
 stepped boxes edges p place next own s = ap (λ l. on_any l p) s.split ∙ list_any-append (λ f. on f p) s.own (drop (covered boxes place) edges)
     ∙ ap (λ (b : Bool). b || on_any (drop (covered boxes place) edges) p) (sym s.told.on)
 
--- where a step tells that the point is on an edge, it is on one of all edges
+-- where a step shows that the point is on an edge, it is on one of all edges
 pub on_at_step : (boxes : List EdgeBox) (edges : List Edge) (p : Point) (place next : ℕ) (own : Crossings) → IsStep boxes edges p place next own → own.on ≡ true → on_any edges p ≡ true
 on_at_step boxes edges p place next own s e = on_from edges (covered boxes next) p (stepped boxes edges p place next own s ∙ ap (λ (b : Bool). b || on_any (drop (covered boxes place) edges) p) e)
 
--- where it tells of none and the point was on none behind it, it is on none from where the step leads to
+-- where it reports of none and the point was on none behind it, it is on none from where the step leads to
 pub off_at_step : (boxes : List EdgeBox) (edges : List Edge) (p : Point) (place next : ℕ) (own : Crossings) → IsStep boxes edges p place next own → own.on ≡ false → on_any (drop (covered boxes place) edges) p ≡ false
     → on_any (drop (covered boxes next) edges) p ≡ false
 off_at_step boxes edges p place next own s e f = stepped boxes edges p place next own s ∙ ap₂ (λ (a b : Bool). a || b) e f

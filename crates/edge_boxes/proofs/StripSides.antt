@@ -1,4 +1,4 @@
--- What a strip tells of a point in a cell.
+-- What a strip shows of a point in a cell.
 use Rattle.std.proofs.Common.{ℤ, pos, ◌+ℤ◌, ◌-ℤ◌, ◌*ℤ◌, ◌≤ℤ◌, ◌<ℤ◌, int_lt, int_le, ◌≡◌, ◌⊎◌, inl, inr, Bool, true, false, Option, Some, None, IfSome, sym, ap₂, ◌∙◌, subst, List, [], ◌∷◌, arith}
 use borrow.Author.Differences.{ints}
 use Rattle.geometry_model.specs.Points.{Position, Point}
@@ -22,7 +22,7 @@ use Rattle.edge_boxes.proofs.Telling.{each_of, none_found, spanning_found}
 weak : (x : ℤ) → pos 0 <ℤ x → pos 0 ≤ℤ x
 weak x h = omega (arith, ints)
 
--- ---- a point stands within its cell
+-- ---- a point lies within its cell
 -- the point's coordinate isn't less than its floor
 over_floor : (n w f : ℤ) → IsFloor n w f → pos 0 ≤ℤ (n -ℤ f *ℤ w)
 over_floor n w f is = difference (f *ℤ w) n (at_most_from (f *ℤ w) n (is f ∙ at_most_yes f f (same f)))
@@ -44,7 +44,7 @@ under_ceiling n w f is = difference n (f *ℤ w) (at_most_from n (f *ℤ w) (is 
     difference x y h = omega (arith, ints, h)
 
 -- ---- above all of a strip: by the corner of the cell's lower side that rises least
--- how far a point lies above a position, told by its cell's lower right corner, which serves where the direction rises
+-- how far a point lies above a position, given by its cell's lower right corner, which serves where the direction rises
 by_lower_right : (dx dy x y : ℤ) (a : Position) (p : Point) → beyond dx dy a p ≡ dx *ℤ (p.Y -ℤ y *ℤ p.W) +ℤ dy *ℤ (x *ℤ p.W -ℤ p.X) +ℤ p.W *ℤ ((dx *ℤ y -ℤ dy *ℤ x) -ℤ (dx *ℤ a.y -ℤ dy *ℤ a.x))
 by_lower_right dx dy x y a p = solve (dx ∷ dy ∷ x ∷ y ∷ a.x ∷ a.y ∷ p.X ∷ p.Y ∷ p.W ∷ [])
     (var 0 ⊗ (var 7 ⊖ var 5 ⊗ var 8) ⊖ var 1 ⊗ (var 6 ⊖ var 4 ⊗ var 8))
@@ -89,7 +89,7 @@ above_all s cell p is right far a h = go (at_most_or_less (pos 0) s.direction.dy
         (strict_plus_plus p.W (rise s.direction cell.floor_x cell.floor_y -ℤ rise s.direction a.x a.y) is.positive (less_rise (rise s.direction a.x a.y) s.greatest (rise s.direction cell.floor_x cell.floor_y) h.greatest parts.0))
 
 -- ---- below all of a strip: by the corner of the cell's upper side that rises most
--- how far a point lies below a position, told by its cell's upper left corner, which serves where the direction rises
+-- how far a point lies below a position, given by its cell's upper left corner, which serves where the direction rises
 by_upper_left : (dx dy x y : ℤ) (a : Position) (p : Point) → pos 0 -ℤ beyond dx dy a p ≡ dx *ℤ (y *ℤ p.W -ℤ p.Y) +ℤ dy *ℤ (p.X -ℤ x *ℤ p.W) +ℤ p.W *ℤ ((dx *ℤ a.y -ℤ dy *ℤ a.x) -ℤ (dx *ℤ y -ℤ dy *ℤ x))
 by_upper_left dx dy x y a p = solve (dx ∷ dy ∷ x ∷ y ∷ a.x ∷ a.y ∷ p.X ∷ p.Y ∷ p.W ∷ [])
     (lit (pos 0) ⊖ (var 0 ⊗ (var 7 ⊖ var 5 ⊗ var 8) ⊖ var 1 ⊗ (var 6 ⊖ var 4 ⊗ var 8)))
@@ -124,8 +124,8 @@ below_all s cell p is right far a h = go (at_most_or_less (pos 0) s.direction.dy
         (plus_plus (pos 0 -ℤ s.direction.dy) (cell.ceiling_x *ℤ p.W -ℤ p.X) (turned s.direction.dy d) (under_ceiling p.X p.W cell.ceiling_x is.ceiling_x))
         (strict_plus_plus p.W (rise s.direction a.x a.y -ℤ rise s.direction cell.ceiling_x cell.ceiling_y) is.positive (more_rise (rise s.direction a.x a.y) s.least (rise s.direction cell.ceiling_x cell.ceiling_y) h.least parts.1))
 
--- ---- what a strip tells
--- a strip wholly below the cell tells that no edge holds the point and none is counted above it
+-- ---- what a strip shows
+-- a strip wholly below the cell shows that no edge holds the point and none is counted above it
 pub under_tells : (s : Strip) (cell : Cell) (p : Point) (es : List Edge) → IsCellOf cell p → IsStripOf s es → lies_under s cell ≡ true
     → AreCrossings (record { on = false; odd_above = false; odd_at_or_above = false }) es p
 under_tells s cell p es is of far = none_found es p (each_of (LiesInStrip s) (IsOff p) es off of.lies)
@@ -133,7 +133,7 @@ under_tells s cell p es is of far = none_found es p (each_of (LiesInStrip s) (Is
     off : (e : Edge) → LiesInStrip s e → IsOff p e
     off e l = off_beyond s.direction.dx s.direction.dy e p is.positive of.rightward (above_all s cell p is of.rightward far e.start l.start) (above_all s cell p is of.rightward far e.end l.end)
 
--- a strip wholly above the cell tells that the edges that span the point are those above it,
+-- a strip wholly above the cell shows that the edges that span the point are those above it,
 -- so the ends of a chain give the parity
 pub over_tells : (s : Strip) (ends : Ends) (cell : Cell) (p : Point) (es : List Edge) → IsCellOf cell p → IsStripOf s es → SumsUpEnds ends es → lies_over s cell ≡ true → ends.is_chain ≡ true
     → (b : Bool) → b ≡ xor (int_le ends.first_x cell.floor_x) (int_le ends.last_x cell.floor_x) → AreCrossings (record { on = false; odd_above = b; odd_at_or_above = b }) es p
@@ -143,7 +143,7 @@ over_tells s ends cell p es is of sums far chain b e = spanning_found es p ends.
     over : (f : Edge) → LiesInStrip s f → IsOver p f
     over f l = over_beyond s.direction.dx s.direction.dy f p is.positive of.rightward (below_all s cell p is of.rightward far f.start l.start) (below_all s cell p is of.rightward far f.end l.end)
 
--- what a run's strip tells, the run tells
+-- what a run's strip shows, the run shows
 pub told_by_run : (o : Option Crossings) (run : Run) (strip : Strip) (cell : Cell) → run.strip ≡ Some strip → IfSome o (IsToldByStrip strip run.ends cell) → IfSome o (IsTold run cell)
 told_by_run None run strip cell e h = tt
 told_by_run (Some c) run strip cell e h = λ p es is sums. h p es is (subst (λ (s : Option Strip). IfSome s (λ t. IsStripOf t es)) e sums.strip) sums.ends

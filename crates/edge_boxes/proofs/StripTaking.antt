@@ -16,7 +16,7 @@ abbrev pub stripped : EdgeBox → Option Strip → EdgeBox
 stripped b strip = record { run = record { bounds = b.run.bounds; ends = b.run.ends; strip = strip }; size = b.size; end = b.end }
 
 -- ---- the box at a place
--- the box that is read at a place within the list stands there
+-- the box that is read at a place within the list is there
 pub box_at : (boxes : List EdgeBox) (place : ℕ) (b : EdgeBox) → place < length boxes → b ≡ get_or boxes place b → slice_get boxes place ≡ Some b
 box_at boxes place b h is = slice_get_read boxes (length boxes) place b refl h is
 

@@ -1,4 +1,4 @@
--- What a run's bounds and ends tell of a point.
+-- What a run's bounds and ends show of a point.
 use Rattle.std.proofs.Common.{ℕ, ◌+◌, ◌<◌, length, take, get_or, ℤ, ◌*ℤ◌, ◌≤ℤ◌, ◌<ℤ◌, int_lt, int_le, ◌≡◌, ◌⊎◌, inl, inr, Bool, true, false, ◌||◌, refl, sym, ap₂, ◌∙◌, List, [], ◌∷◌, ◌++◌, arith}
 use borrow.Author.Differences.{ints}
 use Rattle.std.specs.List.{AllByRecursion}
@@ -39,7 +39,7 @@ past_floor n w f l a is far h = is a ∙ at_most_no a f (beyond (less_from f l f
     beyond k = omega (arith, ints)
 
 -- ---- edges that add nothing, edges that are over the point
--- edges that neither hold the point nor are counted above it tell nothing of it
+-- edges that neither hold the point nor are counted above it show nothing of it
 pub none_found : (es : List Edge) (p : Point) → Each (IsOff p) es → AreCrossings (record { on = false; odd_above = false; odd_at_or_above = false }) es p
 none_found es p h = record {
   on = sym (none_passes (λ e. on e p) es (each_map (IsOff p) (λ e. on e p ≡ false) es (λ e o. o.on) h));
@@ -47,7 +47,7 @@ none_found es p h = record {
   at_or_above = sym (odd_count (λ e. at_or_above e p) es ∙ parity_none (λ e. at_or_above e p) es (each_map (IsOff p) (λ e. at_or_above e p ≡ false) es (λ e o. o.at_or_above) h));
 }
 
--- of edges all over the point those counted above it are those that span it, so their parity is told by the first and the last x
+-- of edges all over the point those counted above it are those that span it, so their parity is decided by the first and the last x
 pub spanning_found : (es : List Edge) (p : Point) (first last : ℤ) (b : Bool) → Each (IsOver p) es → Telescopes es first last → b ≡ xor (int_le (first *ℤ p.W) p.X) (int_le (last *ℤ p.W) p.X)
     → AreCrossings (record { on = false; odd_above = b; odd_at_or_above = b }) es p
 spanning_found es p first last b h t e =
@@ -99,7 +99,7 @@ over_tells run cell p es is sums far chain b e = spanning_found es p run.ends.fi
     over f l = is_over f p is.positive (past_floor p.Y p.W cell.floor_y run.bounds.least_y f.start.y is.floor_y far l.start.low) (past_floor p.Y p.W cell.floor_y run.bounds.least_y f.end.y is.floor_y far l.end.low)
 
 -- ---- two lists, one behind the other
--- what two lists tell is joined: on an edge of one of them, and an odd number in all where exactly one number is odd
+-- what two lists show is joined: on an edge of one of them, and an odd number in all where exactly one number is odd
 pub crossings_joined : (c d r : Crossings) (xs ys : List Edge) (p : Point) → r.on ≡ (c.on || d.on) → r.odd_above ≡ xor c.odd_above d.odd_above → r.odd_at_or_above ≡ xor c.odd_at_or_above d.odd_at_or_above
     → AreCrossings c xs p → AreCrossings d ys p → AreCrossings r (xs ++ ys) p
 crossings_joined c d r xs ys p e f g h k = record {

@@ -83,6 +83,6 @@ sharing_is_near e others near f p is c hp ke kf = found (near_found (box_of e) o
     found : Contains near c.0 → IsNearAt near others f
     found d = record { index = d.0; within = d.1; place = c.0; stands = ap (λ j. get_or others j f) d.2 ∙ c.2 }
 
--- the place that is read stands there, whatever stands for one past the end
+-- the place that is read is there, whatever stands for one past the end
 pub place_stands : (near : List ℕ) (k n : ℕ) → k < length near → get_or near k n ≡ get_or near k (get_or near k n)
 place_stands near k n h = sym (get_or_default near k (get_or near k n) n h)

@@ -19,7 +19,7 @@ put-none {A = A} (Err e) text old before is = record {
   failures = subst (λ f. CountsPut {A = A} before before (Err f)) (sym is) refl;
 }
 
--- what a failure counts is the same, whatever would have been answered
+-- what a failure counts is the same, whatever would have been returned
 pub counts-as : (A B : Type 0) (e : PutFault) (before after : ℕ) → CountsPut {A = A} before after (Err e) → CountsPut {A = B} before after (Err e)
 counts-as A B put.Sink before after is = is
 counts-as A B put.Memory before after is = is

@@ -1,4 +1,4 @@
--- What the matrix of two geometries that stand as texts is.
+-- What the matrix of two geometries that are given as texts is.
 use Rattle.std.proofs.Common.{◌≡◌, ◌∙◌, ap, ℕ, List, Ok}
 use Rattle.geometry_model.specs.Dimensions.{IsMatrix, Matrix}
 use Rattle.geometry_model.specs.Geometries.{Geometry}

@@ -75,18 +75,18 @@ keeps-same (Some bytes) = refl
 pub memory-none : (A : Type 0) (outcome : Result (List ℕ) Refusal) (reached : ℕ → Type 0) (old : Option (List ℕ)) → Runs {A = A} (Err faults.Memory) outcome reached old old
 memory-none A outcome reached old = inl (keeps-same old)
 
--- a fault that isn't want of memory is another one
+-- a fault that isn't running out of memory is another one
 no-memory : (e : QueryFault) → wants_memory e ≡ false → e ≢ query.OutOfMemory
 no-memory e other same = let both : wants_memory query.OutOfMemory ≡ false = subst (λ x. wants_memory x ≡ false) same other in cc both
 
--- a fault of a step on the query, before anything was put: want of memory, or another
+-- a fault of a step on the query, before anything was put: running out of memory, or another
 refused-by : (A : Type 0) {X : Type 0} (memory : Bool) (e : QueryFault) (answer : Result X QueryFault) (next : X → Result (List ℕ) Refusal) (reached : ℕ → Type 0) (old : Option (List ℕ))
     → wants_memory e ≡ memory → (e ≢ query.OutOfMemory → answer ≡ Err e) → Runs {A = A} (Err (memory_or memory (faults.Query e))) (after OfQuery answer next) reached old old
 refused-by A true e answer next reached old is given = memory-none A (after OfQuery answer next) reached old
 refused-by A false e answer next reached old is given =
     (ap (λ r. after OfQuery r next) (given (no-memory e is)), keeps-same old)
 
--- the same, with the fault telling whether it is want of memory
+-- the same, with the fault telling whether it is running out of memory
 pub query-refused : (A : Type 0) {X : Type 0} (e : QueryFault) (answer : Result X QueryFault) (next : X → Result (List ℕ) Refusal) (reached : ℕ → Type 0) (old : Option (List ℕ))
     → (e ≢ query.OutOfMemory → answer ≡ Err e) → Runs {A = A} (Err (of_query e)) (after OfQuery answer next) reached old old
 query-refused A e answer next reached old given = refused-by A (wants_memory e) e answer next reached old refl given
@@ -103,12 +103,12 @@ pub at-fault : {A : Type 0} (r : Result A Fault) (f : Fault) (outcome : Result (
 at-fault (Ok a) f outcome reached old new is fact = absurd is
 at-fault {A = A} (Err e) f outcome reached old new is fact = subst (λ x. Runs {A = A} (Err x) outcome reached old new) (sym is) fact
 
--- a fault of a step that loads no table tells of none
+-- a fault of a step that loads no table names none
 pub of-tables : {A : Type 0} (count : ℕ) (r : Result A Fault) (f : Fault) → IsErrAnd r (λ x. x ≡ f) → IsOfTables count f → IfErr r (IsOfTables count)
 of-tables count (Ok a) f is fact = absurd is
 of-tables count (Err e) f is fact = subst (IsOfTables count) (sym is) fact
 
--- a fault of the query tells of no table
+-- a fault of the query names no table
 pub query-of-tables : (count : ℕ) (e : QueryFault) → IsOfTables count (of_query e)
 query-of-tables count e = go (wants_memory e)
   where
@@ -121,7 +121,7 @@ pub put-of-tables : (count : ℕ) (e : PutFault) → IsOfTables count (of_put e)
 put-of-tables count put.Sink = tt
 put-of-tables count put.Memory = tt
 
--- and a fault of loading tells of a table that is one of these
+-- and a fault of loading names a table that is one of these
 pub load-of-tables : (count : ℕ) (f : TableFault) → f.table < count → IsOfTables count (of_table f)
 load-of-tables count f within = go (load_wants_memory f.fault)
   where
@@ -174,7 +174,7 @@ chosen-text matrix database stated plan explains.No is =
 chosen-text matrix database stated plan explains.Plan is = ap (λ p. option_map_or (explain_text (by_conjuncts stated)) p []) is
 chosen-text matrix database stated plan explains.Analyze is = ap (λ p. option_map_or (counted_text serving matrix database.tables stated) p []) is
 
--- what a query is bound to is the query as it stands, by its conjuncts
+-- what a query is bound to is the query as it is written, by its conjuncts
 stated-after : {X : Type 0} (s : Checked Stated) (bound : Joined) (of : Stated → X) (planned : Joined → X) → (s >>= (λ stated. Ok (by_conjuncts stated))) ≡ Ok bound
     → ((stated : Stated) → by_conjuncts stated ≡ bound → of stated ≡ planned bound) → after OfQuery s (λ q. Ok (of q)) ≡ Ok (planned bound)
 stated-after (Ok stated) bound of planned is same =
@@ -227,12 +227,12 @@ unbound-runs {A = A} r e matrix written database old is given =
 
 -- ---- tables
 
--- a fault of loading that is neither want of memory nor failed reading is one that a definition gives
+-- a fault of loading that is neither running out of memory nor failed reading is one that a definition gives
 no-failure : (f : LoadFault) → load_wants_memory f ≡ false → is_of_reading f ≡ false → ¬ (IsFailure f)
 no-failure f other unread (inl same) = let both : is_of_reading load.ReadFailed ≡ false = subst (λ x. is_of_reading x ≡ false) same unread in cc both
 no-failure f other unread (inr same) = let both : load_wants_memory load.OutOfMemory ≡ false = subst (λ x. load_wants_memory x ≡ false) same other in cc both
 
--- a fault of loading a table, before anything was put: want of memory, failed reading, or another
+-- a fault of loading a table, before anything was put: running out of memory, failed reading, or another
 table-refused-by : (A : Type 0) {X : Type 0} (memory unread : Bool) (table : ℕ) (f : LoadFault) (answer : Result X TableFault) (next : X → Result (List ℕ) Refusal) (reached : ℕ → Type 0)
     (old : Option (List ℕ)) → load_wants_memory f ≡ memory → is_of_reading f ≡ unread → (¬ (IsFailure f) → answer ≡ Err (record { table = table; fault = f })) → reached table
     → Runs {A = A} (Err (memory_or memory (faults.Load table f))) (after OfTable answer next) reached old old

@@ -6,7 +6,7 @@ use Rattle.std.specs.Io.KnownBytes.{Appends}
 use Rattle.sinks.specs.Sinks.{AppendsFront}
 use Rattle.sinks.proofs.SinkLemmas.{Appends-then, AppendsFront-then}
 
--- the text of parts in which three numbers stand
+-- the text of parts in which three numbers are
 abbrev joined : (table words number code first between second : List ℕ) → List ℕ
 joined table words number code first between second = ((table ++ words) ++ number) ++ ((code ++ first) ++ (between ++ second))
 

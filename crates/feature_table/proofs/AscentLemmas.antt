@@ -1,4 +1,4 @@
--- Keys that ascend: none of them comes twice, and rows that stand in their order are the rows by key.
+-- Keys that ascend: none of them comes twice, and rows that are in their order are the rows by key.
 use Rattle.std.proofs.Common.{◌≡◌, ◌∙◌, ◌+◌, ◌<◌, ℕ, ℤ, pos, Bool, true, false, List, [], ◌∷◌, None, ap₂, arith, get_or, length, map, refl, subst, sym}
 use Rattle.std.specs.Prelude.{IsPermutation, int_lt}
 use Rattle.std.proofs.lemmas.Bool.Decides.{Decides-int_eq}
@@ -57,7 +57,7 @@ ascending_order key xs up =
     the_order key xs xs (ascending_alone key xs up) (IsPermutation-refl xs)
     (λ k d low high. below-first (key_of key (get_or xs k d)) (key_of key (get_or xs (k + 1) d)) (sym (up k d high)))
 
--- the keys beside which rows stand, in the order into which these were put
+-- the keys beside which rows are, in the order into which these were put
 pub keys_moved : {R K : Type 0} (number : K → ℤ) (make : R → K) (key : R → ℤ) (xs : List R) (ks : List K) → ((r : R) → number (make r) ≡ key r) → IsPermutation (map make xs) ks
     → IsPermutation (map key xs) (map number ks)
 keys_moved {R = R} number make key xs ks told moved =

@@ -1,4 +1,4 @@
--- A fault is a failure of reading or want of memory, or one that the definitions give.
+-- A fault is a failure of reading or running out of memory, or one that the definitions give.
 use Rattle.std.proofs.Common.{◌⊎◌, List, [], inl, inr, refl}
 use Rattle.feature_table.specs.Outcomes.{IsFailure}
 use Rattle.table_model.specs.declared.faults.LoadFault.{LoadFault}

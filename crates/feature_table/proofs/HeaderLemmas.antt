@@ -78,7 +78,7 @@ name_missing header name i past none =
     let count : count_by (same_name name) header ≡ 0 = rw (take_all i header past) at none in
     rw count refl
 
--- a name that is found again stands twice in the header
+-- a name that is found again is twice in the header
 name_twice : (header : Record) (name d : List ℕ) (i k : ℕ) → i < length header → IsFound (same_name name) header i (Some k)
     → same_name name (get_or header i d) ≡ true → name_fault header name ≡ Some fault.DoubleHeader
 name_twice header name d i k within found here =

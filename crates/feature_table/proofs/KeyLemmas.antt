@@ -13,7 +13,7 @@ or_cond : (a b : Bool) → cond a true b ≡ (a || b)
 or_cond true b = refl
 or_cond false b = refl
 
--- what a new key tells
+-- what a new key shows
 pub not_false : (b c : Bool) → c ≡ not b → c ≡ false → b ≡ true
 not_false true c is e = refl
 not_false false c is e = absurd (false≢true (sym e ∙ is))

@@ -15,7 +15,7 @@ use Rattle.table_model.specs.declared.faults.LoadFault.TheVariants as fault
 
 -- ---- records in turn
 
--- what stands at a place
+-- what is at a place
 pub at_place : {X : Type 0} (xs : List X) (i : ℕ) (x : X) (ys : List X) → drop i xs ≡ x ∷ ys → (i < length xs) × (get_or xs i x ≡ x) × (drop (i + 1) xs ≡ ys)
 at_place [] zero x ys h = cc h
 at_place [] (suc i) x ys h = cc h
@@ -31,7 +31,7 @@ past_end [] i h = omega arith
 past_end (z ∷ zs) zero h = cc h
 past_end (z ∷ zs) (suc i) h = let more = past_end zs i h in omega (arith, more)
 
--- what stands behind a front
+-- what comes after a front
 pub drop_front : {X : Type 0} (xs ys : List X) (n : ℕ) → length xs ≡ n → drop n (xs ++ ys) ≡ ys
 drop_front [] ys zero h = refl
 drop_front [] ys (suc n) h = absurd (omega (arith, h))
@@ -118,7 +118,7 @@ midway_end remaining old geometry table header records place rows m none = row_e
 
 -- ---- the records that were read, where no text is known
 
--- so many records were read, and they are rows, whatever stands behind them
+-- so many records were read, and they are rows, whatever comes after them
 pub record AreRead {T G : Type 0} (geometry : GeometryReader T G) (table : TableDef T) (header : Record) (place : ℕ) (rows : List (Row G)) : Type 0 where
   pub records : List Record
   pub count : length records ≡ place

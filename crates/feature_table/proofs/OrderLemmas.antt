@@ -58,7 +58,7 @@ abbrev IsIn : {X : Type 0} → List X → X → Type 0
 IsIn [] r = ⊥
 IsIn (x ∷ xs) r = (x ≡ r) ⊎ IsIn xs r
 
--- an element that stands at a place is in the list
+-- an element that is at a place is in the list
 in-at : {X : Type 0} (xs : List X) (k : ℕ) (r : X) → k < length xs → get_or xs k r ≡ r → IsIn xs r
 in-at [] k r within e = absurd (omega arith)
 in-at (x ∷ xs) zero r within e = inl e
@@ -256,7 +256,7 @@ the_order {G = G} key xs ys none moved up =
     (λ r i. let c = Contains-permutation xs ys r moved (at-in xs r (in-by_key key xs r i)) in in-at ys c.0 r c.1 c.2)
     (λ r i. let c = Contains-permutation ys xs r (IsPermutation-sym xs ys moved) (at-in ys r i) in by_key-in key xs r (in-at xs c.0 r c.1 c.2))
 
--- where a row stands beside its key
+-- where a row is beside its key
 abbrev Tells : {G K : Type 0} → (K → ℤ) → (K → Row G) → ℕ → K → Type 0
 Tells number row key k = number k ≡ key_of key (row k)
 
@@ -265,7 +265,7 @@ rows-of-made : {G K : Type 0} (row : K → Row G) (make : Row G → K) → ((r :
 rows-of-made row make back [] = refl
 rows-of-made row make back (x ∷ xs) = rw (back x, rows-of-made row make back xs) refl
 
--- rows that stand beside their keys, sorted by those, are sorted by key
+-- rows that are beside their keys, sorted by those, are sorted by key
 sorted-rows : {G K : Type 0} (number : K → ℤ) (row : K → Row G) (make : Row G → K) (key : ℕ) (ks : List K) → All (Tells number row key) ks → IsSortedByKey number int_cmp ks
     → IsSortedByKey (key_of key) int_cmp (map row ks)
 sorted-rows {G = G} number row make key ks tells up k d low high =

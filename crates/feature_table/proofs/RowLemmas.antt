@@ -16,7 +16,7 @@ pub length-values : {T G : Type 0} (geometry : GeometryReader T G) (table : Tabl
     → length (values_of geometry table header number fields) ≡ length table.columns
 length-values geometry table header number fields = simp (length-map, length-enumerate_from)
 
--- the value in the column at a place, whose field stands at this place of the record
+-- the value in the column at a place, whose field is at this place of the record
 pub value_at : {T G : Type 0} (geometry : GeometryReader T G) (table : TableDef T) (header : Record) (number : ℕ) (fields : Record)
     (places : List ℕ) (i : ℕ) (column : ColumnDef T) (d : Result (Value G) LoadFault) → i < length table.columns
     → places ≡ map (λ c. place_in header c.name) table.columns → column ≡ get_or table.columns i column

@@ -25,7 +25,7 @@ made_as_it_is f h = λ i. record { numerator = f.numerator; denominator = at_lea
 pub fraction_order_is : (f g : Fraction) → IsFraction f → IsFraction g → fraction_order f g ≡ compare_fractions f g
 fraction_order_is f g hf hg = ap₂ compare_fractions (made_as_it_is f hf) (made_as_it_is g hg)
 
--- fractions with one denominator stand as their numerators do
+-- fractions with one denominator are ordered as their numerators are
 pub one_denominator : (f g : Fraction) → IsFraction f → f.denominator ≡ g.denominator → int_cmp f.numerator g.numerator ≡ compare_fractions f g
 one_denominator f g h e = sym (cmp_two_scaled f.denominator f.numerator g.numerator h) ∙ ap₂ int_cmp (turned f.denominator f.numerator ∙ ap (λ z. f.numerator *ℤ z) e) (turned f.denominator g.numerator)
   where
@@ -44,7 +44,7 @@ then_is_both Greater y = refl
 pub point_ties_are : (p q : Point) → IsPoint p → IsPoint q → eq_by_cmp point_order p q ≡ same_point p q
 point_ties_are p q hp hq = ap is_eq (point_order_is p q hp hq) ∙ then_is_both (compare_x p q) (compare_y p q)
 
--- of kept points the triples tell whether they are one point
+-- of kept points the triples show whether they are one point
 pub triples_tell : (t : Bool) (p q : Point) → IsKeptPoint p → IsKeptPoint q → IsTrue t ↔ (p ≡ q) → t ≡ same_point p q
 triples_tell t p q hp hq tells = both_ways t (same_point p q) (λ e. itself (tells.0 e)) (λ e. tells.1 (least_is_unique p q hp.range.positive hq.range.positive hp.least hq.least e))
   where

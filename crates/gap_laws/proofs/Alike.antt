@@ -1,4 +1,4 @@
--- All points strictly between the ends of a gap stand alike, and an end that no edge holds stands so too.
+-- All points strictly between the ends of a gap lie alike, and an end that no edge holds lies so too.
 use Rattle.std.proofs.Common.{ℕ, zero, suc, ◌+◌, ◌<◌, ℤ, pos, ◌+ℤ◌, ◌-ℤ◌, ◌*ℤ◌, ◌<ℤ◌, ◌≡◌, ◌⊎◌, inl, inr, Bool, true, false, refl, sym, ap, ◌∙◌, List, [], ◌∷◌, All, arith}
 use borrow.Author.Differences.{ints}
 use Rattle.std.specs.List.{list_any}
@@ -29,7 +29,7 @@ use Rattle.gap_laws.proofs.Shared.{clash, span_of_gap, clear_or_shared, point_sh
 use Rattle.gap_laws.proofs.Mostly.{own_edges_are_mostly, sides_off_edges}
 
 -- ---- along a stretch that misses all edges
--- a stretch that misses all edges crosses none of them, so both its ends mostly stand alike
+-- a stretch that misses all edges crosses none of them, so both its ends mostly lie alike
 stays : (g : Geometry) → HasClosedRings g → (x y : Point) → IsPoint x → IsPoint y → Each (λ f. on f x ≡ false) (edges g) → Each (λ f. on f y ≡ false) (edges g) → Each (Misses x y) (edges g) → mostly g x ≡ mostly g y
 stays g c x y hx hy h k m = sym ((sides_off_edges g x hx (all_from_each (λ f. on f x ≡ false) (edges g) h)).1)
     ∙ above_kept g x y hx hy (each_from_all IsClosed (rings g) c) m
@@ -97,7 +97,7 @@ back x m n y h = less_of_lex (weighted m x (suc n) y) x (carry _ _ _ _ (linear x
     linear : (a w b v : ℤ) → a *ℤ (pos m *ℤ w +ℤ pos (suc n) *ℤ v) -ℤ (pos m *ℤ a +ℤ pos (suc n) *ℤ b) *ℤ w ≡ pos (suc n) *ℤ (a *ℤ v -ℤ b *ℤ w)
     linear a w b v = solve (a ∷ w ∷ b ∷ v ∷ pos m ∷ pos (suc n) ∷ []) (var 0 ⊗ (var 4 ⊗ var 1 ⊕ var 5 ⊗ var 3) ⊖ (var 4 ⊗ var 0 ⊕ var 5 ⊗ var 2) ⊗ var 1) (var 5 ⊗ (var 0 ⊗ var 3 ⊖ var 2 ⊗ var 1)) tt
 
--- where a point stands to the ends of the gap
+-- where a point lies to the ends of the gap
 pub data Stands (e : Edge) (p q x : Point) : Type 0 where
   AtLesser : same_point p x ≡ true → Stands e p q x
   AtGreater : same_point x q ≡ true → Stands e p q x

@@ -111,7 +111,7 @@ least_mediant_between e p q s = go (mediant_is_between e p q s)
     go i = between_respects e p q (mediant p q) (least_form (mediant p q)) (least_is_point (mediant p q) i.is_point) (least_is_same (mediant p q)) i
 
 -- ---- a point between is no end of the edge
--- points of the edge stand before it and after it, and none stands before an edge's lesser end or after its greater
+-- points of the edge come before it and after it, and none comes before an edge's lesser end or after its greater
 pub no_end_between : (e : Edge) (p q x : Point) → Span e p q → IsBetween e p q x → (stands_at x e.start ≡ false) × (stands_at x e.end ≡ false)
 no_end_between e p q x s i = (by_contraries (stands_at x e.start) false (λ k. absurd (at_start k)) refl, by_contraries (stands_at x e.end) false (λ k. absurd (at_end k)) refl)
   where

@@ -13,7 +13,7 @@ gap_has_mediant = shared.gap_has_mediant
 pub gap_has_no_cut : GapHasNoCut
 gap_has_no_cut = shared.gap_has_no_cut
 
--- its points mostly stand alike
+-- its points mostly lie alike
 pub gap_is_alike : GapIsAlike
 gap_is_alike = alike.gap_is_alike
 
@@ -21,11 +21,11 @@ gap_is_alike = alike.gap_is_alike
 pub gap_end_is_alike : GapEndIsAlike
 gap_end_is_alike = alike.gap_end_is_alike
 
--- only odd ends and listed positions don't stand where almost all points do
+-- only odd ends and listed positions don't lie where almost all points do
 pub mostly_is_located : MostlyIsLocated
 mostly_is_located = placing.mostly_is_located
 
--- a point that is no cut stands there
+-- a point that is no cut is there
 pub no_cut_is_mostly : NoCutIsMostly
 no_cut_is_mostly = placing.no_cut_is_mostly
 

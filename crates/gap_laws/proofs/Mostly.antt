@@ -1,4 +1,4 @@
--- Where a point mostly stands: on own edges, off all edges, and where it is no cut.
+-- Where a point mostly lies: on own edges, off all edges, and where it is no cut.
 use Rattle.std.proofs.Common.{◌≡◌, ◌≢◌, ◌⊎◌, inl, inr, Bool, true, false, if◌then◌else◌, refl, sym, ap, ◌∙◌, List, [], ◌∷◌, ◌++◌, All, Contains, flat_map, option_to_list}
 use Rattle.geometry_model.specs.Points.{Position, Point, IsPoint}
 use Rattle.geometry_model.specs.Geometries.{Edge, Geometry, kind, edges, edges_of_lines, lines, listed, joined_rings}
@@ -40,8 +40,8 @@ own_edges_are_mostly (Geometry.MultiLineString ls) e c x h = in_lines_of (on_som
 own_edges_are_mostly (Geometry.Polygon rs) e c x h = in_rings_of (on_some rs x) (odd_above rs x) (some_edge e rs x c h)
 own_edges_are_mostly (Geometry.MultiPolygon es) e c x h = in_rings_of (on_some (joined_rings es) x) (odd_above (joined_rings es) x) (some_edge e (joined_rings es) x c h)
 
--- ---- where a point stands that isn't listed and no odd end
--- a point at which no listed position stands is exterior to points
+-- ---- where a point lies that isn't listed and no odd end
+-- a point at which no listed position lies is exterior to points
 unlisted : (ps : List Position) (x : Point) → All (λ a. stands_at x a ≡ false) ps → in_points ps x ≡ Exterior
 unlisted ps x h = ap (λ (t : Bool). if t then Interior else Exterior) (none_passes (stands_at x) ps (each_from_all (λ a. stands_at x a ≡ false) ps h))
 
@@ -57,7 +57,7 @@ mostly_is_located (Geometry.MultiLineString ls) x hx f h = in_lines_unless (is_o
 mostly_is_located (Geometry.Polygon rs) x hx f h = refl
 mostly_is_located (Geometry.MultiPolygon es) x hx f h = refl
 
--- ---- where a point stands that is no cut
+-- ---- where a point lies that is no cut
 -- no cut of some edges and positions, a geometry's among them
 no_odd_end : (es : List Edge) (ps : List Position) (x : Point) → IsPoint x → (IsCut es ps x → ⊥) → (ls : List (List Position)) → ((e : Edge) → Among e (edges_of_lines ls) → Among e es) → is_odd_end ls x ≡ false
 no_odd_end es ps x hx f ls b = odd_count (stands_at x) (flat_map ends ls) ∙ all_ends_even ls x (each_of (λ e. (stands_at x e.start ≡ false) × (stands_at x e.end ≡ false)) (edges_of_lines ls) (λ e m. (
@@ -69,7 +69,7 @@ no_odd_end es ps x hx f ls b = odd_count (stands_at x) (flat_map ends ls) ∙ al
 no_listed : (es : List Edge) (ps : List Position) (x : Point) → IsPoint x → (IsCut es ps x → ⊥) → (qs : List Position) → ((a : Position) → Among a qs → Among a ps) → All (λ a. stands_at x a ≡ false) qs
 no_listed es ps x hx f qs b = all_from_each (λ a. stands_at x a ≡ false) qs (each_of (λ a. stands_at x a ≡ false) qs (λ a m. by_contraries (stands_at x a) false (λ k. absurd (f (Listed hx a (contains_of_among a ps (b a m)) k))) refl))
 
--- so it stands where almost all points do
+-- so it lies where almost all points do
 no_cut_stands : (es : List Edge) (ps : List Position) (x : Point) → IsPoint x → (IsCut es ps x → ⊥) → (g : Geometry) → ((e : Edge) → Among e (edges g) → Among e es) → ((a : Position) → Among a (listed g) → Among a ps) → locate g x ≡ mostly g x
 no_cut_stands es ps x hx f g b p = mostly_is_located g x hx (λ k. no_odd_end es ps x hx f (lines g) b) (no_listed es ps x hx f (listed g) p)
 

@@ -38,7 +38,7 @@ ring_edge (Geometry.MultiLineString ls) k e c = absurd (let z : kinds.Line ≡ k
 ring_edge (Geometry.Polygon rs) k e c = among_from_contains (edges_of_lines rs) e c
 ring_edge (Geometry.MultiPolygon es) k e c = among_from_contains (edges_of_lines (joined_rings es)) e c
 
--- at which place of which ring it stands
+-- at which place of which ring it lies
 record RingPlace (a : Geometry) (e : Edge) : Type 0 where
   i : ℕ
   ring : List Position
@@ -46,7 +46,7 @@ record RingPlace (a : Geometry) (e : Edge) : Type 0 where
   j : ℕ
   edge_at : slice_get (edges_of_line ring) j ≡ Some e
 
--- each edge of the rings stands at some place of some ring
+-- each edge of the rings is at some place of some ring
 ring_place : (a : Geometry) (e : Edge) → Among e (edges_of_lines (rings a)) → RingPlace a e
 ring_place a e m = go (ring_of e (rings a) m)
   where
@@ -130,7 +130,7 @@ steps a v e r p q x y s i j = each_ring (Step x y) (rings a) (λ k t tk m d dm. 
 odd_along : (a : Geometry) → IsValid a → (e : Edge) → RingPlace a e → (p q x y : Point) → Span e p q → IsBetween e p q x → IsBetween e p q y → odd_above (rings a) x ≡ odd_above (rings a) y
 odd_along a v e r p q x y s i j = parity_by_steps (rings a) x y (each_from_all IsClosed (rings a) (valid_rings_are_closed a v)) (steps a v e r p q x y s i j)
 
--- of two parities of which exactly one is odd, one tells the other
+-- of two parities of which exactly one is odd, one shows the other
 other_parity : (s t u w : Bool) → xor s t ≡ true → xor u w ≡ true → s ≡ u → t ≡ w
 other_parity true false true false e f g = refl
 other_parity false true false true e f g = refl
@@ -167,7 +167,7 @@ area_or_not (Geometry.MultiLineString ls) = inr (λ k. let z : kinds.Line ≡ ki
 area_or_not (Geometry.Polygon rs) = inl refl
 area_or_not (Geometry.MultiPolygon es) = inl refl
 
--- so each side stands alike all along, whatever the kind
+-- so each side lies alike all along, whatever the kind
 pub sides_along_own_edge : (a : Geometry) → IsValid a → (e : Edge) → Contains (edges a) e → e.start.x ≢ e.end.x → (p q x y : Point) → IsPoint p → IsPoint q → on e p ≡ true → on e q ≡ true → IsBetween e p q x → IsBetween e p q y
     → (below a x ≡ below a y) × (above a x ≡ above a y)
 sides_along_own_edge a v e c u p q x y hp hq l m i j = go (area_or_not a)

@@ -155,7 +155,7 @@ right_sum c p q t = solve (c.X ∷ c.W ∷ p.X ∷ p.W ∷ q.X ∷ q.W ∷ pos t
 up_sum : (c p q : Point) (t : ℕ) → up c (weighted 1 p t q) ≡ pos 1 *ℤ up c p +ℤ pos t *ℤ up c q
 up_sum c p q t = solve (c.Y ∷ c.W ∷ p.Y ∷ p.W ∷ q.Y ∷ q.W ∷ pos t ∷ []) ((lit (pos 1) ⊗ var 2 ⊕ var 6 ⊗ var 4) ⊗ var 1 ⊖ var 0 ⊗ (lit (pos 1) ⊗ var 3 ⊕ var 6 ⊗ var 5)) (lit (pos 1) ⊗ (var 2 ⊗ var 1 ⊖ var 0 ⊗ var 3) ⊕ var 6 ⊗ (var 4 ⊗ var 1 ⊖ var 0 ⊗ var 5)) tt
 
--- of the sums of two points that differ at most one stands at a given point, so one stands at none of finitely many
+-- of the sums of two points that differ at most one is at a given point, so one is at none of finitely many
 pub avoid_points : (cs : List Point) (p q : Point) → IsPoint p → IsPoint q → same_point p q ≡ false → Each IsPoint cs → OffPoints cs p q
 avoid_points cs p q hp hq f h = go (each_eventually (λ c t. same_point c (weighted 1 p t q) ≡ false) cs (each_map IsPoint (λ c. Eventually (λ t. same_point c (weighted 1 p t q) ≡ false)) cs (λ c k. one c k) h))
   where

@@ -61,7 +61,7 @@ straight : (p z x : Point) → IsPoint x → p.X *ℤ x.W ≡ x.X *ℤ p.W → z
 straight p z x hx e f = cancel_zero x.W (right p z) hx (solve (p.X ∷ p.W ∷ z.X ∷ z.W ∷ x.W ∷ []) (var 4 ⊗ (var 2 ⊗ var 1 ⊖ var 0 ⊗ var 3)) ((var 2 ⊗ var 4) ⊗ var 1 ⊖ (var 0 ⊗ var 4) ⊗ var 3) tt
     ∙ ap₂ (λ (s t : ℤ). s *ℤ p.W -ℤ t *ℤ z.W) f e ∙ solve (x.X ∷ p.W ∷ z.W ∷ []) ((var 0 ⊗ var 2) ⊗ var 1 ⊖ (var 0 ⊗ var 1) ⊗ var 2) (lit (pos 0)) tt)
 
--- above a point there is no edge, or a first one, below which nothing stands
+-- above a point there is no edge, or a first one, below which nothing lies
 pub first_is_above : (es : List Edge) (x : Point) → IsPoint x → All (λ e. strictly_above e x ≡ false) es ⊎ FirstAbove es x
 first_is_above es x hx = go (first es x hx)
   where
@@ -95,7 +95,7 @@ slant_marks a b s hs h k = each_append (IsSlant s) (edges_of_both a b) (dots (li
     (each_append (IsSlant s) (edges a) (edges b) (each_from_all (IsSlant s) (edges a) h.edges) (each_from_all (IsSlant s) (edges b) k.edges))
     (slant_dots (listed a ++ listed b) s hs (each_append (λ q. stands_at s q ≡ false) (listed a) (listed b) (each_from_all (λ q. stands_at s q ≡ false) (listed a) h.positions) (each_from_all (λ q. stands_at s q ≡ false) (listed b) k.positions)))
 
--- just below and just above a point that no upright edge goes through, all points of some triangle stand alike
+-- just below and just above a point that no upright edge goes through, all points of some triangle lie alike
 pub sides_have_triangles : (a b : Geometry) → HasClosedRings a → HasClosedRings b → (s : Point) → IsPoint s → IsSlantAt a s → IsSlantAt b s
     → HasTriangle (common a (below a s) b (below b s)) × HasTriangle (common a (above a s) b (above b s))
 sides_have_triangles a b ca cb s hs h k = (
@@ -103,10 +103,10 @@ sides_have_triangles a b ca cb s hs h k = (
   upper_triangle a b (each_from_all IsClosed (rings a) ca) (each_from_all IsClosed (rings b) cb) s hs (slant_marks a b s hs h k),
 )
 
--- straight below and above the point, as near as asked for, points stand as its sides say
+-- straight below and above the point, as near as asked for, points lie as its sides say
 pub sides_are_near : (g : Geometry) (s : Point) → IsPoint s → IsSlantAt g s → (k : ℕ) → NearSides g s k
 sides_are_near g s hs h k = near_sides g s hs (slant_marks g g s hs h h) k
 
--- near enough a point, what stands straight below and above it stands as its sides do
+-- near enough a point, what lies straight below and above it lies as its sides do
 pub near_points_stand_so : (g : Geometry) (s : Point) → IsPoint s → IsSlantAt g s → AllNearStand g s
 near_points_stand_so g s hs h = all_near_stand g s hs (slant_marks g g s hs h h)

@@ -29,7 +29,7 @@ use Rattle.geometry_laws.proofs.Locating.{start_is_on, end_is_on, by_contraries}
 use Rattle.geometry_laws.proofs.Triangles.{dot, dot_stands}
 use Rattle.geometry_laws.proofs.LineOrder.{after_sum, before_sum, sum_between, on_sum, weighted_is_sum, area_on_line}
 
--- ---- an element of a list stands at a place of it
+-- ---- an element of a list is at a place of it
 pub contains_of_among : {X : Type 0} (x : X) (xs : List X) → Among x xs → Contains xs x
 contains_of_among x [] a = absurd a
 contains_of_among x (y ∷ ys) (inl e) = (0, omega arith, sym e)

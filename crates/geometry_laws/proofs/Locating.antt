@@ -71,11 +71,11 @@ start_off e p hp h = by_contraries (stands_at p e.start) (on e p) (start_is_on e
 end_off : (e : Edge) (p : Point) → IsPoint p → on e p ≡ false → stands_at p e.end ≡ false
 end_off e p hp h = by_contraries (stands_at p e.end) (on e p) (end_is_on e p hp) h
 
--- ---- off the edges of a line no odd number of ends stands at the point
+-- ---- off the edges of a line no odd number of ends is at the point
 abbrev pub OffEdges : List Edge → Point → Type 0
 OffEdges es p = Each (λ e. on e p ≡ false) es
 
--- no end of an edge stands at the point
+-- no end of an edge is at the point
 abbrev pub NoEnd : List Edge → Point → Type 0
 NoEnd es p = Each (λ e. (stands_at p e.start ≡ false) × (stands_at p e.end ≡ false)) es
 
@@ -101,7 +101,7 @@ all_ends_even (l ∷ ls) p h = parity_append (stands_at p) (ends l) (flat_map en
     (ends_even l p (each_left (λ e. (stands_at p e.start ≡ false) × (stands_at p e.end ≡ false)) (edges_of_line l) (edges_of_lines ls) h))
     (all_ends_even ls p (each_right (λ e. (stands_at p e.start ≡ false) × (stands_at p e.end ≡ false)) (edges_of_line l) (edges_of_lines ls) h))
 
--- ---- where it stands
+-- ---- where it lies
 pub record Off (g : Geometry) (p : Point) : Type 0 where
   pub edges_off : OffEdges (edges g) p
   pub listed_off : Each (λ a. stands_at p a ≡ false) (listed g)
@@ -120,7 +120,7 @@ lines_off ls p hp h = ap₂ (λ (s t : Bool). if s then Boundary else if t then 
 rings_off : (rs : List (List Position)) (p : Point) → OffEdges (edges_of_lines rs) p → in_rings rs p ≡ (if odd_above rs p then Interior else Exterior)
 rings_off rs p h = ap (λ (s : Bool). if s then Boundary else if odd_above rs p then Interior else Exterior) (none_passes (λ e. on e p) (edges_of_lines rs) h)
 
--- off the edges and the listed positions only the parity of the rings above tells interior from exterior
+-- off the edges and the listed positions only the parity of the rings above separates interior from exterior
 pub locate_off : (g : Geometry) (p : Point) → IsPoint p → Off g p → locate g p ≡ above g p
 locate_off (Geometry.Point o) p hp h = points_off (option_to_list o) p h.listed_off
 locate_off (Geometry.MultiPoint ps) p hp h = points_off ps p h.listed_off

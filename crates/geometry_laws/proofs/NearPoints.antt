@@ -1,4 +1,4 @@
--- All points straight below a point, near enough, stand as below says, and all straight above it as above says.
+-- All points straight below a point, near enough, lie as below says, and all straight above it as above says.
 use Rattle.std.proofs.Common.{ℕ, ◌+◌, ◌<◌, ℤ, pos, negsuc, ◌+ℤ◌, ◌-ℤ◌, ◌*ℤ◌, ◌≤ℤ◌, ◌<ℤ◌, int_lt, int_le, ◌≡◌, ◌⊎◌, inl, inr, Bool, true, false, ◌&&◌, refl, sym, ap, ap₂, subst, ◌∙◌, List, [], ◌∷◌, arith}
 use borrow.Author.Differences.{ints}
 use Rattle.geometry_model.specs.Points.{Point, IsPoint, same_point}
@@ -199,7 +199,7 @@ not_up e = omega (arith, ints)
 some_natural : (z : ℤ) (n : ℕ) → z ≡ pos n → pos 0 <ℤ z → 0 < n
 some_natural z n e h = omega (arith, ints)
 
--- near enough, a point straight below or above is off all edges, so it stands by the parity above it,
+-- near enough, a point straight below or above is off all edges, so it lies by the parity above it,
 -- and that is the parity of the point's own lower or upper side
 pub all_near_stand : (g : Geometry) (s : Point) → IsPoint s → Each (IsSlant s) (marks g g) → AllNearStand g s
 all_near_stand g s hs h = go (kept_near down strictly_above at_or_above g s not_down hs h (λ k. sinks_at k s hs)) (kept_near (pos 1) strictly_above strictly_above g s not_up hs h (λ k. rises_at k s hs))

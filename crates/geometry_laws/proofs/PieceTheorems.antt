@@ -24,7 +24,7 @@ first_belongs a b = record { edge = λ e m. among_left e (edges a) (edges b) m; 
 pub second_belongs : (a b : Geometry) → Belongs (edges_of_both a b) (listed a ++ listed b) b
 second_belongs a b = record { edge = λ e m. among_right e (edges a) (edges b) m; position = λ p m. among_right p (listed a) (listed b) m }
 
--- no cut lies strictly within a piece of two geometries, so all its points stand alike in both
+-- no cut lies strictly within a piece of two geometries, so all its points lie alike in both
 pub labels_constant : (a b : Geometry) → HasClosedRings a → HasClosedRings b → (c : Piece) (h : IsPieceOf a b c) → (x y : Point) → IsInside a b c h x → IsInside a b c h y → (locate a x ≡ locate a y) × (locate b x ≡ locate b y)
 labels_constant a b ca cb c h x y i j = let d : Ends c = piece_ends (edges_of_both a b) (listed a ++ listed b) c h in (
   locate_within (edges_of_both a b) (listed a ++ listed b) c h d x y i j a (each_from_all IsClosed (rings a) ca) (first_belongs a b),
@@ -60,7 +60,7 @@ off_marks a b p hp h k = each_append (λ e. on e p ≡ false) (edges_of_both a b
 off_from : (g : Geometry) (p : Point) → IsOff g p → Off g p
 off_from g p o = record { edges_off = each_from_all (λ e. on e p ≡ false) (edges g) o.edges; listed_off = each_from_all (λ a. stands_at p a ≡ false) (listed g) o.positions }
 
--- so around it there is a triangle of points that stand in both geometries where it does
+-- so around it there is a triangle of points that lie in both geometries where it does
 pub off_has_triangle : (a b : Geometry) → HasClosedRings a → HasClosedRings b → (p : Point) → IsPoint p → IsOff a p → IsOff b p → HasTriangle (common a (locate a p) b (locate b p))
 off_has_triangle a b ca cb p hp h k = triangle_of_off a b p (locate a p) (locate b p) (each_from_all IsClosed (rings a) ca) (each_from_all IsClosed (rings b) cb) hp
     (off_marks a b p hp (off_from a p h) (off_from b p k)) (sym (locate_off a p hp (off_from a p h))) (sym (locate_off b p hp (off_from b p k)))

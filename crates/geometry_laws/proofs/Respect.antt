@@ -27,7 +27,7 @@ moved s k w = solve (s ∷ k ∷ w ∷ []) (var 0 ⊗ (var 1 ⊗ var 2)) (var 1 
 moved_left : (k x w : ℤ) → (k *ℤ x) *ℤ w ≡ k *ℤ (x *ℤ w)
 moved_left k x w = solve (k ∷ x ∷ w ∷ []) ((var 0 ⊗ var 1) ⊗ var 2) (var 0 ⊗ (var 1 ⊗ var 2)) tt
 
--- k times a triple, k above 0, is answered as the triple: both numbers of each comparison are multiplied by k; here the order
+-- k times a triple, k above 0, is returned as the triple: both numbers of each comparison are multiplied by k; here the order
 compare_scaled : (r : Point) (k : ℤ) (p : Point) → pos 0 <ℤ k → compare (scaled k p) r ≡ compare p r
 compare_scaled r k p h = ap₂ ordering_then
     (ap₂ int_cmp (moved_left k p.X r.W) (moved r.X k p.W) ∙ cmp_two_scaled k (p.X *ℤ r.W) (r.X *ℤ p.W) h)
@@ -120,8 +120,8 @@ odd_above_respects rs p q hp hq h = ap (λ (f : Edge → Bool). odd (count_by f 
 pub odd_at_or_above_respects : (rs : List (List Position)) → Respects (odd_at_or_above rs)
 odd_at_or_above_respects rs p q hp hq h = ap (λ (f : Edge → Bool). odd (count_by f (edges_of_lines rs))) (fun_ext (λ e. at_or_above_respects e p q hp hq h))
 
--- ---- where a point stands
--- whether it stands at a position
+-- ---- where a point lies
+-- whether it is at a position
 stands_at_respects : (a : Position) → Respects (λ p. stands_at p a)
 stands_at_respects a = by_scaling (λ p. stands_at p a) (λ k p h. same_point_scaled (point_at a) k p h)
 
@@ -132,11 +132,11 @@ stands_respects p q hp hq h = fun_ext (λ a. stands_at_respects a p q hp hq h)
 pub on_some_respects : (ls : List (List Position)) → Respects (on_some ls)
 on_some_respects ls p q hp hq h = ap (λ (f : Edge → Bool). list_any f (edges_of_lines ls)) (fun_ext (λ e. on_respects e p q hp hq h))
 
--- so where it stands in point types
+-- so where it lies in point types
 pub in_points_respects : (ps : List Position) → Respects (in_points ps)
 in_points_respects ps p q hp hq h = ap (λ (f : Position → Bool). if list_any f ps then Interior else Exterior) (stands_respects p q hp hq h)
 
--- in lines, by the ends that stand there and the edges that go through it
+-- in lines, by the ends that are there and the edges that go through it
 pub in_lines_respects : (ls : List (List Position)) → Respects (in_lines ls)
 in_lines_respects ls p q hp hq h = ap₂ (λ (f : Position → Bool) (t : Bool). if odd (count_by f (flat_map ends ls)) then Boundary else if t then Interior else Exterior) (stands_respects p q hp hq h) (on_some_respects ls p q hp hq h)
 
@@ -144,7 +144,7 @@ in_lines_respects ls p q hp hq h = ap₂ (λ (f : Position → Bool) (t : Bool).
 pub in_rings_respects : (rs : List (List Position)) → Respects (in_rings rs)
 in_rings_respects rs p q hp hq h = ap₂ (λ (s t : Bool). if s then Boundary else if t then Interior else Exterior) (on_some_respects rs p q hp hq h) (odd_above_respects rs p q hp hq h)
 
--- so where a point stands in a geometry doesn't depend on its triple
+-- so where a point lies in a geometry doesn't depend on its triple
 pub locate_respects : (g : Geometry) → Respects (locate g)
 locate_respects (Geometry.Point o) = in_points_respects (option_to_list o)
 locate_respects (Geometry.MultiPoint ps) = in_points_respects ps

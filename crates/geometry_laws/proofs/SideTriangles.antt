@@ -1,4 +1,4 @@
--- Just below and just above a point that no upright edge goes through there are triangles of points that stand as the sides say.
+-- Just below and just above a point that no upright edge goes through there are triangles of points that lie as the sides say.
 use Rattle.std.proofs.Common.{ℕ, ◌+◌, ◌<◌, ◌≤◌, ℤ, pos, ◌+ℤ◌, ◌-ℤ◌, ◌*ℤ◌, ◌≤ℤ◌, ◌<ℤ◌, ◌≡◌, Bool, false, if◌then◌else◌, refl, sym, ap, ◌∙◌, List, [], ◌∷◌, arith}
 use borrow.Author.Differences.{ints}
 use Rattle.geometry_model.specs.Points.{Point, IsPoint}
@@ -69,7 +69,7 @@ moved_soon least d f g ms es s hd hs h k = go
 some : (m n : ℕ) → m < n → 0 < n
 some m n h = omega arith
 
--- a little below the point is a point off all edges that stands as below says, and a triangle about that
+-- a little below the point is a point off all edges that lies as below says, and a triangle about that
 pub lower_triangle : (a b : Geometry) → Each IsClosed (rings a) → Each IsClosed (rings b) → (s : Point) → IsPoint s → Each (IsSlant s) (marks a b) → HasTriangle (common a (below a s) b (below b s))
 lower_triangle a b ca cb s hs h = go (moved_soon 0 down strictly_above at_or_above (marks a b) (edges_of_both a b) s not_zero_down hs h (λ e. sinks e s hs))
   where
@@ -155,7 +155,7 @@ just_above k n s hs h = record {
     close : (a b c d : ℤ) → a ≡ b → c ≡ d → b <ℤ d → a <ℤ c
     close a b c d e f h = omega (arith, ints)
 
--- so on either side some moved point is near enough, off all edges, and stands as the side says
+-- so on either side some moved point is near enough, off all edges, and lies as the side says
 pub near_sides : (g : Geometry) (s : Point) → IsPoint s → Each (IsSlant s) (marks g g) → (k : ℕ) → NearSides g s k
 near_sides g s hs h k = go (moved_soon k down strictly_above at_or_above (marks g g) (edges g) s not_zero_down hs h (λ e. sinks e s hs)) (moved_soon k (pos 1) strictly_above strictly_above (marks g g) (edges g) s not_zero_one hs h (λ e. rises e s hs))
   where

@@ -1,4 +1,4 @@
--- Around a point off two geometries there is a triangle of points that stand where it does.
+-- Around a point off two geometries there is a triangle of points that lie where it does.
 use Rattle.std.proofs.Common.{ℕ, ◌+◌, ◌<◌, ℤ, pos, ◌+ℤ◌, ◌-ℤ◌, ◌*ℤ◌, ◌<ℤ◌, ◌≡◌, Bool, true, false, if◌then◌else◌, refl, sym, ap, ap₂, ◌∙◌, List, [], ◌∷◌, ◌++◌, map, arith}
 use borrow.Author.Differences.{ints}
 use Rattle.geometry_model.specs.Points.{Position, Point, IsPoint, point_at}
@@ -84,7 +84,7 @@ above_kept (Geometry.Polygon rs) p z hp hz c h = ap (λ (t : Bool). if t then In
 above_kept (Geometry.MultiPolygon es) p z hp hz c h = ap (λ (t : Bool). if t then Interior else Exterior) (parity_by_missing (joined_rings es) p z hp hz c h)
 
 -- ---- the triangle
--- a small triangle at the point misses all marks, so its points stand by the parity above them,
+-- a small triangle at the point misses all marks, so its points lie by the parity above them,
 -- which no stretch from the point changes
 pub triangle_of_off : (a b : Geometry) (p : Point) (l k : Location) → Each IsClosed (rings a) → Each IsClosed (rings b) → IsPoint p → OffAll (marks a b) p → above a p ≡ l → above b p ≡ k → HasTriangle (common a l b k)
 triangle_of_off a b p l k ca cb hp h e f = go (box p (marks a b) hp h)

@@ -30,8 +30,8 @@ use Rattle.geometry_laws.proofs.Triangles.{dot_coordinate}
 use Rattle.geometry_laws.proofs.LineOrder.{up, Lex, lex_of_less, lex_weak, IsSum, on_sum, x_across, y_across, w_across, drop_area}
 use Rattle.geometry_laws.proofs.Cuts.{Ends, contains_of_among, OneLine, one_line, off_within, rightward_on_line, step_within, same_on, Apart, apart, start_is_cut, end_is_cut, inside_on_line, hull_of_start, hull_of_end, or_first, or_last}
 
--- ---- what stands at a point within
--- a listed position is a cut, so none stands at a point strictly within a piece
+-- ---- what is at a point within
+-- a listed position is a cut, so none is at a point strictly within a piece
 pub no_position_within : (es : List Edge) (ps : List Position) (c : Piece) (h : IsPiece es ps c) (x : Point) → Inside es ps c h x → (a : Position) → Among a ps → stands_at x a ≡ false
 no_position_within es ps c h x i a m = by_contraries (stands_at x a) false (λ k. absurd (h.neighbours x i.is_point i.is_on (Listed i.is_point a (contains_of_among a ps m) k) i.after i.before)) refl
 
@@ -47,7 +47,7 @@ pub record Belongs (es : List Edge) (ps : List Position) (g : Geometry) : Type 0
   pub edge : (e : Edge) → Among e (edges g) → Among e es
   pub position : (a : Position) → Among a (listed g) → Among a ps
 
--- ---- where two points within stand
+-- ---- where two points within lie
 -- so a point within a piece is exterior to point types
 points_within : (es : List Edge) (ps : List Position) (c : Piece) (h : IsPiece es ps c) (x : Point) → Inside es ps c h x → (qs : List Position) → ((a : Position) → Among a qs → Among a ps) → in_points qs x ≡ Exterior
 points_within es ps c h x i qs f = ap (λ (t : Bool). if t then Interior else Exterior) (none_passes (stands_at x) qs (each_of (λ a. stands_at x a ≡ false) qs (λ a m. no_position_within es ps c h x i a (f a m))))
@@ -60,7 +60,7 @@ on_some_within es ps c h d x y i j ls f = same_any (λ e. on e x) (λ e. on e y)
 ends_within : (es : List Edge) (ps : List Position) (c : Piece) (h : IsPiece es ps c) (x : Point) → Inside es ps c h x → (ls : List (List Position)) → ((e : Edge) → Among e (edges_of_lines ls) → Among e es) → odd (count_by (stands_at x) (flat_map ends ls)) ≡ false
 ends_within es ps c h x i ls f = odd_count (stands_at x) (flat_map ends ls) ∙ all_ends_even ls x (each_of (λ e. (stands_at x e.start ≡ false) × (stands_at x e.end ≡ false)) (edges_of_lines ls) (λ e m. no_end_within es ps c h x i e (f e m)))
 
--- so both points stand alike in lines
+-- so both points lie alike in lines
 lines_within : (es : List Edge) (ps : List Position) (c : Piece) (h : IsPiece es ps c) → Ends c → (x y : Point) → Inside es ps c h x → Inside es ps c h y → (ls : List (List Position)) → ((e : Edge) → Among e (edges_of_lines ls) → Among e es) → in_lines ls x ≡ in_lines ls y
 lines_within es ps c h d x y i j ls f = ap₂ (λ (s t : Bool). if s then Boundary else if t then Interior else Exterior) (ends_within es ps c h x i ls f ∙ sym (ends_within es ps c h y j ls f)) (on_some_within es ps c h d x y i j ls f)
 
@@ -68,7 +68,7 @@ lines_within es ps c h d x y i j ls f = ap₂ (λ (s t : Bool). if s then Bounda
 pub odd_within : (es : List Edge) (ps : List Position) (c : Piece) (h : IsPiece es ps c) → Ends c → (x y : Point) → Inside es ps c h x → Inside es ps c h y → (rs : List (List Position)) → Each IsClosed rs → ((e : Edge) → Among e (edges_of_lines rs) → Among e es) → odd_above rs x ≡ odd_above rs y
 odd_within es ps c h d x y i j rs k f = parity_by_steps rs x y k (each_of (Step x y) (edges_of_lines rs) (λ e m. step_within es ps c h d e x y (f e m) i j))
 
--- so two points within a piece stand alike in a geometry of closed rings whose edges and positions are among those cut
+-- so two points within a piece lie alike in a geometry of closed rings whose edges and positions are among those cut
 pub locate_within : (es : List Edge) (ps : List Position) (c : Piece) (h : IsPiece es ps c) → Ends c → (x y : Point) → Inside es ps c h x → Inside es ps c h y → (g : Geometry) → Each IsClosed (rings g) → Belongs es ps g → locate g x ≡ locate g y
 locate_within es ps c h d x y i j (Geometry.Point o) k b = points_within es ps c h x i (option_to_list o) b.position ∙ sym (points_within es ps c h y j (option_to_list o) b.position)
 locate_within es ps c h d x y i j (Geometry.MultiPoint qs) k b = points_within es ps c h x i qs b.position ∙ sym (points_within es ps c h y j qs b.position)

@@ -1,4 +1,4 @@
--- The function that answers the part of a point, and the three parts as facts.
+-- The function that returns the part of a point, and the three parts as facts.
 use Rattle.std.proofs.Common.{◌≡◌, ◌↔◌, Bool, true, false, List, [], ◌∷◌, refl, sym, if◌then◌else◌}
 use Rattle.std.proofs.lemmas.List.Folds.{Any-from_list_any, list_any-from_Any}
 use Rattle.std.specs.Prelude.{option_to_list}
@@ -109,6 +109,6 @@ locates_boundary (Geometry.MultiPolygon es) p = rings_boundary (joined_rings es)
 pub locates_exterior : (g : Geometry) (p : Point) → (locate g p ≡ Exterior) ↔ IsExterior g p
 locates_exterior g p = exterior_of (locate g p) (IsInterior g p) (IsBoundary g p) (locates_interior g p) (locates_boundary g p)
 
--- each point is in exactly one of the three parts, the one that is answered
+-- each point is in exactly one of the three parts, the one that is returned
 pub parts_plane : (g : Geometry) (p : Point) → (l : Location) × part g l p × ((k : Location) → part g k p → k ≡ l)
 parts_plane g p = (locate g p, refl, λ k e. sym e)

@@ -85,7 +85,7 @@ string_other : (end : Option ℕ) → (string_to end).0 ≡ k.Word → ⊥
 string_other None = λ e. cc
 string_other (Some n) = λ e. cc
 
--- what stands at the front of a text is no word, or it is ASCII
+-- what is at the front of a text is no word, or it is ASCII
 abbrev IfWord : List ℕ → Option TokenKind → ℕ → Type 0
 IfWord z None len = Unit {0}
 IfWord z (Some kind) len = kind ≡ k.Word → is_ascii (take len z) ≡ true

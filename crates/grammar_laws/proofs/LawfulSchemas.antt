@@ -164,7 +164,7 @@ pub record AreColumns {T : Type 0} (found : List (ColumnDef T)) (key : Option �
   pub differ : names_differ (column_names found) ≡ true
   pub keyed : IsKey found key
 
--- what stands at a place stands there with more behind it
+-- what is at a place is there with more behind it
 may_be_key-append : {T : Type 0} (found more : List (ColumnDef T)) (place : ℕ) → may_be_key (slice_get found place) ≡ true → may_be_key (slice_get (found ++ more) place) ≡ true
 may_be_key-append [] more place h = absurd (false≢true h)
 may_be_key-append (c ∷ found) more zero h = h

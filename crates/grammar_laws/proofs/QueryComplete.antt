@@ -1,4 +1,4 @@
--- What stands in the grammar of a query is read, as that tree.
+-- What is in the grammar of a query is read, as that tree.
 use Rattle.std.proofs.Common.{◌≡◌, ◌⊎◌, ℕ, zero, suc, ◌<◌, Bool, true, false, ◌&&◌, ℤ, List, [], ◌∷◌, ◌++◌, length, map, Option, Some, None, Ok, inl, inr, refl, sym, ap, subst, ◌∙◌, append_assoc, length-append, codes, arith}
 use Rattle.std.specs.Char.{to_ascii_lowercase}
 use Rattle.std.specs.Str.{bytes_eq}
@@ -64,7 +64,7 @@ one_only P [] p = absurd p
 one_only P (n ∷ []) p = (n, refl, p)
 one_only P (n ∷ v ∷ more) p = absurd p
 
--- with others behind them, tokens in two parts are the first part, the token that begins the second, and what stands behind it
+-- with others behind them, tokens in two parts are the first part, the token that begins the second, and what comes after it
 pub split : (used a b d tail : List Token) (m : Token) → used ≡ a ++ b → b ≡ m ∷ d → used ++ tail ≡ a ++ m ∷ (d ++ tail)
 split used a b d tail m e f = ap (λ l. l ++ tail) e ∙ append_assoc a b tail ∙ ap (λ l. a ++ (l ++ tail)) f
 
@@ -75,11 +75,11 @@ kind_after known used tail (t, more, e, f) = rw e f
 
 -- ---- names and columns
 
--- what may stand behind a name: no `(`, with which the word would be a function
+-- what may follow a name: no `(`, with which the word would be a function
 abbrev pub EndsName : TokenKind → Type 0
 EndsName kind = same_kind kind k.LeftParenthesis ≡ false
 
--- what may stand behind a column: no `(`, and no point, with which the name would be that of a table reference
+-- what may follow a column: no `(`, and no point, with which the name would be that of a table reference
 abbrev pub EndsColumn : TokenKind → Type 0
 EndsColumn kind = (same_kind kind k.LeftParenthesis ≡ false) × (same_kind kind k.Point ≡ false)
 
@@ -161,17 +161,17 @@ abbrev pub IsFirst : {A : Type 0} → Functions A → List Token → Reader A �
 IsFirst [] ts rest = ⊥
 IsFirst (f ∷ more) ts rest = ((calls f.0 ts ≡ true) × (f.1 ≡ rest)) ⊎ ((calls f.0 ts ≡ false) × IsFirst more ts rest)
 
--- where a function is called next and none before it in the list is, its reader reads what stands behind the name
+-- where a function is called next and none before it in the list is, its reader reads what comes after the name
 first_called : {A : Type 0} (functions : Functions A) (other : Reader A) (ts : List Token) (rest : Reader A) → IsFirst functions ts rest → called_or functions other ts ≡ rest (next ts)
 first_called [] other ts rest first = absurd first
 first_called (f ∷ more) other ts rest (inl (here, e)) = rw (here, e) refl
 first_called (f ∷ more) other ts rest (inr (none, first)) = rw none (first_called more other ts rest first)
 
--- what stands in a call may be told otherwise
+-- what is in a call may be said otherwise
 call_but : (function : List ℕ) (P Q : Phrase) (used : List Token) → ((ts : List Token) → P ts → Q ts) → IsCall function P used → IsCall function Q used
 call_but function P Q used f (a, b, e, word, (a1, b1, e1, left, (a2, b2, e2, p, right))) = (a, b, e, word, (a1, b1, e1, left, (a2, b2, e2, f a2 p, right)))
 
--- the tokens of a call: a name, two parentheses and what stands between
+-- the tokens of a call: a name, two parentheses and what is between
 abbrev pub CallParts : List ℕ → Phrase → List Token → Type 0
 CallParts function P used = (m n r : Token) × (a : List Token) × (m.kind ≡ k.Word) × (same_name m.text function ≡ true) × (n.kind ≡ k.LeftParenthesis) × P a
     × (r.kind ≡ k.RightParenthesis) × ((tail : List Token) → used ++ tail ≡ m ∷ n ∷ (a ++ r ∷ tail))
@@ -210,7 +210,7 @@ call_miss word function P used tail call d = go (call_parts word P used call)
     go : CallParts word P used → calls function (used ++ tail) ≡ false
     go (m, n, r, a, named, same, left, p, right, cut) = ap (calls function) (cut tail) ∙ miss m n (a ++ r ∷ tail) word function named left same d
 
--- what stands behind the last argument of a function: the parenthesis that closes it
+-- what comes after the last argument of a function: the parenthesis that closes it
 abbrev pub EndsArgument : TokenKind → Type 0
 EndsArgument kind = kind ≡ k.RightParenthesis
 
@@ -220,7 +220,7 @@ enclosed_read : {A : Type 0} (inside : Reader A) (x : A) (n r : Token) (a tail :
 unfolding expect sees kind next
 enclosed_read inside x n r a tail left right e = rw (is_kind n.kind k.LeftParenthesis left, e, is_kind r.kind k.RightParenthesis right) refl
 
--- behind a function's name, what stands in the parentheses is read where its reader reads it before `)`
+-- behind a function's name, what is in the parentheses is read where its reader reads it before `)`
 call_read : {A : Type 0} (function : List ℕ) (inside : Reader A) (P : A → Phrase) → Complete inside P EndsArgument
     → (x : A) (used tail : List Token) → IsCall function (P x) used → enclosed inside (next (used ++ tail)) ≡ Ok (x, tail)
 unfolding next
@@ -249,7 +249,7 @@ point_left : (u : Token) → u.kind ≡ k.Point → same_kind u.kind k.LeftParen
 unfolding same_kind
 point_left u e = rw e refl
 
--- a column calls no function: behind its first name stands a point or what may stand behind a column, so no `(`
+-- a column calls no function: behind its first name is a point or what may follow a column, so no `(`
 column_uncalled : (x : WrittenColumn) (used : List Token) (t : Token) (rest : List Token) → IsColumn x used → EndsColumn t.kind → (function : List ℕ) → calls function (used ++ t ∷ rest) ≡ false
 column_uncalled x used t rest p f function = uncalled function (used ++ t ∷ rest) (alone p)
   where
@@ -286,7 +286,7 @@ digits_complete A negative n [] tail p = absurd p
 digits_complete A negative n (u ∷ []) tail (digits, is) = rw (is_kind u.kind k.Integer digits, is) refl
 digits_complete A negative n (u ∷ v ∷ more) tail p = absurd p
 
--- The kind of the next token alone tells how an operand is read; for each kind that one begins with. A word: a function or a column
+-- The kind of the next token alone says how an operand is read; for each kind that one begins with. A word: a function or a column
 operand_of_word : (functions : Bool) (ts : List Token) → kind ts ≡ k.Word
     → operand functions ts ≡ called_or (operand_functions functions (place ts)) (λ l. and_then (column l) (λ x rest. Ok (o.Column x, rest))) ts
 unfolding operand sees same_kind
@@ -373,16 +373,16 @@ null_operand functions (u ∷ v ∷ more) tail p = absurd p
 made_whole : {A B : Type 0} (f : B → A) (reader : Reader B) (P : B → Phrase) → Complete reader P EndsArgument → Complete (λ l. and_then (reader l) (λ y rest. Ok (f y, rest))) (IsMade f P) EndsArgument
 made_whole f reader P whole x used t rest (y, e, p) right = ap (λ r. and_then r (λ y rest. Ok (f y, rest))) (whole y used t rest p right) ∙ ap (λ z. Ok (z, t ∷ rest)) (sym e)
 
--- a reader that goes up to what may stand behind a column goes up to `)`, which is such a token
+-- a reader that goes up to what may follow a column goes up to `)`, which is such a token
 ends_argument : {A : Type 0} (reader : Reader A) (P : A → Phrase) → Complete reader P EndsColumn → Complete reader P EndsArgument
 unfolding same_kind
 ends_argument reader P whole x used t rest p right = whole x used t rest p (ends_by EndsColumn t.kind k.RightParenthesis right (refl, refl))
 
--- a call stands at the place of its name, whatever follows
+-- a call is at the place of its name, whatever follows
 call_begins : (function : List ℕ) (P : Phrase) (used tail : List Token) → IsCall function P used → place (used ++ tail) ≡ place used
 call_begins function P used tail p = place_is used tail (word_begins function _ used p)
 
--- a call of a function of one argument, which stands in a tree at the place of the call
+-- a call of a function of one argument, which is in a tree at the place of the call
 made_called : {A B : Type 0} (functions : ℕ → Functions A) (other : Reader A) (function : List ℕ) (f : ℕ → B → A) (reader : Reader B) (P : B → Phrase) (y : B) (used tail : List Token)
     → Complete reader P EndsArgument → IsCall function (P y) used
     → ((at : ℕ) (ts : List Token) → ts ≡ used ++ tail → IsFirst (functions at) ts (enclosed (λ l. and_then (reader l) (λ y rest. Ok (f at y, rest)))))
@@ -427,7 +427,7 @@ operand_complete functions x used t rest (inr (inr (inr (inr p)))) f = function_
 
 -- ---- comparisons
 
--- the sign of a comparison is a token that may stand behind a column, and isn't IS
+-- the sign of a comparison is a token that may follow a column, and isn't IS
 pub compares_ends : (kind : TokenKind) (comparison : Comparison) → comparison_of kind ≡ Some comparison → EndsColumn kind × (same_kind kind k.Is ≡ false)
 unfolding same_kind
 compares_ends k.LeftParenthesis comparison e = absurd (cc)
@@ -460,7 +460,7 @@ not_null_complete functions operand a m v n t rest p is isnt null =
 
 -- ---- predicates
 
--- what may stand behind a predicate: what may behind a column, and no '=', with which it would be tested
+-- what may follow a predicate: what may behind a column, and no '=', with which it would be tested
 abbrev pub EndsPredicate : TokenKind → Type 0
 EndsPredicate kind = EndsColumn kind × (same_kind kind k.Equal ≡ false)
 
@@ -493,7 +493,7 @@ other_call word P a tail d p = rw (
   call_miss word (codes "ST_IsEmpty") P a tail p d.9,
 ) refl
 
--- before an operand stands no predicate that is a function
+-- before an operand is no predicate that is a function
 pub no_predicate : (functions : Bool) (x : ServedOperand functions) (a : List Token) (m : Token) (tail : List Token) → IsOperand functions x a → EndsColumn m.kind
     → predicate functions (a ++ m ∷ tail) ≡ comparison functions (a ++ m ∷ tail)
 unfolding predicate same_kind same_name
@@ -549,12 +549,12 @@ test_complete bool x used t rest (inr (inr (e, p))) f =
     ap (λ l. truth_test bool (l ++ t ∷ rest)) (equal.2 ∙ ap (λ l. equal.0 ∷ l) number.1) ∙ test_of_value bool equal.0 (number.0 ∷ t ∷ rest) equal.3
     ∙ value_zero bool number.0 (t ∷ rest) number.2.0 number.2.1 ∙ ap (λ z. Ok (z, t ∷ rest)) (sym e)
 
--- `)` may stand behind a column
+-- `)` may follow a column
 ends_column : (kind : TokenKind) → kind ≡ k.RightParenthesis → EndsColumn kind
 unfolding same_kind
 ends_column kind e = ends_by EndsColumn kind k.RightParenthesis e (refl, refl)
 
--- a comma may stand behind a column
+-- a comma may follow a column
 comma_ends : (kind : TokenKind) → kind ≡ k.Comma → EndsColumn kind
 unfolding same_kind
 comma_ends kind e = ends_by EndsColumn kind k.Comma e (refl, refl)
@@ -624,7 +624,7 @@ called_complete function inside P bool bool2 x a b t rest whole call same test f
     ∙ ap (λ y. truth_test y (b ++ t ∷ rest)) same
     ∙ test_complete bool x b t rest test f
 
--- which predicate's name stands next
+-- which predicate's name comes next
 first_of_names : (at : ℕ) (predicate : Predicate) (word : List ℕ) (P : Phrase) (a tail : List Token) → function_of predicate ≡ Some word → IsCall word P a
     → IsFirst (predicates_at at) (a ++ tail) (truth_tested (relates at predicate))
 unfolding same_name
@@ -678,7 +678,7 @@ first_of_names at p.Overlaps word P a tail e call =
     inr (m _ refl, inr (m _ refl, inr (m _ refl, inr (m _ refl, inr (m _ refl, inr (m _ refl, inr (m _ refl, inl (hit, refl))))))))
 first_of_names at (p.Relate pattern) word P a tail e call = absurd (cc)
 
--- a call of ST_Relate calls it, and none of the named predicates that stand before it in the list
+-- a call of ST_Relate calls it, and none of the named predicates that come before it in the list
 first_relate : (at : ℕ) (P : Phrase) (a tail : List Token) → IsCall (codes "ST_Relate") P a → IsFirst (predicates_at at) (a ++ tail) (truth_tested (relates_by at))
 unfolding same_name
 first_relate at P a tail call =
@@ -686,7 +686,7 @@ first_relate at P a tail call =
     let hit : calls (codes "ST_Relate") (a ++ tail) ≡ true = call_hit (codes "ST_Relate") P a tail call in
     inr (m _ refl, inr (m _ refl, inr (m _ refl, inr (m _ refl, inr (m _ refl, inr (m _ refl, inr (m _ refl, inr (m _ refl, inl (hit, refl)))))))))
 
--- a call of ST_IsEmpty calls it, and none of the functions that stand before it in the list
+-- a call of ST_IsEmpty calls it, and none of the functions that come before it in the list
 first_empty : (at : ℕ) (P : Phrase) (a tail : List Token) → IsCall (codes "ST_IsEmpty") P a → IsFirst (predicates_at at) (a ++ tail) (truth_tested (empties at))
 unfolding same_name
 first_empty at P a tail call =
@@ -694,7 +694,7 @@ first_empty at P a tail call =
     let hit : calls (codes "ST_IsEmpty") (a ++ tail) ≡ true = call_hit (codes "ST_IsEmpty") P a tail call in
     inr (m _ refl, inr (m _ refl, inr (m _ refl, inr (m _ refl, inr (m _ refl, inr (m _ refl, inr (m _ refl, inr (m _ refl, inr (m _ refl, inl (hit, refl))))))))))
 
--- each function that is a predicate is read with its test: its name chooses its reader, and its tree stands at the place of the name
+-- each function that is a predicate is read with its test: its name chooses its reader, and its tree is at the place of the name
 bool_complete : (bool x : ServedCond true) (a b : List Token) (t : Token) (rest : List Token) → IsBool true bool a → IsTest bool x b → EndsPredicate t.kind
     → predicate true (a ++ (b ++ t ∷ rest)) ≡ Ok (x, t ∷ rest)
 bool_complete bool x a b t rest (inl (predicate, function, y, z, names, ex, call)) test f =
@@ -730,7 +730,7 @@ predicate_begins functions x ts (inr (inl (operand, e, p))) = seq_begins BeginsO
 predicate_begins functions x ts (inr (inr (inl (operand, e, p)))) = seq_begins BeginsOperand (IsOperand functions operand) _ (operand_begins functions operand) ts p
 predicate_begins functions x ts (inr (inr (inr (bool, p)))) = seq_begins BeginsOperand (IsBool functions bool) _ (bool_begins functions bool) ts p
 
--- IS may stand behind a column
+-- IS may follow a column
 pub is_ends : (kind : TokenKind) → kind ≡ k.Is → EndsColumn kind
 unfolding same_kind
 is_ends kind e = ends_by EndsColumn kind k.Is e (refl, refl)
@@ -775,7 +775,7 @@ predicate_complete true x used t rest (inr (inr (inr (bool, (a, b, e, p, q))))) 
 
 -- ---- conditions
 
--- where the token between parts stands behind a part, the next part is read
+-- where the token between parts comes after a part, the next part is read
 pub part_then : {A : Type 0} (between : TokenKind) (part : Reader A) (n : ℕ) (found : List A) (x : A) (ts : List Token) (m : Token) (rest : List Token)
     → part ts ≡ Ok (x, m ∷ rest) → m.kind ≡ between
     → parts_from fault.Syntax between part (suc n) found ts ≡ parts_from fault.Syntax between part n (found ++ x ∷ []) rest
@@ -819,7 +819,7 @@ turns_suffice {A} between P (y ∷ more) x used t rest (a, b, e, p, q) = go (λ 
     go others (m, d, g, is, h) =
         omega (arith, others d h, ap length (split used a b d (t ∷ rest) m e g), length-append a (m ∷ (d ++ t ∷ rest)))
 
--- a chain is read: the token behind its first part tells a part alone from several, and what may follow it isn't that token
+-- a chain is read: the token behind its first part separates a part alone from several, and what may follow it isn't that token
 pub chain_complete : {A : Type 0} (between : TokenKind) (join : List (WrittenCond A) → WrittenCond A) (part : Reader (WrittenCond A)) (P : WrittenCond A → Phrase) (F : TokenKind → Type 0)
     → F between → Complete part P F → Complete (chain between join part) (IsChain between join P) (λ kind. F kind × (same_kind kind between ≡ false))
 unfolding after sees kind next
@@ -836,11 +836,11 @@ chain_complete {A} between join part P F mid whole x used t rest (inr (first, se
           parts_complete between part P F mid whole more second (length (d ++ t ∷ rest)) (first ∷ []) d t rest h f.0 f.1 (turns_suffice between P more second d t rest h),
         ) refl
 
--- what may stand behind parts with AND between them: what may behind a predicate, and no AND
+-- what may follow parts with AND between them: what may behind a predicate, and no AND
 abbrev pub EndsConjunction : TokenKind → Type 0
 EndsConjunction kind = EndsPredicate kind × (same_kind kind k.And ≡ false)
 
--- what may stand behind a condition: what may behind parts with AND between them, and no OR
+-- what may follow a condition: what may behind parts with AND between them, and no OR
 abbrev pub EndsCondition : TokenKind → Type 0
 EndsCondition kind = EndsConjunction kind × (same_kind kind k.Or ≡ false)
 
@@ -851,7 +851,7 @@ unfolding same_kind
 condition_of_complete part P whole =
     chain_complete k.Or c.Or (conjunction part) (IsConjunction P) EndsConjunction (((refl, refl), refl), refl) (chain_complete k.And c.And part P EndsPredicate ((refl, refl), refl) whole)
 
--- a condition in parentheses is read, since `)` may stand behind a condition
+-- a condition in parentheses is read, since `)` may follow a condition
 group_complete : {A : Type 0} (part : Reader (WrittenCond A)) (P : WrittenCond A → Phrase) → Complete part P EndsPredicate
     → (x : WrittenCond A) (a : List Token) (n t : Token) (rest : List Token) → IsConditionOf P x a → n.kind ≡ k.RightParenthesis → group part (a ++ n ∷ t ∷ rest) ≡ Ok (x, t ∷ rest)
 unfolding expect sees kind next same_kind
@@ -881,7 +881,7 @@ pub negation_group : (functions : Bool) (levels : ℕ) (m : Token) (ts : List To
 unfolding negation sees kind next same_kind
 negation_group functions levels m ts e = rw e refl
 
--- NOT is read with what stands behind it, where that is read with one level less
+-- NOT is read with what comes after it, where that is read with one level less
 nested_not : (functions : Bool) (levels : ℕ) (x y : ServedCond functions) (used : List Token) (t : Token) (rest : List Token) → x ≡ c.Not y
     → Complete (negation functions levels) (IsNegation functions levels) EndsPredicate → EndsPredicate t.kind
     → ((m : Token) × (d : List Token) × (used ≡ m ∷ d) × (m.kind ≡ k.Not) × IsNegation functions levels y d) → negation functions (suc levels) (used ++ t ∷ rest) ≡ Ok (x, t ∷ rest)
@@ -1036,7 +1036,7 @@ counted_complete served true is_served used t rest p =
     first_called (count_function {C = C} true) (λ ts. and_then (items served.functions ts) (λ xs rest. Ok (l.Items xs, rest))) (used ++ t ∷ rest) (enclosed counted)
     (inl (call_hit (codes "COUNT") (IsToken k.Star) used (t ∷ rest) p, refl)) ∙ star_read {C = C} used (t ∷ rest) p
 
--- what may stand behind a selection: what may behind a column, and no comma
+-- what may follow a selection: what may behind a column, and no comma
 abbrev pub EndsItems : TokenKind → Type 0
 EndsItems kind = EndsColumn kind × (same_kind kind k.Comma ≡ false)
 
@@ -1062,7 +1062,7 @@ selection_complete served x used t rest (inr (inr (is_served, e, p))) f =
     selection_of_word served (used ++ t ∷ rest) (kind_after k.Word used (t ∷ rest) (call_word (codes "COUNT") (IsToken k.Star) used p))
     ∙ counted_complete served served.count is_served used t rest p ∙ ap (λ y. Ok (y, t ∷ rest)) (sym e)
 
--- what may stand behind a table reference: no `(`, and neither AS nor a word, which would be its alias
+-- what may follow a table reference: no `(`, and neither AS nor a word, which would be its alias
 abbrev pub EndsReference : TokenKind → Type 0
 EndsReference kind = (same_kind kind k.LeftParenthesis ≡ false) × (same_kind kind k.As ≡ false) × (same_kind kind k.Word ≡ false)
 
@@ -1102,7 +1102,7 @@ reference_by : (table : Name) (given : Option Name) (ts mid rest : List Token) �
 unfolding reference
 reference_by table given ts mid rest e g = rw (e, g) refl
 
--- each form of a reference is read: behind the table's name stands AS, a word, or what ends the reference
+-- each form of a reference is read: behind the table's name is AS, a word, or what ends the reference
 pub reference_complete : Complete reference IsReference EndsReference
 unfolding same_kind
 reference_complete x used t rest (inl (table, ex, p)) f =
@@ -1126,7 +1126,7 @@ reference_complete x used t rest (inr (inr (table, given, ex, (a, b, e, p, q))))
 
 -- ---- the second reference
 
--- what stands after a second reference, or in its place
+-- what comes after a second reference, or in its place
 abbrev pub EndsSecond : TokenKind → Type 0
 EndsSecond kind = EndsCondition kind × EndsReference kind × (same_kind kind k.Comma ≡ false) × (same_kind kind k.Cross ≡ false) × (same_kind kind k.Inner ≡ false) × (same_kind kind k.Join ≡ false)
 
@@ -1134,7 +1134,7 @@ pub and_false : (a b : Bool) → b ≡ false → (a && b) ≡ false
 and_false true b e = e
 and_false false b e = refl
 
--- The next token tells the form of a second reference, where one is served; for each form. None of its tokens: there is none
+-- The next token shows the form of a second reference, where one is served; for each form. None of its tokens: there is none
 pub second_of_none : (served : Served) (t : Token) (rest : List Token) → EndsSecond t.kind → second served (t ∷ rest) ≡ Ok ((None, None), t ∷ rest)
 unfolding sees kind
 second_of_none served t rest f = rw (f.2, f.3, f.4, f.5, and_false served.second_reference false refl) refl
@@ -1173,7 +1173,7 @@ joined_by_steps : (functions : Bool) (given : WrittenReference) (x : ServedCond 
 unfolding joined_on
 joined_by_steps functions given x ts ts1 ts2 ts3 ts4 e1 e2 e3 e4 = rw (e1, e2, e3, e4) refl
 
--- ON may stand behind a reference
+-- ON may follow a reference
 pub on_ends : (kind : TokenKind) → kind ≡ k.On → EndsReference kind
 unfolding same_kind
 on_ends kind e = ends_by EndsReference kind k.On e (refl, refl, refl)
@@ -1278,7 +1278,7 @@ explained_complete served told used t rest (inr (inr (is_served, is_analyzed, e,
 
 -- ---- WHERE
 
--- what may stand behind the condition of WHERE, or in its place: what may behind a condition, and no WHERE
+-- what may follow the condition of WHERE, or in its place: what may behind a condition, and no WHERE
 abbrev pub EndsWhere : TokenKind → Type 0
 EndsWhere kind = EndsCondition kind × (same_kind kind k.Where ≡ false)
 
@@ -1320,7 +1320,7 @@ count_complete : (n : ℕ) (u : Token) (rest : List Token) → u.kind ≡ k.Inte
 unfolding limit_number sees kind next place spelling
 count_complete n u rest e g = rw (is_kind u.kind k.Integer e, g) refl
 
--- what may stand behind LIMIT's number, or in its place: anything but LIMIT
+-- what may follow LIMIT's number, or in its place: anything but LIMIT
 abbrev pub EndsLimit : TokenKind → Type 0
 EndsLimit kind = same_kind kind k.Limit ≡ false
 
@@ -1335,7 +1335,7 @@ limit_complete served x used t rest (inr (is_served, n, e, p)) f =
 
 -- ---- the end of a query
 
--- what stands at the end
+-- what is at the end
 abbrev pub IsTail : Phrase
 IsTail = IsOptional k.Semicolon ▸ IsToken k.End
 
@@ -1349,7 +1349,7 @@ semicolon_read : (m n : Token) → m.kind ≡ k.Semicolon → n.kind ≡ k.End �
 unfolding expect after sees kind next same_kind
 semicolon_read m n e g = rw (e, g) refl
 
--- what stands at the end of a query is read in both forms
+-- what is at the end of a query is read in both forms
 tail_read : (ts : List Token) → IsTail ts → expect fault.Syntax k.End (after k.Semicolon ts) ≡ Ok (tt, [])
 tail_read ts (semi, last, e, inl none, p) =
     let end = one_only _ last p in
@@ -1359,15 +1359,15 @@ tail_read ts (semi, last, e, inr s, p) =
     let first = one_only _ semi s in
     ap (λ l. expect fault.Syntax k.End (after k.Semicolon l)) (e ∙ ap (λ l. l ++ last) first.1 ∙ ap (λ l. first.0 ∷ l) end.1) ∙ semicolon_read first.0 end.0 first.2 end.2
 
--- what stands after the condition of WHERE, or in its place
+-- what comes after the condition of WHERE, or in its place
 abbrev pub EndsBoth : TokenKind → Type 0
 EndsBoth kind = EndsWhere kind × EndsSecond kind
 
--- what stands after LIMIT's number, or in its place
+-- what comes after LIMIT's number, or in its place
 abbrev pub EndsAll : TokenKind → Type 0
 EndsAll kind = EndsBoth kind × EndsLimit kind
 
--- the end may stand behind a second reference, the condition of WHERE and LIMIT's number, and in the place of each
+-- the end may follow a second reference, the condition of WHERE and LIMIT's number, and in the place of each
 end_ends : (kind : TokenKind) → kind ≡ k.End → EndsAll kind
 unfolding same_kind
 end_ends kind e = ends_by EndsAll kind k.End e (((((((refl, refl), refl), refl), refl), refl), (((((refl, refl), refl), refl), refl), (refl, refl, refl), refl, refl, refl, refl)), refl)
@@ -1377,12 +1377,12 @@ semicolon_ends : (kind : TokenKind) → kind ≡ k.Semicolon → EndsAll kind
 unfolding same_kind
 semicolon_ends kind e = ends_by EndsAll kind k.Semicolon e (((((((refl, refl), refl), refl), refl), refl), (((((refl, refl), refl), refl), refl), (refl, refl, refl), refl, refl, refl, refl)), refl)
 
--- LIMIT may stand behind the condition of WHERE and in its place, and behind a second reference and in its place
+-- LIMIT may follow the condition of WHERE and in its place, and behind a second reference and in its place
 pub limit_ends : (kind : TokenKind) → kind ≡ k.Limit → EndsBoth kind
 unfolding same_kind
 limit_ends kind e = ends_by EndsBoth kind k.Limit e ((((((refl, refl), refl), refl), refl), refl), (((((refl, refl), refl), refl), refl), (refl, refl, refl), refl, refl, refl, refl))
 
--- what stands at the end begins with a semicolon or the end, which both may stand there
+-- what is at the end begins with a semicolon or the end, which both may be there
 tail_begins : (ts : List Token) → IsTail ts → Begins EndsAll ts
 tail_begins ts (semi, last, e, inl none, p) =
     let end = one_only _ last p in
@@ -1394,12 +1394,12 @@ tail_begins ts (semi, last, e, inr s, p) =
 pub begins_but : (F G : TokenKind → Type 0) (ts : List Token) → ((kind : TokenKind) → F kind → G kind) → Begins F ts → Begins G ts
 begins_but F G ts h (t, more, e, f) = (t, more, e, h t.kind f)
 
--- WHERE may stand behind a second reference, or in its place
+-- WHERE may follow a second reference, or in its place
 pub where_ends : (kind : TokenKind) → kind ≡ k.Where → EndsSecond kind
 unfolding same_kind
 where_ends kind e = ends_by EndsSecond kind k.Where e (((((refl, refl), refl), refl), refl), (refl, refl, refl), refl, refl, refl, refl)
 
--- from LIMIT on, the next token may stand behind the condition of WHERE: it is LIMIT, or what stands at the end
+-- from LIMIT on, the next token may follow the condition of WHERE: it is LIMIT, or what is at the end
 limit_begins : (served : Served) (most : Option ℕ) (a b ts : List Token) → ts ≡ a ++ b → IsLimit served most a → IsTail b → Begins EndsBoth ts
 limit_begins served most a b ts e (inl (ex, none)) q =
     let tail : Begins EndsBoth b = begins_but EndsAll EndsBoth b (λ kind f. f.0) (tail_begins b q) in
@@ -1408,7 +1408,7 @@ limit_begins served most a b ts e (inr (is_served, n, ex, p)) q =
     let m = one_first _ (IsRowCount n) a p in
     (m.0, m.1 ++ b, e ∙ ap (λ l. l ++ b) m.2, limit_ends m.0.kind m.3)
 
--- from WHERE on, the next token may stand behind a second reference: it is WHERE, or what may stand in its place
+-- from WHERE on, the next token may follow a second reference: it is WHERE, or what may be in its place
 where_begins : (functions : Bool) (filter : Option (ServedCond functions)) (a b ts : List Token) → ts ≡ a ++ b → IsWhere functions filter a → Begins EndsBoth b → Begins EndsSecond ts
 where_begins functions filter a b ts e (inl (ex, none)) tail = (tail.0, tail.1, e ∙ ap (λ l. l ++ b) none ∙ tail.2, tail.3.1)
 where_begins functions filter a b ts e (inr (y, ex, p)) tail = go (one_first _ (IsCondition functions y) a p)
@@ -1419,7 +1419,7 @@ where_begins functions filter a b ts e (inr (y, ex, p)) tail = go (one_first _ (
 pub ends_reference : (kind known : TokenKind) → kind ≡ known → EndsReference known → EndsReference kind
 ends_reference kind known e h = ends_by EndsReference kind known e h
 
--- from the second reference on, the next token may stand behind the first: a comma, CROSS, INNER, JOIN, or what may in their place
+-- from the second reference on, the next token may follow the first: a comma, CROSS, INNER, JOIN, or what may in their place
 second_begins : (served : Served) (both : Second served.functions) (a b ts : List Token) → ts ≡ a ++ b → IsBoth served both a → Begins EndsSecond b → Begins EndsReference ts
 unfolding same_kind
 second_begins served both a b ts e (inl (ex, ey, none)) (t, more, g, f) = (t, more, e ∙ ap (λ l. l ++ b) none ∙ g, f.1)
@@ -1452,7 +1452,7 @@ query_by_steps served told listed first both filter most ts ts0 ts1 ts2 ts3 ts4 
 abbrev pub Rest6 : Served → Option ℕ → List Token → Type 0
 Rest6 served most ts = (tail : List Token) × (limited served ts ≡ Ok (most, tail)) × (expect fault.Syntax k.End (after k.Semicolon tail) ≡ Ok (tt, [])) × Begins EndsBoth ts
 
--- The rest of a query is read part by part from its end, since each part is read by the token that stands behind it. From LIMIT on
+-- The rest of a query is read part by part from its end, since each part is read by the token that comes after it. From LIMIT on
 rest6 : (served : Served) (most : Option ℕ) (ts : List Token) → (IsLimit served most ▸ IsTail) ts → Rest6 served most ts
 rest6 served most ts (a, b, e, p, q) = (
   b,
@@ -1465,7 +1465,7 @@ rest6 served most ts (a, b, e, p, q) = (
 abbrev pub Rest5 : (served : Served) → Option (ServedCond served.functions) → Option ℕ → List Token → Type 0
 Rest5 served filter most ts = (mid : List Token) × (where_condition served.functions ts ≡ Ok (filter, mid)) × Rest6 served most mid × Begins EndsSecond ts
 
--- from WHERE on: what follows begins with a token that may stand behind its condition
+-- from WHERE on: what follows begins with a token that may follow its condition
 rest5 : (served : Served) (filter : Option (ServedCond served.functions)) (most : Option ℕ) (ts : List Token) → (IsWhere served.functions filter ▸ IsLimit served most ▸ IsTail) ts
     → Rest5 served filter most ts
 rest5 served filter most ts (a, b, e, p, q) =
@@ -1481,7 +1481,7 @@ rest5 served filter most ts (a, b, e, p, q) =
 abbrev pub Rest4 : (served : Served) → Second served.functions → Option (ServedCond served.functions) → Option ℕ → List Token → Type 0
 Rest4 served both filter most ts = (mid : List Token) × (second served ts ≡ Ok (both, mid)) × Rest5 served filter most mid × Begins EndsReference ts
 
--- from the second reference on: what follows begins with a token that may stand behind it
+-- from the second reference on: what follows begins with a token that may follow it
 rest4 : (served : Served) (both : Second served.functions) (filter : Option (ServedCond served.functions)) (most : Option ℕ) (ts : List Token)
     → (IsBoth served both ▸ IsWhere served.functions filter ▸ IsLimit served most ▸ IsTail) ts → Rest4 served both filter most ts
 rest4 served both filter most ts (a, b, e, p, q) =
@@ -1492,7 +1492,7 @@ rest4 served both filter most ts (a, b, e, p, q) =
       second_begins served both a b ts e p more.3,
     )
 
--- FROM may stand behind a selection
+-- FROM may follow a selection
 pub from_ends : (kind : TokenKind) → kind ≡ k.From → EndsItems kind
 unfolding same_kind
 from_ends kind e = ends_by EndsItems kind k.From e ((refl, refl), refl)
@@ -1501,7 +1501,7 @@ from_ends kind e = ends_by EndsItems kind k.From e ((refl, refl), refl)
 abbrev pub IsRest : (served : Served) → ServedQuery served → Phrase
 IsRest served q = IsSecond served q.second q.on ▸ IsWhere served.functions q.condition ▸ IsLimit served q.limit ▸ IsTail
 
--- each rule is read as far as its phrase goes, by the token that stands behind it
+-- each rule is read as far as its phrase goes, by the token that comes after it
 pub select_complete : (served : Served) (q : ServedQuery served) (ts : List Token) → IsSelect served q ts → query served ts ≡ Ok (q, [])
 select_complete served q ts (a0, b0, e0, told, p) = at_select (one_first _ _ b0 p)
   where

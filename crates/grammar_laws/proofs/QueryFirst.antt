@@ -1,4 +1,4 @@
--- Where a fault stands at a token of a query, one that stands there or before it is answered.
+-- Where a fault applies at a token of a query, one that applies there or before it is returned.
 use Rattle.std.proofs.Common.{◌≡◌, ◌⊎◌, ◌≤◌, ◌<◌, ◌+◌, ℕ, zero, suc, Bool, true, false, ℤ, List, [], ◌∷◌, ◌++◌, length, Option, Some, None, Result, Ok, Err, inl, inr, refl, sym, ap, subst, ◌∙◌, append_assoc, append-nil, length-append, arith}
 use Rattle.std.proofs.lemmas.Bool.{le-ltb}
 use Rattle.table_model.specs.declared.conditions.Comparison.{Comparison}
@@ -25,21 +25,21 @@ use Rattle.grammar_laws.proofs.QueryComplete.{Complete, is_kind, one_first, one_
 use Rattle.grammar_laws.proofs.QueryRefused.{Faults, query_faults}
 use Rattle.table_model.specs.Phrases.{Phrase, IsToken, ◌▸◌, IsOptional, IsParts, AreEnded}
 
--- ---- what a reader answers whatever follows
+-- ---- what a reader returns whatever follows
 
--- a fault at a token is answered within some tokens, of which others stand behind
+-- a fault at a token is returned within some tokens, of which others come after
 abbrev pub Stops : {A : Type 0} → Reader A → List Token → Type 0
 Stops p used = (f : QueryFault) × (is_at_token f ≡ true) × ((t : Token) (rest : List Token) → p (used ++ t ∷ rest) ≡ Err f)
 
--- the tokens of a phrase are there, or a fault at one of them is answered
+-- the tokens of a phrase are there, or a fault at one of them is returned
 abbrev pub Meets : {A : Type 0} → Reader A → (A → Phrase) → List Token → Type 0
 Meets {A} p P used = ((x : A) × P x used) ⊎ Stops p used
 
--- a fault at a token is answered up to a token, whatever follows it
+-- a fault at a token is returned up to a token, whatever follows it
 abbrev pub Hits : {A : Type 0} → Reader A → List Token → Token → Type 0
 Hits p used u = (f : QueryFault) × (is_at_token f ≡ true) × ((rest : List Token) → p (used ++ u ∷ rest) ≡ Err f)
 
--- a reader stops where another does whose fault it answers
+-- a reader stops where another does whose fault it returns
 stops_by : {A B : Type 0} (p : Reader A) (q : Reader B) (used more : List Token)
     → ((f : QueryFault) (t : Token) (rest : List Token) → ((u : Token) (others : List Token) → p (used ++ u ∷ others) ≡ Err f) → q (more ++ t ∷ rest) ≡ Err f) → Stops p used → Stops q more
 stops_by p q used more g (f, is, h) = (f, is, λ t rest. g f t rest h)
@@ -141,7 +141,7 @@ right_refused functions sign left a m tail f p e h =
 cut_off : (used a b : List Token) (t : Token) (rest : List Token) → used ≡ a ++ b → (tail : List Token) → b ++ t ∷ rest ≡ tail → used ++ t ∷ rest ≡ a ++ tail
 cut_off used a b t rest e tail g = ap (λ l. l ++ t ∷ rest) e ∙ append_assoc a b (t ∷ rest) ∙ ap (λ l. a ++ l) g
 
--- a left side that is too big, whatever stands behind it
+-- a left side that is too big, whatever comes after it
 left_stops : (functions : Bool) (used a : List Token) (m : Token) (d : List Token) → used ≡ a ++ m ∷ d → IsAnyInteger a → Stops (operand functions) a → Stops (predicate functions) used
 left_stops functions used a m d e p (f, is, h) = (
   f,
@@ -166,7 +166,7 @@ right_stops functions sign left used a m d e p g (f, is, h) = (
 abbrev pub LeftMeets : (functions : Bool) → List Token → List Token → Token → List Token → Type 0
 LeftMeets functions used a m d = ((left : ServedOperand functions) × IsOperand functions left a) ⊎ Stops (predicate functions) used
 
--- a left side is an operand, or too big, and then the predicate is refused for it whatever stands behind
+-- a left side is an operand, or too big, and then the predicate is refused for it whatever comes after
 left_meets : (functions : Bool) (x : ServedOperand functions) (used a : List Token) (m : Token) (d : List Token) → used ≡ a ++ m ∷ d → IsAnyOperand functions x a → LeftMeets functions used a m d
 left_meets functions x used a m d e (inl p) = inl (x, p)
 left_meets functions x used a m d e (inr p) = go (integer_meets functions a p)
@@ -217,20 +217,20 @@ part_refused : {A : Type 0} (between : TokenKind) (part : Reader A) (n : ℕ) (f
 unfolding parts_from
 part_refused between part n found ts f e = rw e refl
 
--- a fault at a token is answered by a reader of parts, whatever was found before, in turns enough for these
+-- a fault at a token is returned by a reader of parts, whatever was found before, in turns enough for these
 abbrev pub PartsRefused : {A : Type 0} → TokenKind → Reader A → ℕ → List Token → QueryFault → Type 0
 PartsRefused {A} between part turns ts f = (n : ℕ) (found : List A) → turns < n → parts_from fault.Syntax between part n found ts ≡ Err f
 
--- parts are refused so within some tokens, of which others stand behind
+-- parts are refused so within some tokens, of which others come after
 abbrev pub PartsStop : {A : Type 0} → TokenKind → Reader A → ℕ → List Token → Type 0
 PartsStop between part turns used = (f : QueryFault) × (is_at_token f ≡ true) × ((t : Token) (rest : List Token) → PartsRefused between part turns (used ++ t ∷ rest) f)
 
--- a fault in the first part is answered
+-- a fault in the first part is returned
 first_refused : {A : Type 0} (between : TokenKind) (part : Reader A) (turns : ℕ) (ts : List Token) (f : QueryFault) → part ts ≡ Err f → PartsRefused between part turns ts f
 first_refused between part turns ts f e zero found enough = absurd (omega (arith, enough))
 first_refused between part turns ts f e (suc n) found enough = part_refused between part n found ts f e
 
--- a fault behind a part and the token between is answered, with one turn more
+-- a fault behind a part and the token between is returned, with one turn more
 later_refused : {A : Type 0} (between : TokenKind) (part : Reader A) (turns : ℕ) (x : A) (ts : List Token) (m : Token) (rest : List Token) (f : QueryFault)
     → part ts ≡ Ok (x, m ∷ rest) → m.kind ≡ between → PartsRefused between part turns rest f → PartsRefused between part (suc turns) ts f
 later_refused between part turns x ts m rest f e g h zero found enough = absurd (omega (arith, enough))
@@ -387,7 +387,7 @@ bare_meets functions n x used p = go (predicate_meets functions x used p)
       λ t rest. let unseen = not_seen used (t ∷ rest) (any_predicate_begins functions x used p) in negation_predicate functions n (used ++ t ∷ rest) unseen.0 unseen.1 ∙ h t rest,
     )
 
--- NOT nests one level more than what stands behind it
+-- NOT nests one level more than what comes after it
 negated : (functions : Bool) (n : ℕ) (y : ServedCond functions) (used : List Token) → (IsToken k.Not ▸ IsNegation functions n y) used → IsNegation functions (suc n) (c.Not y) used
 unfolding IsNegationOf
 negated functions n y used p = inl (y, refl, p)
@@ -464,9 +464,9 @@ negation_meets functions (suc levels) (suc n) x used (inr (inl p)) =
 any_negation_meets : (functions : Bool) (n : ℕ) (x : ServedCond functions) (used : List Token) → IsAnyNegation functions x used → Meets (negation functions n) (IsNegation functions n) used
 any_negation_meets functions n x used (levels, p) = negation_meets functions levels n x used p
 
--- ---- parts that stand before one more
+-- ---- parts that come before one more
 
--- Behind parts with their token, a fault in the next part is answered, or one before it: each part in front is read or is refused
+-- Behind parts with their token, a fault in the next part is returned, or one before it: each part in front is read or is refused
 -- itself
 ended_hits : {A : Type 0} (between : TokenKind) (part : Reader A) (P S : A → Phrase) (F : TokenKind → Type 0) → F between → Complete part S F → ((x : A) (used : List Token) → P x used → Meets part S used)
     → (xs : List A) (used v : List Token) (u : Token) → AreEnded (IsToken between) P xs used → Hits part v u
@@ -581,7 +581,7 @@ abbrev pub Prefix : Served → List Token → Type 0
 Prefix served a = (told : Explain) × (listed : Selection (ItemArgument served.functions)) × (first : WrittenReference)
     × ((t : Token) (rest : List Token) → EndsReference t.kind → query served (a ++ t ∷ rest) ≡ and_then (second served (t ∷ rest)) (finish served told listed first))
 
--- a front up to the first reference is read, since each part is read by the token that stands behind it
+-- a front up to the first reference is read, since each part is read by the token that comes after it
 prefix_read : (served : Served) (a : List Token) → BeforeSecond served a → Prefix served a
 prefix_read served a (told, listed, first, (x, b, e, p, q)) = (told, listed, first, with_select (one_first _ (IsSelection served listed ▸ IsToken k.From ▸ IsReference first) b q))
   where
@@ -632,13 +632,13 @@ filter_refused served told listed first both m tail f word h =
 abbrev pub IsOn : WrittenReference → Phrase
 IsOn given = IsOptional k.Inner ▸ IsToken k.Join ▸ IsReference given ▸ IsToken k.On
 
--- a fault in the condition of ON is what JOIN is refused for, once what stands before the condition is read
+-- a fault in the condition of ON is what JOIN is refused for, once what comes before the condition is read
 on_steps : (functions : Bool) (given : WrittenReference) (ts ts1 ts2 ts3 : List Token) (f : QueryFault) → expect fault.Syntax k.Join ts ≡ Ok (tt, ts1) → reference ts1 ≡ Ok (given, ts2)
     → expect fault.Syntax k.On ts2 ≡ Ok (tt, ts3) → condition functions ts3 ≡ Err f → joined_on functions ts ≡ Err f
 unfolding joined_on
 on_steps functions given ts ts1 ts2 ts3 f e1 e2 e3 e4 = rw (e1, e2, e3, e4) refl
 
--- JOIN, a reference and ON are read, so a fault behind them is answered
+-- JOIN, a reference and ON are read, so a fault behind them is returned
 on_refused : (functions : Bool) (given : WrittenReference) (used tail : List Token) (f : QueryFault) → (IsToken k.Join ▸ IsReference given ▸ IsToken k.On) used → condition functions tail ≡ Err f
     → joined_on functions (used ++ tail) ≡ Err f
 on_refused functions given used tail f p h =
@@ -663,7 +663,7 @@ join_refused served given used tail f is_served (a, b, e, inr p, q) h =
 begins_more : (F : TokenKind → Type 0) (a tail : List Token) → Begins F a → Begins F (a ++ tail)
 begins_more F a tail (t, more, e, f) = (t, more ++ tail, ap (λ l. l ++ tail) e, f)
 
--- a second reference with a condition begins with INNER or JOIN, which may stand behind the first
+-- a second reference with a condition begins with INNER or JOIN, which may follow the first
 on_begins : (given : WrittenReference) (used : List Token) → IsOn given used → Begins EndsReference used
 unfolding same_kind
 on_begins given used (a, b, e, inl none, q) =
@@ -687,7 +687,7 @@ crossed_begins given used (inr p) =
 in_a_row : (before a b v tail : List Token) → before ≡ a ++ b → (before ++ v) ++ tail ≡ a ++ (b ++ (v ++ tail))
 in_a_row before a b v tail e = append_assoc before v tail ∙ ap (λ l. l ++ (v ++ tail)) e ∙ append_assoc a b (v ++ tail)
 
--- a fault in the condition of ON is what the query is refused for, since all that stands before it is read
+-- a fault in the condition of ON is what the query is refused for, since all that comes before it is read
 on_hits : (served : Served) (before v : List Token) (u : Token) → BeforeOn served before → Hits (condition served.functions) v u → Hits (query served) (before ++ v) u
 on_hits served before v u (is_served, given, (a, b, e, p, q)) (f, at, h) = (
   f,
@@ -709,7 +709,7 @@ with_condition functions given x used more (i, v1, e1, inner, (j, v2, e2, join, 
   (j, v2 ++ more, ap (λ l. l ++ more) e2 ∙ append_assoc j v2 more, join, (r, o ++ more, ap (λ l. l ++ more) e3 ∙ append_assoc r o more, reference, (o, more, refl, on, cond))),
 )
 
--- the references are read, and what follows them is read next, or a fault in the condition of ON is answered
+-- the references are read, and what follows them is read next, or a fault in the condition of ON is returned
 abbrev pub Through : Served → List Token → Type 0
 Through served before =
     ((told : Explain) × (listed : Selection (ItemArgument served.functions)) × (first : WrittenReference) × (both : Second served.functions)
@@ -851,7 +851,7 @@ limit_hits served before u (is_served, (a, b, e, p, (w, c, e2, filter, q))) digi
 
 -- ---- fronts of a condition
 
--- a fault behind NOT is answered with one level less; with none left NOT itself is too deep
+-- a fault behind NOT is returned with one level less; with none left NOT itself is too deep
 not_step : (functions : Bool) (opened : ℕ) (m : Token) (v : List Token) (u : Token) → m.kind ≡ k.Not → ((levels : ℕ) → suc opened + levels ≡ most_levels → Hits (negation functions levels) v u)
     → (levels : ℕ) → opened + levels ≡ most_levels → Hits (negation functions levels) (m ∷ v) u
 not_step functions opened m v u is hit zero count = (fault.TooDeep m.at, refl, λ rest. too_deep_not functions m (v ++ u ∷ rest) is)
@@ -859,7 +859,7 @@ not_step functions opened m v u is hit (suc levels) count =
     let inner = hit levels (omega (arith, count)) in
     (inner.0, inner.1, λ rest. negation_not functions levels m (v ++ u ∷ rest) is ∙ ap (λ r. and_then r (λ y rest. Ok (c.Not y, rest))) (inner.2 rest))
 
--- a fault behind `(` and parts of its condition is answered with one level less; with none left `(` itself is too deep
+-- a fault behind `(` and parts of its condition is returned with one level less; with none left `(` itself is too deep
 group_step : (functions : Bool) (opened : ℕ) (m : Token) (d v : List Token) (u : Token) → m.kind ≡ k.LeftParenthesis → AreParts functions d
     → ((levels : ℕ) → suc opened + levels ≡ most_levels → Hits (negation functions levels) v u) → (levels : ℕ) → opened + levels ≡ most_levels → Hits (negation functions levels) (m ∷ (d ++ v)) u
 group_step functions opened m d v u is parts hit zero count = (fault.TooDeep m.at, refl, λ rest. too_deep_left functions m ((d ++ v) ++ u ∷ rest) is)
@@ -870,7 +870,7 @@ group_step functions opened m d v u is parts hit (suc levels) count =
 hits_at : {A : Type 0} (p : Reader A) (used more : List Token) (u : Token) → used ≡ more → Hits p used u → Hits p more u
 hits_at p used more u e h = subst (λ l. Hits p l u) e h
 
--- By induction on the NOT and parentheses that are open before a fault: each hands on what is answered behind it, up to ON or WHERE,
+-- By induction on the NOT and parentheses that are open before a fault: each hands on what is returned behind it, up to ON or WHERE,
 -- and with these the whole query is refused
 nested_hits : (served : Served) (opened : ℕ) (before v : List Token) (u : Token) → BeforeNegation served opened before
     → ((levels : ℕ) → opened + levels ≡ most_levels → Hits (negation served.functions levels) v u) → Hits (query served) (before ++ v) u
@@ -890,7 +890,7 @@ nested_hits served (suc opened) before v u (inr (a, b, e, p, q)) hit =
 
 -- ---- operands that are too big
 
--- what stands next is no word, no NOT and no parenthesis
+-- what comes next is no word, no NOT and no parenthesis
 abbrev pub Unseen : List Token → Token → Type 0
 Unseen v u = (rest : List Token) → (sees k.Word (v ++ u ∷ rest) ≡ false) × (sees k.Not (v ++ u ∷ rest) ≡ false) × (sees k.LeftParenthesis (v ++ u ∷ rest) ≡ false)
 
@@ -983,7 +983,7 @@ deep_hit functions u (inl e) zero count = (fault.TooDeep u.at, refl, λ rest. to
 deep_hit functions u (inr e) zero count = (fault.TooDeep u.at, refl, λ rest. too_deep_left functions u rest e)
 deep_hit functions u which (suc levels) count = absurd (omega (arith, count))
 
--- where a fault stands at a token, one is answered, whatever follows the token
+-- where a fault applies at a token, one is returned, whatever follows the token
 stands_hits : (served : Served) (before : List Token) (u : Token) (g : QueryFault) → StandsAt served before u g → Hits (query served) before u
 stands_hits served before u (fault.TooDeep at) (is, (which, p)) =
     hits_at (query served) (before ++ []) before u (append-nil before) (nested_hits served most_levels before [] u p (deep_hit served.functions u which))
@@ -1021,7 +1021,7 @@ given_itself : {A : Type 0} (r : Result A QueryFault) → Gives fault.OutOfMemor
 given_itself (Ok x) = refl
 given_itself (Err f) = λ _. refl
 
--- where a fault stands at a token of a text, one that stands there or before is given
+-- where a fault applies at a token of a text, one that applies there or before is given
 pub first_is_given : (served : Served) (text : List ℕ) (r : Result (ServedQuery served) QueryFault) → Gives fault.OutOfMemory (λ q. q) r (query_of served text) → AnswersFirst served text r
 first_is_given served text r given before after t g short good cut stands =
     let h = stands_hits served before t g stands in (
@@ -1031,6 +1031,6 @@ first_is_given served text r given before after t g short good cut stands =
       subst (λ answer. Gives fault.OutOfMemory (λ q. q) r answer) (fault_given served text (before ++ t ∷ after) h.0 short good cut (h.2 after)) given,
     )
 
--- where a fault stands at a token of a text, one that stands there or before is read
+-- where a fault applies at a token of a text, one that applies there or before is read
 pub first_is_read : (served : Served) (text : List ℕ) → AnswersFirst served text (query_of served text)
 first_is_read served text = first_is_given served text (query_of served text) (given_itself (query_of served text))

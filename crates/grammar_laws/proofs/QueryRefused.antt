@@ -1,4 +1,4 @@
--- A fault at a token that the readers of a query answer stands there.
+-- A fault at a token that the readers of a query return applies there.
 use Rattle.std.proofs.Common.{◌≡◌, ◌⊎◌, ◌≤◌, ◌+◌, ℕ, zero, suc, Bool, true, false, not, ◌&&◌, ◌||◌, if◌then◌else◌, ◌==◌, ℤ, List, [], ◌∷◌, ◌++◌, length, Option, Some, None, Result, Ok, Err, inl, inr, refl, sym, ap, subst, ◌∙◌, append_assoc, append-nil, codes, arith}
 use Rattle.std.specs.Prelude.{IfErr, nat_lt}
 use Rattle.std.specs.Str.Parse.{digits_value}
@@ -28,12 +28,12 @@ use Rattle.table_model.specs.Phrases.{Phrase, IsToken, ◌▸◌, IsOptional, Is
 
 -- ---- the faults of a reader
 
--- a fact of the fault that is answered, where it is one at a token
+-- a fact of the fault that is returned, where it is one at a token
 abbrev pub Faults : {A : Type 0} → Outcome QueryFault A → (QueryFault → Type 0) → Type 0
 Faults (Ok p) E = Unit {0}
 Faults (Err f) E = is_at_token f ≡ true → E f
 
--- a reader that answers no fault at a token
+-- a reader that returns no fault at a token
 abbrev pub Faultless : {A : Type 0} → Reader A → Type 1
 Faultless p = (E : QueryFault → Type 0) (ts : List Token) → Faults (p ts) E
 
@@ -58,7 +58,7 @@ eaten_faults_by : {A : Type 0} (b : Bool) (ts : List Token) (p q : Reader A) (E 
 eaten_faults_by true ts p q E f g = f refl
 eaten_faults_by false ts p q E f g = g refl
 
--- a fault of a reader that goes on in one way where a token of a kind is taken, and in another where none stands
+-- a fault of a reader that goes on in one way where a token of a kind is taken, and in another where none is there
 eaten_faults : {A : Type 0} (wanted : TokenKind) (ts : List Token) (p q : Reader A) (E : QueryFault → Type 0)
     → (sees wanted ts ≡ true → Faults (p (next ts)) E) → (sees wanted ts ≡ false → Faults (q ts) E) → Faults ((if sees wanted ts then p else q) (after wanted ts)) E
 unfolding after
@@ -89,17 +89,17 @@ string_faults : Faultless string
 unfolding string
 string_faults E ts = if_faults (sees k.Text ts) _ _ E (λ _. tt) (λ _. λ e. absurd (false≢true e))
 
--- parentheses add none to what stands inside
+-- parentheses add none to what is inside
 enclosed_faults : {A : Type 0} (inside : Reader A) → Faultless inside → Faultless (enclosed inside)
 enclosed_faults inside none E ts = then_none (expect fault.Syntax k.LeftParenthesis ts) _ E (expect_faults k.LeftParenthesis E ts)
     (λ _ ts1. then_none (inside ts1) _ E (none E ts1) (λ x ts2. then_none (expect fault.Syntax k.RightParenthesis ts2) _ E (expect_faults k.RightParenthesis E ts2) (λ _ rest. tt)))
 
--- none of some functions answers such a fault
+-- none of some functions returns such a fault
 abbrev pub AllFaultless : {A : Type 0} → Functions A → Type 1
 AllFaultless [] = Unit {1}
 AllFaultless (f ∷ more) = Faultless f.1 × AllFaultless more
 
--- one of some functions is read, or what stands where none of them is called
+-- one of some functions is read, or what is where none of them is called
 called_faults : {A : Type 0} (functions : Functions A) (other : Reader A) (ts : List Token) (E : QueryFault → Type 0) → AllFaultless functions → Faults (other ts) E
     → Faults (called_or functions other ts) E
 called_faults [] other ts E each none = none
@@ -239,7 +239,7 @@ regroup P Q R all ts took = but ((P ▸ Q) ▸ R) (P ▸ Q ▸ R) all ts took (�
 none_more : (P Q : Phrase) (all ts : List Token) → ((used : List Token) → used ≡ [] → Q used) → Took all P ts → Took all (P ▸ Q) ts
 none_more P Q all ts nothing took = seq P Q all ts ts took ([], refl, nothing [] refl)
 
--- one more part was taken, with the token behind it, after parts that stand behind a phrase
+-- one more part was taken, with the token behind it, after parts that come after a phrase
 part_more : {A : Type 0} (C end : Phrase) (P : A → Phrase) (xs : List A) (x : A) (all ts mid rest : List Token) → Took all (C ▸ AreEnded end P xs) ts → Took ts (P x) mid → Took mid end rest
     → Took all (C ▸ AreEnded end P (xs ++ x ∷ [])) rest
 part_more C end P xs x all ts mid rest before read last =
@@ -315,7 +315,7 @@ unfolding integer
 integer_faults A negative E ts h =
     if_faults (sees k.Integer ts) _ _ E (λ is. digits_faults A E (place ts) (next ts) (integer_value negative (spelling ts)) (h is)) (λ _. λ e. absurd (false≢true e))
 
--- digits that are too big are refused at the token where the reader stands, behind the tokens that it took
+-- digits that are too big are refused at the token where the reader is, behind the tokens that it took
 big_here : (served : Served) (all : List Token) (P : Phrase) {V : Type 0} (value : List ℕ → Option V) (ts : List Token) → Took all P ts → sees k.Integer ts ≡ true → value (spelling ts) ≡ None
     → ((before : List Token) (t : Token) → P before → t.kind ≡ k.Integer → value t.text ≡ None → IsTooBig served before t)
     → StandsIn served all (fault.NumberTooBig (place ts))
@@ -344,7 +344,7 @@ operand_faults served all ts took =
 
 -- ---- predicates
 
--- the right side stands behind the left one and the sign of comparison, where an operand may stand
+-- the right side comes after the left one and the sign of comparison, where an operand may be there
 compared_faults : (served : Served) (all : List Token) (opened : ℕ) (at : ℕ) (left : ServedOperand served.functions) (start ts : List Token) (v : Option Comparison)
     → Took all (BeforeNegation served opened) start → Took start (IsOperand served.functions left) ts → comparison_of (kind ts) ≡ v
     → Faults (compared_by served.functions at left v ts) (StandsIn served all)
@@ -358,7 +358,7 @@ compared_faults served all opened at left start ts (Some comparison) stood read 
     (operand_faults served all (next ts) (but (BeforeNegation served opened ▸ O ▸ IsComparison comparison) (BeforeOperand served) all (next ts) both (λ used p. (opened, inr (left, comparison, p)))))
     (λ right rest. tt)
 
--- the left side stands where the predicate does; IS NULL behind it has no further operand
+-- the left side is where the predicate is; IS NULL behind it has no further operand
 comparison_faults : (served : Served) (all : List Token) (opened : ℕ) (ts : List Token) → Took all (BeforeNegation served opened) ts → Faults (comparison served.functions ts) (StandsIn served all)
 unfolding comparison compared
 comparison_faults served all opened ts took =
@@ -377,7 +377,7 @@ predicate_faults served all opened ts took =
 
 -- ---- conditions
 
--- parts with tokens between them are refused where one of them is, which stands behind those that were read before
+-- parts with tokens between them are refused where one of them is, which comes after those that were read before
 parts_faults : {A : Type 0} (between : TokenKind) (part : Reader A) (P : A → Phrase) (C : Phrase) (all : List Token) (E : QueryFault → Type 0) → (k.Bad ≡ between → ⊥) → Sound part P
     → ((xs : List A) (ts : List Token) → Took all (C ▸ AreEnded (IsToken between) P xs) ts → Faults (part ts) E)
     → (n : ℕ) (found xs : List A) (ts : List Token) → Took all (C ▸ AreEnded (IsToken between) P xs) ts → Faults (parts_from fault.Syntax between part n found ts) E
@@ -418,7 +418,7 @@ condition_of_faults part P C all E sound each =
     (λ ors ts took. chain_faults k.And c.And part P (C ▸ AreEnded (IsToken k.Or) (IsConjunction P) ors) all E (λ e. cc) sound
     (λ ands ts2 took2. each ors ands ts2 (regroup C (AreEnded (IsToken k.Or) (IsConjunction P) ors) (AreEnded (IsToken k.And) P ands) all ts2 took2)) ts took)
 
--- what stood before the parts of a condition, and those
+-- what came before the parts of a condition, and those
 with_parts : (functions : Bool) (C : Phrase) (ors ands : List (ServedCond functions)) (all ts : List Token)
     → Took all (C ▸ AreEnded (IsToken k.Or) (IsConjunction (IsAnyNegation functions)) ors ▸ AreEnded (IsToken k.And) (IsAnyNegation functions) ands) ts → Took all (C ▸ AreParts functions) ts
 with_parts functions C ors ands all ts took = but _ (C ▸ AreParts functions) all ts took (λ used p. (p.0, p.1, p.2, p.3, (ors, ands, p.4)))
@@ -481,7 +481,7 @@ negation_faults served all (suc levels) opened count ts took =
     (next ts) (seq B (IsToken k.LeftParenthesis) all ts (next ts) took (one k.LeftParenthesis ts (λ e. cc) h)))
     (λ _. predicate_faults served all opened ts took))
 
--- the parts of a whole condition, of ON or of WHERE, stand where no level is open yet
+-- the parts of a whole condition, of ON or of WHERE, are where no level is open yet
 condition_faults : (served : Served) (C : Phrase) (all : List Token) → ((ts : List Token) → Took all (C ▸ AreParts served.functions) ts → Took all (BeforeNegation served 0) ts)
     → (ts : List Token) → Took all C ts → Faults (condition served.functions ts) (StandsIn served all)
 condition_faults served C all begins ts took =
@@ -498,7 +498,7 @@ and_second : (a b : Bool) → (a && b) ≡ true → b ≡ true
 and_second true b h = h
 and_second false b h = absurd (false≢true h)
 
--- the condition of ON stands behind JOIN, the second reference and ON
+-- the condition of ON comes after JOIN, the second reference and ON
 joined_on_faults : (served : Served) (all start ts : List Token) → served.second_reference ≡ true → Took all (BeforeSecond served) start → Took start (IsOptional k.Inner) ts
     → Faults (joined_on served.functions ts) (StandsIn served all)
 unfolding joined_on BeforeNegation
@@ -528,7 +528,7 @@ second_faults served all ts took =
     (λ _. if_faults (served.second_reference && (sees k.Inner ts || sees k.Join ts)) _ _ E
     (λ h. joined_on_faults served all ts (after k.Inner ts) (and_first _ _ h) took (optional k.Inner ts (λ e. cc))) (λ _. tt)))
 
--- JOIN and ON with what stands between them, apart from the condition
+-- JOIN and ON with what is between them, apart from the condition
 on_alone : (functions : Bool) (given : WrittenReference) (x : ServedCond functions) (used : List Token)
     → (IsOptional k.Inner ▸ IsToken k.Join ▸ IsReference given ▸ IsToken k.On ▸ IsCondition functions x) used
     → ((IsOptional k.Inner ▸ IsToken k.Join ▸ IsReference given ▸ IsToken k.On) ▸ IsCondition functions x) used
@@ -540,7 +540,7 @@ on_alone functions given x used (i, v1, e1, inner, (j, v2, e2, join, (r, v3, e3,
   cond,
 )
 
--- what stands up to the last table reference and its condition
+-- what comes up to the last table reference and its condition
 through_from : (served : Served) (both : Second served.functions) (used : List Token) → (BeforeSecond served ▸ IsBoth served both) used → ThroughFrom served used
 through_from served both used (a, b, e, p, inl (x, y, none)) = inl (subst (BeforeSecond served) (sym (e ∙ ap (λ l. a ++ l) none ∙ append-nil a)) p)
 through_from served both used (a, b, e, p, inr (inl (is_served, given, x, y, second))) = inr (inl (is_served, given, (a, b, e, p, second)))
@@ -552,7 +552,7 @@ through_from served both used (a, b, e, p, inr (inr (is_served, given, on, x, y,
       (a ++ f, d, e ∙ ap (λ l. a ++ l) e3 ∙ sym (append_assoc a f d), (is_served, given, (a, f, refl, p, front)), any_condition served.functions on d cond),
     ))
 
--- the condition of WHERE stands behind the last reference and its condition
+-- the condition of WHERE comes after the last reference and its condition
 where_faults : (served : Served) (all ts : List Token) → Took all (ThroughFrom served) ts → Faults (where_condition served.functions ts) (StandsIn served all)
 unfolding where_condition BeforeNegation
 where_faults served all ts took =
@@ -574,7 +574,7 @@ count_faults : (E : QueryFault → Type 0) (at : ℕ) (rest : List Token) (v : O
 count_faults E at rest None h = λ _. h refl
 count_faults E at rest (Some n) h = tt
 
--- the integer of LIMIT stands behind FROM, WHERE and LIMIT, and is refused where it is too big
+-- the integer of LIMIT comes after FROM, WHERE and LIMIT, and is refused where it is too big
 limit_faults : (served : Served) (filter : Option (ServedCond served.functions)) (all mid ts : List Token) → Took all (ThroughFrom served) mid → Took mid (IsWhere served.functions filter) ts
     → Faults (limited served ts) (StandsIn served all)
 unfolding limit_number
@@ -593,7 +593,7 @@ limit_faults served filter all mid ts took read =
     (λ _. λ e. absurd (false≢true e)))
     (λ _. tt)
 
--- each reader stands behind what those before it took, which is the front of the grammar that its fault asks for
+-- each reader comes after what those before it took, which is the front of the grammar that its fault asks for
 pub query_faults : (served : Served) (ts : List Token) → Faults (query served ts) (StandsIn served ts)
 unfolding query
 query_faults served ts =
@@ -621,7 +621,7 @@ by_value : {A : Type 0} (text : List ℕ) (E : QueryFault → Type 0) (r : Outco
 by_value text E (Ok p) h = tt
 by_value text E (Err f) h = h
 
--- a fault at one of the tokens stands in the text, which isn't too long and is made of tokens
+-- a fault at one of the tokens applies in the text, which isn't too long and is made of tokens
 in_text : (served : Served) (text : List ℕ) (r : Result (ServedQuery served) QueryFault) → length text ≤ most_bytes → bad_place (tokens true text) ≡ None
     → IfErr r (λ f. is_at_token f ≡ true → StandsIn served (tokens true text) f) → IfErr r (StandsInQuery served text)
 in_text served text (Ok q) short good h = tt
@@ -634,7 +634,7 @@ by_place served text None short good =
     (by_value text (StandsIn served (tokens true text)) (query served (tokens true text)) (query_faults served (tokens true text)))
 by_place served text (Some at) short bad = λ e. absurd (false≢true e)
 
--- a fault at a token that is read stands there
+-- a fault at a token that is read applies there
 pub query_of_stands : (served : Served) (text : List ℕ) → IfErr (query_of served text) (StandsInQuery served text)
 unfolding query_of
 query_of_stands served text = go (nat_lt most_bytes (length text)) refl
@@ -643,7 +643,7 @@ query_of_stands served text = go (nat_lt most_bytes (length text)) refl
     go true e = λ is. absurd (false≢true is)
     go false e = by_place served text (bad_place (tokens true text)) (ltb-false most_bytes (length text) e) refl
 
--- a fault at a token that is given stands there
+-- a fault at a token that is given applies there
 pub given_stands : (served : Served) (text : List ℕ) (r : Result (ServedQuery served) QueryFault) → Gives fault.OutOfMemory (λ q. q) r (query_of served text) → IfErr r (StandsInQuery served text)
 given_stands served text (Ok q) given = tt
 given_stands served text (Err f) given = λ is. subst (λ r. IfErr r (StandsInQuery served text)) (given (λ e. memory f is e)) (query_of_stands served text) is

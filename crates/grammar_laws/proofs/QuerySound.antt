@@ -1,4 +1,4 @@
--- What the readers of a query read stands in its grammar.
+-- What the readers of a query read is in its grammar.
 use Rattle.std.proofs.Common.{◌≡◌, ◌⊎◌, ℕ, zero, suc, Bool, true, false, not, ◌&&◌, ◌||◌, if◌then◌else◌, ◌==◌, ℤ, List, [], ◌∷◌, ◌++◌, length, Option, Some, None, Ok, inl, inr, refl, sym, ap, subst, ◌∙◌, append_assoc, append-nil, codes}
 use Rattle.std.proofs.lemmas.Bool.{eqb-true}
 use Rattle.std.specs.Str.Parse.{digits_value}
@@ -32,13 +32,13 @@ use Rattle.table_model.specs.Tokens.{same_kind}
 use Rattle.grammar_laws.proofs.TokenReaders.{IfRead, Took, then_read, if_read, map_read, eaten, same, one, seq, but, expect_taken}
 use Rattle.table_model.specs.Phrases.{Phrase, IsOne, IsToken, ◌▸◌, IsOptional, IsParts, IsWord}
 
--- ---- what a reader answers
+-- ---- what a reader returns
 
--- a reader is sound where the tokens that it takes are written in the grammar for what it answers, whatever tokens it is given
+-- a reader is sound where the tokens that it takes are written in the grammar for what it returns, whatever tokens it is given
 abbrev pub Sound : {A : Type 0} → Reader A → (A → Phrase) → Type 0
 Sound {A} p P = (ts : List Token) → IfRead (p ts) (λ x rest. Took ts (P x) rest)
 
--- a token that is demanded is the one taken; where another stands there the reader refuses
+-- a token that is demanded is the one taken; where another is there the reader refuses
 pub expect_sound : (wanted : TokenKind) (ts : List Token) → (k.Bad ≡ wanted → ⊥) → IfRead (expect fault.Syntax wanted ts) (λ x rest. Took ts (IsToken wanted) rest)
 expect_sound = expect_taken fault.Syntax
 
@@ -60,7 +60,7 @@ unfolding name
 name_sound ts = if_read (sees k.Word ts && not (sees k.LeftParenthesis (next ts))) _ _ (λ x rest. Took ts (IsName x) rest)
     (λ h. name_taken ts (and_left _ _ h)) (λ _. tt)
 
--- a column is read as one name, and as two exactly where a point stands behind the first
+-- a column is read as one name, and as two exactly where a point is behind the first
 pub column_sound : Sound column IsColumn
 unfolding column
 column_sound ts = then_read (name ts) _ (λ x rest. Took ts (IsName x) rest) (λ x rest. Took ts (IsColumn x) rest)
@@ -122,7 +122,7 @@ abbrev pub AllRead : {A : Type 0} → Functions A → List Token → (A → List
 AllRead [] ts Q = Unit {0}
 AllRead (f ∷ more) ts Q = (calls f.0 ts ≡ true → IfRead (f.1 (next ts)) Q) × AllRead more ts Q
 
--- a choice by name is sound where the reader of each function is, and the one for no function: it answers as one of them
+-- a choice by name is sound where the reader of each function is, and the one for no function: it returns as one of them
 called_sound : {A : Type 0} (functions : Functions A) (other : Reader A) (ts : List Token) (Q : A → List Token → Type 0)
     → AllRead functions ts Q → IfRead (other ts) Q → IfRead (called_or functions other ts) Q
 called_sound [] other ts Q each h = h
@@ -149,7 +149,7 @@ call_sound {A} function inside P ts sound h =
     (λ x rest q. seq (IsWord function) (IsToken k.LeftParenthesis ▸ P x ▸ IsToken k.RightParenthesis) ts (next ts) rest (function_taken function ts h) q)
     (enclosed_sound inside P sound (next ts))
 
--- what is read, made of what a phrase tells of
+-- what is read, made of what a phrase says
 abbrev pub IsMade : {A B : Type 0} → (B → A) → (B → Phrase) → A → Phrase
 IsMade {A} {B} f P x ts = (y : B) × (x ≡ f y) × P y ts
 
@@ -158,7 +158,7 @@ made_sound : {A B : Type 0} (f : B → A) (p : Reader B) (P : B → Phrase) (ts 
 made_sound f p P ts sound = then_read (p ts) _ (λ y rest. Took ts (P y) rest) (λ x rest. Took ts (IsMade f P x) rest)
     (λ y rest q. but _ _ ts rest q (λ used h. (y, refl, h))) (sound ts)
 
--- what a call is made of stands outside of it as well
+-- what a call is made of is outside of it as well
 call_made : {A B : Type 0} (function : List ℕ) (f : B → A) (P : B → Phrase) (x : A) (ts : List Token) → IsCall function (IsMade f P x) ts
     → (y : B) × (x ≡ f y) × IsCall function (P y) ts
 call_made function f P x ts (a, b, e, word, (a1, b1, e1, left, (a2, b2, e2, (y, is, p), right))) =
@@ -202,7 +202,7 @@ integer_begins n ts (inl p) = one_begins BeginsOperand _ (λ t q. kind_begins t.
 integer_begins n ts (inr (inl p)) = seq_begins BeginsOperand _ _ (one_begins BeginsOperand _ (λ t q. kind_begins t.kind k.Plus q (refl, refl))) ts p
 integer_begins n ts (inr (inr p)) = seq_begins BeginsOperand _ _ (one_begins BeginsOperand _ (λ t q. kind_begins t.kind k.Minus q (refl, refl))) ts p
 
--- tokens stand at the place of their first one, whatever follows
+-- tokens are at the place of their first one, whatever follows
 pub place_is : (used rest : List Token) → Begins BeginsOperand used → place (used ++ rest) ≡ place used
 unfolding place
 place_is used rest (t, more, e, f) = rw e refl
@@ -214,7 +214,7 @@ word_begins word Q ts p = seq_begins BeginsOperand (IsWord word) Q (one_begins B
 
 -- ---- operands
 
--- an integer was read, of which the phrase tells
+-- an integer was read, which the phrase names
 abbrev pub TookInteger : (A : Type 0) → List Token → (ℤ → Phrase) → WrittenOperand A → List Token → Type 0
 TookInteger A ts P x rest = (n : ℤ) × (x ≡ o.Integer n) × Took ts (P n) rest
 
@@ -319,7 +319,7 @@ unfolding kind next
 comparison_taken [] comparison h = absurd (cc)
 comparison_taken (t ∷ ts) comparison h = (t ∷ [], refl, h)
 
--- behind the left side of a comparison, a sign and an operand are read; where no sign stands there the reader refuses
+-- behind the left side of a comparison, a sign and an operand are read; where no sign is there the reader refuses
 compared_sound : (functions : Bool) (at : ℕ) (left : ServedOperand functions) (ts : List Token) (v : Option Comparison) → comparison_of (kind ts) ≡ v
     → IfRead (compared_by functions at left v ts) (TookCompared functions at left ts)
 compared_sound functions at left ts None e = tt
@@ -327,7 +327,7 @@ compared_sound functions at left ts (Some comparison) e = then_read (operand fun
     (λ right rest q. (comparison, right, refl, seq (IsComparison comparison) (IsOperand functions right) ts (next ts) rest (comparison_taken ts comparison e) q))
     (operand_sound functions (next ts))
 
--- behind IS, NULL is read, and the tree is negated exactly where NOT stands before it
+-- behind IS, NULL is read, and the tree is negated exactly where NOT comes before it
 null_sound : {A : Type 0} (left : WrittenOperand A) (ts : List Token)
     → IfRead (null_test left ts) (TookNull left ts)
 unfolding null_test after
@@ -339,7 +339,7 @@ null_sound {A} left ts = go (sees k.Not ts) refl
     go false h = then_read (expect fault.Syntax k.Null ts) _ (λ x rest. Took ts (IsToken k.Null) rest) _
         (λ x rest q. inl (refl, q)) (expect_sound k.Null ts (λ e. cc))
 
--- an operand, a sign and an operand are a predicate, which stands at the place of the first
+-- an operand, a sign and an operand are a predicate, which is at the place of the first
 compare_taken : (functions : Bool) (ts mid rest : List Token) (left : ServedOperand functions) (x : ServedCond functions)
     → Took ts (IsOperand functions left) mid → TookCompared functions (place ts) left mid x rest → Took ts (IsPredicate functions x) rest
 compare_taken functions ts mid rest left x took (comparison, right, e, q) =
@@ -357,7 +357,7 @@ null_taken functions ts mid rest left x took h (inr (e, q)) =
     but _ _ ts rest (seq (IsOperand functions left) (IsToken k.Is ▸ IsToken k.Not ▸ IsToken k.Null) ts mid rest took (seq (IsToken k.Is) (IsToken k.Not ▸ IsToken k.Null) mid (next mid) rest (one k.Is mid (λ e. cc) h) q))
     (λ used p. inr (inr (inl (left, e, p))))
 
--- IS behind an operand tells a test for NULL from a comparison, and both are predicates
+-- IS behind an operand separates a test for NULL from a comparison, and both are predicates
 comparison_sound : (functions : Bool) → Sound (comparison functions) (IsPredicate functions)
 unfolding comparison compared
 comparison_sound functions ts =
@@ -556,7 +556,7 @@ parts_sound {A} between part P good sound (suc n) found ts = then_read (part ts)
     (λ _. (x, [], refl, took)))
     (sound ts)
 
--- a part alone is itself, and parts with AND or OR between them are one tree: the token behind the first part tells which
+-- a part alone is itself, and parts with AND or OR between them are one tree: the token behind the first part says which
 pub chain_sound : {A : Type 0} (between : TokenKind) (join : List (WrittenCond A) → WrittenCond A) (part : Reader (WrittenCond A)) (P : WrittenCond A → Phrase)
     → (k.Bad ≡ between → ⊥) → Sound part P → Sound (chain between join part) (IsChain between join P)
 chain_sound {A} between join part P good sound ts = then_read (part ts) _ (λ x rest. Took ts (P x) rest) (λ x rest. Took ts (IsChain between join P x) rest)
@@ -747,7 +747,7 @@ joined_sound functions ts =
     (reference_sound ts1))
     (expect_sound k.Join ts (λ e. cc))
 
--- the next token tells the form of a second reference: a comma, CROSS, or INNER or JOIN; else none is read
+-- the next token shows the form of a second reference: a comma, CROSS, or INNER or JOIN; else none is read
 pub second_sound : (served : Served) → Sound (second served) (IsBoth served)
 second_sound served ts =
     let F : Bool = served.functions in
@@ -832,7 +832,7 @@ limit_sound served ts =
     (count_sound (next ts)))
     (λ _. ([], refl, inl (refl, refl)))
 
--- the end of the text is the last token, wherever it stands
+-- the end of the text is the last token, wherever it is
 abbrev pub EndsOnce : List Token → Type 0
 EndsOnce [] = Unit {0}
 EndsOnce (t ∷ ts) = (t.kind ≡ k.End → ts ≡ []) × EndsOnce ts
@@ -861,7 +861,7 @@ end_sound : (ts : List Token) → EndsOnce ts → IfRead (expect fault.Syntax k.
 unfolding expect
 end_sound ts once = if_read (sees k.End ts) _ _ _ (λ h. (one k.End ts (λ e. cc) h, ended ts once h)) (λ _. tt)
 
--- what each reader takes is the phrase of its rule, and the phrases stand one behind the other
+-- what each reader takes is the phrase of its rule, and the phrases follow one another
 pub query_sound : (served : Served) (ts : List Token) → EndsOnce ts → IfRead (query served ts) (λ q rest. IsSelect served q ts)
 unfolding query
 query_sound served ts once =

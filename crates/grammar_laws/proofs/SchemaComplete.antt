@@ -1,4 +1,4 @@
--- What stands in the grammar of a schema is read, as those tables.
+-- What is in the grammar of a schema is read, as those tables.
 use Rattle.std.proofs.Common.{◌≡◌, ◌≤◌, ◌<◌, ◌+◌, ℕ, zero, suc, Bool, true, false, ◌&&◌, ◌||◌, not, List, [], ◌∷◌, ◌++◌, length, map, Option, Some, None, Ok, inl, inr, refl, sym, ap, subst, ◌∙◌, append_assoc, length-append, arith}
 use Rattle.std.specs.List.{list_all, list_any, slice_get}
 use Rattle.std.specs.Prelude.{nat_le, codes}
@@ -90,7 +90,7 @@ pub null_read : (m n : Token) (ts : List Token) → m.kind ≡ k.Not → n.kind 
 unfolding null_mark after sees kind next
 null_read m n ts e f = rw (is_kind m.kind k.Not e, expect_read k.Null n ts f) refl
 
--- where NOT doesn't stand, nothing is read
+-- where NOT isn't there, nothing is read
 pub null_absent : (t : Token) (ts : List Token) → same_kind t.kind k.Not ≡ false → null_mark (t ∷ ts) ≡ Ok (false, t ∷ ts)
 unfolding null_mark after sees kind next
 null_absent t ts e = rw e refl
@@ -103,18 +103,18 @@ unfolding key_mark sees kind next spelling
 key_read has_key type m n ts e primary f key none whole =
     rw (is_kind m.kind k.Word e, primary, whole, none, word_read (codes "KEY") n ts f key) refl
 
--- where no word stands, nothing is read
+-- where no word is there, nothing is read
 key_absent : {T : Type 0} (has_key : Bool) (type : ColumnType T) (t : Token) (ts : List Token) → same_kind t.kind k.Word ≡ false → key_mark has_key type (t ∷ ts) ≡ Ok (false, t ∷ ts)
 unfolding key_mark sees kind spelling
 key_absent has_key type t ts e = rw e refl
 
--- the marks where NOT NULL stands first: PRIMARY KEY or nothing is behind it
+-- the marks where NOT NULL is first: PRIMARY KEY or nothing is behind it
 marks_by : {T : Type 0} (has_key : Bool) (type : ColumnType T) (is_key : Bool) (ts ts1 ts2 : List Token) → null_mark ts ≡ Ok (true, ts1) → key_mark has_key type ts1 ≡ Ok (is_key, ts2)
     → marks has_key type ts ≡ Ok ((true, is_key), ts2)
 unfolding marks
 marks_by has_key type is_key ts ts1 ts2 e f = rw (e, f) refl
 
--- the marks where NOT NULL doesn't stand first: it may stand behind PRIMARY KEY
+-- the marks where NOT NULL isn't first: it may follow PRIMARY KEY
 marks_late : {T : Type 0} (has_key : Bool) (type : ColumnType T) (is_key not_null : Bool) (ts ts1 ts2 ts3 : List Token)
     → null_mark ts ≡ Ok (false, ts1) → key_mark has_key type ts1 ≡ Ok (is_key, ts2) → null_mark ts2 ≡ Ok (not_null, ts3)
     → marks has_key type ts ≡ Ok ((not_null, is_key), ts3)
@@ -125,7 +125,7 @@ marks_late has_key type is_key not_null ts ts1 ts2 ts3 e f g = rw (e, f, g) refl
 abbrev pub EndsColumn : TokenKind → Type 0
 EndsColumn kind = (same_kind kind k.Not ≡ false) × (same_kind kind k.Word ≡ false)
 
--- a word isn't NOT, and NOT isn't a word: so the next token tells which mark stands
+-- a word isn't NOT, and NOT isn't a word: so the next token says which mark is there
 pub word_not : (kind : TokenKind) → kind ≡ k.Word → same_kind kind k.Not ≡ false
 unfolding same_kind
 word_not kind e = rw e refl
@@ -134,14 +134,14 @@ not_word : (kind : TokenKind) → kind ≡ k.Not → same_kind kind k.Word ≡ f
 unfolding same_kind
 not_word kind e = rw e refl
 
--- PRIMARY KEY may stand
+-- PRIMARY KEY may be there
 abbrev MayBeKey : {T : Type 0} → Bool → ColumnType T → Bool → Type 0
 MayBeKey has_key type is_key = is_key ≡ true → (has_key ≡ false) × (is_integer type ≡ true)
 
 abbrev pub IsWordOf : List ℕ → Token → Type 0
 IsWordOf word t = (t.kind ≡ k.Word) × (same_name t.text word ≡ true)
 
--- the marks of the grammar are read in either order, as what stands behind them begins none
+-- the marks of the grammar are read in either order, as what comes after them begins none
 pub marks_complete : {T : Type 0} (has_key : Bool) (type : ColumnType T) (not_null is_key : Bool) (used : List Token) (t : Token) (rest : List Token)
     → AreMarks not_null is_key used → EndsColumn t.kind → MayBeKey has_key type is_key → marks has_key type (used ++ t ∷ rest) ≡ Ok ((not_null, is_key), t ∷ rest)
 marks_complete has_key type true true used t rest (inl (a, b, e, p, q)) f may =
@@ -242,7 +242,7 @@ fresh_name name (y ∷ found) x more h =
 
 -- ---- the place of the key
 
--- the key's place is known, or it stands among the columns to come
+-- the key's place is known, or it is among the columns to come
 abbrev KeyLeft : {T : Type 0} → Option ℕ → ℕ → ℕ → List (Marked T) → Type 0
 KeyLeft None place at to_come = key_places at to_come ≡ place ∷ []
 KeyLeft (Some key) place at to_come = (key ≡ place) × (key_places at to_come ≡ [])
@@ -275,7 +275,7 @@ key_known : (T : Type 0) (key : Option ℕ) (place at : ℕ) → KeyLeft {T = T}
 key_known T None place at h = absurd (not_empty _ _ (sym h))
 key_known T (Some key) place at h = ap Some h.0
 
--- behind some columns, at the place of their number, stands the next one
+-- behind some columns, at the place of their number, is the next one
 at_length : {T : Type 0} (found : List (ColumnDef T)) (c : ColumnDef T) (more : List (ColumnDef T)) → slice_get (found ++ c ∷ more) (length found) ≡ Some c
 at_length [] c more = refl
 at_length (x ∷ found) c more = at_length found c more
@@ -440,7 +440,7 @@ table_complete {T} geometry found x used tail (first, more, same, keys, p) words
     ∙ ap (λ name. Ok (record { name = name; columns = first.0 ∷ firsts more; key = x.key }, tail)) (sym named.1)
     ∙ ap (λ cols. Ok (record { name = x.name; columns = cols; key = x.key }, tail)) (sym same)
 
--- ---- what stands between and behind tables
+-- ---- what is between and behind tables
 
 -- at the end, also behind a semicolon, no further table is read
 end_read : (n : Token) → n.kind ≡ k.End → goes_on (n ∷ []) ≡ Ok (false, n ∷ [])
@@ -451,7 +451,7 @@ semicolon_read : (m n : Token) → m.kind ≡ k.Semicolon → n.kind ≡ k.End �
 unfolding goes_on after sees kind next same_kind
 semicolon_read m n e g = rw (e, g) refl
 
--- behind a semicolon, where the end doesn't stand, tables go on
+-- behind a semicolon, where the end isn't there, tables go on
 pub separator_read : (m : Token) (rest : List Token) → m.kind ≡ k.Semicolon → sees k.End rest ≡ false → goes_on (m ∷ rest) ≡ Ok (true, rest)
 unfolding goes_on after sees kind next
 separator_read m rest e h = rw (is_kind m.kind k.Semicolon e, h) refl
@@ -473,11 +473,11 @@ tail_read ts (semi, last, e, inr s, p) =
     let (m, g, between) = one_only (λ t. t.kind ≡ k.Semicolon) semi s in
     (n, end, ap goes_on (e ∙ ap (λ l. l ++ last) g ∙ ap (λ l. m ∷ l) f) ∙ semicolon_read m n between end)
 
--- some token stands there
+-- some token is there
 abbrev IsThere : List Token → Type 0
 IsThere ts = (t : Token) × (rest : List Token) × (ts ≡ t ∷ rest)
 
--- at least the end stands there
+-- at least the end is there
 tail_there : (ts : List Token) → IsTail ts → IsThere ts
 tail_there ts ([], last, e, inl none, p) = let (n, f, end) = one_only (λ t. t.kind ≡ k.End) last p in (n, [], e ∙ f)
 tail_there ts (s ∷ semi, last, e, q, p) = (s, semi ++ last, e)
@@ -499,7 +499,7 @@ word_no_end : (kind : TokenKind) → kind ≡ k.Word → same_kind kind k.End �
 unfolding same_kind
 word_no_end kind e = rw e refl
 
--- so where a table stands the end doesn't
+-- so where a table begins the end isn't there
 pub not_end : (used tail : List Token) → Begins IsWordKind used → sees k.End (used ++ tail) ≡ false
 unfolding sees kind
 not_end used tail (t, more, e, f) = ap (λ l. sees k.End (l ++ tail)) e ∙ word_no_end t.kind f
@@ -586,7 +586,7 @@ turns_before between P more x used tail p (t, rest, e) = rw e (turns_suffice bet
 few_tables : (more : ℕ) → suc more ≤ 16 → 0 + suc more ≤ 16
 few_tables more few = omega arith
 
--- each rule is read as far as its phrase goes, by the token that stands behind it
+-- each rule is read as far as its phrase goes, by the token that comes after it
 pub schema_complete : {T : Type 0} (geometry : List ℕ → Option T) (tables : List (TableDef T)) (ts : List Token) → AreTables geometry tables ts → AsciiWords ts → lawful tables ≡ true
     → schema geometry ts ≡ Ok (tables, [])
 unfolding lawful

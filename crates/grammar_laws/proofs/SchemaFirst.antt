@@ -1,4 +1,4 @@
--- Where a fault at a token stands in a schema, one that stands at that token or before it is answered.
+-- Where a fault at a token is in a schema, one that applies at that token or before it is returned.
 use Rattle.std.proofs.Common.{◌≡◌, ◌⊎◌, ◌+◌, ◌≤◌, ◌<◌, ◌||◌, ℕ, zero, suc, Bool, true, false, List, [], ◌∷◌, ◌++◌, length, map, Option, Some, None, Result, Ok, Err, inl, inr, refl, sym, ap, subst, ◌∙◌, append_assoc, append-nil, length-append, arith}
 use Rattle.std.specs.Prelude.{nat_le, codes}
 use Rattle.std.proofs.lemmas.Bool.{false≢true, le-leb, le-ltb}
@@ -27,11 +27,11 @@ use Rattle.table_model.specs.Phrases.{Phrase, IsToken, ◌▸◌, IsParts, AreEn
 
 -- ---- a fault at a token, whatever follows
 
--- a reader answers one fault at a token, whatever the turns and the tokens that follow
+-- a reader returns one fault at a token, whatever the turns and the tokens that follow
 abbrev Hit : {A : Type 0} → (List Token → Outcome SchemaFault A) → Type 0
 Hit r = (f : SchemaFault) × (is_at_token f ≡ true) × ((tail : List Token) → r tail ≡ Err f)
 
--- a reader reads this, or answers one fault at a token, whatever follows
+-- a reader reads this, or returns one fault at a token, whatever follows
 abbrev Meets : {A : Type 0} → (List Token → Outcome SchemaFault A) → (List Token → A × List Token) → Type 0
 Meets r answer = ((tail : List Token) → r tail ≡ Ok (answer tail)) ⊎ Hit r
 
@@ -85,7 +85,7 @@ second_met type false used t (inr (b, a, e, q, none)) whole =
           ∙ marks_twice true type false (u ∷ v ∷ t ∷ rest) (u ∷ v ∷ t ∷ rest) (fault.TwoKeys u.at) (null_absent u (v ∷ t ∷ rest) (word_not u.kind primary.0)) (key_twice type u (v ∷ t ∷ rest) primary whole),
     )
 
--- marks without PRIMARY KEY are read; with it they are too where no key stands before, and refused at PRIMARY where one does
+-- marks without PRIMARY KEY are read; with it they are too where no key comes before, and refused at PRIMARY where one does
 marks_met : {T : Type 0} (has : Bool) (type : ColumnType T) (not_null is_key : Bool) (used : List Token) (t : Token) → AreMarks not_null is_key used → EndsColumn t.kind
     → (is_key ≡ true → is_integer type ≡ true) → Meets (λ rest. marks has type (used ++ t ∷ rest)) (λ rest. ((not_null, is_key), t ∷ rest))
 marks_met has type not_null false used t p ends whole = inl (λ rest. marks_complete has type not_null false used t rest p ends (λ e. absurd (false≢true e)))
@@ -198,7 +198,7 @@ there_after None place false = refl
 there_after (Some at) place true = refl
 there_after (Some at) place false = refl
 
--- columns, each with a comma behind it, are read, or a fault at one of their tokens is answered
+-- columns, each with a comma behind it, are read, or a fault at one of their tokens is returned
 abbrev EndedMeet : {T : Type 0} → (List ℕ → Option T) → List (Marked T) → List (ColumnDef T) → Option ℕ → List Token → Type 0
 EndedMeet geometry m found key used =
     ((known : Option ℕ) × (is_there known ≡ (is_there key || has_key m))
@@ -243,7 +243,7 @@ ended_met {T = T} geometry (x ∷ m) found key used (a, b, e, p, (c, d, e2, q, h
               ∙ ap (λ f. columns_from geometry n f more.0 tail) (append_assoc found (x.0 ∷ []) (firsts m)),
         )
 
--- the columns of a table up to its closing parenthesis are read, or a fault at one of their tokens is answered
+-- the columns of a table up to its closing parenthesis are read, or a fault at one of their tokens is returned
 abbrev PartsMeet : {T : Type 0} → (List ℕ → Option T) → Marked T → List (Marked T) → List (ColumnDef T) → Option ℕ → List Token → Token → Type 0
 PartsMeet {T} geometry x more found key used t =
     ((known : Option ℕ) × (is_there known ≡ (is_there key || has_key (x ∷ more)))
@@ -357,7 +357,7 @@ body_met {T = T} geometry x more a m parts words right = go (parts_met geometry 
     go (inl h) = inl (h.0, h.1, λ tail. ap (λ n. columns_from geometry n [] None (a ++ m ∷ tail)) (count tail).1 ∙ h.2 (count tail).0 tail)
     go (inr h) = inr (h.0, h.1, λ tail. ap (λ n. columns_from geometry n [] None (a ++ m ∷ tail)) (count tail).1 ∙ h.2 (count tail).0 tail)
 
--- a table up to its closing parenthesis is read, or a fault at one of its tokens is answered
+-- a table up to its closing parenthesis is read, or a fault at one of its tokens is returned
 abbrev TableMeets : {T : Type 0} → (List ℕ → Option T) → List (TableDef T) → List ℕ → List Token → Type 0
 TableMeets {T} geometry found name used =
     ((t : TableDef T) × (t.name ≡ name) × ((tail : List Token) → table geometry found (used ++ tail) ≡ Ok (t, tail))) ⊎ Hit (λ tail. table geometry found (used ++ tail))
@@ -534,7 +534,7 @@ record AreOpened {T : Type 0} (geometry : List ℕ → Option T) (ws : List (Wri
   named : (u3.kind ≡ k.Word) × (name ≡ u3.text)
   left : u4.kind ≡ k.LeftParenthesis
 
--- what stands before the columns of a table is whole tables with semicolons, CREATE TABLE, a name and a parenthesis
+-- what comes before the columns of a table is whole tables with semicolons, CREATE TABLE, a name and a parenthesis
 are_opened : {T : Type 0} (geometry : List ℕ → Option T) (ws : List (Written T)) (name : List ℕ) (used : List Token) → BeforeColumns geometry ws name used → AreOpened geometry ws name used
 are_opened geometry ws name used (x, y, exy, (e, c, ec, before, create), rest) =
     let (u1, u2, e12, w1, w2) = two_only (IsWordOf (codes "CREATE")) (IsWordOf (codes "TABLE")) c create in
@@ -553,12 +553,12 @@ are_opened geometry ws name used (x, y, exy, (e, c, ec, before, create), rest) =
       left = left;
     }
 
--- where a word stands the end doesn't
+-- where a word comes next the end doesn't
 word_goes_on : (u : Token) (ts : List Token) → u.kind ≡ k.Word → sees k.End (u ∷ ts) ≡ false
 unfolding sees kind same_kind
 word_goes_on u ts e = rw e refl
 
--- a table that is opened is refused for its name, or for what stands inside
+-- a table that is opened is refused for its name, or for what is inside
 inside_stops : {T : Type 0} (geometry : List ℕ → Option T) (ws : List (Written T)) (name : List ℕ) (x b : List Token) (u : Token) → BeforeColumns geometry ws name x → AsciiWords x
     → ((now : List (TableDef T)) (u1 u2 u3 u4 : Token) → IsOpened now u1 u2 u3 u4 → nat_le 16 (length now) ≡ false → has_table now u3.text ≡ false
     → Hit (λ after. table geometry now (u1 ∷ u2 ∷ u3 ∷ u4 ∷ (b ++ u ∷ after))))
@@ -739,7 +739,7 @@ close_stops {T = T} geometry ws name first more before u (x, b, e, opened, parts
     refused now u1 u2 u3 u4 is room fresh (inl (None, there, read)) =
         (fault.NoKey u.at, refl, λ after. table_unkeyed geometry now (firsts (first ∷ more)) u1 u2 u3 u4 (b ++ u ∷ after) u after is room fresh (read after) right)
 
--- where a fault stands at a token, one is answered, whatever follows the token
+-- where a fault applies at a token, one is returned, whatever follows the token
 pub stands_stops : {T : Type 0} (geometry : List ℕ → Option T) (before : List Token) (u : Token) (g : SchemaFault) → StandsAt geometry before u g → AsciiWords (before ++ u ∷ [])
     → Hit (λ after. schema geometry (before ++ u ∷ after))
 stands_stops geometry before u (fault.TooMany at) (is, (word, ws, inl (full, p))) words =
@@ -765,7 +765,7 @@ fault_given : {T : Type 0} (geometry : List ℕ → Option T) (text : List ℕ) 
 unfolding schema_of
 fault_given geometry text ts f short e h = rw (le-ltb most_bytes (length text) short, e, h) refl
 
--- where a fault stands at a token of a text, one that stands there or before is given
+-- where a fault applies at a token of a text, one that applies there or before is given
 pub first_is_given : {T : Type 0} (geometry : List ℕ → Option T) (text : List ℕ) (r : Result (List (TableDef T)) SchemaFault) → Gives fault.OutOfMemory (λ t. t) r (schema_of geometry text)
     → AnswersFirst geometry text r
 first_is_given geometry text r given before after t g short cut stands =
@@ -783,6 +783,6 @@ given_itself : {A : Type 0} (r : Result A SchemaFault) → Gives fault.OutOfMemo
 given_itself (Ok x) = refl
 given_itself (Err f) = λ _. refl
 
--- where a fault stands at a token of a text, one that stands there or before is read
+-- where a fault applies at a token of a text, one that applies there or before is read
 pub first_is_read : {T : Type 0} (geometry : List ℕ → Option T) (text : List ℕ) → AnswersFirst geometry text (schema_of geometry text)
 first_is_read geometry text = first_is_given geometry text (schema_of geometry text) (given_itself (schema_of geometry text))

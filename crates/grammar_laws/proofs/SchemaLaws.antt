@@ -16,7 +16,7 @@ use Rattle.table_model.specs.SchemaGrammar.{AreTables, IsSchema, AnswersSchema}
 use Rattle.table_model.specs.SchemaReading.{schema, schema_of}
 use Rattle.table_model.specs.Tokens.{tokens, most_bytes}
 
--- tables that were read are lawful and stand in the grammar; a fault has nothing to show
+-- tables that were read are lawful and are in the grammar; a fault has nothing to show
 by_value : {T : Type 0} (geometry : List ℕ → Option T) (text : List ℕ) (r : Outcome SchemaFault (List (TableDef T))) → schema geometry (tokens false text) ≡ r → length text ≤ most_bytes
     → IfRead r (λ tables rest. AreTables geometry tables (tokens false text)) → IfOk (value_of r) (IsSchema geometry text)
 unfolding IsSchema

@@ -1,4 +1,4 @@
--- A fault at a token that the readers of a schema answer stands there.
+-- A fault at a token that the readers of a schema return applies there.
 use Rattle.std.proofs.Common.{◌≡◌, ◌≤◌, ◌<◌, ◌&&◌, ◌||◌, not, ℕ, zero, suc, Bool, true, false, if◌then◌else◌, List, [], ◌∷◌, ◌++◌, length, map, Option, Some, None, Result, Ok, Err, inl, inr, refl, sym, ap, subst, ◌∙◌, append_assoc, length-append, arith}
 use Rattle.std.specs.Prelude.{nat_le, nat_lt, codes, IfErr}
 use Rattle.std.proofs.lemmas.Bool.{and_parts, false≢true, leb-true, leb-false}
@@ -24,7 +24,7 @@ use Rattle.table_model.specs.declared.tokens.TokenKind.{TokenKind}
 use Rattle.table_model.specs.declared.tokens.TokenKind.TheVariants as k
 use Rattle.table_model.specs.Phrases.{Phrase, IsToken, ◌▸◌, IsParts, AreEnded, IsWord}
 
--- ---- what a reader answers
+-- ---- what a reader returns
 
 -- what was read, with the tokens that are left, and the fault where it is one at a token
 abbrev pub Answers : {A : Type 0} → Outcome SchemaFault A → (A → List Token → Type 0) → (SchemaFault → Type 0) → Type 0
@@ -54,7 +54,7 @@ eaten_by : {A : Type 0} (b : Bool) (ts : List Token) (p q : Reader A) (Q : A →
 eaten_by true ts p q Q E f g = f refl
 eaten_by false ts p q Q E f g = g refl
 
--- a reader that goes on in one way where a token of a kind is taken, and in another where none stands
+-- a reader that goes on in one way where a token of a kind is taken, and in another where none is there
 eaten : {A : Type 0} (wanted : TokenKind) (ts : List Token) (p q : Reader A) (Q : A → List Token → Type 0) (E : SchemaFault → Type 0)
     → (sees wanted ts ≡ true → Answers (p (next ts)) Q E) → (sees wanted ts ≡ false → Answers (q ts) Q E)
     → Answers ((if sees wanted ts then p else q) (after wanted ts)) Q E
@@ -74,7 +74,7 @@ expect_word_answers E word ts = if_answers (sees_word word ts) _ _ (λ x rest. T
 
 -- ---- a fault at the next token
 
--- the fault stands at the next token
+-- the fault applies at the next token
 here : {T : Type 0} (geometry : List ℕ → Option T) (all : List Token) (P : Phrase) (t : Token) (rest : List Token) (f : SchemaFault)
     → Took all P (t ∷ rest) → ((before : List Token) → P before → StandsAt geometry before t f) → StandsIn geometry all f
 here geometry all P t rest f took stands = (took.0, rest, t, took.1, stands took.0 took.2)
@@ -215,7 +215,7 @@ marks_answers geometry all tables name before column type ts stood =
 abbrev firsts : {T : Type 0} → List (Marked T) → List (ColumnDef T)
 firsts m = map (λ c. c.0) m
 
--- one of two stands, also where the second has another name
+-- one of two is there, also where the second has another name
 either : (a b c : Bool) → (b ≡ true → c ≡ true) → (a || b) ≡ true → (a || c) ≡ true
 either true b c f h = refl
 either false b c f h = f h
@@ -301,7 +301,7 @@ took_parts between P xs x start ts rest before read =
 firsts-more : {T : Type 0} (m : List (Marked T)) (x : Marked T) → firsts m ++ x.0 ∷ [] ≡ firsts (m ++ x ∷ [])
 firsts-more m x = sym (map-append (λ c. c.0) m (x ∷ []))
 
--- after one more column there is a key where one was, or where PRIMARY KEY stands on it
+-- after one more column there is a key where one was, or where PRIMARY KEY is on it
 key-more : {T : Type 0} (key : Option ℕ) (place : ℕ) (m : List (Marked T)) (x : Marked T) → is_there key ≡ has_key m → is_there (key_after key place x.1) ≡ has_key (m ++ x ∷ [])
 key-more key place m x e = go x.1 key e ∙ sym (list_any-append (λ c. c.1) m (x ∷ []))
   where
@@ -329,7 +329,7 @@ columns_end geometry m x key found start ts rest there before read =
     let (used, e, (first, more, is, parts)) = took_parts k.Comma (IsColumn geometry) m x start ts rest before read in
     (first, more, there ∙ ap has_key is, (used, e, parts))
 
--- each column stands behind those before it, so a fault at one of its tokens stands in the table
+-- each column comes after those before it, so a fault at one of its tokens applies in the table
 columns_answers : {T : Type 0} (geometry : List ℕ → Option T) (all : List Token) (tables : List (Written T)) (name : List ℕ) (n : ℕ) (m : List (Marked T)) (found : List (ColumnDef T)) (key : Option ℕ)
     (start ts : List Token) → Took all (BeforeColumns geometry tables name) start → Took start (AreEnded (IsToken k.Comma) (IsColumn geometry) m) ts
     → found ≡ firsts m → is_there key ≡ has_key m → length m ≤ 32
@@ -383,7 +383,7 @@ closed_answers geometry all tables name start mid rest columns None first more t
     at_close geometry all tables name first more close.0 mid rest (sym there) close.1 close.2
     (seq (BeforeColumns geometry tables name) (IsParts k.Comma (IsColumn geometry) first more) all start mid stood parts)
 
--- the closing parenthesis stands behind the columns that were read
+-- the closing parenthesis comes after the columns that were read
 close_answers : {T : Type 0} (geometry : List ℕ → Option T) (all : List Token) (tables : List (Written T)) (name : List ℕ) (start mid : List Token) (r : List (ColumnDef T) × Option ℕ)
     → Took all (BeforeColumns geometry tables name) start → ColumnsRead geometry start r mid → Answers (close name r mid) (CloseRead geometry name start) (StandsIn geometry all)
 close_answers geometry all tables name start mid r stood (first, more, there, parts) =
@@ -494,7 +494,7 @@ names-more : {T : Type 0} (found : List (TableDef T)) (tables : List (Written T)
 names-more found tables t w names e =
     map-append (λ t. t.name) found (t ∷ []) ∙ ap (λ l. l ++ t.name ∷ []) names ∙ ap (λ n. map (λ w. w.0) tables ++ n ∷ []) e ∙ sym (map-append (λ w. w.0) tables (w ∷ []))
 
--- each table stands behind those before it with their semicolons, so a fault at one of its tokens stands in the text
+-- each table comes after those before it with their semicolons, so a fault at one of its tokens applies in the text
 tables_answers : {T : Type 0} (geometry : List ℕ → Option T) (all : List Token) (n : ℕ) (found : List (TableDef T)) (tables : List (Written T)) (ts : List Token) → AreNames found tables → length tables ≤ 16
     → Took all (AreEnded (IsToken k.Semicolon) (IsWritten geometry) tables) ts → Answers (tables_from geometry n found ts) Anything (StandsIn geometry all)
 unfolding tables_from
@@ -525,7 +525,7 @@ by_value : {T : Type 0} (geometry : List ℕ → Option T) (ts : List Token) (r 
 by_value geometry ts (Ok p) h = tt
 by_value geometry ts (Err f) h = h
 
--- a fault at a token that is read stands there
+-- a fault at a token that is read applies there
 pub schema_of_stands : {T : Type 0} (geometry : List ℕ → Option T) (text : List ℕ) → IfErr (schema_of geometry text) (StandsInSchema geometry text)
 unfolding schema_of
 schema_of_stands geometry text = go (nat_lt most_bytes (length text))
@@ -534,7 +534,7 @@ schema_of_stands geometry text = go (nat_lt most_bytes (length text))
     go true = λ e. absurd (false≢true e)
     go false = by_value geometry (tokens false text) (schema geometry (tokens false text)) (schema_answers geometry (tokens false text))
 
--- a fault at a token that is given stands there
+-- a fault at a token that is given applies there
 pub given_stands : {T : Type 0} (geometry : List ℕ → Option T) (text : List ℕ) (r : Result (List (TableDef T)) SchemaFault) → Gives fault.OutOfMemory (λ t. t) r (schema_of geometry text)
     → IfErr r (StandsInSchema geometry text)
 given_stands geometry text (Ok tables) given = tt

@@ -1,4 +1,4 @@
--- What the readers of a schema read stands in its grammar.
+-- What the readers of a schema read is in its grammar.
 use Rattle.std.proofs.Common.{◌≡◌, ◌⊎◌, ◌+◌, ◌&&◌, ◌||◌, not, ℕ, zero, suc, Bool, true, false, if◌then◌else◌, List, [], ◌∷◌, ◌++◌, length, map, Option, Some, None, inl, inr, refl, sym, ap, subst, ◌∙◌, append_assoc, arith}
 use Rattle.std.specs.Option.{option_to_list}
 use Rattle.grammar_laws.proofs.QuerySound.{EndsOnce, ends_left, all_taken}
@@ -75,7 +75,7 @@ unfolding column_type
 column_type_sound geometry ts =
     if_read (sees k.Word ts) _ _ (λ type rest. Took ts (IsType geometry type) rest) (λ h. type_taken geometry ts _ h refl) (λ _. tt)
 
--- behind NOT stands NULL; where NOT doesn't stand, nothing is taken
+-- behind NOT is NULL; where NOT isn't there, nothing is taken
 null_mark_sound : (ts : List Token) → IfRead (null_mark ts) (λ b rest. Took ts (IsMark b IsNotNull) rest)
 unfolding null_mark
 null_mark_sound ts = eaten k.Not ts _ _ (λ b rest. Took ts (IsMark b IsNotNull) rest)
@@ -88,7 +88,7 @@ null_mark_sound ts = eaten k.Not ts _ _ (λ b rest. Took ts (IsMark b IsNotNull)
 abbrev KeyTook : Bool → List Token → Bool → List Token → Type 0
 KeyTook has_key ts b rest = (has_key ≡ true → b ≡ false) × Took ts (IsMark b IsPrimaryKey) rest
 
--- behind PRIMARY stands KEY; in a table with a key PRIMARY is refused, so none stands
+-- behind PRIMARY is KEY; in a table with a key PRIMARY is refused, so none is there
 key_mark_sound : {T : Type 0} (has_key : Bool) (type : ColumnType T) (ts : List Token) → IfRead (key_mark has_key type ts) (KeyTook has_key ts)
 unfolding key_mark
 key_mark_sound has_key type ts =
@@ -123,7 +123,7 @@ marks_from has_key type ts false mid took =
     (null_mark_sound mid2))
     (key_mark_sound has_key type mid)
 
--- the marks stand in one of the two orders, each at most once: NOT NULL is asked for in front and, where none was, behind
+-- the marks are in one of the two orders, each at most once: NOT NULL is asked for in front and, where none was, behind
 marks_sound : {T : Type 0} (has_key : Bool) (type : ColumnType T) (ts : List Token) → IfRead (marks has_key type ts) (MarksTook has_key ts)
 unfolding marks
 marks_sound has_key type ts =
@@ -301,7 +301,7 @@ table_sound {T = T} geometry found ts =
 abbrev IsSeparator : Bool → Phrase
 IsSeparator more used = (more ≡ true → IsToken k.Semicolon used) × IsOptional k.Semicolon used
 
--- a semicolon is taken where one stands, and tables go on only behind one
+-- a semicolon is taken if one comes next, and tables go on only behind one
 goes_on_sound : (ts : List Token) → IfRead (goes_on ts) (λ more rest. Took ts (IsSeparator more) rest)
 unfolding goes_on after
 goes_on_sound ts = go (sees k.Semicolon ts) refl
@@ -333,7 +333,7 @@ tables_more geometry found read ts mid mid2 r rest took semicolon (x, xs, e, mor
           last,
     )
 
--- further tables stand behind a semicolon; behind the last one a semicolon may stand or none
+-- further tables come after a semicolon; behind the last one there may be a semicolon or none
 tables_then : {T : Type 0} (geometry : List ℕ → Option T) (n : ℕ) (found : List (TableDef T)) (read : TableDef T) (more : Bool) (ts mid mid2 : List Token)
     → TableTook geometry ts read mid → Took mid (IsSeparator more) mid2
     → IfRead (tables_from geometry n (found ++ read ∷ []) mid2) (TablesTook geometry (found ++ read ∷ []) mid2)
@@ -388,7 +388,7 @@ end_taken mid rest once ([], e, p) = absurd p
 end_taken mid rest once (t ∷ [], e, p) = (let both : EndsOnce (t ∷ rest) = subst EndsOnce e once in both).0 p
 end_taken mid rest once (t ∷ u ∷ us, e, p) = absurd p
 
--- the tables of a schema that was read stand in the grammar
+-- the tables of a schema that was read are in the grammar
 pub schema_sound : {T : Type 0} (geometry : List ℕ → Option T) (ts : List Token) → EndsOnce ts → IfRead (schema geometry ts) (λ r rest. AreTables geometry r ts)
 unfolding schema
 schema_sound geometry ts once =

@@ -9,7 +9,7 @@ use Rattle.table_model.specs.Parsers.{Outcome, Parser, kind, next, sees, after, 
 use Rattle.table_model.specs.Tokens.{same_kind}
 use Rattle.table_model.specs.Phrases.{Phrase, IsToken, ◌▸◌, AreEnded}
 
--- ---- what a reader answers
+-- ---- what a reader returns
 
 abbrev pub IfRead : {F A : Type 0} → Outcome F A → (A → List Token → Type 0) → Type 0
 IfRead (Ok p) Q = Q p.0 p.1
@@ -37,7 +37,7 @@ eaten_by : {F A : Type 0} (b : Bool) (ts : List Token) (p q : Parser F A) (Q : A
 eaten_by true ts p q Q f g = f refl
 eaten_by false ts p q Q f g = g refl
 
--- a reader that goes on in one way where a token of a kind is taken, and in another where none stands
+-- a reader that goes on in one way where a token of a kind is taken, and in another where none is there
 pub eaten : {F A : Type 0} (wanted : TokenKind) (ts : List Token) (p q : Parser F A) (Q : A → List Token → Type 0)
     → (sees wanted ts ≡ true → IfRead (p (next ts)) Q) → (sees wanted ts ≡ false → IfRead (q ts) Q)
     → IfRead ((if sees wanted ts then p else q) (after wanted ts)) Q
@@ -50,7 +50,7 @@ eaten wanted ts p q Q f g = eaten_by (sees wanted ts) ts p q Q f g
 abbrev pub Took : List Token → Phrase → List Token → Type 0
 Took ts P rest = (used : List Token) × (ts ≡ used ++ rest) × P used
 
--- the test of two kinds of token tells that they are equal
+-- the test of two kinds of token shows that they are equal
 pub same : (a b : TokenKind) → same_kind a b ≡ true → a ≡ b
 unfolding same_kind
 same a b h = same_true the_type (search rules) a b h
@@ -77,7 +77,7 @@ expect_taken syntax wanted ts good = if_read (sees wanted ts) _ _ (λ x rest. To
 
 -- ---- lists
 
--- one more, with what stands behind it
+-- one more, with what comes after it
 pub ended_more : {A : Type 0} (end : Phrase) (P : A → Phrase) (xs : List A) (x : A) (used more : List Token) → AreEnded end P xs used → (P x ▸ end) more
     → AreEnded end P (xs ++ x ∷ []) (used ++ more)
 ended_more end P [] x used more none (a, b, e, p, q) = (a, b, ap (λ l. l ++ more) none ∙ e, p, (b, [], sym (append-nil b), q, refl))

@@ -66,7 +66,7 @@ string_other : (end : Option ℕ) → (string_to end).0 ≡ k.End → ⊥
 string_other None = λ e. cc
 string_other (Some n) = λ e. cc
 
--- what stands at the front of a text that isn't empty isn't End, case by case: word, digits, string or symbol
+-- what is at the front of a text that isn't empty isn't End, case by case: word, digits, string or symbol
 front_other : (s : Bool) (z : List ℕ) → NotEnd (front s z).0
 unfolding front
 front_other s z =
@@ -101,7 +101,7 @@ tokens_from_once s (suc left) at (b ∷ z) = tokens_from_once s left (at + 1) z
 tokens_from_once s zero at (b ∷ z) =
     at_front_once (front s (b ∷ z)).0 (front s (b ∷ z)).1 at (b ∷ z) _ (front_other s (b ∷ z)) (tokens_from_once s ((front s (b ∷ z)).1 - 1) (at + 1) z)
 
--- each token before the last is cut from bytes of the text, and End stands where none are left
+-- each token before the last is cut from bytes of the text, and End is where none are left
 pub tokens_once : (s : Bool) (text : List ℕ) → EndsOnce (tokens s text)
 unfolding tokens
 tokens_once s text = tokens_from_once s 0 0 text

@@ -32,7 +32,7 @@ covers_kept a b es m n part all = All-weaker (Covers a b m) (Covers a b n) (grow
 pub points_kept : (a b : Geometry) (ps : List Point) (m n : Matrix) → IsPartOf m n → All (λ p. Shows m (locate a p) (locate b p) Zero) ps → All (λ p. Shows n (locate a p) (locate b p) Zero) ps
 points_kept a b ps m n part all = All-weaker (λ p. Shows m (locate a p) (locate b p) Zero) (λ p. Shows n (locate a p) (locate b p) Zero) (λ p s. still_shown m n part _ _ Zero s) ps all
 
--- a point of an own edge stands where these mostly do, or is an odd end
+-- a point of an own edge lies where these mostly do, or is an odd end
 no_edges : {X : Type 0} (e : Edge) → Contains [] e → X
 no_edges e c = absurd (omega (arith, c.1))
 

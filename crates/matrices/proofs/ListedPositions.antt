@@ -22,6 +22,6 @@ listed_is_interior (MultiLineString ls) p h = none_listed p h
 listed_is_interior (Polygon rs) p h = none_listed p h
 listed_is_interior (MultiPolygon es) p h = none_listed p h
 
--- what stands at a place of a list is one of its values
+-- what is at a place of a list is one of its values
 pub stands_in : (xs ys : List Position) (i : ℕ) (p : Position) → i < length xs → p ≡ get_or xs i p → xs ≡ ys → Contains ys p
 stands_in xs ys i p l e s = subst (λ zs. Contains zs p) s (i, l, sym e)

@@ -1,4 +1,4 @@
--- Where an odd end stands is shown by the ends of lines.
+-- Where an odd end lies is shown by the ends of lines.
 use Rattle.std.proofs.Common.{◌≡◌, ◌⊎◌, inl, inr, Bool, true, false, if◌then◌else◌, refl, sym, ap, ◌∙◌, List, [], ◌∷◌, flat_map}
 use Rattle.std.specs.List.{All, list_any}
 use Rattle.std.proofs.lemmas.List.Elements.{All-contains, All-head, All-tail}

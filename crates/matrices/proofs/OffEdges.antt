@@ -1,4 +1,4 @@
--- Where a point off a geometry's edges stands.
+-- Where a point off a geometry's edges lies.
 use Rattle.std.proofs.Common.{◌≡◌, Bool, true, false, if◌then◌else◌, refl, sym, ap, ap₂, ◌∙◌}
 use Rattle.std.proofs.lemmas.Bool.{false≢true}
 use Rattle.geometry_model.specs.Points.{Point}

@@ -45,7 +45,7 @@ shown_by_covered : (a b : Geometry) (m : Matrix) → All (Covers a b m) (edges b
 shown_by_covered a b m covered e c w x hx k p = let d : Contains (edges b) p.found = contains_of_among p.found (edges b) p.among in
     shown_by_other a b m e p.found c d w x hx k p.passes (all_at (Covers a b m) (edges b) p.found covered d x hx p.passes)
 
--- ---- a point off the second geometry's edges stands as the sample of the gap that holds it
+-- ---- a point off the second geometry's edges lies as the sample of the gap that holds it
 record Held (a b : Geometry) (m : Matrix) (e : Edge) (x : Point) : Type 0 where
   pub p : Point
   pub q : Point

@@ -84,7 +84,7 @@ points_on es ps e = each_of IsPoint (cuts_on es ps e) (λ p a. (listed_is_cut es
 sorted_on : (es : List Edge) (ps : List Position) (e : Edge) → Sorted compare (cuts_on es ps e)
 sorted_on es ps e = filter-sorted compare (on e) (cut_points es ps) (cut_points-sorted es ps)
 
--- a cut of the edge stands in the list, as one of its triples
+-- a cut of the edge lies in the list, as one of its triples
 pub record Standing (es : List Edge) (ps : List Position) (e : Edge) (p : Point) : Type 0 where
   pub cut : Point
   pub among : Among cut (cuts_on es ps e)

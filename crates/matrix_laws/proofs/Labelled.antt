@@ -246,14 +246,14 @@ nothing_right c z e = nothing (c.X *ℤ z.W) (z.X *ℤ c.W) e
     nothing : (u v : ℤ) → u ≡ v → v -ℤ u ≡ pos 0
     nothing u v e = omega (arith, ints)
 
--- such a point is no cut, since a cut stands straight at itself
+-- such a point is no cut, since a cut lies straight at itself
 free_no_cut : (a b : Geometry) (z : Point) → Free a b z → IsCut (edges' a b) (listed' a b) z → ⊥
 free_no_cut a b z f c = go (cut_is_listed (edges' a b) (listed' a b) z f.is_point c)
   where
     go : Some_of (λ q. same_point q z ≡ true) (cuts' a b) → ⊥
     go s = f.apart s.found s.among (nothing_right s.found z (same_x s.found z s.has))
 
--- where nothing goes through a point that is no cut, it stands off both
+-- where nothing goes through a point that is no cut, it lies off both
 off_both : (a b : Geometry) (z : Point) → IsPoint z → Each (λ e. on e z ≡ false) (edges' a b) → (IsCut (edges' a b) (listed' a b) z → ⊥) → Off a z × Off b z
 off_both a b z hz h f = (
   record { edges_off = each_left (λ e. on e z ≡ false) (edges a) (edges b) h; listed_off = each_left (λ p. stands_at z p ≡ false) (listed a) (listed b) stands },
@@ -272,7 +272,7 @@ exterior_above (Geometry.MultiLineString ls) z h = refl
 exterior_above (Geometry.Polygon rs) z h = ap (λ (t : Bool). if t then Interior else Exterior) (parity_of_rings rs z ∙ parity_none (λ e. strictly_above e z) (edges_of_lines rs) h)
 exterior_above (Geometry.MultiPolygon es) z h = ap (λ (t : Bool). if t then Interior else Exterior) (parity_of_rings (joined_rings es) z ∙ parity_none (λ e. strictly_above e z) (edges_of_lines (joined_rings es)) h)
 
--- straight above a free point no cut stands
+-- straight above a free point no cut lies
 straight : (c z o : Point) → IsPoint o → o.X *ℤ z.W ≡ z.X *ℤ o.W → c.X *ℤ o.W ≡ o.X *ℤ c.W → right c z ≡ pos 0
 straight c z o ho e f = cancel_zero o.W (right c z) ho (
     solve (c.X ∷ c.W ∷ z.X ∷ z.W ∷ o.W ∷ []) (var 4 ⊗ (var 2 ⊗ var 1 ⊖ var 0 ⊗ var 3)) ((var 2 ⊗ var 4) ⊗ var 1 ⊖ (var 0 ⊗ var 4) ⊗ var 3) tt

@@ -131,7 +131,7 @@ slant_within es ps c h d f s i g m k e = decide (on_one_line h.edge g) refl
     decide true q = collinear (one_line h.edge g q)
     decide false q = let z : true ≡ false = sym k ∙ off_within es ps c h g s m q i in absurd (cc)
 
--- so at the sample of a piece that isn't upright only slanted edges go through it, and no listed position stands there
+-- so at the sample of a piece that isn't upright only slanted edges go through it, and no listed position is there
 slant_all : (a b : Geometry) (c : Piece) (h : IsPieceOf a b c) → Ends c → is_upright c ≡ false → Each (IsSlant (sample c)) (marks a b)
 slant_all a b c h d f = go (sample_inside (edges_of_both a b) (listed a ++ listed b) c h d)
   where

@@ -24,7 +24,7 @@ pub record HasEnds (e : Edge) (low high : Position) : Type 0 where
   pub in_order : compare (point_at low) (point_at high) ≡ Less
   pub are_ends : ((low ≡ e.start) × (high ≡ e.end)) ⊎ ((low ≡ e.end) × (high ≡ e.start))
 
--- positions that stand at one point are equal
+-- positions that are at one point are equal
 pub same_position : (a b : Position) → same_point (point_at a) (point_at b) ≡ true → a ≡ b
 same_position a b e = λ i. record { x = plain a.x b.x (same_x (point_at a) (point_at b) e) i; y = plain a.y b.y (same_y (point_at a) (point_at b) e) i }
   where

@@ -46,7 +46,7 @@ unfolding IsStrictlySortedBy
 strictly_sorted R order V f [] vs h = tt
 strictly_sorted R order V f (z ∷ zs) vs h = (each_after R order V f z zs vs.0 vs.1 h.0, strictly_sorted R order V f zs vs.1 h.1)
 
--- sorting moves elements, and equal ones then stand side by side, so one of each is left, ascending
+-- sorting moves elements, and equal ones then lie side by side, so one of each is left, ascending
 pub ordered : {X : Type 0} (R : X → X → Ordering) (E : X → X → Bool) (V : X → Type 0) (order : X → X → Ordering) (same : X → X → Bool) → Agrees R E V order same
     → (xs ys zs : List X) → Each V xs → IsPermutation xs ys → IsSorted R ys → zs ≡ dedup E ys → Ordered order same xs zs
 ordered {X} R E V order same a xs ys zs vs moved up left = record { from = from; kept = kept; sorted = strictly_sorted R order V a.order_is zs values (subst (IsStrictlySortedBy R) (sym left) (IsStrictlySortedBy-dedup a.total a.ties ys up)) }

@@ -16,7 +16,7 @@ use Rattle.table_model.specs.Truths.{truth}
 use Rattle.table_model.specs.ValidGeometries.{HasValidGeometries, HasValidLiterals}
 use Rattle.table_model.specs.declared.plans.AccessMethod.{AccessMethod}
 
--- all conjuncts are true at the rows that stand at a choice
+-- all conjuncts are true at the rows that are at a choice
 abbrev pub kept : (Geometry → Geometry → Matrix) → List Condition → List (Table Geometry) → Choice → Bool
 kept matrix conjuncts tables choice = all_true (truth matrix denoted) conjuncts (rows_at tables choice)
 

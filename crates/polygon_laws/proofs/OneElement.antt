@@ -20,7 +20,7 @@ none_before k = omega arith
 one_before_all : (n k : ℕ) → suc n + k ≡ suc (n + k)
 one_before_all n k = omega arith
 
--- and the second list's elements stand as many places later as the first list has
+-- and the second list's elements lie as many places later as the first list has
 place_right : {X : Type 0} (xs ys : List X) (k : ℕ) → slice_get (xs ++ ys) (length xs + k) ≡ slice_get ys k
 place_right [] ys k = ap (slice_get ys) (none_before k)
 place_right (z ∷ xs) ys k = ap (slice_get (z ∷ xs ++ ys)) (one_before_all (length xs) k) ∙ place_right xs ys k
@@ -34,7 +34,7 @@ pub record Numbered (rs : List (List Position)) (first : ℕ) (es : List (List (
 abbrev element_at : ℕ → List (List Position) → Element
 element_at n rs = record { first = n; rings = rs }
 
--- an element's first ring has the number of all rings before it, and its k-th ring stands k places later among all rings
+-- an element's first ring has the number of all rings before it, and its k-th ring lies k places later among all rings
 pub numbered : (rs : List (List Position)) (first : ℕ) (es : List (List (List Position))) → Among rs es → Numbered rs first es
 numbered rs first [] a = absurd a
 numbered rs first (d ∷ es) (inl e) = record {

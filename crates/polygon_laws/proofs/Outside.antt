@@ -268,7 +268,7 @@ rings_aside rs p hp c (inr (inr (inl h))) = all_above rs p c (each_map (λ e. Ov
 rings_aside rs p hp c (inr (inr (inr h))) = nothing_above rs p (each_map (λ e. Under p e.start × Under p e.end) (λ e. strictly_above e p ≡ false) (edges_of_lines rs) (λ e k. above_under p e hp k.0 k.1) (ends_of_lines (Under p) rs h))
 
 -- ---- off all edges and listed positions
--- the point stands at no listed position, since it isn't on the edge from that position to itself
+-- the point is at no listed position, since it isn't on the edge from that position to itself
 listed_off : (P : Position → Type 0) (p : Point) → IsPoint p → ((e : Edge) → P e.start → P e.end → on e p ≡ false) → (qs : List Position) → Each P qs → Each (λ a. stands_at p a ≡ false) qs
 listed_off P p hp f qs h = each_map P (λ a. stands_at p a ≡ false) qs (λ a k. by_contraries (stands_at p a) (on (dot a) p) (start_is_on (dot a) p hp) (f (dot a) k k)) h
 

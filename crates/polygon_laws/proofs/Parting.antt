@@ -257,7 +257,7 @@ slant_area (Geometry.Polygon rs) p i ring e h = record { edges = all_from_each (
 slant_area (Geometry.MultiPolygon es) p i ring e h = record { edges = all_from_each (IsSlant p) (edges_of_lines (joined_rings es)) h; positions = all_from_each (λ a. stands_at p a ≡ false) [] tt }
 
 -- below counts the edges at or above, above those strictly above, and just one of these numbers is odd;
--- no edge through the point is upright, so the points near it stand as these say
+-- no edge through the point is upright, so the points near it lie as these say
 pub sides_of_a_ring : (g : Geometry) → IsValid g → (i : ℕ) (ring : List Position) → slice_get (rings g) i ≡ Some ring → (j : ℕ) (e : Edge) → slice_get (edges_of_line ring) j ≡ Some e
     → (p : Point) → IsPoint p → on e p ≡ true → stands_at p e.start ≡ false → stands_at p e.end ≡ false → (e.start.x ≡ e.end.x → ⊥) → ArePartedAs (below g p) (above g p) × ((k : ℕ) → NearSides g p k) × AllNearStand g p
 sides_of_a_ring g v i ring ri j e ej p hp h s t f = (

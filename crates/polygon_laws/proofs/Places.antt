@@ -63,7 +63,7 @@ pub pairs_append : {X : Type 0} (P : X → X → Type 0) (xs ys : List X) → Pa
 pairs_append P [] ys h k b = k
 pairs_append P (x ∷ xs) ys h k b = (each_append (P x) xs ys h.0 b.0, pairs_append P xs ys h.1 k b.1)
 
--- two elements of the list are one, or the one stands before the other
+-- two elements of the list are one, or the one comes before the other
 pub one_before : {X : Type 0} (P : X → X → Type 0) (xs : List X) → Pairs P xs → (x y : X) → Among x xs → Among y xs → (x ≡ y) ⊎ P x y ⊎ P y x
 one_before P [] h x y a b = absurd a
 one_before P (z ∷ zs) h x y (inl e) (inl g) = inl (e ∙ sym g)

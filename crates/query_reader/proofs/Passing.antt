@@ -51,7 +51,7 @@ part_follows between part n found kept ts mid later (Ok x) keeps done r f g is m
     rw (r, more, e, ← at) refl
 part_follows between part n found kept ts mid later (Err e) keeps done r f g is more at = cc
 
--- ---- what stands at a level: NOT, parentheses or a predicate
+-- ---- what is at a level: NOT, parentheses or a predicate
 
 pub opposite_below : (n : ℕ) (ts later new : List Token) (result : Result (WrittenCond WrittenGeometry) QueryFault)
     → sees k.Not ts ≡ true
@@ -101,7 +101,7 @@ truth_gives {A = A} x ts = go (sees k.Integer ts && digits_value 10 (spelling ts
     go false true = refl
     go false false = refl
 
--- a call that may want memory answers what the reader gives
+-- a call that may want memory returns what the reader gives
 pub given_reads : {A : Type 0} (outcome : Outcome QueryFault A) (y : A) (result : Result A QueryFault) (new : List Token)
     → Gives fault.OutOfMemory (λ it. it) result (Ok y)
     → outcome ≡ Ok (y, new)
@@ -132,7 +132,7 @@ test_after (Ok p) = test_gives p.0 p.1 ∙ split p.0 (comparand p.1)
     split call (Err e) = refl
 test_after (Err e) = refl
 
--- a call that may want memory answers what is made of what was read before
+-- a call that may want memory returns what is made of what was read before
 made_reads : {A B : Type 0} (made : A → B) (outcome : Outcome QueryFault A) (read : Result A QueryFault) (result : Result B QueryFault) (new : List Token)
     → Reads fault.OutOfMemory outcome read new
     → IfOk read (λ x. Gives fault.OutOfMemory (λ it. it) result (Ok (made x)))

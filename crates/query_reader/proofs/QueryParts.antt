@@ -20,7 +20,7 @@ pub query_is : (ts : List Token) → query language ts ≡ by_parts ts
 unfolding query
 query_is ts = simp grouped
 
--- what stands before ON is a step of its own
+-- what comes before ON is a step of its own
 pub stepped : {F U V A B : Type 0} (o : Outcome F U) (p : Parser F A) (q : Parser F V) (g : A → Parser F B)
     → and_then o (λ _ ts. and_then (p ts) (λ a later. and_then (q later) (λ _. g a))) ≡ and_then (and_then o (λ _ ts. and_then (p ts) (λ a later. and_then (q later) (λ _. pure a)))) g
 stepped o p q g = simp grouped

@@ -36,7 +36,7 @@ meeting_more es asked i e found =
     ∙ map-append (λ s. s.0) (filter (placed_meets asked) (enumerate_from 0 (take i es))) (filter (placed_meets asked) ((i, e) ∷ []))
     ∙ ap (λ l. meeting_places (take i es) asked ++ l) (place_of (placed_meets asked) (i, e))
 
--- so does the list of places found, whatever stood in it at the start
+-- so does the list of places found, whatever was in it at the start
 pub found_more : (es : List (Option Envelope)) (asked : Option Envelope) (i : ℕ) (e : Option Envelope) (start old new : List ℕ) (passes : Bool)
     → slice_get es i ≡ Some e → passes ≡ meets e asked → new ≡ old ++ cond passes (i ∷ []) []
     → old ≡ start ++ meeting_places (take i es) asked → new ≡ start ++ meeting_places (take (i + 1) es) asked

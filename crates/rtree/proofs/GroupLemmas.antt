@@ -104,7 +104,7 @@ pub record IsRising (entries : List Entry) (levels : List (List Envelope)) (leve
   pub room : length nodes ≤ more + 1
   pub whole : below ++ levels_up more nodes ≡ singles entries ∷ levels_of entries
 
--- at the start the lowest level is done, and the leaves stand over it
+-- at the start the lowest level is done, and the leaves are over it
 pub rising_start : (entries : List Entry) (lowest leaves : List Envelope) → lowest ≡ map (λ e. e.1) entries → map Some leaves ≡ map joined_all (eights lowest)
     → IsRising entries (lowest ∷ []) leaves
 rising_start entries lowest leaves h is = record {
@@ -126,7 +126,7 @@ up_more (suc n) nodes room several =
     let size : length (nodes_over nodes) ≡ div_ceil (length nodes) 8 = length-map (eights nodes) (flat_map (λ node. node)) ∙ length-eights nodes in
     (n, ap (λ b. nodes ∷ cond b [] (levels_up n (nodes_over nodes))) some, omega (arith, size))
 
--- while a level has several nodes the next one stands over it, and keeps what the levels are to keep
+-- while a level has several nodes the next one is over it, and keeps what the levels are to keep
 pub rising_more : (entries : List Entry) (levels : List (List Envelope)) (level next : List Envelope) → IsRising entries levels level → 1 < length level
     → map Some next ≡ map joined_all (eights level) → IsRising entries (levels ++ level ∷ []) next
 rising_more entries levels level next r several is =

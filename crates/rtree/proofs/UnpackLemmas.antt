@@ -21,7 +21,7 @@ use Rattle.rtree.proofs.OrderLemmas.{Ascends, all-in_order, ascends-in_order, as
 abbrev Stands : List (Option Envelope) → Entry → Type 0
 Stands es e = slice_get es e.0 ≡ Some (Some e.1)
 
--- each entry taken from a place on stands at its own place in the list
+-- each entry taken from a place on is at its own place in the list
 present-from : (es rest : List (Option Envelope)) (n : ℕ) → ((i : ℕ) → slice_get rest i ≡ slice_get es (n + i)) → AllByRecursion (Stands es) (filter_map entry_at (enumerate_from n rest))
 present-from es [] n same = tt
 present-from es (None ∷ rest) n same = present-from es rest (n + 1) (λ i. let m : n + suc i ≡ n + 1 + i = omega arith in same (suc i) ∙ ap (slice_get es) m)
@@ -144,7 +144,7 @@ envelope-with_entry e (z ∷ zs) place none = go (comes_before e z) (z.0 == e.0)
     go false false same gone more =
         ap (λ r. cond (z.0 == place) (Some z.1) r) (more gone) ∙ swapped (z.0 == place) (e.0 == place) refl refl same
 
--- no envelope stands before the first
+-- no envelope comes before the first
 none_before : (n place : ℕ) (es : List (Option Envelope)) → place < n → envelope_at (filter_map entry_at (enumerate_from n es)) place ≡ None
 none_before n place [] less = refl
 none_before n place (None ∷ es) less = none_before (n + 1) place es (omega arith)

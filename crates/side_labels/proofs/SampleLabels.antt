@@ -27,7 +27,7 @@ sample_is_point c h = positive c.lesser.W c.greater.W h.lesser h.greater
 pub same_sample : (q : Point) (c : Piece) → q ≡ least_form (sample c) → same_point q (sample c) ≡ true
 same_sample q c e = subst (λ (r : Point). same_point r (sample c) ≡ true) (sym e) (least_is_same (sample c))
 
--- where a point stands doesn't depend on its triple, and so neither does its label
+-- where a point lies doesn't depend on its triple, and so neither does its label
 pub label_same : (a b : Geometry) (q : Point) (c : Piece) → HasSample c → IsPoint q → same_point q (sample c) ≡ true → label a b q ≡ label a b (sample c)
 label_same a b q c h hq e = λ i. record {
   first = locate_respects a q (sample c) hq (sample_is_point c h) e i;

@@ -1,4 +1,4 @@
--- How the tokens of a text go on after what stands at its front.
+-- How the tokens of a text go on after what is at its front.
 use Rattle.std.proofs.Common.{◌≡◌, ℕ, zero, suc, ◌+◌, ◌-◌, ◌<◌, ◌≤◌, Bool, List, [], ◌∷◌, length, drop, ap, ◌∙◌, sym, arith, Option, Some, None, false, ◌++◌, append_assoc, length-drop}
 use Rattle.std.proofs.lemmas.List.{drop-drop}
 use Rattle.table_model.specs.Tokens.{front, at_front, tokens_from, text_of, same_kind}
@@ -18,7 +18,7 @@ drop-cons : (n b : ℕ) (z : List ℕ) → 1 ≤ n → drop (n - 1) z ≡ drop n
 drop-cons zero b z h = absurd (omega arith)
 drop-cons (suc n) b z h = let e : suc n - 1 ≡ n = omega arith in ap (λ k. drop k z) e
 
--- the tokens of a text are what stands at its front, and those of what comes behind it
+-- the tokens of a text are what is at its front, and those of what comes behind it
 tokens_from-front : (s : Bool) (at : ℕ) (z : List ℕ) → 0 < length z → 1 ≤ (front s z).1 → (front s z).1 ≤ length z
     → tokens_from s 0 at z ≡ at_front (front s z).0 (front s z).1 at z (tokens_from s 0 (at + (front s z).1) (drop (front s z).1 z))
 tokens_from-front s at [] some least most = absurd (omega arith)
@@ -28,7 +28,7 @@ tokens_from-front s at (b ∷ z) some least most =
     ap (λ more. at_front (front s (b ∷ z)).0 n at (b ∷ z) more)
     (tokens_from-skip s (n - 1) (at + 1) z (omega arith) ∙ ap (λ k. tokens_from s 0 k (drop (n - 1) z)) e ∙ ap (λ r. tokens_from s 0 (at + n) r) (drop-cons n b z least))
 
--- what the tokens from a place on are, by what stands at the front there
+-- what the tokens from a place on are, by what is at the front there
 tokens_at : (s : Bool) (at : ℕ) (text rest : List ℕ) (f : Option TokenKind × ℕ) → rest ≡ drop at text → f ≡ front s rest
     → at < length text → 1 ≤ f.1 → f.1 ≤ length rest
     → tokens_from s 0 at (drop at text) ≡ at_front f.0 f.1 at rest (tokens_from s 0 (at + f.1) (drop (at + f.1) text))

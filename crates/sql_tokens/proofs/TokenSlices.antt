@@ -13,7 +13,7 @@ take_itself zero z = refl
 take_itself (suc n) [] = refl
 take_itself (suc n) (b ∷ z) = ap (λ r. b ∷ r) (take_itself n z)
 
--- the text of a token is what stands at its place: without the quotes where it is a text
+-- the text of a token is what is at its place: without the quotes where it is a text
 text_is_slice : (before z : List ℕ) (kind : TokenKind) (len : ℕ) → IsSlice (before ++ z) (record { kind = kind; text = text_of kind len z; at = length before })
 text_is_slice before z kind len = go (same_kind kind k.Text)
   where

@@ -34,13 +34,13 @@ test-among k (x ∷ xs) h = go (int_eq k x) refl h (test-among k xs)
     go true is p more = inl (equal_from k x is)
     go false is p more = inr (more p)
 
--- a key that is among some stands at a place of theirs
+-- a key that is among some is at a place of theirs
 contained : (k : ℤ) (xs : List ℤ) → Among k xs → Contains xs k
 contained k [] h = absurd h
 contained k (x ∷ xs) (inl e) = (0, omega arith, sym e)
 contained k (x ∷ xs) (inr h) = let c = contained k xs h in (suc c.0, omega (arith, c.1), c.2)
 
--- and a key that stands at a place of theirs is among them
+-- and a key that is at a place of theirs is among them
 among : (k : ℤ) (xs : List ℤ) → Contains xs k → Among k xs
 among k xs c = go xs c.0 c.1 c.2
   where
@@ -49,7 +49,7 @@ among k xs c = go xs c.0 c.1 c.2
     go (x ∷ xs) zero within is = inl (sym is)
     go (x ∷ xs) (suc i) within is = inr (go xs i (omega (arith, within)) is)
 
--- the first of some keys that is double, where others stand before them
+-- the first of some keys that is double, where others come before them
 record First (earlier : List ℤ) (start : ℕ) (keys : List ℤ) (number : ℕ) : Type 0 where
   pub before : List ℤ
   pub key : ℤ

@@ -17,7 +17,7 @@ pub or-none : (a b : Bool) → (a || b) ≡ false → (a ≡ false) × (b ≡ fa
 or-none true b h = absurd (false≢true (sym h))
 or-none false b h = (refl, h)
 
--- two keys that the test tells apart differ
+-- two keys that the test shows apart differ
 pub differ : (a b : ℤ) → int_eq b a ≡ false → a ≢ b
 differ a b h = λ p. false≢true (sym h ∙ equal_yes b a (sym p))
 
@@ -56,7 +56,7 @@ each-insert P key row (other ∷ rows) p h = go (int_lt (key_of key row) (key_of
     go true more = (p, h)
     go false more = (h.0, more)
 
--- so what holds of each row still does where they stand by key
+-- so what holds of each row still does where they are by key
 pub each-by_key : {G : Type 0} (P : Row G → Type 0) (key : ℕ) (rows : List (Row G)) → Each P rows → Each P (by_key key rows)
 unfolding by_key
 each-by_key P key [] h = tt

@@ -216,7 +216,7 @@ loads_rows {T = T} {G = G} takes geometry taken table records rows e =
 
 -- ---- databases
 
--- a table among others loads where it loads by itself; only a fault is told with the table's place
+-- a table among others loads where it loads by itself; only a fault is returned with the table's place
 table-loaded : {X : Type 0} (place : ℕ) (r : Result X LoadFault) (x : X) → at_table place r ≡ Ok x → r ≡ Ok x
 table-loaded place (Ok y) x e = let same : y ≡ x = cc e in ap Ok same
 table-loaded place (Err f) x e = cc e

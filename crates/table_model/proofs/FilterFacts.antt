@@ -1,4 +1,4 @@
--- Each conjunct stands once among the filters.
+-- Each conjunct is once among the filters.
 use Rattle.std.specs.Prelude.{◌≡◌, refl, ℕ, suc, zero, ◌+◌, ◌<◌, ◌≤◌, ◌≢◌, ◌⊎◌, Bool, true, false, cond, if◌then◌else◌, ◌==◌, List, [], ◌∷◌, length, get_or, sum_by, count_by, flat_map, filter_map, Some, None}
 use Rattle.std.specs.List.{enumerate_from, range_with_len, cons_option}
 use Rattle.std.proofs.Common.{arith, ap, ◌∙◌, sym, inl, inr}
@@ -13,7 +13,7 @@ use Rattle.table_model.specs.declared.conditions.Cond.{Cond}
 abbrev places_from : {X : Type 0} → ℕ → (X → Bool) → List X → List ℕ
 places_from m test xs = filter_map (λ x. if test x.1 then Some x.0 else None) (enumerate_from m xs)
 
--- how often a place stands in a list
+-- how often a place is in a list
 abbrev times : ℕ → List ℕ → ℕ
 times k ks = count_by (λ j. j == k) ks
 
@@ -43,7 +43,7 @@ counted k j ks n e h = times-cons k j ks ∙ ap (λ b. (if b then 1 else 0) + ti
 passed : (k j : ℕ) (ks : List ℕ) (n : ℕ) → (j == k) ≡ false → times k ks ≡ n → times k (j ∷ ks) ≡ n
 passed k j ks n e h = times-cons k j ks ∙ ap (λ b. (if b then 1 else 0) + times k ks) e ∙ zero_add (times k ks) ∙ h
 
--- a place before all of them stands nowhere
+-- a place before all of them is nowhere
 none_before : {X : Type 0} (test : X → Bool) (xs : List X) (m k : ℕ) → k < m → times k (places_from m test xs) ≡ 0
 none_before test [] m k l = refl
 none_before test (x ∷ xs) m k l = go (test x) (none_before test xs (m + 1) k (omega (arith, l)))
@@ -52,7 +52,7 @@ none_before test (x ∷ xs) m k l = go (test x) (none_before test xs (m + 1) k (
     go true rest = passed k m (places_from (m + 1) test xs) 0 (differ m k (omega (arith, l))) rest
     go false rest = rest
 
--- the place of an element stands once where the test passes it, else nowhere
+-- the place of an element is once where the test passes it, else nowhere
 once : {X : Type 0} (test : X → Bool) (xs : List X) (m k : ℕ) (d : X) → k < length xs → times (m + k) (places_from m test xs) ≡ (if test (get_or xs k d) then 1 else 0)
 once test [] m k d l = absurd (omega (arith, l))
 once test (x ∷ xs) m zero d l = go (test x) (none_before test xs (m + 1) (m + 0) (omega arith))
@@ -66,7 +66,7 @@ once test (x ∷ xs) m (suc k) d l = go (test x) (if test (get_or xs k d) then 1
     go true n rest = passed (m + suc k) m (places_from (m + 1) test xs) n (differ m (m + suc k) (omega arith)) rest
     go false n rest = rest
 
--- how often a place stands in lists put together is the sum over them
+-- how often a place is in lists put together is the sum over them
 times-flat_map : {X : Type 0} (k : ℕ) (g : X → List ℕ) (ns : List X) → times k (flat_map g ns) ≡ sum_by (λ n. times k (g n)) ns
 times-flat_map k g [] = refl
 times-flat_map k g (n ∷ ns) = sum_by-append (λ j. cond (j == k) 1 0) (g n) (flat_map g ns) ∙ ap (λ t. times k (g n) + t) (times-flat_map k g ns) ∙ sym (sum_by-cons (λ i. times k (g i)) n ns)
@@ -100,7 +100,7 @@ part_of_sum f [] k d l = absurd (omega (arith, l))
 part_of_sum f (x ∷ xs) zero d l = omega (arith, sum_by-cons f x xs)
 part_of_sum f (x ∷ xs) (suc k) d l = omega (arith, sum_by-cons f x xs, part_of_sum f xs k d (omega (arith, l)))
 
--- each conjunct stands once among the filters
+-- each conjunct is once among the filters
 filters_once : {A : Type 0} (conjuncts : List (Cond A)) (k : ℕ) → k < length conjuncts → times k (filters conjuncts) ≡ 1
 filters_once [] k l = absurd (omega (arith, l))
 filters_once {A = A} (c ∷ cs) k l =
@@ -108,7 +108,7 @@ filters_once {A = A} (c ∷ cs) k l =
     ∙ ap (λ f. sum_by f (possible_counts (c ∷ cs))) (fun_ext (λ n. ap (λ j. times j (places_where (λ e. predicate_count e == n) (c ∷ cs))) (sym (zero_add k)) ∙ once (λ e. predicate_count e == n) (c ∷ cs) 0 k c l))
     ∙ met (predicate_count (get_or (c ∷ cs) k c)) 0 (sum_by predicate_count (c ∷ cs) + 1) (omega arith) (omega (arith, part_of_sum predicate_count (c ∷ cs) k c l))
 
--- a place behind all of them stands nowhere
+-- a place behind all of them is nowhere
 none_behind : {X : Type 0} (test : X → Bool) (xs : List X) (m k : ℕ) → m + length xs ≤ k → times k (places_from m test xs) ≡ 0
 none_behind test [] m k l = refl
 none_behind test (x ∷ xs) m k l = go (test x) (none_behind test xs (m + 1) k (omega (arith, l)))
@@ -121,14 +121,14 @@ zeros : (ns : List ℕ) → sum_by (λ n. 0) ns ≡ 0
 zeros [] = refl
 zeros (n ∷ ns) = sum_by-cons (λ n. 0) n ns ∙ zero_add (sum_by (λ n. 0) ns) ∙ zeros ns
 
--- a number past all conjuncts stands nowhere among the filters
+-- a number past all conjuncts is nowhere among the filters
 filters_none : {A : Type 0} (conjuncts : List (Cond A)) (k : ℕ) → length conjuncts ≤ k → times k (filters conjuncts) ≡ 0
 filters_none {A = A} conjuncts k l =
     times-flat_map k (λ n. places_where (λ e. predicate_count e == n) conjuncts) (possible_counts conjuncts)
     ∙ ap (λ f. sum_by f (possible_counts conjuncts)) (fun_ext (λ n. none_behind (λ e. predicate_count e == n) conjuncts 0 k (omega (arith, l))))
     ∙ zeros (possible_counts conjuncts)
 
--- the place of each conjunct stands once among the filters, and no other number does
+-- the place of each conjunct is once among the filters, and no other number does
 pub filters_counted : {A : Type 0} (conjuncts : List (Cond A)) (k : ℕ) → times k (filters conjuncts) ≡ (if nat_lt k (length conjuncts) then 1 else 0)
 filters_counted conjuncts k = go (nat_lt k (length conjuncts)) refl
   where

@@ -46,7 +46,7 @@ two_filters {A = A} number test c d = go (test c)
 pub same_sums : {X : Type 0} (f g : X → ℕ) (xs : List X) → ((x : X) → f x ≡ g x) → sum_by f xs ≡ sum_by g xs
 same_sums f g xs h = ap (λ k. sum_by k xs) (fun_ext h)
 
--- the work of candidates with one filter, which computes the number that g gives at the rows that stand there
+-- the work of candidates with one filter, which computes the number that g gives at the rows that are there
 pub work_of_one : (list : List Choice) (at : Choice → Rows Geometry) (c : Condition) (g : Rows Geometry → ℕ) → ((rows : Rows Geometry) → computed denoted rows c ≡ g rows)
     → sum_by (λ choice. candidate_work labelled_matrix denoted (c ∷ []) (at choice)) list ≡ sum_by (λ choice. g (at choice)) list
 work_of_one list at c g h =

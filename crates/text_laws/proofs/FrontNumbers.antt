@@ -12,7 +12,7 @@ use Rattle.text_laws.proofs.TextSound.{IfRead}
 use Rattle.text_laws.proofs.Fronts.{Fork, plus, Shares, Alike, Follows, Stays, refused_alike, stuck_alike, then_alike, then_follows, then_on, then_stays, if_follows, if_stays, pure_follows, pure_stays, refuse_follows, place_follows, moved, run_same, run_follows, run_stays, same_first, eaten, eat_stays}
 
 -- ---- digits
--- a front is all digits, or its run of digits ends within it, whatever stands behind
+-- a front is all digits, or its run of digits ends within it, whatever comes after
 digits_end : (front : List ℕ) → (list_all is_ascii_digit front ≡ true) ⊎ ((rest : List ℕ) → prefix_len is_ascii_digit (front ++ rest) ≡ prefix_len is_ascii_digit front)
 digits_end [] = inl refl
 digits_end (x ∷ xs) = go (is_ascii_digit x) refl (digits_end xs)
@@ -23,7 +23,7 @@ digits_end (x ∷ xs) = go (is_ascii_digit x) refl (digits_end xs)
     go b e (inr same) = inr (λ rest. ap (λ n. cond (is_ascii_digit x) (1 + n) 0) (same rest))
     go false e (inl all) = inr (λ rest. rw e refl)
 
--- a run of digits ends within the front and is the same in both texts, or the first reading stands at the plus
+-- a run of digits ends within the front and is the same in both texts, or the first reading is at the plus
 pub digits_follow : (f : Fork) → Follows f (Unit {0}) (run is_ascii_digit)
 digits_follow f i j h = go (digits_end h.front)
   where
@@ -50,7 +50,7 @@ sign_inside f i j h long = go _ refl (both_begin f (λ b. b == 45) i j h long)
     go true e k = rw (e, k ∙ e) (inl (refl, moved f i j h 1 1 refl long))
     go false e k = rw (e, k ∙ e) (inl (refl, eaten f 43 i j h _ refl (both_begin f (λ b. b == 43) i j h long) (λ _. long)))
 
--- at the plus no point stands, so no digits behind one are read
+-- at the plus no point is there, so no digits behind one are read
 fraction_stays : (f : Fork) → Stays f (Unit {0}) fraction
 unfolding fraction
 fraction_stays f = then_stays f (Unit {0}) (Unit {0}) (eat 46) (λ met. if met then run is_ascii_digit else pure []) (eat_stays f 46 refl)
@@ -65,7 +65,7 @@ either_front (x ∷ xs) = inr (omega arith)
 at_plus : (f : Fork) (i j : Input) (h : Shares f i j) → h.front ≡ [] → i.left ≡ plus f
 at_plus f i j h e = h.first ∙ ap (λ front. front ++ plus f) e
 
--- the digits behind a point are read alike, or the first reading stands at the plus
+-- the digits behind a point are read alike, or the first reading is at the plus
 fraction_follows : (f : Fork) → Follows f (Unit {0}) fraction
 unfolding fraction
 fraction_follows f i j h = go (either_front h.front)
@@ -133,7 +133,7 @@ coordinate_cases f n i j h true false e g = rw (e, g) (inl (refl, h))
 coordinate_follows : (f : Fork) (n : FoundNumber) → Follows f ⊥ (coordinate n)
 coordinate_follows f n i j h = coordinate_cases f n i j h _ _ refl refl
 
--- what a number stands for is told without reading on, so a reading at the plus stays there
+-- what a number stands for is known without reading on, so a reading at the plus stays there
 coordinate_left : (f : Fork) (n : FoundNumber) (i : Input) → i.left ≡ plus f → (integral past : Bool) → is_whole n.fraction ≡ integral → nat_lt coordinate_limit (digits_value 10 n.whole) ≡ past
     → IfRead (coordinate n i) (λ _ k. Unit {0} × (k.left ≡ plus f))
 unfolding coordinate
@@ -151,7 +151,7 @@ space_follows f = then_on f ⊥ place (λ at. run is_white >>= λ white. if leng
     (λ at. then_on f ⊥ (run is_white) (λ white. if length white == 0 then refuse at else pure white) (run_follows f is_white refl f.not_white)
     (λ white. if_follows f ⊥ (length white == 0) (refuse at) (pure white) (refuse_follows (List ℕ) f ⊥ at) (pure_follows f ⊥ white)))
 
--- white space doesn't stand where the plus does
+-- white space isn't where the plus is
 space_stays : (f : Fork) (T : Type 0) → Stays f T space
 unfolding space
 space_stays f T i e = rw (ap (λ n. length (take n i.left) == 0) (ap (prefix_len is_white) e ∙ no_run is_white (plus f) refl)) tt
@@ -170,7 +170,7 @@ second_follows f x = number_follows f (Unit {0}) (λ m. (coordinate m >>= λ y. 
     (λ m. then_stays f (Unit {0}) (Unit {0}) (coordinate m) (λ y. pure (record { x = x; y = y })) (coordinate_stays f m) (λ _ y. pure_stays {A = Position} f (Unit {0}) (record { x = x; y = y }) tt))
     (λ m bad k. ap (λ r. and_then {B = Position} r (λ y. pure (record { x = x; y = y }))) (bad k))
 
--- so is a position from its first number on: behind that number white space has to come, which doesn't stand at the plus
+-- so is a position from its first number on: behind that number white space has to come, which isn't at the plus
 first_follows : (f : Fork) → Follows f (Unit {0}) (numeral >>= λ n. (coordinate n >>= behind_first))
 first_follows f = number_follows f (Unit {0}) (λ n. (coordinate n >>= behind_first))
     (λ n. then_on f (Unit {0}) (coordinate n) behind_first (coordinate_follows f n) (λ x. then_on f (Unit {0}) space (λ _. second_number x) (space_follows f) (λ _. second_follows f x)))

@@ -27,7 +27,7 @@ going_on_follows : {A : Type 0} (f : Fork) (S : Type 0) (x : A) (more : Reader (
 going_on_follows f S x more h stays = then_on f S (eat 44) (λ met. (if met then (more >>= λ xs. pure (x ∷ xs)) else pure (x ∷ []))) (eat_follows f 44 refl f.not_comma)
     (λ met. if_follows f S met (more >>= λ xs. pure (x ∷ xs)) (pure (x ∷ [])) (then_follows f S S more (λ xs. pure (x ∷ xs)) h (λ xs. pure_follows f S (x ∷ xs)) (λ s xs. stays xs s)) (pure_follows f S (x ∷ [])))
 
--- at the plus no comma stands, so a list ends there
+-- at the plus no comma is there, so a list ends there
 going_on_stays : {A : Type 0} (f : Fork) (x : A) (more : Reader (List A)) → Stays f (Unit {0}) (going_on x more)
 going_on_stays f x more i e = rw (not_eaten f 44 refl i e) (tt, e)
 
@@ -40,7 +40,7 @@ separated_follows f item h (suc room) = then_follows f (Unit {0}) (Unit {0}) (pa
     (λ x. going_on_follows f (Unit {0}) x (separated item room) (separated_follows f item h room) (λ xs _ i e. (tt, e)))
     (λ _ x. going_on_stays f x (separated item room))
 
--- a line ends with a parenthesis, so the first reading doesn't stand at the plus behind it
+-- a line ends with a parenthesis, so the first reading isn't at the plus behind it
 line_follows : (f : Fork) (room : ℕ) → Follows f ⊥ (line room)
 unfolding line
 line_follows f room = enclosed_follows f (Unit {0}) (separated position room) (separated_follows f position (position_follows f) room)
@@ -84,7 +84,7 @@ body_follows {A} f S inner h = then_on f ⊥ (run is_white) _ (run_follows f is_
     (enclosed_follows f S inner h)
     (if_follows f ⊥ (str_eq_ignore_ascii_case word (codes "EMPTY")) (pure []) (refuse at) (pure_follows f ⊥ []) (refuse_follows (List A) f ⊥ at)))))
 
--- what stands behind the name of each type is such a body: of a POINT
+-- what comes after the name of each type is such a body: of a POINT
 lone_follows : (f : Fork) → Follows f ⊥ lone
 lone_follows f = body_follows f (Unit {0}) (padded (position position_limit) >>= λ p. pure (p ∷ []))
     (then_follows f (Unit {0}) (Unit {0}) (padded (position position_limit)) (λ p. pure (p ∷ [])) (padded_follows f (Unit {0}) (position position_limit) (position_follows f position_limit))
@@ -137,7 +137,7 @@ not_at_end f g i front e = rw (ap (λ l. length l == 0) e ∙ long front) tt
     long [] = not_zero (length f.more)
     long (x ∷ xs) = not_zero (length (xs ++ plus f))
 
--- a first reading that ended its text can't stand at the plus, and the second can't have found the same: so it met the fault
+-- a first reading that ended its text can't be at the plus, and the second can't have found the same: so it met the fault
 closed : (f : Fork) (r q : Result (Geometry × Input) TextFault) (found : Geometry × Input) → Alike f ⊥ r q → and_then r ended ≡ Ok found → and_then q ended ≡ Err f.fault
 closed f (Err fault) q found h e = absurd (let k : Err fault ≡ Ok found = e in cc)
 closed f (Ok a) (Err fault) found (inl k) e = ap Err k

@@ -1,4 +1,4 @@
--- Reading two texts that share a front: behind it a plus stands in the one, and in the other a number that is refused.
+-- Reading two texts that share a front: behind it a plus is in the one, and in the other a number that is refused.
 use Rattle.std.proofs.Common.{◌≡◌, refl, sym, ap, ap₂, ◌∙◌, subst, ℕ, ◌+◌, ◌-◌, ◌≤◌, ◌<◌, ◌==◌, ◌⊎◌, inl, inr, Bool, true, false, List, [], ◌∷◌, ◌++◌, length, take, drop, Result, Ok, Err, cond, if◌then◌else◌, length-drop, arith}
 use Rattle.std.specs.List.{prefix_len}
 use Rattle.std.specs.Char.{is_ascii_alphabetic}
@@ -10,7 +10,7 @@ use Rattle.geometry_model.specs.declared.text_faults.TextFault.{TextFault}
 use Rattle.text_laws.proofs.TextSteps.{no_run}
 use Rattle.text_laws.proofs.TextSound.{IfRead, then_read}
 
--- what stands behind the front: a plus and more; a number that is refused with this fault, at this byte
+-- what comes after the front: a plus and more; a number that is refused with this fault, at this byte
 pub record Fork : Type 0 where
   pub more : List ℕ
   pub tail : List ℕ
@@ -26,7 +26,7 @@ pub record Fork : Type 0 where
 abbrev pub plus : Fork → List ℕ
 plus f = 43 ∷ f.more
 
--- both readings stand within the front, at the same byte
+-- both readings are within the front, at the same byte
 pub record Shares (f : Fork) (i j : Input) : Type 0 where
   pub front : List ℕ
   pub first : i.left ≡ front ++ plus f
@@ -34,7 +34,7 @@ pub record Shares (f : Fork) (i j : Input) : Type 0 where
   pub same : j.at ≡ i.at
   pub place : i.at + length front ≡ f.at
 
--- the first reading fails; or the second ends with the fault; or both found the same; or the first stands at the plus, where that may be
+-- the first reading fails; or the second ends with the fault; or both found the same; or the first is at the plus, where that may be
 abbrev pub Alike : {A : Type 0} → Fork → Type 0 → Result (A × Input) TextFault → Result (A × Input) TextFault → Type 0
 Alike f S (Err fault) r = Unit {0}
 Alike f S (Ok a) (Ok b) = ((b.0 ≡ a.0) × Shares f a.1 b.1) ⊎ (S × (a.1.left ≡ plus f))
@@ -53,7 +53,7 @@ pub refused_alike : {A : Type 0} (f : Fork) (S : Type 0) (r : Result (A × Input
 refused_alike f S (Ok a) fault e = inl e
 refused_alike f S (Err other) fault e = tt
 
--- so is a first reading that fails, or stands at the plus where that may be
+-- so is a first reading that fails, or is at the plus where that may be
 pub stuck_alike : {A : Type 0} (f : Fork) (S : Type 0) (r q : Result (A × Input) TextFault) → IfRead r (λ _ k. S × (k.left ≡ plus f)) → Alike f S r q
 stuck_alike f S (Ok a) (Ok b) read = inr read
 stuck_alike f S (Ok a) (Err fault) read = inr read
@@ -73,7 +73,7 @@ pub then_follows : {A B : Type 0} (f : Fork) (S T : Type 0) (step : Reader A) (n
     → Follows f S step → ((x : A) → Follows f T (next x)) → (S → (x : A) → Stays f T (next x)) → Follows f T (step >>= next)
 then_follows f S T step next h k stays i j shared = then_alike f S T (step i) (step j) next (h i j shared) k stays
 
--- the same where the first step never stands at the plus
+-- the same where the first step never is at the plus
 pub then_on : {A B : Type 0} (f : Fork) (T : Type 0) (step : Reader A) (next : A → Reader B)
     → Follows f ⊥ step → ((x : A) → Follows f T (next x)) → Follows f T (step >>= next)
 then_on f T step next h k = then_follows f ⊥ T step next h k (λ s. absurd s)
@@ -92,7 +92,7 @@ pub if_stays : {A : Type 0} (f : Fork) (S : Type 0) (b : Bool) (s t : Reader A) 
 if_stays f S true s t h k = h
 if_stays f S false s t h k = k
 
--- what never stands at the plus may
+-- what never is at the plus may
 pub weaker_alike : {A : Type 0} (f : Fork) (S : Type 0) (r q : Result (A × Input) TextFault) → Alike f ⊥ r q → Alike f S r q
 weaker_alike f S (Err fault) q h = tt
 weaker_alike f S (Ok a) (Ok b) (inl h) = inl h
@@ -104,7 +104,7 @@ weaker_alike f S (Ok a) (Err fault) (inr h) = absurd h.0
 pub weaker_follows : {A : Type 0} (f : Fork) (S : Type 0) (step : Reader A) → Follows f ⊥ step → Follows f S step
 weaker_follows f S step h i j shared = weaker_alike f S (step i) (step j) (h i j shared)
 
--- a step that reads nothing leaves both readings where they stand
+-- a step that reads nothing leaves both readings where they are
 pub pure_follows : {A : Type 0} (f : Fork) (S : Type 0) (x : A) → Follows f S (pure x)
 pure_follows f S x i j h = inl (refl, h)
 
@@ -115,7 +115,7 @@ pure_stays f S x s i e = (s, e)
 pub refuse_follows : (A : Type 0) (f : Fork) (S : Type 0) (at : ℕ) → Follows {A = A} f S (refuse at)
 refuse_follows A f S at i j h = tt
 
--- both readings stand at the same byte, so they tell the same place
+-- both readings are at the same byte, so they give the same place
 pub place_follows : (f : Fork) → Follows f ⊥ place
 place_follows f i j h = inl (h.same, h)
 
@@ -125,7 +125,7 @@ pub prefix_front : (test : ℕ → Bool) (front rest : List ℕ) → begins_with
 prefix_front test [] rest stop = no_run test rest stop
 prefix_front test (x ∷ xs) rest stop = ap (λ n. cond (test x) (1 + n) 0) (prefix_front test xs rest stop)
 
--- behind the first n bytes of the front both stand alike
+-- behind the first n bytes of the front both are alike
 pub moved : (f : Fork) (i j : Input) (h : Shares f i j) (m n : ℕ) → m ≡ n → n ≤ length h.front → Shares f (after n i) (after m j)
 moved f i j h m n e fits = record {
   front = drop n h.front;
@@ -178,11 +178,11 @@ sees_same f test no_plus quiet i j h = ap (begins_with test) h.second ∙ (go h.
     go [] = quiet ∙ sym no_plus
     go (x ∷ xs) = refl
 
--- so a test of the next byte tells the same
+-- so a test of the next byte gives the same
 pub sees_follows : (f : Fork) (test : ℕ → Bool) → test 43 ≡ false → begins_with test f.tail ≡ false → Follows f ⊥ (sees test)
 sees_follows f test no_plus quiet i j h = inl (sees_same f test no_plus quiet i j h, h)
 
--- a byte that the plus isn't, where it stands next, is still in the front
+-- a byte that the plus isn't, where it comes next, is still in the front
 one_fits : (f : Fork) (test : ℕ → Bool) → test 43 ≡ false → (i j : Input) (h : Shares f i j) → begins_with test i.left ≡ true → 1 ≤ length h.front
 one_fits f test no_plus i j h e = go h.front (sym (ap (begins_with test) h.first) ∙ e)
   where
@@ -217,7 +217,7 @@ expect_follows f c no_plus quiet = then_on f ⊥ place (λ at. eat c >>= λ foun
     (λ at. then_on f ⊥ (eat c) (λ found. if found then pure true else refuse at) (eat_follows f c no_plus quiet)
     (λ found. if_follows f ⊥ found (pure true) (refuse at) (pure_follows f ⊥ true) (refuse_follows Bool f ⊥ at)))
 
--- a parenthesis doesn't stand where the plus does
+-- a parenthesis isn't where the plus is
 pub expect_stays : (f : Fork) (c : ℕ) → (43 == c) ≡ false → Stays f ⊥ (expect c)
 expect_stays f c no_plus i e = rw (not_eaten f c no_plus i e) tt
 
@@ -228,7 +228,7 @@ padded_follows f S step h = then_on f S (run is_white) (λ _. step >>= λ x. (ru
     (λ x. then_on f S (run is_white) (λ _. pure x) (run_follows f is_white refl f.not_white) (λ _. pure_follows f S x))
     (λ stands x. then_stays f (Unit {0}) S (run is_white) (λ _. pure x) (run_stays f is_white refl) (λ _ _. pure_stays f S x stands)))
 
--- a step in parentheses may come to the plus, but the closing parenthesis that has to follow doesn't stand there
+-- a step in parentheses may come to the plus, but the closing parenthesis that has to follow isn't there
 pub enclosed_follows : {A : Type 0} (f : Fork) (S : Type 0) (step : Reader A) → Follows f S step → Follows f ⊥ (enclosed step)
 enclosed_follows f S step h = then_on f ⊥ (expect 40) (λ _. step >>= λ x. (expect 41 >>= λ _. pure x)) (expect_follows f 40 refl f.not_open)
     (λ _. then_follows f S ⊥ step (λ x. (expect 41 >>= λ _. pure x)) h

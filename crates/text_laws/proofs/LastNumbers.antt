@@ -1,4 +1,4 @@
--- The last number pair of a text: where "+0 0" and no further digit stand behind a front, a position begins there.
+-- The last number pair of a text: where "+0 0" and no further digit come after a front, a position begins there.
 use Rattle.std.proofs.Common.{◌≡◌, refl, sym, ap, ◌∙◌, subst, ℕ, ◌+◌, ◌<◌, ◌==◌, ◌||◌, ◌⊎◌, inl, inr, Bool, true, false, List, [], ◌∷◌, ◌++◌, length, append_assoc, arith}
 use Rattle.std.specs.List.{list_all, list_any}
 use Rattle.std.specs.Char.{is_ascii_digit}
@@ -8,7 +8,7 @@ use Rattle.geometry_model.specs.WellKnownText.{◌⨾◌, Blank, Padded, Sign, F
 use Rattle.text_laws.proofs.TextSteps.{Took, apart}
 use Rattle.text_laws.proofs.OpenParts.{or_last, any_within, head_of, tail_of}
 
--- what stands in the place of a number pair
+-- what is in the place of a number pair
 abbrev pub pair : List ℕ → List ℕ
 pair closing = 43 ∷ 48 ∷ 32 ∷ 48 ∷ closing
 
@@ -40,13 +40,13 @@ overlap (x ∷ xs) ys (u ∷ us) vs e = go (overlap xs ys us vs (tail_of x u (xs
     go (Overlap.Shorter c w f g) = Overlap.Shorter c w (ap (λ l. u ∷ l) f ∙ ap (λ z. z ∷ (xs ++ (c ∷ w))) (sym same)) g
     go (Overlap.Longer w f g) = Overlap.Longer w (ap (λ z. z ∷ xs) same ∙ ap (λ l. u ∷ l) f) g
 
--- ---- behind a byte that the pair doesn't have, more digits come: the pair is among what stands there
+-- ---- behind a byte that the pair doesn't have, more digits come: the pair is among what is there
 pub record Within (front P : List ℕ) (c : ℕ) (V closing : List ℕ) : Type 0 where
   pub rest : List ℕ
   pub front_is : front ≡ P ++ (c ∷ rest)
   pub left_is : V ≡ rest ++ pair closing
 
--- no parenthesis or comma with digits behind it stands from the pair on: the pair has neither, and no digits come behind it
+-- no parenthesis or comma with digits behind it is from the pair on: the pair has neither, and no digits come behind it
 not_in_pair : (P : List ℕ) (c : ℕ) (V closing : List ℕ) → (c ≡ 40) ⊎ (c ≡ 44) → pair closing ≡ P ++ (c ∷ V) → HasDigit V → NoDigit closing → ⊥
 not_in_pair [] c V closing k e has none = other k (head_of 43 c (48 ∷ 32 ∷ 48 ∷ closing) V e)
   where
@@ -67,7 +67,7 @@ not_in_pair (p ∷ q ∷ r ∷ []) c V closing k e has none = other k (head_of 4
 not_in_pair (p ∷ q ∷ r ∷ s ∷ P) c V closing k e has none =
     clash closing (ap (list_any is_ascii_digit) (tail_of 48 s _ _ (tail_of 32 r _ _ (tail_of 48 q _ _ (tail_of 43 p _ _ e)))) ∙ any_within is_ascii_digit P c V has) none
 
--- a parenthesis or comma with digits behind it stands before the pair, as it isn't in the pair and no digits come behind that
+-- a parenthesis or comma with digits behind it comes before the pair, as it isn't in the pair and no digits come behind that
 pub within : (front P : List ℕ) (c : ℕ) (V closing : List ℕ) → (c ≡ 40) ⊎ (c ≡ 44) → front ++ pair closing ≡ P ++ (c ∷ V) → HasDigit V → NoDigit closing → Within front P c V closing
 within [] P c V closing k e has none = absurd (not_in_pair P c V closing k e has none)
 within (x ∷ xs) [] c V closing k e has none = record { rest = xs; front_is = ap (λ z. z ∷ xs) (head_of x c (xs ++ pair closing) V e); left_is = sym (tail_of x c (xs ++ pair closing) V e) }
@@ -206,11 +206,11 @@ no_second (a ∷ b ∷ w) more closing t e none = go t.signs
     go (inr s) = true≢false (sym (ap inner is_space ∙ all_within inner (a ∷ []) b w (ap (list_all inner) (tail_of 43 s.0 (a ∷ b ∷ w) t.body (t.is ∙ ap (λ u. u ++ t.body) s.1)) ∙ t.inside)))
 
 -- ---- a position's text begins where the pair does
--- the pair has a digit, whatever stands before it
+-- the pair has a digit, whatever comes before it
 pair_digit : (h closing : List ℕ) → HasDigit (h ++ pair closing)
 pair_digit h closing = any_within is_ascii_digit h 43 (48 ∷ 32 ∷ 48 ∷ closing) refl
 
--- the pair's plus begins the position's first number, since behind the second a digit would be left: so nothing stands before it
+-- the pair's plus begins the position's first number, since behind the second a digit would be left: so nothing comes before it
 pub begins_here : (front closing more : List ℕ) (p : Position) (text : List ℕ) → PositionText p text → front ++ pair closing ≡ text ++ more → NoDigit more → front ≡ []
 begins_here front closing more p text t e none = first (overlap front (pair closing) t.0 (t.1 ++ more) (e ∙ (ap (λ u. u ++ more) t.2 ∙ append_assoc t.0 t.1 more)))
   where

@@ -1,4 +1,4 @@
--- A text whose last position is one too many is read as too long, whatever stands behind the first number of that position.
+-- A text whose last position is one too many is read as too long, whatever comes after the first number of that position.
 use Rattle.std.proofs.Common.{◌≡◌, refl, sym, ap, ◌∙◌, subst, ℕ, zero, suc, ◌+◌, ◌-◌, ◌<◌, ◌≤◌, ◌==◌, ◌⊎◌, inl, inr, Bool, true, false, List, [], ◌∷◌, ◌++◌, length, drop, map, Some, None, Ok, Err, codes, append_assoc, append-nil, le_refl, zero-lt-suc, arith}
 use Rattle.std.specs.List.{list_all, list_any, prefix_len}
 use Rattle.std.specs.Char.{is_ascii_alphabetic, is_ascii_digit, to_ascii_lowercase}
@@ -17,7 +17,7 @@ use Rattle.text_laws.proofs.OpenParts.{Parenthesized, parenthesized, padded_open
 use Rattle.text_laws.proofs.RefusedNumbers.{Read, first_number}
 use Rattle.text_laws.proofs.LastNumbers.{pair, HasDigit, NoDigit, Within, within, any_left, any_right, none_of_both, blank_no_digit, position_digit, blank_before}
 
--- what stands there is a number
+-- what is there is a number
 record Stands (other : List ℕ) : Type 0 where
   read : (j : Input) → j.left ≡ other → (n : FoundNumber) × (k : Input) × (numeral j ≡ Ok (n, k))
   not_white : begins_with is_white other ≡ false
@@ -38,7 +38,7 @@ abbrev Last : {A : Type 0} → (A → Rule) → Reader A → Type 0
 Last {A} P step = (x : A) (i : Input) (front closing other from rest : List ℕ) → Took from (Padded (P x)) rest → from ≡ front ++ pair closing → NoDigit rest → NoDigit closing → Stands other
     → i.left ≡ front ++ other → IsFull (padded step i)
 
--- a position where none may come: white space is all that stands before the pair, so reading comes to the number
+-- a position where none may come: white space is all that comes before the pair, so reading comes to the number
 position_last : Last PositionText (position zero)
 position_last x i front closing other from rest t split none quiet s is =
     let j = after (prefix_len is_white i.left) i in
@@ -92,7 +92,7 @@ padded_digit P x from rest digit t = go (apart from rest Blank (P x ⨾ Blank) t
         next : (zs : List ℕ) × Took a.0 (P x) zs × Took zs Blank rest → HasDigit from
         next b = ap (list_any is_ascii_digit) a.1.1 ∙ any_right is_ascii_digit a.1.0 a.0 (ap (list_any is_ascii_digit) b.1.1 ∙ any_left is_ascii_digit b.1.0 b.0 (digit b.1.0 b.1.2))
 
--- a point: as a position, or behind its parenthesis, which stands before the pair
+-- a point: as a position, or behind its parenthesis, which comes before the pair
 point_last : Last PointText (point zero)
 unfolding point
 point_last x i front closing other from rest t split none quiet s is = go (point_cases x from rest t)
@@ -122,7 +122,7 @@ separated_digit P digit (x ∷ y ∷ more) from rest t = go (apart from rest (Pa
     go : (ys : List ℕ) × Took from (Padded (P x)) ys × Took ys (Byte 44 ⨾ Separated P (y ∷ more)) rest → HasDigit from
     go a = padded_digit P x from a.0 (digit x) a.1
 
--- the items before the last are read whole, and the pair stands in the last, for which there is no room
+-- the items before the last are read whole, and the pair is in the last, for which there is no room
 separated_last : {A : Type 0} (P : A → Rule) (item : ℕ → Reader A) → Begins P is_white → ((room : ℕ) → 0 < room → Complete P Ends (item room)) → ((x : A) (text : List ℕ) → P x text → HasDigit text) → Last P (item zero)
     → (room : ℕ) (xs : List A) (i : Input) (front closing other from rest : List ℕ) → length xs ≡ room + 1 → Took from (Separated P xs) rest → from ≡ front ++ pair closing → NoDigit rest → NoDigit closing → Stands other
     → i.left ≡ front ++ other → IsFull (separated item room i)
@@ -182,7 +182,7 @@ line_digit = list_digit PositionText position_digit
 polygon_digit : (rs : List (List Position)) (text : List ℕ) → PolygonText rs text → HasDigit text
 polygon_digit = list_digit LineText line_digit
 
--- a list in parentheses: the pair stands behind its parenthesis
+-- a list in parentheses: the pair comes after its parenthesis
 list_last : {A : Type 0} (P : A → Rule) (inner : Reader (List A)) (xs : List A) (closing other : List ℕ) → ((x : A) (text : List ℕ) → P x text → HasDigit text)
     → ((k : Input) (f g rest : List ℕ) → Took g (Separated P xs) rest → g ≡ f ++ pair closing → NoDigit rest → k.left ≡ f ++ other → IsFull (inner k))
     → (i : Input) (front from rest : List ℕ) → Took from (Padded (Enclosed (Separated P xs))) rest → from ≡ front ++ pair closing → NoDigit rest → NoDigit closing → i.left ≡ front ++ other → IsFull (padded (enclosed inner) i)
@@ -204,7 +204,7 @@ LastItem : {A : Type 0} → (A → Rule) → (ℕ → ℕ → Reader A) → (A �
 LastItem {A} P item rings = (count room : ℕ) (x : A) (i : Input) (front closing other from rest : List ℕ) → positions_in (rings x) ≡ room + 1 → Took from (Padded (P x)) rest → from ≡ front ++ pair closing
     → NoDigit rest → NoDigit closing → Stands other → i.left ≡ front ++ other → IsFull (padded (item count room) i)
 
--- an item before the last fits and is read whole, or is too long itself; the pair stands in the last
+-- an item before the last fits and is read whole, or is too long itself; the pair is in the last
 items_last : {A : Type 0} (P : A → Rule) (item : ℕ → ℕ → Reader A) (rings : A → List (List Position)) → HasRings P rings → ReadsItem P item rings → FullItem P item rings
     → ((x : A) (text : List ℕ) → P x text → HasDigit text) → LastItem P item rings
     → (turns count room : ℕ) (xs : List A) (i : Input) (front closing other from rest : List ℕ) → count ≤ turns → positions_in (rings_of rings xs) ≡ room + 1 → Took from (Separated P xs) rest → from ≡ front ++ pair closing
@@ -297,7 +297,7 @@ none_long n e = omega (arith, e)
 one_long : 1 ≡ position_limit + 1 → ⊥
 one_long e = omega (arith, e)
 
--- type by type: with a number in the place of the pair, whatever stands behind it, the text is too long
+-- type by type: with a number in the place of the pair, whatever comes after it, the text is too long
 lasting : (w : Geometry) (text front closing other : List ℕ) → Writes w text → text ≡ front ++ pair closing → NoDigit closing → Stands other → length (written_positions w) ≡ position_limit + 1
     → IsFull (whole (record { left = front ++ other; at = 0 }))
 lasting (Point None) text front closing other t split none s counted = absurd (none_long position_limit counted)

@@ -1,4 +1,4 @@
--- A text whose last parenthesis opens a part too many is read as too long, whatever stands behind the parenthesis.
+-- A text whose last parenthesis opens a part too many is read as too long, whatever comes after the parenthesis.
 use Rattle.std.proofs.Common.{◌≡◌, refl, sym, ap, ◌∙◌, subst, ℕ, zero, suc, ◌+◌, ◌-◌, ◌<◌, ◌≤◌, ◌==◌, ◌||◌, Bool, true, false, List, [], ◌∷◌, ◌++◌, length, take, drop, map, Err, codes, append_assoc, append-nil, length-append, le_refl, zero-lt-suc, arith}
 use Rattle.std.specs.List.{list_all, list_any, prefix_len}
 use Rattle.std.specs.Char.{is_ascii_alphabetic, is_ascii_digit}
@@ -20,7 +20,7 @@ use Rattle.text_laws.proofs.FullTexts.{IsFull, full_then, then_full, full_is, Fu
 abbrev opens : ℕ → Bool
 opens c = c == 40
 
--- a text with the parenthesis stands behind this byte, so the parenthesis does
+-- a text with the parenthesis comes after this byte, so the parenthesis does
 record Behind (front : List ℕ) (P : List ℕ) (c : ℕ) (V : List ℕ) (tail : List ℕ) : Type 0 where
   rest : List ℕ
   front_is : front ≡ P ++ (c ∷ rest)
@@ -44,7 +44,7 @@ head_of x y xs ys e = ap (λ l. first_or l) e
     first_or [] = 0
     first_or (z ∷ zs) = z
 
--- a byte with an opening parenthesis behind it stands before the last one, since that is the last
+-- a byte with an opening parenthesis behind it comes before the last one, since that is the last
 behind : (front P : List ℕ) (c : ℕ) (V tail : List ℕ) → front ++ (40 ∷ tail) ≡ P ++ (c ∷ V) → list_any opens V ≡ true → list_any opens tail ≡ false → Behind front P c V tail
 behind [] [] c V tail e has none = absurd (true≢false (sym has ∙ (ap (list_any opens) (sym (tail_of 40 c tail V e)) ∙ none)))
 behind (x ∷ xs) [] c V tail e has none = record { rest = xs; front_is = ap (λ z. z ∷ xs) (head_of x c (xs ++ (40 ∷ tail)) V e); left_is = sym (tail_of x c (xs ++ (40 ∷ tail)) V e) }
@@ -60,7 +60,7 @@ record Opening (left white : List ℕ) : Type 0 where
   more : List ℕ
   is : left ≡ white ++ (40 ∷ more)
 
--- the first parenthesis, behind white space, is in the front or is the last one itself: so it stands in the other text too
+-- the first parenthesis, behind white space, is in the front or is the last one itself: so it is in the other text too
 opening : (front tail other white V : List ℕ) → list_all is_white white ≡ true → front ++ (40 ∷ tail) ≡ white ++ (40 ∷ V) → Opening (front ++ (40 ∷ other)) white
 opening [] tail other [] V all e = record { more = other; is = refl }
 opening (x ∷ xs) tail other [] V all e = record { more = xs ++ (40 ∷ other); is = ap (λ z. z ∷ (xs ++ (40 ∷ other))) (head_of x 40 (xs ++ (40 ∷ tail)) V e) }
@@ -286,7 +286,7 @@ layout own P x xs text t = go (apart text [] Blank ((Word own ⨾ Body P (x ∷ 
 abbrev pub Named : {A : Type 0} → List ℕ → Reader (List A) → Type 0
 Named own inner = (at : ℕ) (n : List ℕ) (i : Input) → Word own n → IsFull (body inner i) → IsFull (typed at n i)
 
--- a text with this layout up to the list's parenthesis is too long where what stands behind is
+-- a text with this layout up to the list's parenthesis is too long where what comes after is
 pub whole_by_list : {A : Type 0} (own : List ℕ) (P : A → Rule) (xs : List A) (text : List ℕ) (inner : Reader (List A)) → list_all is_ascii_alphabetic (map to_ascii_lowercase own) ≡ true → 0 < length own
     → Named own inner → (y : Layout own P xs text) (i : Input) (L : List ℕ) → i.left ≡ (y.before ++ (y.name ++ y.white)) ++ (40 ∷ L) → ((k : Input) → k.left ≡ L → IsFull (inner k)) → IsFull (whole i)
 unfolding whole tagged
@@ -359,7 +359,7 @@ whole_open own P inner xs text front tail other letters_are long named_full item
 no_parts : (m n : ℕ) → m ≡ 0 → m ≡ n + 1 → ⊥
 no_parts m n e k = omega (arith, e, k)
 
--- type by type: whatever stands behind the parenthesis that opens a part too many, the text is too long
+-- type by type: whatever comes after the parenthesis that opens a part too many, the text is too long
 opened : (w : Geometry) (text front tail other : List ℕ) → Writes w text → text ≡ front ++ (40 ∷ tail) → list_any opens tail ≡ false → length (written_parts w) ≡ part_limit + 1
     → IsFull (whole (record { left = front ++ (40 ∷ other); at = 0 }))
 opened (Point p) text front tail other t split none counted = absurd (no_parts 0 part_limit refl counted)

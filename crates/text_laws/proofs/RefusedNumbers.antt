@@ -1,4 +1,4 @@
--- Where W2 or W3 stands, reading answers it.
+-- Where W2 or W3 applies, reading returns it.
 use Rattle.std.proofs.Common.{◌≡◌, refl, sym, ap, ◌∙◌, ℕ, ◌==◌, ◌⊎◌, inl, inr, Bool, true, false, List, [], ◌∷◌, ◌++◌, length, Result, Ok, Err, nat_lt, codes, arith}
 use Rattle.std.specs.List.{list_all, list_any}
 use Rattle.std.specs.Char.{is_ascii_alphabetic, is_ascii_digit}
@@ -88,7 +88,7 @@ fork text at minus integer digits h fault bad = record {
     refuse : (j : Input) → j.at ≡ length h.front → Read h.tail minus integer digits j → (n : FoundNumber) × (k : Input) × (numeral j ≡ Ok (n, k)) × ((l : Input) → coordinate n l ≡ Err fault)
     refuse j p r = (r.n, r.k, r.is, λ l. bad r.n l r.integer_is r.digits_is ((r.at_is ∙ p) ∙ sym h.place))
 
--- a geometry is answered only where the whole text was read
+-- a geometry is returned only where the whole text was read
 some_outcome : (r : Result (Geometry × Input) TextFault) (g : Geometry) → outcome r ≡ Ok g → (found : Geometry × Input) × (r ≡ Ok found)
 some_outcome (Ok found) g e = (found, refl)
 some_outcome (Err fault) g e = absurd (let k : Err fault ≡ Ok g = e in cc)
@@ -112,7 +112,7 @@ answered text at minus integer digits h fault bad = go (some_outcome (whole (beg
       place = zero-add (length h.front);
     }) w.0 w.1)
 
--- what stands before the number can be read, so reading comes to it and stops there
+-- what comes before the number can be read, so reading comes to it and stops there
 pub off_grid_is_answered : (text : List ℕ) (at : ℕ) → IsOffGrid text at → read_text text ≡ Err (OffGrid at)
 unfolding coordinate
 off_grid_is_answered text at h = answered text at h.minus h.whole h.fraction h.number (OffGrid at)

@@ -1,4 +1,4 @@
--- What reading answers is what stands.
+-- What reading returns is what applies.
 use Rattle.std.proofs.Common.{◌≡◌, refl, sym, ◌∙◌, ℕ, inl, inr, List, Result, Ok, Err}
 use Rattle.geometry_model.specs.Geometries.{Geometry}
 use Rattle.geometry_model.specs.TextReading.{read_text}
@@ -13,7 +13,7 @@ use Rattle.text_laws.proofs.OpenParts.{too_many_parts_are_too_long}
 use Rattle.text_laws.proofs.LastPositions.{too_many_positions_are_too_long}
 use Rattle.text_laws.specs.RefusalLaws.{RefusalIsAnswered, SyntaxIsAnswered, AnswerStands}
 
--- each fault but W1 that stands is answered: reading comes to the number, position or part that is refused, and no further
+-- each fault but W1 that applies is returned: reading comes to the number, position or part that is refused, and no further
 pub refusal_is_answered : RefusalIsAnswered
 refusal_is_answered text (Syntax at) h = absurd h
 refusal_is_answered text (OffGrid at) h = off_grid_is_answered text at h
@@ -21,7 +21,7 @@ refusal_is_answered text (OutOfRange at) h = out_of_range_is_answered text at h
 refusal_is_answered text TooLong (inl h) = too_many_positions_are_too_long text h
 refusal_is_answered text TooLong (inr h) = too_many_parts_are_too_long text h
 
--- an answer other than W1 would be a geometry that the text spells or a fault that stands, and there is none of either
+-- an answer other than W1 would be a geometry that the text spells or a fault that applies, and there is none of either
 pub syntax_is_answered : SyntaxIsAnswered
 syntax_is_answered text at h = go (read_text text) refl
   where
@@ -39,7 +39,7 @@ other byte text e (OffGrid at) h = let k : Err (Syntax byte) ≡ Err (OffGrid at
 other byte text e (OutOfRange at) h = let k : Err (Syntax byte) ≡ Err (OutOfRange at) = sym e ∙ refusal_is_answered text (OutOfRange at) h in absurd (cc)
 other byte text e TooLong h = let k : Err (Syntax byte) ≡ Err TooLong = sym e ∙ refusal_is_answered text TooLong h in absurd (cc)
 
--- W1 is answered only where nothing is spelled and no other fault stands, since reading would answer that instead
+-- W1 is returned only where nothing is spelled and no other fault applies, since reading would return that instead
 pub answer_stands : AnswerStands
 answer_stands text (Syntax byte) e = ((λ g h. let k : Err (Syntax byte) ≡ Ok g = sym e ∙ spelled_is_read text g h in absurd (cc)), other byte text e)
 answer_stands text (OffGrid byte) e = (refusals_stand text byte).0 e

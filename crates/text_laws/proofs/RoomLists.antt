@@ -46,7 +46,7 @@ same_going_on x s t same i = then_same (eat 44 i) _ _ (λ met j. by_comma met j)
     by_comma true j = ap (λ r. and_then r (λ xs. pure (x ∷ xs))) (same j)
     by_comma false j = refl
 
--- no ring stands where none may come, whatever is made of it
+-- no ring is where none may come, whatever is made of it
 none_made : {A B C : Type 0} (r : Result (Bool × Input) TextFault) (f : A → Reader C) (g : B → Reader B) (h : B → Reader C)
     → and_then (and_then r (λ _. too_long {A = A})) f ≡ and_then (and_then (and_then r (λ _. too_long {A = B})) g) h
 none_made (Ok found) f g h = refl

@@ -29,7 +29,7 @@ pub then_is : {A B : Type 0} (Q : A → Input → Type 0) (r : Result (A × Inpu
 then_is Q (Ok found) next R read step = step found.0 found.1 read
 then_is Q (Err fault) next R read step = absurd read
 
--- no longer number and no longer word stands here
+-- no longer number and no longer word is here
 abbrev pub Ends : List ℕ → Type 0
 Ends rest = (begins_with is_ascii_digit rest ≡ false) × (begins_with (λ b. b == 46) rest ≡ false) × (begins_with is_ascii_alphabetic rest ≡ false)
 
@@ -72,13 +72,13 @@ pub white_ends : (white rest : List ℕ) → list_all is_white white ≡ true �
 white_ends [] rest all ends = ends
 white_ends (c ∷ cs) rest all ends = white_byte c (cs ++ rest) (and_parts (is_white c) (list_all is_white cs) all).0
 
--- the byte stands there, so it is met
+-- the byte is there, so it is met
 pub met_byte : (c : ℕ) (i : Input) (rest : List ℕ) → i.left ≡ c ∷ rest → (met : Bool) → begins_with (λ b. b == c) i.left ≡ met
     → IsRead ((if met then pure true else refuse i.at) (if met then after 1 i else i)) (λ _ j. j.left ≡ rest)
 met_byte c i rest is true e = ap (drop 1) is
 met_byte c i rest is false e = true≢false (sym ((Decides-eqb c c).1 refl) ∙ (sym (ap (begins_with (λ b. b == c)) is) ∙ e))
 
--- a byte that has to come, and stands there, is read
+-- a byte that has to come, and is there, is read
 pub expect_read : (c : ℕ) (i : Input) (rest : List ℕ) → i.left ≡ c ∷ rest → IsRead (expect c i) (λ _ j. j.left ≡ rest)
 expect_read c i rest is = met_byte c i rest is _ refl
 
@@ -202,7 +202,7 @@ coordinate_read n j z text rest t found =
     rw (ap is_whole found.2 ∙ t.4, ap (λ w. nat_lt coordinate_limit (digits_value 10 w)) found.1 ∙ le-ltb coordinate_limit (digits_value 10 t.1) t.5)
     (ap₂ signed found.0 found.1 ∙ sym t.6, found.3)
 
--- a text that begins with a sign begins with a plus, a minus, or what stands behind the empty sign
+-- a text that begins with a sign begins with a plus, a minus, or what comes after the empty sign
 pub sign_begins : (test : ℕ → Bool) → test 43 ≡ false → test 45 ≡ false → (minus : Bool) (xs ys : List ℕ) → Took xs (Sign minus) ys → begins_with test ys ≡ false → begins_with test xs ≡ false
 sign_begins test at_plus at_minus true xs ys t behind = ap (begins_with test) (t.1 ∙ ap (λ u. u ++ ys) t.2) ∙ at_minus
 sign_begins test at_plus at_minus false xs ys t behind = elim t.2 [
@@ -276,7 +276,7 @@ position_read room long i p rest t ends =
 
 -- points, lists
 
--- a point of a MULTIPOINT is read whole: a position doesn't begin with a parenthesis, so the next byte tells its form
+-- a point of a MULTIPOINT is read whole: a position doesn't begin with a parenthesis, so the next byte shows its form
 pub point_read : (room : ℕ) → 0 < room → Complete PointText Ends (point room)
 unfolding point
 point_read room long i p rest t ends = elim t.2 [
@@ -305,7 +305,7 @@ closed_by_comma rest = (refl, (refl, refl, refl))
 pub closes : (rest : List ℕ) → Closes (41 ∷ rest)
 closes rest = ((refl, (refl, refl, refl)), refl)
 
--- a list with no more items than may come is read whole: behind each item but the last stands a comma
+-- a list with no more items than may come is read whole: behind each item but the last is a comma
 pub separated_read : {A : Type 0} (P : A → Rule) (item : ℕ → Reader A) → Begins P is_white → ((room : ℕ) → 0 < room → Complete P Ends (item room))
     → (room : ℕ) (xs : List A) (i : Input) (rest : List ℕ) → length xs ≤ room → Took i.left (Separated P xs) rest → Closes rest
     → IsRead (separated item room i) (λ ys j. (ys ≡ xs) × (j.left ≡ rest))
@@ -432,11 +432,11 @@ polygons_read turns count room enough xs i rest fits t stop = rw (polygons_are_i
 
 -- words
 
--- a byte that is a letter in lower case is one as it stands
+-- a byte that is a letter in lower case is one as it is written
 pub letter : (c : ℕ) → is_ascii_alphabetic (to_ascii_lowercase c) ≡ true → is_ascii_alphabetic c ≡ true
 letter c is = grind (arith, is)
 
--- so a text that is all letters in lower case is so as it stands
+-- so a text that is all letters in lower case is so as it is written
 pub letters : (text : List ℕ) → list_all is_ascii_alphabetic (map to_ascii_lowercase text) ≡ true → list_all is_ascii_alphabetic text ≡ true
 letters [] all = refl
 letters (c ∷ cs) all = let parts = and_parts (is_ascii_alphabetic (to_ascii_lowercase c)) (list_all is_ascii_alphabetic (map to_ascii_lowercase cs)) all in
@@ -476,7 +476,7 @@ empty_read inner i rest t stop =
     )
     (refl, name.1)
 
--- the same where something stands in parentheses
+-- the same where something is in parentheses
 pub nonempty_read : {A : Type 0} (P : A → Rule) (Good : List A → Type 0) (inner : Reader (List A))
     → ((xs : List A) (i : Input) (rest : List ℕ) → Good xs → Took i.left (Separated P xs) rest → Closes rest → IsRead (inner i) (λ ys j. (ys ≡ xs) × (j.left ≡ rest)))
     → (xs : List A) (i : Input) (rest : List ℕ) → Good xs → Took i.left (Blank ⨾ Enclosed (Separated P xs)) rest → IsRead (body inner i) (λ ys j. (ys ≡ xs) × (j.left ≡ rest))
@@ -512,7 +512,7 @@ body_begins P (x ∷ more) text rest t =
 pub named : (text own other : List ℕ) → Word own text → str_eq_ignore_ascii_case text other ≡ bytes_eq (str_to_ascii_lowercase own) (str_to_ascii_lowercase other)
 named text own other e = ap (λ t. bytes_eq t (str_to_ascii_lowercase other)) e
 
--- the run of letters is the type's name, and behind it stands the body
+-- the run of letters is the type's name, and behind it is the body
 pub name_read : {A : Type 0} (own : List ℕ) (P : A → Rule) (xs : List A) (left rest : List ℕ) → list_all is_ascii_alphabetic (map to_ascii_lowercase own) ≡ true → Took left (Word own ⨾ Body P xs) rest
     → Word own (take (prefix_len is_ascii_alphabetic left) left) × Took (drop (prefix_len is_ascii_alphabetic left) left) (Body P xs) rest
 name_read own P xs left rest all t =

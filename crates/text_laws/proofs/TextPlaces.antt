@@ -46,12 +46,12 @@ pub one_byte : (test : ℕ → Bool) (xs : List ℕ) → begins_with test xs ≡
 one_byte test [] e = absurd (true≢false (sym e))
 one_byte test (x ∷ xs) e = suc-le-suc zero-le
 
--- a byte is passed over only where it stands next
+-- a byte is passed over only where it comes next
 pub ate : (c : ℕ) (i : Input) (met : Bool) → begins_with (λ b. b == c) i.left ≡ met → total (if met then after 1 i else i) ≡ total i
 ate c i true e = after_keeps 1 i (one_byte (λ b. b == c) i.left e)
 ate c i false e = refl
 
--- a byte that stands next is passed over, and otherwise nothing is
+-- a byte that comes next is passed over, and otherwise nothing is
 pub eat_keeps : (c : ℕ) → Keeps (eat c)
 eat_keeps c i = ate c i _ refl
 
@@ -98,7 +98,7 @@ numeral_keeps i = keeps_then sign (λ minus. run is_ascii_digit >>= λ integer. 
     (λ digits. keeps_if (length integer + length digits == 0) (refuse i.at) (pure (found_number i.at minus integer digits))
     (λ _. tt) (pure_keeps (found_number i.at minus integer digits))))) i
 
--- what a number stands for is told without reading on, whether the number is refused or not
+-- what a number stands for is known without reading on, whether the number is refused or not
 coordinate_cases : (n : FoundNumber) (i : Input) (integral past : Bool) → is_whole n.fraction ≡ integral → nat_lt coordinate_limit (digits_value 10 n.whole) ≡ past
     → IfRead (coordinate n i) (λ _ j. total j ≡ total i)
 unfolding coordinate

@@ -1,4 +1,4 @@
--- Where reading answers W2, W3 or W4, that refusal stands.
+-- Where reading returns W2, W3 or W4, that refusal applies.
 use Rattle.std.proofs.Common.{◌≡◌, refl, sym, ap, ◌∙◌, subst, ℕ, zero, suc, ◌+◌, ◌-◌, ◌<◌, ◌≤◌, ◌==◌, ◌⊎◌, inl, inr, ℤ, pos, Bool, true, false, ◌||◌, List, [], ◌∷◌, ◌++◌, length, take, drop, Some, Result, Ok, Err, nat_lt, codes, if◌then◌else◌, take-append-drop, length-append, append-nil, append_assoc, suc-le-suc, zero-lt-suc, zero-le, arith}
 use Rattle.std.specs.List.{list_any, prefix_len}
 use Rattle.std.specs.Char.{is_ascii_alphabetic, is_ascii_digit}
@@ -25,7 +25,7 @@ data Kind : Type 0 where
   AtPosition : Kind
   AtPart : Kind
 
--- what stands where reading stopped
+-- what is where reading stopped
 abbrev What : Kind → TextFault → List ℕ → Type 0
 What AtNumber (OffGrid at) tail = (m : Bool) × (w f : List ℕ) × IsFirstNumber tail m w f × (is_whole f ≡ false)
 What AtNumber (OutOfRange at) tail = (m : Bool) × (w f : List ℕ) × IsFirstNumber tail m w f × (is_whole f ≡ true) × (coordinate_limit < digits_value 10 w)
@@ -47,7 +47,7 @@ Where (OffGrid at) tail sum = at + length tail ≡ sum
 Where (OutOfRange at) tail sum = at + length tail ≡ sum
 Where TooLong tail sum = Unit {0}
 
--- what could stand there instead
+-- what could be there instead
 abbrev Marks : Kind → List ℕ → Type 0
 Marks AtNumber mark = (more : List ℕ) × (mark ≡ codes "+" ++ more)
 Marks AtPosition mark = mark ≡ codes "+0 0"
@@ -113,7 +113,7 @@ none_before : (xs ys : List ℕ) → list_any begins_more xs ≡ false → list_
 none_before [] ys e f = f
 none_before (x ∷ xs) ys e f = let parts = or_parts (begins_more x) (list_any begins_more xs) e in rw parts.0 (none_before xs ys parts.1 f)
 
--- the place of a fault may be told by any sum that is equal
+-- the place of a fault may be given by any sum that is equal
 where_so : (fault : TextFault) (tail : List ℕ) (m n : ℕ) → m ≡ n → Where fault tail m → Where fault tail n
 where_so fault tail m n e w = subst (Where fault tail) e w
 
@@ -238,7 +238,7 @@ number_found k at minus integer digits from false e t = (
   refl,
 )
 
--- a number that is found is the longest at the front of what is left, and begins where reading stands
+-- a number that is found is the longest at the front of what is left, and begins at the byte that is read next
 pub numeral_first : (i : Input) → IfRead (numeral i) (λ n j. IsFirstNumber i.left n.minus n.whole n.fraction × (n.at ≡ i.at))
 unfolding numeral
 numeral_first i = then_read (λ minus j. Took i.left (Sign minus) j.left) (sign i) _ _ (sign_sound i)
@@ -273,7 +273,7 @@ Room room AtPart p = ⊥
 zero_position : PositionText (record { x = pos 0; y = pos 0 }) (codes "+0 0")
 zero_position = (codes "+0", codes " 0", refl, zero_number (codes "+0") (codes "+") (inr refl) refl, (codes " ", codes "0", refl, (zero-lt-suc 0, refl), zero_number (codes "0") [] (inl refl) refl))
 
--- the first number of a position is refused where a position may come: one of two zeros could stand there
+-- the first number of a position is refused where a position may come: one of two zeros could be there
 first_stuck : (room : ℕ) (i : Input) (fault : TextFault) → 0 < room → What AtNumber fault i.left × Where fault i.left (total i) → Stuck PositionText (Room room) i fault
 first_stuck room i fault long known = record {
   kind = AtNumber;
@@ -291,7 +291,7 @@ first_stuck room i fault long known = record {
   counts = long;
 }
 
--- the first number of a position stands where none may come: one of two zeros would be a position too many
+-- the first number of a position is where none may come: one of two zeros would be a position too many
 full_stuck : (room : ℕ) (i : Input) (m : Bool) (w f : List ℕ) → room ≡ 0 → IsFirstNumber i.left m w f → Stuck PositionText (Room room) i TooLong
 full_stuck room i m w f full first = record {
   kind = AtPosition;
@@ -309,7 +309,7 @@ full_stuck room i m w f full first = record {
   counts = full;
 }
 
--- the second number of a position is refused: a zero could stand there, behind the first number and the white space
+-- the second number of a position is refused: a zero could be there, behind the first number and the white space
 second_stuck : (room : ℕ) (x : ℤ) (i k l : Input) (fault : TextFault) → 0 < room → Took i.left (Number x) k.left → Took k.left Space l.left → total l ≡ total i
     → What AtNumber fault l.left × Where fault l.left (total l) → Stuck PositionText (Room room) i fault
 second_stuck room x i k l fault long t u e known = let both_texts = both i.left k.left l.left (Number x) Space t u in
@@ -508,7 +508,7 @@ OnlyPart AtPart x = Unit {0}
 abbrev zero_zero : Position
 zero_zero = record { x = pos 0; y = pos 0 }
 
--- where no part may come, a part of one position could stand from this parenthesis on, and would be one too many
+-- where no part may come, a part of one position could be from this parenthesis on, and would be one too many
 part_stuck : (i : Input) (rest : List ℕ) → i.left ≡ 40 ∷ rest → Stuck LineText OnlyPart i TooLong
 part_stuck i rest opened = record {
   kind = AtPart;
@@ -526,7 +526,7 @@ part_stuck i rest opened = record {
   counts = tt;
 }
 
--- where its parenthesis doesn't stand the step fails as W1, and where it does as a part too many
+-- where its parenthesis isn't the step fails as W1, and where it does as a part too many
 part_fails : (i : Input) → IfFails {A = List Position} ((expect 40 >> too_long) i) (Stuck LineText OnlyPart i)
 part_fails i = then_fails (λ _ j. Took i.left (Byte 40) j.left) (λ _. ⊥) (Stuck LineText OnlyPart i) (expect 40 i) _ (expect_sound 40 i) (expect_quiet 40 i) (λ fault b. absurd b)
     (λ _ j t. part_stuck i j.left (byte_is 40 i.left j.left t))
@@ -616,7 +616,7 @@ body_text : {A : Type 0} (P : A → Rule) (xs : List A) (text : List ℕ) → (B
 body_text P [] text t = absurd t.4.4.3
 body_text P (x ∷ more) text t = t
 
--- by the word that stands there: with none the list in parentheses fails, with EMPTY nothing does, with another it is W1
+-- by the word that is there: with none the list in parentheses fails, with EMPTY nothing does, with another it is W1
 body_cases : {A B C : Type 0} (P : A → Rule) (f : B → List A) (R : Kind → B → Type 0) (inner : Reader (List C)) → ((i : Input) → IfFails (inner i) (Stuck (λ x. Separated P (f x)) R i)) → (i : Input)
     → (empty named : Bool) → (length (word_at (behind i)) == 0) ≡ empty
     → IfFails ((if empty then enclosed inner else (if named then pure [] else refuse (behind i).at)) (past_word (behind i))) (Stuck (λ x. Body P (f x)) R i)
@@ -737,7 +737,7 @@ whole_fails i = then_fails (λ _ _. Unit {0}) (Stuck Writes RoomGeometry i) (Stu
 
 -- the law
 
--- the fault that is answered is the one with which reading failed
+-- the fault that is returned is the one with which reading failed
 answered : (Q : TextFault → Type 0) (r : Result (Geometry × Input) TextFault) (fault : TextFault) → IfFails r Q → outcome r ≡ Err fault → Unless Q fault
 answered Q (Ok found) fault fails e = absurd cc
 answered Q (Err f) fault fails e = let same : f ≡ fault = cc in subst (Unless Q) same fails
@@ -745,7 +745,7 @@ answered Q (Err f) fault fails e = let same : f ≡ fault = cc in subst (Unless 
 abbrev start : List ℕ → Input
 start text = record { left = text; at = 0 }
 
--- no byte is lost, so the byte of the fault is as far on as what stands before it is long
+-- no byte is lost, so the byte of the fault is as far on as what comes before it is long
 place_is : (at : ℕ) (used tail text : List ℕ) → text ≡ used ++ tail → at + length tail ≡ 0 + length text → at ≡ length used
 place_is at used tail text split e = omega (arith, ap length split, length-append used tail, e)
 
@@ -762,7 +762,7 @@ takes_number used mark more closing g is goes counts = (
   },
 )
 
--- so a number stands at that byte, where a new number can stand
+-- so a number is at that byte, where a new number can be there
 has_number : (text : List ℕ) (at : ℕ) (m : Bool) (w f used tail mark closing : List ℕ) (g : Geometry) → text ≡ used ++ tail → at + length tail ≡ 0 + length text → Marks AtNumber mark
     → Writes g (used ++ (mark ++ closing)) → IsWithinCounts g → IsFirstNumber tail m w f → HasNumber text at m w f
 has_number text at m w f used tail mark closing g split e marked goes counts first = record {
@@ -774,7 +774,7 @@ has_number text at m w f used tail mark closing g split e marked goes counts fir
   number = first;
 }
 
--- a number that failed as W2 shows that W2 stands there
+-- a number that failed as W2 shows that W2 applies there
 off_grid : (text : List ℕ) (at : ℕ) (k : Kind) (used tail mark closing : List ℕ) (g : Geometry) → text ≡ used ++ tail → What k (OffGrid at) tail → at + length tail ≡ 0 + length text → Marks k mark
     → Writes g (used ++ (mark ++ closing)) → RoomGeometry k g → IsOffGrid text at
 off_grid text at AtNumber used tail mark closing g split what e marked goes counts = record {
@@ -787,7 +787,7 @@ off_grid text at AtNumber used tail mark closing g split what e marked goes coun
 off_grid text at AtPosition used tail mark closing g split what e marked goes counts = absurd what
 off_grid text at AtPart used tail mark closing g split what e marked goes counts = absurd what
 
--- one that failed as W3 shows that W3 stands
+-- one that failed as W3 shows that W3 applies
 out_of_range : (text : List ℕ) (at : ℕ) (k : Kind) (used tail mark closing : List ℕ) (g : Geometry) → text ≡ used ++ tail → What k (OutOfRange at) tail → at + length tail ≡ 0 + length text → Marks k mark
     → Writes g (used ++ (mark ++ closing)) → RoomGeometry k g → IsOutOfRange text at
 out_of_range text at AtNumber used tail mark closing g split what e marked goes counts = record {
@@ -801,7 +801,7 @@ out_of_range text at AtNumber used tail mark closing g split what e marked goes 
 out_of_range text at AtPosition used tail mark closing g split what e marked goes counts = absurd what
 out_of_range text at AtPart used tail mark closing g split what e marked goes counts = absurd what
 
--- and a position or part that failed as W4 shows that W4 stands, by that position or part
+-- and a position or part that failed as W4 shows that W4 applies, by that position or part
 too_many : (text : List ℕ) (k : Kind) (used tail mark closing : List ℕ) (g : Geometry) → text ≡ used ++ tail → What k TooLong tail → Marks k mark
     → Writes g (used ++ (mark ++ closing)) → list_any begins_more closing ≡ false → RoomGeometry k g → HasTooManyPositions text ⊎ HasTooManyParts text
 too_many text AtNumber used tail mark closing g split what marked goes none counts = absurd what
@@ -830,7 +830,7 @@ too_many text AtPart used tail mark closing g split what marked goes none counts
   counted = counts;
 })
 
--- reading that failed shows a text of the grammar that begins like this one up to the fault, so the fault stands
+-- reading that failed shows a text of the grammar that begins like this one up to the fault, so the fault applies
 pub refusals_stand : RefusalsStand
 unfolding read_text
 refusals_stand text at = let i = start text in (

@@ -45,7 +45,7 @@ any_read (Err fault) = tt
 abbrev pub Sound : {A : Type 0} → (A → Rule) → (A → Type 0) → Reader A → Type 0
 Sound P R step = (i : Input) → IfRead (step i) (λ x j. Took i.left (P x) j.left × R x)
 
--- the byte stands there and is taken, or nothing is found
+-- the byte is there and is taken, or nothing is found
 expected : (c : ℕ) (i : Input) (met : Bool) → begins_with (λ b. b == c) i.left ≡ met
     → IfRead ((if met then pure true else refuse i.at) (if met then after 1 i else i)) (λ _ j. Took i.left (Byte c) j.left)
 expected c i true e = (c ∷ [], first_is c i.left e, refl)
@@ -257,7 +257,7 @@ pub in_parentheses : {A : Type 0} (P : A → Rule) (xs : List A) (us bs cs : Lis
 in_parentheses P [] us bs cs white taken = absurd taken.2.4.3
 in_parentheses P (x ∷ more) us bs cs white taken = both us bs cs Blank (Enclosed (Separated P (x ∷ more))) white taken
 
--- a word that begins where no letter stands has white space before it
+-- a word that begins where no letter is has white space before it
 pub spaced_word : (left : List ℕ) → begins_with is_ascii_alphabetic left ≡ false → (n : ℕ) (empty : Bool) → (length (take n left) == 0) ≡ empty
     → (length (take (prefix_len is_ascii_alphabetic (drop n left)) (drop n left)) == 0) ≡ false → 0 < length (take n left)
 spaced_word left quiet n false e f = some (length (take n left)) e
@@ -276,7 +276,7 @@ past_word j = after (prefix_len is_ascii_alphabetic j.left) j
 abbrev pub word_at : Input → List ℕ
 word_at j = take (prefix_len is_ascii_alphabetic j.left) j.left
 
--- the word that stands there chooses: none and a list in parentheses, EMPTY and no items, another word and a refusal
+-- the word that is there chooses: none and a list in parentheses, EMPTY and no items, another word and a refusal
 bodied : {A : Type 0} (P : A → Rule) (R : List A → Type 0) (inner : Reader (List A)) → R [] → Sound (Separated P) R inner
     → (i : Input) → begins_with is_ascii_alphabetic i.left ≡ false
     → (empty named : Bool) → (length (word_at (behind i)) == 0) ≡ empty → str_eq_ignore_ascii_case (word_at (behind i)) (codes "EMPTY") ≡ named
@@ -300,7 +300,7 @@ bodied P R inner base sound i quiet false true e f =
     )
 bodied P R inner base sound i quiet false false e f = tt
 
--- a body of the grammar is taken; white space is before EMPTY, because no letter stands where the name ended
+-- a body of the grammar is taken; white space is before EMPTY, because no letter is where the name ended
 pub body_sound : {A : Type 0} (P : A → Rule) (R : List A → Type 0) (inner : Reader (List A)) → R [] → Sound (Separated P) R inner
     → (i : Input) → begins_with is_ascii_alphabetic i.left ≡ false → IfRead (body inner i) (λ xs j. Took i.left (Body P xs) j.left × R xs)
 unfolding body
@@ -310,7 +310,7 @@ body_sound P R inner base sound i quiet = bodied P R inner base sound i quiet _ 
 abbrev IsLone : List Position → Type 0
 IsLone ps = (option_to_list (first ps) ≡ ps) × (length ps ≤ position_limit)
 
--- behind POINT stands one position, or EMPTY
+-- behind POINT is one position, or EMPTY
 pub lone_sound : (i : Input) → begins_with is_ascii_alphabetic i.left ≡ false → IfRead (lone i) (λ ps j. Took i.left (Body PositionText ps) j.left × IsLone ps)
 lone_sound i quiet = body_sound PositionText IsLone _ (refl, zero-le)
     (λ k. then_read (λ p l. Took k.left (Padded (PositionText p)) l.left × (0 < position_limit)) (padded (position position_limit) k) _ _
@@ -318,7 +318,7 @@ lone_sound i quiet = body_sound PositionText IsLone _ (refl, zero-le)
     (λ p l taken. (taken.0, (refl, taken.1))))
     i quiet
 
--- what stands behind the name is told from by the name
+-- what comes after the name is known by the name
 abbrev Tagged : List ℕ → Geometry → Input → Type 0
 Tagged from g j = Took from (TaggedText g) j.left × IsWithinCounts g
 
@@ -356,7 +356,7 @@ typed_by at name i from quiet whole_is false false false false false true e1 e2 
     (λ es j taken. (both from i.left j.left (Word (codes "MULTIPOLYGON")) (Body PolygonText es) (name, whole_is, word_is name (codes "MULTIPOLYGON") e6) taken.0, (taken.1.1, taken.1.0)))
 typed_by at name i from quiet whole_is false false false false false false e1 e2 e3 e4 e5 e6 = tt
 
--- the name takes all letters that stand there, so no letter stands where the body begins
+-- the name takes all letters that are there, so no letter is where the body begins
 tagged_sound : Sound TaggedText IsWithinCounts tagged
 unfolding tagged typed
 tagged_sound i = let m = prefix_len is_ascii_alphabetic i.left in

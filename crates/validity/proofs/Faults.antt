@@ -16,7 +16,7 @@ use Rattle.validity_laws.specs.FaultLaws.{IsFirst}
 use Rattle.validity_laws.proofs.FirstPlace.{first_fault_is_first}
 use Rattle.validity_laws.proofs.FirstFaultFacts.{none_is_found_where_valid, are_closed}
 
--- a geometry in which no fault is found is valid, since the test finds one wherever one stands
+-- a geometry in which no fault is found is valid, since the test finds one wherever one applies
 pub no_fault_valid : (g : Geometry) → validity_fault g ≡ None → IsValid g
 no_fault_valid g none = (none_is_found_where_valid g).0 none
 
@@ -24,11 +24,11 @@ no_fault_valid g none = (none_is_found_where_valid g).0 none
 pub none_found_valid : {g h : Geometry} {found : Option ValidityFault} → h ≡ g → found ≡ validity_fault h → found ≡ None → IsValid g
 none_found_valid {g} same is none = no_fault_valid g (ap validity_fault (sym same) ∙ (sym is ∙ none))
 
--- the fault that is found is the first that stands
+-- the fault that is found is the first that applies
 pub first_stands : (g : Geometry) (refusal : CheckFault) (fault : ValidityFault) → fault_in refusal ≡ Some fault → validity_fault g ≡ Some fault → IsFirstFaultOf g refusal
 first_stands g refusal fault tells found = subst (λ o. MatchOption o (Unit {0}) (λ f. IsFirst g f)) (sym tells) (first_fault_is_first g fault found)
 
--- and it stands
+-- and it applies
 pub found_stands : (g : Geometry) (refusal : CheckFault) (fault : ValidityFault) → fault_in refusal ≡ Some fault → validity_fault g ≡ Some fault → IsStandingFaultOf g refusal
 found_stands g refusal fault tells found = subst (λ o. MatchOption o (Unit {0}) (λ f. HasFault g f)) (sym tells) (first_fault_is_first g fault found).stands
 

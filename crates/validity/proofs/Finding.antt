@@ -1,4 +1,4 @@
--- The first of some faults that stands, number by number.
+-- The first of some faults that applies, number by number.
 use Rattle.std.proofs.Common.{◌≡◌, refl, sym, ap, ◌∙◌, append_assoc, ℕ, zero, suc, ◌+◌, ◌-◌, ◌<◌, ◌≤◌, Bool, true, false, cond, List, [], ◌∷◌, ◌++◌, map, drop, length, Option, Some, None, slice_get, arith}
 use Rattle.std.specs.List.{find, flat_map, range_with_len}
 use Rattle.std.specs.Option.{option_or, is_some, MatchOption}
@@ -19,7 +19,7 @@ pub numbers_end : (i n : ℕ) → n ≤ i → numbers i n ≡ []
 numbers_end i n h = let e : n - i ≡ 0 = omega arith in ap (range_with_len i) e
 
 -- ---- one fault a number
--- one step of a search over numbers: the first fault is this number's where it stands ..
+-- one step of a search over numbers: the first fault is this number's where it lies ..
 pub found_here : (stands : ValidityFault → Bool) (fault : ℕ → ValidityFault) (i n : ℕ) → i < n → stands (fault i) ≡ true → find stands (map fault (numbers i n)) ≡ Some (fault i)
 found_here stands fault i n h e = rw (numbers_go_on i n h, e) refl
 
@@ -33,16 +33,16 @@ pub none_left : (stands : ValidityFault → Bool) (fault : ℕ → ValidityFault
 none_left stands fault i n h = ap (λ ns. find stands (map fault ns)) (numbers_end i n h)
 
 -- ---- some faults a number
--- a search through two lists finds what stands first in the front one, or else what it finds in the other
+-- a search through two lists finds what lies first in the front one, or else what it finds in the other
 in_front : (stands : ValidityFault → Bool) (xs ys : List ValidityFault) (o : Option ValidityFault) → find stands xs ≡ o → find stands (xs ++ ys) ≡ option_or o (find stands ys)
 in_front stands xs ys o e = find-append stands xs ys ∙ ap (λ f. option_or f (find stands ys)) e
 
--- the same where each number has several faults: what stands first among this number's is the first of all ..
+-- the same where each number has several faults: what applies first among this number's is the first of all ..
 pub found_among : (stands : ValidityFault → Bool) (faults : ℕ → List ValidityFault) (i n : ℕ) (fault : ValidityFault) → i < n → find stands (faults i) ≡ Some fault
     → find stands (flat_map faults (numbers i n)) ≡ Some fault
 found_among stands faults i n fault h e = ap (λ ns. find stands (flat_map faults ns)) (numbers_go_on i n h) ∙ in_front stands (faults i) (flat_map faults (numbers (i + 1) n)) (Some fault) e
 
--- .. where none of them stands the next number's are looked at ..
+-- .. where none of them applies the next number's are looked at ..
 pub passed_among : (stands : ValidityFault → Bool) (faults : ℕ → List ValidityFault) (i n : ℕ) → i < n → find stands (faults i) ≡ None
     → find stands (flat_map faults (numbers i n)) ≡ find stands (flat_map faults (numbers (i + 1) n))
 passed_among stands faults i n h e = ap (λ ns. find stands (flat_map faults ns)) (numbers_go_on i n h) ∙ in_front stands (faults i) (flat_map faults (numbers (i + 1) n)) None e
@@ -63,13 +63,13 @@ at_place xs m x e = go xs m x e ∙ ap (λ k. x ∷ drop k xs) (next m)
     go (y ∷ ys) zero x e = let same : y ≡ x = cc in ap (λ z. z ∷ ys) same
     go (y ∷ ys) (suc m) x e = go ys m x e
 
--- the same over parts: what stands first among this part's faults is the first of all ..
+-- the same over parts: what applies first among this part's faults is the first of all ..
 pub found_in_part : {A : Type 0} (stands : ValidityFault → Bool) (faults : A → List ValidityFault) (parts : List A) (m : ℕ) (part : A) (fault : ValidityFault) → slice_get parts m ≡ Some part
     → find stands (faults part) ≡ Some fault → find stands (flat_map faults (drop m parts)) ≡ Some fault
 found_in_part stands faults parts m part fault is e = ap (λ xs. find stands (flat_map faults xs)) (at_place parts m part is)
     ∙ in_front stands (faults part) (flat_map faults (drop (m + 1) parts)) (Some fault) e
 
--- .. where none of them stands the next part's are looked at ..
+-- .. where none of them applies the next part's are looked at ..
 pub passed_in_part : {A : Type 0} (stands : ValidityFault → Bool) (faults : A → List ValidityFault) (parts : List A) (m : ℕ) (part : A) → slice_get parts m ≡ Some part
     → find stands (faults part) ≡ None → find stands (flat_map faults (drop m parts)) ≡ find stands (flat_map faults (drop (m + 1) parts))
 passed_in_part stands faults parts m part is e = ap (λ xs. find stands (flat_map faults xs)) (at_place parts m part is)

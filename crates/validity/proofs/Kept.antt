@@ -55,7 +55,7 @@ points_have_no_fault (g.MultiLineString ls) e = absurd cc
 points_have_no_fault (g.Polygon rs) e = absurd cc
 points_have_no_fault (g.MultiPolygon es) e = absurd cc
 
--- no odd ends stand at no lines
+-- no odd ends are at no lines
 none_odd : AreOddEnds [] []
 unfolding IsStrictlySortedBy
 none_odd = record { ascend = tt; exact = λ p is. refl }

@@ -27,13 +27,13 @@ places_of bounds from n (e ∷ es) = go (is_near bounds from n e) (numbered_from
     go true pairs places h = ap (λ l. n ∷ l) h
     go false pairs places h = h
 
--- an edge that is asked for stands at its place
+-- an edge that is asked for is at its place
 pub record IsAskedAt (bounds : Envelope) (from : ℕ) (n : ℕ) (es : List Edge) (j : ℕ) (f : Edge) : Type 0 where
   pub not_before : n ≤ j
   pub stands : slice_get es (j - n) ≡ Some f
   pub asked_for : is_near bounds from j f ≡ true
 
--- what stands in the rest stands one place later in the whole
+-- what is in the rest is one place later in the whole
 one_later : (bounds : Envelope) (from : ℕ) (n : ℕ) (e : Edge) (es : List Edge) (j : ℕ) (f : Edge) → IsAskedAt bounds from (suc n) es j f → IsAskedAt bounds from n (e ∷ es) j f
 one_later bounds from n e es j f h = let later = h.not_before in record {
   not_before = omega (arith, later);
@@ -47,7 +47,7 @@ same_some x y h = cc
 same_pair : (a b : ℕ) (x y : Edge) (p q : ℕ × Edge) → p ≡ (a, x) → q ≡ (b, y) → Some p ≡ Some q → (a ≡ b) × (x ≡ y)
 same_pair a b x y p q e f h = let s = sym e ∙ (same_some p q h ∙ f) in (ap (λ (r : ℕ × Edge). r.0) s, ap (λ (r : ℕ × Edge). r.1) s)
 
--- each edge that is numbered as near stands at its number, isn't too early, and has bounds that meet those asked for
+-- each edge that is numbered as near lies at its number, isn't too early, and has bounds that meet those asked for
 pub asked_at : (bounds : Envelope) (from : ℕ) (n : ℕ) (es : List Edge) (k j : ℕ) (f : Edge) → slice_get (numbered_from bounds from n es) k ≡ Some (j, f) → IsAskedAt bounds from n es j f
 asked_at bounds from n [] k j f h = absurd cc
 asked_at bounds from n (e ∷ es) k j f h = go (is_near bounds from n e) refl k h (λ l. asked_at bounds from (suc n) es l j f)
@@ -90,7 +90,7 @@ any_asked test bounds from n (e ∷ es) h near =
     go false is true passes rest = absurd (let no : false ≡ true = sym (near_asked bounds from n e h is) ∙ near n e passes in cc)
     go false is false passes rest = ap (λ (b : Bool). b || list_any test (enumerate_from (suc n) es)) passes ∙ rest
 
--- what stands before the first place asked for isn't asked for
+-- what comes before the first place asked for isn't asked for
 passed : (bounds : Envelope) (from : ℕ) (n m : ℕ) (es : List Edge) → n + m ≤ from → numbered_from bounds from n es ≡ numbered_from bounds from (n + m) (drop m es)
 passed bounds from n zero es h = let e : n ≡ n + 0 = omega arith in ap (λ k. numbered_from bounds from k es) e
 passed bounds from n (suc m) [] h = refl
@@ -102,7 +102,7 @@ passed bounds from n (suc m) (e ∷ es) h =
     early : (f n : ℕ) → n < f → nat_le f n ≡ false
     early f n h = grind (arith, h)
 
--- the same from a place on: what stands before it isn't asked for and isn't tried either
+-- the same from a place on: what comes before it isn't asked for and isn't tried either
 pub any_after : (test : (ℕ × Edge) → Bool) (bounds : Envelope) (from : ℕ) (edges : List Edge) → ((j : ℕ) (e : Edge) → test (j, e) ≡ true → overlap (box_of e) bounds ≡ true)
     → list_any test (enumerate_from from (drop from edges)) ≡ list_any test (numbered_meeting bounds from edges)
 any_after test bounds from edges near =
@@ -130,7 +130,7 @@ pub any_of_all : (test : Edge → Bool) (bounds : Envelope) (edges : List Edge) 
 any_of_all test bounds edges near = sym (any_numbered test 0 edges) ∙ any_after (λ (p : ℕ × Edge). test p.1) bounds 0 edges (λ j e. near e)
 
 -- ---- one of the places after another
--- a place that was found comes with the edge that stands there
+-- a place that was found comes with the edge that lies there
 mapped_place : (pairs : List (ℕ × Edge)) (k d : ℕ) → k < length (map (λ (p : ℕ × Edge). p.0) pairs) → (f : Edge) × (slice_get pairs k ≡ Some (get_or (map (λ (p : ℕ × Edge). p.0) pairs) k d, f))
 mapped_place [] k d h = absurd (omega (arith, h))
 mapped_place (p ∷ pairs) zero d h = (p.1, refl)

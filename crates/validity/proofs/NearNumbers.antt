@@ -1,4 +1,4 @@
--- The first fault that stands is among those of near numbers.
+-- The first fault that applies is among those of near numbers.
 use Rattle.std.proofs.Common.{◌≡◌, refl, sym, ap, ap₂, ◌∙◌, subst, ℕ, zero, suc, ◌+◌, ◌-◌, ◌<◌, ◌≤◌, ◌==◌, ◌⊎◌, inl, inr, not, Bool, true, false, ◌&&◌, ◌||◌, cond, nat_le, nat_lt, List, [], ◌∷◌, map, drop, length, get_or, Option, Some, None, slice_get, arith, All}
 use Rattle.std.specs.Prelude.{filter}
 use Rattle.std.specs.List.{find, enumerate_from}
@@ -28,7 +28,7 @@ use Rattle.validity.proofs.PartFacts.{mapped_at}
 use Rattle.validity.proofs.RingNumbers.{rings_meet_at, holes_nested_at, elements_meet_at, lines_cover}
 
 -- ---- of all numbers the near ones
--- what stands of a number has an envelope that meets the one asked for, where envelopes from a place on are these
+-- what applies of a number has an envelope that meets the one asked for, where envelopes from a place on are these
 abbrev pub AreNear : Geometry → (ℕ → ValidityFault) → ℕ → ℕ → Option Envelope → ℕ → List (Option Envelope) → Type 0
 AreNear g fault from end asked n envelopes = (j : ℕ) (o : Option Envelope) → n ≤ j → slice_get envelopes (j - n) ≡ Some o → from ≤ j → j < end → has_fault g (fault j) ≡ true → meets o asked ≡ true
 
@@ -48,7 +48,7 @@ one_place asked n o envelopes = go (meets o asked) refl
 next_near : (g : Geometry) (fault : ℕ → ValidityFault) (from end : ℕ) (asked : Option Envelope) (n : ℕ) (o : Option Envelope) (envelopes : List (Option Envelope)) → AreNear g fault from end asked n (o ∷ envelopes) → AreNear g fault from end asked (n + 1) envelopes
 next_near g fault from end asked n o envelopes near j p h is = let less : j - n ≡ suc (j - (n + 1)) = omega (arith, h) in near j p (omega (arith, h)) (ap (slice_get (o ∷ envelopes)) less ∙ is)
 
--- where the fault of the first number stands its envelope meets the one asked for
+-- where the fault of the first number applies its envelope meets the one asked for
 first_is : (g : Geometry) (fault : ℕ → ValidityFault) (from end : ℕ) (asked : Option Envelope) (n : ℕ) (o : Option Envelope) (envelopes : List (Option Envelope)) → AreNear g fault from end asked n (o ∷ envelopes) → from ≤ n → n < end → has_fault g (fault n) ≡ true → meets o asked ≡ true
 first_is g fault from end asked n o envelopes near = let none : n - n ≡ 0 = omega arith in near n o (omega arith) (ap (slice_get (o ∷ envelopes)) none)
 
@@ -70,7 +70,7 @@ left_out : (g : Geometry) (fault : ℕ → ValidityFault) (from end n : ℕ) (me
 left_out g fault from end n true rest fails = ap (λ (b : Bool). cond b (Some (fault n)) (first_near g fault from end rest)) fails
 left_out g fault from end n false rest fails = refl
 
--- a number whose fault stands, and whose envelope meets, is the first
+-- a number whose fault applies, and whose envelope meets, is the first
 taken_first : (g : Geometry) (fault : ℕ → ValidityFault) (from end n : ℕ) (meet : Bool) (rest : List ℕ) → meet ≡ true → nat_le from n && nat_lt n end && has_fault g (fault n) ≡ true
     → first_near g fault from end (cond meet (n ∷ rest) rest) ≡ Some (fault n)
 taken_first g fault from end n true rest m passes = ap (λ (b : Bool). cond b (Some (fault n)) (first_near g fault from end rest)) passes
@@ -95,8 +95,8 @@ third_no true true c e = e
 third_no true false c e = refl
 third_no false b c e = refl
 
--- of the numbers from one on the first whose fault stands is found among the near ones,
--- since a number that isn't near has no fault that stands
+-- of the numbers from one on the first whose fault applies is found among the near ones,
+-- since a number that isn't near has no fault that applies
 near_after : (g : Geometry) (fault : ℕ → ValidityFault) (from end : ℕ) (asked : Option Envelope) (n : ℕ) (envelopes : List (Option Envelope)) → from ≤ n → end ≤ n + length envelopes
     → AreNear g fault from end asked n envelopes → find (has_fault g) (map fault (numbers n end)) ≡ first_near g fault from end (places asked n envelopes)
 near_after g fault from end asked n [] h k near = none_left (has_fault g) fault n end (omega (arith, k))
@@ -134,13 +134,13 @@ near_from g fault from end asked (suc m) n (o ∷ envelopes) h k near =
     ∙ sym (ap (first_near g fault from end) (one_place asked n o envelopes)
     ∙ left_out g fault from end n (meets o asked) (places asked (n + 1) envelopes) (first_no (nat_le from n) (nat_lt n end) (has_fault g (fault n)) (le_no from n (omega (arith, h)))))
 
--- the first fault that stands of a range of numbers is found by looking only at those whose envelopes meet
+-- the first fault that applies of a range of numbers is found by looking only at those whose envelopes meet
 pub near_found : (g : Geometry) (fault : ℕ → ValidityFault) (from end : ℕ) (asked : Option Envelope) (envelopes : List (Option Envelope)) → end ≤ length envelopes
     → AreNear g fault from end asked 0 envelopes → find (has_fault g) (map fault (numbers from end)) ≡ first_near g fault from end (meeting_places envelopes asked)
 near_found g fault from end asked envelopes h near = near_from g fault from end asked from 0 envelopes (omega arith) (omega (arith, h)) near
 
 -- ---- one near number after another
--- one step over the near numbers: one in the range whose fault stands is the first ..
+-- one step over the near numbers: one in the range whose fault applies is the first ..
 pub found_near : (g : Geometry) (fault : ℕ → ValidityFault) (from end : ℕ) (near : List ℕ) (k j d : ℕ) → k < length near → j ≡ get_or near k d → from ≤ j → j < end → has_fault g (fault j) ≡ true
     → first_near g fault from end (drop k near) ≡ Some (fault j)
 found_near g fault from end near k j d within is low high stands = ap (first_near g fault from end) (at_index near k d j within is)
@@ -161,12 +161,12 @@ pub passed_late : (g : Geometry) (fault : ℕ → ValidityFault) (from end : ℕ
     → first_near g fault from end (drop k near) ≡ first_near g fault from end (drop (k + 1) near)
 passed_late g fault from end near k j d within is late = passed_number g fault from end near k j d within is (second_no (nat_le from j) (nat_lt j end) (has_fault g (fault j)) (lt_no j end late))
 
--- a near number whose fault doesn't stand is passed
+-- a near number whose fault doesn't apply is passed
 pub passed_near : (g : Geometry) (fault : ℕ → ValidityFault) (from end : ℕ) (near : List ℕ) (k j d : ℕ) → k < length near → j ≡ get_or near k d → has_fault g (fault j) ≡ false
     → first_near g fault from end (drop k near) ≡ first_near g fault from end (drop (k + 1) near)
 passed_near g fault from end near k j d within is fails = passed_number g fault from end near k j d within is (third_no (nat_le from j) (nat_lt j end) (has_fault g (fault j)) fails)
 
--- where all near numbers are passed no fault stands
+-- where all near numbers are passed no fault applies
 pub none_near : (g : Geometry) (fault : ℕ → ValidityFault) (from end : ℕ) (near : List ℕ) (k : ℕ) → length near ≤ k → first_near g fault from end (drop k near) ≡ None
 none_near g fault from end near k h = ap (first_near g fault from end) (past_all near k h)
 

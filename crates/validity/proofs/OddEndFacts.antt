@@ -1,4 +1,4 @@
--- The positions on which an odd number of ends stand.
+-- The positions on which an odd number of ends lie.
 use Rattle.std.proofs.Common.{◌≡◌, ◌≢◌, ◌⊎◌, inl, inr, ℕ, zero, suc, ◌+◌, ◌-◌, ◌/◌, ◌<◌, ◌≤◌, Bool, true, false, not, ◌&&◌, ◌||◌, refl, sym, ap, ap₂, ◌∙◌, subst, List, [], ◌∷◌, ◌++◌, length, get_or, take, drop, count_by, flat_map, cond, append_assoc, Result, Ok, Err, IfOk, arith, IsPermutation, pos, ◌<ℤ◌}
 use Rattle.std.specs.Prelude.{nat_lt}
 use Rattle.std.specs.List.{AllByRecursion, list_any}
@@ -131,7 +131,7 @@ at_this given i x l is a h = ap (λ b. is_lt (position_order b a)) is ∙ h i x 
 one_odd : (f : Position → Bool) (x : Position) → odd (count_by f (x ∷ [])) ≡ f x
 one_odd f x = odd_count f (x ∷ []) ∙ xor_false (f x)
 
--- one position more turns the parity at the point where it stands, and nowhere else
+-- one position more turns the parity at the point where it lies, and nowhere else
 added_odd : (f : Position → Bool) (xs : List Position) (x : Position) → odd (count_by f (xs ++ x ∷ [])) ≡ xor (odd (count_by f xs)) (f x)
 added_odd f xs x = odd_joined f xs (x ∷ []) ∙ ap (xor (odd (count_by f xs))) (one_odd f x)
 
@@ -229,8 +229,8 @@ one_more_joined f xs i x items new more within is before made grew =
     grew ∙ ap₂ (λ l m. l ++ m) before (made ∙ sym (append-nil (f x))) ∙ sym (flat_map-append f (take i xs) (x ∷ []))
     ∙ ap (flat_map f) (ap (λ y. take i xs ++ y ∷ []) is ∙ sym (take_more xs i x within))
 
--- ---- a point stands at one of ascending positions at most
--- a point doesn't stand at two positions of which one is less, since positions at one point are equal
+-- ---- a point is at one of ascending positions at most
+-- a point isn't at two positions of which one is less, since positions at one point are equal
 apart : (p : Point) (a b : Position) → IsPoint p → position_order a b ≡ Less → stands_at p a ≡ true → stands_at p b ≡ false
 apart p a b hp h e = go (stands_at p b) refl
   where
@@ -238,12 +238,12 @@ apart p a b hp h e = go (stands_at p b) refl
     go false f = f
     go true f = absurd (let n = same_equal a b (same_transitive (point_at a) p (point_at b) hp e (same_symmetric p (point_at b) ∙ f)) in let m : Less ≡ Equal = sym h ∙ n in cc)
 
--- where a point stands at a position it stands at none of the greater ones behind it
+-- where a point lies at a position it is at none of the greater ones behind it
 none_after : (p : Point) (a : Position) (others : List Position) → IsPoint p → stands_at p a ≡ true → AllByRecursion (λ b. position_order a b ≡ Less) others → odd (count_by (stands_at p) others) ≡ false
 none_after p a [] hp e h = refl
 none_after p a (b ∷ bs) hp e h = odd_joined (stands_at p) (b ∷ []) bs ∙ ap₂ xor (one_odd (stands_at p) b ∙ apart p a b hp h.0 e) (none_after p a bs hp e h.1)
 
--- at ascending positions a point stands at one at most, so it stands at some exactly where it stands at an odd number
+-- at ascending positions a point is at one at most, so it is at some exactly where it lies at an odd number
 pub one_stands : (p : Point) (xs : List Position) → IsPoint p → IsStrictlySortedBy position_order xs → list_any (stands_at p) xs ≡ odd (count_by (stands_at p) xs)
 unfolding IsStrictlySortedBy
 one_stands p [] hp h = refl
@@ -260,7 +260,7 @@ are_odd_ends ls all sorted found e moved up alike = record {
   exact = λ p hp. one_stands p found hp up ∙ alike p ∙ ap odd (sum_by-IsPermutation _ all sorted moved) ∙ ap (λ l. odd (count_by (stands_at p) l)) e;
 }
 
--- the same of an answer that may be want of memory instead
+-- the same of an answer that may be running out of memory instead
 pub odd_ends_found : {V E : Type 0} (items : V → List Position) (r : Result V E) (ls : List (List Position)) (all sorted slice : List Position) → all ≡ flat_map ends ls → IsPermutation all sorted → slice ≡ sorted
     → IfOk r (λ v. IsStrictlySortedBy position_order (items v)) → IfOk r (λ v. HasParityOf (items v) slice) → IfOk r (λ v. AreOddEnds (items v) ls)
 odd_ends_found items (Ok v) ls all sorted slice e moved f up alike = are_odd_ends ls all sorted (items v) e moved up (subst (HasParityOf (items v)) f alike)
@@ -355,7 +355,7 @@ parted_greater xs p low high middle a hp s m is e parts = record { below = parts
 stands_from : (p : Point) (a : Position) → lies a p ≡ Equal → stands_at p a ≡ true
 stands_from p a e = (equal_is_same (point_at a) p).0 e
 
--- a position that compares as equal with the point is one at which the point stands
+-- a position that compares as equal with the point is one at which the point lies
 pub found_there : (xs : List Position) (p : Point) (middle : ℕ) (a : Position) → middle < length xs → a ≡ get_or xs middle a → lies a p ≡ Equal → list_any (stands_at p) xs ≡ true
 found_there [] p middle a h is e = absurd (omega (arith, h))
 found_there (x ∷ xs) p zero a h is e = ap (λ b. b || list_any (stands_at p) xs) (ap (stands_at p) (sym is) ∙ stands_from p a e)
@@ -365,7 +365,7 @@ found_there (x ∷ xs) p (suc m) a h is e = ap (λ b. stands_at p x || b) (found
     any_true true = refl
     any_true false = refl
 
--- where no position compares as equal with the point it stands at none of them
+-- where no position compares as equal with the point it lies at none of them
 none_stands : (xs : List Position) (p : Point) → ((k : ℕ) (d : Position) → k < length xs → lies (get_or xs k d) p ≡ Equal → ⊥) → list_any (stands_at p) xs ≡ false
 none_stands [] p h = refl
 none_stands (x ∷ xs) p h = ap₂ (λ (a b : Bool). a || b) (off (stands_at p x) refl) (none_stands xs p (λ k d l. h (suc k) d (omega (arith, l))))
@@ -377,7 +377,7 @@ none_stands (x ∷ xs) p h = ap₂ (λ (a b : Bool). a || b) (off (stands_at p x
     off false e = e
     off true e = absurd (h zero x first ((equal_is_same (point_at x) p).1 e))
 
--- when the places are used up each position is less or greater, so the point stands at none
+-- when the places are used up each position is less or greater, so the point is at none
 pub not_there : (xs : List Position) (p : Point) (low high : ℕ) → high ≤ low → IsParted xs p low high → list_any (stands_at p) xs ≡ false
 not_there xs p low high h parts = none_stands xs p off
   where

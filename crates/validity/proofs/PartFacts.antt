@@ -10,7 +10,7 @@ use Rattle.edge_boxes.specs.declared.boxes.EdgeBoxes.{EdgeBoxes}
 use Rattle.ring_tests.specs.EdgeRuns.{edges_share, is_odd_above}
 use Rattle.ring_tests.proofs.Runs.{polygons_by_their_edges, inside_by_edges}
 
--- what stands at a place of a mapped list
+-- what is at a place of a mapped list
 pub mapped_at : {A B : Type 0} (f : A → B) (xs : List A) (i : ℕ) (y : B) → slice_get (map f xs) i ≡ Some y → (x : A) × (slice_get xs i ≡ Some x) × (f x ≡ y)
 mapped_at f [] i y e = absurd cc
 mapped_at f (x ∷ xs) zero y e = (x, refl, cc)

@@ -1,4 +1,4 @@
--- Of a valid geometry: its interior, boundary and exterior stand by its rings.
+-- Of a valid geometry: its interior, boundary and exterior lie by its rings.
 use Rattle.std.proofs.Common.{◌≡◌, ◌≢◌, ◌⊎◌, inl, inr, refl, subst, ◌∙◌, ℕ, ◌+◌, ◌<◌, arith, List, [], ◌∷◌, Contains, Some, None, slice_get}
 use Rattle.geometry_model.specs.Points.{Position}
 use Rattle.geometry_model.specs.Geometries.{Geometry, Polygon, edges, edges_of_line, elements, listed, rings}
@@ -58,7 +58,7 @@ elements_are_apart (Geometry.MultiLineString ls) v i j d e n a b p hp f = nothin
 elements_are_apart (Geometry.Polygon rs) v i j d e n a b p hp f = absurd (no_pair rs d e i j n a b)
 elements_are_apart (Geometry.MultiPolygon es) v i j d e n a b p hp f = never_in_two es v i j d e n a b p hp f
 
--- ---- all points of a stretch stand where its start does, and none in the boundary
+-- ---- all points of a stretch lie where its start does, and none in the boundary
 -- a stretch that meets no edge and no listed point crosses no boundary, so it stays where it starts
 pub stretches_stay : (g : Geometry) → IsValid g → StretchesStay g
 stretches_stay g v p q hp hq h k = go (locate g p) refl

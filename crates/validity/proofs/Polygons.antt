@@ -1,4 +1,4 @@
--- The first fault that stands, polygon by polygon.
+-- The first fault that applies, polygon by polygon.
 use Rattle.std.proofs.Common.{◌≡◌, sym, ap₂, ◌∙◌, ℕ, ◌+◌, ◌≤◌, Bool, true, false, List, drop, length, Option, None, arith}
 use Rattle.std.specs.List.{find, flat_map}
 use Rattle.std.specs.Option.{is_some}

@@ -69,7 +69,7 @@ one_decides t i start (x ∷ xs) (suc m) e is low high fails =
     ap (λ (b : Bool). b || list_any t (elements_from (start + length x) xs)) (fails (record { first = start; rings = x }) (from_end (record { first = start; rings = x }) i (omega (arith, from, low))))
     ∙ one_decides t i (start + length x) xs m e is low high fails
 
--- its ring with the number stands at that number among all rings
+-- its ring with the number is at that number among all rings
 pub ring_stands : (i start : ℕ) (polygons : List (List (List Position))) (m : ℕ) (e : Element) → slice_get (elements_from start polygons) m ≡ Some e
     → e.first ≤ i → i < rings_end e → ring_of e i ≡ slice_get (joined_rings polygons) (i - start)
 ring_stands i start [] m e is low high = absurd cc

@@ -35,7 +35,7 @@ pub some_yes : {A : Type 0} (t : A → Bool) (xs : List A) (x : A) → Contains 
 some_yes t xs x c p = some_at t xs x c.0 c.1 c.2 p
 
 -- ---- the ring of a polygon that has a number
--- a ring that is found by its number stands as many places behind the first as the numbers differ
+-- a ring that is found by its number is as many places behind the first as the numbers differ
 pub ring_from : (e : Element) (n : ℕ) (ring : List Position) → ring_of e n ≡ Some ring → IsRing e (n - e.first) n ring
 ring_from e n ring h = go (nat_le e.first n) refl h
   where
@@ -56,7 +56,7 @@ later_ring first k l i j e f h = omega (arith, e, f, h)
 pub greater_number : (first k l i j : ℕ) → i ≡ first + k → j ≡ first + l → k < l → i < j
 greater_number first k l i j e f h = omega (arith, e, f, h)
 
--- what stands at a place of a list lies within it
+-- what is at a place of a list lies within it
 pub within : {A : Type 0} (xs : List A) (i : ℕ) (x : A) → slice_get xs i ≡ Some x → i < length xs
 within [] i x e = absurd cc
 within (y ∷ ys) zero x e = zero-lt-suc (length ys)

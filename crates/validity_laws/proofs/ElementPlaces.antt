@@ -34,7 +34,7 @@ behind (x ∷ xs) ys p = ap (slice_get (x ∷ (xs ++ ys))) (next (length xs) p) 
     next : (n p : ℕ) → suc n + p ≡ suc (n + p)
     next n p = omega arith
 
--- what stands in two lists together stands in the first or in the second
+-- what is in two lists together is in the first or in the second
 either : {A : Type 0} (xs ys : List A) (i : ℕ) (r : A) → slice_get (xs ++ ys) i ≡ Some r → (slice_get xs i ≡ Some r) ⊎ ((p : ℕ) × (slice_get ys p ≡ Some r))
 either [] ys i r e = inr (i, e)
 either (x ∷ xs) ys zero r e = inl e

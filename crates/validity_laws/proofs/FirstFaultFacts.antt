@@ -1,4 +1,4 @@
--- The first fault that is found stands, and none is found exactly where the geometry is valid.
+-- The first fault that is found applies, and none is found exactly where the geometry is valid.
 use Rattle.std.proofs.Common.{◌≡◌, ◌⊎◌, inl, inr, ℕ, zero, suc, ◌+◌, ◌-◌, ◌<◌, ◌≤◌, Bool, true, false, List, [], ◌∷◌, ◌++◌, length, map, flat_map, find, cond, Option, Some, None, Contains, slice_index_or, refl, sym, ap, ◌∙◌, subst, zero-add, arith}
 use Rattle.std.specs.List.{range_with_len}
 use Rattle.std.proofs.lemmas.Bool.{true≢false}
@@ -173,7 +173,7 @@ none_found g e = let p = has_fault g in
     let k = none_in_two p (touching_ones g) (swallowed_ones g) h.1 in
     record { short = b.0; opened = b.1; crossed = c.0; meeting = d.0; outside = f.0; nested = h.0; touching = k.0; swallowed = k.1 }
 
--- a fault whose test fails doesn't stand, since the test decides it
+-- a fault whose test fails doesn't apply, since the test decides it
 pub stands_not : (g : Geometry) (fault : ValidityFault) → NeedsClosed g fault → has_fault g fault ≡ false → HasFault g fault → ⊥
 stands_not g fault needs none h = true≢false (sym ((fault_decided g fault needs).1 h) ∙ none)
 
@@ -186,7 +186,7 @@ past_first first k i e h = omega (arith, e, h)
 to_end : (first k i n : ℕ) → i ≡ first + k → k < n → i < first + n
 to_end first k i n e h = omega (arith, e, h)
 
--- a fault that stood would have its place in the order of tests, but there each test fails
+-- a fault that applied would have its place in the order of tests, but there each test fails
 valid_of : (g : Geometry) → NoneFound g → IsValid g
 valid_of g none (TooFewPoints i) h = stands_not g (TooFewPoints i) tt (fails_from (has_fault g) TooFewPoints 0 (length (lines g)) i none.short (omega arith) (within (lines g) i h.0 h.1)) h
 valid_of g none (RingNotClosed i) h = are_closed g none.opened i h
@@ -229,11 +229,11 @@ needs g (HolesNested i j) e = tt
 needs g (ElementsMeet i j) e = tt
 needs g (ElementInside i j) e = tt
 
--- the fault that is found passes its test, which decides whether it stands
+-- the fault that is found passes its test, which decides whether it applies
 pub first_fault_stands : FirstFaultStands
 first_fault_stands g fault e = (fault_decided g fault (needs g fault e)).0 (found_passes (has_fault g) (in_order g) fault e)
 
--- in a valid geometry none is found, since what is found stands
+-- in a valid geometry none is found, since what is found applies
 none_of_valid : (g : Geometry) → IsValid g → (o : Option ValidityFault) → validity_fault g ≡ o → validity_fault g ≡ None
 none_of_valid g valid None e = e
 none_of_valid g valid (Some fault) e = absurd (valid fault (first_fault_stands g fault e))

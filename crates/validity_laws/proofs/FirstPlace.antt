@@ -1,4 +1,4 @@
--- Before the first fault that is found none stands.
+-- Before the first fault that is found none applies.
 use Rattle.std.proofs.Common.{◌≡◌, ◌⊎◌, inl, inr, ℕ, zero, suc, ◌<◌, Bool, true, false, List, [], ◌∷◌, ◌++◌, length, map, find, cond, Some, None, slice_index_or, refl, sym, ap, ◌∙◌, subst, arith}
 use Rattle.std.proofs.lemmas.List.{append_assoc}
 use Rattle.geometry_model.specs.Geometries.{Geometry, lines, rings}
@@ -87,6 +87,6 @@ first_at g fault found (inr e) = let s = split (has_fault g) (late_ones g) fault
       (at_place (early_ones g ++ s.before) earlier c.0 c.1 c.2)) h;
 }
 
--- the search goes over the faults in their order, so those before the one that is found were tested and don't stand
+-- the search goes over the faults in their order, so those before the one that is found were tested and don't apply
 pub first_fault_is_first : FirstFaultIsFirst
 first_fault_is_first g fault e = first_at g fault e (found_in_two (has_fault g) (early_ones g) (late_ones g) (Some fault) (ap (find (has_fault g)) (sym (in_two g)) ∙ e))

@@ -188,7 +188,7 @@ record From (u : Position) (e : Edge) : Type 0 where
   back : (q : Position) → on (edge u to) (point_at q) ≡ true → on e (point_at q) ≡ true
   is_end : (e.start ≡ to) ⊎ (e.end ≡ to)
 
--- an edge with u as an end is the edge from u to its other end, as it stands or turned round
+-- an edge with u as an end is the edge from u to its other end, as it is written or turned round
 from : (u : Position) (e : Edge) → IsEnd u e → From u e
 from u e (inl q) = record {
   to = e.end;

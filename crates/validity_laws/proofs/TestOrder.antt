@@ -1,4 +1,4 @@
--- In the order of tests each fault stands once, so the fault that is found has one place there.
+-- In the order of tests each fault applies once, so the fault that is found has one place there.
 use Rattle.std.proofs.Common.{◌≡◌, ◌≢◌, ℕ, zero, suc, ◌+◌, ◌-◌, ◌<◌, ◌≤◌, List, [], ◌∷◌, ◌++◌, length, map, flat_map, Contains, refl, sym, ap, ◌∙◌, subst, zero-lt-suc, arith}
 use Rattle.std.specs.List.{range_with_len}
 use Rattle.geometry_model.specs.Geometries.{Geometry, lines, rings, elements}
@@ -238,7 +238,7 @@ distinct_in_order g = (grown 7 (short_ones g ++ open_ones g ++ crossed_ones g ++
     k = length (elements g)
 
 -- the found fault has one place in the order of tests, so each split at it is the one of the search,
--- before which none stands
+-- before which none applies
 pub no_earlier_fault_stands : NoEarlierFaultStands
 no_earlier_fault_stands g fault before after found placed earlier c h = let f = first_fault_is_first g fault found in
     f.none_before earlier (subst (λ l. Contains l earlier) (one_split fault before f.before after f.after (sym placed ∙ f.placed) (subst Distinct placed (distinct_in_order g))) c) h

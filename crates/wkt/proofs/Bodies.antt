@@ -1,4 +1,4 @@
--- What stands behind a type's name, after its word EMPTY was looked for; and lists, one item after another.
+-- What comes after a type's name, after its word EMPTY was looked for; and lists, one item after another.
 use Rattle.std.proofs.Common.{◌≡◌, refl, sym, ap, subst, ◌∙◌, ℕ, zero, suc, ◌==◌, Bool, true, false, if◌then◌else◌, List, [], ◌∷◌, ◌++◌, length, take, codes, Result, Ok, Err, append_assoc}
 use Rattle.std.specs.Char.{is_ascii_alphabetic}
 use Rattle.std.specs.List.{prefix_len}
@@ -9,7 +9,7 @@ use Rattle.geometry_model.specs.declared.text_faults.TextFault.{TextFault}
 use Rattle.wkt.specs.ReadingSteps as steps
 use Rattle.wkt.specs.ReadingSteps.{empty_word}
 
--- whether EMPTY, a list in parentheses or a refusal comes can be told in two steps: the word first, then the list
+-- whether EMPTY, a list in parentheses or a refusal comes can be said in two steps: the word first, then the list
 choices : {A : Type 0} (inner : Reader (List A)) (at : ℕ) (k : Input) (none empty : Bool)
     → (if none then enclosed inner else (if empty then pure [] else refuse at)) k
     ≡ and_then ((if none then pure false else (if empty then pure true else refuse at)) k) (λ empty. if empty then pure [] else enclosed inner)

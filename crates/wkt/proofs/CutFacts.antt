@@ -22,7 +22,7 @@ pub last_within : (start : ℕ) (ends : List ℕ) (count : ℕ) → AreEnds star
 last_within start [] count are = omega (arith, are)
 last_within start (end ∷ ends) count are = omega (arith, are.0, last_within end ends count are.1)
 
--- what stands behind a later place is what stands behind an earlier one, less what is between
+-- what comes after a later place is what comes after an earlier one, less what is between
 dropped_twice : {A : Type 0} (start end : ℕ) (items : List A) → start ≤ end → drop end items ≡ drop (end - start) (drop start items)
 dropped_twice zero end items on = ap (λ n. drop n items) (no_less end)
   where

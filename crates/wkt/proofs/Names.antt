@@ -1,4 +1,4 @@
--- What stands behind the name of each type: the geometry that is meant, by the readers of the code.
+-- What comes after the name of each type: the geometry that is meant, by the readers of the code.
 use Rattle.std.proofs.Common.{◌≡◌, refl, ap, ◌∙◌, ℕ, Bool, true, false, if◌then◌else◌, List, [], ◌∷◌, map, Result, Ok, Err, codes}
 use Rattle.std.specs.Str.{str_eq_ignore_ascii_case, str_to_ascii_lowercase}
 use Rattle.std.proofs.lemmas.Slice.Eq.{bytes_eq-Decides}
@@ -112,6 +112,6 @@ behind_multi_polygon at name i is = let own = codes "MULTIPOLYGON" in let w : Wo
     (meant_text (polygons part_limit part_limit position_limit) (steps.without_room (steps.polygons steps.whole_room)) (map (map without_repeats)) MultiPolygon refl (λ x. refl)
     (λ j. room_dropped (polygons part_limit part_limit position_limit j) _ _) i)
 
--- the code's test tells whether a name is a word in any case
+-- the code's test shows whether a name is a word in any case
 pub is_word : (name word : List ℕ) (b : Bool) → (b ≡ true → str_to_ascii_lowercase name ≡ str_to_ascii_lowercase word) → b ≡ true → str_eq_ignore_ascii_case name word ≡ true
 is_word name word b same is = (bytes_eq-Decides (str_to_ascii_lowercase name) (str_to_ascii_lowercase word)).1 (same is)

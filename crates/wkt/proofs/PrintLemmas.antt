@@ -24,7 +24,7 @@ pub join-first : (c : ℕ) {X : Type 0} (text : X → List ℕ) (first : List �
 join-first c text first [] = append-nil first
 join-first c text first (x ∷ more) = ap (λ l. first ++ (c ∷ l)) (join-first c text (text x) more)
 
--- what stands before the numbers of the first point, these, and what stands behind them
+-- what comes before the numbers of the first point, these, and what comes after them
 abbrev pub first_text : Position → List ℕ
 first_text p = codes "MULTIPOINT((" ++ position_text p ++ codes ")"
 
@@ -70,7 +70,7 @@ abbrev pub parted : ℕ → List ℕ → List ℕ
 parted zero text = text
 parted (suc before) text = 44 ∷ text
 
--- the comma that parts a list from the one before it stands before its parenthesis
+-- the comma that parts a list from the one before it comes before its parenthesis
 pub opened : (index : ℕ) (text : List ℕ) → opening_text index ++ text ≡ parted index (codes "(" ++ text)
 opened zero text = refl
 opened (suc before) text = refl
@@ -113,7 +113,7 @@ joined-front v xs i d text a b c within is before front =
     subst (λ l. AppendsFront a c l) (sym (joined_split v xs i d within))
     (AppendsFront-then a b c (join_with_byte 44 (map v (take i xs))) (part ++ rest) before (AppendsFront-more b c part rest (subst (λ l. AppendsFront b c l) is front)))
 
--- a line, and a polygon, behind what stands before it
+-- a line, and a polygon, behind what comes before it
 pub line_at : (index : ℕ) (before : List ℕ) (ps line : List Position) → before ≡ opening_text index → ps ≡ line
     → before ++ (join_with_byte 44 (map position_text ps) ++ codes ")") ≡ parted index (line_text line)
 line_at index before ps line is same = ap₂ (λ o (l : List Position). o ++ (join_with_byte 44 (map position_text l) ++ codes ")")) is same

@@ -102,7 +102,7 @@ one_longer false xs p = omega (arith, length-append xs (p ∷ []))
 abbrev pub behind_kept : List Position → ℕ → Result (List Position × Input) TextFault → Result ((List Position × ℕ) × Input) TextFault
 behind_kept kept room r = and_then r (λ more. pure (without_repeats (kept ++ more), room - length more))
 
--- one item, and what stands behind it
+-- one item, and what comes after it
 first_of_list : (room left : ℕ) (i j : Input) (p : Position) → room ≡ suc left → padded (position room) i ≡ Ok (p, j)
     → separated position room i ≡ and_then (eat 44 j) (λ met. if met then (separated position left >>= λ more. pure (p ∷ more)) else pure (p ∷ []))
 unfolding separated

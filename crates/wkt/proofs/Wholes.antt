@@ -1,4 +1,4 @@
--- Whole texts, by what stands behind the white space at their front.
+-- Whole texts, by what comes after the white space at their front.
 use Rattle.std.proofs.Common.{◌≡◌, refl, sym, ap, ◌∙◌, ℕ, Bool, List, Option, Some, None, Result, Ok, Err, IfSome}
 use Rattle.std.specs.List.{prefix_len}
 use Rattle.geometry_model.specs.CanonicalText.{canonical_text}
@@ -38,7 +38,7 @@ finished : (r : Result (Geometry × Input) TextFault)
 finished (Ok found) = ended found.0 (end (after (prefix_len is_white found.1.left) found.1))
 finished (Err fault) = refl
 
--- a whole text, by what stands behind its first white space
+-- a whole text, by what comes after its first white space
 pub whole_by_tagged : (i : Input)
     → meant whole i ≡ and_then (meant tagged (after (prefix_len is_white i.left) i)) finish
 unfolding whole
@@ -67,7 +67,7 @@ read_by_whole text = found_meant (whole (start text))
 pub found_is : (text : List ℕ) (g : Geometry) (j : Input) → meant whole (start text) ≡ Ok (g, j) → read_text text ≡ Ok g
 found_is text g j read = read_by_whole text ∙ ap found_of read
 
--- the text spells what is answered
+-- the text spells what is returned
 pub found_spells : (text : List ℕ) (g : Geometry) → read_text text ≡ Ok g → Spells text g
 found_spells text g read = read_is_spelled text g read
 
@@ -88,12 +88,12 @@ if_some : {P : TextFault → Type 0} (o : Option TextFault) → ((fault : TextFa
 if_some None told = tt
 if_some (Some fault) told = told fault refl
 
--- the fault that is told of the text is what the definition answers; where memory ran out, none is told
+-- the fault that is said of the text is what the definition answers; where memory ran out, none is said
 pub fault_is : (text : List ℕ) (e : WktFault) → ((fault : TextFault) → text_fault e ≡ Some fault → meant whole (start text) ≡ Err fault)
     → IfSome (text_fault e) (λ fault. read_text text ≡ Err fault)
 fault_is text e read = if_some (text_fault e) (λ fault told. read_by_whole text ∙ ap found_of (read fault told))
 
--- of a text that is read no fault can be told, so memory ran out
+-- of a text that is read no fault can be said, so memory ran out
 read_or_memory : (e : WktFault) (r : Result Geometry TextFault) (g : Geometry) → IfSome (text_fault e) (λ fault. r ≡ Err fault) → r ≡ Ok g → e ≡ faults.OutOfMemory
 read_or_memory (faults.Syntax at) r g h e = cc
 read_or_memory (faults.OffGrid at) r g h e = cc
@@ -105,7 +105,7 @@ read_or_memory faults.OutOfMemory r g h e = refl
 pub fault_is_memory : (text : List ℕ) (e : WktFault) → IfSome (text_fault e) (λ fault. read_text text ≡ Err fault) → (g : Geometry) → Spells text g → e ≡ faults.OutOfMemory
 fault_is_memory text e fault g spelled = read_or_memory e (read_text text) g fault (spelled_is_read text g spelled)
 
--- a fault that is answered stands
+-- a fault that is returned is
 pub fault_stands : (text : List ℕ) (o : Option TextFault) → IfSome o (λ fault. read_text text ≡ Err fault) → IfSome o (IsRefused text)
 fault_stands text (Some fault) e = answer_stands text fault e
 fault_stands text None e = e

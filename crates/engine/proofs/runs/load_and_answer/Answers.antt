@@ -1,4 +1,4 @@
--- Each exit of loading and answering: over the records of known texts, and over records that are there whatever the readers are.
+-- Each exit of loading and running: over the records of known texts, and over records that are there whatever the readers are.
 use Rattle.std.proofs.Common.{length, map}
 use Rattle.feature_table.specs.Tables.{records_in}
 use Rattle.engine.proofs.RunLemmas.{load-of-tables, loaded-counts, loaded-runs, no-count, of-tables, unloaded-runs}

@@ -1,4 +1,4 @@
--- Each exit of the steps of a run: a query that isn't read, and one that is answered over the tables.
+-- Each exit of the steps of a run: a query that isn't read, and one that is returned over the tables.
 use Rattle.std.proofs.Common.{length, map}
 use Rattle.feature_table.specs.Tables.{records_in}
 use Rattle.engine.proofs.ReaderLemmas.{some-records}

@@ -1,4 +1,4 @@
--- What binding answers is bound to the definitions.
+-- What binding returns is bound to the definitions.
 use Rattle.binding_laws.proofs.BoundFacts.{geometry_answer_is_bound}
 use Rattle.query_binder.proofs.query.bind.Goals as goal
 

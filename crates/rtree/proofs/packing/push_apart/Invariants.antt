@@ -3,7 +3,7 @@ use Rattle.rtree.specs.Found.{meeting_places}
 use Rattle.rtree.specs.Packing.{present}
 use Rattle.rtree.proofs.packing.push_apart.Given as goal
 
--- the envelopes before this one were told apart
+-- the envelopes before this one were kept apart
 abbrev pub invariant-loop-place : goal.invariant-loop-place
 invariant-loop-place l = record {
   absent : l.absent.items ≡ l.initial.absent.items ++ meeting_places (take l.place l.envelopes) None;

@@ -1,4 +1,4 @@
--- None near before this one stands.
+-- None near before this one applies.
 use Rattle.std.proofs.Common.{◌≡◌, ◌+◌, map, drop, length}
 use Rattle.std.specs.List.{find}
 use Rattle.geometry_model.specs.Geometries.{elements}

@@ -1,4 +1,4 @@
--- None before the next stands.
+-- None before the next applies.
 use Rattle.std.proofs.Common.{◌≡◌, map, length}
 use Rattle.std.specs.List.{find}
 use Rattle.geometry_model.specs.Geometries as spec

@@ -1,4 +1,4 @@
--- The first point with what stands before it, the others, and the parenthesis, one after another.
+-- The first point with what comes before it, the others, and the parenthesis, one after another.
 use Rattle.std.proofs.Common.{codes, ◌++◌, subst, OnOk}
 use Rattle.std.specs.Io.KnownBytes.{Appends}
 use Rattle.sinks.specs.Sinks.{AppendsFront}

@@ -1,4 +1,4 @@
--- Each name has what stands behind it.
+-- Each name has what comes after it.
 use Rattle.std.proofs.Common.{codes, rules}
 use Rattle.wkt.proofs.Names.{is_word, behind_point, behind_multi_point, behind_line_string, behind_multi_line_string, behind_polygon, behind_multi_polygon}
 use Rattle.wkt.proofs.reading.typed.Goals as goal

@@ -5,7 +5,7 @@ use Rattle.sinks.proofs.SinkLemmas.{OnErr-holds}
 use Rattle.sinks.specs.Sinks.{AppendsFront}
 use Rattle.records.proofs.record_writer.RecordWriter.put.Goals as goal
 
--- what stands behind the text kept is what was added to it
+-- what comes after the text kept is what was added to it
 behind_kept : (kept row text piece : List ℕ) (begin : ℕ) → begin ≡ length kept → text ≡ kept ++ row → piece ≡ drop begin text → piece ≡ row
 behind_kept kept row text piece begin at added is = is ∙ ap (λ n. drop n text) at ∙ ap (drop (length kept)) added ∙ drop-append_seam kept row
 
