@@ -1,4 +1,5 @@
 """What the system tests share."""
+import functools
 import os
 import shutil
 import stat
@@ -10,6 +11,8 @@ import unittest
 ROOT = os.path.dirname(os.path.dirname(os.path.realpath(__file__)))
 sys.path.insert(0, f"{ROOT}/tools")
 sys.dont_write_bytecode = True
+
+import repository
 
 # A stand-in for `rt`. It notes each call, and does what the file `behaviour` beside it says, a piece of Python.
 STAND_IN = """#!{python}
@@ -31,6 +34,18 @@ exec(open(room + "/behaviour").read())
 def needs(package, command):
     """Skips a test where the command of a Debian package isn't there."""
     return unittest.skipUnless(shutil.which(command), f"needs the package {package}")
+
+
+def needs_build(test):
+    """Skips a test of the proved program where ./build hasn't made it. This is seen when the test runs: a build may come first."""
+
+    @functools.wraps(test)
+    def run(self):
+        if not repository.is_built():
+            self.skipTest("needs ./build")
+        test(self)
+
+    return run
 
 
 def write(path, text, mode=None):

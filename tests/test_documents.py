@@ -2,10 +2,9 @@
 import tempfile
 import unittest
 
-import support  # noqa: F401 (finds the tools)
+import support
 import answers
 import printed
-import repository
 
 
 class ShownCalls(unittest.TestCase):
@@ -74,12 +73,12 @@ class ManyCallsOfOneBuild(unittest.TestCase):
                 answers.split([["relate"]], b"", said)
 
 
-@unittest.skipUnless(repository.is_built(), "needs ./build")
 class ProvedAndUnproved(unittest.TestCase):
     """The proved program and an unproved build write the same bytes and end with the same status."""
 
-    ASKS_PROGRAM, IS_LONG = True, True
+    ASKS_PROGRAM, IS_LONG, IN_GATE = True, True, True
 
+    @support.needs_build
     def test_write_the_same(self):
         with tempfile.TemporaryDirectory(prefix="sfq-documents-") as room:
             calls = [it.words for it in printed.everything(room)]

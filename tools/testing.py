@@ -16,6 +16,7 @@ import repository
 
 ROOT = repository.ROOT
 PRINTING = threading.Lock()
+CHILDREN = set()
 
 
 class Counts:
@@ -47,13 +48,30 @@ class Counts:
         return 1 if self.failed else 0
 
 
-def run(words, folder=ROOT):
+def run(words, folder=ROOT, given=subprocess.DEVNULL):
     """Runs a command, and returns its status, its two streams and how long it took."""
     begun = time.monotonic()
-    ran = subprocess.run(
-        words, cwd=folder, stdin=subprocess.DEVNULL, capture_output=True, text=True, errors="replace"
-    )
-    return ran.returncode, ran.stdout, ran.stderr, time.monotonic() - begun
+    how = {"stdin": given, "stdout": subprocess.PIPE, "stderr": subprocess.PIPE, "text": True, "errors": "replace"}
+    with subprocess.Popen(words, cwd=folder, **how) as child:
+        CHILDREN.add(child)
+        out, err = child.communicate()
+        CHILDREN.discard(child)
+    return child.returncode, out, err, time.monotonic() - begun
+
+
+def side_by_side(parts):
+    """Runs the parts, as many at a time as half the processors: `rt try` uses more than one. Ends them where they are broken off."""
+    with ThreadPoolExecutor(max(1, proving.processors() // 2)) as pool:
+        started = [pool.submit(*it) for it in parts]
+        try:
+            for it in started:
+                it.result()
+        except BaseException:
+            for it in started:
+                it.cancel()
+            for it in list(CHILDREN):
+                it.terminate()
+            raise
 
 
 def lint(counts):
@@ -71,12 +89,10 @@ def play_program(counts, crate):
             path = os.path.join(at, it)
             words += ["--data", f"{os.path.relpath(path, f'{folder}/data')}={path}"]
     arguments = read(f"{folder}/args").splitlines()
-    begun = time.monotonic()
     with open(f"{folder}/stdin" if os.path.isfile(f"{folder}/stdin") else os.devnull, "rb") as given:
-        ran = subprocess.run(["rt", "try", *words, "--", *arguments], cwd=folder, stdin=given, capture_output=True)
-    out, said = ran.stdout.decode(errors="replace"), ran.stderr.decode(errors="replace")
-    is_well = out == read(f"{folder}/stdout") and ran.returncode == int(read(f"{folder}/status") or 0)
-    counts.take(f"program {crate}", is_well and "run=ended" in said, time.monotonic() - begun, text=out + said)
+        status, out, err, took = run(["rt", "try", *words, "--", *arguments], folder, given)
+    is_well = out == read(f"{folder}/stdout") and status == int(read(f"{folder}/status") or 0)
+    counts.take(f"program {crate}", is_well and "run=ended" in err, took, text=out + err)
 
 
 def read(path):
@@ -144,17 +160,20 @@ def flat(suite):
             yield it
 
 
-def system_tests(counts, is_wanted=lambda test: True, is_long=False):
-    """Runs the tests in tests/ that are wanted; those of long duration are left out unless they are asked for."""
+def system_tests(counts, is_wanted):
+    """Runs the tests in tests/ that are wanted."""
     sys.path.insert(0, f"{ROOT}/tests")
     found = unittest.defaultTestLoader.discover(f"{ROOT}/tests", top_level_dir=f"{ROOT}/tests")
-    chosen = [it for it in flat(found) if is_wanted(it) and (is_long or not getattr(it, "IS_LONG", False))]
-    unittest.TestSuite(chosen).run(Result(counts))
+    unittest.TestSuite(it for it in flat(found) if is_wanted(it)).run(Result(counts))
 
 
-def asks_program(test):
-    """Whether the test asks sfq itself: the proved program where it is built, and else an unproved build."""
-    return getattr(test, "ASKS_PROGRAM", False)
+def marked(test, mark):
+    """Whether the test's class has the mark.
+
+    ASKS_PROGRAM: it asks sfq itself, the proved program where it is built and else an unproved build.
+    IS_LONG: it takes minutes, so only ./test --long runs it. IN_GATE: and ./test --all.
+    """
+    return getattr(test, mark, False)
 
 
 def programs():
@@ -167,17 +186,15 @@ def programs():
 
 def without_proof(is_long):
     counts = Counts()
+    wanted = lambda it: is_long or not marked(it, "IS_LONG")
     lint(counts)
     if shutil.which("rt"):
-        with ThreadPoolExecutor(max(1, proving.processors() // 2)) as pool:
-            parts = [pool.submit(try_tests, counts, it) for it in reversed(repository.crates_with_tests())]
-            parts += [pool.submit(play_program, counts, it) for it in programs()]
-            parts += [pool.submit(system_tests, counts, is_long=is_long)]
-            for it in parts:
-                it.result()
+        parts = [(try_tests, counts, it) for it in reversed(repository.crates_with_tests())]
+        parts += [(play_program, counts, it) for it in programs()]
+        side_by_side([*parts, (system_tests, counts, wanted)])
     else:
         counts.skip("tests of crates, programs", "needs the command rt of the Rattle kit")
-        system_tests(counts, is_long=is_long)
+        system_tests(counts, wanted)
     return counts.close()
 
 
@@ -209,9 +226,9 @@ def with_proof():
     """
     counts = Counts()
     lint(counts)
-    system_tests(counts, lambda it: not asks_program(it) and not getattr(it, "IS_SLOW", False))
+    system_tests(counts, lambda it: not marked(it, "ASKS_PROGRAM") and not marked(it, "IS_LONG"))
     gate(counts)
-    system_tests(counts, lambda it: asks_program(it) or getattr(it, "IS_SLOW", False))
+    system_tests(counts, lambda it: marked(it, "IN_GATE") or marked(it, "ASKS_PROGRAM") and not marked(it, "IS_LONG"))
     return counts.close()
 
 
