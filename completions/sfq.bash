@@ -1,0 +1,30 @@
+# Completion of sfq for bash.
+_sfq() {
+    local word=${COMP_WORDS[COMP_CWORD]} command=${COMP_WORDS[1]-}
+    COMPREPLY=()
+    if ((COMP_CWORD == 1)); then
+        mapfile -t COMPREPLY < <(compgen -W 'run check relate help -h --help -V --version' -- "$word")
+        return
+    fi
+    if [[ $word == -* ]]; then
+        mapfile -t COMPREPLY < <(compgen -W '-h --help' -- "$word")
+        return
+    fi
+    case $command:$COMP_CWORD in
+    run:2 | check:2)
+        compopt -o filenames
+        mapfile -t COMPREPLY < <(compgen -f -X '!*.sql' -- "$word"; compgen -d -- "$word")
+        ;;
+    run:3 | check:3)
+        compopt -o filenames
+        mapfile -t COMPREPLY < <(compgen -d -- "$word")
+        ;;
+    run:4) mapfile -t COMPREPLY < <(compgen -W 'SELECT EXPLAIN' -- "$word") ;;
+    relate:2 | relate:3)
+        mapfile -t COMPREPLY < <(compgen -W \
+            'POINT( MULTIPOINT( LINESTRING( MULTILINESTRING( POLYGON( MULTIPOLYGON(' -- "$word")
+        ;;
+    help:2) mapfile -t COMPREPLY < <(compgen -W 'run check relate help' -- "$word") ;;
+    esac
+}
+complete -F _sfq sfq

@@ -1,0 +1,14 @@
+# Completion of sfq for fish.
+set -l commands run check relate help
+set -l geometries 'POINT(' 'MULTIPOINT(' 'LINESTRING(' 'MULTILINESTRING(' 'POLYGON(' 'MULTIPOLYGON('
+
+complete -c sfq -f
+complete -c sfq -s h -l help -d 'Print help'
+complete -c sfq -n __fish_use_subcommand -s V -l version -d 'Print the version'
+complete -c sfq -n __fish_use_subcommand -a run -d 'Write the rows that a SELECT means, as CSV'
+complete -c sfq -n __fish_use_subcommand -a check -d 'Load every table, and print how many rows each has'
+complete -c sfq -n __fish_use_subcommand -a relate -d 'Write the DE-9IM matrix of two geometries'
+complete -c sfq -n __fish_use_subcommand -a help -d 'Print help'
+complete -c sfq -n '__fish_seen_subcommand_from run check' -F
+complete -c sfq -n '__fish_seen_subcommand_from relate' -a "$geometries"
+complete -c sfq -n '__fish_seen_subcommand_from help' -a "$commands"

@@ -1,0 +1,117 @@
+"""What the system tests share."""
+import functools
+import os
+import shutil
+import stat
+import subprocess
+import sys
+import tempfile
+import unittest
+
+ROOT = os.path.dirname(os.path.dirname(os.path.realpath(__file__)))
+sys.path.insert(0, f"{ROOT}/tools")
+sys.dont_write_bytecode = True
+
+import repository
+
+# A stand-in for `rt`. It notes each call, and does what the file `behaviour` beside it says, a piece of Python.
+STAND_IN = """#!{python}
+import os, sys
+room = os.path.dirname(os.path.realpath(__file__))
+words = sys.argv[1:]
+with open(room + "/calls", "a") as calls:
+    calls.write(repr((os.getcwd(), words)) + "\\n")
+data = dict(words[at + 1].split("=", 1) for at, it in enumerate(words) if it == "--data")
+def finish(out, err, status):
+    sys.stdout.write(out)
+    sys.stderr.write(err)
+    sys.stdout.flush()
+    sys.exit(status)
+exec(open(room + "/behaviour").read())
+"""
+
+
+def needs(package, command):
+    """Skips a test where the command of a Debian package isn't there."""
+    return unittest.skipUnless(shutil.which(command), f"needs the package {package}")
+
+
+def needs_build(test):
+    """Skips a test of the proved program where ./build hasn't made it. This is seen when the test runs: a build may come first."""
+
+    @functools.wraps(test)
+    def run(self):
+        if not repository.is_built():
+            self.skipTest("needs ./build")
+        test(self)
+
+    return run
+
+
+def write(path, text, mode=None):
+    os.makedirs(os.path.dirname(path), exist_ok=True)
+    with open(path, "w", encoding="utf-8") as file:
+        file.write(text)
+    if mode:
+        os.chmod(path, mode)
+
+
+def read(path):
+    with open(path, encoding="utf-8") as file:
+        return file.read()
+
+
+class Checkout:
+    """A small repository with the scripts of this one and a stand-in for `rt`."""
+
+    CRATES = {"low": [], "middle": ["low"], "command_line": ["clap"], "sfq": ["middle", "command_line"]}
+
+    def __init__(self):
+        self.room = tempfile.mkdtemp(prefix="sfq-test-")
+        self.root = f"{self.room}/checkout"
+        for name in ("sfq", "build"):
+            os.makedirs(self.root, exist_ok=True)
+            shutil.copy(f"{ROOT}/{name}", f"{self.root}/{name}")
+        leave_out = shutil.ignore_patterns("__pycache__")
+        for name in ("tools", "man", "completions"):
+            shutil.copytree(f"{ROOT}/{name}", f"{self.root}/{name}", ignore=leave_out)
+        shutil.copy(f"{ROOT}/CHANGELOG.md", self.root)
+        lines = "".join(f"{it}: {' '.join(used)}\n" for it, used in self.CRATES.items())
+        write(f"{self.root}/crates.txt", lines)
+        write(f"{self.root}/HANDLES", "Handles allowed: none.\n")
+        for it in self.CRATES:
+            name = "main" if it == "sfq" else "lib"
+            write(f"{self.root}/crates/{it}/src/{name}.rt", f'//! {it}\nconst VERSION: &str = "0.1.0";\n')
+        self.behave("finish('', '', 0)")
+        write(f"{self.room}/bin/rt", STAND_IN.replace("{python}", sys.executable), stat.S_IRWXU)
+
+    def behave(self, text):
+        """Sets what the stand-in does. `words` are its words, `data` the files that it is handed."""
+        write(f"{self.room}/bin/behaviour", text)
+
+    def calls(self):
+        """Returns the calls of the stand-in so far: each a folder and words."""
+        path = f"{self.room}/bin/calls"
+        return [eval(line) for line in read(path).splitlines()] if os.path.isfile(path) else []
+
+    def run(self, words, given=b"", folder=None, path=None, **how):
+        """Runs a command of the checkout, and returns what it wrote and its status."""
+        path = path or f"{self.room}/bin:{os.environ['PATH']}"
+        return subprocess.run(
+            [f"{self.root}/{words[0]}", *words[1:]],
+            cwd=folder or self.root,
+            input=given,
+            env={**os.environ, "PATH": path},
+            **{"stdout": subprocess.PIPE, "stderr": subprocess.PIPE, **how},
+        )
+
+    def remove(self):
+        shutil.rmtree(self.room)
+
+
+class WithCheckout(unittest.TestCase):
+    """A test case that has a small repository of its own."""
+
+    def setUp(self):
+        self.checkout = Checkout()
+        self.addCleanup(self.checkout.remove)

@@ -1,0 +1,205 @@
+"""./build, with a stand-in for `rt`: the order of the checks, going on after a break, installing, packages."""
+import hashlib
+import os
+import shutil
+import subprocess
+import tarfile
+import time
+import unittest
+
+from support import WithCheckout, needs, read, write
+
+# Proves each crate, and leaves a program.
+PROVES = """
+if words[0] == "version":
+    finish("rattle-kit-99 logic 0123abcd\\n", "", 0)
+if words[0] == "run":
+    os.makedirs("out", exist_ok=True)
+    with open("out/sfq", "w") as program:
+        program.write("#!/bin/sh\\necho proved\\n# GLIBC_2.17 GLIBC_2.34\\n")
+    os.chmod("out/sfq", 0o755)
+    finish("", "", 0)
+crate = os.path.basename(os.getcwd())
+if crate == os.environ.get("BREAKS"):
+    finish("low.rt:1:1: error\\nlogic=not-proved\\n", "", 1)
+if crate == os.environ.get("WAITS"):
+    import time
+    time.sleep(60)
+finish("logic=proved functions=3 sum=0123abcd\\n", "", 0)
+"""
+
+
+class Builds(WithCheckout):
+    def setUp(self):
+        super().setUp()
+        self.checkout.behave(PROVES)
+
+    def build(self, *words, **environment):
+        os.environ.update(environment)
+        try:
+            return self.checkout.run(["build", *words])
+        finally:
+            for name in environment:
+                del os.environ[name]
+
+    def checked(self):
+        """Returns the crates that were checked, in order."""
+        return [os.path.basename(folder) for folder, words in self.checkout.calls() if words[0] in ("check", "lib")]
+
+    def test_proves_each_crate_after_those_below_and_links(self):
+        ran = self.build("--jobs", "2")
+        self.assertEqual(ran.returncode, 0, ran.stderr)
+        order = self.checked()
+        self.assertEqual(sorted(order), ["command_line", "low", "middle", "sfq"])
+        self.assertLess(order.index("low"), order.index("middle"))
+        self.assertEqual(order[-1], "sfq")
+        text = ran.stdout.decode()
+        self.assertIn("kit: rattle-kit-99 logic 0123abcd\n", text)
+        self.assertIn("proved: 4 crates, 12 functions, by rattle-kit-99 logic 0123abcd, in ", text)
+        total = hashlib.sha256(read(f"{self.checkout.root}/crates/sfq/out/sfq").encode()).hexdigest()
+        self.assertTrue(text.endswith(f"built: crates/sfq/out/sfq, SHA-256 {total}\n"))
+        self.assertEqual(self.checkout.run(["sfq"]).stdout, b"proved\n")
+
+    def test_a_second_build_checks_nothing_and_one_after_an_edit_what_it_concerns(self):
+        self.build()
+        before = len(self.checkout.calls())
+        self.assertEqual(self.build().returncode, 0)
+        self.assertEqual([words[0] for _, words in self.checkout.calls()[before:]], ["version"])
+        write(f"{self.checkout.root}/crates/middle/src/lib.rt", "//! edited\n")
+        self.assertNotEqual(self.checkout.run(["sfq"]).stdout, b"proved\n")
+        before = len(self.checked())
+        self.assertEqual(self.build().returncode, 0)
+        self.assertEqual(self.checked()[before:], ["middle", "sfq"])
+        self.assertEqual(self.checkout.run(["sfq"]).stdout, b"proved\n")
+
+    def test_a_kit_of_another_name_and_the_same_logic_proves_nothing_anew(self):
+        self.build()
+        before = len(self.checked())
+        self.checkout.behave(PROVES.replace("kit-99", "kit-100"))
+        ran = self.build()
+        self.assertIn(b"kit: rattle-kit-100 logic 0123abcd\n", ran.stdout)
+        self.assertEqual(self.checked()[before:], [])
+        self.checkout.behave(PROVES.replace("0123abcd", "4567"))
+        self.build()
+        self.assertEqual(len(self.checked()[before:]), 4)
+
+    def test_a_crate_that_is_not_proved(self):
+        ran = self.build(BREAKS="low")
+        self.assertEqual(ran.returncode, 1)
+        text = ran.stdout.decode()
+        self.assertIn("NOT PROVED: low", text)
+        self.assertIn("low.rt:1:1: error", text)
+        self.assertIn("not reached: middle", text)
+        self.assertIn("not reached: sfq", text)
+        self.assertIn("proved command_line", text)
+        self.assertIn(b"sfq: 1 of 4 crates proved", ran.stderr)
+        self.assertEqual(sorted(self.checked()), ["command_line", "low"])
+
+    def test_broken_off_it_goes_on(self):
+        environment = {**os.environ, "PATH": f"{self.checkout.room}/bin:{os.environ['PATH']}", "WAITS": "middle"}
+        with subprocess.Popen(
+            [f"{self.checkout.root}/build"], env=environment, stdout=subprocess.DEVNULL, stderr=subprocess.PIPE
+        ) as child:
+            for _ in range(400):
+                if "middle" in self.checked() and "command_line" in self.checked():
+                    break
+                time.sleep(0.05)
+            time.sleep(1)
+            child.send_signal(2)
+            self.assertEqual(child.wait(timeout=20), 130)
+            self.assertIn(b"broken off", child.stderr.read())
+        before = len(self.checked())
+        self.assertEqual(self.build().returncode, 0)
+        self.assertEqual(self.checked()[before:], ["middle", "sfq"])
+
+    def test_verify_proves_a_copy_from_nothing(self):
+        self.build()
+        before = len(self.checkout.calls())
+        write(f"{self.checkout.root}/docs/PROVED.md", "# P\n\n## The chain\n\n1. `low/src/lib.rt`\n2. crates/low/specs/No.antt\n\n## More\n\n`middle/src/lib.rt`\n")
+        ran = self.build("--verify")
+        self.assertEqual(ran.returncode, 0, ran.stderr)
+        folders = [folder for folder, words in self.checkout.calls()[before:] if words[0] in ("check", "lib", "run")]
+        self.assertEqual(len(folders), 5)
+        self.assertFalse(any(it.startswith(self.checkout.root) for it in folders))
+        text = ran.stdout.decode()
+        total = hashlib.sha256(read(f"{self.checkout.root}/crates/low/src/lib.rt").encode()).hexdigest()
+        self.assertIn(f"    {total}  crates/low/src/lib.rt\n", text)
+        self.assertNotIn("middle/src", text)
+        self.assertIn("its libraries: clap, std\n", text)
+        self.assertIn("the program of ./build is the same", text)
+        self.assertFalse(os.path.exists(folders[0]))
+
+    def test_misuse(self):
+        for words in (["--install"], ["--nothing"], ["--dist", "a", "b"], ["x"]):
+            ran = self.build(*words)
+            self.assertEqual((ran.returncode, ran.stdout), (2, b""))
+            self.assertIn(b"usage: ./build", ran.stderr)
+
+    def test_install_and_uninstall(self):
+        prefix = f"{self.checkout.room}/prefix"
+        os.makedirs(f"{prefix}/share/man/man1")
+        write(f"{prefix}/share/man/man1/other.1", "")
+        self.assertEqual(self.build("--install", prefix).returncode, 0)
+        found = sorted(os.path.relpath(f"{at}/{it}", prefix) for at, _, names in os.walk(prefix) for it in names)
+        self.assertIn("bin/sfq", found)
+        self.assertEqual(len(found), 7)
+        self.assertEqual(subprocess.run([f"{prefix}/bin/sfq"], capture_output=True).stdout, b"proved\n")
+        self.assertEqual(self.build("--uninstall", prefix).returncode, 0)
+        found = [os.path.relpath(f"{at}/{it}", prefix) for at, folders, names in os.walk(prefix) for it in [*folders, *names]]
+        self.assertEqual(sorted(found), ["share", "share/man", "share/man/man1", "share/man/man1/other.1"])
+
+
+class Packages(WithCheckout):
+    def setUp(self):
+        super().setUp()
+        self.checkout.behave(PROVES)
+
+    def make(self, root):
+        """Makes the packages in a copy of the checkout, and returns their files."""
+        folder = f"{self.checkout.room}/{os.path.basename(root)}-packages"
+        environment = {**os.environ, "PATH": f"{self.checkout.room}/bin:{os.environ['PATH']}"}
+        subprocess.run([f"{root}/build", "--dist", folder], env=environment, check=True, stdout=subprocess.DEVNULL)
+        return {it: f"{folder}/{it}" for it in sorted(os.listdir(folder))}
+
+    def both(self):
+        """Makes the packages in two folders, with files of different times and modes."""
+        other = f"{self.checkout.room}/other"
+        shutil.copytree(self.checkout.root, other, copy_function=shutil.copyfile)
+        for name in ("sfq", "build"):
+            os.chmod(f"{other}/{name}", 0o700)
+        one = self.make(self.checkout.root)
+        before = os.umask(0o077)
+        try:
+            return one, self.make(other)
+        finally:
+            os.umask(before)
+
+    def test_a_tarball_of_the_same_bytes(self):
+        one, other = ({it: path for it, path in found.items() if it.endswith(".tar.gz")} for found in self.both())
+        self.assertEqual([*one], [*other])
+        for it in one:
+            with open(one[it], "rb") as a, open(other[it], "rb") as b:
+                self.assertEqual(a.read(), b.read())
+            with tarfile.open(one[it]) as archive:
+                names = archive.getnames()
+                self.assertEqual(names, sorted(names))
+                self.assertTrue(all(entry.uid == 0 and entry.uname == "root" for entry in archive))
+        self.assertEqual(len(one), 1)
+
+    @needs("dpkg", "dpkg-deb")
+    def test_a_debian_package_of_the_same_bytes(self):
+        one, other = ({it: path for it, path in found.items() if it.endswith(".deb")} for found in self.both())
+        self.assertEqual(len(one), 1)
+        for it in one:
+            with open(one[it], "rb") as a, open(other[it], "rb") as b:
+                self.assertEqual(a.read(), b.read())
+            listed = subprocess.run(["dpkg-deb", "-c", one[it]], capture_output=True, text=True, check=True).stdout
+            self.assertIn("./usr/bin/sfq", listed)
+            self.assertIn("./usr/share/man/man1/sfq.1", listed)
+            self.assertIn("root/root", listed)
+            about = subprocess.run(["dpkg-deb", "-f", one[it]], capture_output=True, text=True, check=True).stdout
+            self.assertIn("Depends: libc6 (>= 2.34)", about)
+
+
+if __name__ == "__main__":
+    unittest.main()

@@ -1,0 +1,82 @@
+"""The first call in a fresh clone, and a call after ./build."""
+import os
+import shutil
+import subprocess
+import tempfile
+import time
+import unittest
+
+from support import ROOT, needs, needs_build
+import repository
+import unproved
+
+CALL = [
+    "run",
+    "examples/parcels/schema.sql",
+    "examples/parcels",
+    "SELECT b.id, b.name FROM parcel a JOIN parcel b ON ST_Touches(a.geom, b.geom) WHERE a.id = 103",
+]
+PRINTS = b"b.id,b.name\n102,Quay House\n108,Boatyard\n"
+
+
+def timed(words, folder):
+    """Runs a command, and returns its result and the seconds that it took."""
+    begun = time.monotonic()
+    ran = subprocess.run(words, cwd=folder, stdin=subprocess.DEVNULL, capture_output=True)
+    return ran, time.monotonic() - begun
+
+
+@unittest.skipUnless(shutil.which("rt"), "needs the command rt of the Rattle kit")
+class FreshClone(unittest.TestCase):
+    """A clone of what is committed, in which nothing was built."""
+
+    IS_LONG, IN_GATE = True, True
+
+    def setUp(self):
+        room = tempfile.TemporaryDirectory(prefix="sfq-clone-")
+        self.addCleanup(room.cleanup)
+        self.clone = f"{room.name}/clone"
+        cloned = subprocess.run(["git", "clone", "-q", ROOT, self.clone], capture_output=True, text=True)
+        if cloned.returncode:
+            self.skipTest(f"needs a git repository: {cloned.stderr.strip()}")
+        self.handed = unproved.HandedIn(room.name)
+
+    def by_rt_alone(self):
+        before = os.getcwd()
+        os.chdir(self.clone)
+        try:
+            words = self.handed.words(CALL)
+        finally:
+            os.chdir(before)
+        ran, seconds = timed(["rt", "try", *self.handed.flags(), "--", *words], f"{self.clone}/crates/sfq")
+        self.assertEqual((ran.stdout, ran.returncode), (PRINTS, 0), ran.stderr)
+        return seconds
+
+    @needs("git", "git")
+    def test_the_first_answer_takes_about_as_long_as_rt_try(self):
+        for _ in range(3):
+            alone = self.by_rt_alone()
+            ran, seconds = timed(["./sfq", *CALL], self.clone)
+            self.assertEqual((ran.stdout, ran.returncode), (PRINTS, 0), ran.stderr)
+            self.assertEqual(ran.stderr.decode(), unproved.NOTICE + "\n")
+            print(f"rt try alone {alone:.1f} s, ./sfq {seconds:.1f} s, ratio {seconds / alone:.2f}")
+            # Other work on the machine can slow one of the two down.
+            if seconds <= 1.3 * alone:
+                break
+        self.assertLessEqual(seconds, 1.3 * alone)
+        left = subprocess.run(["git", "status", "--short", "--ignored"], cwd=self.clone, capture_output=True, text=True)
+        self.assertEqual(left.stdout, "", "the first call leaves files behind")
+
+
+class AfterBuild(unittest.TestCase):
+    ASKS_PROGRAM = True
+
+    @needs_build
+    def test_a_call_takes_what_the_program_takes_and_some_milliseconds(self):
+        least = {}
+        for _ in range(15):
+            for name in (repository.PROGRAM, f"{ROOT}/sfq"):
+                ran, seconds = timed([name, *CALL], ROOT)
+                self.assertEqual((ran.stdout, ran.stderr, ran.returncode), (PRINTS, b"", 0))
+                least[name] = min(seconds, least.get(name, seconds))
+        self.assertLess(least[f"{ROOT}/sfq"] - least[repository.PROGRAM], 0.1)

@@ -1,0 +1,120 @@
+"""The manual page and the completions: they are well formed and speak of every command, option, status and fault."""
+import os
+import re
+import shutil
+import subprocess
+import tempfile
+import unittest
+
+from support import ROOT, needs, read
+import answers
+import repository
+
+PAGE = f"{ROOT}/man/sfq.1"
+COMPLETIONS = ("sfq.bash", "_sfq", "sfq.fish")
+
+
+def commands_in(text):
+    """Returns the commands that a help text lists."""
+    part = re.search(r"^Commands:\n((?: +.*\n)+)", text, re.M)
+    return re.findall(r"^  (\w+)", part[1], re.M) if part else []
+
+
+def options_in(text):
+    """Returns the long options that a help text lists, with the short ones."""
+    return re.findall(r"^  (?:(-\w), )?(--[\w-]+)", text, re.M)
+
+
+class ManualPage(unittest.TestCase):
+    @needs("groff", "groff")
+    def test_no_warning(self):
+        ran = subprocess.run(["groff", "-t", "-man", "-ww", "-Tutf8", PAGE], capture_output=True, text=True)
+        self.assertEqual((ran.stderr, ran.returncode), ("", 0))
+        self.assertIn("EXIT STATUS", re.sub(r".\x08|\x1b\[[\d;]*m", "", ran.stdout))
+
+    def test_it_is_of_this_version(self):
+        self.assertIn(f'"sfq {repository.version()}"', read(PAGE))
+        self.assertRegex(read(f"{ROOT}/CHANGELOG.md"), rf"(?m)^## {re.escape(repository.version())} \(")
+
+    def test_each_fault_and_status_of_the_document_is_in_it(self):
+        page, faults = read(PAGE), read(f"{ROOT}/docs/FAULTS.md")
+        codes = set(re.findall(r"`sfq: [^`]*?\b([SLQWV]\d+)\b", faults))
+        self.assertGreater(len(codes), 30)
+        for it in sorted(codes):
+            self.assertRegex(page, rf"(?m)^\.B .*\b{it}\b", it)
+        for it in re.findall(r"^\| (\d) \|", faults, re.M):
+            self.assertRegex(page, rf"(?m)^\.B {it}$", f"status {it}")
+        for it in re.findall(r"`sfq: (?:t )?((?:schema )?unreadable|write failed|out of memory)`", faults):
+            self.assertIn(it, page)
+
+    def test_each_function_and_type_of_the_readme_is_in_it(self):
+        page, readme = read(PAGE), read(f"{ROOT}/README.md")
+        for it in sorted(set(re.findall(r"\bST_\w+", readme))):
+            self.assertIn(it, page)
+        for it in ("GEOMETRY", "MULTIPOINT", "MULTILINESTRING", "MULTIPOLYGON", "BIGINT"):
+            self.assertIn(it, page)
+
+
+class Help(unittest.TestCase):
+    """What --help lists is in the manual page and in each completion, and nothing else is."""
+
+    ASKS_PROGRAM = True
+
+    def test_commands_and_options(self):
+        first = answers.ask([["--help"]])[0]
+        commands, options = commands_in(first.out.decode()), options_in(first.out.decode())
+        self.assertIn("run", commands)
+        self.assertIn(("-h", "--help"), options)
+        page = read(PAGE).replace("\\-", "-")
+        for it in commands:
+            self.assertRegex(page, rf"(?m)^\.B {it}\b", f"command {it}")
+        for pair in options:
+            for it in filter(None, pair):
+                self.assertRegex(page, rf"(?<![\w-]){it}\b", it)
+        for name in COMPLETIONS:
+            text = read(f"{ROOT}/completions/{name}")
+            for it in commands:
+                self.assertRegex(text, rf"\b{it}\b", f"{name}: {it}")
+            for short, long in options:
+                self.assertRegex(text, rf"{long}\b|-l {long[2:]}\b", f"{name}: {long}")
+                self.assertRegex(text, rf"(?<![\w-]){short}\b|-s {short[1:]}\b", f"{name}: {short}")
+        # Nothing that sfq doesn't have.
+        words = re.search(r"compgen -W '(run [^']*)'", read(f"{ROOT}/completions/sfq.bash"))[1].split()
+        self.assertEqual(sorted(words), sorted([*commands, *(it for pair in options for it in pair if it)]))
+
+
+class Completions(unittest.TestCase):
+    def complete(self, *words, folder=ROOT):
+        """Returns what bash offers for the last of these words."""
+        script = (
+            f"compopt() {{ :; }}; source '{ROOT}/completions/sfq.bash'; COMP_WORDS=(\"$@\"); COMP_CWORD=$(($# - 1)); "
+            '_sfq; printf "%s\\n" "${COMPREPLY[@]}"'
+        )
+        ran = subprocess.run(["bash", "-c", script, "bash", *words], cwd=folder, capture_output=True, text=True)
+        self.assertEqual((ran.stderr, ran.returncode), ("", 0))
+        return ran.stdout.split()
+
+    @needs("bash", "bash")
+    def test_bash(self):
+        self.assertEqual(self.complete("sfq", "r"), ["run", "relate"])
+        self.assertEqual(self.complete("sfq", "help", "c"), ["check"])
+        self.assertEqual(self.complete("sfq", "run", "-"), ["-h", "--help"])
+        self.assertIn("POLYGON(", self.complete("sfq", "relate", "P"))
+        with tempfile.TemporaryDirectory() as room:
+            os.mkdir(f"{room}/tables")
+            for it in ("schema.sql", "t.csv"):
+                open(f"{room}/{it}", "w", encoding="utf-8").close()
+            self.assertEqual(sorted(self.complete("sfq", "run", "", folder=room)), ["schema.sql", "tables"])
+            self.assertEqual(self.complete("sfq", "check", "schema.sql", "", folder=room), ["tables"])
+
+    @needs("zsh", "zsh")
+    def test_zsh(self):
+        ran = subprocess.run(["zsh", "-n", f"{ROOT}/completions/_sfq"], capture_output=True, text=True)
+        self.assertEqual((ran.stderr, ran.returncode), ("", 0))
+
+    @needs("fish", "fish")
+    def test_fish(self):
+        script = f"source '{ROOT}/completions/sfq.fish'; complete -C 'sfq r'"
+        ran = subprocess.run([shutil.which("fish"), "--no-config", "-c", script], capture_output=True, text=True)
+        self.assertEqual(ran.returncode, 0, ran.stderr)
+        self.assertEqual(sorted(it.split("\t")[0] for it in ran.stdout.splitlines()), ["relate", "run"])

@@ -1,0 +1,42 @@
+# Whether the built program was made from the present sources. ./sfq reads this file; the Python tools run it as
+#   sh tools/current.sh is|sum|stamp SUM
+# with the root of the repository as the working directory.
+
+program=crates/sfq/out/sfq
+stamp=crates/sfq/out/stamp
+
+# Lists what a build is made from: 'sources -print' and the like.
+sources() {
+    find crates crates.txt -name out -prune -o \
+        -type f \( -name '*.rt' -o -name '*.antt' -o -name crates.txt \) "$@"
+}
+
+# A sum over names, sizes and times: quick, but it changes when a file is only touched.
+sum_of_times() {
+    { sources -printf '%p %s %T@\n'; find "$program" -printf '%s %T@\n'; } | sha256sum
+}
+
+# A sum over the contents.
+sum_of_sources() {
+    sources -print0 | LC_ALL=C sort -z | xargs -0 sha256sum | sha256sum
+}
+
+# Notes that the program was made from sources with this sum.
+write_stamp() {
+    { sum_of_times; echo "$1"; sha256sum <"$program"; } >"$stamp.$$" && mv "$stamp.$$" "$stamp"
+}
+
+is_current() {
+    [ -x "$program" ] && [ -f "$stamp" ] || return 1
+    { read -r times; read -r contents; read -r built; } <"$stamp" || return 1
+    [ "$(sum_of_times)" != "$times" ] || return 0
+    [ "$(sum_of_sources)" = "$contents" ] && [ "$(sha256sum <"$program")" = "$built" ] || return 1
+    # Only times differ, as after a checkout: the next call is quick again, where the stamp can be written.
+    write_stamp "$contents" 2>/dev/null || :
+}
+
+case ${0##*/}:${1-} in
+current.sh:is) is_current ;;
+current.sh:sum) sum_of_sources ;;
+current.sh:stamp) write_stamp "$2" ;;
+esac

@@ -1,0 +1,90 @@
+"""The repository: its crates, the program that a build leaves, and the kit that proves it."""
+import glob
+import hashlib
+import os
+import re
+import shutil
+import subprocess
+import sys
+
+ROOT = os.path.dirname(os.path.dirname(os.path.realpath(__file__)))
+PROGRAM = f"{ROOT}/crates/sfq/out/sfq"
+
+
+def fail(text):
+    sys.exit(f"sfq: {text}")
+
+
+def need_rt():
+    if not shutil.which("rt"):
+        fail("the command rt of the Rattle kit isn't on the path")
+
+
+def kit_line():
+    """Returns the line of `rt version`: the kit's name, which differs between machines, and its logic."""
+    need_rt()
+    return subprocess.run(["rt", "version"], stdout=subprocess.PIPE, text=True, check=True).stdout.strip()
+
+
+def logic_of(line):
+    """Returns the sum that names the kit's logic: the part of its line that proofs depend on."""
+    found = re.search(r"\blogic ([0-9a-f]+)", line)
+    return found[1] if found else line
+
+
+def read_crates(root=ROOT):
+    """Returns the libraries that each crate uses, the repository's and the kit's, in the order of crates.txt."""
+    crates = {}
+    with open(f"{root}/crates.txt", encoding="utf-8") as lines:
+        for line in lines:
+            head, colon, libraries = line.partition("#")[0].partition(":")
+            if colon:
+                crates[head.split()[0]] = libraries.split()
+    return crates
+
+
+def files_of(crate, root=ROOT):
+    """Returns the sources, definitions and proofs of a crate, sorted."""
+    found = []
+    for part in ("src", "specs", "proofs"):
+        for at, _, names in os.walk(f"{root}/crates/{crate}/{part}"):
+            found += [f"{at}/{it}" for it in names if it.endswith((".rt", ".antt"))]
+    return sorted(found)
+
+
+def sum_of_file(path):
+    with open(path, "rb") as file:
+        return hashlib.sha256(file.read()).hexdigest()
+
+
+def current(*words, root=ROOT):
+    """Runs tools/current.sh, and returns its status and its line."""
+    ran = subprocess.run(["sh", "tools/current.sh", *words], cwd=root, stdout=subprocess.PIPE, text=True)
+    return ran.returncode, ran.stdout.strip()
+
+
+def is_built(root=ROOT):
+    """Whether the program is there and was made from the present sources."""
+    return current("is", root=root)[0] == 0
+
+
+def crates_with_tests(root=ROOT):
+    """Returns the crates that have #[test] functions."""
+    found = []
+    for crate in read_crates(root):
+        for path in glob.glob(f"{root}/crates/{crate}/src/**/*.rt", recursive=True):
+            with open(path, encoding="utf-8") as text:
+                if re.search(r"^\s*#\[test\]", text.read(), re.M):
+                    found.append(crate)
+                    break
+    return found
+
+
+def version(root=ROOT):
+    """Returns the version that `sfq --version` prints."""
+    for path in files_of("command_line", root):
+        with open(path, encoding="utf-8") as text:
+            found = re.search(r'VERSION: &str = "([^"]+)"', text.read())
+            if found:
+                return found[1]
+    fail("crates/command_line names no version")

@@ -1,0 +1,275 @@
+"""The parts of ./test, and how what they found is counted."""
+import glob
+import os
+import re
+import shutil
+import subprocess
+import sys
+import tempfile
+import threading
+import time
+import unittest
+from concurrent.futures import ThreadPoolExecutor
+
+import proving
+import repository
+
+ROOT = repository.ROOT
+PRINTING = threading.Lock()
+CHILDREN = set()
+
+
+class Counts:
+    """What passed, failed and was skipped so far."""
+
+    def __init__(self):
+        self.passed, self.failed, self.skipped = 0, [], []
+
+    def take(self, name, is_well, took, number=1, text=""):
+        """Counts a test, and prints its line, below the text of one that failed."""
+        with PRINTING:
+            if is_well:
+                self.passed += number
+            else:
+                self.failed.append(name)
+                print(text.rstrip() or "(it printed nothing)")
+            print(f"{'ok' if is_well else 'FAILED'}: {name} ({proving.span(took)})", flush=True)
+
+    def skip(self, name, reason):
+        with PRINTING:
+            self.skipped.append(name)
+            print(f"skipped: {name}: {reason}", flush=True)
+
+    def close(self):
+        """Prints the last line, and returns the status."""
+        if self.failed:
+            print(f"failed: {', '.join(self.failed)}")
+        print(f"{self.passed} passed, {len(self.failed)} failed, {len(self.skipped)} skipped")
+        return 1 if self.failed else 0
+
+
+def run(words, folder=ROOT, given=subprocess.DEVNULL):
+    """Runs a command, and returns its status, its two streams and how long it took."""
+    begun = time.monotonic()
+    how = {"stdin": given, "stdout": subprocess.PIPE, "stderr": subprocess.PIPE, "text": True, "errors": "replace"}
+    with subprocess.Popen(words, cwd=folder, **how) as child:
+        CHILDREN.add(child)
+        out, err = child.communicate()
+        CHILDREN.discard(child)
+    return child.returncode, out, err, time.monotonic() - begun
+
+
+def side_by_side(parts):
+    """Runs the parts, as many at a time as half the processors: `rt try` uses more than one. Ends them where they are broken off."""
+    with ThreadPoolExecutor(max(1, proving.processors() // 2)) as pool:
+        started = [pool.submit(*it) for it in parts]
+        try:
+            for it in started:
+                it.result()
+        except BaseException:
+            for it in started:
+                it.cancel()
+            for it in list(CHILDREN):
+                it.terminate()
+            raise
+
+
+def lint(counts):
+    if os.path.isfile(f"{ROOT}/lint"):
+        status, out, err, took = run([f"{ROOT}/lint"])
+        counts.take("./lint", status == 0, took, text=out + err)
+
+
+def play_program(counts, crate):
+    """Runs a program on the files beside its source, without proof, and compares what it writes."""
+    folder = f"{ROOT}/crates/{crate}"
+    words = []
+    for at, _, names in os.walk(f"{folder}/data"):
+        for it in sorted(names):
+            path = os.path.join(at, it)
+            words += ["--data", f"{os.path.relpath(path, f'{folder}/data')}={path}"]
+    arguments = read(f"{folder}/args").splitlines()
+    with open(f"{folder}/stdin" if os.path.isfile(f"{folder}/stdin") else os.devnull, "rb") as given:
+        status, out, err, took = run(["rt", "try", *words, "--", *arguments], folder, given)
+    is_well = out == read(f"{folder}/stdout") and status == int(read(f"{folder}/status") or 0)
+    counts.take(f"program {crate}", is_well and "run=ended" in err, took, text=out + err)
+
+
+def read(path):
+    if not os.path.isfile(path):
+        return ""
+    with open(path, encoding="utf-8") as file:
+        return file.read()
+
+
+def try_tests(counts, crate):
+    """Runs the #[test] functions of a crate, without proof."""
+    status, out, err, took = run(["rt", "try", "--test"], f"{ROOT}/crates/{crate}")
+    found = re.findall(r"^test \S+ \.\.\. (\S+)", out, re.M)
+    passed = found.count("ok")
+    failed = len(found) - passed
+    name = f"tests of {crate}"
+    if passed and (failed or status):
+        counts.passed += passed
+    counts.take(name, status == 0 and passed > 0 and failed == 0, took, passed, out + err)
+
+
+class Result(unittest.TestResult):
+    """Hands what unittest finds to the counts."""
+
+    def __init__(self, counts):
+        super().__init__()
+        self.counts, self.begun, self.texts = counts, 0, []
+
+    def startTest(self, test):
+        super().startTest(test)
+        self.begun, self.texts = time.monotonic(), []
+
+    def stopTest(self, test):
+        name = test.id()
+        if self.texts:
+            self.counts.take(name, False, time.monotonic() - self.begun, text="\n".join(self.texts))
+        super().stopTest(test)
+
+    def addSuccess(self, test):
+        if not self.texts:
+            self.counts.take(test.id(), True, time.monotonic() - self.begun)
+
+    def addSkip(self, test, reason):
+        self.counts.skip(test.id(), reason)
+
+    def addError(self, test, err):
+        text = self._exc_info_to_string(err, test)
+        if "setUpClass" in str(test) or not hasattr(test, "_testMethodName"):
+            self.counts.take(str(test), False, 0, text=text)
+        else:
+            self.texts.append(text)
+
+    addFailure = addError
+
+    def addSubTest(self, test, subtest, err):
+        if err:
+            self.texts.append(f"{subtest}\n{self._exc_info_to_string(err, test)}")
+
+
+def flat(suite):
+    for it in suite:
+        if isinstance(it, unittest.TestSuite):
+            yield from flat(it)
+        else:
+            yield it
+
+
+def system_tests(counts, is_wanted):
+    """Runs the tests in tests/ that are wanted."""
+    sys.path.insert(0, f"{ROOT}/tests")
+    found = unittest.defaultTestLoader.discover(f"{ROOT}/tests", top_level_dir=f"{ROOT}/tests")
+    unittest.TestSuite(it for it in flat(found) if is_wanted(it)).run(Result(counts))
+
+
+def marked(test, mark):
+    """Whether the test's class has the mark.
+
+    ASKS_PROGRAM: it asks sfq itself, the proved program where it is built and else an unproved build.
+    IS_LONG: it takes minutes, so only ./test --long runs it. IN_GATE: and ./test --all.
+    """
+    return getattr(test, mark, False)
+
+
+def programs():
+    """Returns the programs that say what they have to write. What sfq writes is asked by tests/."""
+    return [
+        it for it in repository.read_crates()
+        if it != "sfq" and os.path.isfile(f"{ROOT}/crates/{it}/stdout") and os.path.isfile(f"{ROOT}/crates/{it}/src/main.rt")
+    ]
+
+
+def without_proof(is_long):
+    counts = Counts()
+    wanted = lambda it: is_long or not marked(it, "IS_LONG")
+    lint(counts)
+    if shutil.which("rt"):
+        parts = [(try_tests, counts, it) for it in reversed(repository.crates_with_tests())]
+        parts += [(play_program, counts, it) for it in programs()]
+        side_by_side([*parts, (system_tests, counts, wanted)])
+    else:
+        counts.skip("tests of crates, programs", "needs the command rt of the Rattle kit")
+        system_tests(counts, wanted)
+    return counts.close()
+
+
+def gate(counts):
+    """Runs `rt ci`, whose lines go through, and counts what it counted."""
+    before, begun = repository.current("sum")[1], time.monotonic()
+    child = subprocess.Popen(["rt", "ci"], cwd=ROOT, stdout=subprocess.PIPE, text=True, errors="replace")
+    last = ""
+    for line in child.stdout:
+        print(line, end="", flush=True)
+        last = line.strip() or last
+    status = child.wait()
+    found = re.fullmatch(r"(\d+) passed, (\d+) failed", last)
+    passed, failed = (int(found[1]), int(found[2])) if found else (0, 0)
+    counts.passed += passed
+    is_well = status == 0 and found is not None and failed == 0
+    if not is_well:
+        counts.failed += [f"rt ci ({last})"] * max(1, failed)
+    print(f"{'ok' if is_well else 'FAILED'}: rt ci ({proving.span(time.monotonic() - begun)})", flush=True)
+    if is_well and os.path.isfile(repository.PROGRAM) and repository.current("sum")[1] == before:
+        # What rt ci leaves is the proved program.
+        repository.current("stamp", before)
+
+
+def with_proof():
+    """First what is quick, then `rt ci`, then what asks the program that it leaves.
+
+    `rt ci` proves and runs the crates' tests and the programs, so they aren't run without proof too.
+    """
+    counts = Counts()
+    lint(counts)
+    system_tests(counts, lambda it: not marked(it, "ASKS_PROGRAM") and not marked(it, "IS_LONG"))
+    gate(counts)
+    system_tests(counts, lambda it: marked(it, "IN_GATE") or marked(it, "ASKS_PROGRAM") and not marked(it, "IS_LONG"))
+    return counts.close()
+
+
+def try_edits(crates):
+    """Tries the edits of crates/CRATE/edits by `rt must-fail`, in a copy of the repository whose must-fail/ they are."""
+    counts = Counts()
+    with tempfile.TemporaryDirectory(prefix="sfq-edits-") as room:
+        shutil.copyfile(f"{ROOT}/HANDLES", f"{room}/HANDLES")
+        known = repository.read_crates()
+        for it in crates or known:
+            if it not in known:
+                repository.fail(f"no crate {it}")
+            edits = sorted(glob.glob(f"{ROOT}/crates/{it}/edits/*.edit"))
+            if edits:
+                copy_crates(known, it, room)
+                with open(f"{room}/crates.txt", "w", encoding="utf-8") as file:
+                    copied = sorted(os.listdir(f"{room}/crates"))
+                    file.write("".join(f"{name}: {' '.join(known[name])}\n" for name in copied))
+                try_edits_of(counts, it, edits, room)
+            elif crates:
+                counts.skip(f"edits of {it}", "it has none")
+    return counts.close()
+
+
+def copy_crates(known, crate, room):
+    """Copies the crate and those below it, with what earlier checks kept and without edits."""
+    if crate in known and not os.path.isdir(f"{room}/crates/{crate}"):
+        leave_out = shutil.ignore_patterns("must-fail", "edits")
+        shutil.copytree(f"{ROOT}/crates/{crate}", f"{room}/crates/{crate}", ignore=leave_out)
+        for it in known[crate]:
+            copy_crates(known, it, room)
+
+
+def try_edits_of(counts, crate, edits, room):
+    folder = f"{room}/crates/{crate}/must-fail"
+    os.mkdir(folder)
+    for it in edits:
+        shutil.copy(it, folder)
+    status, out, err, took = run(["rt", "must-fail", crate], room)
+    print(out + err, end="", flush=True)
+    for it in edits:
+        name = f"{crate}/{os.path.basename(it)}"
+        is_refused = f"must-fail {name}: refused" in out
+        counts.take(f"edit {name}", is_refused, took / len(edits), text=f"rt must-fail: status {status}")
