@@ -12,12 +12,12 @@ use Rattle.geometry_model.specs.declared.point_sets.Location.TheVariants.{Interi
 use Rattle.geometry_model.specs.declared.point_sets.Dimension.TheVariants.{Zero, One, Two}
 use Rattle.geometry_laws.proofs.Each.{Passing}
 use Rattle.geometry_laws.proofs.Cuts.{contains_of_among, not_less_self, one_line}
-use Rattle.cell_laws.specs.Cells.{Shows, ShowsPoint, IsNoCut, Covers}
-use Rattle.cell_laws.proofs.Growing.{shows_at, shows_less}
-use Rattle.gap_laws.specs.Gaps.{SharesNoStretch, mostly, of_own_edges}
+use Rattle.matrix_laws.specs.Cells.{Shows, ShowsPoint, IsNoCut, Covers}
+use Rattle.matrix_laws.proofs.Growing.{shows_at, shows_less}
+use Rattle.cover_laws.specs.Gaps.{SharesNoStretch, mostly, of_own_edges}
 use Rattle.cover_laws.specs.Covering.{IsOffEdges, ShowsOff, ShowsEnds}
 use Rattle.cover_laws.specs.CoveringLaws.{IsFullOff, IsFullOn}
-use Rattle.gap_laws.proofs.GapTheorems.{off_edges_is_no_boundary}
+use Rattle.cover_laws.proofs.GapTheorems.{off_edges_is_no_boundary}
 use Rattle.cover_laws.proofs.Stretching.{SharesFurther, shares_further, spread}
 use Rattle.cover_laws.proofs.Located.{Side, lower_side, upper_side, on_or_off, off_is_shown, ShowsShared, shared_is_shown, Overlaps, overlaps}
 

@@ -14,15 +14,15 @@ use Rattle.geometry_model.specs.declared.point_sets.Dimension.TheVariants.{One, 
 use Rattle.geometry_laws.proofs.Each.{Passing, each_of}
 use Rattle.geometry_laws.proofs.CoverTheorems.{all_from_each}
 use Rattle.geometry_laws.proofs.Cuts.{contains_of_among}
-use Rattle.polygon_laws.specs.PolygonLaws.{ArePartedAs}
-use Rattle.polygon_laws.proofs.Closing.{valid_rings_are_closed}
-use Rattle.cell_laws.specs.Cells.{Shows, IsNoCut}
-use Rattle.cell_laws.proofs.Growing.{shows_at}
-use Rattle.cell_laws.proofs.There.{piece_is_there, sides_are_there}
-use Rattle.gap_laws.specs.Gaps.{IsBetween, IsClear, IsShared, IsGap, mostly, of_own_edges}
+use Rattle.matrix_laws.specs.PolygonLaws.{ArePartedAs}
+use Rattle.matrix_laws.proofs.Closing.{valid_rings_are_closed}
+use Rattle.matrix_laws.specs.Cells.{Shows, IsNoCut}
+use Rattle.matrix_laws.proofs.Growing.{shows_at}
+use Rattle.matrix_laws.proofs.There.{piece_is_there, sides_are_there}
+use Rattle.cover_laws.specs.Gaps.{IsBetween, IsClear, IsShared, IsGap, mostly, of_own_edges}
 use Rattle.cover_laws.specs.Covering.{IsOffEdges, ShowsOff, ShowsOn, ShowsAt}
-use Rattle.gap_laws.proofs.Shared.{span_of_gap}
-use Rattle.gap_laws.proofs.GapTheorems.{gap_has_no_cut, gap_is_alike, own_edges_are_mostly, sides_off_edges, sides_of_no_area, sides_of_own_edge, sides_along_own_edge, shared_point_shares_gap, shared_gap_holds_ends}
+use Rattle.cover_laws.proofs.Shared.{span_of_gap}
+use Rattle.cover_laws.proofs.GapTheorems.{gap_has_no_cut, gap_is_alike, own_edges_are_mostly, sides_off_edges, sides_of_no_area, sides_of_own_edge, sides_along_own_edge, shared_point_shares_gap, shared_gap_holds_ends}
 use Rattle.cover_laws.proofs.Stretching.{not_upright_either}
 use Rattle.cover_laws.proofs.Located.{contains_left, all_at, is_area, on_or_off, StandsMostly, no_cut_stands}
 

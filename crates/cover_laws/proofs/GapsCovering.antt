@@ -16,16 +16,16 @@ use Rattle.geometry_laws.proofs.PointOrder.{same_symmetric}
 use Rattle.geometry_laws.proofs.Respect.{locate_respects}
 use Rattle.geometry_laws.proofs.RingParity.{each_from_all}
 use Rattle.geometry_laws.proofs.Cuts.{among_from_contains, contains_of_among, one_line}
-use Rattle.polygon_laws.proofs.Closing.{valid_rings_are_closed}
-use Rattle.cut_laws.proofs.Lists.{Some_of, some_from_any}
-use Rattle.cut_laws.proofs.CutOrder.{cut_of_same}
-use Rattle.cell_laws.specs.Cells.{Shows, ShowsPoint, IsNoCut, Covers}
-use Rattle.cell_laws.proofs.Growing.{shows_at, shows_less}
-use Rattle.gap_laws.specs.Gaps.{EdgeGaps, AreGaps, IsBetween, IsClear, IsShared, IsGap, IsWithin, mostly, of_own_edges}
+use Rattle.matrix_laws.proofs.Closing.{valid_rings_are_closed}
+use Rattle.matrix_laws.proofs.Lists.{Some_of, some_from_any}
+use Rattle.matrix_laws.proofs.CutOrder.{cut_of_same}
+use Rattle.matrix_laws.specs.Cells.{Shows, ShowsPoint, IsNoCut, Covers}
+use Rattle.matrix_laws.proofs.Growing.{shows_at, shows_less}
+use Rattle.cover_laws.specs.Gaps.{EdgeGaps, AreGaps, IsBetween, IsClear, IsShared, IsGap, IsWithin, mostly, of_own_edges}
 use Rattle.cover_laws.specs.Covering.{IsOffEdges, ShowsOff, ShowsOn, ShowsGap, ShowsEnds}
-use Rattle.gap_laws.proofs.Shared.{span_of_gap}
-use Rattle.gap_laws.proofs.Alike.{Stands, stands}
-use Rattle.gap_laws.proofs.GapTheorems.{gap_end_is_alike, shared_point_shares_gap}
+use Rattle.cover_laws.proofs.Shared.{span_of_gap}
+use Rattle.cover_laws.proofs.Alike.{Stands, stands}
+use Rattle.cover_laws.proofs.GapTheorems.{gap_end_is_alike, shared_point_shares_gap}
 use Rattle.cover_laws.proofs.Stretching.{spread, Meeting, goes_on, goes_back}
 use Rattle.cover_laws.proofs.Located.{contains_left, contains_right, all_at, not_off, on_or_off, off_is_shown, ShowsShared, shared_is_shown}
 use Rattle.cover_laws.proofs.GapThere.{SameSides, same_sides}

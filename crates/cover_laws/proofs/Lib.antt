@@ -1,3 +1,9 @@
+pub mod Between
+pub mod Shared
+pub mod Mostly
+pub mod Alike
+pub mod OwnSides
+pub mod GapTheorems
 pub mod Stretching
 pub mod Located
 pub mod GapThere

@@ -20,11 +20,11 @@ use Rattle.geometry_laws.proofs.RingParity.{each_from_all, position_is_point}
 use Rattle.geometry_laws.proofs.Respect.{locate_respects}
 use Rattle.geometry_laws.proofs.CoverTheorems.{all_from_each}
 use Rattle.geometry_laws.proofs.Cuts.{among_from_contains, contains_of_among}
-use Rattle.cell_laws.specs.Cells.{Shows, ShowsPoint, IsNoCut, CoversPosition}
-use Rattle.cell_laws.proofs.Growing.{shows_at, shows_less}
-use Rattle.gap_laws.specs.Gaps.{mostly, of_own_edges}
+use Rattle.matrix_laws.specs.Cells.{Shows, ShowsPoint, IsNoCut, CoversPosition}
+use Rattle.matrix_laws.proofs.Growing.{shows_at, shows_less}
+use Rattle.cover_laws.specs.Gaps.{mostly, of_own_edges}
 use Rattle.cover_laws.specs.Covering.{IsOffEdges, ShowsOff, ShowsEnds}
-use Rattle.gap_laws.proofs.GapTheorems.{mostly_is_located, no_cut_is_mostly, own_edges_are_mostly, sides_off_edges, sides_of_no_area}
+use Rattle.cover_laws.proofs.GapTheorems.{mostly_is_located, no_cut_is_mostly, own_edges_are_mostly, sides_off_edges, sides_of_no_area}
 
 -- ---- of a list
 pub contains_left : {X : Type 0} (xs ys : List X) (x : X) → Contains xs x → Contains (xs ++ ys) x

@@ -19,9 +19,9 @@ use Rattle.geometry_laws.proofs.LineOrder.{sum_between, on_sum, area_on_line}
 use Rattle.geometry_laws.proofs.LineSides.{side_turned}
 use Rattle.geometry_laws.proofs.Cuts.{turn_less, OneLine, same_end, or_first, or_last, hull_of_start, hull_of_end, not_after_both, not_before_both}
 use Rattle.geometry_laws.proofs.WithinPiece.{strictly_right}
-use Rattle.cut_laws.proofs.Stretches.{less_right, less_left}
-use Rattle.gap_laws.specs.Gaps.{IsBetween, IsClear}
-use Rattle.gap_laws.proofs.Between.{Span, wide, on_line, on_within}
+use Rattle.matrix_laws.proofs.Stretches.{less_right, less_left}
+use Rattle.cover_laws.specs.Gaps.{IsBetween, IsClear}
+use Rattle.cover_laws.proofs.Between.{Span, wide, on_line, on_within}
 
 -- ---- a point of an edge lies on the line of each edge of the same line
 pub on_other_line : (e f : Edge) → e.start ≢ e.end → OneLine e f → (x : Point) → on e x ≡ true → side f.start f.end x ≡ pos 0

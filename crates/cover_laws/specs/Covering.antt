@@ -10,8 +10,8 @@ use Rattle.geometry_model.specs.declared.shapes.Kind.TheVariants as kinds
 use Rattle.geometry_model.specs.declared.point_sets.Location.{Location}
 use Rattle.geometry_model.specs.declared.point_sets.Location.TheVariants.{Interior, Exterior}
 use Rattle.geometry_model.specs.declared.point_sets.Dimension.TheVariants.{Zero, One, Two}
-use Rattle.gap_laws.specs.Gaps.{IsBetween, mostly, of_own_edges}
-use Rattle.cell_laws.specs.Cells.{Shows, CoversPosition}
+use Rattle.cover_laws.specs.Gaps.{IsBetween, mostly, of_own_edges}
+use Rattle.matrix_laws.specs.Cells.{Shows, CoversPosition}
 
 -- the point is on none of the second geometry's edges
 abbrev pub IsOffEdges : Geometry → Point → Type 0

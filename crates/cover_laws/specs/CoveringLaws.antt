@@ -10,8 +10,8 @@ use Rattle.geometry_model.specs.Validity.{IsValid}
 use Rattle.geometry_model.specs.declared.shapes.Kind.TheVariants as kinds
 use Rattle.geometry_model.specs.declared.point_sets.Location.TheVariants.{Interior, Exterior}
 use Rattle.geometry_model.specs.declared.point_sets.Dimension.TheVariants.{Zero, One, Two}
-use Rattle.gap_laws.specs.Gaps.{EdgeGaps, AreGaps, IsBetween, IsGap, SharesNoStretch, of_own_edges}
-use Rattle.cell_laws.specs.Cells.{Shows, Covers}
+use Rattle.cover_laws.specs.Gaps.{EdgeGaps, AreGaps, IsBetween, IsGap, SharesNoStretch, of_own_edges}
+use Rattle.matrix_laws.specs.Cells.{Shows, Covers}
 use Rattle.cover_laws.specs.Covering.{ShowsAt, ShowsGap, ShowsOff, ShowsEnds}
 
 -- what a gap of an edge of a shows of two valid geometries is there (06-103r4, 6.1.15.2)

@@ -1,2 +1,4 @@
+pub mod Gaps
+pub mod GapLaws
 pub mod Covering
 pub mod CoveringLaws

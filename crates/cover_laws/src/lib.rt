@@ -1,6 +1,11 @@
 //! Laws of covering: what a matrix has to show of the gaps of edges, so that it shows all that two geometries have in common.
+//! A gap is the stretch of an edge between neighbouring points at which other edges meet it.
 //! Nothing here runs: each function has an empty body, and its contract is a law.
 #![tactic(auto)]
+
+pub mod gaps;
+pub mod sides;
+pub mod standing;
 
 ghost use Rattle.cover_laws.specs.CoveringLaws.{GapIsThere, GapsCover, FullCovers, FullOffCovers};
 

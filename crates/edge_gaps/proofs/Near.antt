@@ -7,7 +7,7 @@ use Rattle.geometry_model.specs.Sides.{on}
 use Rattle.geometry_model.specs.Envelopes.{Envelope, overlap}
 use Rattle.geometry_laws.proofs.Each.{Among}
 use Rattle.geometry_laws.proofs.Scaling.{and_from}
-use Rattle.cut_laws.proofs.Lists.{contains_from_among}
+use Rattle.matrix_laws.proofs.Lists.{contains_from_among}
 use Rattle.validity_laws.proofs.SharedPoints.{shared_point_is_decided}
 use Rattle.ring_tests.specs.RunLaws.{box_of}
 use Rattle.ring_tests.proofs.Boxes.{sharing_boxes_overlap}

@@ -12,7 +12,7 @@ use Rattle.geometry_model.specs.Envelopes.{overlap}
 use Rattle.geometry_laws.proofs.Scaling.{and_parts, and_from}
 use Rattle.validity_laws.proofs.SharedPoints.{shared_point_is_decided}
 use Rattle.fraction.specs.Ranges.{meeting_limit}
-use Rattle.cut_laws.proofs.Lists.{among_from_contains, any_from_some}
+use Rattle.matrix_laws.proofs.Lists.{among_from_contains, any_from_some}
 use Rattle.ring_tests.specs.RunLaws.{box_of}
 use Rattle.edge_boxes.specs.Meetings.{places_meeting}
 use Rattle.edge_boxes.specs.OneLine.{meet_on_one_line}
@@ -22,7 +22,7 @@ use Rattle.noding.specs.declared.answers.Meet.{Meet}
 use Rattle.noding.proofs.NamedCuts.{CutOf}
 use Rattle.noding.proofs.NodeCuts.{cut_is_point, cut_of_both, named_on_both}
 use Rattle.noding.proofs.BreakPoints.{Shares, all_of, any_left, any_right, earlier_or_last, point_kept}
-use Rattle.gap_laws.specs.Gaps.{SharesNoStretch}
+use Rattle.cover_laws.specs.Gaps.{SharesNoStretch}
 use Rattle.edge_gaps.specs.Steps.{IsSharedPoint, ListsCommonCuts, AreSharedSoFar, IsAt, IsAtPlace, AreShared}
 use Rattle.edge_gaps.proofs.Near.{IsNearAt, sharing_near, sharing_is_near}
 

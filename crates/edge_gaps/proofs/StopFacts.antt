@@ -20,10 +20,10 @@ use Rattle.geometry_laws.proofs.Hulls.{on_parts}
 use Rattle.geometry_laws.proofs.LineOrder.{area_on_line}
 use Rattle.geometry_laws.proofs.Triangles.{dot_stands}
 use Rattle.geometry_laws.proofs.Cuts.{OneLine, one_line}
-use Rattle.cut_laws.proofs.Lists.{Some_of, among_from_contains, contains_from_among, some_from_any, any_from_some, among_filter, filter_among}
-use Rattle.cut_laws.proofs.CutLists.{or_first, or_second, or_either}
-use Rattle.cut_laws.proofs.Sorted.{Sorted, filter-sorted}
-use Rattle.cut_laws.proofs.Stretches.{Neighbours, stretch_is, less_right, less_left}
+use Rattle.matrix_laws.proofs.Lists.{Some_of, among_from_contains, contains_from_among, some_from_any, any_from_some, among_filter, filter_among}
+use Rattle.matrix_laws.proofs.CutLists.{or_first, or_second, or_either}
+use Rattle.matrix_laws.proofs.Sorted.{Sorted, filter-sorted}
+use Rattle.matrix_laws.proofs.Stretches.{Neighbours, stretch_is, less_right, less_left}
 use Rattle.noding.specs.Meetings.{on_both, is_common_cut}
 use Rattle.noding.specs.Nodings.{ListsPoint, AscendingPoints}
 use Rattle.noding.proofs.Order.{NotAfter, not_after_less, not_after_cases, not_after_or, not_after_trans}
@@ -33,7 +33,7 @@ use Rattle.noding.proofs.OneLine.{OnLine, start_on_line, end_on_line}
 use Rattle.noding.proofs.NodeCuts.{cut_is_point, end_is_on_edge, common_at_end, common_at_crossing}
 use Rattle.noding.proofs.NodeSteps.{sorted_from_pairs}
 use Rattle.noding.proofs.BreakPoints.{all_of, position_is_triple}
-use Rattle.gap_laws.specs.Gaps.{IsBetween, IsClear, IsShared, IsGap, IsWithin, AreGaps}
+use Rattle.cover_laws.specs.Gaps.{IsBetween, IsClear, IsShared, IsGap, IsWithin, AreGaps}
 use Rattle.edge_gaps.specs.Steps.{AreShared, stops_of}
 
 -- ---- points in order

@@ -2,7 +2,7 @@
 
 ghost use Rattle.std.specs.Prelude.{◌≡◌, false, [], OnOk, IfOk};
 ghost use Rattle.edge_boxes.specs.BoxLists.{BoxesOf};
-ghost use Rattle.gap_laws.specs.Gaps.{AreGaps, SharesNoStretch};
+ghost use Rattle.cover_laws.specs.Gaps.{AreGaps, SharesNoStretch};
 
 use crate::sharing::{find_shared, put_in_order};
 use crate::stops::set_stops;
@@ -25,7 +25,7 @@ pub struct Gaps {
 }
 
 impl Model for Gaps {
-    ghost use Rattle.gap_laws.specs.Gaps.{EdgeGaps};
+    ghost use Rattle.cover_laws.specs.Gaps.{EdgeGaps};
 
     ghost Value = { EdgeGaps };
 

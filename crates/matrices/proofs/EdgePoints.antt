@@ -9,11 +9,11 @@ use Rattle.geometry_model.specs.Locations.{stands_at, is_odd_end, locate}
 use Rattle.geometry_model.specs.Dimensions.{Matrix}
 use Rattle.geometry_model.specs.declared.shapes.Kind.TheVariants as kinds
 use Rattle.geometry_model.specs.declared.point_sets.Dimension.TheVariants.{Zero}
-use Rattle.gap_laws.specs.Gaps.{EdgeGaps, AreGaps, of_own_edges}
-use Rattle.gap_laws.proofs.GapTheorems.{mostly_is_located, own_edges_are_mostly}
-use Rattle.cell_laws.specs.Cells.{Shows, IsPartOf, Covers}
-use Rattle.cell_laws.proofs.Growing.{still_shown, shows_at}
-use Rattle.cell_laws.proofs.CellTheorems.{growing_keeps}
+use Rattle.cover_laws.specs.Gaps.{EdgeGaps, AreGaps, of_own_edges}
+use Rattle.cover_laws.proofs.GapTheorems.{mostly_is_located, own_edges_are_mostly}
+use Rattle.matrix_laws.specs.Cells.{Shows, IsPartOf, Covers}
+use Rattle.matrix_laws.proofs.Growing.{still_shown, shows_at}
+use Rattle.matrix_laws.proofs.CellTheorems.{growing_keeps}
 use Rattle.cover_laws.specs.Covering.{ShowsEnds}
 use Rattle.matrices.specs.Raising.{IsOnBoth}
 use Rattle.matrices.proofs.Growth.{covered_kept}

@@ -11,8 +11,8 @@ use Rattle.geometry_model.specs.declared.point_sets.Location.TheVariants.{Interi
 use Rattle.geometry_model.specs.declared.point_sets.Dimension.TheVariants.{Zero}
 use Rattle.geometry_laws.proofs.Each.{one_passes}
 use Rattle.geometry_laws.proofs.Cuts.{among_from_contains}
-use Rattle.cell_laws.specs.Cells.{Shows, IsPartOf, CoversPosition}
-use Rattle.cell_laws.proofs.Growing.{still_shown}
+use Rattle.matrix_laws.specs.Cells.{Shows, IsPartOf, CoversPosition}
+use Rattle.matrix_laws.proofs.Growing.{still_shown}
 use Rattle.matrices.specs.Raising.{ShowsRow, CoversEnd, CoversEndsOf}
 
 -- ---- the two ends of a line, by their places

@@ -13,10 +13,10 @@ use Rattle.geometry_model.specs.declared.point_sets.Location.{Location}
 use Rattle.geometry_model.specs.declared.point_sets.Location.TheVariants.{Interior, Exterior}
 use Rattle.geometry_model.specs.declared.point_sets.Dimension.TheVariants.{One, Two}
 use Rattle.validity.specs.ValidGeometries.{HasLength}
-use Rattle.gap_laws.specs.Gaps.{IsBetween, IsGap, mostly, of_own_edges}
-use Rattle.gap_laws.proofs.GapTheorems.{gap_has_mediant}
-use Rattle.cell_laws.specs.Cells.{Shows, raised, IsPartOf}
-use Rattle.cell_laws.proofs.Growing.{still_shown}
+use Rattle.cover_laws.specs.Gaps.{IsBetween, IsGap, mostly, of_own_edges}
+use Rattle.cover_laws.proofs.GapTheorems.{gap_has_mediant}
+use Rattle.matrix_laws.specs.Cells.{Shows, raised, IsPartOf}
+use Rattle.matrix_laws.proofs.Growing.{still_shown}
 use Rattle.cover_laws.specs.Covering.{IsOffEdges, ShowsOff, ShowsOn, ShowsAt, ShowsGap}
 use Rattle.side_labels.specs.declared.sides.Sides.{Sides}
 use Rattle.matrices.specs.Raising.{IsRaisedTo, Grows, ShowsOffAt, ShowsGapOff, with_sides}

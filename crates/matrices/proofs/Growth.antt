@@ -12,10 +12,10 @@ use Rattle.geometry_model.specs.Validity.{IsValid}
 use Rattle.geometry_model.specs.declared.point_sets.Location.{Location}
 use Rattle.geometry_model.specs.declared.point_sets.Dimension.{Dimension}
 use Rattle.geometry_model.specs.declared.point_sets.Dimension.TheVariants.{Zero}
-use Rattle.polygon_laws.proofs.Closing.{valid_rings_are_closed}
-use Rattle.cell_laws.specs.Cells.{Shows, raised, IsPartOf, CoversPosition}
-use Rattle.cell_laws.proofs.CellTheorems.{point_is_there, raised_grows, parts_are_ordered}
-use Rattle.cell_laws.proofs.Growing.{still_shown}
+use Rattle.matrix_laws.proofs.Closing.{valid_rings_are_closed}
+use Rattle.matrix_laws.specs.Cells.{Shows, raised, IsPartOf, CoversPosition}
+use Rattle.matrix_laws.proofs.CellTheorems.{point_is_there, raised_grows, parts_are_ordered}
+use Rattle.matrix_laws.proofs.Growing.{still_shown}
 use Rattle.matrices.specs.Raising.{IsRaisedTo, Grows}
 
 -- ---- the order of matrices

@@ -13,8 +13,8 @@ use Rattle.geometry_laws.proofs.Each.{Among, Passing, among_either, some_passed,
 use Rattle.geometry_laws.proofs.Respect.{locate_respects}
 use Rattle.geometry_laws.proofs.RingParity.{position_is_point}
 use Rattle.geometry_laws.proofs.Cuts.{contains_of_among}
-use Rattle.cell_laws.specs.Cells.{Shows}
-use Rattle.cell_laws.proofs.Growing.{shows_at}
+use Rattle.matrix_laws.specs.Cells.{Shows}
+use Rattle.matrix_laws.proofs.Growing.{shows_at}
 use Rattle.matrices.specs.Raising.{CoversEnd, CoversEndsOf}
 
 boundary_if : (s t : Bool) → s ≡ true → (if s then Boundary else if t then Interior else Exterior) ≡ Boundary

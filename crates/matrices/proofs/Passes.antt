@@ -10,11 +10,11 @@ use Rattle.geometry_model.specs.declared.point_sets.Location.{Location}
 use Rattle.geometry_model.specs.declared.point_sets.Location.TheVariants.{Interior, Boundary, Exterior}
 use Rattle.geometry_model.specs.declared.point_sets.Dimension.{Dimension}
 use Rattle.geometry_model.specs.declared.point_sets.Dimension.TheVariants.{Zero, Two}
-use Rattle.polygon_laws.proofs.Closing.{valid_rings_are_closed}
+use Rattle.matrix_laws.proofs.Closing.{valid_rings_are_closed}
 use Rattle.matrix_laws.proofs.Matrices.{labels_give_matrix}
-use Rattle.cell_laws.specs.Cells.{at_most, Shows, IsPartOf, IsSound, Covers, CoversPosition}
-use Rattle.cell_laws.proofs.Growing.{still_shown, cell_of}
-use Rattle.cell_laws.proofs.CellTheorems.{covering_is_whole, covers_turned}
+use Rattle.matrix_laws.specs.Cells.{at_most, Shows, IsPartOf, IsSound, Covers, CoversPosition}
+use Rattle.matrix_laws.proofs.Growing.{still_shown, cell_of}
+use Rattle.matrix_laws.proofs.CellTheorems.{covering_is_whole, covers_turned}
 use Rattle.cover_laws.specs.Covering.{ShowsEnds}
 use Rattle.matrices.specs.Raising.{of_exteriors, Grows, ShowsOwnEnds}
 use Rattle.matrices.proofs.Growth.{covered_kept, part_through}

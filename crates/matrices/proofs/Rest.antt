@@ -11,11 +11,11 @@ use Rattle.geometry_model.specs.declared.point_sets.Location.TheVariants.{Interi
 use Rattle.geometry_laws.proofs.Each.{Passing, each_at}
 use Rattle.geometry_laws.proofs.RingParity.{each_from_all}
 use Rattle.geometry_laws.proofs.Cuts.{contains_of_among, one_line}
-use Rattle.polygon_laws.proofs.Closing.{valid_rings_are_closed}
-use Rattle.cut_laws.proofs.Lists.{Some_of, some_from_any}
-use Rattle.cell_laws.specs.Cells.{ShowsPoint, IsNoCut, Covers}
-use Rattle.gap_laws.specs.Gaps.{EdgeGaps, AreGaps, IsGap, IsWithin, mostly}
-use Rattle.gap_laws.proofs.GapTheorems.{gap_end_is_alike, off_edges_is_no_boundary}
+use Rattle.matrix_laws.proofs.Closing.{valid_rings_are_closed}
+use Rattle.matrix_laws.proofs.Lists.{Some_of, some_from_any}
+use Rattle.matrix_laws.specs.Cells.{ShowsPoint, IsNoCut, Covers}
+use Rattle.cover_laws.specs.Gaps.{EdgeGaps, AreGaps, IsGap, IsWithin, mostly}
+use Rattle.cover_laws.proofs.GapTheorems.{gap_end_is_alike, off_edges_is_no_boundary}
 use Rattle.cover_laws.specs.Covering.{IsOffEdges, ShowsOff, ShowsEnds}
 use Rattle.cover_laws.specs.CoveringLaws.{IsFullOff}
 use Rattle.cover_laws.proofs.Stretching.{SharesFurther, shares_further, spread, not_upright_either}

@@ -12,8 +12,8 @@ use Rattle.geometry_model.specs.declared.point_sets.Location.{Location}
 use Rattle.geometry_model.specs.declared.point_sets.Location.TheVariants.{Interior, Boundary, Exterior}
 use Rattle.geometry_model.specs.declared.point_sets.Dimension.TheVariants.{Empty, Zero, Two}
 use Rattle.side_labels.specs.declared.sides.Sides.{Sides}
-use Rattle.gap_laws.specs.Gaps.{IsBetween, mostly}
-use Rattle.cell_laws.specs.Cells.{Shows, raised, IsPartOf, IsSound, CoversPosition}
+use Rattle.cover_laws.specs.Gaps.{IsBetween, mostly}
+use Rattle.matrix_laws.specs.Cells.{Shows, raised, IsPartOf, IsSound, CoversPosition}
 use Rattle.cover_laws.specs.Covering.{IsOffEdges, ShowsOff}
 
 -- the matrix that shows no more than that the exteriors share an area (06-103r4, 6.1.15.2)

@@ -2,7 +2,7 @@
 
 ghost use Rattle.std.specs.Prelude.{◌≡◌, true};
 ghost use Rattle.cover_laws.specs.CoveringLaws.{IsFullOff, IsFullOn};
-ghost use Rattle.gap_laws.specs.Gaps.{of_own_edges};
+ghost use Rattle.cover_laws.specs.Gaps.{of_own_edges};
 ghost use Rattle.matrices.specs.Raising.{ShowsAllOff};
 
 use crate::matrix::Matrix;

@@ -4,7 +4,7 @@ ghost use Rattle.std.specs.Prelude.{◌≡◌, ◌↔◌, IsTrue, All, Contains,
 ghost use Rattle.geometry_model.specs.Geometries.{edges};
 ghost use Rattle.geometry_model.specs.Pieces.{stretches};
 ghost use Rattle.edge_boxes.specs.EdgeCrossings.{AreCrossings};
-ghost use Rattle.gap_laws.specs.Gaps.{IsGap};
+ghost use Rattle.cover_laws.specs.Gaps.{IsGap};
 ghost use Rattle.cover_laws.specs.Covering.{ShowsOff, ShowsAt, ShowsGap};
 ghost use Rattle.validity.specs.ValidGeometries.{HasLength};
 ghost use Rattle.fraction.specs.Ranges.{meeting_limit};

@@ -2,7 +2,7 @@
 
 ghost use Rattle.std.specs.Prelude.{◌≡◌};
 ghost use Rattle.geometry_model.specs.Patterns.{dimension_character};
-ghost use Rattle.cell_laws.specs.Cells.{at_most, greater};
+ghost use Rattle.matrix_laws.specs.Cells.{at_most, greater};
 
 use geometry_model::{Dimension, Location};
 use std::marker::Model;
@@ -66,7 +66,7 @@ impl Matrix {
     ghost use Rattle.std.specs.Prelude.{◌≡◌};
     ghost use Rattle.geometry_model.specs.Dimensions.{cell, transposed};
     ghost use Rattle.geometry_model.specs.Patterns.{matrix_text};
-    ghost use Rattle.cell_laws.specs.Cells.{at_most, raised};
+    ghost use Rattle.matrix_laws.specs.Cells.{at_most, raised};
     ghost use Rattle.matrices.specs.Raising as spec;
 
     /// The matrix that shows no more than that the exteriors share an area (06-103r4, 6.1.15.2).

@@ -7,7 +7,7 @@ ghost use Rattle.geometry_model.specs.Locations.{locate, ends};
 ghost use Rattle.geometry_model.specs.Validity.{IsValid};
 ghost use Rattle.geometry_model.specs.declared.point_sets.Dimension.TheVariants.{Zero};
 ghost use Rattle.validity.specs.ValidGeometries.{HasLength};
-ghost use Rattle.cell_laws.specs.Cells.{Shows, CoversPosition};
+ghost use Rattle.matrix_laws.specs.Cells.{Shows, CoversPosition};
 ghost use Rattle.matrices.specs.Raising.{Grows, ShowsOwnEnds, ShowsRow, CoversEndsOf};
 
 use crate::matrix::Matrix;

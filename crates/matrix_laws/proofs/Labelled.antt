@@ -41,9 +41,9 @@ use Rattle.geometry_laws.proofs.SideTriangles.{below_from}
 use Rattle.geometry_laws.proofs.First.{First, first, over_point, over_is_point, over_on, label_of_first}
 use Rattle.geometry_laws.proofs.Avoid.{OffLines, avoid_lines, OffPoints, avoid_points}
 use Rattle.geometry_laws.proofs.CoverTheorems.{over_straight}
-use Rattle.cut_laws.proofs.Lists.{Some_of}
-use Rattle.cut_laws.proofs.CutOrder.{listed_is_cut, cut_is_listed}
-use Rattle.cut_laws.proofs.PieceLists.{IsLeastPiece, piece_is}
+use Rattle.matrix_laws.proofs.Lists.{Some_of}
+use Rattle.matrix_laws.proofs.CutOrder.{listed_is_cut, cut_is_listed}
+use Rattle.matrix_laws.proofs.PieceLists.{IsLeastPiece, piece_is}
 use Rattle.matrix_laws.proofs.Around.{Within, within_piece}
 use Rattle.matrix_laws.proofs.Pieces.{sample_inside, piece_segment, lower_side, upper_side}
 

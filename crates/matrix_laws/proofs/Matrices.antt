@@ -7,7 +7,7 @@ use Rattle.geometry_model.specs.Validity.{IsValid}
 use Rattle.geometry_model.proofs.DimensionFacts.{only_matrix}
 use Rattle.geometry_laws.specs.RingLaws.{IsClosed}
 use Rattle.geometry_laws.proofs.RingParity.{each_from_all}
-use Rattle.polygon_laws.proofs.Closing.{valid_rings_are_closed}
+use Rattle.matrix_laws.proofs.Closing.{valid_rings_are_closed}
 use Rattle.geometry_model.specs.GivenMatrix.{GivesMatrix}
 use Rattle.matrix_laws.proofs.Labelled.{labelled_is_matrix}
 

@@ -28,9 +28,9 @@ use Rattle.geometry_laws.proofs.Cuts.{same_end}
 use Rattle.geometry_laws.proofs.Scaling.{and_parts}
 use Rattle.geometry_laws.proofs.Locating.{start_is_on}
 use Rattle.geometry_laws.proofs.RingParity.{position_is_point}
-use Rattle.polygon_laws.proofs.Closing.{valid_rings_are_closed}
-use Rattle.polygon_laws.proofs.Outside.{common_point_meets}
-use Rattle.polygon_laws.proofs.Empty.{nothing_common}
+use Rattle.matrix_laws.proofs.Closing.{valid_rings_are_closed}
+use Rattle.matrix_laws.proofs.Outside.{common_point_meets}
+use Rattle.matrix_laws.proofs.Empty.{nothing_common}
 
 -- ---- a pattern that wants a point in both doesn't match where there is none
 -- no point is in the interior or boundary of both

@@ -1,9 +1,15 @@
 //! The theorem that labels are the point sets: the label matrix of two valid geometries is their DE-9IM matrix, and what
-//! follows from it. Nothing here runs: each function has an empty body, and its contract is a law.
+//! follows from it. The modules have the laws that it needs, of cuts, areas and nested rings, and laws of what a matrix
+//! shows. Nothing here runs: each function has an empty body, and its contract is a law.
 #![tactic(auto)]
 
+pub mod areas;
+pub mod cells;
+pub mod cuts;
+pub mod elements;
 pub mod given_matrices;
 pub mod meeting;
+pub mod nesting;
 
 ghost use Rattle.matrix_laws.specs.MatrixLaws.{LabelledIsMatrix, LabelsArePointSets};
 

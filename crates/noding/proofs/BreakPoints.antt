@@ -15,8 +15,8 @@ use Rattle.geometry_laws.proofs.Scaling.{and_parts, and_from}
 use Rattle.geometry_laws.proofs.PointOrder.{same_reflexive, same_transitive}
 use Rattle.geometry_laws.proofs.Respect.{on_respects}
 use Rattle.geometry_laws.proofs.RingParity.{position_is_point}
-use Rattle.cut_laws.proofs.Lists.{Some_of, among_from_contains, contains_from_among, some_from_any, any_from_some, all_from_each, among_map, map_among, among_filter, filter_among}
-use Rattle.cut_laws.proofs.CutLists.{or_first, or_second, or_either}
+use Rattle.matrix_laws.proofs.Lists.{Some_of, among_from_contains, contains_from_among, some_from_any, any_from_some, all_from_each, among_map, map_among, among_filter, filter_among}
+use Rattle.matrix_laws.proofs.CutLists.{or_first, or_second, or_either}
 use Rattle.noding.specs.Meetings.{on_both, IsMeeting, named, is_common_cut, NamesCommonCuts}
 use Rattle.noding.specs.declared.answers.Meet.{Meet}
 use Rattle.noding.specs.Nodings.{ListsPoint, IsNodeTriple, AreBreaks, PutsPointsInOrder, IsBreak, AllBreaks}

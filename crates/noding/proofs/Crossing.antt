@@ -20,7 +20,7 @@ use Rattle.geometry_laws.proofs.Hulls.{on_from_hull, hull_from_on, on_parts}
 use Rattle.geometry_laws.proofs.Lines.{value_weighted, value_is_side, line_side, sum_positive, weighted_is_point}
 use Rattle.geometry_laws.proofs.RingParity.{position_is_point}
 use Rattle.geometry_laws.proofs.Cuts.{Weighs, weighs, OneLine, one_line}
-use Rattle.cut_laws.proofs.Meeting.{SharesPoint, shares_point}
+use Rattle.matrix_laws.proofs.EdgeMeeting.{SharesPoint, shares_point}
 use Rattle.noding.specs.Meetings.{on_both, IsMeeting}
 use Rattle.noding.specs.declared.answers.Meet.TheVariants.{Apart, At}
 

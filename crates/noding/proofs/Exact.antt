@@ -9,12 +9,12 @@ use Rattle.geometry_model.specs.Pieces.{Piece, IsPiece, compare_pieces, pieces}
 use Rattle.geometry_model.proofs.LeastFormFacts.{least_is_unique}
 use Rattle.geometry_laws.proofs.Each.{Among, each_of}
 use Rattle.geometry_laws.proofs.Scaling.{and_parts}
-use Rattle.cut_laws.proofs.Lists.{Some_of, contains_from_among, some_from_any}
-use Rattle.cut_laws.proofs.Stretches.{HasPoints, not_before_itself, pieces_are_ordered, then_less}
-use Rattle.cut_laws.proofs.CutLists.{IsLeastCut}
-use Rattle.cut_laws.proofs.CutOrder.{listed_is_cut, cut_points-sorted, points_are_ordered}
-use Rattle.cut_laws.proofs.Turned.{same_list}
-use Rattle.cut_laws.proofs.PieceLists.{IsLeastPiece, itself_listed, piece_is, piece_is_listed, pieces-sorted}
+use Rattle.matrix_laws.proofs.Lists.{Some_of, contains_from_among, some_from_any}
+use Rattle.matrix_laws.proofs.Stretches.{HasPoints, not_before_itself, pieces_are_ordered, then_less}
+use Rattle.matrix_laws.proofs.CutLists.{IsLeastCut}
+use Rattle.matrix_laws.proofs.CutOrder.{listed_is_cut, cut_points-sorted, points_are_ordered}
+use Rattle.matrix_laws.proofs.Turned.{same_list}
+use Rattle.matrix_laws.proofs.PieceLists.{IsLeastPiece, itself_listed, piece_is, piece_is_listed, pieces-sorted}
 use Rattle.noding.specs.Nodings.{same_piece, IsNodeTriple, HasNodeTriples, ListsCuts, ListsPieces, AscendingPoints, AscendingPieces}
 use Rattle.noding.proofs.NodeCuts.{cut_is_point}
 use Rattle.noding.proofs.NodeSteps.{sorted_from_pairs}

@@ -11,10 +11,10 @@ use Rattle.geometry_laws.proofs.Scaling.{and_parts}
 use Rattle.geometry_laws.proofs.PointOrder.{same_reflexive, same_symmetric, same_transitive}
 use Rattle.geometry_laws.proofs.RingParity.{position_is_point}
 use Rattle.geometry_laws.proofs.Cuts.{not_less_self}
-use Rattle.cut_laws.proofs.Lists.{any_from_some}
-use Rattle.cut_laws.proofs.Meeting.{before_turning, SharesPoint, shares_point}
-use Rattle.cut_laws.proofs.Cuts.{turned_is_point, turned_is_same}
-use Rattle.cut_laws.proofs.CutLists.{or_either}
+use Rattle.matrix_laws.proofs.Lists.{any_from_some}
+use Rattle.matrix_laws.proofs.EdgeMeeting.{before_turning, SharesPoint, shares_point}
+use Rattle.matrix_laws.proofs.CutFacts.{turned_is_point, turned_is_same}
+use Rattle.matrix_laws.proofs.CutLists.{or_either}
 use Rattle.noding.specs.Meetings.{on_both, IsCommonStretch, IsMeeting, named, is_common_cut, NamesCommonCuts}
 use Rattle.noding.specs.declared.answers.Meet.{Meet}
 use Rattle.noding.specs.declared.answers.Meet.TheVariants.{Apart, At, Along}

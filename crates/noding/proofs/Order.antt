@@ -8,7 +8,7 @@ use Rattle.fraction.specs.Orders.{position_order}
 use Rattle.fraction.proofs.OrderLemmas.{position_order_is}
 use Rattle.geometry_laws.proofs.PointOrder.{same_reflexive, same_symmetric, same_transitive, equal_is_same, less_transitive}
 use Rattle.geometry_laws.proofs.Cuts.{turn_less, not_less_self}
-use Rattle.cut_laws.proofs.Stretches.{less_left, less_right}
+use Rattle.matrix_laws.proofs.Stretches.{less_left, less_right}
 
 -- p isn't after q
 abbrev pub NotAfter : Point → Point → Type 0

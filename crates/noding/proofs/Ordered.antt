@@ -17,8 +17,8 @@ use Rattle.fraction.proofs.OrderLemmas.{point_order_is, point_ties_are}
 use Rattle.geometry_laws.proofs.Each.{Each, Among, each_at, each_of}
 use Rattle.geometry_laws.proofs.Scaling.{and_parts, and_from}
 use Rattle.geometry_laws.proofs.PointOrder.{same_symmetric}
-use Rattle.cut_laws.proofs.Lists.{Some_of, among_from_contains, contains_from_among, some_from_any, any_from_some, among_map, map_among}
-use Rattle.cut_laws.proofs.Sorted.{Sorted, pairs_from_sorted}
+use Rattle.matrix_laws.proofs.Lists.{Some_of, among_from_contains, contains_from_among, some_from_any, any_from_some, among_map, map_among}
+use Rattle.matrix_laws.proofs.Sorted.{Sorted, pairs_from_sorted}
 use Rattle.noding.specs.Nodings.{same_piece, piece_of, HasPointEnds, PutsPointsInOrder, PutsPiecesInOrder}
 
 -- an order of values that the lawful order agrees with, and when two are the same

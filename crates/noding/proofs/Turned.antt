@@ -10,7 +10,7 @@ use Rattle.fraction.specs.Ranges.{IsOnGrid, meeting_limit}
 use Rattle.geometry_laws.proofs.Scaling.{and_parts}
 use Rattle.geometry_laws.proofs.Hulls.{OnHull, on_from_hull, hull_from_on}
 use Rattle.geometry_laws.proofs.Cuts.{one_line}
-use Rattle.cut_laws.proofs.Meeting.{shares_point}
+use Rattle.matrix_laws.proofs.EdgeMeeting.{shares_point}
 use Rattle.noding.specs.Meetings.{on_both, IsMeeting}
 use Rattle.noding.specs.declared.answers.Meet.{Meet}
 use Rattle.noding.specs.declared.answers.Meet.TheVariants.{Apart, At, Along}

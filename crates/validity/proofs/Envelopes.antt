@@ -17,7 +17,7 @@ use Rattle.geometry_model.specs.declared.point_sets.Location.TheVariants.{Interi
 use Rattle.geometry_laws.specs.RingLaws.{IsClosed}
 use Rattle.geometry_laws.specs.PieceLaws.{HasClosedRings}
 use Rattle.geometry_laws.proofs.PointOrder.{same_reflexive}
-use Rattle.polygon_laws.proofs.Outside.{common_point_meets}
+use Rattle.matrix_laws.proofs.Outside.{common_point_meets}
 use Rattle.validity_laws.proofs.SharedPoints.{shared_point_is_decided}
 use Rattle.ring_tests.specs.EdgeRuns.{edges_share}
 use Rattle.ring_tests.proofs.Runs.{polygons_by_their_edges}

@@ -9,7 +9,7 @@ use Rattle.geometry_model.specs.FirstFaults.{has_fault, numbers, validity_fault}
 use Rattle.geometry_model.specs.declared.validity_faults.ValidityFault.{ValidityFault}
 use Rattle.geometry_model.specs.declared.validity_faults.ValidityFault.TheVariants.{RingNotClosed}
 use Rattle.geometry_laws.specs.PieceLaws.{HasClosedRings}
-use Rattle.polygon_laws.proofs.Closing.{closed}
+use Rattle.matrix_laws.proofs.Closing.{closed}
 use Rattle.validity.specs.CheckFaults.{fault_in, IsFaultOf, IsFirstFaultOf, IsStandingFaultOf}
 use Rattle.validity.specs.declared.check_fault.CheckFault.{CheckFault}
 use Rattle.validity_laws.specs.FaultLaws.{IsFirst}

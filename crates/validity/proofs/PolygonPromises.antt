@@ -10,15 +10,15 @@ use Rattle.geometry_model.specs.declared.point_sets.Location.TheVariants.{Interi
 use Rattle.geometry_laws.specs.RingLaws.{IsClosed, Misses}
 use Rattle.geometry_laws.proofs.Cuts.{among_from_contains, contains_of_among}
 use Rattle.geometry_laws.proofs.RingParity.{each_from_all}
-use Rattle.polygon_laws.specs.PolygonLaws.{PassesBy}
-use Rattle.polygon_laws.proofs.Areas.{interior_is_of_an_element, never_in_two}
-use Rattle.polygon_laws.proofs.Closing.{valid_rings_are_closed}
-use Rattle.polygon_laws.proofs.Holes.{holes_are_cut, hole_ring_is_inside}
-use Rattle.polygon_laws.proofs.OneElement.{element_is_valid, no_pair, only}
-use Rattle.polygon_laws.proofs.Outside.{outside_is_exterior}
-use Rattle.polygon_laws.proofs.Parting.{rings_part, sides_of_a_ring}
-use Rattle.polygon_laws.proofs.Places.{place_from_contains}
-use Rattle.polygon_laws.proofs.Stretch.{stretch_stays}
+use Rattle.matrix_laws.specs.PolygonLaws.{PassesBy}
+use Rattle.matrix_laws.proofs.AreaFacts.{interior_is_of_an_element, never_in_two}
+use Rattle.matrix_laws.proofs.Closing.{valid_rings_are_closed}
+use Rattle.matrix_laws.proofs.Holes.{holes_are_cut, hole_ring_is_inside}
+use Rattle.matrix_laws.proofs.OneElement.{element_is_valid, no_pair, only}
+use Rattle.matrix_laws.proofs.Outside.{outside_is_exterior}
+use Rattle.matrix_laws.proofs.Parting.{rings_part, sides_of_a_ring}
+use Rattle.matrix_laws.proofs.Places.{place_from_contains}
+use Rattle.matrix_laws.proofs.Stretch.{stretch_stays}
 use Rattle.validity.specs.PolygonPromises.{HolesAreCutOut, HolesAreInside, InteriorByElements, ElementsAreApart, LiesIn, StretchesStay, OutsideIsExterior, RingsPart, RingsHaveSides}
 
 -- each polygon of a valid geometry is valid by itself

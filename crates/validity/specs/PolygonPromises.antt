@@ -13,7 +13,7 @@ use Rattle.geometry_model.specs.declared.point_sets.Location.TheVariants.{Interi
 use Rattle.geometry_model.specs.declared.shapes.Kind.TheVariants.{Area}
 use Rattle.geometry_laws.specs.RingLaws.{Misses}
 use Rattle.geometry_laws.specs.CoverLaws.{NearSides, AllNearStand}
-use Rattle.polygon_laws.specs.PolygonLaws.{ArePartedAs, IsOutside, PassesBy}
+use Rattle.matrix_laws.specs.PolygonLaws.{ArePartedAs, IsOutside, PassesBy}
 
 -- the point is on none of the rings (06-103r4, 6.1.11.1)
 abbrev pub IsOffRings : List (List Position) → Point → Type 0

@@ -6,8 +6,8 @@ use Rattle.geometry_model.specs.Pieces.{stretches}
 use Rattle.geometry_model.specs.Locations.{locate}
 use Rattle.geometry_model.specs.declared.point_sets.Dimension.TheVariants.{Zero}
 use Rattle.edge_boxes.specs.BoxLists.{BoxesOf}
-use Rattle.gap_laws.specs.Gaps.{AreGaps, SharesNoStretch}
-use Rattle.cell_laws.specs.Cells.{Shows}
+use Rattle.cover_laws.specs.Gaps.{AreGaps, SharesNoStretch}
+use Rattle.matrix_laws.specs.Cells.{Shows}
 use Rattle.cover_laws.specs.Covering.{ShowsGap}
 use Rattle.cover_laws.proofs.CoveringTheorems.{full_off_covers, gaps_cover}
 use Rattle.matrices.specs.Raising.{IsOnBoth}

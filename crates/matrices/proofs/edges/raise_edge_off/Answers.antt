@@ -4,7 +4,7 @@ use Rattle.geometry_model.specs.Points.{Point}
 use Rattle.geometry_model.specs.Geometries.{Edge, edges}
 use Rattle.geometry_model.specs.Pieces.{stretches}
 use Rattle.edge_boxes.specs.BoxLists.{BoxesOf}
-use Rattle.gap_laws.specs.Gaps.{AreGaps}
+use Rattle.cover_laws.specs.Gaps.{AreGaps}
 use Rattle.matrices.specs.Raising.{ShowsGapOff}
 use Rattle.matrices.proofs.EdgePoints.{ends_kept, covers_kept}
 use Rattle.matrices.proofs.Rest.{gaps_off_cover}

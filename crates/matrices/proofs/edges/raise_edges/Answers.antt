@@ -1,7 +1,7 @@
 use Rattle.std.specs.List.{Contains}
 use Rattle.std.proofs.lemmas.List.Elements.{All-weaker, All-contains, All-contains_itself}
 use Rattle.geometry_model.specs.Geometries.{edges}
-use Rattle.cell_laws.specs.Cells.{Covers}
+use Rattle.matrix_laws.specs.Cells.{Covers}
 use Rattle.cover_laws.proofs.CoveringTheorems.{full_covers}
 use Rattle.validity.specs.ValidGeometries.{HasLength}
 use Rattle.matrices.proofs.Growth.{grows_through, all_taken}

@@ -1,6 +1,6 @@
 use Rattle.std.proofs.Common.{take}
 use Rattle.std.specs.List.{All}
-use Rattle.cell_laws.specs.Cells.{Covers}
+use Rattle.matrix_laws.specs.Cells.{Covers}
 use Rattle.matrices.specs.Raising.{Grows}
 use Rattle.matrices.proofs.edges.raise_edges.Given as goal
 

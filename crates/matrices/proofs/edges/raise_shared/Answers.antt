@@ -1,7 +1,7 @@
 use Rattle.std.proofs.Common.{refl, sym, ◌∙◌}
 use Rattle.geometry_model.specs.Locations.{locate}
 use Rattle.geometry_model.specs.declared.point_sets.Dimension.TheVariants.{Zero}
-use Rattle.cell_laws.specs.Cells.{Shows}
+use Rattle.matrix_laws.specs.Cells.{Shows}
 use Rattle.matrices.proofs.Growth.{grows_through, all_taken}
 use Rattle.matrices.proofs.EdgePoints.{ends_kept, all_shared_shown, points_more}
 use Rattle.matrices.proofs.edges.raise_shared.Goals as goal

@@ -2,7 +2,7 @@ use Rattle.std.proofs.Common.{take}
 use Rattle.std.specs.List.{All}
 use Rattle.geometry_model.specs.Locations.{locate}
 use Rattle.geometry_model.specs.declared.point_sets.Dimension.TheVariants.{Zero}
-use Rattle.cell_laws.specs.Cells.{Shows}
+use Rattle.matrix_laws.specs.Cells.{Shows}
 use Rattle.matrices.specs.Raising.{Grows}
 use Rattle.matrices.proofs.edges.raise_shared.Given as goal
 

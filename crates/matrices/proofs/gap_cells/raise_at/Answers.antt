@@ -2,8 +2,8 @@ use Rattle.std.proofs.Common.{◌∙◌, ap, sym, refl}
 use Rattle.std.proofs.lemmas.Bool.{false≢true}
 use Rattle.geometry_model.specs.Labels.{below, above}
 use Rattle.geometry_model.specs.declared.point_sets.Dimension.TheVariants.{Two}
-use Rattle.cell_laws.specs.Cells.{raised}
-use Rattle.gap_laws.specs.Gaps.{of_own_edges}
+use Rattle.matrix_laws.specs.Cells.{raised}
+use Rattle.cover_laws.specs.Gaps.{of_own_edges}
 use Rattle.matrices.proofs.OffEdges.{told_on, told_off}
 use Rattle.matrices.proofs.GapCells.{sides_are, on_upright, on_slanted, at_off, at_on}
 use Rattle.matrices.proofs.gap_cells.raise_at.Goals as goal

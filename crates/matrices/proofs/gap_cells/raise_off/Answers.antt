@@ -2,7 +2,7 @@ use Rattle.std.proofs.Common.{◌≡◌, ◌≢◌, ◌∙◌, ap, sym, rules}
 use Rattle.std.proofs.lemmas.Bool.{false≢true}
 use Rattle.geometry_model.specs.Geometries.{kind}
 use Rattle.geometry_model.specs.declared.shapes.Kind.TheVariants as kinds
-use Rattle.gap_laws.specs.Gaps.{of_own_edges}
+use Rattle.cover_laws.specs.Gaps.{of_own_edges}
 use Rattle.matrices.proofs.GapCells.{off_upright, off_one_sided, off_two_sided}
 use Rattle.matrices.proofs.gap_cells.raise_off.Goals as goal
 

@@ -1,7 +1,7 @@
 use Rattle.std.proofs.Common.{◌∙◌, ap}
 use Rattle.geometry_model.specs.Dimensions.{Matrix}
 use Rattle.geometry_model.specs.declared.point_sets.Dimension.TheVariants.{Two}
-use Rattle.cell_laws.specs.Cells.{raised}
+use Rattle.matrix_laws.specs.Cells.{raised}
 use Rattle.matrices.proofs.gap_cells.raise_sides.Goals as goal
 
 pub returns : goal.returns

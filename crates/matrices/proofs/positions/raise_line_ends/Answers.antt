@@ -2,7 +2,7 @@ use Rattle.std.proofs.Common.{refl, subst, List}
 use Rattle.std.specs.List.{All}
 use Rattle.geometry_model.specs.Points.{Position}
 use Rattle.geometry_model.specs.Locations.{ends}
-use Rattle.cell_laws.specs.Cells.{CoversPosition}
+use Rattle.matrix_laws.specs.Cells.{CoversPosition}
 use Rattle.matrices.specs.Raising.{CoversEndsOf}
 use Rattle.matrices.proofs.Growth.{grows_through, all_taken}
 use Rattle.matrices.proofs.Ends.{covers_line_more}

@@ -1,6 +1,6 @@
 use Rattle.std.proofs.Common.{◌∙◌, ap, Contains}
 use Rattle.geometry_model.specs.Geometries.{listed}
-use Rattle.cell_laws.specs.Cells.{CoversPosition}
+use Rattle.matrix_laws.specs.Cells.{CoversPosition}
 use Rattle.matrices.proofs.Growth.{grows_through, covers_more, all_taken}
 use Rattle.matrices.proofs.ListedPositions.{stands_in}
 use Rattle.matrices.proofs.positions.raise_listed.Goals as goal

@@ -1,6 +1,6 @@
 use Rattle.std.proofs.Common.{take}
 use Rattle.std.specs.List.{All}
-use Rattle.cell_laws.specs.Cells.{CoversPosition}
+use Rattle.matrix_laws.specs.Cells.{CoversPosition}
 use Rattle.matrices.specs.Raising.{Grows}
 use Rattle.matrices.proofs.positions.raise_listed.Given as goal
 

@@ -5,7 +5,7 @@ use Rattle.geometry_model.specs.declared.point_sets.Location.{Location}
 use Rattle.geometry_model.specs.declared.point_sets.Location.TheVariants.{Interior}
 use Rattle.geometry_model.specs.declared.point_sets.Dimension.TheVariants.{Zero}
 use Rattle.geometry_laws.proofs.RingParity.{position_is_point}
-use Rattle.cell_laws.specs.Cells.{Shows}
+use Rattle.matrix_laws.specs.Cells.{Shows}
 use Rattle.matrices.proofs.Growth.{grows_point, raised_one}
 use Rattle.matrices.proofs.ListedPositions.{listed_is_interior}
 use Rattle.matrices.proofs.positions.raise_listed_at.Goals as goal

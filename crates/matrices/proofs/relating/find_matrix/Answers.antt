@@ -1,7 +1,7 @@
 use Rattle.std.proofs.Common.{subst, sym, All}
 use Rattle.geometry_model.specs.Geometries.{edges}
 use Rattle.geometry_model.specs.Dimensions.{Matrix}
-use Rattle.cell_laws.specs.Cells.{IsPartOf, Covers}
+use Rattle.matrix_laws.specs.Cells.{IsPartOf, Covers}
 use Rattle.cover_laws.specs.Covering.{ShowsEnds}
 use Rattle.matrices.specs.Raising.{Grows}
 use Rattle.matrices.proofs.Passes.{ends_turned, ends_again, covered_turned, passes_give, is_matrix}

@@ -1,4 +1,0 @@
-pub mod Growing
-pub mod There
-pub mod Whole
-pub mod CellTheorems

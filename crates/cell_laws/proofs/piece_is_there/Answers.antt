@@ -1,5 +1,0 @@
-use Rattle.cell_laws.proofs.CellTheorems.{piece_is_there}
-use Rattle.cell_laws.proofs.piece_is_there.Goals as goal
-
-pub returns : goal.returns
-returns _ = piece_is_there

@@ -1,8 +1,0 @@
-use Rattle.cut_laws.proofs.PieceLists.{pieces_are_pieces, pieces_ascend}
-use Rattle.cut_laws.proofs.pieces_are_pieces.Goals as goal
-
-pub returns-clause-pieces : goal.returns-clause-pieces
-returns-clause-pieces c = pieces_are_pieces
-
-pub returns-clause-ascending : goal.returns-clause-ascending
-returns-clause-ascending c = pieces_ascend

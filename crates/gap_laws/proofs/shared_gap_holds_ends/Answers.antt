@@ -1,5 +1,0 @@
-use Rattle.gap_laws.proofs.GapTheorems.{shared_gap_holds_ends}
-use Rattle.gap_laws.proofs.shared_gap_holds_ends.Goals as goal
-
-pub returns : goal.returns
-returns _ = shared_gap_holds_ends

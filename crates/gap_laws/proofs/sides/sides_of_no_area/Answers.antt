@@ -1,5 +1,0 @@
-use Rattle.gap_laws.proofs.GapTheorems.{sides_of_no_area}
-use Rattle.gap_laws.proofs.sides.sides_of_no_area.Goals as goal
-
-pub returns : goal.returns
-returns _ = sides_of_no_area

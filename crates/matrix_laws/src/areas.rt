@@ -1,0 +1,48 @@
+//! Laws of areas and envelopes: what lies whole on one side of the rings, and what is outside.
+
+ghost use Rattle.matrix_laws.specs.PolygonLaws.{StretchStays, OutsideIsExterior, CommonPointMeets, ValidRingsAreClosed, HoleRingIsInside, HolesAreCut, RingsPart, SidesOfARing, NothingCommon};
+
+/// A straight stretch that misses a geometry lies whole in its interior or whole in its exterior (06-103r4, 6.1.11.1).
+pub fn stretch_stays()
+    ensures { StretchStays }
+{}
+
+/// A point outside the envelope of a geometry is in its exterior (06-103r4, 6.1.2.2).
+pub fn outside_is_exterior()
+    ensures { OutsideIsExterior }
+{}
+
+/// Two geometries with a common point have envelopes that meet (06-103r4, 6.1.2.2).
+pub fn common_point_meets()
+    ensures { CommonPointMeets }
+{}
+
+/// All rings of a valid geometry are closed (06-103r4, 6.1.7 and 6.1.11.1).
+pub fn valid_rings_are_closed()
+    ensures { ValidRingsAreClosed }
+{}
+
+/// In a valid area every point of an element's hole ring is odd over that element's outer ring (06-103r4, 6.1.11.1).
+pub fn hole_ring_is_inside()
+    ensures { HoleRingIsInside }
+{}
+
+/// In a valid area a point off the rings of an element is in that element's interior exactly when it is odd over the outer ring and odd over no hole (06-103r4, 6.1.11.1).
+pub fn holes_are_cut()
+    ensures { HolesAreCut }
+{}
+
+/// In a valid area, at a point strictly within a ring edge that isn't upright, exactly one of the two numbers of edges, strictly above and at or above, is odd: the rings part the interior from the exterior there (06-103r4, 6.1.11.1).
+pub fn rings_part()
+    ensures { RingsPart }
+{}
+
+/// In a valid area, at a point strictly within a ring edge that isn't upright, one of `below` and `above` is interior and the other exterior; straight below and straight above it there are, arbitrarily near, points that lie so, and all that are near enough do (06-103r4, 6.1.11.1).
+pub fn sides_of_a_ring()
+    ensures { SidesOfARing }
+{}
+
+/// Where the envelopes of two geometries don't meet, their matrix is empty in the cells of interior and boundary with interior and boundary (06-103r4, 6.1.2.2 and 6.1.15.2).
+pub fn nothing_common()
+    ensures { NothingCommon }
+{}

@@ -1,5 +1,0 @@
-use Rattle.polygon_laws.proofs.Areas.{boundary_is_of_elements}
-use Rattle.polygon_laws.proofs.elements.boundary_is_of_elements.Goals as goal
-
-pub returns : goal.returns
-returns c = boundary_is_of_elements

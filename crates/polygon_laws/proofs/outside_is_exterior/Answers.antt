@@ -1,5 +1,0 @@
-use Rattle.polygon_laws.proofs.Outside.{outside_is_exterior}
-use Rattle.polygon_laws.proofs.outside_is_exterior.Goals as goal
-
-pub returns : goal.returns
-returns c = outside_is_exterior

@@ -1,3 +1,0 @@
-pub mod PolygonLaws
-pub mod ElementLaws
-pub mod NestingLaws
