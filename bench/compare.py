@@ -25,7 +25,7 @@ NAMES = ("alma", "bern", "cork", "dale", "elm street", "fern, upper", "gull's re
 
 
 def make_table(folder, rows):
-    """Writes the schema and t.csv, its rows in a shuffled order; answers the size of t.csv in bytes."""
+    """Writes the schema and t.csv, its rows in a shuffled order; returns the size of t.csv in bytes."""
     chance = random.Random(rows)
     keys = list(range(1, rows + 1))
     chance.shuffle(keys)

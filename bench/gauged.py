@@ -16,7 +16,7 @@ JAVA = ("java", "-XX:+UseSerialGC", "-Xbatch")
 
 
 def built_peer(folder):
-    """Compiles the peer over GEOS, and answers its command; ends the program where something that it needs isn't there."""
+    """Compiles the peer over GEOS, and returns its command; ends the program where something that it needs isn't there."""
     if not GAUGE.exists():
         sys.exit("the program isn't built: run `rt run` in crates/gauge once")
     if shutil.which("gcc") is None:
@@ -27,7 +27,7 @@ def built_peer(folder):
 
 
 def java_peer(folder, jar):
-    """Compiles the peer over JTS, and answers its command; None where the compiler or the jar isn't there, which it says."""
+    """Compiles the peer over JTS, and returns its command; None where the compiler or the jar isn't there, which it says."""
     if shutil.which("javac") is None or not pathlib.Path(jar).exists():
         lacking = f"javac or {jar} isn't there (apt-get install default-jdk-headless libjts-java)"
         print(f"JTS is left out: {lacking}", file=sys.stderr)

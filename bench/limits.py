@@ -1,5 +1,5 @@
 #!/usr/bin/env python3
-"""Runs `sfq` over a table of 100,000 rows under limits of memory, and tells whether what came was an answer or
+"""Runs `sfq` over a table of 100,000 rows under limits of memory, and says whether what came was an answer or
 `out of memory`.
 
 Three queries: the deepest condition in parentheses, the deepest under NOT, and the widest select list that a query's text

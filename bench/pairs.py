@@ -1,5 +1,5 @@
 #!/usr/bin/env python3
-"""Relates random pairs of each two types in two ways, by edges and by labels, and tells where the matrices differ.
+"""Relates random pairs of each two types in two ways, by edges and by labels, and lists where the matrices differ.
 
 Geometries are drawn on a small grid, where they touch, overlap and share edges often. For each two types it draws until 10,000
 pairs are valid, prints the seed, how many were drawn and how many different matrices there were, and ends with status 1

@@ -24,14 +24,14 @@ def is_ready():
 
 
 def build_geos(folder):
-    """Compiles the peer over GEOS, and answers its path."""
+    """Compiles the peer over GEOS, and returns its path."""
     program = folder / "geos_tables"
     subprocess.run(["gcc", "-O2", "-o", str(program), str(TABLES), "-lgeos_c"], check=True)
     return program
 
 
 def spatialite_command(tables, *statements):
-    """sqlite3 with SpatiaLite, which imports the CSV of each table, its geometry as text, and answers the statements."""
+    """sqlite3 with SpatiaLite, which imports the CSV of each table, its geometry as text, and runs the statements."""
     script = [".load mod_spatialite", ".mode csv"]
     for table in tables:
         script.append(f"CREATE TABLE {table} (id INTEGER PRIMARY KEY, geom TEXT);")

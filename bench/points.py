@@ -41,7 +41,7 @@ def text_of(points):
 
 
 def run(command, text):
-    """Runs a command on this standard input; answers its output, what stands on standard error, and its processor
+    """Runs a command on this standard input; returns its output, what is on standard error, and its processor
     seconds."""
     before = resource.getrusage(resource.RUSAGE_CHILDREN)
     done = subprocess.run(command, input=text, capture_output=True, text=True)
@@ -57,7 +57,7 @@ def instructions(command, text):
     for line in run(counter + command, text)[1].splitlines():
         if "Collected :" in line:
             return int(line.split()[-1])
-    sys.exit("valgrind tells no count")
+    sys.exit("valgrind printed no count")
 
 
 def print_case(count, order):

@@ -12,7 +12,7 @@ ROOT = pathlib.Path(__file__).resolve().parent.parent
 PROGRAM = ROOT / "crates" / "sfq" / "out" / "sfq"
 
 # Runs a command and prints its wall seconds, processor seconds, peak kilobytes and status. It is a process of its own,
-# since a process starts with its parent's peak: so a peak below that of this small one can't be told.
+# since a process starts with its parent's peak: so a peak below that of this small one can't be shown.
 PROBE = """
 import os, sys, time
 begun = time.perf_counter()

@@ -122,6 +122,10 @@ Three things are left out, since nobody has to believe them: helpers of a defini
 a law ties to a definition on this page, and labels, cut points and pieces, by which the proof goes.
 Worked examples are proved by computing, in the files `src/*_examples.rt` of the two models.
 
+In the printed definitions `A × B` says both, `A → B` that A implies B, `(x : T) → ..` says it of
+every x, `¬ A` that A isn't so, and `⊥` is never so. `≡` is equality, `x ∷ xs` a list that begins
+with x, ℕ and ℤ are the whole numbers, and `pos n` is n in ℤ. `codes "T*"` is the bytes of a text.
+
 `docs/definitions.py` makes this page from the comments in the specifications. Change it there.
 """
 

@@ -132,7 +132,7 @@ STYLES = {
     "well": ("#1f3f8a", "#fff", 1),
 }
 CLAIM = "109"
-# Where the number of a parcel stands, in tenths of a step; the others have theirs in the middle of their positions.
+# Where the number of a parcel is, in tenths of a step; the others have theirs in the middle of their positions.
 NUMBERS = {
     "101": (8, 34),
     "102": (95, 5),
@@ -187,7 +187,7 @@ def draw_register():
     sheet.grid()
     for table, rows in tables.items():
         sheet.lines += [shape(sheet, table, row) for row in rows]
-    # The Glebe has the outline of the Churchyard, so one number stands for both.
+    # The Glebe has the outline of the Churchyard, so one number is for both.
     sheet.lines += [number(sheet, row) for row in tables["parcel"] if row["id"] != "113"]
     width, height = sheet.width(), sheet.height()
     body = "\n".join(sheet.lines)
