@@ -5,7 +5,7 @@ For 1,000, 10,000 and 100,000 rows of id, pop, name it makes a table, has the SE
 `sqlite3` importing the same CSV into memory, compares the rows, and prints for both wall time, processor time and
 peak memory, their ratio, and the growth from size to size. Times are the least of several runs.
 
-It needs Python's standard library, the built program (run ./sfq once), and `sqlite3` from the distribution's
+It needs Python's standard library, the built program (run ./build), and `sqlite3` from the distribution's
 packages. It is no test: the gate doesn't run it.
 """
 
@@ -59,7 +59,7 @@ def main():
     parser.add_argument("--repeats", type=int, default=5, help="runs of each command (5)")
     repeats = parser.parse_args().repeats
     if not PROGRAM.exists():
-        sys.exit("the program isn't built: run ./sfq --help once")
+        sys.exit("the program isn't built: run ./build")
     if shutil.which("sqlite3") is None:
         sys.exit("sqlite3 isn't installed: apt-get install sqlite3")
     sfq_command = [str(PROGRAM), "run", "schema.sql", ".", QUERY]

@@ -9,7 +9,7 @@ peer and to the best, the exponent by which the time of `sfq` grows in rows of t
 least of several runs. Under `--instructions` it counts the instructions of `sfq` and of GEOS instead, by valgrind. The peers
 don't test validity.
 
-It needs Python's standard library, the built program (run ./sfq once), and from the distribution's packages `gcc`,
+It needs Python's standard library, the built program (run ./build), and from the distribution's packages `gcc`,
 `libgeos-dev`, `sqlite3` and `libsqlite3-mod-spatialite`. It is no test: the gate doesn't run it.
 """
 

@@ -6,7 +6,7 @@ Three queries: the deepest condition in parentheses, the deepest under NOT, and 
 holds. Each is run with address spaces from 6 MB up. Every run has to end with status 0 and the whole answer, or with status 7
 and the line `sfq: out of memory`; what was written then has to be a beginning of the answer.
 
-It needs Python's standard library and the built program (run ./sfq once). It is no test: the gate doesn't run it.
+It needs Python's standard library and the built program (run ./build). It is no test: the gate doesn't run it.
 """
 
 import pathlib
@@ -53,7 +53,7 @@ def run(folder, query, megabytes=None):
 
 def main():
     if not PROGRAM.exists():
-        sys.exit("the program isn't built: run ./sfq --help once")
+        sys.exit("the program isn't built: run ./build")
     bad = 0
     with tempfile.TemporaryDirectory() as name:
         folder = pathlib.Path(name)

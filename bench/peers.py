@@ -17,7 +17,7 @@ SECONDS = 8
 def is_ready():
     """Ends the program where something that it needs isn't there."""
     if not PROGRAM.exists():
-        sys.exit("the program isn't built: run ./sfq --help once")
+        sys.exit("the program isn't built: run ./build")
     for tool, package in (("gcc", "gcc libgeos-dev"), ("sqlite3", "sqlite3 libsqlite3-mod-spatialite")):
         if shutil.which(tool) is None:
             sys.exit(f"{tool} isn't installed: apt-get install {package}")

@@ -7,7 +7,7 @@ the instructions grow from size to size. Growth is allowed up to that of n log n
 It ends with status 1 where a case is past that.
 
 It needs Python's standard library, `valgrind` from the distribution's packages, and the built programs: run
-`./sfq --help` once, and `rt run` once in crates/gauge. It is no test: the gate doesn't run it.
+`./build`, and `rt run` once in crates/gauge. It is no test: the gate doesn't run it.
 """
 
 import argparse
@@ -87,7 +87,7 @@ def main():
     parser = argparse.ArgumentParser(description=__doc__.splitlines()[0])
     parser.add_argument("--repeats", type=int, default=5, help="runs of each command (5)")
     repeats = parser.parse_args().repeats
-    for program, build in ((SFQ, "./sfq --help"), (GAUGE, "rt run in crates/gauge")):
+    for program, build in ((SFQ, "./build"), (GAUGE, "rt run in crates/gauge")):
         if not program.exists():
             sys.exit(f"{program.name} isn't built: run {build} once")
     if shutil.which("valgrind") is None:

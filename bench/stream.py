@@ -5,7 +5,7 @@ Over the table of `limits.py`, 100,000 rows, it runs queries that print nothing,
 counts them. For each it prints a row of a Markdown table: the lines printed, processor milliseconds, what of them is beyond
 loading (the query under LIMIT 0), and peak memory. Times are the least of several runs.
 
-It needs Python's standard library and the built program (run ./sfq once). It is no test: the gate doesn't run it.
+It needs Python's standard library and the built program (run ./build). It is no test: the gate doesn't run it.
 """
 
 import argparse
@@ -31,7 +31,7 @@ def main():
     parser.add_argument("--repeats", type=int, default=15, help="runs of each query (15)")
     repeats = parser.parse_args().repeats
     if not PROGRAM.exists():
-        sys.exit("the program isn't built: run ./sfq --help once")
+        sys.exit("the program isn't built: run ./build")
     loading = None
     with tempfile.TemporaryDirectory() as name:
         folder = pathlib.Path(name)

@@ -12,7 +12,12 @@ ROOT = os.path.dirname(os.path.dirname(os.path.realpath(__file__)))
 sys.path.insert(0, f"{ROOT}/tools")
 sys.dont_write_bytecode = True
 
+import answers
+import printed
 import repository
+
+# Calls whose answers tests look at, beside those that documents show.
+HELP_CALLS = [[], ["--help"], ["--version"], ["run", "--help"], ["check", "-h"], ["help", "relate"], ["rum"]]
 
 # A stand-in for `rt`. It notes each call, and does what the file `behaviour` beside it says, a piece of Python.
 STAND_IN = """#!{python}
@@ -46,6 +51,15 @@ def needs_build(test):
         test(self)
 
     return run
+
+
+@functools.lru_cache(maxsize=None)
+def asked():
+    """Returns the calls that documents show, their answers, and the answers to the calls of help: asked once, of one build."""
+    with tempfile.TemporaryDirectory(prefix="sfq-documents-") as room:
+        shown = printed.everything(room)
+        given = answers.ask([*(it.words for it in shown), *HELP_CALLS])
+    return shown, given[: len(shown)], dict(zip(map(tuple, HELP_CALLS), given[len(shown) :]))
 
 
 def write(path, text, mode=None):

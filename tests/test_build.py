@@ -1,6 +1,7 @@
 """./build, with a stand-in for `rt`: the order of the checks, going on after a break, installing, packages."""
 import hashlib
 import os
+import pty
 import shutil
 import subprocess
 import tarfile
@@ -111,6 +112,16 @@ class Builds(WithCheckout):
         before = len(self.checked())
         self.assertEqual(self.build().returncode, 0)
         self.assertEqual(self.checked()[before:], ["middle", "sfq"])
+
+    def test_a_terminal_shows_one_line_that_renews_itself(self):
+        ours, theirs = pty.openpty()
+        self.addCleanup(os.close, ours)
+        self.assertEqual(self.checkout.run(["build"], stdout=theirs).returncode, 0)
+        os.close(theirs)
+        shown = os.read(ours, 1 << 16)
+        self.assertRegex(shown, rb"\r\d of 4 crates proved, \d s; now [a-z_, ]+\x1b\[K")
+        self.assertNotIn(b": proved low", shown)
+        self.assertIn(b"\r\x1b[Klinking the program\r\n", shown)
 
     def test_verify_proves_a_copy_from_nothing(self):
         self.build()

@@ -13,9 +13,7 @@ class ShownCalls(unittest.TestCase):
     ASKS_PROGRAM = True
 
     def test_print_what_is_shown(self):
-        with tempfile.TemporaryDirectory(prefix="sfq-documents-") as room:
-            shown = printed.everything(room)
-            given = answers.ask([it.words for it in shown])
+        shown, given, _ = support.asked()
         for it, answer in zip(shown, given):
             text = (answer.out + answer.err).decode()
             with self.subTest(place=it.place, call=it.words):
@@ -82,8 +80,7 @@ class ProvedAndUnproved(unittest.TestCase):
     def test_write_the_same(self):
         with tempfile.TemporaryDirectory(prefix="sfq-documents-") as room:
             calls = [it.words for it in printed.everything(room)]
-            calls += [[], ["--help"], ["--version"], ["run"], ["run", "--help"], ["rum"], ["help", "check"]]
-            calls += [["relate", "a", "b", "c"], ["relate", "--", "-1", "b"], ["check", "nothing.sql", "nowhere"]]
+            calls += [*support.HELP_CALLS, ["run"], ["relate", "a", "b", "c"], ["relate", "--", "-1", "b"], ["check", "nothing.sql", "nowhere"]]
             proved, unproved = answers.by_program(calls), answers.by_one_try(calls)
         for words, one, other in zip(calls, proved, unproved):
             with self.subTest(call=words):

@@ -1,5 +1,6 @@
 """./sfq: what it hands in to an unproved build, what it passes on, and when the proved program is run."""
 import os
+import pty
 import subprocess
 import time
 
@@ -129,6 +130,18 @@ class AnswersUnproved(WithCheckout):
         ran = self.checkout.run(["sfq", "--version"], path=f"{self.checkout.room}/bin")
         self.assertEqual(ran.returncode, 1)
         self.assertIn(b"the command rt of the Rattle kit is needed", ran.stderr)
+
+    def test_a_terminal_shows_that_a_build_is_made_and_for_how_long(self):
+        self.checkout.behave(f"import time\ntime.sleep(2.5)\nfinish('FF', '{ended(0)}', 0)")
+        ours, theirs = pty.openpty()
+        self.addCleanup(os.close, ours)
+        ran = self.checkout.run(["sfq", "relate", "a", "b"], stderr=theirs)
+        os.close(theirs)
+        shown = os.read(ours, 1 << 16)
+        self.assertEqual((ran.stdout, ran.returncode), (b"FF", 0))
+        self.assertIn(b"\rsfq: making an unproved build, about a minute: 2 s\x1b[K", shown)
+        # The line is gone before the answer.
+        self.assertTrue(shown.endswith(b"\r\x1b[K" + NOTICE.replace(b"\n", b"\r\n")), shown)
 
     def test_a_call_that_is_ended_ends_rt(self):
         self.checkout.behave("import time\nopen(room + '/pid', 'w').write(str(os.getpid()))\ntime.sleep(60)")

@@ -6,8 +6,7 @@ import subprocess
 import tempfile
 import unittest
 
-from support import ROOT, needs, read
-import answers
+from support import ROOT, asked, needs, read
 import repository
 
 PAGE = f"{ROOT}/man/sfq.1"
@@ -61,7 +60,8 @@ class Help(unittest.TestCase):
     ASKS_PROGRAM = True
 
     def test_commands_and_options(self):
-        first = answers.ask([["--help"]])[0]
+        _, _, helps = asked()
+        first = helps["--help",]
         commands, options = commands_in(first.out.decode()), options_in(first.out.decode())
         self.assertIn("run", commands)
         self.assertIn(("-h", "--help"), options)
@@ -78,9 +78,30 @@ class Help(unittest.TestCase):
             for short, long in options:
                 self.assertRegex(text, rf"{long}\b|-l {long[2:]}\b", f"{name}: {long}")
                 self.assertRegex(text, rf"(?<![\w-]){short}\b|-s {short[1:]}\b", f"{name}: {short}")
+        self.assertEqual(first.status, 0)
         # Nothing that sfq doesn't have.
         words = re.search(r"compgen -W '(run [^']*)'", read(f"{ROOT}/completions/sfq.bash"))[1].split()
         self.assertEqual(sorted(words), sorted([*commands, *(it for pair in options for it in pair if it)]))
+
+
+    def test_texts_of_help(self):
+        _, _, helps = asked()
+        whole = helps["--help",].out.decode()
+        self.assertEqual(helps[()].status, 2)
+        self.assertEqual((helps[()].out, helps[()].err.decode()), (b"", whole))
+        for words, name in ((("run", "--help"), "run"), (("check", "-h"), "check"), (("help", "relate"), "relate")):
+            text, status = helps[words].out.decode(), helps[words].status
+            self.assertEqual(status, 0)
+            self.assertRegex(text, rf"(?m)^Usage: sfq {name} ")
+            self.assertRegex(text, rf"(?m)^  sfq {name} ")
+            self.assertIn("Statuses: 0 done", text)
+            self.assertIn("man sfq", text)
+        for it in ("Example", "Statuses: 0 done, 2 the command line", "man sfq"):
+            self.assertIn(it, whole)
+        self.assertEqual(helps["--version",].out.decode(), f"sfq {repository.version()}\n")
+        mistyped = helps["rum",]
+        self.assertEqual(mistyped.status, 2)
+        self.assertIn("'run'", mistyped.err.decode())
 
 
 class Completions(unittest.TestCase):

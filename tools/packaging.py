@@ -22,6 +22,10 @@ FILES = [
 ]
 
 
+# Debian's zsh looks elsewhere for the completions of its packages.
+OF_DEBIAN = {"share/zsh/site-functions/_sfq": "share/zsh/vendor-completions/_sfq"}
+
+
 def install(prefix, root=repository.ROOT):
     """Copies each file under the prefix, a file in use by replacing it."""
     for source, target, mode in FILES:
@@ -99,7 +103,7 @@ def make_deb(path, version, seconds, root):
         os.chmod(room, 0o755)
         size = 0
         for source, target, mode in FILES:
-            to = f"{room}/usr/{target}"
+            to = f"{room}/usr/{OF_DEBIAN.get(target, target)}"
             os.makedirs(os.path.dirname(to), 0o755, exist_ok=True)
             shutil.copyfile(os.path.join(root, source), to)
             os.chmod(to, mode)

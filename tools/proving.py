@@ -49,8 +49,7 @@ class Crate:
     def __init__(self, name, root, below, logic, libraries):
         self.name, self.folder, self.below = name, f"{root}/crates/{name}", below
         self.out, self.mark = f"{self.folder}/out", f"{self.folder}/out/proved"
-        # A library that others use is built in the same call that proves it.
-        self.verb = "lib" if os.path.isfile(f"{self.folder}/src/lib.rt") else "check"
+        self.verb = "check"
         self.code, self.proofs, total = 0, 0, hashlib.sha256(repr((logic, libraries)).encode())
         for path in repository.files_of(name, root):
             with open(path, "rb") as file:
@@ -106,6 +105,9 @@ def crates_of(root, logic):
     def make(name):
         if name not in made:
             below = [make(it) for it in lines[name] if it in lines]
+            for it in below:
+                # A library that others use is built in the same call that proves it.
+                it.verb = "lib"
             made[name] = Crate(name, root, below, logic, lines[name])
         return made[name]
 

@@ -223,10 +223,15 @@ entered-words (Some p) no_help passed has =
     go false false false true isnt passed has = absurd (true≢false isnt)
     go false false false false isnt passed has = absurd (true≢false (sym has))
 
+-- where a subcommand is wanted, one of the last checks refuses, and none asks for arguments
+wanted-refused : (wants_help : Bool) → check_kinds wants_help true true ≡ [] → false ≡ true
+wanted-refused true passed = cc
+wanted-refused false passed = cc
+
 -- a subcommand has to be there
 top-checked : (rows : List Row) (has : Bool) → check_fault (built sfq).top rows has ≡ [] → has ≡ true
 top-checked rows true passed = refl
-top-checked rows false passed = cc
+top-checked rows false passed = wanted-refused _ passed
 
 -- the words have an order where no step refuses them
 pub has-order : (words : List Text) → fault_of sfq words ≡ [] → HasWords (subcommand_of sfq words)

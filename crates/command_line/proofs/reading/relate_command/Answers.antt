@@ -7,8 +7,9 @@ use Rattle.command_line.proofs.reading.relate_command.Goals as goal
 
 pub returns : goal.returns
 returns c =
-    let bare_is : app_of c.about-relate.result ≡ new_app (codes "relate") = ap app_of_fields c.about-relate.ensures ∙ c.new.ensures.app in
-    let first_is = word-added c.about-relate.result c.in_ok-arg.field-0 c.first_word.result _ _ bare_is c.first_word.ensures.local
+    let bare_is : app_of c.after_help-relate.result ≡ new_app (codes "relate") =
+    ap app_of_fields c.after_help-relate.ensures ∙ ap app_of_fields c.about.ensures ∙ c.new.ensures.app in
+    let first_is = word-added c.after_help-relate.result c.in_ok-arg.field-0 c.first_word.result _ _ bare_is c.first_word.ensures.local
     c.first_word.ensures.rule c.in_ok-arg.ensures in
     IfOk-weaker c.arg-2.result _ _
     (λ command added. word-added c.in_ok-arg.field-0 command c.second_word.result _ _ first_is c.second_word.ensures.local
