@@ -18,7 +18,7 @@ pub(crate) enum Block {
     },
     /// A command, and what it has to print.
     Row {
-        /// The command, in which short forms may stand.
+        /// The command, which may have short forms.
         command: String,
         /// What it has to print.
         wanted: Vec<u8>,

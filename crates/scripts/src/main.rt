@@ -37,7 +37,7 @@ fn play_all(rt: &HostRuntime) -> io::Result<u64> {
     Ok(tally.differing())
 }
 
-// The script at a path. Where it can't be read, the path is told.
+// The script at a path. Where it can't be read, its path is printed.
 fn read_script(rt: &HostRuntime, path: &str) -> io::Result<String> {
     let script = fs::read_to_string(rt, path);
     if script.is_err() {

@@ -1,8 +1,8 @@
-//! The short forms that a script may have, and what they stand for.
+//! The short forms that a script may have, and what they mean.
 
 use std::alloc::{AllocError, Global};
 
-/// What `$S` stands for.
+/// What `$S` means.
 const SQUARE: &str = "ST_GeomFromText('POLYGON((0 0,4 0,4 4,0 4,0 0))')";
 
 /// A text with its short forms written out: `$S` as the square, `{1 to 3 of PART}` as PART three times with 1, 2 and 3
@@ -22,7 +22,7 @@ pub(crate) fn written_out(alloc: Global, text: &str) -> Result<Vec<u8>, AllocErr
     Ok(written)
 }
 
-// Adds what a form in braces stands for. One that isn't known is left as it is, without its braces.
+// Adds what a form in braces means. An unknown form is added as it is, without its braces.
 fn push_form(alloc: Global, form: &str, written: &mut Vec<u8>) -> Result<(), AllocError> {
     if let Some((first, last, part)) = repetition_of(form) {
         return push_repeated(alloc, first, last, part, written);
@@ -40,7 +40,7 @@ fn repetition_of(form: &str) -> Option<(u32, u32, &str)> {
     Some((first.parse::<u32>().ok()?, last.parse::<u32>().ok()?, part))
 }
 
-// Adds a part for each number from the first to the last, which stands for its `$`.
+// Adds a part for each number from the first to the last, with the number for its `$`.
 fn push_repeated(
     alloc: Global,
     first: u32,
