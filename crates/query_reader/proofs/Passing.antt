@@ -12,7 +12,8 @@ use Rattle.table_model.specs.declared.queries.WrittenGeometry.{WrittenGeometry}
 use Rattle.table_model.specs.declared.tokens.Token.{Token}
 use Rattle.table_model.specs.declared.tokens.TokenKind.{TokenKind}
 use Rattle.table_model.specs.declared.tokens.TokenKind.TheVariants as k
-use Rattle.query_reader.specs.Predicates.{truth, comparand, tested, given, arguments, call}
+use Rattle.query_reader.specs.Predicates.{tested, given, arguments, call}
+use Rattle.sql_tokens.specs.Comparands.{truth, comparand}
 use Rattle.query_reader.specs.declared.predicates.Function.{Function}
 use Rattle.query_reader.specs.Steps.{closed}
 

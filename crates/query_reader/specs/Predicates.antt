@@ -1,10 +1,8 @@
 -- Predicates and operands by the names of their functions, as a reader finds them.
-use Rattle.std.specs.Prelude.{ℕ, Bool, true, false, ◌&&◌, ◌==◌, if◌then◌else◌, List, [], ◌∷◌, Option, Some, None, Ok, Err, codes}
-use Rattle.std.specs.Str.Parse.{digits_value}
+use Rattle.std.specs.Prelude.{ℕ, Bool, true, false, if◌then◌else◌, List, [], ◌∷◌, Option, Some, None, codes}
 use Rattle.geometry_model.specs.declared.relations.Predicate.{Predicate}
 use Rattle.geometry_model.specs.declared.relations.Predicate.TheVariants as p
-use Rattle.table_model.specs.declared.faults.QueryFault.TheVariants as fault
-use Rattle.table_model.specs.Parsers.{place, next, sees, spelling, ◌<$>◌, ◌>>=◌, pure, eat}
+use Rattle.table_model.specs.Parsers.{place, next, ◌<$>◌, ◌>>=◌, pure}
 use Rattle.table_model.specs.QueryReading.{Reader, Functions, calls, called_or, name, column, geometry, operand_functions, relates, relates_by, truth_tested, comparison}
 use Rattle.table_model.specs.Served.{ServedCond, ServedItem, ServedOperand}
 use Rattle.table_model.specs.declared.queries.WrittenCond.{WrittenCond}
@@ -13,7 +11,7 @@ use Rattle.table_model.specs.declared.queries.WrittenItem.TheVariants as i
 use Rattle.table_model.specs.declared.queries.WrittenOperand.TheVariants as o
 use Rattle.table_model.specs.declared.queries.Name.{Name}
 use Rattle.table_model.specs.declared.tokens.Token.{Token}
-use Rattle.table_model.specs.declared.tokens.TokenKind.TheVariants as k
+use Rattle.sql_tokens.specs.Comparands.{comparand}
 use Rattle.query_reader.specs.Steps.{closed}
 use Rattle.query_reader.specs.declared.predicates.Function.{Function}
 use Rattle.query_reader.specs.declared.predicates.Function.TheVariants as f
@@ -29,23 +27,10 @@ abbrev pub named_in : List (List ℕ × Predicate) → List Token → Option Pre
 named_in [] ts = None
 named_in (n ∷ more) ts = if calls n.0 ts then Some n.1 else named_in more ts
 
--- '1' or '0' after a predicate and '=', an integer token of that value: whether the predicate is to hold
-abbrev pub truth : Reader Bool
-truth ts =
-    if sees k.Integer ts && digits_value 10 (spelling ts) == 1 then Ok (true, next ts)
-    else (if sees k.Integer ts && digits_value 10 (spelling ts) == 0 then Ok (false, next ts)
-    else Err (fault.Syntax (place ts)))
-
 -- a condition, or its NOT where it isn't to hold
 abbrev pub given : {A : Type 0} → Bool → WrittenCond A → WrittenCond A
 given true x = x
 given false x = c.Not x
-
--- what a predicate is compared with, where it is: whether the predicate is to hold
-abbrev pub comparand : Reader Bool
-comparand = do
-  compared ← eat k.Equal
-  if compared then truth else pure true
 
 -- a call whose arguments were read, and whether it is to hold
 abbrev pub tested : {A : Type 0} → A → Reader (A × Bool)

@@ -10,11 +10,11 @@ ghost use Rattle.query_reader.specs.Language.{language};
 
 use crate::comparisons::comparison;
 use crate::condition::{CondOf, WrittenCond, negated};
-use crate::numbers::truth_digit;
 use crate::operands::argument;
-use crate::terminals::{calls, closed, expect, refuse, string};
+use crate::terminals::{calls, closed, expect, string};
 use geometry_model::Predicate;
 use sql_tokens::cursor::Cursor;
+use sql_tokens::steps::comparand;
 use std::alloc::Global;
 use table_model::faults::QueryFault;
 use table_model::queries::WrittenPredicate;
@@ -31,33 +31,6 @@ const NAMED_PREDICATES: [(&[u8], Predicate); 8] = [
     (b"ST_Contains", Predicate::Contains),
     (b"ST_Overlaps", Predicate::Overlaps),
 ];
-
-/// Reads the 1 or the 0 that a predicate is compared with: whether it is to hold.
-fn truth(tokens: &mut Cursor<'_, '_>) -> Result<bool, QueryFault>
-    ensures { Reads QueryFault.OutOfMemory (names.truth tokens.old) result tokens.new }
-{
-    if !tokens.sees(TokenKind::Integer) {
-        return Err(refuse(tokens));
-    }
-    match truth_digit(tokens.spelling()) {
-        None => Err(refuse(tokens)),
-        Some(holds) => {
-            tokens.advance();
-            Ok(holds)
-        }
-    }
-}
-
-/// Reads what a predicate is compared with, where it is compared: whether it is to hold.
-fn comparand(tokens: &mut Cursor<'_, '_>) -> Result<bool, QueryFault>
-    ensures { Reads QueryFault.OutOfMemory (names.comparand tokens.old) result tokens.new }
-{
-    if tokens.eat(TokenKind::Equal) {
-        truth(tokens)
-    } else {
-        Ok(true)
-    }
-}
 
 /// Reads the right parenthesis after the arguments of a predicate, and what it is compared with: whether it is
 /// to hold. A fault is passed on.

@@ -5,38 +5,17 @@
 ghost use Rattle.std.specs.Prelude.{◌≡◌, Some, Ok, Err, IfOk, IfErr};
 ghost use Rattle.table_model.specs.Outcomes.{Gives};
 ghost use Rattle.table_model.specs.QueryReading as spec;
-ghost use Rattle.table_model.specs.Parsers as steps;
 ghost use Rattle.table_model.specs.Parsers.{Reads};
 ghost use Rattle.query_reader.specs.Steps as passing;
 
 use sql_tokens::cursor::Cursor;
+pub(crate) use sql_tokens::steps::{expect, refuse};
 use sqlite_items::Boxed;
 use std::alloc::Global;
 use table_model::faults::QueryFault;
 use table_model::queries::{Name, WrittenColumn};
 use table_model::texts::same_name;
 use table_model::tokens::TokenKind;
-
-/// The fault at the next token: no rule goes on with it.
-pub(crate) fn refuse(tokens: &Cursor<'_, '_>) -> QueryFault
-    ensures { result ≡ QueryFault.Syntax (steps.place tokens.now) }
-{
-    QueryFault::Syntax(tokens.place())
-}
-
-/// Reads a token of a kind.
-#[tactic(auto, unfolding(table_model::specs::Parsers::expect))]
-pub(crate) fn expect(tokens: &mut Cursor<'_, '_>, wanted: TokenKind) -> Result<(), QueryFault>
-    ensures { Reads QueryFault.OutOfMemory
-        (steps.expect QueryFault.Syntax wanted tokens.old) result tokens.new }
-{
-    if tokens.sees(wanted) {
-        tokens.advance();
-        Ok(())
-    } else {
-        Err(refuse(tokens))
-    }
-}
 
 /// Reads the right parenthesis after what was read in parentheses; a fault is passed on.
 pub(crate) fn closed<T: Drop>(

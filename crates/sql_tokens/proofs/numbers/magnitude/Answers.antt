@@ -1,7 +1,7 @@
 use Rattle.std.proofs.Common.{ℕ, ◌+◌, ◌*◌, ◌<◌, ◌≤◌, List, [], ◌∷◌, length, drop, get_or, drop-cons, suc, arith}
 use Rattle.std.specs.Char.{digit_value}
 use Rattle.std.specs.Str.Parse.{digits_value_after}
-use Rattle.query_reader.proofs.numbers.magnitude.Goals as goal
+use Rattle.sql_tokens.proofs.numbers.magnitude.Goals as goal
 
 -- more digits make no smaller number
 value-grows : (n : ℕ) (ds : List ℕ) → n ≤ digits_value_after 10 n ds
