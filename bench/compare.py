@@ -1,7 +1,7 @@
 #!/usr/bin/env python3
 """Measures `sfq run` beside `sqlite3` on the same CSV tables and the same SELECT.
 
-For 1,000, 10,000 and 100,000 rows of id, pop, name it makes a table, has the SELECT answered by `sfq run` and by
+For 1,000, 10,000 and 100,000 rows of id, pop, name it makes a table, has the SELECT run by `sfq run` and by
 `sqlite3` importing the same CSV into memory, compares the rows, and prints for both wall time, processor time and
 peak memory, their ratio, and the growth from size to size. Times are the least of several runs.
 
@@ -41,7 +41,7 @@ def make_table(folder, rows):
 
 
 def sqlite_command():
-    """sqlite3 importing t.csv with its types, an empty field being NULL, and answering in key order."""
+    """sqlite3 importing t.csv with its types, an empty field being NULL, and returning rows in key order."""
     script = [
         ".mode csv",
         "CREATE TABLE t (id INTEGER PRIMARY KEY, pop INTEGER, name TEXT);",

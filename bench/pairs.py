@@ -74,7 +74,7 @@ TYPES = ("POINT", "MULTIPOINT", "LINESTRING", "MULTILINESTRING", "POLYGON", "MUL
 
 
 def relate_pairs(first, second, seed, count):
-    """Relates so many valid pairs of two types; answers how many were drawn, the matrices, and the pairs that differ."""
+    """Relates so many valid pairs of two types; returns how many were drawn, the matrices, and the pairs that differ."""
     chance = random.Random(seed)
     drawn, matrices, differing = 0, [], []
     while len(matrices) < count:
