@@ -203,11 +203,12 @@ class RunsTheProgram(WithCheckout):
         self.assertTrue(self.is_run())
 
     def test_an_added_and_a_removed_file(self):
-        source = f"{self.checkout.root}/crates/low/proofs/More.antt"
-        write(source, "x\n")
-        self.assertFalse(self.is_run())
-        os.remove(source)
-        self.assertTrue(self.is_run())
+        for name, is_run in (("src/more.rt", False), ("specs/More.antt", False), ("proofs/More.antt", True)):
+            source = f"{self.checkout.root}/crates/low/{name}"
+            write(source, "x\n")
+            self.assertEqual(self.is_run(), is_run, name)
+            os.remove(source)
+            self.assertTrue(self.is_run())
 
     def test_another_program_is_not_run(self):
         write(f"{self.checkout.root}/crates/sfq/out/sfq", self.PROGRAM + "#\n", 0o755)

@@ -5,9 +5,10 @@
 program=crates/sfq/out/sfq
 stamp=crates/sfq/out/stamp
 
-# Lists what a build is made from: 'sources -print' and the like.
+# Lists what the program and its contracts are made from: 'sources -print' and the like. Proofs aren't among it: what was
+# proved once stays true when a proof is written anew.
 sources() {
-    find crates crates.txt -name out -prune -o \
+    find crates crates.txt \( -name out -o -name proofs \) -prune -o \
         -type f \( -name '*.rt' -o -name '*.antt' -o -name crates.txt \) "$@"
 }
 

@@ -13,6 +13,7 @@ from concurrent.futures import ThreadPoolExecutor
 
 import proving
 import repository
+import unproved
 
 ROOT = repository.ROOT
 PRINTING = threading.Lock()
@@ -69,7 +70,7 @@ def side_by_side(parts):
         except BaseException:
             for it in started:
                 it.cancel()
-            for it in list(CHILDREN):
+            for it in [*CHILDREN, *unproved.RUNNING]:
                 it.terminate()
             raise
 

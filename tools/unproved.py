@@ -17,6 +17,8 @@ import time
 ROOT = os.path.dirname(os.path.dirname(os.path.realpath(__file__)))
 NOTICE = "sfq: answered by an unproved build with run-time checks, made anew for each call; ./build proves and keeps the program"
 NO_ANSWER = 1
+# The calls of `rt` that run now.
+RUNNING = set()
 # The last lines of `rt try`'s standard error, after what the program wrote there.
 ENDED = re.compile(
     rb"(?:^interpreter: .*\n)?(?:^checked: .*\n)?(?:^races: .*\n)?^run=ended status=(\d+) .*proved=no\n\Z", re.M
@@ -127,6 +129,7 @@ def run_rt(words, room, waiting):
             stderr=err,
             start_new_session=True,
         )
+        RUNNING.add(child)
         try:
             begun = time.monotonic()
             while True:
@@ -136,6 +139,7 @@ def run_rt(words, room, waiting):
                 except subprocess.TimeoutExpired:
                     waiting(time.monotonic() - begun)
         finally:
+            RUNNING.discard(child)
             if child.poll() is None:
                 child.terminate()
                 child.wait()
