@@ -16,7 +16,8 @@ use Rattle.matrix_laws.specs.Cells.{at_most, Shows, IsPartOf, IsSound, Covers, C
 use Rattle.matrix_laws.proofs.Growing.{still_shown, cell_of}
 use Rattle.matrix_laws.proofs.CellTheorems.{covering_is_whole, covers_turned}
 use Rattle.cover_laws.specs.Covering.{ShowsEnds}
-use Rattle.matrices.specs.Raising.{of_exteriors, Grows, ShowsOwnEnds}
+use Rattle.matrix_cells.specs.Cells.{of_exteriors}
+use Rattle.matrices.specs.Raising.{Grows, ShowsOwnEnds}
 use Rattle.matrices.proofs.Growth.{covered_kept, part_through}
 use Rattle.matrices.proofs.Ends.{covered_ends_kept}
 use Rattle.matrices.proofs.OddEnds.{shows_odd_end}

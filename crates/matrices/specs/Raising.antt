@@ -4,21 +4,17 @@ use Rattle.geometry_model.specs.Points.{Position, Point, IsPoint, point_at}
 use Rattle.geometry_model.specs.Geometries.{Edge, Geometry, kind, edges, lines, listed}
 use Rattle.geometry_model.specs.Sides.{on}
 use Rattle.geometry_model.specs.Locations.{locate, ends}
-use Rattle.geometry_model.specs.Dimensions.{Matrix, matrix_of}
+use Rattle.geometry_model.specs.Dimensions.{Matrix}
 use Rattle.geometry_model.specs.Validity.{IsValid}
 use Rattle.geometry_model.specs.declared.shapes.Kind.{Kind}
 use Rattle.geometry_model.specs.declared.shapes.Kind.TheVariants as kinds
 use Rattle.geometry_model.specs.declared.point_sets.Location.{Location}
 use Rattle.geometry_model.specs.declared.point_sets.Location.TheVariants.{Interior, Boundary, Exterior}
-use Rattle.geometry_model.specs.declared.point_sets.Dimension.TheVariants.{Empty, Zero, Two}
+use Rattle.geometry_model.specs.declared.point_sets.Dimension.TheVariants.{Zero, Two}
 use Rattle.side_labels.specs.declared.sides.Sides.{Sides}
 use Rattle.cover_laws.specs.Gaps.{IsBetween, mostly}
 use Rattle.matrix_laws.specs.Cells.{Shows, raised, IsPartOf, IsSound, CoversPosition}
 use Rattle.cover_laws.specs.Covering.{IsOffEdges, ShowsOff}
-
--- the matrix that shows no more than that the exteriors share an area (06-103r4, 6.1.15.2)
-abbrev pub of_exteriors : Matrix
-of_exteriors = record (matrix_of (λ l k. Empty)) { exterior_exterior = Two }
 
 -- the matrix has grown so far that it shows something, and no further: it is part of each that it was part of and that shows this too
 pub record IsRaisedTo (Shown : Matrix → Type 0) (m n : Matrix) : Type 0 where

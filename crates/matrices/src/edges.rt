@@ -14,11 +14,11 @@ ghost use Rattle.matrices.specs.Raising.{Grows, IsOnBoth};
 
 use crate::fullness::{is_full_off, is_full_on, of_own_edges};
 use crate::gap_cells::{raise_gaps, raise_gaps_off};
-use crate::matrix::Matrix;
 use crate::positions::raise_point;
 use edge_gaps::Gaps;
 use fraction::RatPoint;
 use geometry_model::Dimension;
+use matrix_cells::Matrix;
 use orient::Segment;
 use std::alloc::AllocError;
 use validity::Valid;

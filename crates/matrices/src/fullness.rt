@@ -5,8 +5,8 @@ ghost use Rattle.cover_laws.specs.CoveringLaws.{IsFullOff, IsFullOn};
 ghost use Rattle.cover_laws.specs.Gaps.{of_own_edges};
 ghost use Rattle.matrices.specs.Raising.{ShowsAllOff};
 
-use crate::matrix::Matrix;
 use geometry_model::{Dimension, Kind, Location};
+use matrix_cells::Matrix;
 use validity::Valid;
 
 /// Where almost all points of its own edges lie in a geometry of this kind: in the interior of lines, on the boundary of an

@@ -11,10 +11,10 @@ ghost use Rattle.fraction.specs.Ranges.{meeting_limit};
 ghost use Rattle.matrices.specs.Raising.{Grows, IsRaisedTo, ShowsOffAt, ShowsGapOff, with_sides, off_edges};
 
 use crate::fullness::of_own_edges;
-use crate::matrix::Matrix;
 use edge_boxes::Crossings;
 use fraction::RatPoint;
 use geometry_model::{Dimension, Kind, Location};
+use matrix_cells::Matrix;
 use orient::Segment;
 use side_labels::{Sides, sides_at, sides_by};
 use validity::Valid;

@@ -5,10 +5,9 @@
 mod edges;
 mod fullness;
 mod gap_cells;
-pub mod matrix;
 mod positions;
 mod relating;
 
 pub use geometry_model::{Dimension, Location};
-pub use matrix::Matrix;
+pub use matrix_cells::Matrix;
 pub use relating::find_matrix;

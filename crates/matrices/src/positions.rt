@@ -10,9 +10,9 @@ ghost use Rattle.validity.specs.ValidGeometries.{HasLength};
 ghost use Rattle.matrix_laws.specs.Cells.{Shows, CoversPosition};
 ghost use Rattle.matrices.specs.Raising.{Grows, ShowsOwnEnds, ShowsRow, CoversEndsOf};
 
-use crate::matrix::Matrix;
 use fraction::{GridPoint, RatPoint};
 use geometry_model::{Dimension, Kind, Location};
+use matrix_cells::Matrix;
 use side_labels::locate;
 use validity::Valid;
 use wkt::LineString;

@@ -5,9 +5,9 @@ ghost use Rattle.geometry_model.specs.Dimensions.{IsMatrix};
 ghost use Rattle.geometry_model.specs.Labels.{labelled_matrix};
 
 use crate::edges::{raise_edges, raise_edges_off};
-use crate::matrix::Matrix;
 use crate::positions::raise_own_ends;
 use edge_gaps::Gaps;
+use matrix_cells::Matrix;
 use std::alloc::{AllocError, Global};
 use validity::Valid;
 

@@ -9,10 +9,10 @@ ghost use Rattle.geometry_model.specs.Validity.{IsValid};
 ghost use Rattle.noding.specs.Nodings.{piece_of};
 ghost use Rattle.side_labels.specs.Samples.{HasSample};
 
-use crate::label_lists::{Label, Labels, SideLabels};
 use crate::location::locate;
 use crate::sides::sides_at;
 use fraction::{GridPoint, RatPoint};
+use label_lists::{Label, Labels, SideLabels};
 use noding::node;
 use orient::Segment;
 use std::alloc::{AllocError, Global};
@@ -171,9 +171,9 @@ pub fn labels(alloc: Global, first: &Valid, second: &Valid) -> Result<Labels, Al
     let segments = segments_of_both(alloc, first, second)?;
     let listed = listed_of_both(alloc, first, second)?;
     let noded = node(alloc, segments.as_slice(), listed.as_slice())?;
-    Ok(Labels {
-        points: labels_of_points(alloc, first, second, noded.nodes())?,
-        pieces: labels_of_pieces(alloc, first, second, noded.pieces())?,
-        sides: labels_of_sides(alloc, first, second, noded.pieces())?,
-    })
+    Ok(Labels::of_lists(
+        labels_of_points(alloc, first, second, noded.nodes())?,
+        labels_of_pieces(alloc, first, second, noded.pieces())?,
+        labels_of_sides(alloc, first, second, noded.pieces())?,
+    ))
 }

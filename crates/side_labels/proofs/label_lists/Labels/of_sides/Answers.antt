@@ -1,5 +1,0 @@
-use Rattle.std.proofs.Common.{rules}
-use Rattle.side_labels.proofs.label_lists.Labels.of_sides.Goals as goal
-
-pub returns : goal.returns
-returns c = search rules
