@@ -11,15 +11,18 @@ use Rattle.geometry_model.specs.Geometries.{Geometry}
 use Rattle.sinks.specs.Sinks.{AppendsFront}
 use Rattle.table_model.proofs.PlaceFacts.{meant_gives_limited}
 use Rattle.table_model.specs.AnswerTexts.{answer, header, record_of}
+use Rattle.table_model.specs.Arguments.{denoted}
 use Rattle.table_model.specs.Binding.{Checked, ◌>>=◌, binding, statement}
 use Rattle.table_model.specs.Databases.{Database, load_tables}
-use Rattle.table_model.specs.GeometryColumns.{ColumnShape}
+use Rattle.table_model.specs.GeometryColumns.{ColumnShape, geometry_binding, geometry_writing, read_geometry}
 use Rattle.table_model.specs.Loading.{Record}
 use Rattle.table_model.specs.Places.{Choice, meant, query_rows}
 use Rattle.table_model.specs.Plans.{chosen}
 use Rattle.table_model.specs.QueryReading.{query_of}
 use Rattle.table_model.specs.ExplainTexts.{explain_text}
+use Rattle.table_model.specs.Queries.{SelectQuery}
 use Rattle.table_model.specs.RunOutcomes.{MatrixOf, Refusal, OfQuery, OfTable, after, answer_text, counted_text, loaded_outcome, outcome, query_outcome, text_for}
+use Rattle.table_model.specs.SpatialTables.{SpatialDatabase, SpatialQuery, SpatialSchema, SpatialStatement}
 use Rattle.table_model.specs.Statements.{Statement, by_conjuncts}
 use Rattle.table_model.specs.Truths.{truth}
 use Rattle.table_model.specs.declared.conditions.Bound.{Bound}
@@ -41,28 +44,11 @@ use Rattle.feature_table.specs.Outcomes.{IsFailure, is_of_reading}
 use Rattle.feature_table.specs.Tables.{EarlierLoad}
 use Rattle.engine.specs.Faults.{load_wants_memory, memory_or, of_put, of_query, of_table, wants_memory}
 use Rattle.engine.specs.Runs.{Counts, IsOfTables, IsReached, RefusesTable, Runs, answer_work, bound_text, choice_text, count_text, loaded_work, none_reached, planned_text, planned_work, query_work, rows_of_choices, rows_text, work_outcome}
-use Rattle.engine.specs.Serving.{record_text, serving}
+use Rattle.engine.specs.RecordTexts.{record_text}
 use Rattle.engine.specs.declared.run_fault.Fault.{Fault}
 use Rattle.engine.specs.declared.run_fault.Fault.TheVariants as faults
 use Rattle.records.specs.declared.put_fault.PutFault.{PutFault}
 use Rattle.records.specs.declared.put_fault.PutFault.TheVariants as put
-
--- ---- what is served
-
-abbrev pub Definitions : Type 0
-Definitions = List (TableDef ColumnShape)
-
-abbrev pub Served : Type 0
-Served = Database ColumnShape Geometry
-
-abbrev pub Written : Type 0
-Written = Query WrittenGeometry WrittenColumn
-
-abbrev pub Stated : Type 0
-Stated = Statement (GeometryArgument Geometry) ColumnPlace
-
-abbrev pub Joined : Type 0
-Joined = Bound (GeometryArgument Geometry) ColumnPlace
 
 -- ---- faults
 
@@ -132,20 +118,20 @@ load-of-tables count f within = go (load_wants_memory f.fault)
 -- ---- texts
 
 -- the header and the records of the rows are the records of the answer
-pub listed-text : (database : Served) (bound : Joined) (choices : List Choice) → bound.counts ≡ false
-    → record_text (header serving.writing database.definitions bound) ++ concat (map (choice_text serving database bound) choices)
-    ≡ rows_text serving database bound (rows_of_choices database bound choices)
+pub listed-text : (database : SpatialDatabase) (bound : SpatialQuery) (choices : List Choice) → bound.counts ≡ false
+    → record_text (header geometry_writing database.definitions bound) ++ concat (map (choice_text database bound) choices)
+    ≡ rows_text database bound (rows_of_choices database bound choices)
 listed-text database bound choices is =
     let rows = query_rows database.tables bound in
-    let listed = record_of serving.writing bound in
-    let these : map (choice_text serving database bound) choices ≡ map record_text (map listed (map rows choices)) =
+    let listed = record_of geometry_writing bound in
+    let these : map (choice_text database bound) choices ≡ map record_text (map listed (map rows choices)) =
     sym (map-map (λ r. record_text (listed r)) rows choices)
     ∙ sym (map-map record_text listed (map rows choices)) in
-    ap (λ l. record_text (header serving.writing database.definitions bound) ++ concat l) these ∙ rw is refl
+    ap (λ l. record_text (header geometry_writing database.definitions bound) ++ concat l) these ∙ rw is refl
 
 -- the header of COUNT(*) and the record of the number are the records of the answer
-pub counted-text : (database : Served) (bound : Joined) (choices : List Choice) → bound.counts ≡ true
-    → count_text bound.limit (length choices) ≡ rows_text serving database bound (rows_of_choices database bound choices)
+pub counted-text : (database : SpatialDatabase) (bound : SpatialQuery) (choices : List Choice) → bound.counts ≡ true
+    → count_text bound.limit (length choices) ≡ rows_text database bound (rows_of_choices database bound choices)
 counted-text database bound choices is =
     ap (count_text bound.limit) (sym (length-map choices (query_rows database.tables bound))) ∙ rw is refl
 
@@ -156,74 +142,74 @@ number-text (Some zero) count other = absurd (other refl)
 number-text (Some (suc n)) count other = ap (λ l. record_text (codes "COUNT(*)" ∷ []) ++ l) (sym (append-nil (record_text (decimal count ∷ []))))
 
 -- the rows at the places that a query means are those that its conjuncts pass, under LIMIT
-pub meant-text : (matrix : MatrixOf) (database : Served) (bound : Joined) (choices : List Choice)
-    → choices ≡ meant (truth matrix serving.denotes) database.tables bound
-    → rows_text serving database bound (rows_of_choices database bound choices) ≡ bound_text serving matrix database bound
+pub meant-text : (matrix : MatrixOf) (database : SpatialDatabase) (bound : SpatialQuery) (choices : List Choice)
+    → choices ≡ meant (truth matrix denoted) database.tables bound
+    → rows_text database bound (rows_of_choices database bound choices) ≡ bound_text matrix database bound
 meant-text matrix database bound choices are =
-    ap (rows_text serving database bound)
+    ap (rows_text database bound)
     (ap (map (query_rows database.tables bound)) are
-    ∙ meant_gives_limited (truth matrix serving.denotes) database.tables bound)
+    ∙ meant_gives_limited (truth matrix denoted) database.tables bound)
 
 -- ---- queries
 
 -- the answer of a query of which this is the chosen plan
-chosen-text : (matrix : MatrixOf) (database : Served) (stated : Stated) (plan : Plan) (explain : Explain) → chosen database.tables (by_conjuncts stated) ≡ Some plan
-    → text_for explain record_text serving matrix database stated ≡ planned_text explain serving matrix database (by_conjuncts stated) plan
+chosen-text : (matrix : MatrixOf) (database : SpatialDatabase) (stated : SpatialStatement) (plan : Plan) (explain : Explain) → chosen database.tables (by_conjuncts stated) ≡ Some plan
+    → text_for explain record_text matrix database stated ≡ planned_text explain matrix database (by_conjuncts stated) plan
 chosen-text matrix database stated plan explains.No is =
-    ap (rows_text serving database (by_conjuncts stated)) (meaning_by_conjuncts Geometry (GeometryArgument Geometry) ColumnPlace matrix serving.denotes database.tables stated)
+    ap (rows_text database (by_conjuncts stated)) (meaning_by_conjuncts Geometry (GeometryArgument Geometry) ColumnPlace matrix denoted database.tables stated)
 chosen-text matrix database stated plan explains.Plan is = ap (λ p. option_map_or (explain_text (by_conjuncts stated)) p []) is
-chosen-text matrix database stated plan explains.Analyze is = ap (λ p. option_map_or (counted_text serving matrix database.tables stated) p []) is
+chosen-text matrix database stated plan explains.Analyze is = ap (λ p. option_map_or (counted_text matrix database.tables stated) p []) is
 
--- what a query is bound to is the query as it is written, by its conjuncts
-stated-after : {X : Type 0} (s : Checked Stated) (bound : Joined) (of : Stated → X) (planned : Joined → X) → (s >>= (λ stated. Ok (by_conjuncts stated))) ≡ Ok bound
-    → ((stated : Stated) → by_conjuncts stated ≡ bound → of stated ≡ planned bound) → after OfQuery s (λ q. Ok (of q)) ≡ Ok (planned bound)
+-- what a query is bound to is the query as it stands, by its conjuncts
+stated-after : {X : Type 0} (s : Checked SpatialStatement) (bound : SpatialQuery) (of : SpatialStatement → X) (planned : SpatialQuery → X) → (s >>= (λ stated. Ok (by_conjuncts stated))) ≡ Ok bound
+    → ((stated : SpatialStatement) → by_conjuncts stated ≡ bound → of stated ≡ planned bound) → after OfQuery s (λ q. Ok (of q)) ≡ Ok (planned bound)
 stated-after (Ok stated) bound of planned is same =
     let these : by_conjuncts stated ≡ bound = cc is in
     ap Ok (same stated these)
 stated-after (Err e) bound of planned is same = cc is
 
 -- what a query is bound to is its statement by its conjuncts
-bound-stated : (written : Written) (definitions : Definitions) (bound : Joined) → binding serving.binding definitions written ≡ Ok bound
-    → (statement serving.binding definitions written >>= (λ stated. Ok (by_conjuncts stated))) ≡ Ok bound
+bound-stated : (written : SelectQuery) (definitions : SpatialSchema) (bound : SpatialQuery) → binding geometry_binding definitions written ≡ Ok bound
+    → (statement geometry_binding definitions written >>= (λ stated. Ok (by_conjuncts stated))) ≡ Ok bound
 bound-stated written definitions bound is =
-    sym (bound_of_statement ColumnShape WrittenGeometry (GeometryArgument Geometry) WrittenColumn ColumnPlace serving.binding definitions written) ∙ is
+    sym (bound_of_statement ColumnShape WrittenGeometry (GeometryArgument Geometry) WrittenColumn ColumnPlace geometry_binding definitions written) ∙ is
 
 -- the outcome of a query that is bound, of which this is the chosen plan
-pub bound-outcome : (matrix : MatrixOf) (written : Written) (database : Served) (bound : Joined) (plan : Plan) → binding serving.binding database.definitions written ≡ Ok bound
-    → chosen database.tables bound ≡ Some plan → query_outcome record_text serving matrix written database ≡ Ok (planned_text bound.explain serving matrix database bound plan)
+pub bound-outcome : (matrix : MatrixOf) (written : SelectQuery) (database : SpatialDatabase) (bound : SpatialQuery) (plan : Plan) → binding geometry_binding database.definitions written ≡ Ok bound
+    → chosen database.tables bound ≡ Some plan → query_outcome record_text matrix written database ≡ Ok (planned_text bound.explain matrix database bound plan)
 bound-outcome matrix written database bound plan is first =
-    stated-after (statement serving.binding database.definitions written) bound (λ q. answer_text record_text serving matrix database q)
-    (λ b. planned_text b.explain serving matrix database b plan) (bound-stated written database.definitions bound is)
+    stated-after (statement geometry_binding database.definitions written) bound (λ q. answer_text record_text matrix database q)
+    (λ b. planned_text b.explain matrix database b plan) (bound-stated written database.definitions bound is)
     (λ stated same.
     chosen-text matrix database stated plan stated.explain (ap (chosen database.tables) same ∙ first)
-    ∙ ap (λ b. planned_text b.explain serving matrix database b plan) same)
+    ∙ ap (λ b. planned_text b.explain matrix database b plan) same)
 
 -- and its work
-pub bound-work : (matrix : MatrixOf) (written : Written) (database : Served) (bound : Joined) (plan : Plan) → binding serving.binding database.definitions written ≡ Ok bound
-    → chosen database.tables bound ≡ Some plan → query_work serving matrix written database ≡ Ok (planned_work bound.explain serving matrix database.tables bound plan)
+pub bound-work : (matrix : MatrixOf) (written : SelectQuery) (database : SpatialDatabase) (bound : SpatialQuery) (plan : Plan) → binding geometry_binding database.definitions written ≡ Ok bound
+    → chosen database.tables bound ≡ Some plan → query_work matrix written database ≡ Ok (planned_work bound.explain matrix database.tables bound plan)
 bound-work matrix written database bound plan is first =
-    stated-after (statement serving.binding database.definitions written) bound (λ q. answer_work serving matrix database.tables q)
-    (λ b. planned_work b.explain serving matrix database.tables b plan) (bound-stated written database.definitions bound is)
+    stated-after (statement geometry_binding database.definitions written) bound (λ q. answer_work matrix database.tables q)
+    (λ b. planned_work b.explain matrix database.tables b plan) (bound-stated written database.definitions bound is)
     (λ stated same.
-    ap (λ p. option_map_or (planned_work stated.explain serving matrix database.tables (by_conjuncts stated)) p 0) (ap (chosen database.tables) same ∙ first)
-    ∙ ap (λ b. planned_work b.explain serving matrix database.tables b plan) same)
+    ap (λ p. option_map_or (planned_work stated.explain matrix database.tables (by_conjuncts stated)) p 0) (ap (chosen database.tables) same ∙ first)
+    ∙ ap (λ b. planned_work b.explain matrix database.tables b plan) same)
 
 same-error : {X : Type 0} (r : Checked X) (one other : QueryFault) → r ≡ Err one → r ≡ Err other → one ≡ other
 same-error r one other is also = cc
 
 -- a query that isn't bound isn't stated either, by the same fault
-stated-fault : (bound : Checked Joined) (s : Checked Stated) (e : QueryFault) → bound ≡ (s >>= (λ stated. Ok (by_conjuncts stated))) → bound ≡ Err e → s ≡ Err e
+stated-fault : (bound : Checked SpatialQuery) (s : Checked SpatialStatement) (e : QueryFault) → bound ≡ (s >>= (λ stated. Ok (by_conjuncts stated))) → bound ≡ Err e → s ≡ Err e
 stated-fault bound (Ok stated) e are is = cc
 stated-fault bound (Err other) e are is = ap Err (same-error bound other e are is)
 
 -- a query that isn't bound
-pub unbound-runs : {A : Type 0} (r : Result A Fault) (e : QueryFault) (matrix : MatrixOf) (written : Written) (database : Served) (old : Option (List ℕ)) → IsErrAnd r (λ x. x ≡ of_query e)
-    → (e ≢ query.OutOfMemory → binding serving.binding database.definitions written ≡ Err e) → Runs r (query_outcome record_text serving matrix written database) none_reached old old
+pub unbound-runs : {A : Type 0} (r : Result A Fault) (e : QueryFault) (matrix : MatrixOf) (written : SelectQuery) (database : SpatialDatabase) (old : Option (List ℕ)) → IsErrAnd r (λ x. x ≡ of_query e)
+    → (e ≢ query.OutOfMemory → binding geometry_binding database.definitions written ≡ Err e) → Runs r (query_outcome record_text matrix written database) none_reached old old
 unbound-runs {A = A} r e matrix written database old is given =
-    at-fault r (of_query e) (query_outcome record_text serving matrix written database) none_reached old old is
-    (query-refused A e (statement serving.binding database.definitions written) (λ q. Ok (answer_text record_text serving matrix database q)) none_reached old
-    (λ other. stated-fault (binding serving.binding database.definitions written) (statement serving.binding database.definitions written) e
-    (bound_of_statement ColumnShape WrittenGeometry (GeometryArgument Geometry) WrittenColumn ColumnPlace serving.binding database.definitions written) (given other)))
+    at-fault r (of_query e) (query_outcome record_text matrix written database) none_reached old old is
+    (query-refused A e (statement geometry_binding database.definitions written) (λ q. Ok (answer_text record_text matrix database q)) none_reached old
+    (λ other. stated-fault (binding geometry_binding database.definitions written) (statement geometry_binding database.definitions written) e
+    (bound_of_statement ColumnShape WrittenGeometry (GeometryArgument Geometry) WrittenColumn ColumnPlace geometry_binding database.definitions written) (given other)))
 
 -- ---- tables
 
@@ -253,36 +239,36 @@ table-refused {A = A} r f answer next reached old is given there =
 -- ---- runs
 
 -- the outcome of a run once the query is read, and once the tables are loaded
-read-outcome : (matrix : MatrixOf) (definitions : Definitions) (records : List (List Record)) (text : List ℕ) (written : Written)
-    → query_of serving.language text ≡ Ok written → outcome record_text serving matrix definitions records text ≡ loaded_outcome record_text serving matrix definitions records written
-read-outcome matrix definitions records text written is = ap (λ r. after OfQuery r (loaded_outcome record_text serving matrix definitions records)) is
+read-outcome : (matrix : MatrixOf) (definitions : SpatialSchema) (records : List (List Record)) (text : List ℕ) (written : SelectQuery)
+    → query_of text ≡ Ok written → outcome record_text matrix definitions records text ≡ loaded_outcome record_text matrix definitions records written
+read-outcome matrix definitions records text written is = ap (λ r. after OfQuery r (loaded_outcome record_text matrix definitions records)) is
 
 -- once the tables are loaded, the outcome is that of the query over them
-loaded-is : (matrix : MatrixOf) (database : Served) (definitions : Definitions) (records : List (List Record)) (written : Written)
-    → load_tables serving.reading definitions records ≡ Ok database.tables → database.definitions ≡ definitions
-    → query_outcome record_text serving matrix written database ≡ loaded_outcome record_text serving matrix definitions records written
+loaded-is : (matrix : MatrixOf) (database : SpatialDatabase) (definitions : SpatialSchema) (records : List (List Record)) (written : SelectQuery)
+    → load_tables read_geometry definitions records ≡ Ok database.tables → database.definitions ≡ definitions
+    → query_outcome record_text matrix written database ≡ loaded_outcome record_text matrix definitions records written
 loaded-is matrix database definitions records written loaded same =
-    ap (λ ds. query_outcome record_text serving matrix written (record { definitions = ds; tables = database.tables })) same
-    ∙ sym (ap (λ r. after OfTable r (λ tables. query_outcome record_text serving matrix written (record { definitions = definitions; tables = tables }))) loaded)
+    ap (λ ds. query_outcome record_text matrix written (record { definitions = ds; tables = database.tables })) same
+    ∙ sym (ap (λ r. after OfTable r (λ tables. query_outcome record_text matrix written (record { definitions = definitions; tables = tables }))) loaded)
 
 -- a query that isn't read
-pub unread-runs : {A : Type 0} (r : Result A Fault) (e : QueryFault) (matrix : MatrixOf) (definitions : Definitions) (records : List (List Record)) (text : List ℕ) (old : Option (List ℕ))
-    → IsErrAnd r (λ x. x ≡ of_query e) → (e ≢ query.OutOfMemory → query_of serving.language text ≡ Err e)
-    → Runs r (outcome record_text serving matrix definitions records text) (IsReached serving definitions records text) old old
+pub unread-runs : {A : Type 0} (r : Result A Fault) (e : QueryFault) (matrix : MatrixOf) (definitions : SpatialSchema) (records : List (List Record)) (text : List ℕ) (old : Option (List ℕ))
+    → IsErrAnd r (λ x. x ≡ of_query e) → (e ≢ query.OutOfMemory → query_of text ≡ Err e)
+    → Runs r (outcome record_text matrix definitions records text) (IsReached definitions records text) old old
 unread-runs {A = A} r e matrix definitions records text old is given =
-    at-fault r (of_query e) (outcome record_text serving matrix definitions records text) (IsReached serving definitions records text) old old is
-    (query-refused A e (query_of serving.language text) (loaded_outcome record_text serving matrix definitions records) (IsReached serving definitions records text) old given)
+    at-fault r (of_query e) (outcome record_text matrix definitions records text) (IsReached definitions records text) old old is
+    (query-refused A e (query_of text) (loaded_outcome record_text matrix definitions records) (IsReached definitions records text) old given)
 
 -- a table that isn't loaded: the query has been read, and each table before it has loaded
-pub unloaded-runs : {A : Type 0} (r : Result A Fault) (f : TableFault) (matrix : MatrixOf) (definitions : Definitions) (records : List (List Record)) (text : List ℕ) (written : Written)
-    (old : Option (List ℕ)) → IsErrAnd r (λ x. x ≡ of_table f) → query_of serving.language text ≡ Ok written → (¬ (IsFailure f.fault) → load_tables serving.reading definitions records ≡ Err f)
-    → f.table < length definitions → EarlierLoad serving.reading definitions records f.table
-    → Runs r (outcome record_text serving matrix definitions records text) (IsReached serving definitions records text) old old
+pub unloaded-runs : {A : Type 0} (r : Result A Fault) (f : TableFault) (matrix : MatrixOf) (definitions : SpatialSchema) (records : List (List Record)) (text : List ℕ) (written : SelectQuery)
+    (old : Option (List ℕ)) → IsErrAnd r (λ x. x ≡ of_table f) → query_of text ≡ Ok written → (¬ (IsFailure f.fault) → load_tables read_geometry definitions records ≡ Err f)
+    → f.table < length definitions → EarlierLoad read_geometry definitions records f.table
+    → Runs r (outcome record_text matrix definitions records text) (IsReached definitions records text) old old
 unloaded-runs r f matrix definitions records text written old is read given within earlier =
-    let accepted : IsOk (query_of serving.language text) = subst (λ x. IsOk x) (sym read) refl in
-    subst (λ o. Runs r o (IsReached serving definitions records text) old old) (sym (read-outcome matrix definitions records text written read))
-    (table-refused r f (load_tables serving.reading definitions records)
-    (λ tables. query_outcome record_text serving matrix written (record { definitions = definitions; tables = tables })) (IsReached serving definitions records text) old is given (accepted, within, earlier))
+    let accepted : IsOk (query_of text) = subst (λ x. IsOk x) (sym read) refl in
+    subst (λ o. Runs r o (IsReached definitions records text) old old) (sym (read-outcome matrix definitions records text written read))
+    (table-refused r f (load_tables read_geometry definitions records)
+    (λ tables. query_outcome record_text matrix written (record { definitions = definitions; tables = tables })) (IsReached definitions records text) old is given (accepted, within, earlier))
 
 -- a table that is refused where none is read may be refused where some are
 refuses-more : (unread : Bool) (reached : Type 0) (outcome : Result (List ℕ) Refusal) (fault : TableFault) → RefusesTable unread ⊥ outcome fault → RefusesTable unread reached outcome fault
@@ -300,26 +286,26 @@ reaches-more (Err faults.Sink) outcome reached old new fact = fact
 reaches-more (Err faults.Memory) outcome reached old new fact = fact
 
 -- a run over tables that have loaded is that of the query over them
-pub loaded-runs : {A : Type 0} (r : Result A Fault) (matrix : MatrixOf) (database : Served) (definitions : Definitions) (records : List (List Record)) (text : List ℕ) (written : Written)
-    (old new : Option (List ℕ)) → query_of serving.language text ≡ Ok written → load_tables serving.reading definitions records ≡ Ok database.tables → database.definitions ≡ definitions
-    → Runs r (query_outcome record_text serving matrix written database) none_reached old new
-    → Runs r (outcome record_text serving matrix definitions records text) (IsReached serving definitions records text) old new
+pub loaded-runs : {A : Type 0} (r : Result A Fault) (matrix : MatrixOf) (database : SpatialDatabase) (definitions : SpatialSchema) (records : List (List Record)) (text : List ℕ) (written : SelectQuery)
+    (old new : Option (List ℕ)) → query_of text ≡ Ok written → load_tables read_geometry definitions records ≡ Ok database.tables → database.definitions ≡ definitions
+    → Runs r (query_outcome record_text matrix written database) none_reached old new
+    → Runs r (outcome record_text matrix definitions records text) (IsReached definitions records text) old new
 loaded-runs r matrix database definitions records text written old new is loaded same fact =
-    reaches-more r (outcome record_text serving matrix definitions records text) (IsReached serving definitions records text) old new
+    reaches-more r (outcome record_text matrix definitions records text) (IsReached definitions records text) old new
     (subst (λ o. Runs r o none_reached old new)
     (loaded-is matrix database definitions records written loaded same ∙ sym (read-outcome matrix definitions records text written is)) fact)
 
 -- ---- work
 
 -- the work of a run over tables that have loaded is that of the query over them
-pub loaded-counts : (r : Result ℕ Fault) (matrix : MatrixOf) (database : Served) (definitions : Definitions) (records : List (List Record)) (text : List ℕ) (written : Written)
-    → query_of serving.language text ≡ Ok written → load_tables serving.reading definitions records ≡ Ok database.tables → database.definitions ≡ definitions
-    → Counts r (query_work serving matrix written database) → Counts r (work_outcome serving matrix definitions records text)
+pub loaded-counts : (r : Result ℕ Fault) (matrix : MatrixOf) (database : SpatialDatabase) (definitions : SpatialSchema) (records : List (List Record)) (text : List ℕ) (written : SelectQuery)
+    → query_of text ≡ Ok written → load_tables read_geometry definitions records ≡ Ok database.tables → database.definitions ≡ definitions
+    → Counts r (query_work matrix written database) → Counts r (work_outcome matrix definitions records text)
 loaded-counts r matrix database definitions records text written is loaded same fact =
-    let tables : query_work serving matrix written database ≡ loaded_work serving matrix definitions records written =
-    ap (λ ds. query_work serving matrix written (record { definitions = ds; tables = database.tables })) same
-    ∙ sym (ap (λ t. after OfTable t (λ tables. query_work serving matrix written (record { definitions = definitions; tables = tables }))) loaded) in
-    subst (Counts r) (tables ∙ sym (ap (λ q. after OfQuery q (loaded_work serving matrix definitions records)) is)) fact
+    let tables : query_work matrix written database ≡ loaded_work matrix definitions records written =
+    ap (λ ds. query_work matrix written (record { definitions = ds; tables = database.tables })) same
+    ∙ sym (ap (λ t. after OfTable t (λ tables. query_work matrix written (record { definitions = definitions; tables = tables }))) loaded) in
+    subst (Counts r) (tables ∙ sym (ap (λ q. after OfQuery q (loaded_work matrix definitions records)) is)) fact
 
 -- where a run ends in a fault nothing is said of its work
 pub no-count : (r : Result ℕ Fault) (f : Fault) (work : Result ℕ Refusal) → IsErrAnd r (λ x. x ≡ f) → Counts r work

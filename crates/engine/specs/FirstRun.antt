@@ -4,8 +4,7 @@ use Rattle.geometry_model.specs.Labels.{labelled_matrix}
 use Rattle.table_model.specs.BindingExamples.{towns}
 use Rattle.table_model.specs.FirstRunExamples.{BoundQuery, town_rows}
 use Rattle.engine.specs.Runs.{bound_text}
-use Rattle.engine.specs.Serving.{serving}
 
 -- the text of the answer of a query over the table of towns
 abbrev pub town_text : BoundQuery → List ℕ
-town_text = bound_text serving labelled_matrix (record { definitions = towns; tables = town_rows ∷ [] })
+town_text = bound_text labelled_matrix (record { definitions = towns; tables = town_rows ∷ [] })

@@ -1,5 +1,5 @@
 pub mod Failures
-pub mod Serving
+pub mod RecordTexts
 pub mod AnswerFields
 pub mod Puts
 pub mod Runs

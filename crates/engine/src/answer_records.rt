@@ -5,10 +5,10 @@ ghost use Rattle.std.specs.Fmt.{signed_decimal};
 ghost use Rattle.csv.specs.Records.{fields_of, partial_of};
 ghost use Rattle.geometry_model.specs.CanonicalText.{canonical_text};
 ghost use Rattle.table_model.specs.AnswerTexts.{column_name, column_header, field_text, function_text, header, item_header, item_text, record_of, reference_header};
+ghost use Rattle.table_model.specs.GeometryColumns.{geometry_writing};
 ghost use Rattle.table_model.specs.Truths.{dimension, field_at};
 ghost use Rattle.feature_table.specs.Cells.{shown};
 ghost use Rattle.engine.specs.AnswerFields.{dimension_text, emptiness_text};
-ghost use Rattle.engine.specs.Serving.{serving};
 
 use csv::ByteRecord;
 use feature_table::{Field, Geometry, Row, TableDef};
@@ -25,7 +25,7 @@ pub fn header_record(
     definitions: &[TableDef],
     query: &Bound,
 ) -> Result<ByteRecord, AllocError>
-    ensures { IfOk result (λ r. fields_of r ≡ header serving.writing definitions.now query.now) }
+    ensures { IfOk result (λ r. fields_of r ≡ header geometry_writing definitions.now query.now) }
 {
     let mut fields = ByteRecord::new(alloc);
     for item in query.items.as_slice() {
@@ -43,7 +43,7 @@ pub fn row_record(
     query: &Bound,
     rows: &[Row<'_>],
 ) -> Result<(), AllocError>
-    ensures { OnOk result (fields_of fields.new ≡ record_of serving.writing query.now rows.now) }
+    ensures { OnOk result (fields_of fields.new ≡ record_of geometry_writing query.now rows.now) }
 {
     fields.clear();
     for item in query.items.as_slice() {
@@ -60,7 +60,7 @@ fn item_header(
     item: &Item<ColumnPlace>,
 ) -> Result<Vec<u8>, AllocError>
     ensures { IfOk result
-        (λ text. text.items ≡ item_header serving.writing definitions.now references.now item.now) }
+        (λ text. text.items ≡ item_header geometry_writing definitions.now references.now item.now) }
 {
     match item {
         Item::Column(place) => column_header(alloc, definitions, references, *place),
@@ -155,7 +155,7 @@ fn push_item(
 ) -> Result<(), AllocError>
     requires { partial_of fields.old ≡ [] }
     ensures fields { OnOk result
-        (fields_of fields.new ≡ fields_of fields.old ++ item_text serving.writing rows.now item.now ∷ []) }
+        (fields_of fields.new ≡ fields_of fields.old ++ item_text geometry_writing rows.now item.now ∷ []) }
     ensures partial { OnOk result (partial_of fields.new ≡ []) }
 {
     match item {
@@ -182,7 +182,7 @@ fn field_at<'a>(rows: &'a [Row<'_>], place: ColumnPlace) -> Field<'a>
 fn push_field(alloc: Global, fields: &mut ByteRecord, field: Field<'_>) -> Result<(), AllocError>
     requires { partial_of fields.old ≡ [] }
     ensures fields { OnOk result
-        (fields_of fields.new ≡ fields_of fields.old ++ field_text serving.writing (shown field.entry) ∷ []) }
+        (fields_of fields.new ≡ fields_of fields.old ++ field_text geometry_writing (shown field.entry) ∷ []) }
     ensures partial { OnOk result (partial_of fields.new ≡ []) }
 {
     match field {

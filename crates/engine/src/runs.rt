@@ -5,14 +5,16 @@ ghost use Rattle.csv.specs.Records.{fields_of};
 ghost use Rattle.std.specs.List.{concat};
 ghost use Rattle.engine.specs.Puts.{PutsText};
 ghost use Rattle.engine.specs.Runs.{AnswersQuery, CountsOver, CountsQuery, IsOfTables, RunsOver, bound_text, choice_text, count_after, count_text, planned_text, planned_work, rows_of_choices, rows_text};
-ghost use Rattle.engine.specs.Serving.{record_text, serving};
+ghost use Rattle.engine.specs.RecordTexts.{record_text};
 ghost use Rattle.executor.specs.Pairs.{HasReferences, IsPlace, pair_rows};
 ghost use Rattle.executor.specs.Streams.{to_come, work_at_end};
 ghost use Rattle.feature_table.specs.Tables.{EachRecordsOf, records_in};
 ghost use Rattle.records.specs.RecordWriters.{CountsPut, IsReady};
 ghost use Rattle.table_model.specs.AnswerTexts.{record_of};
+ghost use Rattle.table_model.specs.Arguments.{denoted};
 ghost use Rattle.table_model.specs.BoundQueries.{IsBound, geometry_fits};
 ghost use Rattle.table_model.specs.ExplainTexts.{analyze_text, explain_text};
+ghost use Rattle.table_model.specs.GeometryColumns.{geometry_writing};
 ghost use Rattle.table_model.specs.Loading.{Record};
 ghost use Rattle.table_model.specs.Meanings.{referenced};
 ghost use Rattle.table_model.specs.Plans.{IsLawful};
@@ -51,13 +53,13 @@ pub fn run<I: EnvelopeIndex + Drop, R: Read + Drop, S: Sink>(
 ) -> Result<Work, Fault>
     requires { length readers.items ≡ length schema.now }
     ensures texts { (texts : List (List ℕ)) → map R.remaining readers.items ≡ map Some texts
-        → RunsOver serving result schema.now (map records_in texts) query.now
+        → RunsOver result schema.now (map records_in texts) query.now
         (S.taken sink.old) (S.taken sink.new) }
     ensures work { (texts : List (List ℕ)) → map R.remaining readers.items ≡ map Some texts
-        → CountsOver serving result schema.now (map records_in texts) query.now }
+        → CountsOver result schema.now (map records_in texts) query.now }
     ensures records { (records : List (List Record)) × EachRecordsOf (map R.remaining readers.items) records
-        × RunsOver serving result schema.now records query.now (S.taken sink.old) (S.taken sink.new)
-        × CountsOver serving result schema.now records query.now }
+        × RunsOver result schema.now records query.now (S.taken sink.old) (S.taken sink.new)
+        × CountsOver result schema.now records query.now }
     ensures failures { S.failures sink.new ≡ count_after (S.failures sink.old) result }
     ensures table { IfErr result (IsOfTables (length schema.now)) }
 {
@@ -74,17 +76,17 @@ fn load_and_answer<I: EnvelopeIndex + Drop, R: Read + Drop, S: Sink>(
     sink: &mut S,
 ) -> Result<Work, Fault>
     requires { length readers.items ≡ length schema.now }
-    ensures texts { (text : List ℕ) (texts : List (List ℕ)) → query_of serving.language text ≡ Ok query.now
+    ensures texts { (text : List ℕ) (texts : List (List ℕ)) → query_of text ≡ Ok query.now
         → map R.remaining readers.items ≡ map Some texts
-        → RunsOver serving result schema.now (map records_in texts) text (S.taken sink.old)
+        → RunsOver result schema.now (map records_in texts) text (S.taken sink.old)
         (S.taken sink.new) }
-    ensures work { (text : List ℕ) (texts : List (List ℕ)) → query_of serving.language text ≡ Ok query.now
+    ensures work { (text : List ℕ) (texts : List (List ℕ)) → query_of text ≡ Ok query.now
         → map R.remaining readers.items ≡ map Some texts
-        → CountsOver serving result schema.now (map records_in texts) text }
-    ensures records { (text : List ℕ) → query_of serving.language text ≡ Ok query.now
+        → CountsOver result schema.now (map records_in texts) text }
+    ensures records { (text : List ℕ) → query_of text ≡ Ok query.now
         → (records : List (List Record)) × EachRecordsOf (map R.remaining readers.items) records
-        × RunsOver serving result schema.now records text (S.taken sink.old) (S.taken sink.new)
-        × CountsOver serving result schema.now records text }
+        × RunsOver result schema.now records text (S.taken sink.old) (S.taken sink.new)
+        × CountsOver result schema.now records text }
     ensures failures { S.failures sink.new ≡ count_after (S.failures sink.old) result }
     ensures table { IfErr result (IsOfTables (length schema.now)) }
 {
@@ -100,9 +102,9 @@ fn answer_query<I: EnvelopeIndex + Drop, S: Sink>(
     database: &Database<'_, I>,
     sink: &mut S,
 ) -> Result<Work, Fault>
-    ensures answer { AnswersQuery serving result database.now query.now
+    ensures answer { AnswersQuery result database.now query.now
         (S.taken sink.old) (S.taken sink.new) }
-    ensures work { CountsQuery serving result database.now query.now }
+    ensures work { CountsQuery result database.now query.now }
     ensures failures { S.failures sink.new ≡ count_after (S.failures sink.old) result }
     ensures table { (count : ℕ) → IfErr result (IsOfTables count) }
 {
@@ -123,11 +125,11 @@ fn put_planned<I: EnvelopeIndex + Drop, S: Sink>(
     requires bound { IsBound geometry_fits database.now.definitions query.now }
     requires lawful { IsLawful database.now.tables query.now plan.now }
     ensures text { ByEveryMatrix (λ matrix. PutsText result
-        (planned_text query.now.explain serving matrix database.now query.now plan.now)
+        (planned_text query.now.explain matrix database.now query.now plan.now)
         (S.taken sink.old) (S.taken sink.new) (S.failures sink.old) (S.failures sink.new)) }
     ensures failures { CountsPut (S.failures sink.old) (S.failures sink.new) result }
     ensures work { ByEveryMatrix (λ matrix. IfOk result (λ n. n
-        ≡ planned_work query.now.explain serving matrix database.now.tables query.now plan.now)) }
+        ≡ planned_work query.now.explain matrix database.now.tables query.now plan.now)) }
 {
     match query.explain {
         Explain::No => put_rows(alloc, database, query, plan, sink),
@@ -147,11 +149,11 @@ fn put_rows<I: EnvelopeIndex + Drop, S: Sink>(
     requires bound { IsBound geometry_fits database.now.definitions query.now }
     requires lawful { IsLawful database.now.tables query.now plan.now }
     ensures text { ByEveryMatrix (λ matrix. PutsText result
-        (bound_text serving matrix database.now query.now)
+        (bound_text matrix database.now query.now)
         (S.taken sink.old) (S.taken sink.new) (S.failures sink.old) (S.failures sink.new)) }
     ensures failures { CountsPut (S.failures sink.old) (S.failures sink.new) result }
     ensures work { ByEveryMatrix (λ matrix. IfOk result (λ n. n
-        ≡ kept_count (spec.work matrix serving.denotes database.now.tables query.now plan.now))) }
+        ≡ kept_count (spec.work matrix denoted database.now.tables query.now plan.now))) }
 {
     let mut rows = Rows::new(alloc, database, query, plan, Work::new());
     put_answer(alloc, database, query, &mut rows, sink)?;
@@ -179,11 +181,11 @@ fn put_analysis<I: EnvelopeIndex + Drop, S: Sink>(
     requires bound { IsBound geometry_fits database.now.definitions query.now }
     requires lawful { IsLawful database.now.tables query.now plan.now }
     ensures text { ByEveryMatrix (λ matrix. PutsText result (analyze_text query.now plan.now
-        (kept_count (spec.work matrix serving.denotes database.now.tables query.now plan.now)))
+        (kept_count (spec.work matrix denoted database.now.tables query.now plan.now)))
         (S.taken sink.old) (S.taken sink.new) (S.failures sink.old) (S.failures sink.new)) }
     ensures failures { CountsPut (S.failures sink.old) (S.failures sink.new) result }
     ensures work { ByEveryMatrix (λ matrix. IfOk result (λ n. n
-        ≡ kept_count (spec.work matrix serving.denotes database.now.tables query.now plan.now))) }
+        ≡ kept_count (spec.work matrix denoted database.now.tables query.now plan.now))) }
 {
     let mut rows = Rows::new(alloc, database, query, plan, Work::new());
     count_rows(&mut rows)?;
@@ -204,7 +206,7 @@ fn put_answer<I: EnvelopeIndex + Drop, S: Sink>(
     requires references { HasReferences database.now.definitions query.now.references }
     requires tables { rows.old.tables ≡ referenced database.now.tables query.now.references }
     ensures text { ByEveryMatrix (λ matrix. PutsText result
-        (rows_text serving database.now query.now
+        (rows_text database.now query.now
         (rows_of_choices database.now query.now (to_come matrix rows.old)))
         (S.taken sink.old) (S.taken sink.new) (S.failures sink.old) (S.failures sink.new)) }
     ensures work { ByEveryMatrix (λ matrix. OnOk result (rows.new.work ≡ work_at_end matrix rows.old)) }
@@ -293,7 +295,7 @@ fn put_records<I: EnvelopeIndex + Drop, S: Sink>(
     requires references { HasReferences database.now.definitions query.now.references }
     requires tables { rows.old.tables ≡ referenced database.now.tables query.now.references }
     ensures text { ByEveryMatrix (λ matrix. PutsText result
-        (concat (map (choice_text serving database.now query.now) (to_come matrix rows.old)))
+        (concat (map (choice_text database.now query.now) (to_come matrix rows.old)))
         (S.taken sink.old) (S.taken sink.new) (S.failures sink.old) (S.failures sink.new)) }
     ensures work { ByEveryMatrix (λ matrix. OnOk result (rows.new.work ≡ work_at_end matrix rows.old)) }
 {
@@ -317,7 +319,7 @@ fn pair_record<I: EnvelopeIndex + Drop>(
     requires references { HasReferences database.now.definitions query.now.references }
     requires place { IsPlace (referenced database.now.tables query.now.references) pair }
     ensures { OnOk result (fields_of fields.new
-        ≡ record_of serving.writing query.now
+        ≡ record_of geometry_writing query.now
         (pair_rows (referenced database.now.tables query.now.references) pair)) }
 {
     let references = query.references.as_slice();

@@ -26,7 +26,7 @@ use Rattle.table_model.specs.declared.tokens.TokenKind.TheVariants as k
 use Rattle.table_model.specs.Parsers.{kind, place, spelling, next, written, sees, after, and_then, expect, parts_from}
 use Rattle.table_model.specs.QueryGrammar.{IsName, IsColumn, IsDigits, IsInteger, IsString, IsCall, IsGeometry, IsOperandFunction, IsOperand, IsComparison, function_of, IsPair, IsBool, IsNumber, IsTest, IsPredicate, IsChain, IsConjunction, IsConditionOf, IsNegationOf, IsNegation, IsCondition, IsItemFunction, IsItem, IsSelection, IsReference, IsCrossed, IsJoined, IsSecond, IsWhere, IsRowCount, IsLimit, IsExplain, IsSelect}
 use Rattle.table_model.specs.QueryReading.{Reader, Functions, name, column, calls, called_or, enclosed, string, geometry, integer, operand_functions, operand, comparison_of, compared, null_test, comparison, truth_value, truth_test, truth_tested, relates, relates_by, predicate_functions, predicate, chain, conjunction, condition_of, group, negation, condition, item_functions, item, items, counted, count_function, selection, alias, reference, Second, crossed, joined_on, second, where_condition, limit_value, limit_number, limited, says, explained, query}
-use Rattle.table_model.specs.Served.{Served, Argument, ItemArgument, ServedOperand, ServedCond, ServedItem, ServedQuery}
+use Rattle.table_model.specs.Queries.{Condition, ConditionOperand, SelectItem, SelectQuery}
 use Rattle.table_model.specs.Texts.{same_name}
 use Rattle.table_model.specs.Tokens.{same_kind}
 use Rattle.grammar_laws.proofs.QuerySound.{Begins, one_begins, seq_begins, BeginsOperand, operand_begins, word_begins, place_is, IsMade, IsTwo, IsThree, named, patterned, empties, IsCounted, IsBoth, IsJoin}
@@ -286,36 +286,36 @@ digits_complete A negative n [] tail p = absurd p
 digits_complete A negative n (u ∷ []) tail (digits, is) = rw (is_kind u.kind k.Integer digits, is) refl
 digits_complete A negative n (u ∷ v ∷ more) tail p = absurd p
 
--- The kind of the next token alone says how an operand is read; for each kind that one begins with. A word: a function or a column
-operand_of_word : (functions : Bool) (ts : List Token) → kind ts ≡ k.Word
-    → operand functions ts ≡ called_or (operand_functions functions (place ts)) (λ l. and_then (column l) (λ x rest. Ok (o.Column x, rest))) ts
+-- The kind of the next token alone tells how an operand is read; for each kind that one begins with. A word: a function or a column
+operand_of_word : (ts : List Token) → kind ts ≡ k.Word
+    → operand ts ≡ called_or (operand_functions (place ts)) (λ l. and_then (column l) (λ x rest. Ok (o.Column x, rest))) ts
 unfolding operand sees same_kind
-operand_of_word functions ts e = rw e refl
+operand_of_word ts e = rw e refl
 
 -- digits: an integer without a sign
-pub operand_of_digits : (functions : Bool) (ts : List Token) → kind ts ≡ k.Integer → operand functions ts ≡ integer false ts
+pub operand_of_digits : (ts : List Token) → kind ts ≡ k.Integer → operand ts ≡ integer false ts
 unfolding operand sees same_kind
-operand_of_digits functions ts e = rw e refl
+operand_of_digits ts e = rw e refl
 
 -- a plus: the digits behind it
-pub operand_of_plus : (functions : Bool) (ts : List Token) → kind ts ≡ k.Plus → operand functions ts ≡ integer false (next ts)
+pub operand_of_plus : (ts : List Token) → kind ts ≡ k.Plus → operand ts ≡ integer false (next ts)
 unfolding operand sees same_kind
-operand_of_plus functions ts e = rw e refl
+operand_of_plus ts e = rw e refl
 
 -- a minus: the digits behind it, negated
-pub operand_of_minus : (functions : Bool) (ts : List Token) → kind ts ≡ k.Minus → operand functions ts ≡ integer true (next ts)
+pub operand_of_minus : (ts : List Token) → kind ts ≡ k.Minus → operand ts ≡ integer true (next ts)
 unfolding operand sees same_kind
-operand_of_minus functions ts e = rw e refl
+operand_of_minus ts e = rw e refl
 
 -- a string is the operand itself
-operand_of_text : (functions : Bool) (ts : List Token) → kind ts ≡ k.Text → operand functions ts ≡ Ok (o.Text (written ts), next ts)
+operand_of_text : (ts : List Token) → kind ts ≡ k.Text → operand ts ≡ Ok (o.Text (written ts), next ts)
 unfolding operand sees same_kind
-operand_of_text functions ts e = rw e refl
+operand_of_text ts e = rw e refl
 
 -- so is NULL
-operand_of_null : (functions : Bool) (ts : List Token) → kind ts ≡ k.Null → operand functions ts ≡ Ok (o.Null, next ts)
+operand_of_null : (ts : List Token) → kind ts ≡ k.Null → operand ts ≡ Ok (o.Null, next ts)
 unfolding operand sees same_kind
-operand_of_null functions ts e = rw e refl
+operand_of_null ts e = rw e refl
 
 -- a column begins with a word
 column_word : (x : WrittenColumn) (ts : List Token) → IsColumn x ts → Begins (λ kind. kind ≡ k.Word) ts
@@ -327,47 +327,47 @@ call_word : (function : List ℕ) (P : Phrase) (ts : List Token) → IsCall func
 call_word function P ts p = seq_begins (λ kind. kind ≡ k.Word) (IsWord function) _ (one_begins (λ kind. kind ≡ k.Word) _ (λ t q. q.0)) ts p
 
 -- a column is read as an operand: it begins with a word and calls no function
-column_operand : (functions : Bool) (x : WrittenColumn) (used : List Token) (t : Token) (rest : List Token) → IsColumn x used → EndsColumn t.kind
-    → operand functions (used ++ t ∷ rest) ≡ Ok (o.Column x, t ∷ rest)
-column_operand functions x used t rest p f =
-    operand_of_word functions (used ++ t ∷ rest) (kind_after k.Word used (t ∷ rest) (column_word x used p))
-    ∙ none_called (operand_functions functions (place (used ++ t ∷ rest))) (λ l. and_then (column l) (λ x rest. Ok (o.Column x, rest))) (used ++ t ∷ rest) (column_uncalled x used t rest p f)
+column_operand : (x : WrittenColumn) (used : List Token) (t : Token) (rest : List Token) → IsColumn x used → EndsColumn t.kind
+    → operand (used ++ t ∷ rest) ≡ Ok (o.Column x, t ∷ rest)
+column_operand x used t rest p f =
+    operand_of_word (used ++ t ∷ rest) (kind_after k.Word used (t ∷ rest) (column_word x used p))
+    ∙ none_called (operand_functions (place (used ++ t ∷ rest))) (λ l. and_then (column l) (λ x rest. Ok (o.Column x, rest))) (used ++ t ∷ rest) (column_uncalled x used t rest p f)
     ∙ ap (λ r. and_then r (λ x rest. Ok (o.Column x, rest))) (column_complete x used t rest p f)
 
 pub digits_begin : (negative : Bool) (n : ℤ) (ts : List Token) → IsDigits negative n ts → Begins (λ kind. kind ≡ k.Integer) ts
 digits_begin negative n ts p = one_begins (λ kind. kind ≡ k.Integer) _ (λ t q. q.0) ts p
 
 -- digits after a sign
-signed_complete : (functions : Bool) (sign : TokenKind) (negative : Bool) (n : ℤ) (used tail : List Token)
-    → ((ts : List Token) → kind ts ≡ sign → operand functions ts ≡ integer negative (next ts)) → (IsToken sign ▸ IsDigits negative n) used
-    → operand functions (used ++ tail) ≡ Ok (o.Integer n, tail)
+signed_complete : (sign : TokenKind) (negative : Bool) (n : ℤ) (used tail : List Token)
+    → ((ts : List Token) → kind ts ≡ sign → operand ts ≡ integer negative (next ts)) → (IsToken sign ▸ IsDigits negative n) used
+    → operand (used ++ tail) ≡ Ok (o.Integer n, tail)
 unfolding kind next
-signed_complete functions sign negative n used tail begins p = go (one_first _ (IsDigits negative n) used p)
+signed_complete sign negative n used tail begins p = go (one_first _ (IsDigits negative n) used p)
   where
-    go : ((m : Token) × (d : List Token) × (used ≡ m ∷ d) × (m.kind ≡ sign) × IsDigits negative n d) → operand functions (used ++ tail) ≡ Ok (o.Integer n, tail)
+    go : ((m : Token) × (d : List Token) × (used ≡ m ∷ d) × (m.kind ≡ sign) × IsDigits negative n d) → operand (used ++ tail) ≡ Ok (o.Integer n, tail)
     go (m, d, e, signs, q) =
-        ap (λ ts. operand functions (ts ++ tail)) e ∙ begins (m ∷ (d ++ tail)) signs ∙ digits_complete (Argument functions) negative n d tail q
+        ap (λ ts. operand (ts ++ tail)) e ∙ begins (m ∷ (d ++ tail)) signs ∙ digits_complete WrittenGeometry negative n d tail q
 
 -- an integer is read as an operand, without a sign or with either
-integer_operand : (functions : Bool) (n : ℤ) (used tail : List Token) → IsInteger n used → operand functions (used ++ tail) ≡ Ok (o.Integer n, tail)
-integer_operand functions n used tail (inl p) =
-    operand_of_digits functions (used ++ tail) (kind_after k.Integer used tail (digits_begin false n used p)) ∙ digits_complete (Argument functions) false n used tail p
-integer_operand functions n used tail (inr (inl p)) = signed_complete functions k.Plus false n used tail (operand_of_plus functions) p
-integer_operand functions n used tail (inr (inr p)) = signed_complete functions k.Minus true n used tail (operand_of_minus functions) p
+integer_operand : (n : ℤ) (used tail : List Token) → IsInteger n used → operand (used ++ tail) ≡ Ok (o.Integer n, tail)
+integer_operand n used tail (inl p) =
+    operand_of_digits (used ++ tail) (kind_after k.Integer used tail (digits_begin false n used p)) ∙ digits_complete WrittenGeometry false n used tail p
+integer_operand n used tail (inr (inl p)) = signed_complete k.Plus false n used tail operand_of_plus p
+integer_operand n used tail (inr (inr p)) = signed_complete k.Minus true n used tail operand_of_minus p
 
 -- a string is read as an operand
-text_operand : (functions : Bool) (x : Name) (used tail : List Token) → IsString x used → operand functions (used ++ tail) ≡ Ok (o.Text x, tail)
+text_operand : (x : Name) (used tail : List Token) → IsString x used → operand (used ++ tail) ≡ Ok (o.Text x, tail)
 unfolding kind next place spelling
-text_operand functions x [] tail p = absurd p
-text_operand functions x (u ∷ []) tail (text, is) = operand_of_text functions (u ∷ tail) text ∙ ap (λ y. Ok (o.Text y, tail)) (sym is)
-text_operand functions x (u ∷ v ∷ more) tail p = absurd p
+text_operand x [] tail p = absurd p
+text_operand x (u ∷ []) tail (text, is) = operand_of_text (u ∷ tail) text ∙ ap (λ y. Ok (o.Text y, tail)) (sym is)
+text_operand x (u ∷ v ∷ more) tail p = absurd p
 
 -- NULL is read as an operand
-null_operand : (functions : Bool) (used tail : List Token) → IsToken k.Null used → operand functions (used ++ tail) ≡ Ok (o.Null, tail)
+null_operand : (used tail : List Token) → IsToken k.Null used → operand (used ++ tail) ≡ Ok (o.Null, tail)
 unfolding kind next
-null_operand functions [] tail p = absurd p
-null_operand functions (u ∷ []) tail p = operand_of_null functions (u ∷ tail) p
-null_operand functions (u ∷ v ∷ more) tail p = absurd p
+null_operand [] tail p = absurd p
+null_operand (u ∷ []) tail p = operand_of_null (u ∷ tail) p
+null_operand (u ∷ v ∷ more) tail p = absurd p
 
 -- where a reader reads an argument, the tree that is made of it is read too
 made_whole : {A B : Type 0} (f : B → A) (reader : Reader B) (P : B → Phrase) → Complete reader P EndsArgument → Complete (λ l. and_then (reader l) (λ y rest. Ok (f y, rest))) (IsMade f P) EndsArgument
@@ -399,18 +399,17 @@ geometry_whole : Complete geometry IsGeometry EndsArgument
 geometry_whole = ends_argument geometry IsGeometry geometry_complete
 
 -- ST_AsText and ST_Dimension are read as operands: each is called by its own name and the other isn't
-function_operand : (functions : Bool) (x : ServedOperand functions) (used : List Token) (t : Token) (rest : List Token) → IsOperandFunction functions x used
-    → operand functions (used ++ t ∷ rest) ≡ Ok (x, t ∷ rest)
+function_operand : (x : ConditionOperand) (used : List Token) (t : Token) (rest : List Token) → IsOperandFunction x used
+    → operand (used ++ t ∷ rest) ≡ Ok (x, t ∷ rest)
 unfolding same_name
-function_operand false x used t rest p = absurd p
-function_operand true x used t rest (inl (y, e, p)) =
-    operand_of_word true (used ++ t ∷ rest) (kind_after k.Word used (t ∷ rest) (call_word (codes "ST_AsText") (IsGeometry y) used p))
-    ∙ made_called (operand_functions true) (λ l. and_then (column l) (λ z rest. Ok (o.Column z, rest))) (codes "ST_AsText") o.AsText geometry IsGeometry y used (t ∷ rest) geometry_whole p
+function_operand x used t rest (inl (y, e, p)) =
+    operand_of_word (used ++ t ∷ rest) (kind_after k.Word used (t ∷ rest) (call_word (codes "ST_AsText") (IsGeometry y) used p))
+    ∙ made_called operand_functions (λ l. and_then (column l) (λ z rest. Ok (o.Column z, rest))) (codes "ST_AsText") o.AsText geometry IsGeometry y used (t ∷ rest) geometry_whole p
     (λ at ts here. inl (ap (calls (codes "ST_AsText")) here ∙ call_hit (codes "ST_AsText") (IsGeometry y) used (t ∷ rest) p, refl))
     ∙ ap (λ z. Ok (z, t ∷ rest)) (sym e)
-function_operand true x used t rest (inr (y, e, p)) =
-    operand_of_word true (used ++ t ∷ rest) (kind_after k.Word used (t ∷ rest) (call_word (codes "ST_Dimension") (IsGeometry y) used p))
-    ∙ made_called (operand_functions true) (λ l. and_then (column l) (λ z rest. Ok (o.Column z, rest))) (codes "ST_Dimension") o.Dimension geometry IsGeometry y used (t ∷ rest) geometry_whole p
+function_operand x used t rest (inr (y, e, p)) =
+    operand_of_word (used ++ t ∷ rest) (kind_after k.Word used (t ∷ rest) (call_word (codes "ST_Dimension") (IsGeometry y) used p))
+    ∙ made_called operand_functions (λ l. and_then (column l) (λ z rest. Ok (o.Column z, rest))) (codes "ST_Dimension") o.Dimension geometry IsGeometry y used (t ∷ rest) geometry_whole p
     (λ at ts here. inr (
       ap (calls (codes "ST_AsText")) here ∙ call_miss (codes "ST_Dimension") (codes "ST_AsText") (IsGeometry y) used (t ∷ rest) p refl,
       inl (ap (calls (codes "ST_Dimension")) here ∙ call_hit (codes "ST_Dimension") (IsGeometry y) used (t ∷ rest) p, refl),
@@ -418,12 +417,12 @@ function_operand true x used t rest (inr (y, e, p)) =
     ∙ ap (λ z. Ok (z, t ∷ rest)) (sym e)
 
 -- each alternative of an operand is read as that operand: the kind of its first token tells them apart, and for a word, what it calls
-pub operand_complete : (functions : Bool) → Complete (operand functions) (IsOperand functions) EndsColumn
-operand_complete functions x used t rest (inl (column, e, p)) f = column_operand functions column used t rest p f ∙ ap (λ y. Ok (y, t ∷ rest)) (sym e)
-operand_complete functions x used t rest (inr (inl (n, e, p))) f = integer_operand functions n used (t ∷ rest) p ∙ ap (λ y. Ok (y, t ∷ rest)) (sym e)
-operand_complete functions x used t rest (inr (inr (inl (text, e, p)))) f = text_operand functions text used (t ∷ rest) p ∙ ap (λ y. Ok (y, t ∷ rest)) (sym e)
-operand_complete functions x used t rest (inr (inr (inr (inl (e, p))))) f = null_operand functions used (t ∷ rest) p ∙ ap (λ y. Ok (y, t ∷ rest)) (sym e)
-operand_complete functions x used t rest (inr (inr (inr (inr p)))) f = function_operand functions x used t rest p
+pub operand_complete : Complete operand IsOperand EndsColumn
+operand_complete x used t rest (inl (column, e, p)) f = column_operand column used t rest p f ∙ ap (λ y. Ok (y, t ∷ rest)) (sym e)
+operand_complete x used t rest (inr (inl (n, e, p))) f = integer_operand n used (t ∷ rest) p ∙ ap (λ y. Ok (y, t ∷ rest)) (sym e)
+operand_complete x used t rest (inr (inr (inl (text, e, p)))) f = text_operand text used (t ∷ rest) p ∙ ap (λ y. Ok (y, t ∷ rest)) (sym e)
+operand_complete x used t rest (inr (inr (inr (inl (e, p))))) f = null_operand used (t ∷ rest) p ∙ ap (λ y. Ok (y, t ∷ rest)) (sym e)
+operand_complete x used t rest (inr (inr (inr (inr p)))) f = function_operand x used t rest p
 
 -- ---- comparisons
 
@@ -436,27 +435,27 @@ compares_ends k.Is comparison e = absurd (cc)
 compares_ends _ comparison e = ((refl, refl), refl)
 
 -- an operand, a sign and an operand are read as that comparison: the sign ends the left side
-compare_complete : (functions : Bool) (sign : Comparison) (left right : ServedOperand functions) (a d : List Token) (m t : Token) (rest : List Token)
-    → IsOperand functions left a → comparison_of m.kind ≡ Some sign → IsOperand functions right d → EndsColumn t.kind
-    → comparison functions (a ++ m ∷ (d ++ t ∷ rest)) ≡ Ok (c.Compare (place (a ++ m ∷ (d ++ t ∷ rest))) sign left right, t ∷ rest)
+compare_complete : (sign : Comparison) (left right : ConditionOperand) (a d : List Token) (m t : Token) (rest : List Token)
+    → IsOperand left a → comparison_of m.kind ≡ Some sign → IsOperand right d → EndsColumn t.kind
+    → comparison (a ++ m ∷ (d ++ t ∷ rest)) ≡ Ok (c.Compare (place (a ++ m ∷ (d ++ t ∷ rest))) sign left right, t ∷ rest)
 unfolding comparison compared after sees kind next
-compare_complete functions sign left right a d m t rest p e q f =
+compare_complete sign left right a d m t rest p e q f =
     let ends = compares_ends m.kind sign e in
-    rw (operand_complete functions left a m (d ++ t ∷ rest) p ends.0, ends.1, e, operand_complete functions right d t rest q f) refl
+    rw (operand_complete left a m (d ++ t ∷ rest) p ends.0, ends.1, e, operand_complete right d t rest q f) refl
 
 -- an operand with IS NULL is read as a test for NULL: IS ends the operand
-null_complete : (functions : Bool) (operand : ServedOperand functions) (a : List Token) (m n t : Token) (rest : List Token)
-    → IsOperand functions operand a → m.kind ≡ k.Is → n.kind ≡ k.Null → comparison functions (a ++ m ∷ n ∷ t ∷ rest) ≡ Ok (c.IsNull operand, t ∷ rest)
+null_complete : (operand : ConditionOperand) (a : List Token) (m n t : Token) (rest : List Token)
+    → IsOperand operand a → m.kind ≡ k.Is → n.kind ≡ k.Null → comparison (a ++ m ∷ n ∷ t ∷ rest) ≡ Ok (c.IsNull operand, t ∷ rest)
 unfolding comparison null_test expect after sees kind next same_kind
-null_complete functions operand a m n t rest p is null =
-    rw (operand_complete functions operand a m (n ∷ t ∷ rest) p (ends_by EndsColumn m.kind k.Is is (refl, refl)), is, null) refl
+null_complete operand a m n t rest p is null =
+    rw (operand_complete operand a m (n ∷ t ∷ rest) p (ends_by EndsColumn m.kind k.Is is (refl, refl)), is, null) refl
 
 -- with IS NOT NULL it is read as the NOT of that test
-not_null_complete : (functions : Bool) (operand : ServedOperand functions) (a : List Token) (m v n t : Token) (rest : List Token)
-    → IsOperand functions operand a → m.kind ≡ k.Is → v.kind ≡ k.Not → n.kind ≡ k.Null → comparison functions (a ++ m ∷ v ∷ n ∷ t ∷ rest) ≡ Ok (c.Not (c.IsNull operand), t ∷ rest)
+not_null_complete : (operand : ConditionOperand) (a : List Token) (m v n t : Token) (rest : List Token)
+    → IsOperand operand a → m.kind ≡ k.Is → v.kind ≡ k.Not → n.kind ≡ k.Null → comparison (a ++ m ∷ v ∷ n ∷ t ∷ rest) ≡ Ok (c.Not (c.IsNull operand), t ∷ rest)
 unfolding comparison null_test expect after sees kind next same_kind
-not_null_complete functions operand a m v n t rest p is isnt null =
-    rw (operand_complete functions operand a m (v ∷ n ∷ t ∷ rest) p (ends_by EndsColumn m.kind k.Is is (refl, refl)), is, isnt, null) refl
+not_null_complete operand a m v n t rest p is isnt null =
+    rw (operand_complete operand a m (v ∷ n ∷ t ∷ rest) p (ends_by EndsColumn m.kind k.Is is (refl, refl)), is, isnt, null) refl
 
 -- ---- predicates
 
@@ -478,7 +477,7 @@ IsOtherName word =
     × (same_name word (codes "ST_IsEmpty") ≡ false)
 
 -- a call of a function that is no predicate is read as the beginning of a comparison or a test for NULL
-other_call : (word : List ℕ) (P : Phrase) (a tail : List Token) → IsOtherName word → IsCall word P a → predicate true (a ++ tail) ≡ comparison true (a ++ tail)
+other_call : (word : List ℕ) (P : Phrase) (a tail : List Token) → IsOtherName word → IsCall word P a → predicate (a ++ tail) ≡ comparison (a ++ tail)
 unfolding predicate
 other_call word P a tail d p = rw (
   call_miss word (codes "ST_Equals") P a tail p d.0,
@@ -493,24 +492,23 @@ other_call word P a tail d p = rw (
   call_miss word (codes "ST_IsEmpty") P a tail p d.9,
 ) refl
 
--- before an operand is no predicate that is a function
-pub no_predicate : (functions : Bool) (x : ServedOperand functions) (a : List Token) (m : Token) (tail : List Token) → IsOperand functions x a → EndsColumn m.kind
-    → predicate functions (a ++ m ∷ tail) ≡ comparison functions (a ++ m ∷ tail)
+-- before an operand stands no predicate that is a function
+pub no_predicate : (x : ConditionOperand) (a : List Token) (m : Token) (tail : List Token) → IsOperand x a → EndsColumn m.kind
+    → predicate (a ++ m ∷ tail) ≡ comparison (a ++ m ∷ tail)
 unfolding predicate same_kind same_name
-no_predicate functions x a m tail (inl (column, e, p)) f = none_called (predicate_functions functions (place (a ++ m ∷ tail))) (comparison functions) (a ++ m ∷ tail) (column_uncalled column a m tail p f)
-no_predicate functions x a m tail (inr (inl (n, e, inl p))) f = none_called (predicate_functions functions (place (a ++ m ∷ tail))) (comparison functions) (a ++ m ∷ tail)
+no_predicate x a m tail (inl (column, e, p)) f = none_called (predicate_functions (place (a ++ m ∷ tail))) comparison (a ++ m ∷ tail) (column_uncalled column a m tail p f)
+no_predicate x a m tail (inr (inl (n, e, inl p))) f = none_called (predicate_functions (place (a ++ m ∷ tail))) comparison (a ++ m ∷ tail)
     (λ function. unnamed function _ (not_word a (m ∷ tail) k.Integer refl (digits_begin false n a p)))
-no_predicate functions x a m tail (inr (inl (n, e, inr (inl p)))) f = none_called (predicate_functions functions (place (a ++ m ∷ tail))) (comparison functions) (a ++ m ∷ tail)
+no_predicate x a m tail (inr (inl (n, e, inr (inl p)))) f = none_called (predicate_functions (place (a ++ m ∷ tail))) comparison (a ++ m ∷ tail)
     (λ function. unnamed function _ (not_word a (m ∷ tail) k.Plus refl (seq_begins (λ kind. kind ≡ k.Plus) _ _ (one_begins (λ kind. kind ≡ k.Plus) _ (λ t q. q)) a p)))
-no_predicate functions x a m tail (inr (inl (n, e, inr (inr p)))) f = none_called (predicate_functions functions (place (a ++ m ∷ tail))) (comparison functions) (a ++ m ∷ tail)
+no_predicate x a m tail (inr (inl (n, e, inr (inr p)))) f = none_called (predicate_functions (place (a ++ m ∷ tail))) comparison (a ++ m ∷ tail)
     (λ function. unnamed function _ (not_word a (m ∷ tail) k.Minus refl (seq_begins (λ kind. kind ≡ k.Minus) _ _ (one_begins (λ kind. kind ≡ k.Minus) _ (λ t q. q)) a p)))
-no_predicate functions x a m tail (inr (inr (inl (text, e, p)))) f = none_called (predicate_functions functions (place (a ++ m ∷ tail))) (comparison functions) (a ++ m ∷ tail)
+no_predicate x a m tail (inr (inr (inl (text, e, p)))) f = none_called (predicate_functions (place (a ++ m ∷ tail))) comparison (a ++ m ∷ tail)
     (λ function. unnamed function _ (not_word a (m ∷ tail) k.Text refl (one_begins (λ kind. kind ≡ k.Text) _ (λ t q. q.0) a p)))
-no_predicate functions x a m tail (inr (inr (inr (inl (e, p))))) f = none_called (predicate_functions functions (place (a ++ m ∷ tail))) (comparison functions) (a ++ m ∷ tail)
+no_predicate x a m tail (inr (inr (inr (inl (e, p))))) f = none_called (predicate_functions (place (a ++ m ∷ tail))) comparison (a ++ m ∷ tail)
     (λ function. unnamed function _ (not_word a (m ∷ tail) k.Null refl (one_begins (λ kind. kind ≡ k.Null) _ (λ t q. q) a p)))
-no_predicate false x a m tail (inr (inr (inr (inr p)))) f = absurd p
-no_predicate true x a m tail (inr (inr (inr (inr (inl (y, e, p)))))) f = other_call (codes "ST_AsText") (IsGeometry y) a (m ∷ tail) (refl, refl, refl, refl, refl, refl, refl, refl, refl, refl) p
-no_predicate true x a m tail (inr (inr (inr (inr (inr (y, e, p)))))) f = other_call (codes "ST_Dimension") (IsGeometry y) a (m ∷ tail) (refl, refl, refl, refl, refl, refl, refl, refl, refl, refl) p
+no_predicate x a m tail (inr (inr (inr (inr (inl (y, e, p)))))) f = other_call (codes "ST_AsText") (IsGeometry y) a (m ∷ tail) (refl, refl, refl, refl, refl, refl, refl, refl, refl, refl) p
+no_predicate x a m tail (inr (inr (inr (inr (inr (y, e, p)))))) f = other_call (codes "ST_Dimension") (IsGeometry y) a (m ∷ tail) (refl, refl, refl, refl, refl, refl, refl, refl, refl, refl) p
 
 -- ---- predicates that are functions
 
@@ -607,19 +605,19 @@ relates_by_complete at x used t rest (three, ex, (a, b, e, p, q)) right = with_s
     with_second (m, d, h, comma, (a2, b2, e2, r, r2)) = with_pattern m d a2 b2 h comma e2 r (one_first _ (IsString three.2) b2 r2)
 
 -- the readers of predicates at a place
-abbrev pub predicates_at : ℕ → Functions (ServedCond true)
-predicates_at = predicate_functions true
+abbrev pub predicates_at : ℕ → Functions Condition
+predicates_at = predicate_functions
 
 -- a predicate that is called is read, and compared with 1 or 0, or with nothing
-called_complete : (function : List ℕ) (inside : ℕ → Reader (ServedCond true)) (P : ServedCond true → Phrase) (bool bool2 x : ServedCond true) (a b : List Token) (t : Token) (rest : List Token)
+called_complete : (function : List ℕ) (inside : ℕ → Reader Condition) (P : Condition → Phrase) (bool bool2 x : Condition) (a b : List Token) (t : Token) (rest : List Token)
     → Complete (inside (place (a ++ (b ++ t ∷ rest)))) P EndsArgument → IsCall function (P bool2) a → bool2 ≡ bool → IsTest bool x b → EndsPredicate t.kind
     → IsFirst (predicates_at (place (a ++ (b ++ t ∷ rest)))) (a ++ (b ++ t ∷ rest)) (truth_tested (inside (place (a ++ (b ++ t ∷ rest)))))
-    → predicate true (a ++ (b ++ t ∷ rest)) ≡ Ok (x, t ∷ rest)
+    → predicate (a ++ (b ++ t ∷ rest)) ≡ Ok (x, t ∷ rest)
 unfolding predicate
 called_complete function inside P bool bool2 x a b t rest whole call same test f first =
     let ts : List Token = a ++ (b ++ t ∷ rest) in
     let at : ℕ = place ts in
-    first_called (predicates_at at) (comparison true) ts (truth_tested (inside at)) first
+    first_called (predicates_at at) comparison ts (truth_tested (inside at)) first
     ∙ ap (λ r. and_then r (λ y l. truth_test y l)) (call_read function (inside at) P whole bool2 a (b ++ t ∷ rest) call)
     ∙ ap (λ y. truth_test y (b ++ t ∷ rest)) same
     ∙ test_complete bool x b t rest test f
@@ -694,9 +692,9 @@ first_empty at P a tail call =
     let hit : calls (codes "ST_IsEmpty") (a ++ tail) ≡ true = call_hit (codes "ST_IsEmpty") P a tail call in
     inr (m _ refl, inr (m _ refl, inr (m _ refl, inr (m _ refl, inr (m _ refl, inr (m _ refl, inr (m _ refl, inr (m _ refl, inr (m _ refl, inl (hit, refl))))))))))
 
--- each function that is a predicate is read with its test: its name chooses its reader, and its tree is at the place of the name
-bool_complete : (bool x : ServedCond true) (a b : List Token) (t : Token) (rest : List Token) → IsBool true bool a → IsTest bool x b → EndsPredicate t.kind
-    → predicate true (a ++ (b ++ t ∷ rest)) ≡ Ok (x, t ∷ rest)
+-- each function that is a predicate is read with its test: its name chooses its reader, and its tree stands at the place of the name
+bool_complete : (bool x : Condition) (a b : List Token) (t : Token) (rest : List Token) → IsBool bool a → IsTest bool x b → EndsPredicate t.kind
+    → predicate (a ++ (b ++ t ∷ rest)) ≡ Ok (x, t ∷ rest)
 bool_complete bool x a b t rest (inl (predicate, function, y, z, names, ex, call)) test f =
     let at = place (a ++ (b ++ t ∷ rest)) in
     called_complete function (λ n. relates n predicate) (IsMade (named predicate at) IsTwo) bool (named predicate at (y, z)) x a b t rest (relates_complete at predicate)
@@ -717,18 +715,17 @@ bool_complete bool x a b t rest (inr (inr (y, ex, call))) test f =
     (first_empty at (IsGeometry y) a (b ++ t ∷ rest) call)
 
 -- a predicate that is a function begins with its name
-pub bool_begins : (functions : Bool) (x : ServedCond functions) (ts : List Token) → IsBool functions x ts → Begins BeginsOperand ts
-bool_begins false x ts p = absurd p
-bool_begins true x ts (inl (predicate, function, y, z, names, ex, call)) = word_begins function _ ts call
-bool_begins true x ts (inr (inl (y, z, pattern, ex, call))) = word_begins (codes "ST_Relate") _ ts call
-bool_begins true x ts (inr (inr (y, ex, call))) = word_begins (codes "ST_IsEmpty") _ ts call
+pub bool_begins : (x : Condition) (ts : List Token) → IsBool x ts → Begins BeginsOperand ts
+bool_begins x ts (inl (predicate, function, y, z, names, ex, call)) = word_begins function _ ts call
+bool_begins x ts (inr (inl (y, z, pattern, ex, call))) = word_begins (codes "ST_Relate") _ ts call
+bool_begins x ts (inr (inr (y, ex, call))) = word_begins (codes "ST_IsEmpty") _ ts call
 
 -- a predicate begins with an operand or a name, so neither with NOT nor with `(`
-predicate_begins : (functions : Bool) (x : ServedCond functions) (ts : List Token) → IsPredicate functions x ts → Begins BeginsOperand ts
-predicate_begins functions x ts (inl (comparison, left, right, e, p)) = seq_begins BeginsOperand (IsOperand functions left) _ (operand_begins functions left) ts p
-predicate_begins functions x ts (inr (inl (operand, e, p))) = seq_begins BeginsOperand (IsOperand functions operand) _ (operand_begins functions operand) ts p
-predicate_begins functions x ts (inr (inr (inl (operand, e, p)))) = seq_begins BeginsOperand (IsOperand functions operand) _ (operand_begins functions operand) ts p
-predicate_begins functions x ts (inr (inr (inr (bool, p)))) = seq_begins BeginsOperand (IsBool functions bool) _ (bool_begins functions bool) ts p
+predicate_begins : (x : Condition) (ts : List Token) → IsPredicate x ts → Begins BeginsOperand ts
+predicate_begins x ts (inl (comparison, left, right, e, p)) = seq_begins BeginsOperand (IsOperand left) _ (operand_begins left) ts p
+predicate_begins x ts (inr (inl (operand, e, p))) = seq_begins BeginsOperand (IsOperand operand) _ (operand_begins operand) ts p
+predicate_begins x ts (inr (inr (inl (operand, e, p)))) = seq_begins BeginsOperand (IsOperand operand) _ (operand_begins operand) ts p
+predicate_begins x ts (inr (inr (inr (bool, p)))) = seq_begins BeginsOperand (IsBool bool) _ (bool_begins bool) ts p
 
 -- IS may follow a column
 pub is_ends : (kind : TokenKind) → kind ≡ k.Is → EndsColumn kind
@@ -737,41 +734,40 @@ is_ends kind e = ends_by EndsColumn kind k.Is e (refl, refl)
 
 -- Each form of a predicate is read: an operand in front calls none that is a function, and the token behind it is IS or the sign
 -- of a comparison
-predicate_complete : (functions : Bool) → Complete (predicate functions) (IsPredicate functions) EndsPredicate
-predicate_complete functions x used t rest (inl (sign, left, right, ex, (a, b, e, p, q))) f = go (one_first _ (IsOperand functions right) b q)
+predicate_complete : Complete predicate IsPredicate EndsPredicate
+predicate_complete x used t rest (inl (sign, left, right, ex, (a, b, e, p, q))) f = go (one_first _ (IsOperand right) b q)
   where
-    go : ((m : Token) × (d : List Token) × (b ≡ m ∷ d) × (comparison_of m.kind ≡ Some sign) × IsOperand functions right d) → predicate functions (used ++ t ∷ rest) ≡ Ok (x, t ∷ rest)
+    go : ((m : Token) × (d : List Token) × (b ≡ m ∷ d) × (comparison_of m.kind ≡ Some sign) × IsOperand right d) → predicate (used ++ t ∷ rest) ≡ Ok (x, t ∷ rest)
     go (m, d, g, compares, h) =
         let cut : used ++ t ∷ rest ≡ a ++ m ∷ (d ++ t ∷ rest) = split used a b d (t ∷ rest) m e g in
         let here : place (a ++ m ∷ (d ++ t ∷ rest)) ≡ place used =
-        sym (ap place cut) ∙ place_is used (t ∷ rest) (seq_begins BeginsOperand (IsOperand functions left) (IsComparison sign ▸ IsOperand functions right) (operand_begins functions left) used (a, b, e, p, q)) in
-        ap (predicate functions) cut ∙ no_predicate functions left a m (d ++ t ∷ rest) p (compares_ends m.kind sign compares).0
-        ∙ compare_complete functions sign left right a d m t rest p compares h f.0
+        sym (ap place cut) ∙ place_is used (t ∷ rest) (seq_begins BeginsOperand (IsOperand left) (IsComparison sign ▸ IsOperand right) (operand_begins left) used (a, b, e, p, q)) in
+        ap predicate cut ∙ no_predicate left a m (d ++ t ∷ rest) p (compares_ends m.kind sign compares).0
+        ∙ compare_complete sign left right a d m t rest p compares h f.0
         ∙ ap (λ at. Ok (c.Compare at sign left right, t ∷ rest)) here ∙ ap (λ y. Ok (y, t ∷ rest)) (sym ex)
-predicate_complete functions x used t rest (inr (inl (operand, ex, (a, b, e, p, q)))) f = go (one_first _ (IsToken k.Null) b q)
+predicate_complete x used t rest (inr (inl (operand, ex, (a, b, e, p, q)))) f = go (one_first _ (IsToken k.Null) b q)
   where
-    go : ((m : Token) × (d : List Token) × (b ≡ m ∷ d) × (m.kind ≡ k.Is) × IsToken k.Null d) → predicate functions (used ++ t ∷ rest) ≡ Ok (x, t ∷ rest)
+    go : ((m : Token) × (d : List Token) × (b ≡ m ∷ d) × (m.kind ≡ k.Is) × IsToken k.Null d) → predicate (used ++ t ∷ rest) ≡ Ok (x, t ∷ rest)
     go (m, d, g, is, h) =
         let null = one_only _ d h in
-        ap (predicate functions) (split used a b d (t ∷ rest) m e g) ∙ ap (λ l. predicate functions (a ++ m ∷ (l ++ t ∷ rest))) null.1
-        ∙ no_predicate functions operand a m (null.0 ∷ t ∷ rest) p (is_ends m.kind is)
-        ∙ null_complete functions operand a m null.0 t rest p is null.2 ∙ ap (λ y. Ok (y, t ∷ rest)) (sym ex)
-predicate_complete functions x used t rest (inr (inr (inl (operand, ex, (a, b, e, p, q))))) f = go (one_first _ (IsToken k.Not ▸ IsToken k.Null) b q)
+        ap predicate (split used a b d (t ∷ rest) m e g) ∙ ap (λ l. predicate (a ++ m ∷ (l ++ t ∷ rest))) null.1
+        ∙ no_predicate operand a m (null.0 ∷ t ∷ rest) p (is_ends m.kind is)
+        ∙ null_complete operand a m null.0 t rest p is null.2 ∙ ap (λ y. Ok (y, t ∷ rest)) (sym ex)
+predicate_complete x used t rest (inr (inr (inl (operand, ex, (a, b, e, p, q))))) f = go (one_first _ (IsToken k.Not ▸ IsToken k.Null) b q)
   where
     further : (m : Token) (d : List Token) → b ≡ m ∷ d → m.kind ≡ k.Is
-        → ((v : Token) × (n : List Token) × (d ≡ v ∷ n) × (v.kind ≡ k.Not) × IsToken k.Null n) → predicate functions (used ++ t ∷ rest) ≡ Ok (x, t ∷ rest)
+        → ((v : Token) × (n : List Token) × (d ≡ v ∷ n) × (v.kind ≡ k.Not) × IsToken k.Null n) → predicate (used ++ t ∷ rest) ≡ Ok (x, t ∷ rest)
     further m d g is (v, n, g2, isnt, h) =
         let null = one_only _ n h in
-        ap (predicate functions) (split used a b d (t ∷ rest) m e g) ∙ ap (λ l. predicate functions (a ++ m ∷ (l ++ t ∷ rest))) g2
-        ∙ ap (λ l. predicate functions (a ++ m ∷ v ∷ (l ++ t ∷ rest))) null.1
-        ∙ no_predicate functions operand a m (v ∷ null.0 ∷ t ∷ rest) p (is_ends m.kind is)
-        ∙ not_null_complete functions operand a m v null.0 t rest p is isnt null.2 ∙ ap (λ y. Ok (y, t ∷ rest)) (sym ex)
+        ap predicate (split used a b d (t ∷ rest) m e g) ∙ ap (λ l. predicate (a ++ m ∷ (l ++ t ∷ rest))) g2
+        ∙ ap (λ l. predicate (a ++ m ∷ v ∷ (l ++ t ∷ rest))) null.1
+        ∙ no_predicate operand a m (v ∷ null.0 ∷ t ∷ rest) p (is_ends m.kind is)
+        ∙ not_null_complete operand a m v null.0 t rest p is isnt null.2 ∙ ap (λ y. Ok (y, t ∷ rest)) (sym ex)
 
-    go : ((m : Token) × (d : List Token) × (b ≡ m ∷ d) × (m.kind ≡ k.Is) × (IsToken k.Not ▸ IsToken k.Null) d) → predicate functions (used ++ t ∷ rest) ≡ Ok (x, t ∷ rest)
+    go : ((m : Token) × (d : List Token) × (b ≡ m ∷ d) × (m.kind ≡ k.Is) × (IsToken k.Not ▸ IsToken k.Null) d) → predicate (used ++ t ∷ rest) ≡ Ok (x, t ∷ rest)
     go (m, d, g, is, h) = further m d g is (one_first _ (IsToken k.Null) d h)
-predicate_complete false x used t rest (inr (inr (inr (bool, (a, b, e, p, q))))) f = absurd p
-predicate_complete true x used t rest (inr (inr (inr (bool, (a, b, e, p, q))))) f =
-    ap (predicate true) (ap (λ l. l ++ t ∷ rest) e ∙ append_assoc a b (t ∷ rest)) ∙ bool_complete bool x a b t rest p q f
+predicate_complete x used t rest (inr (inr (inr (bool, (a, b, e, p, q))))) f =
+    ap predicate (ap (λ l. l ++ t ∷ rest) e ∙ append_assoc a b (t ∷ rest)) ∙ bool_complete bool x a b t rest p q f
 
 -- ---- conditions
 
@@ -864,61 +860,61 @@ unfolding sees kind
 not_seen used tail (t, more, e, f) = rw e f
 
 -- where neither NOT nor `(` is next, a predicate is read, whatever levels are left
-pub negation_predicate : (functions : Bool) (levels : ℕ) (ts : List Token) → sees k.Not ts ≡ false → sees k.LeftParenthesis ts ≡ false → negation functions levels ts ≡ predicate functions ts
+pub negation_predicate : (levels : ℕ) (ts : List Token) → sees k.Not ts ≡ false → sees k.LeftParenthesis ts ≡ false → negation levels ts ≡ predicate ts
 unfolding negation
-negation_predicate functions zero ts g h = rw (g, h) refl
-negation_predicate functions (suc levels) ts g h = rw (g, h) refl
+negation_predicate zero ts g h = rw (g, h) refl
+negation_predicate (suc levels) ts g h = rw (g, h) refl
 
 -- NOT uses up one level
-pub negation_not : (functions : Bool) (levels : ℕ) (m : Token) (ts : List Token) → m.kind ≡ k.Not
-    → negation functions (suc levels) (m ∷ ts) ≡ and_then (negation functions levels ts) (λ y rest. Ok (c.Not y, rest))
+pub negation_not : (levels : ℕ) (m : Token) (ts : List Token) → m.kind ≡ k.Not
+    → negation (suc levels) (m ∷ ts) ≡ and_then (negation levels ts) (λ y rest. Ok (c.Not y, rest))
 unfolding negation sees kind next
-negation_not functions levels m ts e = rw (is_kind m.kind k.Not e) refl
+negation_not levels m ts e = rw (is_kind m.kind k.Not e) refl
 
 -- so does `(`
-pub negation_group : (functions : Bool) (levels : ℕ) (m : Token) (ts : List Token) → m.kind ≡ k.LeftParenthesis
-    → negation functions (suc levels) (m ∷ ts) ≡ group (negation functions levels) ts
+pub negation_group : (levels : ℕ) (m : Token) (ts : List Token) → m.kind ≡ k.LeftParenthesis
+    → negation (suc levels) (m ∷ ts) ≡ group (negation levels) ts
 unfolding negation sees kind next same_kind
-negation_group functions levels m ts e = rw e refl
+negation_group levels m ts e = rw e refl
 
--- NOT is read with what comes after it, where that is read with one level less
-nested_not : (functions : Bool) (levels : ℕ) (x y : ServedCond functions) (used : List Token) (t : Token) (rest : List Token) → x ≡ c.Not y
-    → Complete (negation functions levels) (IsNegation functions levels) EndsPredicate → EndsPredicate t.kind
-    → ((m : Token) × (d : List Token) × (used ≡ m ∷ d) × (m.kind ≡ k.Not) × IsNegation functions levels y d) → negation functions (suc levels) (used ++ t ∷ rest) ≡ Ok (x, t ∷ rest)
-nested_not functions levels x y used t rest ex whole f (m, d, e, isnt, h) =
-    ap (λ l. negation functions (suc levels) (l ++ t ∷ rest)) e ∙ negation_not functions levels m (d ++ t ∷ rest) isnt
+-- NOT is read with what stands behind it, where that is read with one level less
+nested_not : (levels : ℕ) (x y : Condition) (used : List Token) (t : Token) (rest : List Token) → x ≡ c.Not y
+    → Complete (negation levels) (IsNegation levels) EndsPredicate → EndsPredicate t.kind
+    → ((m : Token) × (d : List Token) × (used ≡ m ∷ d) × (m.kind ≡ k.Not) × IsNegation levels y d) → negation (suc levels) (used ++ t ∷ rest) ≡ Ok (x, t ∷ rest)
+nested_not levels x y used t rest ex whole f (m, d, e, isnt, h) =
+    ap (λ l. negation (suc levels) (l ++ t ∷ rest)) e ∙ negation_not levels m (d ++ t ∷ rest) isnt
     ∙ ap (λ r. and_then r (λ y rest. Ok (c.Not y, rest))) (whole y d t rest h f) ∙ ap (λ z. Ok (z, t ∷ rest)) (sym ex)
 
 -- parentheses are read with the condition in them, where its parts are read with one level less
-nested_group : (functions : Bool) (levels : ℕ) (x : ServedCond functions) (used : List Token) (t : Token) (rest : List Token)
-    → Complete (negation functions levels) (IsNegation functions levels) EndsPredicate
-    → ((m : Token) × (d : List Token) × (used ≡ m ∷ d) × (m.kind ≡ k.LeftParenthesis) × (IsConditionOf (IsNegation functions levels) x ▸ IsToken k.RightParenthesis) d)
-    → negation functions (suc levels) (used ++ t ∷ rest) ≡ Ok (x, t ∷ rest)
-nested_group functions levels x used t rest whole (m, d, e, left, h) =
-    let inner = one_last (IsConditionOf (IsNegation functions levels) x) _ d h in
-    ap (λ l. negation functions (suc levels) (l ++ t ∷ rest)) e ∙ negation_group functions levels m (d ++ t ∷ rest) left
-    ∙ ap (λ l. group (negation functions levels) (l ++ t ∷ rest)) inner.2 ∙ ap (group (negation functions levels)) (append_assoc inner.0 (inner.1 ∷ []) (t ∷ rest))
-    ∙ group_complete (negation functions levels) (IsNegation functions levels) whole x inner.0 inner.1 t rest inner.3 inner.4
+nested_group : (levels : ℕ) (x : Condition) (used : List Token) (t : Token) (rest : List Token)
+    → Complete (negation levels) (IsNegation levels) EndsPredicate
+    → ((m : Token) × (d : List Token) × (used ≡ m ∷ d) × (m.kind ≡ k.LeftParenthesis) × (IsConditionOf (IsNegation levels) x ▸ IsToken k.RightParenthesis) d)
+    → negation (suc levels) (used ++ t ∷ rest) ≡ Ok (x, t ∷ rest)
+nested_group levels x used t rest whole (m, d, e, left, h) =
+    let inner = one_last (IsConditionOf (IsNegation levels) x) _ d h in
+    ap (λ l. negation (suc levels) (l ++ t ∷ rest)) e ∙ negation_group levels m (d ++ t ∷ rest) left
+    ∙ ap (λ l. group (negation levels) (l ++ t ∷ rest)) inner.2 ∙ ap (group (negation levels)) (append_assoc inner.0 (inner.1 ∷ []) (t ∷ rest))
+    ∙ group_complete (negation levels) (IsNegation levels) whole x inner.0 inner.1 t rest inner.3 inner.4
 
 -- a predicate is read whatever levels are left, since it begins neither with NOT nor with `(`
-predicate_alone : (functions : Bool) (levels : ℕ) (x : ServedCond functions) (used : List Token) (t : Token) (rest : List Token) → IsPredicate functions x used → EndsPredicate t.kind
-    → negation functions levels (used ++ t ∷ rest) ≡ Ok (x, t ∷ rest)
-predicate_alone functions levels x used t rest p f =
-    let unseen = not_seen used (t ∷ rest) (predicate_begins functions x used p) in
-    negation_predicate functions levels (used ++ t ∷ rest) unseen.0 unseen.1 ∙ predicate_complete functions x used t rest p f
+predicate_alone : (levels : ℕ) (x : Condition) (used : List Token) (t : Token) (rest : List Token) → IsPredicate x used → EndsPredicate t.kind
+    → negation levels (used ++ t ∷ rest) ≡ Ok (x, t ∷ rest)
+predicate_alone levels x used t rest p f =
+    let unseen = not_seen used (t ∷ rest) (predicate_begins x used p) in
+    negation_predicate levels (used ++ t ∷ rest) unseen.0 unseen.1 ∙ predicate_complete x used t rest p f
 
 -- by induction on the levels: NOT and `(` use up one both in the grammar and in the reader, and a predicate uses none
-pub negation_complete : (functions : Bool) (levels : ℕ) → Complete (negation functions levels) (IsNegation functions levels) EndsPredicate
+pub negation_complete : (levels : ℕ) → Complete (negation levels) (IsNegation levels) EndsPredicate
 unfolding IsNegationOf
-negation_complete functions zero x used t rest p f = predicate_alone functions 0 x used t rest p f
-negation_complete functions (suc levels) x used t rest (inl (y, ex, p)) f = nested_not functions levels x y used t rest ex (negation_complete functions levels) f (one_first _ (IsNegation functions levels y) used p)
-negation_complete functions (suc levels) x used t rest (inr (inl p)) f =
-    nested_group functions levels x used t rest (negation_complete functions levels) (one_first _ (IsConditionOf (IsNegation functions levels) x ▸ IsToken k.RightParenthesis) used p)
-negation_complete functions (suc levels) x used t rest (inr (inr p)) f = predicate_alone functions (suc levels) x used t rest p f
+negation_complete zero x used t rest p f = predicate_alone 0 x used t rest p f
+negation_complete (suc levels) x used t rest (inl (y, ex, p)) f = nested_not levels x y used t rest ex (negation_complete levels) f (one_first _ (IsNegation levels y) used p)
+negation_complete (suc levels) x used t rest (inr (inl p)) f =
+    nested_group levels x used t rest (negation_complete levels) (one_first _ (IsConditionOf (IsNegation levels) x ▸ IsToken k.RightParenthesis) used p)
+negation_complete (suc levels) x used t rest (inr (inr p)) f = predicate_alone (suc levels) x used t rest p f
 
 -- a condition that nests to no more levels than may be is read
-pub condition_complete : (functions : Bool) → Complete (condition functions) (IsCondition functions) EndsCondition
-condition_complete functions = condition_of_complete (negation functions 64) (IsNegation functions 64) (negation_complete functions 64)
+pub condition_complete : Complete condition IsCondition EndsCondition
+condition_complete = condition_of_complete (negation 64) (IsNegation 64) (negation_complete 64)
 
 -- ---- queries
 
@@ -931,23 +927,22 @@ column_whole : Complete column IsColumn EndsArgument
 column_whole = ends_argument column IsColumn column_complete
 
 -- each function of the select list is read: it is called by its own name, and those before it in the list aren't
-function_item : (functions : Bool) (x : ServedItem functions) (used : List Token) (t : Token) (rest : List Token) → IsItemFunction functions x used
-    → item functions (used ++ t ∷ rest) ≡ Ok (x, t ∷ rest)
+function_item : (x : SelectItem) (used : List Token) (t : Token) (rest : List Token) → IsItemFunction x used
+    → item (used ++ t ∷ rest) ≡ Ok (x, t ∷ rest)
 unfolding item same_name
-function_item false x used t rest p = absurd p
-function_item true x used t rest (inl (y, e, p)) =
-    made_called (item_functions true) (λ l. and_then (column l) (λ z rest. Ok (i.Column z, rest))) (codes "ST_AsText") i.AsText column IsColumn y used (t ∷ rest) column_whole p
+function_item x used t rest (inl (y, e, p)) =
+    made_called item_functions (λ l. and_then (column l) (λ z rest. Ok (i.Column z, rest))) (codes "ST_AsText") i.AsText column IsColumn y used (t ∷ rest) column_whole p
     (λ at ts here. inl (ap (calls (codes "ST_AsText")) here ∙ call_hit (codes "ST_AsText") (IsColumn y) used (t ∷ rest) p, refl))
     ∙ ap (λ z. Ok (z, t ∷ rest)) (sym e)
-function_item true x used t rest (inr (inl (y, e, p))) =
-    made_called (item_functions true) (λ l. and_then (column l) (λ z rest. Ok (i.Column z, rest))) (codes "ST_Dimension") i.Dimension column IsColumn y used (t ∷ rest) column_whole p
+function_item x used t rest (inr (inl (y, e, p))) =
+    made_called item_functions (λ l. and_then (column l) (λ z rest. Ok (i.Column z, rest))) (codes "ST_Dimension") i.Dimension column IsColumn y used (t ∷ rest) column_whole p
     (λ at ts here. inr (
       ap (calls (codes "ST_AsText")) here ∙ call_miss (codes "ST_Dimension") (codes "ST_AsText") (IsColumn y) used (t ∷ rest) p refl,
       inl (ap (calls (codes "ST_Dimension")) here ∙ call_hit (codes "ST_Dimension") (IsColumn y) used (t ∷ rest) p, refl),
     ))
     ∙ ap (λ z. Ok (z, t ∷ rest)) (sym e)
-function_item true x used t rest (inr (inr (y, e, p))) =
-    made_called (item_functions true) (λ l. and_then (column l) (λ z rest. Ok (i.Column z, rest))) (codes "ST_IsEmpty") i.IsEmpty column IsColumn y used (t ∷ rest) column_whole p
+function_item x used t rest (inr (inr (y, e, p))) =
+    made_called item_functions (λ l. and_then (column l) (λ z rest. Ok (i.Column z, rest))) (codes "ST_IsEmpty") i.IsEmpty column IsColumn y used (t ∷ rest) column_whole p
     (λ at ts here. inr (
       ap (calls (codes "ST_AsText")) here ∙ call_miss (codes "ST_IsEmpty") (codes "ST_AsText") (IsColumn y) used (t ∷ rest) p refl,
       inr (
@@ -958,109 +953,102 @@ function_item true x used t rest (inr (inr (y, e, p))) =
     ∙ ap (λ z. Ok (z, t ∷ rest)) (sym e)
 
 -- each form of an item is read: a column calls no function
-item_complete : (functions : Bool) → Complete (item functions) (IsItem functions) EndsColumn
+item_complete : Complete item IsItem EndsColumn
 unfolding item
-item_complete functions x used t rest (inl (y, e, p)) f =
-    none_called (item_functions functions (place (used ++ t ∷ rest))) (λ l. and_then (column l) (λ z rest. Ok (i.Column z, rest))) (used ++ t ∷ rest) (column_uncalled y used t rest p f)
+item_complete x used t rest (inl (y, e, p)) f =
+    none_called (item_functions (place (used ++ t ∷ rest))) (λ l. and_then (column l) (λ z rest. Ok (i.Column z, rest))) (used ++ t ∷ rest) (column_uncalled y used t rest p f)
     ∙ ap (λ r. and_then r (λ z rest. Ok (i.Column z, rest))) (column_complete y used t rest p f) ∙ ap (λ z. Ok (z, t ∷ rest)) (sym e)
-item_complete functions x used t rest (inr p) f = function_item functions x used t rest p
+item_complete x used t rest (inr p) f = function_item x used t rest p
 
 -- an item begins with a word
-item_word : (functions : Bool) (x : ServedItem functions) (ts : List Token) → IsItem functions x ts → Begins (λ kind. kind ≡ k.Word) ts
-item_word functions x ts (inl (column, e, p)) = column_word column ts p
-item_word false x ts (inr p) = absurd p
-item_word true x ts (inr (inl (y, e, p))) = call_word (codes "ST_AsText") (IsColumn y) ts p
-item_word true x ts (inr (inr (inl (y, e, p)))) = call_word (codes "ST_Dimension") (IsColumn y) ts p
-item_word true x ts (inr (inr (inr (y, e, p)))) = call_word (codes "ST_IsEmpty") (IsColumn y) ts p
+item_word : (x : SelectItem) (ts : List Token) → IsItem x ts → Begins (λ kind. kind ≡ k.Word) ts
+item_word x ts (inl (column, e, p)) = column_word column ts p
+item_word x ts (inr (inl (y, e, p))) = call_word (codes "ST_AsText") (IsColumn y) ts p
+item_word x ts (inr (inr (inl (y, e, p)))) = call_word (codes "ST_Dimension") (IsColumn y) ts p
+item_word x ts (inr (inr (inr (y, e, p)))) = call_word (codes "ST_IsEmpty") (IsColumn y) ts p
 
 -- so do items, with their first
-items_word : (functions : Bool) (more : List (ServedItem functions)) (x : ServedItem functions) (ts : List Token) → IsParts k.Comma (IsItem functions) x more ts → Begins (λ kind. kind ≡ k.Word) ts
-items_word functions [] x ts p = item_word functions x ts p
-items_word functions (y ∷ more) x ts p = seq_begins (λ kind. kind ≡ k.Word) (IsItem functions x) _ (λ used q. item_word functions x used q) ts p
+items_word : (more : List SelectItem) (x : SelectItem) (ts : List Token) → IsParts k.Comma IsItem x more ts → Begins (λ kind. kind ≡ k.Word) ts
+items_word [] x ts p = item_word x ts p
+items_word (y ∷ more) x ts p = seq_begins (λ kind. kind ≡ k.Word) (IsItem x) _ (λ used q. item_word x used q) ts p
 
--- a selection that begins with a word
-abbrev pub worded : (served : Served) → Bool → Reader (Selection (ItemArgument served.functions))
-worded served count = called_or (count_function count) (λ ts. and_then (items served.functions ts) (λ xs rest. Ok (l.Items xs, rest)))
+-- what a selection that begins with a word is read as
+abbrev pub worded : Reader (Selection WrittenColumn)
+worded = called_or count_function (λ ts. and_then (items ts) (λ xs rest. Ok (l.Items xs, rest)))
 
 -- a selection that begins with a word isn't the star
-selection_of_word : (served : Served) (ts : List Token) → kind ts ≡ k.Word → selection served ts ≡ worded served served.count ts
+selection_of_word : (ts : List Token) → kind ts ≡ k.Word → selection ts ≡ worded ts
 unfolding selection sees same_kind
-selection_of_word served ts e = rw e refl
+selection_of_word ts e = rw e refl
 
 -- where COUNT isn't called, items are read
-worded_uncounted : (served : Served) (count : Bool) (ts : List Token) → calls (codes "COUNT") ts ≡ false → worded served count ts ≡ and_then (items served.functions ts) (λ xs rest. Ok (l.Items xs, rest))
-worded_uncounted served false ts e = refl
-worded_uncounted served true ts e = rw e refl
+worded_uncounted : (ts : List Token) → calls (codes "COUNT") ts ≡ false → worded ts ≡ and_then (items ts) (λ xs rest. Ok (l.Items xs, rest))
+worded_uncounted ts e = rw e refl
 
 -- a star is read as the selection of all columns
-selection_of_star : (served : Served) (u : Token) (ts : List Token) → u.kind ≡ k.Star → selection served (u ∷ ts) ≡ Ok (l.All, ts)
+selection_of_star : (u : Token) (ts : List Token) → u.kind ≡ k.Star → selection (u ∷ ts) ≡ Ok (l.All, ts)
 unfolding selection sees kind next
-selection_of_star served u ts e = rw (is_kind u.kind k.Star e) refl
+selection_of_star u ts e = rw (is_kind u.kind k.Star e) refl
 
 -- no item is a call of COUNT
-item_uncounted : (functions : Bool) (x : ServedItem functions) (used : List Token) (t : Token) (rest : List Token) → IsItem functions x used → EndsColumn t.kind
+item_uncounted : (x : SelectItem) (used : List Token) (t : Token) (rest : List Token) → IsItem x used → EndsColumn t.kind
     → calls (codes "COUNT") (used ++ t ∷ rest) ≡ false
 unfolding same_name
-item_uncounted functions x used t rest (inl (y, e, p)) f = column_uncalled y used t rest p f (codes "COUNT")
-item_uncounted false x used t rest (inr p) f = absurd p
-item_uncounted true x used t rest (inr (inl (y, e, p))) f = call_miss (codes "ST_AsText") (codes "COUNT") (IsColumn y) used (t ∷ rest) p refl
-item_uncounted true x used t rest (inr (inr (inl (y, e, p)))) f = call_miss (codes "ST_Dimension") (codes "COUNT") (IsColumn y) used (t ∷ rest) p refl
-item_uncounted true x used t rest (inr (inr (inr (y, e, p)))) f = call_miss (codes "ST_IsEmpty") (codes "COUNT") (IsColumn y) used (t ∷ rest) p refl
+item_uncounted x used t rest (inl (y, e, p)) f = column_uncalled y used t rest p f (codes "COUNT")
+item_uncounted x used t rest (inr (inl (y, e, p))) f = call_miss (codes "ST_AsText") (codes "COUNT") (IsColumn y) used (t ∷ rest) p refl
+item_uncounted x used t rest (inr (inr (inl (y, e, p)))) f = call_miss (codes "ST_Dimension") (codes "COUNT") (IsColumn y) used (t ∷ rest) p refl
+item_uncounted x used t rest (inr (inr (inr (y, e, p)))) f = call_miss (codes "ST_IsEmpty") (codes "COUNT") (IsColumn y) used (t ∷ rest) p refl
 
 -- items don't begin with a call of COUNT, since their first one isn't such a call
-items_uncounted : (functions : Bool) (more : List (ServedItem functions)) (x : ServedItem functions) (used : List Token) (t : Token) (rest : List Token)
-    → IsParts k.Comma (IsItem functions) x more used → EndsColumn t.kind → calls (codes "COUNT") (used ++ t ∷ rest) ≡ false
+items_uncounted : (more : List SelectItem) (x : SelectItem) (used : List Token) (t : Token) (rest : List Token)
+    → IsParts k.Comma IsItem x more used → EndsColumn t.kind → calls (codes "COUNT") (used ++ t ∷ rest) ≡ false
 unfolding same_kind
-items_uncounted functions [] x used t rest p f = item_uncounted functions x used t rest p f
-items_uncounted functions (y ∷ more) x used t rest (a, b, e, p, q) f =
-    let m = one_first _ (IsParts k.Comma (IsItem functions) y more) b q in
+items_uncounted [] x used t rest p f = item_uncounted x used t rest p f
+items_uncounted (y ∷ more) x used t rest (a, b, e, p, q) f =
+    let m = one_first _ (IsParts k.Comma IsItem y more) b q in
     ap (calls (codes "COUNT")) (split used a b m.1 (t ∷ rest) m.0 e m.2)
-    ∙ item_uncounted functions x a m.0 (m.1 ++ t ∷ rest) p (ends_by EndsColumn m.0.kind k.Comma m.3 (refl, refl))
+    ∙ item_uncounted x a m.0 (m.1 ++ t ∷ rest) p (ends_by EndsColumn m.0.kind k.Comma m.3 (refl, refl))
 
 -- behind COUNT, the star in parentheses is read
-star_read : {C : Type 0} (used tail : List Token) → IsCall (codes "COUNT") (IsToken k.Star) used → enclosed (counted {C = C}) (next (used ++ tail)) ≡ Ok (l.Count, tail)
-star_read {C} used tail p =
-    call_read (codes "COUNT") (counted {C = C}) (IsCounted {C = C}) whole l.Count used tail (call_but (codes "COUNT") (IsToken k.Star) (IsCounted {C = C} l.Count) used (λ a q. (tt, refl, q)) p)
+star_read : (used tail : List Token) → IsCall (codes "COUNT") (IsToken k.Star) used → enclosed counted (next (used ++ tail)) ≡ Ok (l.Count, tail)
+star_read used tail p =
+    call_read (codes "COUNT") counted IsCounted whole l.Count used tail (call_but (codes "COUNT") (IsToken k.Star) (IsCounted l.Count) used (λ a q. (tt, refl, q)) p)
   where
-    whole : Complete (counted {C = C}) (IsCounted {C = C}) EndsArgument
+    whole : Complete counted IsCounted EndsArgument
     whole x a r tail (u, e, q) right =
         let star = one_only _ a q in
-        ap (λ l. counted {C = C} (l ++ r ∷ tail)) star.1 ∙ ap (λ o. and_then o (λ _ rest. Ok (l.Count, rest))) (expect_read k.Star star.0 (r ∷ tail) star.2) ∙ ap (λ y. Ok (y, r ∷ tail)) (sym e)
+        ap (λ l. counted (l ++ r ∷ tail)) star.1 ∙ ap (λ o. and_then o (λ _ rest. Ok (l.Count, rest))) (expect_read k.Star star.0 (r ∷ tail) star.2) ∙ ap (λ y. Ok (y, r ∷ tail)) (sym e)
 
--- COUNT(*) is read where it is served
-counted_complete : (served : Served) (count : Bool) → count ≡ true → (used : List Token) (t : Token) (rest : List Token) → IsCall (codes "COUNT") (IsToken k.Star) used
-    → worded served count (used ++ t ∷ rest) ≡ Ok (l.Count, t ∷ rest)
-counted_complete served false is_served used t rest p = absurd (cc)
-counted_complete served true is_served used t rest p =
-    let C : Type 0 = ItemArgument served.functions in
-    first_called (count_function {C = C} true) (λ ts. and_then (items served.functions ts) (λ xs rest. Ok (l.Items xs, rest))) (used ++ t ∷ rest) (enclosed counted)
-    (inl (call_hit (codes "COUNT") (IsToken k.Star) used (t ∷ rest) p, refl)) ∙ star_read {C = C} used (t ∷ rest) p
+-- COUNT(*) is read
+counted_complete : (used : List Token) (t : Token) (rest : List Token) → IsCall (codes "COUNT") (IsToken k.Star) used → worded (used ++ t ∷ rest) ≡ Ok (l.Count, t ∷ rest)
+counted_complete used t rest p =
+    first_called count_function (λ ts. and_then (items ts) (λ xs rest. Ok (l.Items xs, rest))) (used ++ t ∷ rest) (enclosed counted)
+    (inl (call_hit (codes "COUNT") (IsToken k.Star) used (t ∷ rest) p, refl)) ∙ star_read used (t ∷ rest) p
 
 -- what may follow a selection: what may behind a column, and no comma
 abbrev pub EndsItems : TokenKind → Type 0
 EndsItems kind = EndsColumn kind × (same_kind kind k.Comma ≡ false)
 
 -- items are read: there are turns enough, since there are no more items than tokens
-items_complete : (functions : Bool) (first : ServedItem functions) (more : List (ServedItem functions)) (used : List Token) (t : Token) (rest : List Token)
-    → IsParts k.Comma (IsItem functions) first more used → EndsItems t.kind → items functions (used ++ t ∷ rest) ≡ Ok (first ∷ more, t ∷ rest)
+items_complete : (first : SelectItem) (more : List SelectItem) (used : List Token) (t : Token) (rest : List Token)
+    → IsParts k.Comma IsItem first more used → EndsItems t.kind → items (used ++ t ∷ rest) ≡ Ok (first ∷ more, t ∷ rest)
 unfolding same_kind
-items_complete functions first more used t rest p f =
-    parts_complete k.Comma (item functions) (IsItem functions) EndsColumn (refl, refl) (item_complete functions) more first (length (used ++ t ∷ rest)) [] used t rest p f.0 f.1
-    (turns_suffice k.Comma (IsItem functions) more first used t rest p)
+items_complete first more used t rest p f =
+    parts_complete k.Comma item IsItem EndsColumn (refl, refl) item_complete more first (length (used ++ t ∷ rest)) [] used t rest p f.0 f.1
+    (turns_suffice k.Comma IsItem more first used t rest p)
 
 -- each form of a selection is read: the star by its kind, COUNT(*) by its name, and items since they don't begin with COUNT
-pub selection_complete : (served : Served) → Complete (selection served) (IsSelection served) EndsItems
-selection_complete served x used t rest (inl (e, p)) f =
+pub selection_complete : Complete selection IsSelection EndsItems
+selection_complete x used t rest (inl (e, p)) f =
     let star = one_only _ used p in
-    ap (λ l. selection served (l ++ t ∷ rest)) star.1 ∙ selection_of_star served star.0 (t ∷ rest) star.2 ∙ ap (λ y. Ok (y, t ∷ rest)) (sym e)
-selection_complete served x used t rest (inr (inl (first, more, e, p))) f =
-    let F : Bool = served.functions in
-    selection_of_word served (used ++ t ∷ rest) (kind_after k.Word used (t ∷ rest) (items_word F more first used p))
-    ∙ worded_uncounted served served.count (used ++ t ∷ rest) (items_uncounted F more first used t rest p f.0)
-    ∙ ap (λ r. and_then r (λ xs rest. Ok (l.Items xs, rest))) (items_complete F first more used t rest p f) ∙ ap (λ y. Ok (y, t ∷ rest)) (sym e)
-selection_complete served x used t rest (inr (inr (is_served, e, p))) f =
-    selection_of_word served (used ++ t ∷ rest) (kind_after k.Word used (t ∷ rest) (call_word (codes "COUNT") (IsToken k.Star) used p))
-    ∙ counted_complete served served.count is_served used t rest p ∙ ap (λ y. Ok (y, t ∷ rest)) (sym e)
+    ap (λ l. selection (l ++ t ∷ rest)) star.1 ∙ selection_of_star star.0 (t ∷ rest) star.2 ∙ ap (λ y. Ok (y, t ∷ rest)) (sym e)
+selection_complete x used t rest (inr (inl (first, more, e, p))) f =
+    selection_of_word (used ++ t ∷ rest) (kind_after k.Word used (t ∷ rest) (items_word more first used p))
+    ∙ worded_uncounted (used ++ t ∷ rest) (items_uncounted more first used t rest p f.0)
+    ∙ ap (λ r. and_then r (λ xs rest. Ok (l.Items xs, rest))) (items_complete first more used t rest p f) ∙ ap (λ y. Ok (y, t ∷ rest)) (sym e)
+selection_complete x used t rest (inr (inr (e, p))) f =
+    selection_of_word (used ++ t ∷ rest) (kind_after k.Word used (t ∷ rest) (call_word (codes "COUNT") (IsToken k.Star) used p))
+    ∙ counted_complete used t rest p ∙ ap (λ y. Ok (y, t ∷ rest)) (sym e)
 
 -- what may follow a table reference: no `(`, and neither AS nor a word, which would be its alias
 abbrev pub EndsReference : TokenKind → Type 0
@@ -1130,48 +1118,44 @@ reference_complete x used t rest (inr (inr (table, given, ex, (a, b, e, p, q))))
 abbrev pub EndsSecond : TokenKind → Type 0
 EndsSecond kind = EndsCondition kind × EndsReference kind × (same_kind kind k.Comma ≡ false) × (same_kind kind k.Cross ≡ false) × (same_kind kind k.Inner ≡ false) × (same_kind kind k.Join ≡ false)
 
-pub and_false : (a b : Bool) → b ≡ false → (a && b) ≡ false
-and_false true b e = e
-and_false false b e = refl
-
--- The next token shows the form of a second reference, where one is served; for each form. None of its tokens: there is none
-pub second_of_none : (served : Served) (t : Token) (rest : List Token) → EndsSecond t.kind → second served (t ∷ rest) ≡ Ok ((None, None), t ∷ rest)
+-- The next token tells the form of a second reference; for each form. None of its tokens: there is none
+pub second_of_none : (t : Token) (rest : List Token) → EndsSecond t.kind → second (t ∷ rest) ≡ Ok ((None, None), t ∷ rest)
 unfolding sees kind
-second_of_none served t rest f = rw (f.2, f.3, f.4, f.5, and_false served.second_reference false refl) refl
+second_of_none t rest f = rw (f.2, f.3, f.4, f.5) refl
 
 -- a comma: a reference without a condition
-pub second_of_comma : (served : Served) (m : Token) (ts : List Token) → served.second_reference ≡ true → m.kind ≡ k.Comma → second served (m ∷ ts) ≡ crossed served.functions ts
+pub second_of_comma : (m : Token) (ts : List Token) → m.kind ≡ k.Comma → second (m ∷ ts) ≡ crossed ts
 unfolding sees kind next
-second_of_comma served m ts is_served e = rw (is_served, is_kind m.kind k.Comma e) refl
+second_of_comma m ts e = rw (is_kind m.kind k.Comma e) refl
 
 -- CROSS: the same behind JOIN
-pub second_of_cross : (served : Served) (m : Token) (ts : List Token) → served.second_reference ≡ true → m.kind ≡ k.Cross
-    → second served (m ∷ ts) ≡ and_then (expect fault.Syntax k.Join ts) (λ _ l. crossed served.functions l)
+pub second_of_cross : (m : Token) (ts : List Token) → m.kind ≡ k.Cross
+    → second (m ∷ ts) ≡ and_then (expect fault.Syntax k.Join ts) (λ _ l. crossed l)
 unfolding sees kind next same_kind
-second_of_cross served m ts is_served e = rw (is_served, e) refl
+second_of_cross m ts e = rw e refl
 
 -- INNER: from JOIN on, with a reference and a condition
-pub second_of_inner : (served : Served) (m : Token) (ts : List Token) → served.second_reference ≡ true → m.kind ≡ k.Inner → second served (m ∷ ts) ≡ joined_on served.functions ts
+pub second_of_inner : (m : Token) (ts : List Token) → m.kind ≡ k.Inner → second (m ∷ ts) ≡ joined_on ts
 unfolding after sees kind next same_kind
-second_of_inner served m ts is_served e = rw (is_served, e) refl
+second_of_inner m ts e = rw e refl
 
 -- JOIN: the same without INNER
-pub second_of_join : (served : Served) (m : Token) (ts : List Token) → served.second_reference ≡ true → m.kind ≡ k.Join → second served (m ∷ ts) ≡ joined_on served.functions (m ∷ ts)
+pub second_of_join : (m : Token) (ts : List Token) → m.kind ≡ k.Join → second (m ∷ ts) ≡ joined_on (m ∷ ts)
 unfolding after sees kind next same_kind
-second_of_join served m ts is_served e = rw (is_served, e) refl
+second_of_join m ts e = rw e refl
 
 -- a second reference without a condition is read
-crossed_complete : (functions : Bool) (given : WrittenReference) (used : List Token) (t : Token) (rest : List Token) → IsReference given used → EndsReference t.kind
-    → crossed functions (used ++ t ∷ rest) ≡ Ok ((Some given, None), t ∷ rest)
+crossed_complete : (given : WrittenReference) (used : List Token) (t : Token) (rest : List Token) → IsReference given used → EndsReference t.kind
+    → crossed (used ++ t ∷ rest) ≡ Ok ((Some given, None), t ∷ rest)
 unfolding crossed
-crossed_complete functions given used t rest p f = rw (reference_complete given used t rest p f) refl
+crossed_complete given used t rest p f = rw (reference_complete given used t rest p f) refl
 
 -- JOIN with its reference and condition, where each step of the reader reads its part
-joined_by_steps : (functions : Bool) (given : WrittenReference) (x : ServedCond functions) (ts ts1 ts2 ts3 ts4 : List Token)
-    → expect fault.Syntax k.Join ts ≡ Ok (tt, ts1) → reference ts1 ≡ Ok (given, ts2) → expect fault.Syntax k.On ts2 ≡ Ok (tt, ts3) → condition functions ts3 ≡ Ok (x, ts4)
-    → joined_on functions ts ≡ Ok ((Some given, Some x), ts4)
+joined_by_steps : (given : WrittenReference) (x : Condition) (ts ts1 ts2 ts3 ts4 : List Token)
+    → expect fault.Syntax k.Join ts ≡ Ok (tt, ts1) → reference ts1 ≡ Ok (given, ts2) → expect fault.Syntax k.On ts2 ≡ Ok (tt, ts3) → condition ts3 ≡ Ok (x, ts4)
+    → joined_on ts ≡ Ok ((Some given, Some x), ts4)
 unfolding joined_on
-joined_by_steps functions given x ts ts1 ts2 ts3 ts4 e1 e2 e3 e4 = rw (e1, e2, e3, e4) refl
+joined_by_steps given x ts ts1 ts2 ts3 ts4 e1 e2 e3 e4 = rw (e1, e2, e3, e4) refl
 
 -- ON may follow a reference
 pub on_ends : (kind : TokenKind) → kind ≡ k.On → EndsReference kind
@@ -1179,58 +1163,58 @@ unfolding same_kind
 on_ends kind e = ends_by EndsReference kind k.On e (refl, refl, refl)
 
 -- JOIN with its reference and condition is read: ON ends the reference
-joined_complete : (functions : Bool) (given : WrittenReference) (x : ServedCond functions) (used : List Token) (t : Token) (rest : List Token) → IsJoin functions given x used → EndsCondition t.kind
-    → joined_on functions (used ++ t ∷ rest) ≡ Ok ((Some given, Some x), t ∷ rest)
-joined_complete functions given x used t rest p f = with_join (one_first _ (IsReference given ▸ IsToken k.On ▸ IsCondition functions x) used p)
+joined_complete : (given : WrittenReference) (x : Condition) (used : List Token) (t : Token) (rest : List Token) → IsJoin given x used → EndsCondition t.kind
+    → joined_on (used ++ t ∷ rest) ≡ Ok ((Some given, Some x), t ∷ rest)
+joined_complete given x used t rest p f = with_join (one_first _ (IsReference given ▸ IsToken k.On ▸ IsCondition x) used p)
   where
     with_on : (m : Token) (d a b : List Token) → used ≡ m ∷ d → m.kind ≡ k.Join → d ≡ a ++ b → IsReference given a
-        → ((n : Token) × (d2 : List Token) × (b ≡ n ∷ d2) × (n.kind ≡ k.On) × IsCondition functions x d2) → joined_on functions (used ++ t ∷ rest) ≡ Ok ((Some given, Some x), t ∷ rest)
+        → ((n : Token) × (d2 : List Token) × (b ≡ n ∷ d2) × (n.kind ≡ k.On) × IsCondition x d2) → joined_on (used ++ t ∷ rest) ≡ Ok ((Some given, Some x), t ∷ rest)
     with_on m d a b e join e2 r (n, d2, g, on, h) =
         let cut : d ++ t ∷ rest ≡ a ++ n ∷ (d2 ++ t ∷ rest) = split d a b d2 (t ∷ rest) n e2 g in
-        ap (λ l. joined_on functions (l ++ t ∷ rest)) e
-        ∙ joined_by_steps functions given x (m ∷ (d ++ t ∷ rest)) (d ++ t ∷ rest) (n ∷ (d2 ++ t ∷ rest)) (d2 ++ t ∷ rest) (t ∷ rest)
+        ap (λ l. joined_on (l ++ t ∷ rest)) e
+        ∙ joined_by_steps given x (m ∷ (d ++ t ∷ rest)) (d ++ t ∷ rest) (n ∷ (d2 ++ t ∷ rest)) (d2 ++ t ∷ rest) (t ∷ rest)
         (expect_read k.Join m (d ++ t ∷ rest) join) (ap reference cut ∙ reference_complete given a n (d2 ++ t ∷ rest) r (on_ends n.kind on))
-        (expect_read k.On n (d2 ++ t ∷ rest) on) (condition_complete functions x d2 t rest h f)
+        (expect_read k.On n (d2 ++ t ∷ rest) on) (condition_complete x d2 t rest h f)
 
-    with_join : ((m : Token) × (d : List Token) × (used ≡ m ∷ d) × (m.kind ≡ k.Join) × (IsReference given ▸ IsToken k.On ▸ IsCondition functions x) d)
-        → joined_on functions (used ++ t ∷ rest) ≡ Ok ((Some given, Some x), t ∷ rest)
-    with_join (m, d, e, join, (a, b, e2, r, q)) = with_on m d a b e join e2 r (one_first _ (IsCondition functions x) b q)
+    with_join : ((m : Token) × (d : List Token) × (used ≡ m ∷ d) × (m.kind ≡ k.Join) × (IsReference given ▸ IsToken k.On ▸ IsCondition x) d)
+        → joined_on (used ++ t ∷ rest) ≡ Ok ((Some given, Some x), t ∷ rest)
+    with_join (m, d, e, join, (a, b, e2, r, q)) = with_on m d a b e join e2 r (one_first _ (IsCondition x) b q)
 
 -- two tables without a condition between them
-crossed_second : (served : Served) (given : WrittenReference) (used : List Token) (t : Token) (rest : List Token) → served.second_reference ≡ true → IsCrossed given used → EndsReference t.kind
-    → second served (used ++ t ∷ rest) ≡ Ok ((Some given, None), t ∷ rest)
-crossed_second served given used t rest is_served (inl p) f =
+crossed_second : (given : WrittenReference) (used : List Token) (t : Token) (rest : List Token) → IsCrossed given used → EndsReference t.kind
+    → second (used ++ t ∷ rest) ≡ Ok ((Some given, None), t ∷ rest)
+crossed_second given used t rest (inl p) f =
     let comma = one_first _ (IsReference given) used p in
-    ap (λ l. second served (l ++ t ∷ rest)) comma.2 ∙ second_of_comma served comma.0 (comma.1 ++ t ∷ rest) is_served comma.3 ∙ crossed_complete served.functions given comma.1 t rest comma.4 f
-crossed_second served given used t rest is_served (inr p) f =
+    ap (λ l. second (l ++ t ∷ rest)) comma.2 ∙ second_of_comma comma.0 (comma.1 ++ t ∷ rest) comma.3 ∙ crossed_complete given comma.1 t rest comma.4 f
+crossed_second given used t rest (inr p) f =
     let cross = one_first _ (IsToken k.Join ▸ IsReference given) used p in
     let join = one_first _ (IsReference given) cross.1 cross.4 in
-    ap (λ l. second served (l ++ t ∷ rest)) cross.2 ∙ second_of_cross served cross.0 (cross.1 ++ t ∷ rest) is_served cross.3
-    ∙ ap (λ l. and_then (expect fault.Syntax k.Join (l ++ t ∷ rest)) (λ _ l. crossed served.functions l)) join.2
-    ∙ ap (λ r. and_then r (λ _ l. crossed served.functions l)) (expect_read k.Join join.0 (join.1 ++ t ∷ rest) join.3)
-    ∙ crossed_complete served.functions given join.1 t rest join.4 f
+    ap (λ l. second (l ++ t ∷ rest)) cross.2 ∙ second_of_cross cross.0 (cross.1 ++ t ∷ rest) cross.3
+    ∙ ap (λ l. and_then (expect fault.Syntax k.Join (l ++ t ∷ rest)) (λ _ l. crossed l)) join.2
+    ∙ ap (λ r. and_then r (λ _ l. crossed l)) (expect_read k.Join join.0 (join.1 ++ t ∷ rest) join.3)
+    ∙ crossed_complete given join.1 t rest join.4 f
 
 -- two tables with a condition between them, with INNER or without
-joined_second : (served : Served) (given : WrittenReference) (x : ServedCond served.functions) (used : List Token) (t : Token) (rest : List Token) → served.second_reference ≡ true
-    → IsJoined served.functions given x used → EndsCondition t.kind → second served (used ++ t ∷ rest) ≡ Ok ((Some given, Some x), t ∷ rest)
-joined_second served given x used t rest is_served (a, b, e, inl none, q) f =
-    let join = one_first _ (IsReference given ▸ IsToken k.On ▸ IsCondition served.functions x) b q in
+joined_second : (given : WrittenReference) (x : Condition) (used : List Token) (t : Token) (rest : List Token)
+    → IsJoined given x used → EndsCondition t.kind → second (used ++ t ∷ rest) ≡ Ok ((Some given, Some x), t ∷ rest)
+joined_second given x used t rest (a, b, e, inl none, q) f =
+    let join = one_first _ (IsReference given ▸ IsToken k.On ▸ IsCondition x) b q in
     let same : used ≡ b = e ∙ ap (λ l. l ++ b) none in
-    ap (λ l. second served (l ++ t ∷ rest)) (same ∙ join.2) ∙ second_of_join served join.0 (join.1 ++ t ∷ rest) is_served join.3
-    ∙ ap (λ l. joined_on served.functions (l ++ t ∷ rest)) (sym join.2) ∙ joined_complete served.functions given x b t rest q f
-joined_second served given x used t rest is_served (a, b, e, inr p, q) f =
+    ap (λ l. second (l ++ t ∷ rest)) (same ∙ join.2) ∙ second_of_join join.0 (join.1 ++ t ∷ rest) join.3
+    ∙ ap (λ l. joined_on (l ++ t ∷ rest)) (sym join.2) ∙ joined_complete given x b t rest q f
+joined_second given x used t rest (a, b, e, inr p, q) f =
     let inner = one_only _ a p in
     let same : used ≡ inner.0 ∷ b = e ∙ ap (λ l. l ++ b) inner.1 in
-    ap (λ l. second served (l ++ t ∷ rest)) same ∙ second_of_inner served inner.0 (b ++ t ∷ rest) is_served inner.2 ∙ joined_complete served.functions given x b t rest q f
+    ap (λ l. second (l ++ t ∷ rest)) same ∙ second_of_inner inner.0 (b ++ t ∷ rest) inner.2 ∙ joined_complete given x b t rest q f
 
 -- each form of a second reference is read, and none where none is written
-pub second_complete : (served : Served) → Complete (second served) (IsBoth served) EndsSecond
-second_complete served (x, y) used t rest (inl (ex, ey, none)) f =
-    ap (λ l. second served (l ++ t ∷ rest)) none ∙ second_of_none served t rest f ∙ ap (λ z. Ok ((z, None), t ∷ rest)) (sym ex) ∙ ap (λ z. Ok ((x, z), t ∷ rest)) (sym ey)
-second_complete served (x, y) used t rest (inr (inl (is_served, given, ex, ey, p))) f =
-    crossed_second served given used t rest is_served p f.1 ∙ ap (λ z. Ok ((z, None), t ∷ rest)) (sym ex) ∙ ap (λ z. Ok ((x, z), t ∷ rest)) (sym ey)
-second_complete served (x, y) used t rest (inr (inr (is_served, given, z, ex, ey, p))) f =
-    joined_second served given z used t rest is_served p f.0 ∙ ap (λ v. Ok ((v, Some z), t ∷ rest)) (sym ex) ∙ ap (λ v. Ok ((x, v), t ∷ rest)) (sym ey)
+pub second_complete : Complete second IsBoth EndsSecond
+second_complete (x, y) used t rest (inl (ex, ey, none)) f =
+    ap (λ l. second (l ++ t ∷ rest)) none ∙ second_of_none t rest f ∙ ap (λ z. Ok ((z, None), t ∷ rest)) (sym ex) ∙ ap (λ z. Ok ((x, z), t ∷ rest)) (sym ey)
+second_complete (x, y) used t rest (inr (inl (given, ex, ey, p))) f =
+    crossed_second given used t rest p f.1 ∙ ap (λ z. Ok ((z, None), t ∷ rest)) (sym ex) ∙ ap (λ z. Ok ((x, z), t ∷ rest)) (sym ey)
+second_complete (x, y) used t rest (inr (inr (given, z, ex, ey, p))) f =
+    joined_second given z used t rest p f.0 ∙ ap (λ v. Ok ((v, Some z), t ∷ rest)) (sym ex) ∙ ap (λ v. Ok ((x, v), t ∷ rest)) (sym ey)
 
 -- ---- EXPLAIN
 
@@ -1247,30 +1231,26 @@ says_word word m n ts e same other = rw (is_kind m.kind k.Word e, other, same) r
 no_left : (kind known : TokenKind) → kind ≡ known → same_kind known k.LeftParenthesis ≡ false → same_kind kind k.LeftParenthesis ≡ false
 no_left kind known e h = rw e h
 
--- EXPLAIN and ANALYZE are read as they are written and served: SELECT, which follows, is neither
-pub explained_complete : (served : Served) (told : Explain) (used : List Token) (t : Token) (rest : List Token) → IsExplain served told used → t.kind ≡ k.Select
-    → explained served (used ++ t ∷ rest) ≡ Ok (told, t ∷ rest)
+-- EXPLAIN and ANALYZE are read as they are written: SELECT, which follows, is neither
+pub explained_complete : (told : Explain) (used : List Token) (t : Token) (rest : List Token) → IsExplain told used → t.kind ≡ k.Select
+    → explained (used ++ t ∷ rest) ≡ Ok (told, t ∷ rest)
 unfolding same_kind next
-explained_complete served told used t rest (inl (e, none)) select =
-    rw (none, says_select (codes "EXPLAIN") t rest select, and_false served.explain false refl, e) refl
-explained_complete served told used t rest (inr (inl (is_served, e, p))) select =
+explained_complete told used t rest (inl (e, none)) select =
+    rw (none, says_select (codes "EXPLAIN") t rest select, e) refl
+explained_complete told used t rest (inr (inl (e, p))) select =
     let word = one_only _ used p in
     rw (
       word.1,
-      is_served,
       says_word (codes "EXPLAIN") word.0 t rest word.2.0 word.2.1 (no_left t.kind k.Select select refl),
       says_select (codes "ANALYZE") t rest select,
-      and_false served.analyze false refl,
       e,
     ) refl
-explained_complete served told used t rest (inr (inr (is_served, is_analyzed, e, p))) select =
+explained_complete told used t rest (inr (inr (e, p))) select =
     let first = one_first _ (IsWord (codes "ANALYZE")) used p in
     let last = one_only _ first.1 first.4 in
     rw (
       first.2,
       last.1,
-      is_served,
-      is_analyzed,
       says_word (codes "EXPLAIN") first.0 last.0 (t ∷ rest) first.3.0 first.3.1 (no_left last.0.kind k.Word last.2.0 refl),
       says_word (codes "ANALYZE") last.0 t rest last.2.0 last.2.1 (no_left t.kind k.Select select refl),
       e,
@@ -1283,37 +1263,37 @@ abbrev pub EndsWhere : TokenKind → Type 0
 EndsWhere kind = EndsCondition kind × (same_kind kind k.Where ≡ false)
 
 -- where WHERE isn't next there is no condition
-pub where_of_none : (functions : Bool) (t : Token) (rest : List Token) → same_kind t.kind k.Where ≡ false → where_condition functions (t ∷ rest) ≡ Ok (None, t ∷ rest)
+pub where_of_none : (t : Token) (rest : List Token) → same_kind t.kind k.Where ≡ false → where_condition (t ∷ rest) ≡ Ok (None, t ∷ rest)
 unfolding where_condition after sees kind next
-where_of_none functions t rest f = rw f refl
+where_of_none t rest f = rw f refl
 
 -- behind WHERE a condition is read
-pub where_of_word : (functions : Bool) (m : Token) (ts : List Token) → m.kind ≡ k.Where → where_condition functions (m ∷ ts) ≡ and_then (condition functions ts) (λ x rest. Ok (Some x, rest))
+pub where_of_word : (m : Token) (ts : List Token) → m.kind ≡ k.Where → where_condition (m ∷ ts) ≡ and_then (condition ts) (λ x rest. Ok (Some x, rest))
 unfolding where_condition after sees kind next
-where_of_word functions m ts e = rw (is_kind m.kind k.Where e) refl
+where_of_word m ts e = rw (is_kind m.kind k.Where e) refl
 
 -- WHERE with its condition is read, and none where none is written
-where_complete : (functions : Bool) → Complete (where_condition functions) (IsWhere functions) EndsWhere
-where_complete functions x used t rest (inl (ex, none)) f =
-    ap (λ l. where_condition functions (l ++ t ∷ rest)) none ∙ where_of_none functions t rest f.1 ∙ ap (λ y. Ok (y, t ∷ rest)) (sym ex)
-where_complete functions x used t rest (inr (y, ex, p)) f = go (one_first _ (IsCondition functions y) used p)
+where_complete : Complete where_condition IsWhere EndsWhere
+where_complete x used t rest (inl (ex, none)) f =
+    ap (λ l. where_condition (l ++ t ∷ rest)) none ∙ where_of_none t rest f.1 ∙ ap (λ y. Ok (y, t ∷ rest)) (sym ex)
+where_complete x used t rest (inr (y, ex, p)) f = go (one_first _ (IsCondition y) used p)
   where
-    go : ((m : Token) × (d : List Token) × (used ≡ m ∷ d) × (m.kind ≡ k.Where) × IsCondition functions y d) → where_condition functions (used ++ t ∷ rest) ≡ Ok (x, t ∷ rest)
+    go : ((m : Token) × (d : List Token) × (used ≡ m ∷ d) × (m.kind ≡ k.Where) × IsCondition y d) → where_condition (used ++ t ∷ rest) ≡ Ok (x, t ∷ rest)
     go (m, d, e, word, h) =
-        ap (λ l. where_condition functions (l ++ t ∷ rest)) e ∙ where_of_word functions m (d ++ t ∷ rest) word
-        ∙ ap (λ r. and_then r (λ x rest. Ok (Some x, rest))) (condition_complete functions y d t rest h f.0) ∙ ap (λ z. Ok (z, t ∷ rest)) (sym ex)
+        ap (λ l. where_condition (l ++ t ∷ rest)) e ∙ where_of_word m (d ++ t ∷ rest) word
+        ∙ ap (λ r. and_then r (λ x rest. Ok (Some x, rest))) (condition_complete y d t rest h f.0) ∙ ap (λ z. Ok (z, t ∷ rest)) (sym ex)
 
 -- ---- LIMIT
 
 -- where LIMIT isn't next there is no limit
-limit_of_none : (served : Served) (t : Token) (rest : List Token) → same_kind t.kind k.Limit ≡ false → limited served (t ∷ rest) ≡ Ok (None, t ∷ rest)
+limit_of_none : (t : Token) (rest : List Token) → same_kind t.kind k.Limit ≡ false → limited (t ∷ rest) ≡ Ok (None, t ∷ rest)
 unfolding sees kind
-limit_of_none served t rest f = rw (f, and_false served.limit false refl) refl
+limit_of_none t rest f = rw f refl
 
--- behind LIMIT, where it is served, its number is read
-pub limit_of_word : (served : Served) (m : Token) (ts : List Token) → served.limit ≡ true → m.kind ≡ k.Limit → limited served (m ∷ ts) ≡ limit_number ts
+-- behind LIMIT its number is read
+pub limit_of_word : (m : Token) (ts : List Token) → m.kind ≡ k.Limit → limited (m ∷ ts) ≡ limit_number ts
 unfolding sees kind next
-limit_of_word served m ts is_served e = rw (is_served, is_kind m.kind k.Limit e) refl
+limit_of_word m ts e = rw (is_kind m.kind k.Limit e) refl
 
 -- digits with a number within 64 bits are read as LIMIT's number
 count_complete : (n : ℕ) (u : Token) (rest : List Token) → u.kind ≡ k.Integer → limit_value u.text ≡ Some n → limit_number (u ∷ rest) ≡ Ok (Some n, rest)
@@ -1324,13 +1304,13 @@ count_complete n u rest e g = rw (is_kind u.kind k.Integer e, g) refl
 abbrev pub EndsLimit : TokenKind → Type 0
 EndsLimit kind = same_kind kind k.Limit ≡ false
 
--- LIMIT with its number is read where it is served, and none where none is written
-limit_complete : (served : Served) → Complete (limited served) (IsLimit served) EndsLimit
-limit_complete served x used t rest (inl (e, none)) f = ap (λ l. limited served (l ++ t ∷ rest)) none ∙ limit_of_none served t rest f ∙ ap (λ y. Ok (y, t ∷ rest)) (sym e)
-limit_complete served x used t rest (inr (is_served, n, e, p)) f =
+-- LIMIT with its number is read, and none where none is written
+limit_complete : Complete limited IsLimit EndsLimit
+limit_complete x used t rest (inl (e, none)) f = ap (λ l. limited (l ++ t ∷ rest)) none ∙ limit_of_none t rest f ∙ ap (λ y. Ok (y, t ∷ rest)) (sym e)
+limit_complete x used t rest (inr (n, e, p)) f =
     let m = one_first _ (IsRowCount n) used p in
     let u = one_only _ m.1 m.4 in
-    ap (λ l. limited served (l ++ t ∷ rest)) (m.2 ∙ ap (λ l. m.0 ∷ l) u.1) ∙ limit_of_word served m.0 (u.0 ∷ t ∷ rest) is_served m.3
+    ap (λ l. limited (l ++ t ∷ rest)) (m.2 ∙ ap (λ l. m.0 ∷ l) u.1) ∙ limit_of_word m.0 (u.0 ∷ t ∷ rest) m.3
     ∙ count_complete n u.0 (t ∷ rest) u.2.0 u.2.1 ∙ ap (λ y. Ok (y, t ∷ rest)) (sym e)
 
 -- ---- the end of a query
@@ -1399,97 +1379,96 @@ pub where_ends : (kind : TokenKind) → kind ≡ k.Where → EndsSecond kind
 unfolding same_kind
 where_ends kind e = ends_by EndsSecond kind k.Where e (((((refl, refl), refl), refl), refl), (refl, refl, refl), refl, refl, refl, refl)
 
--- from LIMIT on, the next token may follow the condition of WHERE: it is LIMIT, or what is at the end
-limit_begins : (served : Served) (most : Option ℕ) (a b ts : List Token) → ts ≡ a ++ b → IsLimit served most a → IsTail b → Begins EndsBoth ts
-limit_begins served most a b ts e (inl (ex, none)) q =
+-- from LIMIT on, the next token may stand behind the condition of WHERE: it is LIMIT, or what stands at the end
+limit_begins : (most : Option ℕ) (a b ts : List Token) → ts ≡ a ++ b → IsLimit most a → IsTail b → Begins EndsBoth ts
+limit_begins most a b ts e (inl (ex, none)) q =
     let tail : Begins EndsBoth b = begins_but EndsAll EndsBoth b (λ kind f. f.0) (tail_begins b q) in
     (tail.0, tail.1, e ∙ ap (λ l. l ++ b) none ∙ tail.2, tail.3)
-limit_begins served most a b ts e (inr (is_served, n, ex, p)) q =
+limit_begins most a b ts e (inr (n, ex, p)) q =
     let m = one_first _ (IsRowCount n) a p in
     (m.0, m.1 ++ b, e ∙ ap (λ l. l ++ b) m.2, limit_ends m.0.kind m.3)
 
--- from WHERE on, the next token may follow a second reference: it is WHERE, or what may be in its place
-where_begins : (functions : Bool) (filter : Option (ServedCond functions)) (a b ts : List Token) → ts ≡ a ++ b → IsWhere functions filter a → Begins EndsBoth b → Begins EndsSecond ts
-where_begins functions filter a b ts e (inl (ex, none)) tail = (tail.0, tail.1, e ∙ ap (λ l. l ++ b) none ∙ tail.2, tail.3.1)
-where_begins functions filter a b ts e (inr (y, ex, p)) tail = go (one_first _ (IsCondition functions y) a p)
+-- from WHERE on, the next token may stand behind a second reference: it is WHERE, or what may stand in its place
+where_begins : (filter : Option Condition) (a b ts : List Token) → ts ≡ a ++ b → IsWhere filter a → Begins EndsBoth b → Begins EndsSecond ts
+where_begins filter a b ts e (inl (ex, none)) tail = (tail.0, tail.1, e ∙ ap (λ l. l ++ b) none ∙ tail.2, tail.3.1)
+where_begins filter a b ts e (inr (y, ex, p)) tail = go (one_first _ (IsCondition y) a p)
   where
-    go : ((m : Token) × (d : List Token) × (a ≡ m ∷ d) × (m.kind ≡ k.Where) × IsCondition functions y d) → Begins EndsSecond ts
+    go : ((m : Token) × (d : List Token) × (a ≡ m ∷ d) × (m.kind ≡ k.Where) × IsCondition y d) → Begins EndsSecond ts
     go (m, d, g, word, h) = (m, d ++ b, e ∙ ap (λ l. l ++ b) g, where_ends m.kind word)
 
 pub ends_reference : (kind known : TokenKind) → kind ≡ known → EndsReference known → EndsReference kind
 ends_reference kind known e h = ends_by EndsReference kind known e h
 
--- from the second reference on, the next token may follow the first: a comma, CROSS, INNER, JOIN, or what may in their place
-second_begins : (served : Served) (both : Second served.functions) (a b ts : List Token) → ts ≡ a ++ b → IsBoth served both a → Begins EndsSecond b → Begins EndsReference ts
+-- from the second reference on, the next token may stand behind the first: a comma, CROSS, INNER, JOIN, or what may in their place
+second_begins : (both : Second) (a b ts : List Token) → ts ≡ a ++ b → IsBoth both a → Begins EndsSecond b → Begins EndsReference ts
 unfolding same_kind
-second_begins served both a b ts e (inl (ex, ey, none)) (t, more, g, f) = (t, more, e ∙ ap (λ l. l ++ b) none ∙ g, f.1)
-second_begins served both a b ts e (inr (inl (is_served, given, ex, ey, inl p))) h =
+second_begins both a b ts e (inl (ex, ey, none)) (t, more, g, f) = (t, more, e ∙ ap (λ l. l ++ b) none ∙ g, f.1)
+second_begins both a b ts e (inr (inl (given, ex, ey, inl p))) h =
     let m = one_first _ (IsReference given) a p in
     (m.0, m.1 ++ b, e ∙ ap (λ l. l ++ b) m.2, ends_reference m.0.kind k.Comma m.3 (refl, refl, refl))
-second_begins served both a b ts e (inr (inl (is_served, given, ex, ey, inr p))) h =
+second_begins both a b ts e (inr (inl (given, ex, ey, inr p))) h =
     let m = one_first _ (IsToken k.Join ▸ IsReference given) a p in
     (m.0, m.1 ++ b, e ∙ ap (λ l. l ++ b) m.2, ends_reference m.0.kind k.Cross m.3 (refl, refl, refl))
-second_begins served both a b ts e (inr (inr (is_served, given, x, ex, ey, (a1, b1, e1, inl none, q)))) h =
-    let m = one_first _ (IsReference given ▸ IsToken k.On ▸ IsCondition served.functions x) b1 q in
+second_begins both a b ts e (inr (inr (given, x, ex, ey, (a1, b1, e1, inl none, q)))) h =
+    let m = one_first _ (IsReference given ▸ IsToken k.On ▸ IsCondition x) b1 q in
     (m.0, m.1 ++ b, e ∙ ap (λ l. l ++ b) (e1 ∙ ap (λ l. l ++ b1) none ∙ m.2), ends_reference m.0.kind k.Join m.3 (refl, refl, refl))
-second_begins served both a b ts e (inr (inr (is_served, given, x, ex, ey, (a1, b1, e1, inr p, q)))) h =
+second_begins both a b ts e (inr (inr (given, x, ex, ey, (a1, b1, e1, inr p, q)))) h =
     let m = one_only _ a1 p in
     (m.0, b1 ++ b, e ∙ ap (λ l. l ++ b) (e1 ∙ ap (λ l. l ++ b1) m.1), ends_reference m.0.kind k.Inner m.2 (refl, refl, refl))
 
 -- ---- queries as a whole
 
 -- a query, where each step of its reader reads its part
-query_by_steps : (served : Served) (told : Explain) (listed : Selection (ItemArgument served.functions)) (first : WrittenReference) (both : Second served.functions)
-    (filter : Option (ServedCond served.functions)) (most : Option ℕ) (ts ts0 ts1 ts2 ts3 ts4 ts5 ts6 tail : List Token)
-    → explained served ts ≡ Ok (told, ts0) → expect fault.Syntax k.Select ts0 ≡ Ok (tt, ts1) → selection served ts1 ≡ Ok (listed, ts2) → expect fault.Syntax k.From ts2 ≡ Ok (tt, ts3)
-    → reference ts3 ≡ Ok (first, ts4) → second served ts4 ≡ Ok (both, ts5) → where_condition served.functions ts5 ≡ Ok (filter, ts6) → limited served ts6 ≡ Ok (most, tail)
+query_by_steps : (told : Explain) (listed : Selection WrittenColumn) (first : WrittenReference) (both : Second)
+    (filter : Option Condition) (most : Option ℕ) (ts ts0 ts1 ts2 ts3 ts4 ts5 ts6 tail : List Token)
+    → explained ts ≡ Ok (told, ts0) → expect fault.Syntax k.Select ts0 ≡ Ok (tt, ts1) → selection ts1 ≡ Ok (listed, ts2) → expect fault.Syntax k.From ts2 ≡ Ok (tt, ts3)
+    → reference ts3 ≡ Ok (first, ts4) → second ts4 ≡ Ok (both, ts5) → where_condition ts5 ≡ Ok (filter, ts6) → limited ts6 ≡ Ok (most, tail)
     → expect fault.Syntax k.End (after k.Semicolon tail) ≡ Ok (tt, [])
-    → query served ts ≡ Ok (record { explain = told; selection = listed; first = first; second = both.0; on = both.1; condition = filter; limit = most }, [])
+    → query ts ≡ Ok (record { explain = told; selection = listed; first = first; second = both.0; on = both.1; condition = filter; limit = most }, [])
 unfolding query
-query_by_steps served told listed first both filter most ts ts0 ts1 ts2 ts3 ts4 ts5 ts6 tail e0 e1 e2 e3 e4 e5 e6 e7 e8 = rw (e0, e1, e2, e3, e4, e5, e6, e7, e8) refl
+query_by_steps told listed first both filter most ts ts0 ts1 ts2 ts3 ts4 ts5 ts6 tail e0 e1 e2 e3 e4 e5 e6 e7 e8 = rw (e0, e1, e2, e3, e4, e5, e6, e7, e8) refl
 
 -- from LIMIT on
-abbrev pub Rest6 : Served → Option ℕ → List Token → Type 0
-Rest6 served most ts = (tail : List Token) × (limited served ts ≡ Ok (most, tail)) × (expect fault.Syntax k.End (after k.Semicolon tail) ≡ Ok (tt, [])) × Begins EndsBoth ts
+abbrev pub Rest6 : Option ℕ → List Token → Type 0
+Rest6 most ts = (tail : List Token) × (limited ts ≡ Ok (most, tail)) × (expect fault.Syntax k.End (after k.Semicolon tail) ≡ Ok (tt, [])) × Begins EndsBoth ts
 
--- The rest of a query is read part by part from its end, since each part is read by the token that comes after it. From LIMIT on
-rest6 : (served : Served) (most : Option ℕ) (ts : List Token) → (IsLimit served most ▸ IsTail) ts → Rest6 served most ts
-rest6 served most ts (a, b, e, p, q) = (
+-- The rest of a query is read part by part from its end, since each part is read by the token that stands behind it. From LIMIT on
+rest6 : (most : Option ℕ) (ts : List Token) → (IsLimit most ▸ IsTail) ts → Rest6 most ts
+rest6 most ts (a, b, e, p, q) = (
   b,
-  ap (limited served) e ∙ complete_at (limited served) (IsLimit served) EndsLimit (limit_complete served) most a b p (begins_but EndsAll EndsLimit b (λ kind f. f.1) (tail_begins b q)),
+  ap limited e ∙ complete_at limited IsLimit EndsLimit limit_complete most a b p (begins_but EndsAll EndsLimit b (λ kind f. f.1) (tail_begins b q)),
   tail_read b q,
-  limit_begins served most a b ts e p q,
+  limit_begins most a b ts e p q,
 )
 
 -- from the condition on
-abbrev pub Rest5 : (served : Served) → Option (ServedCond served.functions) → Option ℕ → List Token → Type 0
-Rest5 served filter most ts = (mid : List Token) × (where_condition served.functions ts ≡ Ok (filter, mid)) × Rest6 served most mid × Begins EndsSecond ts
+abbrev pub Rest5 : Option Condition → Option ℕ → List Token → Type 0
+Rest5 filter most ts = (mid : List Token) × (where_condition ts ≡ Ok (filter, mid)) × Rest6 most mid × Begins EndsSecond ts
 
--- from WHERE on: what follows begins with a token that may follow its condition
-rest5 : (served : Served) (filter : Option (ServedCond served.functions)) (most : Option ℕ) (ts : List Token) → (IsWhere served.functions filter ▸ IsLimit served most ▸ IsTail) ts
-    → Rest5 served filter most ts
-rest5 served filter most ts (a, b, e, p, q) =
-    let F : Bool = served.functions in
-    let more = rest6 served most b q in (
+-- from WHERE on: what follows begins with a token that may stand behind its condition
+rest5 : (filter : Option Condition) (most : Option ℕ) (ts : List Token) → (IsWhere filter ▸ IsLimit most ▸ IsTail) ts
+    → Rest5 filter most ts
+rest5 filter most ts (a, b, e, p, q) =
+    let more = rest6 most b q in (
       b,
-      ap (where_condition F) e ∙ complete_at (where_condition F) (IsWhere F) EndsWhere (where_complete F) filter a b p (begins_but EndsBoth EndsWhere b (λ kind f. f.0) more.3),
+      ap where_condition e ∙ complete_at where_condition IsWhere EndsWhere where_complete filter a b p (begins_but EndsBoth EndsWhere b (λ kind f. f.0) more.3),
       more,
-      where_begins F filter a b ts e p more.3,
+      where_begins filter a b ts e p more.3,
     )
 
 -- from the second reference on
-abbrev pub Rest4 : (served : Served) → Second served.functions → Option (ServedCond served.functions) → Option ℕ → List Token → Type 0
-Rest4 served both filter most ts = (mid : List Token) × (second served ts ≡ Ok (both, mid)) × Rest5 served filter most mid × Begins EndsReference ts
+abbrev pub Rest4 : Second → Option Condition → Option ℕ → List Token → Type 0
+Rest4 both filter most ts = (mid : List Token) × (second ts ≡ Ok (both, mid)) × Rest5 filter most mid × Begins EndsReference ts
 
--- from the second reference on: what follows begins with a token that may follow it
-rest4 : (served : Served) (both : Second served.functions) (filter : Option (ServedCond served.functions)) (most : Option ℕ) (ts : List Token)
-    → (IsBoth served both ▸ IsWhere served.functions filter ▸ IsLimit served most ▸ IsTail) ts → Rest4 served both filter most ts
-rest4 served both filter most ts (a, b, e, p, q) =
-    let more = rest5 served filter most b q in (
+-- from the second reference on: what follows begins with a token that may stand behind it
+rest4 : (both : Second) (filter : Option Condition) (most : Option ℕ) (ts : List Token)
+    → (IsBoth both ▸ IsWhere filter ▸ IsLimit most ▸ IsTail) ts → Rest4 both filter most ts
+rest4 both filter most ts (a, b, e, p, q) =
+    let more = rest5 filter most b q in (
       b,
-      ap (second served) e ∙ complete_at (second served) (IsBoth served) EndsSecond (second_complete served) both a b p more.3,
+      ap second e ∙ complete_at second IsBoth EndsSecond second_complete both a b p more.3,
       more,
-      second_begins served both a b ts e p more.3,
+      second_begins both a b ts e p more.3,
     )
 
 -- FROM may follow a selection
@@ -1498,29 +1477,29 @@ unfolding same_kind
 from_ends kind e = ends_by EndsItems kind k.From e ((refl, refl), refl)
 
 -- what is written from the second reference on
-abbrev pub IsRest : (served : Served) → ServedQuery served → Phrase
-IsRest served q = IsSecond served q.second q.on ▸ IsWhere served.functions q.condition ▸ IsLimit served q.limit ▸ IsTail
+abbrev pub IsRest : SelectQuery → Phrase
+IsRest q = IsSecond q.second q.on ▸ IsWhere q.condition ▸ IsLimit q.limit ▸ IsTail
 
--- each rule is read as far as its phrase goes, by the token that comes after it
-pub select_complete : (served : Served) (q : ServedQuery served) (ts : List Token) → IsSelect served q ts → query served ts ≡ Ok (q, [])
-select_complete served q ts (a0, b0, e0, told, p) = at_select (one_first _ _ b0 p)
+-- each rule is read as far as its phrase goes, by the token that stands behind it
+pub select_complete : (q : SelectQuery) (ts : List Token) → IsSelect q ts → query ts ≡ Ok (q, [])
+select_complete q ts (a0, b0, e0, told, p) = at_select (one_first _ _ b0 p)
   where
-    at_reference : (m : Token) (ts1 a1 : List Token) (n : Token) (ts3 : List Token) → b0 ≡ m ∷ ts1 → m.kind ≡ k.Select → ts1 ≡ a1 ++ n ∷ ts3 → n.kind ≡ k.From → IsSelection served q.selection a1
-        → (IsReference q.first ▸ IsRest served q) ts3 → query served ts ≡ Ok (q, [])
+    at_reference : (m : Token) (ts1 a1 : List Token) (n : Token) (ts3 : List Token) → b0 ≡ m ∷ ts1 → m.kind ≡ k.Select → ts1 ≡ a1 ++ n ∷ ts3 → n.kind ≡ k.From → IsSelection q.selection a1
+        → (IsReference q.first ▸ IsRest q) ts3 → query ts ≡ Ok (q, [])
     at_reference m ts1 a1 n ts3 e1 s cut f l1 (a, b, e, r, w) =
-        let more = rest4 served (q.second, q.on) q.condition q.limit b w in
-        query_by_steps served q.explain q.selection q.first (q.second, q.on) q.condition q.limit ts (m ∷ ts1) ts1 (n ∷ ts3) ts3 b more.0 more.2.0 more.2.2.0
-        (ap (explained served) (e0 ∙ ap (λ l. a0 ++ l) e1) ∙ explained_complete served q.explain a0 m ts1 told s)
+        let more = rest4 (q.second, q.on) q.condition q.limit b w in
+        query_by_steps q.explain q.selection q.first (q.second, q.on) q.condition q.limit ts (m ∷ ts1) ts1 (n ∷ ts3) ts3 b more.0 more.2.0 more.2.2.0
+        (ap explained (e0 ∙ ap (λ l. a0 ++ l) e1) ∙ explained_complete q.explain a0 m ts1 told s)
         (expect_read k.Select m ts1 s)
-        (ap (selection served) cut ∙ selection_complete served q.selection a1 n ts3 l1 (from_ends n.kind f))
+        (ap selection cut ∙ selection_complete q.selection a1 n ts3 l1 (from_ends n.kind f))
         (expect_read k.From n ts3 f)
         (ap reference e ∙ complete_at reference IsReference EndsReference reference_complete q.first a b r more.3)
         more.1 more.2.1 more.2.2.1 more.2.2.2
 
-    at_from : (m : Token) (ts1 a1 b1 : List Token) → b0 ≡ m ∷ ts1 → m.kind ≡ k.Select → ts1 ≡ a1 ++ b1 → IsSelection served q.selection a1
-        → ((n : Token) × (ts3 : List Token) × (b1 ≡ n ∷ ts3) × (n.kind ≡ k.From) × (IsReference q.first ▸ IsRest served q) ts3) → query served ts ≡ Ok (q, [])
+    at_from : (m : Token) (ts1 a1 b1 : List Token) → b0 ≡ m ∷ ts1 → m.kind ≡ k.Select → ts1 ≡ a1 ++ b1 → IsSelection q.selection a1
+        → ((n : Token) × (ts3 : List Token) × (b1 ≡ n ∷ ts3) × (n.kind ≡ k.From) × (IsReference q.first ▸ IsRest q) ts3) → query ts ≡ Ok (q, [])
     at_from m ts1 a1 b1 e1 s cut l1 (n, ts3, e2, f, r) = at_reference m ts1 a1 n ts3 e1 s (cut ∙ ap (λ l. a1 ++ l) e2) f l1 r
 
-    at_select : ((m : Token) × (ts1 : List Token) × (b0 ≡ m ∷ ts1) × (m.kind ≡ k.Select) × (IsSelection served q.selection ▸ IsToken k.From ▸ IsReference q.first ▸ IsRest served q) ts1)
-        → query served ts ≡ Ok (q, [])
-    at_select (m, ts1, e1, s, (a1, b1, cut, l1, more)) = at_from m ts1 a1 b1 e1 s cut l1 (one_first _ (IsReference q.first ▸ IsRest served q) b1 more)
+    at_select : ((m : Token) × (ts1 : List Token) × (b0 ≡ m ∷ ts1) × (m.kind ≡ k.Select) × (IsSelection q.selection ▸ IsToken k.From ▸ IsReference q.first ▸ IsRest q) ts1)
+        → query ts ≡ Ok (q, [])
+    at_select (m, ts1, e1, s, (a1, b1, cut, l1, more)) = at_from m ts1 a1 b1 e1 s cut l1 (one_first _ (IsReference q.first ▸ IsRest q) b1 more)

@@ -7,7 +7,7 @@ use Rattle.table_model.specs.Outcomes.{Gives}
 use Rattle.table_model.specs.Parsers.{Outcome, value_of}
 use Rattle.table_model.specs.QueryGrammar.{IsSelect, IsQuery, AnswersQuery}
 use Rattle.table_model.specs.QueryReading.{bad_place, query, query_by, query_of}
-use Rattle.table_model.specs.Served.{Served, ServedQuery}
+use Rattle.table_model.specs.Queries.{SelectQuery}
 use Rattle.table_model.specs.Tokens.{tokens, most_bytes}
 use Rattle.grammar_laws.proofs.QueryComplete.{select_complete}
 use Rattle.grammar_laws.proofs.QuerySound.{query_sound}
@@ -19,49 +19,49 @@ value_read (Ok p) P h = h
 value_read (Err e) P h = tt
 
 -- a text that is made of tokens is read as the tokens' query; one that isn't is refused, which leaves nothing to show
-by_place : (served : Served) (text : List ℕ) (v : Option ℕ) → length text ≤ most_bytes → bad_place (tokens true text) ≡ v
-    → IfOk (query_by served v (tokens true text)) (λ q. IsQuery served text q)
+by_place : (text : List ℕ) (v : Option ℕ) → length text ≤ most_bytes → bad_place (tokens true text) ≡ v
+    → IfOk (query_by v (tokens true text)) (λ q. IsQuery text q)
 unfolding IsQuery
-by_place served text None short e =
-    value_read (query served (tokens true text)) (λ q. IsQuery served text q)
-    (map_read (query served (tokens true text)) (λ q rest. IsSelect served q (tokens true text)) (λ q rest. IsQuery served text q) (λ q rest p. (short, e, p))
-    (query_sound served (tokens true text) (tokens_once true text)))
-by_place served text (Some at) short e = tt
+by_place text None short e =
+    value_read (query (tokens true text)) (λ q. IsQuery text q)
+    (map_read (query (tokens true text)) (λ q rest. IsSelect q (tokens true text)) (λ q rest. IsQuery text q) (λ q rest p. (short, e, p))
+    (query_sound (tokens true text) (tokens_once true text)))
+by_place text (Some at) short e = tt
 
 -- so for a text that isn't too long; a longer one is refused
-by_length : (served : Served) (text : List ℕ) (long : Bool) → nat_lt most_bytes (length text) ≡ long
-    → IfOk (if long then Err fault.TooLong else query_by served (bad_place (tokens true text)) (tokens true text)) (λ q. IsQuery served text q)
-by_length served text true e = tt
-by_length served text false e = by_place served text (bad_place (tokens true text)) (ltb-false most_bytes (length text) e) refl
+by_length : (text : List ℕ) (long : Bool) → nat_lt most_bytes (length text) ≡ long
+    → IfOk (if long then Err fault.TooLong else query_by (bad_place (tokens true text)) (tokens true text)) (λ q. IsQuery text q)
+by_length text true e = tt
+by_length text false e = by_place text (bad_place (tokens true text)) (ltb-false most_bytes (length text) e) refl
 
 -- whatever a text is read as, it is by the grammar, as the readers of its tokens keep to their rules
-query_of_sound : (served : Served) (text : List ℕ) → IfOk (query_of served text) (λ q. IsQuery served text q)
+query_of_sound : (text : List ℕ) → IfOk (query_of text) (λ q. IsQuery text q)
 unfolding query_of
-query_of_sound served text = by_length served text (nat_lt most_bytes (length text)) refl
+query_of_sound text = by_length text (nat_lt most_bytes (length text)) refl
 
 -- what is read as a query is one
-pub read_is_query : (served : Served) (text : List ℕ) (q : ServedQuery served) → query_of served text ≡ Ok q → IsQuery served text q
-read_is_query served text q e = subst (λ r. IfOk r (λ q. IsQuery served text q)) e (query_of_sound served text)
+pub read_is_query : (text : List ℕ) (q : SelectQuery) → query_of text ≡ Ok q → IsQuery text q
+read_is_query text q e = subst (λ r. IfOk r (λ q. IsQuery text q)) e (query_of_sound text)
 
 -- a query is read, as that one
-pub query_is_read : (served : Served) (text : List ℕ) (q : ServedQuery served) → IsQuery served text q → query_of served text ≡ Ok q
+pub query_is_read : (text : List ℕ) (q : SelectQuery) → IsQuery text q → query_of text ≡ Ok q
 unfolding query_of IsQuery
-query_is_read served text q (short, good, select) =
-    rw (le-ltb most_bytes (length text) short, good, select_complete served q (tokens true text) select) refl
+query_is_read text q (short, good, select) =
+    rw (le-ltb most_bytes (length text) short, good, select_complete q (tokens true text) select) refl
 
 -- one answer has one value
 same_answer : {A : Type 0} (r : Result A QueryFault) (a b : A) → r ≡ Ok a → r ≡ Ok b → a ≡ b
 same_answer r a b p q = cc
 
 -- a text is one query at most
-pub one_tree : (served : Served) (text : List ℕ) (a b : ServedQuery served) → IsQuery served text a → IsQuery served text b → a ≡ b
-one_tree served text a b p q = same_answer (query_of served text) a b (query_is_read served text a p) (query_is_read served text b q)
+pub one_tree : (text : List ℕ) (a b : SelectQuery) → IsQuery text a → IsQuery text b → a ≡ b
+one_tree text a b p q = same_answer (query_of text) a b (query_is_read text a p) (query_is_read text b q)
 
 -- what is given as the text's query is one
-pub given_is_query : (served : Served) (text : List ℕ) (r : Result (ServedQuery served) QueryFault) → Gives fault.OutOfMemory (λ q. q) r (query_of served text) → IfOk r (λ q. IsQuery served text q)
-given_is_query served text (Ok q) e = read_is_query served text q e
-given_is_query served text (Err e) h = tt
+pub given_is_query : (text : List ℕ) (r : Result SelectQuery QueryFault) → Gives fault.OutOfMemory (λ q. q) r (query_of text) → IfOk r (λ q. IsQuery text q)
+given_is_query text (Ok q) e = read_is_query text q e
+given_is_query text (Err e) h = tt
 
 -- whatever query a text is, that one is given
-pub query_is_given : (served : Served) (text : List ℕ) (r : Result (ServedQuery served) QueryFault) → Gives fault.OutOfMemory (λ q. q) r (query_of served text) → AnswersQuery served text r
-query_is_given served text r given q is = subst (λ answer. Gives fault.OutOfMemory (λ q. q) r answer) (query_is_read served text q is) given
+pub query_is_given : (text : List ℕ) (r : Result SelectQuery QueryFault) → Gives fault.OutOfMemory (λ q. q) r (query_of text) → AnswersQuery text r
+query_is_given text r given q is = subst (λ answer. Gives fault.OutOfMemory (λ q. q) r answer) (query_is_read text q is) given

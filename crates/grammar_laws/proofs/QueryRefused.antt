@@ -9,8 +9,12 @@ use Rattle.table_model.specs.declared.conditions.Comparison.{Comparison}
 use Rattle.table_model.specs.declared.faults.QueryFault.{QueryFault}
 use Rattle.table_model.specs.declared.faults.QueryFault.TheVariants as fault
 use Rattle.table_model.specs.declared.queries.WrittenCond.{WrittenCond}
+use Rattle.table_model.specs.declared.queries.WrittenGeometry.{WrittenGeometry}
 use Rattle.table_model.specs.declared.queries.WrittenCond.TheVariants as c
+use Rattle.table_model.specs.declared.queries.Selection.TheVariants as l
+use Rattle.table_model.specs.declared.queries.WrittenItem.TheVariants as i
 use Rattle.table_model.specs.declared.queries.WrittenOperand.{WrittenOperand}
+use Rattle.table_model.specs.declared.queries.WrittenOperand.TheVariants as o
 use Rattle.table_model.specs.declared.queries.WrittenReference.{WrittenReference}
 use Rattle.table_model.specs.declared.tokens.Token.{Token}
 use Rattle.table_model.specs.declared.tokens.TokenKind.{TokenKind}
@@ -20,7 +24,7 @@ use Rattle.table_model.specs.Parsers.{Outcome, kind, place, spelling, next, sees
 use Rattle.table_model.specs.QueryGrammar.{IsOperand, IsComparison, IsPredicateOf, IsPredicate, IsChain, IsConjunction, IsConditionOf, IsNegationOf, IsNegation, IsCondition, IsSelection, IsReference, IsWhere, IsExplain}
 use Rattle.table_model.specs.QueryReading.{Reader, Functions, name, column, calls, called_or, enclosed, string, geometry, integer, integer_value, integer_or, operand_functions, operand, comparison_of, compared, compared_by, null_test, comparison, truth_value, truth_test, truth_tested, relates, relates_by, predicate_functions, predicate, chain, conjunction, condition_of, group, negation, most_levels, condition, item_functions, item, items, counted, count_function, selection, alias, reference, Second, crossed, joined_on, second, where_condition, limit_value, limit_or, limit_number, limited, says, explained, query, bad_place, query_by, query_of}
 use Rattle.table_model.specs.QueryRefusals.{IsAnyOperand, IsAnyNegation, IsAnyCondition, BeforeSecond, BeforeOn, ThroughFrom, BeforeWhere, IsAnyWhere, BeforeLimit, AreParts, BeforeNegation, BeforeOperand, IsTooBig, StandsIn, is_at_token, StandsInQuery}
-use Rattle.table_model.specs.Served.{Served, Argument, ItemArgument, ServedOperand, ServedCond, ServedQuery}
+use Rattle.table_model.specs.Queries.{Condition, ConditionOperand, SelectQuery}
 use Rattle.table_model.specs.Tokens.{same_kind, tokens, most_bytes}
 use Rattle.grammar_laws.proofs.QuerySound.{Sound, operand_sound, comparison_taken, chain_sound, negation_sound, explained_sound, selection_sound, reference_sound, expect_sound, second_sound, where_sound, optional, IsBoth}
 use Rattle.grammar_laws.proofs.TokenReaders.{IfRead, Took, map_read, same, one, seq, but, ended_more}
@@ -112,9 +116,8 @@ geometry_faults E ts = if_faults (calls (codes "ST_GeomFromText") ts) _ _ E
     (λ _. enclosed_faults _ (mapped_faults _ string string_faults) E (next ts)) (λ _. mapped_faults _ column column_faults E ts)
 
 -- ST_AsText and ST_Dimension of a geometry; so for the predicates and the functions of the select list below
-operand_functions_faults : (functions : Bool) (at : ℕ) → AllFaultless (operand_functions functions at)
-operand_functions_faults false at = tt
-operand_functions_faults true at = (enclosed_faults _ (mapped_faults _ geometry geometry_faults), (enclosed_faults _ (mapped_faults _ geometry geometry_faults), tt))
+operand_functions_faults : (at : ℕ) → AllFaultless (operand_functions at)
+operand_functions_faults at = (enclosed_faults _ (mapped_faults _ geometry geometry_faults), (enclosed_faults _ (mapped_faults _ geometry geometry_faults), tt))
 
 -- IS NULL and IS NOT NULL have no integer
 null_faults : {A : Type 0} (left : WrittenOperand A) → Faultless (null_test left)
@@ -147,9 +150,8 @@ relates_by_faults at E ts = then_none (geometry ts) _ E (geometry_faults E ts)
     (λ a ts1. then_none (expect fault.Syntax k.Comma ts1) _ E (expect_faults k.Comma E ts1) (λ _ ts2. then_none (geometry ts2) _ E (geometry_faults E ts2)
     (λ b ts3. then_none (expect fault.Syntax k.Comma ts3) _ E (expect_faults k.Comma E ts3) (λ _ ts4. then_none (string ts4) _ E (string_faults E ts4) (λ pattern rest. tt)))))
 
-predicate_functions_faults : (functions : Bool) (at : ℕ) → AllFaultless (predicate_functions functions at)
-predicate_functions_faults false at = tt
-predicate_functions_faults true at =
+predicate_functions_faults : (at : ℕ) → AllFaultless (predicate_functions at)
+predicate_functions_faults at =
     let named : (predicate : Predicate) → Faultless (truth_tested (relates at predicate)) = λ predicate. tested_faults (relates at predicate) (relates_faults at predicate) in (
       named p.Equals,
       (
@@ -176,15 +178,15 @@ predicate_functions_faults true at =
       ),
     )
 
-item_functions_faults : (functions : Bool) (at : ℕ) → AllFaultless (item_functions functions at)
-item_functions_faults false at = tt
-item_functions_faults true at =
+item_functions_faults : (at : ℕ) → AllFaultless (item_functions at)
+item_functions_faults at =
     (enclosed_faults _ (mapped_faults _ column column_faults), (enclosed_faults _ (mapped_faults _ column column_faults), (enclosed_faults _ (mapped_faults _ column column_faults), tt)))
 
 -- an item is a function of a column, or a column
-item_faults : (functions : Bool) → Faultless (item functions)
+item_faults : Faultless item
 unfolding item
-item_faults functions E ts = called_faults (item_functions functions (place ts)) _ ts E (item_functions_faults functions (place ts)) (mapped_faults _ column column_faults E ts)
+item_faults E ts =
+    called_faults (item_functions (place ts)) (λ us. and_then (column us) (λ x rest. Ok (i.Column x, rest))) ts E (item_functions_faults (place ts)) (mapped_faults i.Column column column_faults E ts)
 
 -- parts with tokens between them aren't refused at a token where no part is
 parts_faultless : {A : Type 0} (between : TokenKind) (part : Reader A) → Faultless part → (n : ℕ) (found : List A) → Faultless (parts_from fault.Syntax between part n found)
@@ -193,19 +195,16 @@ parts_faultless between part none zero found E ts = λ e. absurd (false≢true e
 parts_faultless between part none (suc n) found E ts = then_none (part ts) _ E (none E ts)
     (λ x mid. eaten_faults between mid _ _ E (λ _. parts_faultless between part none n (found ++ x ∷ []) E (next mid)) (λ _. tt))
 
-count_function_faults : (C : Type 0) (count : Bool) → AllFaultless (count_function {C = C} count)
-count_function_faults C false = tt
-count_function_faults C true =
-    (enclosed_faults (counted {C = C}) (λ E ts. then_none (expect fault.Syntax k.Star ts) _ E (expect_faults k.Star E ts) (λ _ rest. tt)), tt)
+count_function_faults : AllFaultless count_function
+count_function_faults = (enclosed_faults counted (λ E ts. then_none (expect fault.Syntax k.Star ts) _ E (expect_faults k.Star E ts) (λ _ rest. tt)), tt)
 
 -- a select list is the asterisk, COUNT(*) or items: none has an operand or a level
-selection_faults : (served : Served) → Faultless (selection served)
+selection_faults : Faultless selection
 unfolding selection
-selection_faults served E ts =
-    let F : Bool = served.functions in
+selection_faults E ts =
     if_faults (sees k.Star ts) _ _ E (λ _. tt)
-    (λ _. called_faults (count_function served.count) _ ts E (count_function_faults (ItemArgument served.functions) served.count)
-    (then_none (items F ts) _ E (parts_faultless k.Comma (item F) (item_faults F) (length ts) [] E ts) (λ xs rest. tt)))
+    (λ _. called_faults count_function (λ us. and_then (items us) (λ xs rest. Ok (l.Items xs, rest))) ts E count_function_faults
+    (then_none (items ts) _ E (parts_faultless k.Comma item item_faults (length ts) [] E ts) (λ xs rest. tt)))
 
 -- an alias, a table reference and one that is joined without a condition have no operand and no level
 alias_faults : Faultless alias
@@ -217,14 +216,14 @@ reference_faults : Faultless reference
 unfolding reference
 reference_faults E ts = then_none (name ts) _ E (name_faults E ts) (λ table mid. then_none (alias mid) _ E (alias_faults E mid) (λ given rest. tt))
 
-crossed_faults : (functions : Bool) → Faultless (crossed functions)
+crossed_faults : Faultless crossed
 unfolding crossed
-crossed_faults functions E ts = then_none (reference ts) _ E (reference_faults E ts) (λ x rest. tt)
+crossed_faults E ts = then_none (reference ts) _ E (reference_faults E ts) (λ x rest. tt)
 
 -- EXPLAIN and ANALYZE are words, and are never refused
-explained_faults : (served : Served) → Faultless (explained served)
-explained_faults served E ts = if_faults (served.explain && says (codes "EXPLAIN") ts) _ _ E
-    (λ _. if_faults (served.analyze && says (codes "ANALYZE") (next ts)) _ _ E (λ _. tt) (λ _. tt)) (λ _. tt)
+explained_faults : Faultless explained
+explained_faults E ts = if_faults (says (codes "EXPLAIN") ts) _ _ E
+    (λ _. if_faults (says (codes "ANALYZE") (next ts)) _ _ E (λ _. tt) (λ _. tt)) (λ _. tt)
 
 -- ---- what was taken
 
@@ -279,27 +278,27 @@ negation_but P Q f (suc levels) x ts (inr (inl (a, b, e, left, (d, r, e2, p, rig
 negation_but P Q f (suc levels) x ts (inr (inr p)) = inr (inr (f x ts p))
 
 -- comparisons and IS NULL take operands; functions don't, and stay as they are
-predicate_but : (functions : Bool) (P Q : ServedOperand functions → Phrase) → ((x : ServedOperand functions) (ts : List Token) → P x ts → Q x ts) → (x : ServedCond functions) (ts : List Token)
-    → IsPredicateOf functions P x ts → IsPredicateOf functions Q x ts
-predicate_but functions P Q f x ts (inl (comparison, left, right, e, (a, b, e2, p, (m, d, e3, q, h)))) = inl (comparison, left, right, e, (a, b, e2, f left a p, (m, d, e3, q, f right d h)))
-predicate_but functions P Q f x ts (inr (inl (operand, e, (a, b, e2, p, q)))) = inr (inl (operand, e, (a, b, e2, f operand a p, q)))
-predicate_but functions P Q f x ts (inr (inr (inl (operand, e, (a, b, e2, p, q))))) = inr (inr (inl (operand, e, (a, b, e2, f operand a p, q))))
-predicate_but functions P Q f x ts (inr (inr (inr p))) = inr (inr (inr p))
+predicate_but : (P Q : ConditionOperand → Phrase) → ((x : ConditionOperand) (ts : List Token) → P x ts → Q x ts) → (x : Condition) (ts : List Token)
+    → IsPredicateOf P x ts → IsPredicateOf Q x ts
+predicate_but P Q f x ts (inl (comparison, left, right, e, (a, b, e2, p, (m, d, e3, q, h)))) = inl (comparison, left, right, e, (a, b, e2, f left a p, (m, d, e3, q, f right d h)))
+predicate_but P Q f x ts (inr (inl (operand, e, (a, b, e2, p, q)))) = inr (inl (operand, e, (a, b, e2, f operand a p, q)))
+predicate_but P Q f x ts (inr (inr (inl (operand, e, (a, b, e2, p, q))))) = inr (inr (inl (operand, e, (a, b, e2, f operand a p, q))))
+predicate_but P Q f x ts (inr (inr (inr p))) = inr (inr (inr p))
 
 -- a negation of the grammar is one where integers have any size and levels any number
-any_negation : (functions : Bool) (levels : ℕ) (x : ServedCond functions) (ts : List Token) → IsNegation functions levels x ts → IsAnyNegation functions x ts
-any_negation functions levels x ts p =
-    (levels, negation_but (IsPredicate functions) (IsPredicateOf functions (IsAnyOperand functions)) (predicate_but functions (IsOperand functions) (IsAnyOperand functions) (λ y us q. inl q)) levels x ts p)
+any_negation : (levels : ℕ) (x : Condition) (ts : List Token) → IsNegation levels x ts → IsAnyNegation x ts
+any_negation levels x ts p =
+    (levels, negation_but IsPredicate (IsPredicateOf IsAnyOperand) (predicate_but IsOperand IsAnyOperand (λ y us q. inl q)) levels x ts p)
 
 -- and so is a condition
-any_condition : (functions : Bool) (x : ServedCond functions) (ts : List Token) → IsCondition functions x ts → IsAnyCondition functions x ts
-any_condition functions = condition_but (IsNegation functions most_levels) (IsAnyNegation functions) (any_negation functions most_levels)
+any_condition : (x : Condition) (ts : List Token) → IsCondition x ts → IsAnyCondition x ts
+any_condition = condition_but (IsNegation most_levels) IsAnyNegation (any_negation most_levels)
 
 -- what is read as a negation is one where integers have any size and levels any number
-negation_read : (functions : Bool) (levels : ℕ) → Sound (negation functions levels) (IsAnyNegation functions)
-negation_read functions levels ts =
-    map_read (negation functions levels ts) (λ x rest. Took ts (IsNegation functions levels x) rest) (λ x rest. Took ts (IsAnyNegation functions x) rest)
-    (λ x rest q. but (IsNegation functions levels x) (IsAnyNegation functions x) ts rest q (any_negation functions levels x)) (negation_sound functions levels ts)
+negation_read : (levels : ℕ) → Sound (negation levels) IsAnyNegation
+negation_read levels ts =
+    map_read (negation levels ts) (λ x rest. Took ts (IsNegation levels x) rest) (λ x rest. Took ts (IsAnyNegation x) rest)
+    (λ x rest q. but (IsNegation levels x) (IsAnyNegation x) ts rest q (any_negation levels x)) (negation_sound levels ts)
 
 -- ---- operands
 
@@ -315,65 +314,65 @@ unfolding integer
 integer_faults A negative E ts h =
     if_faults (sees k.Integer ts) _ _ E (λ is. digits_faults A E (place ts) (next ts) (integer_value negative (spelling ts)) (h is)) (λ _. λ e. absurd (false≢true e))
 
--- digits that are too big are refused at the token where the reader is, behind the tokens that it took
-big_here : (served : Served) (all : List Token) (P : Phrase) {V : Type 0} (value : List ℕ → Option V) (ts : List Token) → Took all P ts → sees k.Integer ts ≡ true → value (spelling ts) ≡ None
-    → ((before : List Token) (t : Token) → P before → t.kind ≡ k.Integer → value t.text ≡ None → IsTooBig served before t)
-    → StandsIn served all (fault.NumberTooBig (place ts))
+-- digits that are too big are refused at the token where the reader stands, behind the tokens that it took
+big_here : (all : List Token) (P : Phrase) {V : Type 0} (value : List ℕ → Option V) (ts : List Token) → Took all P ts → sees k.Integer ts ≡ true → value (spelling ts) ≡ None
+    → ((before : List Token) (t : Token) → P before → t.kind ≡ k.Integer → value t.text ≡ None → IsTooBig before t)
+    → StandsIn all (fault.NumberTooBig (place ts))
 unfolding sees kind place spelling
-big_here served all P value [] took is none f = absurd (let e = same k.Bad k.Integer is in cc)
-big_here served all P value (t ∷ rest) took is none f = (took.0, rest, t, took.1, (refl, f took.0 t took.2 (same t.kind k.Integer is) none))
+big_here all P value [] took is none f = absurd (let e = same k.Bad k.Integer is in cc)
+big_here all P value (t ∷ rest) took is none f = (took.0, rest, t, took.1, (refl, f took.0 t took.2 (same t.kind k.Integer is) none))
 
 -- an operand is refused at a token only as an integer: behind +, behind -, or without a sign
-operand_faults : (served : Served) (all ts : List Token) → Took all (BeforeOperand served) ts → Faults (operand served.functions ts) (StandsIn served all)
+operand_faults : (all ts : List Token) → Took all BeforeOperand ts → Faults (operand ts) (StandsIn all)
 unfolding operand
-operand_faults served all ts took =
-    let A : Type 0 = Argument served.functions in
-    let E : QueryFault → Type 0 = StandsIn served all in
-    let B : Phrase = BeforeOperand served in
+operand_faults all ts took =
+    let A : Type 0 = WrittenGeometry in
+    let E : QueryFault → Type 0 = StandsIn all in
+    let B : Phrase = BeforeOperand in
     if_faults (sees k.Null ts) _ _ E (λ _. tt)
     (λ _. if_faults (sees k.Text ts) _ _ E (λ _. tt)
     (λ _. if_faults (sees k.Plus ts) _ _ E
-    (λ h. integer_faults A false E (next ts) (λ is none. big_here served all (B ▸ IsToken k.Plus) (integer_value false) (next ts) (seq B (IsToken k.Plus) all ts (next ts) took (one k.Plus ts (λ e. cc) h)) is none
+    (λ h. integer_faults A false E (next ts) (λ is none. big_here all (B ▸ IsToken k.Plus) (integer_value false) (next ts) (seq B (IsToken k.Plus) all ts (next ts) took (one k.Plus ts (λ e. cc) h)) is none
     (λ before t p digits big. (digits, inr (inl (big, p))))))
     (λ _. if_faults (sees k.Minus ts) _ _ E
-    (λ h. integer_faults A true E (next ts) (λ is none. big_here served all (B ▸ IsToken k.Minus) (integer_value true) (next ts) (seq B (IsToken k.Minus) all ts (next ts) took (one k.Minus ts (λ e. cc) h)) is none
+    (λ h. integer_faults A true E (next ts) (λ is none. big_here all (B ▸ IsToken k.Minus) (integer_value true) (next ts) (seq B (IsToken k.Minus) all ts (next ts) took (one k.Minus ts (λ e. cc) h)) is none
     (λ before t p digits big. (digits, inr (inr (inl (big, p)))))))
     (λ _. if_faults (sees k.Integer ts) _ _ E
-    (λ _. integer_faults A false E ts (λ is none. big_here served all B (integer_value false) ts took is none (λ before t p digits big. (digits, inl (big, p)))))
-    (λ _. called_faults (operand_functions served.functions (place ts)) _ ts E (operand_functions_faults served.functions (place ts)) (mapped_faults _ column column_faults E ts))))))
+    (λ _. integer_faults A false E ts (λ is none. big_here all B (integer_value false) ts took is none (λ before t p digits big. (digits, inl (big, p)))))
+    (λ _. called_faults (operand_functions (place ts)) (λ us. and_then (column us) (λ x rest. Ok (o.Column x, rest))) ts E (operand_functions_faults (place ts)) (mapped_faults o.Column column column_faults E ts))))))
 
 -- ---- predicates
 
--- the right side comes after the left one and the sign of comparison, where an operand may be there
-compared_faults : (served : Served) (all : List Token) (opened : ℕ) (at : ℕ) (left : ServedOperand served.functions) (start ts : List Token) (v : Option Comparison)
-    → Took all (BeforeNegation served opened) start → Took start (IsOperand served.functions left) ts → comparison_of (kind ts) ≡ v
-    → Faults (compared_by served.functions at left v ts) (StandsIn served all)
-compared_faults served all opened at left start ts None stood read e = λ e. absurd (false≢true e)
-compared_faults served all opened at left start ts (Some comparison) stood read e =
-    let O : Phrase = IsAnyOperand served.functions left in
-    let both : Took all (BeforeNegation served opened ▸ O ▸ IsComparison comparison) (next ts) =
-    seq (BeforeNegation served opened) (O ▸ IsComparison comparison) all start (next ts) stood
-    (seq O (IsComparison comparison) start ts (next ts) (but (IsOperand served.functions left) O start ts read (λ used p. inl p)) (comparison_taken ts comparison e)) in
-    then_none (operand served.functions (next ts)) _ (StandsIn served all)
-    (operand_faults served all (next ts) (but (BeforeNegation served opened ▸ O ▸ IsComparison comparison) (BeforeOperand served) all (next ts) both (λ used p. (opened, inr (left, comparison, p)))))
+-- the right side stands behind the left one and the sign of comparison, where an operand may stand
+compared_faults : (all : List Token) (opened : ℕ) (at : ℕ) (left : ConditionOperand) (start ts : List Token) (v : Option Comparison)
+    → Took all (BeforeNegation opened) start → Took start (IsOperand left) ts → comparison_of (kind ts) ≡ v
+    → Faults (compared_by at left v ts) (StandsIn all)
+compared_faults all opened at left start ts None stood read e = λ e. absurd (false≢true e)
+compared_faults all opened at left start ts (Some comparison) stood read e =
+    let O : Phrase = IsAnyOperand left in
+    let both : Took all (BeforeNegation opened ▸ O ▸ IsComparison comparison) (next ts) =
+    seq (BeforeNegation opened) (O ▸ IsComparison comparison) all start (next ts) stood
+    (seq O (IsComparison comparison) start ts (next ts) (but (IsOperand left) O start ts read (λ used p. inl p)) (comparison_taken ts comparison e)) in
+    then_none (operand (next ts)) _ (StandsIn all)
+    (operand_faults all (next ts) (but (BeforeNegation opened ▸ O ▸ IsComparison comparison) BeforeOperand all (next ts) both (λ used p. (opened, inr (left, comparison, p)))))
     (λ right rest. tt)
 
--- the left side is where the predicate is; IS NULL behind it has no further operand
-comparison_faults : (served : Served) (all : List Token) (opened : ℕ) (ts : List Token) → Took all (BeforeNegation served opened) ts → Faults (comparison served.functions ts) (StandsIn served all)
+-- the left side stands where the predicate does; IS NULL behind it has no further operand
+comparison_faults : (all : List Token) (opened : ℕ) (ts : List Token) → Took all (BeforeNegation opened) ts → Faults (comparison ts) (StandsIn all)
 unfolding comparison compared
-comparison_faults served all opened ts took =
-    let E : QueryFault → Type 0 = StandsIn served all in
-    then_faults (operand served.functions ts) _ (λ x rest. Took ts (IsOperand served.functions x) rest) E (operand_sound served.functions ts)
-    (operand_faults served all ts (but (BeforeNegation served opened) (BeforeOperand served) all ts took (λ used p. (opened, inl p))))
+comparison_faults all opened ts took =
+    let E : QueryFault → Type 0 = StandsIn all in
+    then_faults (operand ts) _ (λ x rest. Took ts (IsOperand x) rest) E (operand_sound ts)
+    (operand_faults all ts (but (BeforeNegation opened) BeforeOperand all ts took (λ used p. (opened, inl p))))
     (λ left mid read. eaten_faults k.Is mid _ _ E (λ _. null_faults left E (next mid))
-    (λ _. compared_faults served all opened (place ts) left ts mid (comparison_of (kind mid)) took read refl))
+    (λ _. compared_faults all opened (place ts) left ts mid (comparison_of (kind mid)) took read refl))
 
 -- functions aren't refused at a token, so a predicate is refused as a comparison is
-predicate_faults : (served : Served) (all : List Token) (opened : ℕ) (ts : List Token) → Took all (BeforeNegation served opened) ts → Faults (predicate served.functions ts) (StandsIn served all)
+predicate_faults : (all : List Token) (opened : ℕ) (ts : List Token) → Took all (BeforeNegation opened) ts → Faults (predicate ts) (StandsIn all)
 unfolding predicate
-predicate_faults served all opened ts took =
-    called_faults (predicate_functions served.functions (place ts)) (comparison served.functions) ts (StandsIn served all)
-    (predicate_functions_faults served.functions (place ts)) (comparison_faults served all opened ts took)
+predicate_faults all opened ts took =
+    called_faults (predicate_functions (place ts)) comparison ts (StandsIn all)
+    (predicate_functions_faults (place ts)) (comparison_faults all opened ts took)
 
 -- ---- conditions
 
@@ -418,17 +417,17 @@ condition_of_faults part P C all E sound each =
     (λ ors ts took. chain_faults k.And c.And part P (C ▸ AreEnded (IsToken k.Or) (IsConjunction P) ors) all E (λ e. cc) sound
     (λ ands ts2 took2. each ors ands ts2 (regroup C (AreEnded (IsToken k.Or) (IsConjunction P) ors) (AreEnded (IsToken k.And) P ands) all ts2 took2)) ts took)
 
--- what came before the parts of a condition, and those
-with_parts : (functions : Bool) (C : Phrase) (ors ands : List (ServedCond functions)) (all ts : List Token)
-    → Took all (C ▸ AreEnded (IsToken k.Or) (IsConjunction (IsAnyNegation functions)) ors ▸ AreEnded (IsToken k.And) (IsAnyNegation functions) ands) ts → Took all (C ▸ AreParts functions) ts
-with_parts functions C ors ands all ts took = but _ (C ▸ AreParts functions) all ts took (λ used p. (p.0, p.1, p.2, p.3, (ors, ands, p.4)))
+-- what stood before the parts of a condition, and those
+with_parts : (C : Phrase) (ors ands : List Condition) (all ts : List Token)
+    → Took all (C ▸ AreEnded (IsToken k.Or) (IsConjunction IsAnyNegation) ors ▸ AreEnded (IsToken k.And) IsAnyNegation ands) ts → Took all (C ▸ AreParts) ts
+with_parts C ors ands all ts took = but _ (C ▸ AreParts) all ts took (λ used p. (p.0, p.1, p.2, p.3, (ors, ands, p.4)))
 
 -- parentheses are refused where a part of the condition inside is
-group_faults : (functions : Bool) (part : Reader (ServedCond functions)) (C : Phrase) (all : List Token) (E : QueryFault → Type 0) → Sound part (IsAnyNegation functions)
-    → ((ts : List Token) → Took all (C ▸ AreParts functions) ts → Faults (part ts) E) → (ts : List Token) → Took all C ts → Faults (group part ts) E
-group_faults functions part C all E sound each ts took =
+group_faults : (part : Reader Condition) (C : Phrase) (all : List Token) (E : QueryFault → Type 0) → Sound part IsAnyNegation
+    → ((ts : List Token) → Took all (C ▸ AreParts) ts → Faults (part ts) E) → (ts : List Token) → Took all C ts → Faults (group part ts) E
+group_faults part C all E sound each ts took =
     then_none (condition_of part ts) _ E
-    (condition_of_faults part (IsAnyNegation functions) C all E sound (λ ors ands us stood. each us (with_parts functions C ors ands all us stood)) ts took)
+    (condition_of_faults part IsAnyNegation C all E sound (λ ors ands us stood. each us (with_parts C ors ands all us stood)) ts took)
     (λ x mid. then_none (expect fault.Syntax k.RightParenthesis mid) _ E (expect_faults k.RightParenthesis E mid) (λ _ rest. tt))
 
 either_true : (X : Type 0) (a b : Bool) → (a || b) ≡ true → (a ≡ true → X) → (b ≡ true → X) → X
@@ -436,11 +435,11 @@ either_true X true b h f g = f refl
 either_true X false b h f g = g h
 
 -- a NOT or a parenthesis where all levels are open is refused as too deep, at itself
-deep_here : (served : Served) (all ts : List Token) → Took all (BeforeNegation served most_levels) ts → (sees k.Not ts || sees k.LeftParenthesis ts) ≡ true
-    → StandsIn served all (fault.TooDeep (place ts))
+deep_here : (all ts : List Token) → Took all (BeforeNegation most_levels) ts → (sees k.Not ts || sees k.LeftParenthesis ts) ≡ true
+    → StandsIn all (fault.TooDeep (place ts))
 unfolding sees kind place same_kind
-deep_here served all [] took h = absurd (false≢true h)
-deep_here served all (t ∷ rest) took h = (
+deep_here all [] took h = absurd (false≢true h)
+deep_here all (t ∷ rest) took h = (
   took.0,
   rest,
   t,
@@ -457,82 +456,72 @@ deep_here served all (t ∷ rest) took h = (
 
 -- each NOT and each parenthesis opens a level, and the open levels and those that are left stay the same in sum,
 -- so where none is left all are open
-negation_faults : (served : Served) (all : List Token) (levels opened : ℕ) → opened + levels ≡ most_levels → (ts : List Token) → Took all (BeforeNegation served opened) ts
-    → Faults (negation served.functions levels ts) (StandsIn served all)
+negation_faults : (all : List Token) (levels opened : ℕ) → opened + levels ≡ most_levels → (ts : List Token) → Took all (BeforeNegation opened) ts
+    → Faults (negation levels ts) (StandsIn all)
 unfolding negation BeforeNegation
-negation_faults served all zero opened count ts took =
-    if_faults (sees k.Not ts || sees k.LeftParenthesis ts) _ _ (StandsIn served all)
-    (λ h. λ _. let full : opened ≡ most_levels = omega (arith, count) in deep_here served all ts (subst (λ n. Took all (BeforeNegation served n) ts) full took) h)
-    (λ _. predicate_faults served all opened ts took)
-negation_faults served all (suc levels) opened count ts took =
-    let F : Bool = served.functions in
-    let E : QueryFault → Type 0 = StandsIn served all in
-    let B : Phrase = BeforeNegation served opened in
+negation_faults all zero opened count ts took =
+    if_faults (sees k.Not ts || sees k.LeftParenthesis ts) _ _ (StandsIn all)
+    (λ h. λ _. let full : opened ≡ most_levels = omega (arith, count) in deep_here all ts (subst (λ n. Took all (BeforeNegation n) ts) full took) h)
+    (λ _. predicate_faults all opened ts took)
+negation_faults all (suc levels) opened count ts took =
+    let E : QueryFault → Type 0 = StandsIn all in
+    let B : Phrase = BeforeNegation opened in
     let more : suc opened + levels ≡ most_levels = omega (arith, count) in
     if_faults (sees k.Not ts) _ _ E
-    (λ h. then_none (negation F levels (next ts)) _ E
-    (negation_faults served all levels (suc opened) more (next ts)
-    (but (B ▸ IsToken k.Not) (BeforeNegation served (suc opened)) all (next ts) (seq B (IsToken k.Not) all ts (next ts) took (one k.Not ts (λ e. cc) h)) (λ used p. inl p)))
+    (λ h. then_none (negation levels (next ts)) _ E
+    (negation_faults all levels (suc opened) more (next ts)
+    (but (B ▸ IsToken k.Not) (BeforeNegation (suc opened)) all (next ts) (seq B (IsToken k.Not) all ts (next ts) took (one k.Not ts (λ e. cc) h)) (λ used p. inl p)))
     (λ y rest. tt))
     (λ _. if_faults (sees k.LeftParenthesis ts) _ _ E
-    (λ h. group_faults F (negation F levels) (B ▸ IsToken k.LeftParenthesis) all E (negation_read F levels)
-    (λ us stood. negation_faults served all levels (suc opened) more us
-    (but (B ▸ IsToken k.LeftParenthesis ▸ AreParts F) (BeforeNegation served (suc opened)) all us (regroup B (IsToken k.LeftParenthesis) (AreParts F) all us stood) (λ used p. inr p)))
+    (λ h. group_faults (negation levels) (B ▸ IsToken k.LeftParenthesis) all E (negation_read levels)
+    (λ us stood. negation_faults all levels (suc opened) more us
+    (but (B ▸ IsToken k.LeftParenthesis ▸ AreParts) (BeforeNegation (suc opened)) all us (regroup B (IsToken k.LeftParenthesis) AreParts all us stood) (λ used p. inr p)))
     (next ts) (seq B (IsToken k.LeftParenthesis) all ts (next ts) took (one k.LeftParenthesis ts (λ e. cc) h)))
-    (λ _. predicate_faults served all opened ts took))
+    (λ _. predicate_faults all opened ts took))
 
--- the parts of a whole condition, of ON or of WHERE, are where no level is open yet
-condition_faults : (served : Served) (C : Phrase) (all : List Token) → ((ts : List Token) → Took all (C ▸ AreParts served.functions) ts → Took all (BeforeNegation served 0) ts)
-    → (ts : List Token) → Took all C ts → Faults (condition served.functions ts) (StandsIn served all)
-condition_faults served C all begins ts took =
-    condition_of_faults (negation served.functions most_levels) (IsAnyNegation served.functions) C all (StandsIn served all) (negation_read served.functions most_levels)
-    (λ ors ands us stood. negation_faults served all most_levels 0 refl us (begins us (with_parts served.functions C ors ands all us stood))) ts took
+-- the parts of a whole condition, of ON or of WHERE, stand where no level is open yet
+condition_faults : (C : Phrase) (all : List Token) → ((ts : List Token) → Took all (C ▸ AreParts) ts → Took all (BeforeNegation 0) ts)
+    → (ts : List Token) → Took all C ts → Faults (condition ts) (StandsIn all)
+condition_faults C all begins ts took =
+    condition_of_faults (negation most_levels) IsAnyNegation C all (StandsIn all) (negation_read most_levels)
+    (λ ors ands us stood. negation_faults all most_levels 0 refl us (begins us (with_parts C ors ands all us stood))) ts took
 
 -- ---- queries
 
-and_first : (a b : Bool) → (a && b) ≡ true → a ≡ true
-and_first true b h = refl
-and_first false b h = h
-
-and_second : (a b : Bool) → (a && b) ≡ true → b ≡ true
-and_second true b h = h
-and_second false b h = absurd (false≢true h)
-
--- the condition of ON comes after JOIN, the second reference and ON
-joined_on_faults : (served : Served) (all start ts : List Token) → served.second_reference ≡ true → Took all (BeforeSecond served) start → Took start (IsOptional k.Inner) ts
-    → Faults (joined_on served.functions ts) (StandsIn served all)
+-- the condition of ON stands behind JOIN, the second reference and ON
+joined_on_faults : (all start ts : List Token) → Took all BeforeSecond start → Took start (IsOptional k.Inner) ts
+    → Faults (joined_on ts) (StandsIn all)
 unfolding joined_on BeforeNegation
-joined_on_faults served all start ts is_served took inner =
-    let E : QueryFault → Type 0 = StandsIn served all in
+joined_on_faults all start ts took inner =
+    let E : QueryFault → Type 0 = StandsIn all in
     then_faults (expect fault.Syntax k.Join ts) _ (λ _ rest. Took ts (IsToken k.Join) rest) E (expect_sound k.Join ts (λ e. cc)) (expect_faults k.Join E ts)
     (λ _ ts1 p1. then_faults (reference ts1) _ (λ x rest. Took ts1 (IsReference x) rest) E (reference_sound ts1) (reference_faults E ts1)
     (λ given ts2 p2. then_faults (expect fault.Syntax k.On ts2) _ (λ _ rest. Took ts2 (IsToken k.On) rest) E (expect_sound k.On ts2 (λ e. cc)) (expect_faults k.On E ts2)
     (λ _ ts3 p3.
-    let stood : Took all (BeforeOn served) ts3 = but (BeforeSecond served ▸ IsOptional k.Inner ▸ IsToken k.Join ▸ IsReference given ▸ IsToken k.On) (BeforeOn served) all ts3
-    (seq (BeforeSecond served) (IsOptional k.Inner ▸ IsToken k.Join ▸ IsReference given ▸ IsToken k.On) all start ts3 took
+    let stood : Took all BeforeOn ts3 = but (BeforeSecond ▸ IsOptional k.Inner ▸ IsToken k.Join ▸ IsReference given ▸ IsToken k.On) BeforeOn all ts3
+    (seq BeforeSecond (IsOptional k.Inner ▸ IsToken k.Join ▸ IsReference given ▸ IsToken k.On) all start ts3 took
     (seq (IsOptional k.Inner) (IsToken k.Join ▸ IsReference given ▸ IsToken k.On) start ts ts3 inner
     (seq (IsToken k.Join) (IsReference given ▸ IsToken k.On) ts ts1 ts3 p1 (seq (IsReference given) (IsToken k.On) ts1 ts2 ts3 p2 p3))))
-    (λ used p. (is_served, given, p)) in
-    then_none (condition served.functions ts3) _ E
-    (condition_faults served (BeforeOn served) all (λ us h. but (BeforeOn served ▸ AreParts served.functions) (BeforeNegation served 0) all us h (λ used p. inl p)) ts3 stood)
+    (λ used p. (given, p)) in
+    then_none (condition ts3) _ E
+    (condition_faults BeforeOn all (λ us h. but (BeforeOn ▸ AreParts) (BeforeNegation 0) all us h (λ used p. inl p)) ts3 stood)
     (λ x rest. tt))))
 
 -- of the ways to write a second reference the one with JOIN and ON alone has a condition
-second_faults : (served : Served) (all ts : List Token) → Took all (BeforeSecond served) ts → Faults (second served ts) (StandsIn served all)
-second_faults served all ts took =
-    let F : Bool = served.functions in
-    let E : QueryFault → Type 0 = StandsIn served all in
-    if_faults (served.second_reference && sees k.Comma ts) _ _ E (λ _. crossed_faults F E (next ts))
-    (λ _. if_faults (served.second_reference && sees k.Cross ts) _ _ E
-    (λ _. then_none (expect fault.Syntax k.Join (next ts)) _ E (expect_faults k.Join E (next ts)) (λ _ mid. crossed_faults F E mid))
-    (λ _. if_faults (served.second_reference && (sees k.Inner ts || sees k.Join ts)) _ _ E
-    (λ h. joined_on_faults served all ts (after k.Inner ts) (and_first _ _ h) took (optional k.Inner ts (λ e. cc))) (λ _. tt)))
+second_faults : (all ts : List Token) → Took all BeforeSecond ts → Faults (second ts) (StandsIn all)
+second_faults all ts took =
+    let E : QueryFault → Type 0 = StandsIn all in
+    if_faults (sees k.Comma ts) _ _ E (λ _. crossed_faults E (next ts))
+    (λ _. if_faults (sees k.Cross ts) _ _ E
+    (λ _. then_none (expect fault.Syntax k.Join (next ts)) _ E (expect_faults k.Join E (next ts)) (λ _ mid. crossed_faults E mid))
+    (λ _. if_faults (sees k.Inner ts || sees k.Join ts) _ _ E
+    (λ _. joined_on_faults all ts (after k.Inner ts) took (optional k.Inner ts (λ e. cc))) (λ _. tt)))
 
--- JOIN and ON with what is between them, apart from the condition
-on_alone : (functions : Bool) (given : WrittenReference) (x : ServedCond functions) (used : List Token)
-    → (IsOptional k.Inner ▸ IsToken k.Join ▸ IsReference given ▸ IsToken k.On ▸ IsCondition functions x) used
-    → ((IsOptional k.Inner ▸ IsToken k.Join ▸ IsReference given ▸ IsToken k.On) ▸ IsCondition functions x) used
-on_alone functions given x used (i, v1, e1, inner, (j, v2, e2, join, (r, v3, e3, reference, (o, v4, e4, on, cond)))) = (
+-- JOIN and ON with what stands between them, apart from the condition
+on_alone : (given : WrittenReference) (x : Condition) (used : List Token)
+    → (IsOptional k.Inner ▸ IsToken k.Join ▸ IsReference given ▸ IsToken k.On ▸ IsCondition x) used
+    → ((IsOptional k.Inner ▸ IsToken k.Join ▸ IsReference given ▸ IsToken k.On) ▸ IsCondition x) used
+on_alone given x used (i, v1, e1, inner, (j, v2, e2, join, (r, v3, e3, reference, (o, v4, e4, on, cond)))) = (
   i ++ (j ++ (r ++ o)),
   v4,
   e1 ∙ ap (λ l. i ++ l) (e2 ∙ ap (λ l. j ++ l) (e3 ∙ ap (λ l. r ++ l) e4 ∙ sym (append_assoc r o v4)) ∙ sym (append_assoc j (r ++ o) v4)) ∙ sym (append_assoc i (j ++ (r ++ o)) v4),
@@ -540,79 +529,75 @@ on_alone functions given x used (i, v1, e1, inner, (j, v2, e2, join, (r, v3, e3,
   cond,
 )
 
--- what comes up to the last table reference and its condition
-through_from : (served : Served) (both : Second served.functions) (used : List Token) → (BeforeSecond served ▸ IsBoth served both) used → ThroughFrom served used
-through_from served both used (a, b, e, p, inl (x, y, none)) = inl (subst (BeforeSecond served) (sym (e ∙ ap (λ l. a ++ l) none ∙ append-nil a)) p)
-through_from served both used (a, b, e, p, inr (inl (is_served, given, x, y, second))) = inr (inl (is_served, given, (a, b, e, p, second)))
-through_from served both used (a, b, e, p, inr (inr (is_served, given, on, x, y, joined))) = go (on_alone served.functions given on b joined)
+-- what stands up to the last table reference and its condition
+through_from : (both : Second) (used : List Token) → (BeforeSecond ▸ IsBoth both) used → ThroughFrom used
+through_from both used (a, b, e, p, inl (x, y, none)) = inl (subst BeforeSecond (sym (e ∙ ap (λ l. a ++ l) none ∙ append-nil a)) p)
+through_from both used (a, b, e, p, inr (inl (given, x, y, second))) = inr (inl (given, (a, b, e, p, second)))
+through_from both used (a, b, e, p, inr (inr (given, on, x, y, joined))) = go (on_alone given on b joined)
   where
-    go : ((IsOptional k.Inner ▸ IsToken k.Join ▸ IsReference given ▸ IsToken k.On) ▸ IsCondition served.functions on) b → ThroughFrom served used
+    go : ((IsOptional k.Inner ▸ IsToken k.Join ▸ IsReference given ▸ IsToken k.On) ▸ IsCondition on) b → ThroughFrom used
     go (f, d, e3, front, cond) = inr (inr (
       on,
-      (a ++ f, d, e ∙ ap (λ l. a ++ l) e3 ∙ sym (append_assoc a f d), (is_served, given, (a, f, refl, p, front)), any_condition served.functions on d cond),
+      (a ++ f, d, e ∙ ap (λ l. a ++ l) e3 ∙ sym (append_assoc a f d), (given, (a, f, refl, p, front)), any_condition on d cond),
     ))
 
--- the condition of WHERE comes after the last reference and its condition
-where_faults : (served : Served) (all ts : List Token) → Took all (ThroughFrom served) ts → Faults (where_condition served.functions ts) (StandsIn served all)
+-- the condition of WHERE stands behind the last reference and its condition
+where_faults : (all ts : List Token) → Took all ThroughFrom ts → Faults (where_condition ts) (StandsIn all)
 unfolding where_condition BeforeNegation
-where_faults served all ts took =
-    let E : QueryFault → Type 0 = StandsIn served all in
+where_faults all ts took =
+    let E : QueryFault → Type 0 = StandsIn all in
     eaten_faults k.Where ts _ _ E
-    (λ h. then_none (condition served.functions (next ts)) _ E
-    (condition_faults served (BeforeWhere served) all (λ us h. but (BeforeWhere served ▸ AreParts served.functions) (BeforeNegation served 0) all us h (λ used p. inr p)) (next ts)
-    (seq (ThroughFrom served) (IsToken k.Where) all ts (next ts) took (one k.Where ts (λ e. cc) h)))
+    (λ h. then_none (condition (next ts)) _ E
+    (condition_faults BeforeWhere all (λ us h. but (BeforeWhere ▸ AreParts) (BeforeNegation 0) all us h (λ used p. inr p)) (next ts)
+    (seq ThroughFrom (IsToken k.Where) all ts (next ts) took (one k.Where ts (λ e. cc) h)))
     (λ x rest. tt))
     (λ _. tt)
 
 -- a condition of WHERE is one where integers have any size and levels any number
-any_where : (functions : Bool) (filter : Option (ServedCond functions)) (used : List Token) → IsWhere functions filter used → IsAnyWhere functions used
-any_where functions filter used (inl (e, none)) = inl none
-any_where functions filter used (inr (x, e, (a, b, cut, word, p))) = inr (x, (a, b, cut, word, any_condition functions x b p))
+any_where : (filter : Option Condition) (used : List Token) → IsWhere filter used → IsAnyWhere used
+any_where filter used (inl (e, none)) = inl none
+any_where filter used (inr (x, e, (a, b, cut, word, p))) = inr (x, (a, b, cut, word, any_condition x b p))
 
 -- digits of LIMIT without a value are refused as too big
 count_faults : (E : QueryFault → Type 0) (at : ℕ) (rest : List Token) (v : Option ℕ) → (v ≡ None → E (fault.NumberTooBig at)) → Faults (limit_or v at rest) E
 count_faults E at rest None h = λ _. h refl
 count_faults E at rest (Some n) h = tt
 
--- the integer of LIMIT comes after FROM, WHERE and LIMIT, and is refused where it is too big
-limit_faults : (served : Served) (filter : Option (ServedCond served.functions)) (all mid ts : List Token) → Took all (ThroughFrom served) mid → Took mid (IsWhere served.functions filter) ts
-    → Faults (limited served ts) (StandsIn served all)
+-- the integer of LIMIT stands behind FROM, WHERE and LIMIT, and is refused where it is too big
+limit_faults : (filter : Option Condition) (all mid ts : List Token) → Took all ThroughFrom mid → Took mid (IsWhere filter) ts
+    → Faults (limited ts) (StandsIn all)
 unfolding limit_number
-limit_faults served filter all mid ts took read =
-    let F : Bool = served.functions in
-    let E : QueryFault → Type 0 = StandsIn served all in
-    if_faults (served.limit && sees k.Limit ts) _ _ E
+limit_faults filter all mid ts took read =
+    let E : QueryFault → Type 0 = StandsIn all in
+    if_faults (sees k.Limit ts) _ _ E
     (λ h. if_faults (sees k.Integer (next ts)) _ _ E
     (λ is. count_faults E (place (next ts)) (next (next ts)) (limit_value (spelling (next ts)))
-    (λ none. big_here served all (BeforeLimit served) limit_value (next ts)
-    (but (ThroughFrom served ▸ IsAnyWhere F ▸ IsToken k.Limit) (BeforeLimit served) all (next ts)
-    (seq (ThroughFrom served) (IsAnyWhere F ▸ IsToken k.Limit) all mid (next ts) took
-    (seq (IsAnyWhere F) (IsToken k.Limit) mid ts (next ts) (but (IsWhere F filter) (IsAnyWhere F) mid ts read (any_where F filter)) (one k.Limit ts (λ e. cc) (and_second _ _ h))))
-    (λ used p. (and_first _ _ h, p)))
+    (λ none. big_here all BeforeLimit limit_value (next ts)
+    (seq ThroughFrom (IsAnyWhere ▸ IsToken k.Limit) all mid (next ts) took
+    (seq IsAnyWhere (IsToken k.Limit) mid ts (next ts) (but (IsWhere filter) IsAnyWhere mid ts read (any_where filter)) (one k.Limit ts (λ e. cc) h)))
     is none (λ before t p digits big. (digits, inr (inr (inr (big, p)))))))
     (λ _. λ e. absurd (false≢true e)))
     (λ _. tt)
 
--- each reader comes after what those before it took, which is the front of the grammar that its fault asks for
-pub query_faults : (served : Served) (ts : List Token) → Faults (query served ts) (StandsIn served ts)
+-- each reader stands behind what those before it took, which is the front of the grammar that its fault asks for
+pub query_faults : (ts : List Token) → Faults (query ts) (StandsIn ts)
 unfolding query
-query_faults served ts =
-    let F : Bool = served.functions in
-    let E : QueryFault → Type 0 = StandsIn served ts in
-    then_faults (explained served ts) _ (λ x rest. Took ts (IsExplain served x) rest) E (explained_sound served ts) (explained_faults served E ts)
+query_faults ts =
+    let E : QueryFault → Type 0 = StandsIn ts in
+    then_faults (explained ts) _ (λ x rest. Took ts (IsExplain x) rest) E (explained_sound ts) (explained_faults E ts)
     (λ told ts0 p0. then_faults (expect fault.Syntax k.Select ts0) _ (λ _ rest. Took ts0 (IsToken k.Select) rest) E (expect_sound k.Select ts0 (λ e. cc)) (expect_faults k.Select E ts0)
-    (λ _ ts1 p1. then_faults (selection served ts1) _ (λ x rest. Took ts1 (IsSelection served x) rest) E (selection_sound served ts1) (selection_faults served E ts1)
+    (λ _ ts1 p1. then_faults (selection ts1) _ (λ x rest. Took ts1 (IsSelection x) rest) E (selection_sound ts1) (selection_faults E ts1)
     (λ listed ts2 p2. then_faults (expect fault.Syntax k.From ts2) _ (λ _ rest. Took ts2 (IsToken k.From) rest) E (expect_sound k.From ts2 (λ e. cc)) (expect_faults k.From E ts2)
     (λ _ ts3 p3. then_faults (reference ts3) _ (λ x rest. Took ts3 (IsReference x) rest) E (reference_sound ts3) (reference_faults E ts3)
     (λ first ts4 p4.
-    let stood : Took ts (BeforeSecond served) ts4 = but (IsExplain served told ▸ IsToken k.Select ▸ IsSelection served listed ▸ IsToken k.From ▸ IsReference first) (BeforeSecond served) ts ts4
-    (seq (IsExplain served told) _ ts ts0 ts4 p0 (seq (IsToken k.Select) _ ts0 ts1 ts4 p1 (seq (IsSelection served listed) _ ts1 ts2 ts4 p2 (seq (IsToken k.From) (IsReference first) ts2 ts3 ts4 p3 p4))))
+    let stood : Took ts BeforeSecond ts4 = but (IsExplain told ▸ IsToken k.Select ▸ IsSelection listed ▸ IsToken k.From ▸ IsReference first) BeforeSecond ts ts4
+    (seq (IsExplain told) _ ts ts0 ts4 p0 (seq (IsToken k.Select) _ ts0 ts1 ts4 p1 (seq (IsSelection listed) _ ts1 ts2 ts4 p2 (seq (IsToken k.From) (IsReference first) ts2 ts3 ts4 p3 p4))))
     (λ used p. (told, listed, first, p)) in
-    then_faults (second served ts4) _ (λ x rest. Took ts4 (IsBoth served x) rest) E (second_sound served ts4) (second_faults served ts ts4 stood)
+    then_faults (second ts4) _ (λ x rest. Took ts4 (IsBoth x) rest) E (second_sound ts4) (second_faults ts ts4 stood)
     (λ both ts5 p5.
-    let through : Took ts (ThroughFrom served) ts5 = but (BeforeSecond served ▸ IsBoth served both) (ThroughFrom served) ts ts5 (seq (BeforeSecond served) (IsBoth served both) ts ts4 ts5 stood p5) (through_from served both) in
-    then_faults (where_condition F ts5) _ (λ x rest. Took ts5 (IsWhere F x) rest) E (where_sound F ts5) (where_faults served ts ts5 through)
-    (λ filter ts6 p6. then_none (limited served ts6) _ E (limit_faults served filter ts ts5 ts6 through p6)
+    let through : Took ts ThroughFrom ts5 = but (BeforeSecond ▸ IsBoth both) ThroughFrom ts ts5 (seq BeforeSecond (IsBoth both) ts ts4 ts5 stood p5) (through_from both) in
+    then_faults (where_condition ts5) _ (λ x rest. Took ts5 (IsWhere x) rest) E (where_sound ts5) (where_faults ts ts5 through)
+    (λ filter ts6 p6. then_none (limited ts6) _ E (limit_faults filter ts ts5 ts6 through p6)
     (λ most ts7. then_none (expect fault.Syntax k.End (after k.Semicolon ts7)) _ E (expect_faults k.End E (after k.Semicolon ts7)) (λ _ rest. tt)))))))))
 
 -- ---- texts
@@ -621,32 +606,32 @@ by_value : {A : Type 0} (text : List ℕ) (E : QueryFault → Type 0) (r : Outco
 by_value text E (Ok p) h = tt
 by_value text E (Err f) h = h
 
--- a fault at one of the tokens applies in the text, which isn't too long and is made of tokens
-in_text : (served : Served) (text : List ℕ) (r : Result (ServedQuery served) QueryFault) → length text ≤ most_bytes → bad_place (tokens true text) ≡ None
-    → IfErr r (λ f. is_at_token f ≡ true → StandsIn served (tokens true text) f) → IfErr r (StandsInQuery served text)
-in_text served text (Ok q) short good h = tt
-in_text served text (Err f) short good h = λ is. (short, good, h is)
+-- a fault at one of the tokens stands in the text, which isn't too long and is made of tokens
+in_text : (text : List ℕ) (r : Result SelectQuery QueryFault) → length text ≤ most_bytes → bad_place (tokens true text) ≡ None
+    → IfErr r (λ f. is_at_token f ≡ true → StandsIn (tokens true text) f) → IfErr r (StandsInQuery text)
+in_text text (Ok q) short good h = tt
+in_text text (Err f) short good h = λ is. (short, good, h is)
 
 -- a byte that begins no token is a fault of its own; without one the tokens are read
-by_place : (served : Served) (text : List ℕ) (v : Option ℕ) → length text ≤ most_bytes → bad_place (tokens true text) ≡ v → IfErr (query_by served v (tokens true text)) (StandsInQuery served text)
-by_place served text None short good =
-    in_text served text (value_of (query served (tokens true text))) short good
-    (by_value text (StandsIn served (tokens true text)) (query served (tokens true text)) (query_faults served (tokens true text)))
-by_place served text (Some at) short bad = λ e. absurd (false≢true e)
+by_place : (text : List ℕ) (v : Option ℕ) → length text ≤ most_bytes → bad_place (tokens true text) ≡ v → IfErr (query_by v (tokens true text)) (StandsInQuery text)
+by_place text None short good =
+    in_text text (value_of (query (tokens true text))) short good
+    (by_value text (StandsIn (tokens true text)) (query (tokens true text)) (query_faults (tokens true text)))
+by_place text (Some at) short bad = λ e. absurd (false≢true e)
 
--- a fault at a token that is read applies there
-pub query_of_stands : (served : Served) (text : List ℕ) → IfErr (query_of served text) (StandsInQuery served text)
+-- a fault at a token that is read stands there
+pub query_of_stands : (text : List ℕ) → IfErr (query_of text) (StandsInQuery text)
 unfolding query_of
-query_of_stands served text = go (nat_lt most_bytes (length text)) refl
+query_of_stands text = go (nat_lt most_bytes (length text)) refl
   where
-    go : (long : Bool) → nat_lt most_bytes (length text) ≡ long → IfErr (if long then Err fault.TooLong else query_by served (bad_place (tokens true text)) (tokens true text)) (StandsInQuery served text)
+    go : (long : Bool) → nat_lt most_bytes (length text) ≡ long → IfErr (if long then Err fault.TooLong else query_by (bad_place (tokens true text)) (tokens true text)) (StandsInQuery text)
     go true e = λ is. absurd (false≢true is)
-    go false e = by_place served text (bad_place (tokens true text)) (ltb-false most_bytes (length text) e) refl
+    go false e = by_place text (bad_place (tokens true text)) (ltb-false most_bytes (length text) e) refl
 
--- a fault at a token that is given applies there
-pub given_stands : (served : Served) (text : List ℕ) (r : Result (ServedQuery served) QueryFault) → Gives fault.OutOfMemory (λ q. q) r (query_of served text) → IfErr r (StandsInQuery served text)
-given_stands served text (Ok q) given = tt
-given_stands served text (Err f) given = λ is. subst (λ r. IfErr r (StandsInQuery served text)) (given (λ e. memory f is e)) (query_of_stands served text) is
+-- a fault at a token that is given stands there
+pub given_stands : (text : List ℕ) (r : Result SelectQuery QueryFault) → Gives fault.OutOfMemory (λ q. q) r (query_of text) → IfErr r (StandsInQuery text)
+given_stands text (Ok q) given = tt
+given_stands text (Err f) given = λ is. subst (λ r. IfErr r (StandsInQuery text)) (given (λ e. memory f is e)) (query_of_stands text) is
   where
     memory : (f : QueryFault) → is_at_token f ≡ true → f ≡ fault.OutOfMemory → ⊥
     memory f is e = false≢true (sym (ap is_at_token e) ∙ is)

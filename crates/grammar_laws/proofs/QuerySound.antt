@@ -26,7 +26,7 @@ use Rattle.table_model.specs.declared.tokens.TokenKind.TheVariants as k
 use Rattle.table_model.specs.Parsers.{kind, place, spelling, next, written, sees, after, and_then, expect, parts_from, parts}
 use Rattle.table_model.specs.QueryGrammar.{IsName, IsColumn, IsDigits, IsInteger, IsString, IsCall, IsGeometry, IsOperandFunction, IsOperand, IsComparison, function_of, IsPair, IsBool, IsNumber, IsTest, IsPredicate, IsChain, IsConjunction, IsConditionOf, IsNegationOf, IsNegation, IsCondition, IsItem, IsSelection, IsReference, IsSecond, IsWhere, IsRowCount, IsLimit, IsExplain, IsSelect}
 use Rattle.table_model.specs.QueryReading.{Reader, Functions, name, column, calls, called_or, enclosed, string, geometry, integer, integer_value, integer_or, operand_functions, operand, comparison_of, compared, compared_by, null_test, comparison, truth_value, truth_test, truth_tested, relates, relates_by, predicate_functions, predicate, chain, conjunction, condition_of, group, negation, condition, item_functions, item, items, counted, count_function, selection, alias, reference, Second, crossed, joined_on, second, where_condition, limit_value, limit_or, limit_number, limited, says, analyzed, explained, query}
-use Rattle.table_model.specs.Served.{Served, Argument, ItemArgument, ServedOperand, ServedCond, ServedItem, ServedQuery}
+use Rattle.table_model.specs.Queries.{Condition, ConditionOperand, SelectItem, SelectQuery}
 use Rattle.table_model.specs.Texts.{same_name}
 use Rattle.table_model.specs.Tokens.{same_kind}
 use Rattle.grammar_laws.proofs.TokenReaders.{IfRead, Took, then_read, if_read, map_read, eaten, same, one, seq, but, expect_taken}
@@ -256,58 +256,56 @@ placed {A} function f P R inside ts sound h to =
         (used, e, to x used (made.0, made.1 ∙ ap (λ n. f n made.0) at, made.2))
 
 -- an operand that is read where no function is called is a column
-plain_operand_sound : (functions : Bool) (ts : List Token)
-    → IfRead (and_then (column ts) (λ x rest. Ok (o.Column x, rest))) (λ (x : ServedOperand functions) rest. Took ts (IsOperand functions x) rest)
-plain_operand_sound functions ts = then_read (column ts) _ (λ x rest. Took ts (IsColumn x) rest) (λ (x : ServedOperand functions) rest. Took ts (IsOperand functions x) rest)
+plain_operand_sound : (ts : List Token)
+    → IfRead (and_then (column ts) (λ x rest. Ok (o.Column x, rest))) (λ (x : ConditionOperand) rest. Took ts (IsOperand x) rest)
+plain_operand_sound ts = then_read (column ts) _ (λ x rest. Took ts (IsColumn x) rest) (λ (x : ConditionOperand) rest. Took ts (IsOperand x) rest)
     (λ x rest q. but _ _ ts rest q (λ used p. inl (x, refl, p))) (column_sound ts)
 
--- ST_AsText and ST_Dimension are read with a geometry, at the place of the call; where functions aren't served there are none
-operand_called : (functions : Bool) (ts : List Token) → AllRead (operand_functions functions (place ts)) ts (λ x rest. Took ts (IsOperand functions x) rest)
-operand_called false ts = tt
-operand_called true ts = (
-  λ h. placed (codes "ST_AsText") o.AsText IsGeometry (IsOperand true) _ ts (λ l. made_sound (o.AsText (place ts)) geometry IsGeometry l geometry_sound) h
+-- ST_AsText and ST_Dimension are read with a geometry, at the place of the call
+operand_called : (ts : List Token) → AllRead (operand_functions (place ts)) ts (λ x rest. Took ts (IsOperand x) rest)
+operand_called ts = (
+  λ h. placed (codes "ST_AsText") o.AsText IsGeometry IsOperand _ ts (λ l. made_sound (o.AsText (place ts)) geometry IsGeometry l geometry_sound) h
       (λ x used p. inr (inr (inr (inr (inl p))))),
   (
-    λ h. placed (codes "ST_Dimension") o.Dimension IsGeometry (IsOperand true) _ ts (λ l. made_sound (o.Dimension (place ts)) geometry IsGeometry l geometry_sound) h
+    λ h. placed (codes "ST_Dimension") o.Dimension IsGeometry IsOperand _ ts (λ l. made_sound (o.Dimension (place ts)) geometry IsGeometry l geometry_sound) h
         (λ x used p. inr (inr (inr (inr (inr p))))),
     tt,
   ),
 )
 
 -- the kind of the next token chooses how an operand is read, and each choice is one alternative of its rule
-pub operand_sound : (functions : Bool) → Sound (operand functions) (IsOperand functions)
+pub operand_sound : Sound operand IsOperand
 unfolding operand
-operand_sound functions ts =
-    let A : Type 0 = Argument functions in
-    let Q : ServedOperand functions → List Token → Type 0 = λ x rest. Took ts (IsOperand functions x) rest in
+operand_sound ts =
+    let A : Type 0 = WrittenGeometry in
+    let Q : ConditionOperand → List Token → Type 0 = λ x rest. Took ts (IsOperand x) rest in
     if_read (sees k.Null ts) _ _ Q (λ h. but _ _ ts (next ts) (one k.Null ts (λ e. cc) h) (λ used p. inr (inr (inr (inl (refl, p))))))
     (λ _. if_read (sees k.Text ts) _ _ Q (λ h. but _ _ ts (next ts) (text_taken ts h) (λ used p. inr (inr (inl (written ts, refl, p)))))
     (λ _. if_read (sees k.Plus ts) _ _ Q (λ h. map_read (integer false (next ts)) (TookInteger A ts (λ n. IsToken k.Plus ▸ IsDigits false n)) Q (λ x rest q. but _ _ ts rest q.2 (λ used p. inr (inl (q.0, q.1, inr (inl p))))) (signed_sound A k.Plus false ts (λ e. cc) h))
     (λ _. if_read (sees k.Minus ts) _ _ Q (λ h. map_read (integer true (next ts)) (TookInteger A ts (λ n. IsToken k.Minus ▸ IsDigits true n)) Q (λ x rest q. but _ _ ts rest q.2 (λ used p. inr (inl (q.0, q.1, inr (inr p))))) (signed_sound A k.Minus true ts (λ e. cc) h))
     (λ _. if_read (sees k.Integer ts) _ _ Q (λ h. map_read (integer false ts) (TookInteger A ts (IsDigits false)) Q (λ x rest q. but _ _ ts rest q.2 (λ used p. inr (inl (q.0, q.1, inl p)))) (digits_sound A false ts))
-    (λ _. called_sound (operand_functions functions (place ts)) _ ts Q (operand_called functions ts) (plain_operand_sound functions ts))))))
+    (λ _. called_sound (operand_functions (place ts)) (λ us. and_then (column us) (λ x rest. Ok (o.Column x, rest))) ts Q (operand_called ts) (plain_operand_sound ts))))))
 
 -- a function that is an operand begins with its name
-operand_function_begins : (functions : Bool) (x : ServedOperand functions) (ts : List Token) → IsOperandFunction functions x ts → Begins BeginsOperand ts
-operand_function_begins false x ts p = absurd p
-operand_function_begins true x ts (inl (argument, e, p)) = word_begins (codes "ST_AsText") _ ts p
-operand_function_begins true x ts (inr (argument, e, p)) = word_begins (codes "ST_Dimension") _ ts p
+operand_function_begins : (x : ConditionOperand) (ts : List Token) → IsOperandFunction x ts → Begins BeginsOperand ts
+operand_function_begins x ts (inl (argument, e, p)) = word_begins (codes "ST_AsText") _ ts p
+operand_function_begins x ts (inr (argument, e, p)) = word_begins (codes "ST_Dimension") _ ts p
 
 -- each alternative of an operand begins with a word, digits, a sign, a string or NULL
-pub operand_begins : (functions : Bool) (x : ServedOperand functions) (ts : List Token) → IsOperand functions x ts → Begins BeginsOperand ts
+pub operand_begins : (x : ConditionOperand) (ts : List Token) → IsOperand x ts → Begins BeginsOperand ts
 unfolding same_kind
-operand_begins functions x ts (inl (column, e, p)) = column_begins column ts p
-operand_begins functions x ts (inr (inl (n, e, p))) = integer_begins n ts p
-operand_begins functions x ts (inr (inr (inl (text, e, p)))) = one_begins BeginsOperand _ (λ t q. kind_begins t.kind k.Text q.0 (refl, refl)) ts p
-operand_begins functions x ts (inr (inr (inr (inl (e, p))))) = one_begins BeginsOperand _ (λ t q. kind_begins t.kind k.Null q (refl, refl)) ts p
-operand_begins functions x ts (inr (inr (inr (inr p)))) = operand_function_begins functions x ts p
+operand_begins x ts (inl (column, e, p)) = column_begins column ts p
+operand_begins x ts (inr (inl (n, e, p))) = integer_begins n ts p
+operand_begins x ts (inr (inr (inl (text, e, p)))) = one_begins BeginsOperand _ (λ t q. kind_begins t.kind k.Text q.0 (refl, refl)) ts p
+operand_begins x ts (inr (inr (inr (inl (e, p))))) = one_begins BeginsOperand _ (λ t q. kind_begins t.kind k.Null q (refl, refl)) ts p
+operand_begins x ts (inr (inr (inr (inr p)))) = operand_function_begins x ts p
 
 -- ---- predicates
 
 -- a comparison's sign and right side were read
-abbrev pub TookCompared : (functions : Bool) → ℕ → ServedOperand functions → List Token → ServedCond functions → List Token → Type 0
-TookCompared functions at left ts x rest =
-    (comparison : Comparison) × (right : ServedOperand functions) × (x ≡ c.Compare at comparison left right) × Took ts (IsComparison comparison ▸ IsOperand functions right) rest
+abbrev pub TookCompared : ℕ → ConditionOperand → List Token → Condition → List Token → Type 0
+TookCompared at left ts x rest =
+    (comparison : Comparison) × (right : ConditionOperand) × (x ≡ c.Compare at comparison left right) × Took ts (IsComparison comparison ▸ IsOperand right) rest
 
 -- NULL or NOT NULL was read
 abbrev pub TookNull : {A : Type 0} → WrittenOperand A → List Token → WrittenCond A → List Token → Type 0
@@ -319,13 +317,13 @@ unfolding kind next
 comparison_taken [] comparison h = absurd (cc)
 comparison_taken (t ∷ ts) comparison h = (t ∷ [], refl, h)
 
--- behind the left side of a comparison, a sign and an operand are read; where no sign is there the reader refuses
-compared_sound : (functions : Bool) (at : ℕ) (left : ServedOperand functions) (ts : List Token) (v : Option Comparison) → comparison_of (kind ts) ≡ v
-    → IfRead (compared_by functions at left v ts) (TookCompared functions at left ts)
-compared_sound functions at left ts None e = tt
-compared_sound functions at left ts (Some comparison) e = then_read (operand functions (next ts)) _ (λ x rest. Took (next ts) (IsOperand functions x) rest) _
-    (λ right rest q. (comparison, right, refl, seq (IsComparison comparison) (IsOperand functions right) ts (next ts) rest (comparison_taken ts comparison e) q))
-    (operand_sound functions (next ts))
+-- behind the left side of a comparison, a sign and an operand are read; where no sign stands there the reader refuses
+compared_sound : (at : ℕ) (left : ConditionOperand) (ts : List Token) (v : Option Comparison) → comparison_of (kind ts) ≡ v
+    → IfRead (compared_by at left v ts) (TookCompared at left ts)
+compared_sound at left ts None e = tt
+compared_sound at left ts (Some comparison) e = then_read (operand (next ts)) _ (λ x rest. Took (next ts) (IsOperand x) rest) _
+    (λ right rest q. (comparison, right, refl, seq (IsComparison comparison) (IsOperand right) ts (next ts) rest (comparison_taken ts comparison e) q))
+    (operand_sound (next ts))
 
 -- behind IS, NULL is read, and the tree is negated exactly where NOT comes before it
 null_sound : {A : Type 0} (left : WrittenOperand A) (ts : List Token)
@@ -339,36 +337,36 @@ null_sound {A} left ts = go (sees k.Not ts) refl
     go false h = then_read (expect fault.Syntax k.Null ts) _ (λ x rest. Took ts (IsToken k.Null) rest) _
         (λ x rest q. inl (refl, q)) (expect_sound k.Null ts (λ e. cc))
 
--- an operand, a sign and an operand are a predicate, which is at the place of the first
-compare_taken : (functions : Bool) (ts mid rest : List Token) (left : ServedOperand functions) (x : ServedCond functions)
-    → Took ts (IsOperand functions left) mid → TookCompared functions (place ts) left mid x rest → Took ts (IsPredicate functions x) rest
-compare_taken functions ts mid rest left x took (comparison, right, e, q) =
-    let all = seq (IsOperand functions left) (IsComparison comparison ▸ IsOperand functions right) ts mid rest took q in
-    let here : place ts ≡ place all.0 = ap place all.1 ∙ place_is all.0 rest (seq_begins BeginsOperand (IsOperand functions left) (IsComparison comparison ▸ IsOperand functions right) (operand_begins functions left) all.0 all.2) in
+-- an operand, a sign and an operand are a predicate, which stands at the place of the first
+compare_taken : (ts mid rest : List Token) (left : ConditionOperand) (x : Condition)
+    → Took ts (IsOperand left) mid → TookCompared (place ts) left mid x rest → Took ts (IsPredicate x) rest
+compare_taken ts mid rest left x took (comparison, right, e, q) =
+    let all = seq (IsOperand left) (IsComparison comparison ▸ IsOperand right) ts mid rest took q in
+    let here : place ts ≡ place all.0 = ap place all.1 ∙ place_is all.0 rest (seq_begins BeginsOperand (IsOperand left) (IsComparison comparison ▸ IsOperand right) (operand_begins left) all.0 all.2) in
     (all.0, all.1, inl (comparison, left, right, e ∙ ap (λ at. c.Compare at comparison left right) here, all.2))
 
 -- an operand with IS NULL or IS NOT NULL is a predicate
-null_taken : (functions : Bool) (ts mid rest : List Token) (left : ServedOperand functions) (x : ServedCond functions)
-    → Took ts (IsOperand functions left) mid → sees k.Is mid ≡ true → TookNull left (next mid) x rest → Took ts (IsPredicate functions x) rest
-null_taken functions ts mid rest left x took h (inl (e, q)) =
-    but _ _ ts rest (seq (IsOperand functions left) (IsToken k.Is ▸ IsToken k.Null) ts mid rest took (seq (IsToken k.Is) (IsToken k.Null) mid (next mid) rest (one k.Is mid (λ e. cc) h) q))
+null_taken : (ts mid rest : List Token) (left : ConditionOperand) (x : Condition)
+    → Took ts (IsOperand left) mid → sees k.Is mid ≡ true → TookNull left (next mid) x rest → Took ts (IsPredicate x) rest
+null_taken ts mid rest left x took h (inl (e, q)) =
+    but _ _ ts rest (seq (IsOperand left) (IsToken k.Is ▸ IsToken k.Null) ts mid rest took (seq (IsToken k.Is) (IsToken k.Null) mid (next mid) rest (one k.Is mid (λ e. cc) h) q))
     (λ used p. inr (inl (left, e, p)))
-null_taken functions ts mid rest left x took h (inr (e, q)) =
-    but _ _ ts rest (seq (IsOperand functions left) (IsToken k.Is ▸ IsToken k.Not ▸ IsToken k.Null) ts mid rest took (seq (IsToken k.Is) (IsToken k.Not ▸ IsToken k.Null) mid (next mid) rest (one k.Is mid (λ e. cc) h) q))
+null_taken ts mid rest left x took h (inr (e, q)) =
+    but _ _ ts rest (seq (IsOperand left) (IsToken k.Is ▸ IsToken k.Not ▸ IsToken k.Null) ts mid rest took (seq (IsToken k.Is) (IsToken k.Not ▸ IsToken k.Null) mid (next mid) rest (one k.Is mid (λ e. cc) h) q))
     (λ used p. inr (inr (inl (left, e, p))))
 
--- IS behind an operand separates a test for NULL from a comparison, and both are predicates
-comparison_sound : (functions : Bool) → Sound (comparison functions) (IsPredicate functions)
+-- IS behind an operand tells a test for NULL from a comparison, and both are predicates
+comparison_sound : Sound comparison IsPredicate
 unfolding comparison compared
-comparison_sound functions ts =
-    let Q : ServedCond functions → List Token → Type 0 = λ x rest. Took ts (IsPredicate functions x) rest in
-    then_read (operand functions ts) _ (λ x rest. Took ts (IsOperand functions x) rest) Q
+comparison_sound ts =
+    let Q : Condition → List Token → Type 0 = λ x rest. Took ts (IsPredicate x) rest in
+    then_read (operand ts) _ (λ x rest. Took ts (IsOperand x) rest) Q
     (λ left mid took. eaten k.Is mid _ _ Q
     (λ h. map_read (null_test left (next mid)) (TookNull left (next mid)) Q
-    (λ x rest q. null_taken functions ts mid rest left x took h q) (null_sound left (next mid)))
-    (λ _. map_read (compared_by functions (place ts) left (comparison_of (kind mid)) mid) (TookCompared functions (place ts) left mid) Q
-    (λ x rest q. compare_taken functions ts mid rest left x took q) (compared_sound functions (place ts) left mid (comparison_of (kind mid)) refl)))
-    (operand_sound functions ts)
+    (λ x rest q. null_taken ts mid rest left x took h q) (null_sound left (next mid)))
+    (λ _. map_read (compared_by (place ts) left (comparison_of (kind mid)) mid) (TookCompared (place ts) left mid) Q
+    (λ x rest q. compare_taken ts mid rest left x took q) (compared_sound (place ts) left mid (comparison_of (kind mid)) refl)))
+    (operand_sound ts)
 
 -- ---- predicates that are functions
 
@@ -405,12 +403,12 @@ test_sound {A} bool ts =
     (λ _. ([], refl, inl (refl, refl)))
 
 -- a predicate was called and compared with 1 or 0, or with nothing
-called_predicate : (inside : Reader (ServedCond true)) (ts : List Token)
-    → IfRead (enclosed inside (next ts)) (λ x rest. Took ts (IsBool true x) rest)
-    → IfRead (truth_tested inside (next ts)) (λ x rest. Took ts (IsPredicate true x) rest)
-called_predicate inside ts called = then_read (enclosed inside (next ts)) _ (λ x rest. Took ts (IsBool true x) rest) (λ x rest. Took ts (IsPredicate true x) rest)
-    (λ bool mid took. map_read (truth_test bool mid) (λ x rest. Took mid (IsTest bool x) rest) (λ x rest. Took ts (IsPredicate true x) rest)
-    (λ x rest q. but _ _ ts rest (seq (IsBool true bool) (IsTest bool x) ts mid rest took q) (λ used p. inr (inr (inr (bool, p))))) (test_sound bool mid))
+called_predicate : (inside : Reader Condition) (ts : List Token)
+    → IfRead (enclosed inside (next ts)) (λ x rest. Took ts (IsBool x) rest)
+    → IfRead (truth_tested inside (next ts)) (λ x rest. Took ts (IsPredicate x) rest)
+called_predicate inside ts called = then_read (enclosed inside (next ts)) _ (λ x rest. Took ts (IsBool x) rest) (λ x rest. Took ts (IsPredicate x) rest)
+    (λ bool mid took. map_read (truth_test bool mid) (λ x rest. Took mid (IsTest bool x) rest) (λ x rest. Took ts (IsPredicate x) rest)
+    (λ x rest q. but _ _ ts rest (seq (IsBool bool) (IsTest bool x) ts mid rest took q) (λ used p. inr (inr (inr (bool, p))))) (test_sound bool mid))
     called
 
 -- two geometries
@@ -430,18 +428,18 @@ abbrev pub IsThree : Three → Phrase
 IsThree three = IsGeometry three.0 ▸ IsToken k.Comma ▸ IsGeometry three.1 ▸ IsToken k.Comma ▸ IsString three.2
 
 -- the trees of predicates of two geometries
-abbrev pub named : Predicate → ℕ → Two → ServedCond true
+abbrev pub named : Predicate → ℕ → Two → Condition
 named predicate at two = c.Relates at (w.Named predicate) two.0 two.1
 
 -- the tree of ST_Relate
-abbrev pub patterned : ℕ → Three → ServedCond true
+abbrev pub patterned : ℕ → Three → Condition
 patterned at three = c.Relates at (w.Relate three.2) three.0 three.1
 
 -- the arguments that are read for a named predicate are two geometries with a comma between
 relates_sound : (at : ℕ) (predicate : Predicate) → Sound (relates at predicate) (IsMade (named predicate at) IsTwo)
 unfolding relates
 relates_sound at predicate ts =
-    let Q : ServedCond true → List Token → Type 0 = λ x rest. Took ts (IsMade (named predicate at) IsTwo x) rest in
+    let Q : Condition → List Token → Type 0 = λ x rest. Took ts (IsMade (named predicate at) IsTwo x) rest in
     then_read (geometry ts) _ (λ x rest. Took ts (IsGeometry x) rest) Q
     (λ a ts1 p1. then_read (expect fault.Syntax k.Comma ts1) _ (λ u rest. Took ts1 (IsToken k.Comma) rest) Q
     (λ u ts2 p2. then_read (geometry ts2) _ (λ x rest. Took ts2 (IsGeometry x) rest) Q
@@ -455,7 +453,7 @@ relates_sound at predicate ts =
 relates_by_sound : (at : ℕ) → Sound (relates_by at) (IsMade (patterned at) IsThree)
 unfolding relates_by
 relates_by_sound at ts =
-    let Q : ServedCond true → List Token → Type 0 = λ x rest. Took ts (IsMade (patterned at) IsThree x) rest in
+    let Q : Condition → List Token → Type 0 = λ x rest. Took ts (IsMade (patterned at) IsThree x) rest in
     then_read (geometry ts) _ (λ x rest. Took ts (IsGeometry x) rest) Q
     (λ a ts1 p1. then_read (expect fault.Syntax k.Comma ts1) _ (λ u rest. Took ts1 (IsToken k.Comma) rest) Q
     (λ u ts2 p2. then_read (geometry ts2) _ (λ x rest. Took ts2 (IsGeometry x) rest) Q
@@ -474,31 +472,30 @@ relates_by_sound at ts =
 
 -- a call of a predicate by its name, with its test, is a predicate of the two geometries
 named_sound : (predicate : Predicate) (function : List ℕ) (ts : List Token) → function_of predicate ≡ Some function → calls function ts ≡ true
-    → IfRead (truth_tested (relates (place ts) predicate) (next ts)) (λ x rest. Took ts (IsPredicate true x) rest)
+    → IfRead (truth_tested (relates (place ts) predicate) (next ts)) (λ x rest. Took ts (IsPredicate x) rest)
 named_sound predicate function ts names h = called_predicate (relates (place ts) predicate) ts
-    (placed function (named predicate) IsTwo (IsBool true) (relates (place ts) predicate) ts (relates_sound (place ts) predicate) h
+    (placed function (named predicate) IsTwo IsBool (relates (place ts) predicate) ts (relates_sound (place ts) predicate) h
     (λ x used p. inl (predicate, function, p.0.0, p.0.1, names, p.1, p.2)))
 
 -- a call of ST_Relate, with its test, is a predicate of two geometries by a pattern
-patterned_sound : (ts : List Token) → calls (codes "ST_Relate") ts ≡ true → IfRead (truth_tested (relates_by (place ts)) (next ts)) (λ x rest. Took ts (IsPredicate true x) rest)
+patterned_sound : (ts : List Token) → calls (codes "ST_Relate") ts ≡ true → IfRead (truth_tested (relates_by (place ts)) (next ts)) (λ x rest. Took ts (IsPredicate x) rest)
 patterned_sound ts h = called_predicate (relates_by (place ts)) ts
-    (placed (codes "ST_Relate") patterned IsThree (IsBool true) (relates_by (place ts)) ts (relates_by_sound (place ts)) h
+    (placed (codes "ST_Relate") patterned IsThree IsBool (relates_by (place ts)) ts (relates_by_sound (place ts)) h
     (λ x used p. inr (inl (p.0.0, p.0.1, p.0.2, p.1, p.2))))
 
 -- what reads the argument of ST_IsEmpty
-abbrev pub empties : ℕ → Reader (ServedCond true)
+abbrev pub empties : ℕ → Reader Condition
 empties at = λ l. and_then (geometry l) (λ y rest. Ok (c.IsEmpty at y, rest))
 
 -- a call of ST_IsEmpty, with its test, is a predicate of one geometry
-empty_sound : (ts : List Token) → calls (codes "ST_IsEmpty") ts ≡ true → IfRead (truth_tested (empties (place ts)) (next ts)) (λ x rest. Took ts (IsPredicate true x) rest)
+empty_sound : (ts : List Token) → calls (codes "ST_IsEmpty") ts ≡ true → IfRead (truth_tested (empties (place ts)) (next ts)) (λ x rest. Took ts (IsPredicate x) rest)
 empty_sound ts h = called_predicate (empties (place ts)) ts
-    (placed (codes "ST_IsEmpty") c.IsEmpty IsGeometry (IsBool true) (empties (place ts)) ts (λ l. made_sound (c.IsEmpty (place ts)) geometry IsGeometry l geometry_sound) h
+    (placed (codes "ST_IsEmpty") c.IsEmpty IsGeometry IsBool (empties (place ts)) ts (λ l. made_sound (c.IsEmpty (place ts)) geometry IsGeometry l geometry_sound) h
     (λ x used p. inr (inr p)))
 
--- each function that is a predicate is read as the grammar says; where functions aren't served there are none
-predicate_called : (functions : Bool) (ts : List Token) → AllRead (predicate_functions functions (place ts)) ts (λ x rest. Took ts (IsPredicate functions x) rest)
-predicate_called false ts = tt
-predicate_called true ts = (
+-- each function that is a predicate is read as the grammar says
+predicate_called : (ts : List Token) → AllRead (predicate_functions (place ts)) ts (λ x rest. Took ts (IsPredicate x) rest)
+predicate_called ts = (
   named_sound p.Equals _ ts refl,
   (
     named_sound p.Disjoint _ ts refl,
@@ -528,11 +525,11 @@ predicate_called true ts = (
 )
 
 -- a predicate is read as a function where one of those is called next, and else as a comparison or a test for NULL
-pub predicate_sound : (functions : Bool) → Sound (predicate functions) (IsPredicate functions)
+pub predicate_sound : Sound predicate IsPredicate
 unfolding predicate
-predicate_sound functions ts =
-    called_sound (predicate_functions functions (place ts)) (comparison functions) ts (λ x rest. Took ts (IsPredicate functions x) rest)
-    (predicate_called functions ts) (comparison_sound functions ts)
+predicate_sound ts =
+    called_sound (predicate_functions (place ts)) comparison ts (λ x rest. Took ts (IsPredicate x) rest)
+    (predicate_called ts) (comparison_sound ts)
 
 -- ---- conditions
 
@@ -585,86 +582,81 @@ group_sound part P sound ts = then_read (condition_of part ts) _ (λ x rest. Too
     (condition_of_sound part P sound ts)
 
 -- by induction on the levels left: NOT and `(` use up one, and with none left they are refused, so no tree nests deeper
-pub negation_sound : (functions : Bool) (levels : ℕ) → Sound (negation functions levels) (IsNegation functions levels)
+pub negation_sound : (levels : ℕ) → Sound (negation levels) (IsNegation levels)
 unfolding negation IsNegationOf
-negation_sound functions zero ts =
-    if_read (sees k.Not ts || sees k.LeftParenthesis ts) _ _ (λ x rest. Took ts (IsPredicate functions x) rest) (λ _. tt) (λ _. predicate_sound functions ts)
-negation_sound functions (suc levels) ts =
-    let Q : ServedCond functions → List Token → Type 0 = λ x rest. Took ts (IsNegation functions (suc levels) x) rest in
+negation_sound zero ts =
+    if_read (sees k.Not ts || sees k.LeftParenthesis ts) _ _ (λ x rest. Took ts (IsPredicate x) rest) (λ _. tt) (λ _. predicate_sound ts)
+negation_sound (suc levels) ts =
+    let Q : Condition → List Token → Type 0 = λ x rest. Took ts (IsNegation (suc levels) x) rest in
     if_read (sees k.Not ts) _ _ Q
-    (λ h. then_read (negation functions levels (next ts)) _ (λ x rest. Took (next ts) (IsNegation functions levels x) rest) Q
-    (λ x rest q. but _ _ ts rest (seq (IsToken k.Not) (IsNegation functions levels x) ts (next ts) rest (one k.Not ts (λ e. cc) h) q) (λ used p. inl (x, refl, p)))
-    (negation_sound functions levels (next ts)))
+    (λ h. then_read (negation levels (next ts)) _ (λ x rest. Took (next ts) (IsNegation levels x) rest) Q
+    (λ x rest q. but _ _ ts rest (seq (IsToken k.Not) (IsNegation levels x) ts (next ts) rest (one k.Not ts (λ e. cc) h) q) (λ used p. inl (x, refl, p)))
+    (negation_sound levels (next ts)))
     (λ _. if_read (sees k.LeftParenthesis ts) _ _ Q
-    (λ h. map_read (group (negation functions levels) (next ts)) (λ x rest. Took (next ts) (IsConditionOf (IsNegation functions levels) x ▸ IsToken k.RightParenthesis) rest) Q
-    (λ x rest q. but _ _ ts rest (seq (IsToken k.LeftParenthesis) (IsConditionOf (IsNegation functions levels) x ▸ IsToken k.RightParenthesis) ts (next ts) rest (one k.LeftParenthesis ts (λ e. cc) h) q)
+    (λ h. map_read (group (negation levels) (next ts)) (λ x rest. Took (next ts) (IsConditionOf (IsNegation levels) x ▸ IsToken k.RightParenthesis) rest) Q
+    (λ x rest q. but _ _ ts rest (seq (IsToken k.LeftParenthesis) (IsConditionOf (IsNegation levels) x ▸ IsToken k.RightParenthesis) ts (next ts) rest (one k.LeftParenthesis ts (λ e. cc) h) q)
     (λ used p. inr (inl p)))
-    (group_sound (negation functions levels) (IsNegation functions levels) (negation_sound functions levels) (next ts)))
-    (λ _. map_read (predicate functions ts) (λ x rest. Took ts (IsPredicate functions x) rest) Q (λ x rest q. but _ _ ts rest q (λ used p. inr (inr p))) (predicate_sound functions ts)))
+    (group_sound (negation levels) (IsNegation levels) (negation_sound levels) (next ts)))
+    (λ _. map_read (predicate ts) (λ x rest. Took ts (IsPredicate x) rest) Q (λ x rest q. but _ _ ts rest q (λ used p. inr (inr p))) (predicate_sound ts)))
 
 -- a condition that is read nests to no more levels than may be
-pub condition_sound : (functions : Bool) → Sound (condition functions) (IsCondition functions)
-condition_sound functions = condition_of_sound (negation functions 64) (IsNegation functions 64) (negation_sound functions 64)
+pub condition_sound : Sound condition IsCondition
+condition_sound = condition_of_sound (negation 64) (IsNegation 64) (negation_sound 64)
 
 -- ---- queries
 
--- the functions of the select list are read with a column, at the place of the call; where functions aren't served there are none
-item_called : (functions : Bool) (ts : List Token) → AllRead (item_functions functions (place ts)) ts (λ x rest. Took ts (IsItem functions x) rest)
-item_called false ts = tt
-item_called true ts = (
-  λ h. placed (codes "ST_AsText") i.AsText IsColumn (IsItem true) _ ts (λ l. made_sound (i.AsText (place ts)) column IsColumn l column_sound) h (λ x used p. inr (inl p)),
+-- the functions of the select list are read with a column, at the place of the call
+item_called : (ts : List Token) → AllRead (item_functions (place ts)) ts (λ x rest. Took ts (IsItem x) rest)
+item_called ts = (
+  λ h. placed (codes "ST_AsText") i.AsText IsColumn IsItem _ ts (λ l. made_sound (i.AsText (place ts)) column IsColumn l column_sound) h (λ x used p. inr (inl p)),
   (
-    λ h. placed (codes "ST_Dimension") i.Dimension IsColumn (IsItem true) _ ts (λ l. made_sound (i.Dimension (place ts)) column IsColumn l column_sound) h (λ x used p. inr (inr (inl p))),
+    λ h. placed (codes "ST_Dimension") i.Dimension IsColumn IsItem _ ts (λ l. made_sound (i.Dimension (place ts)) column IsColumn l column_sound) h (λ x used p. inr (inr (inl p))),
     (
-      λ h. placed (codes "ST_IsEmpty") i.IsEmpty IsColumn (IsItem true) _ ts (λ l. made_sound (i.IsEmpty (place ts)) column IsColumn l column_sound) h (λ x used p. inr (inr (inr p))),
+      λ h. placed (codes "ST_IsEmpty") i.IsEmpty IsColumn IsItem _ ts (λ l. made_sound (i.IsEmpty (place ts)) column IsColumn l column_sound) h (λ x used p. inr (inr (inr p))),
       tt,
     ),
   ),
 )
 
 -- an item is read as one of those functions where it is called next, and else as a column
-item_sound : (functions : Bool) → Sound (item functions) (IsItem functions)
+item_sound : Sound item IsItem
 unfolding item
-item_sound functions ts = called_sound (item_functions functions (place ts)) _ ts (λ x rest. Took ts (IsItem functions x) rest) (item_called functions ts)
-    (map_read _ (λ x rest. Took ts (IsMade i.Column IsColumn x) rest) (λ x rest. Took ts (IsItem functions x) rest)
+item_sound ts = called_sound (item_functions (place ts)) (λ us. and_then (column us) (λ x rest. Ok (i.Column x, rest))) ts (λ x rest. Took ts (IsItem x) rest) (item_called ts)
+    (map_read _ (λ x rest. Took ts (IsMade i.Column IsColumn x) rest) (λ x rest. Took ts (IsItem x) rest)
     (λ x rest q. but _ _ ts rest q (λ used p. inl p)) (made_sound i.Column column IsColumn ts column_sound))
 
 -- a star between the parentheses of COUNT
-abbrev pub IsCounted : {C : Type 0} → Selection C → Phrase
-IsCounted {C = C} = IsMade {A = Selection C} {B = Unit {0}} (λ _. l.Count) (λ _. IsToken k.Star)
+abbrev pub IsCounted : Selection WrittenColumn → Phrase
+IsCounted = IsMade {A = Selection WrittenColumn} {B = Unit {0}} (λ _. l.Count) (λ _. IsToken k.Star)
 
--- COUNT is read with a star in its parentheses, where it is served
-count_called : (served : Served) (count : Bool) → served.count ≡ count → (ts : List Token)
-    → AllRead {A = Selection (ItemArgument served.functions)} (count_function count) ts (λ x rest. Took ts (IsSelection served x) rest)
-count_called served false e ts = tt
-count_called served true e ts =
-    let C : Type 0 = ItemArgument served.functions in (
-      λ h. map_read (enclosed counted (next ts)) (λ x rest. Took ts (IsCall (codes "COUNT") (IsCounted {C = C} x)) rest) (λ x rest. Took ts (IsSelection served x) rest)
-          (λ x rest q. but _ _ ts rest q (λ used p. with_call x used (call_made {B = Unit {0}} (codes "COUNT") (λ _. l.Count) (λ _. IsToken k.Star) x used p)))
-          (call_sound (codes "COUNT") counted (IsCounted {C = C}) ts (λ ts2. made_sound {B = Unit {0}} (λ _. l.Count) (expect fault.Syntax k.Star) (λ _. IsToken k.Star) ts2 (λ ts3. expect_sound k.Star ts3 (λ b. cc))) h),
-      tt,
-    )
+-- COUNT is read with a star in its parentheses
+count_called : (ts : List Token) → AllRead count_function ts (λ x rest. Took ts (IsSelection x) rest)
+count_called ts = (
+  λ h. map_read (enclosed counted (next ts)) (λ x rest. Took ts (IsCall (codes "COUNT") (IsCounted x)) rest) (λ x rest. Took ts (IsSelection x) rest)
+      (λ x rest q. but _ _ ts rest q (λ used p. with_call x used (call_made {B = Unit {0}} (codes "COUNT") (λ _. l.Count) (λ _. IsToken k.Star) x used p)))
+      (call_sound (codes "COUNT") counted IsCounted ts (λ ts2. made_sound {B = Unit {0}} (λ _. l.Count) (expect fault.Syntax k.Star) (λ _. IsToken k.Star) ts2 (λ ts3. expect_sound k.Star ts3 (λ b. cc))) h),
+  tt,
+)
   where
-    with_call : (x : Selection (ItemArgument served.functions)) (used : List Token) → ((y : Unit {0}) × (x ≡ l.Count) × IsCall (codes "COUNT") (IsToken k.Star) used) → IsSelection served x used
-    with_call x used (y, is, p) = inr (inr (e, is, p))
+    with_call : (x : Selection WrittenColumn) (used : List Token) → ((y : Unit {0}) × (x ≡ l.Count) × IsCall (codes "COUNT") (IsToken k.Star) used) → IsSelection x used
+    with_call x used (y, is, p) = inr (inr (is, p))
 
 -- items with commas between them are a selection
-listed_sound : (served : Served) (ts : List Token)
-    → IfRead (and_then (items served.functions ts) (λ xs rest. Ok (l.Items xs, rest))) (λ (x : Selection (ItemArgument served.functions)) rest. Took ts (IsSelection served x) rest)
-listed_sound served ts =
-    let F : Bool = served.functions in
-    then_read (items F ts) _
-    (λ xs rest. (x : ServedItem F) × (more : List (ServedItem F)) × (xs ≡ x ∷ more) × Took ts (IsParts k.Comma (IsItem F) x more) rest) (λ x rest. Took ts (IsSelection served x) rest)
+listed_sound : (ts : List Token)
+    → IfRead (and_then (items ts) (λ xs rest. Ok (l.Items xs, rest))) (λ (x : Selection WrittenColumn) rest. Took ts (IsSelection x) rest)
+listed_sound ts =
+    then_read (items ts) _
+    (λ xs rest. (x : SelectItem) × (more : List SelectItem) × (xs ≡ x ∷ more) × Took ts (IsParts k.Comma IsItem x more) rest) (λ x rest. Took ts (IsSelection x) rest)
     (λ xs rest q. but _ _ ts rest q.3 (λ used p. inr (inl (q.0, q.1, ap l.Items q.2, p))))
-    (parts_sound k.Comma (item F) (IsItem F) (λ e. cc) (item_sound F) (length ts) [] ts)
+    (parts_sound k.Comma item IsItem (λ e. cc) item_sound (length ts) [] ts)
 
--- a selection is read as the star where that is next, as COUNT(*) where COUNT is served and called, and else as items
-pub selection_sound : (served : Served) → Sound (selection served) (IsSelection served)
+-- a selection is read as the star where that is next, as COUNT(*) where COUNT is called, and else as items
+pub selection_sound : Sound selection IsSelection
 unfolding selection
-selection_sound served ts =
-    let Q : Selection (ItemArgument served.functions) → List Token → Type 0 = λ x rest. Took ts (IsSelection served x) rest in
+selection_sound ts =
+    let Q : Selection WrittenColumn → List Token → Type 0 = λ x rest. Took ts (IsSelection x) rest in
     if_read (sees k.Star ts) _ _ Q (λ h. but _ _ ts (next ts) (one k.Star ts (λ e. cc) h) (λ used p. inl (refl, p)))
-    (λ _. called_sound (count_function served.count) _ ts Q (count_called served served.count refl ts) (listed_sound served ts))
+    (λ _. called_sound count_function (λ us. and_then (items us) (λ xs rest. Ok (l.Items xs, rest))) ts Q (count_called ts) (listed_sound ts))
 
 -- an alias, or none
 abbrev pub IsAlias : Option Name → Phrase
@@ -711,66 +703,65 @@ optional wanted ts good = go (sees wanted ts) refl
     go false h = ([], refl, inl refl)
 
 -- what a second reference and its condition are written as
-abbrev pub IsBoth : (served : Served) → Second served.functions → Phrase
-IsBoth served both = IsSecond served both.0 both.1
+abbrev pub IsBoth : Second → Phrase
+IsBoth both = IsSecond both.0 both.1
 
 -- behind a comma or CROSS JOIN, a reference is read and no condition
-crossed_sound : (functions : Bool) (ts : List Token)
-    → IfRead (crossed functions ts) (λ both rest. (reference : WrittenReference) × (both.0 ≡ Some reference) × (both.1 ≡ None) × Took ts (IsReference reference) rest)
+crossed_sound : (ts : List Token)
+    → IfRead (crossed ts) (λ both rest. (reference : WrittenReference) × (both.0 ≡ Some reference) × (both.1 ≡ None) × Took ts (IsReference reference) rest)
 unfolding crossed
-crossed_sound functions ts = then_read (reference ts) _ (λ x rest. Took ts (IsReference x) rest) _ (λ x rest q. (x, refl, refl, q)) (reference_sound ts)
+crossed_sound ts = then_read (reference ts) _ (λ x rest. Took ts (IsReference x) rest) _ (λ x rest q. (x, refl, refl, q)) (reference_sound ts)
 
 -- JOIN and ON with their reference and condition
-abbrev pub IsJoin : (functions : Bool) → WrittenReference → ServedCond functions → Phrase
-IsJoin functions reference on = IsToken k.Join ▸ IsReference reference ▸ IsToken k.On ▸ IsCondition functions on
+abbrev pub IsJoin : WrittenReference → Condition → Phrase
+IsJoin reference on = IsToken k.Join ▸ IsReference reference ▸ IsToken k.On ▸ IsCondition on
 
 -- JOIN, a reference, ON and a condition are read one behind the other, since the reader demands each
-joined_sound : (functions : Bool) (ts : List Token)
-    → IfRead (joined_on functions ts) (λ both rest. (reference : WrittenReference) × (x : ServedCond functions) × (both.0 ≡ Some reference) × (both.1 ≡ Some x) × Took ts (IsJoin functions reference x) rest)
+joined_sound : (ts : List Token)
+    → IfRead (joined_on ts) (λ both rest. (reference : WrittenReference) × (x : Condition) × (both.0 ≡ Some reference) × (both.1 ≡ Some x) × Took ts (IsJoin reference x) rest)
 unfolding joined_on
-joined_sound functions ts =
-    let Q : Second functions → List Token → Type 0 = λ both rest. (reference : WrittenReference) × (x : ServedCond functions) × (both.0 ≡ Some reference) × (both.1 ≡ Some x) × Took ts (IsJoin functions reference x) rest in
+joined_sound ts =
+    let Q : Second → List Token → Type 0 = λ both rest. (reference : WrittenReference) × (x : Condition) × (both.0 ≡ Some reference) × (both.1 ≡ Some x) × Took ts (IsJoin reference x) rest in
     then_read (expect fault.Syntax k.Join ts) _ (λ u rest. Took ts (IsToken k.Join) rest) Q
     (λ u ts1 p1. then_read (reference ts1) _ (λ x rest. Took ts1 (IsReference x) rest) Q
     (λ given ts2 p2. then_read (expect fault.Syntax k.On ts2) _ (λ u rest. Took ts2 (IsToken k.On) rest) Q
-    (λ u2 ts3 p3. then_read (condition functions ts3) _ (λ x rest. Took ts3 (IsCondition functions x) rest) Q
+    (λ u2 ts3 p3. then_read (condition ts3) _ (λ x rest. Took ts3 (IsCondition x) rest) Q
     (λ x ts4 p4. (
       given,
       x,
       refl,
       refl,
-      seq (IsToken k.Join) (IsReference given ▸ IsToken k.On ▸ IsCondition functions x) ts ts1 ts4 p1
-          (seq (IsReference given) (IsToken k.On ▸ IsCondition functions x) ts1 ts2 ts4 p2 (seq (IsToken k.On) (IsCondition functions x) ts2 ts3 ts4 p3 p4)),
+      seq (IsToken k.Join) (IsReference given ▸ IsToken k.On ▸ IsCondition x) ts ts1 ts4 p1
+          (seq (IsReference given) (IsToken k.On ▸ IsCondition x) ts1 ts2 ts4 p2 (seq (IsToken k.On) (IsCondition x) ts2 ts3 ts4 p3 p4)),
     ))
-    (condition_sound functions ts3))
+    (condition_sound ts3))
     (expect_sound k.On ts2 (λ e. cc)))
     (reference_sound ts1))
     (expect_sound k.Join ts (λ e. cc))
 
--- the next token shows the form of a second reference: a comma, CROSS, or INNER or JOIN; else none is read
-pub second_sound : (served : Served) → Sound (second served) (IsBoth served)
-second_sound served ts =
-    let F : Bool = served.functions in
-    let Q : Second F → List Token → Type 0 = λ both rest. Took ts (IsBoth served both) rest in
-    if_read (served.second_reference && sees k.Comma ts) _ _ Q
-    (λ h. map_read (crossed F (next ts)) (λ both rest. (reference : WrittenReference) × (both.0 ≡ Some reference) × (both.1 ≡ None) × Took (next ts) (IsReference reference) rest) Q
-    (λ both rest q. but _ _ ts rest (seq (IsToken k.Comma) (IsReference q.0) ts (next ts) rest (one k.Comma ts (λ e. cc) (and_right _ _ h)) q.3)
-    (λ used p. inr (inl (and_left _ _ h, q.0, q.1, q.2, inl p))))
-    (crossed_sound F (next ts)))
-    (λ _. if_read (served.second_reference && sees k.Cross ts) _ _ Q
+-- the next token tells the form of a second reference: a comma, CROSS, or INNER or JOIN; else none is read
+pub second_sound : Sound second IsBoth
+second_sound ts =
+    let Q : Second → List Token → Type 0 = λ both rest. Took ts (IsBoth both) rest in
+    if_read (sees k.Comma ts) _ _ Q
+    (λ h. map_read (crossed (next ts)) (λ both rest. (reference : WrittenReference) × (both.0 ≡ Some reference) × (both.1 ≡ None) × Took (next ts) (IsReference reference) rest) Q
+    (λ both rest q. but _ _ ts rest (seq (IsToken k.Comma) (IsReference q.0) ts (next ts) rest (one k.Comma ts (λ e. cc) h) q.3)
+    (λ used p. inr (inl (q.0, q.1, q.2, inl p))))
+    (crossed_sound (next ts)))
+    (λ _. if_read (sees k.Cross ts) _ _ Q
     (λ h. then_read (expect fault.Syntax k.Join (next ts)) _ (λ u rest. Took (next ts) (IsToken k.Join) rest) Q
-    (λ u mid took. map_read (crossed F mid) (λ both rest. (reference : WrittenReference) × (both.0 ≡ Some reference) × (both.1 ≡ None) × Took mid (IsReference reference) rest) Q
+    (λ u mid took. map_read (crossed mid) (λ both rest. (reference : WrittenReference) × (both.0 ≡ Some reference) × (both.1 ≡ None) × Took mid (IsReference reference) rest) Q
     (λ both rest q. but _ _ ts rest
-    (seq (IsToken k.Cross) (IsToken k.Join ▸ IsReference q.0) ts (next ts) rest (one k.Cross ts (λ e. cc) (and_right _ _ h)) (seq (IsToken k.Join) (IsReference q.0) (next ts) mid rest took q.3))
-    (λ used p. inr (inl (and_left _ _ h, q.0, q.1, q.2, inr p))))
-    (crossed_sound F mid))
+    (seq (IsToken k.Cross) (IsToken k.Join ▸ IsReference q.0) ts (next ts) rest (one k.Cross ts (λ e. cc) h) (seq (IsToken k.Join) (IsReference q.0) (next ts) mid rest took q.3))
+    (λ used p. inr (inl (q.0, q.1, q.2, inr p))))
+    (crossed_sound mid))
     (expect_sound k.Join (next ts) (λ e. cc)))
-    (λ _. if_read (served.second_reference && (sees k.Inner ts || sees k.Join ts)) _ _ Q
-    (λ h. map_read (joined_on F (after k.Inner ts))
-    (λ both rest. (reference : WrittenReference) × (x : ServedCond F) × (both.0 ≡ Some reference) × (both.1 ≡ Some x) × Took (after k.Inner ts) (IsJoin F reference x) rest) Q
-    (λ both rest q. but _ _ ts rest (seq (IsOptional k.Inner) (IsJoin F q.0 q.1) ts (after k.Inner ts) rest (optional k.Inner ts (λ e. cc)) q.4)
-    (λ used p. inr (inr (and_left _ _ h, q.0, q.1, q.2, q.3, p))))
-    (joined_sound F (after k.Inner ts)))
+    (λ _. if_read (sees k.Inner ts || sees k.Join ts) _ _ Q
+    (λ h. map_read (joined_on (after k.Inner ts))
+    (λ both rest. (reference : WrittenReference) × (x : Condition) × (both.0 ≡ Some reference) × (both.1 ≡ Some x) × Took (after k.Inner ts) (IsJoin reference x) rest) Q
+    (λ both rest q. but _ _ ts rest (seq (IsOptional k.Inner) (IsJoin q.0 q.1) ts (after k.Inner ts) rest (optional k.Inner ts (λ e. cc)) q.4)
+    (λ used p. inr (inr (q.0, q.1, q.2, q.3, p))))
+    (joined_sound (after k.Inner ts)))
     (λ _. ([], refl, inl (refl, refl, refl)))))
 
 -- where the query says a word next, that word is the next token
@@ -778,32 +769,32 @@ says_taken : (word : List ℕ) (ts : List Token) → says word ts ≡ true → T
 unfolding says
 says_taken word ts h = word_taken word ts (and_left _ _ (and_left _ _ h)) (and_right _ _ h)
 
--- behind EXPLAIN, ANALYZE is read where it is next and served
-analyzed_sound : (served : Served) (ts : List Token) → served.explain ≡ true → says (codes "EXPLAIN") ts ≡ true
-    → IfRead (analyzed served (next ts)) (λ told rest. Took ts (IsExplain served told) rest)
-analyzed_sound served ts e h =
-    let Q : Explain → List Token → Type 0 = λ told rest. Took ts (IsExplain served told) rest in
-    if_read (served.analyze && says (codes "ANALYZE") (next ts)) _ _ Q
+-- behind EXPLAIN, ANALYZE is read where it is next
+analyzed_sound : (ts : List Token) → says (codes "EXPLAIN") ts ≡ true
+    → IfRead (analyzed (next ts)) (λ told rest. Took ts (IsExplain told) rest)
+analyzed_sound ts h =
+    let Q : Explain → List Token → Type 0 = λ told rest. Took ts (IsExplain told) rest in
+    if_read (says (codes "ANALYZE") (next ts)) _ _ Q
     (λ h2. but _ _ ts (next (next ts))
-    (seq (IsWord (codes "EXPLAIN")) (IsWord (codes "ANALYZE")) ts (next ts) (next (next ts)) (says_taken (codes "EXPLAIN") ts h) (says_taken (codes "ANALYZE") (next ts) (and_right _ _ h2)))
-    (λ used p. inr (inr (e, and_left _ _ h2, refl, p))))
-    (λ _. but _ _ ts (next ts) (says_taken (codes "EXPLAIN") ts h) (λ used p. inr (inl (e, refl, p))))
+    (seq (IsWord (codes "EXPLAIN")) (IsWord (codes "ANALYZE")) ts (next ts) (next (next ts)) (says_taken (codes "EXPLAIN") ts h) (says_taken (codes "ANALYZE") (next ts) h2))
+    (λ used p. inr (inr (refl, p))))
+    (λ _. but _ _ ts (next ts) (says_taken (codes "EXPLAIN") ts h) (λ used p. inr (inl (refl, p))))
 
--- EXPLAIN is read where it is next and served; else no token is taken
-pub explained_sound : (served : Served) → Sound (explained served) (IsExplain served)
-explained_sound served ts =
-    if_read (served.explain && says (codes "EXPLAIN") ts) _ _ (λ told rest. Took ts (IsExplain served told) rest)
-    (λ h. analyzed_sound served ts (and_left _ _ h) (and_right _ _ h)) (λ _. ([], refl, inl (refl, refl)))
+-- EXPLAIN is read where it is next; else no token is taken
+pub explained_sound : Sound explained IsExplain
+explained_sound ts =
+    if_read (says (codes "EXPLAIN") ts) _ _ (λ told rest. Took ts (IsExplain told) rest)
+    (λ h. analyzed_sound ts h) (λ _. ([], refl, inl (refl, refl)))
 
 -- a condition is read exactly where WHERE is next
-pub where_sound : (functions : Bool) → Sound (where_condition functions) (IsWhere functions)
+pub where_sound : Sound where_condition IsWhere
 unfolding where_condition
-where_sound functions ts =
-    let Q : Option (ServedCond functions) → List Token → Type 0 = λ x rest. Took ts (IsWhere functions x) rest in
+where_sound ts =
+    let Q : Option Condition → List Token → Type 0 = λ x rest. Took ts (IsWhere x) rest in
     eaten k.Where ts _ _ Q
-    (λ h. then_read (condition functions (next ts)) _ (λ x rest. Took (next ts) (IsCondition functions x) rest) Q
-    (λ x rest q. but _ _ ts rest (seq (IsToken k.Where) (IsCondition functions x) ts (next ts) rest (one k.Where ts (λ e. cc) h) q) (λ used p. inr (x, refl, p)))
-    (condition_sound functions (next ts)))
+    (λ h. then_read (condition (next ts)) _ (λ x rest. Took (next ts) (IsCondition x) rest) Q
+    (λ x rest q. but _ _ ts rest (seq (IsToken k.Where) (IsCondition x) ts (next ts) rest (one k.Where ts (λ e. cc) h) q) (λ used p. inr (x, refl, p)))
+    (condition_sound (next ts)))
     (λ _. ([], refl, inl (refl, refl)))
 
 -- LIMIT's number was read
@@ -822,13 +813,13 @@ count_sound : (ts : List Token) → IfRead (limit_number ts) (TookCount ts)
 unfolding limit_number
 count_sound ts = if_read (sees k.Integer ts) _ _ (TookCount ts) (λ h. count_taken ts (limit_value (spelling ts)) h refl) (λ _. tt)
 
--- LIMIT's number is read where LIMIT is next and served; else no token is taken
-limit_sound : (served : Served) → Sound (limited served) (IsLimit served)
-limit_sound served ts =
-    let Q : Option ℕ → List Token → Type 0 = λ x rest. Took ts (IsLimit served x) rest in
-    if_read (served.limit && sees k.Limit ts) _ _ Q
+-- LIMIT's number is read where LIMIT is next; else no token is taken
+limit_sound : Sound limited IsLimit
+limit_sound ts =
+    let Q : Option ℕ → List Token → Type 0 = λ x rest. Took ts (IsLimit x) rest in
+    if_read (sees k.Limit ts) _ _ Q
     (λ h. map_read (limit_number (next ts)) (TookCount (next ts)) Q
-    (λ x rest q. but _ _ ts rest (seq (IsToken k.Limit) (IsRowCount q.0) ts (next ts) rest (one k.Limit ts (λ e. cc) (and_right _ _ h)) q.2) (λ used p. inr (and_left _ _ h, q.0, q.1, p)))
+    (λ x rest q. but _ _ ts rest (seq (IsToken k.Limit) (IsRowCount q.0) ts (next ts) rest (one k.Limit ts (λ e. cc) h) q.2) (λ used p. inr (q.0, q.1, p)))
     (count_sound (next ts)))
     (λ _. ([], refl, inl (refl, refl)))
 
@@ -861,30 +852,29 @@ end_sound : (ts : List Token) → EndsOnce ts → IfRead (expect fault.Syntax k.
 unfolding expect
 end_sound ts once = if_read (sees k.End ts) _ _ _ (λ h. (one k.End ts (λ e. cc) h, ended ts once h)) (λ _. tt)
 
--- what each reader takes is the phrase of its rule, and the phrases follow one another
-pub query_sound : (served : Served) (ts : List Token) → EndsOnce ts → IfRead (query served ts) (λ q rest. IsSelect served q ts)
+-- what each reader takes is the phrase of its rule, and the phrases stand one behind the other
+pub query_sound : (ts : List Token) → EndsOnce ts → IfRead (query ts) (λ q rest. IsSelect q ts)
 unfolding query
-query_sound served ts once =
-    let F : Bool = served.functions in
-    let R : ServedQuery served → List Token → Type 0 = λ q rest. IsSelect served q ts in
-    then_read (explained served ts) _ (λ x rest. Took ts (IsExplain served x) rest) R
+query_sound ts once =
+    let R : SelectQuery → List Token → Type 0 = λ q rest. IsSelect q ts in
+    then_read (explained ts) _ (λ x rest. Took ts (IsExplain x) rest) R
     (λ told ts0 p0. then_read (expect fault.Syntax k.Select ts0) _ (λ u rest. Took ts0 (IsToken k.Select) rest) R
-    (λ u1 ts1 p1. then_read (selection served ts1) _ (λ x rest. Took ts1 (IsSelection served x) rest) R
+    (λ u1 ts1 p1. then_read (selection ts1) _ (λ x rest. Took ts1 (IsSelection x) rest) R
     (λ listed ts2 p2. then_read (expect fault.Syntax k.From ts2) _ (λ u rest. Took ts2 (IsToken k.From) rest) R
     (λ u3 ts3 p3. then_read (reference ts3) _ (λ x rest. Took ts3 (IsReference x) rest) R
-    (λ first ts4 p4. then_read (second served ts4) _ (λ x rest. Took ts4 (IsBoth served x) rest) R
-    (λ both ts5 p5. then_read (where_condition F ts5) _ (λ x rest. Took ts5 (IsWhere F x) rest) R
-    (λ filter ts6 p6. then_read (limited served ts6) _ (λ x rest. Took ts6 (IsLimit served x) rest) R
+    (λ first ts4 p4. then_read (second ts4) _ (λ x rest. Took ts4 (IsBoth x) rest) R
+    (λ both ts5 p5. then_read (where_condition ts5) _ (λ x rest. Took ts5 (IsWhere x) rest) R
+    (λ filter ts6 p6. then_read (limited ts6) _ (λ x rest. Took ts6 (IsLimit x) rest) R
     (λ most ts7 p7.
     let ts8 : List Token = after k.Semicolon ts7 in
     let p8 = optional k.Semicolon ts7 (λ e. cc) in
     then_read (expect fault.Syntax k.End ts8) _ (λ u rest. Took ts8 (IsToken k.End) rest × (rest ≡ [])) R
     (λ u9 ts9 p9.
     all_taken
-    (IsExplain served told ▸ IsToken k.Select ▸ IsSelection served listed ▸ IsToken k.From ▸ IsReference first ▸ IsBoth served both ▸ IsWhere F filter ▸ IsLimit served most
+    (IsExplain told ▸ IsToken k.Select ▸ IsSelection listed ▸ IsToken k.From ▸ IsReference first ▸ IsBoth both ▸ IsWhere filter ▸ IsLimit most
     ▸ IsOptional k.Semicolon ▸ IsToken k.End) ts ts9
-    (seq (IsExplain served told) _ ts ts0 ts9 p0 (seq (IsToken k.Select) _ ts0 ts1 ts9 p1 (seq (IsSelection served listed) _ ts1 ts2 ts9 p2 (seq (IsToken k.From) _ ts2 ts3 ts9 p3
-    (seq (IsReference first) _ ts3 ts4 ts9 p4 (seq (IsBoth served both) _ ts4 ts5 ts9 p5 (seq (IsWhere F filter) _ ts5 ts6 ts9 p6 (seq (IsLimit served most) _ ts6 ts7 ts9 p7
+    (seq (IsExplain told) _ ts ts0 ts9 p0 (seq (IsToken k.Select) _ ts0 ts1 ts9 p1 (seq (IsSelection listed) _ ts1 ts2 ts9 p2 (seq (IsToken k.From) _ ts2 ts3 ts9 p3
+    (seq (IsReference first) _ ts3 ts4 ts9 p4 (seq (IsBoth both) _ ts4 ts5 ts9 p5 (seq (IsWhere filter) _ ts5 ts6 ts9 p6 (seq (IsLimit most) _ ts6 ts7 ts9 p7
     (seq (IsOptional k.Semicolon) (IsToken k.End) ts7 ts8 ts9 p8 p9.0))))))))) p9.1)
     (end_sound ts8 (ends_left _ ts7 ts8 (ends_left _ ts6 ts7 (ends_left _ ts5 ts6 (ends_left _ ts4 ts5 (ends_left _ ts3 ts4 (ends_left _ ts2 ts3 (ends_left _ ts1 ts2 (ends_left _ ts0 ts1 (ends_left _ ts ts0 once p0) p1) p2) p3) p4) p5) p6) p7) p8)))
-    (limit_sound served ts6)) (where_sound F ts5)) (second_sound served ts4)) (reference_sound ts3)) (expect_sound k.From ts2 (λ e. cc))) (selection_sound served ts1)) (expect_sound k.Select ts0 (λ e. cc))) (explained_sound served ts)
+    (limit_sound ts6)) (where_sound ts5)) (second_sound ts4)) (reference_sound ts3)) (expect_sound k.From ts2 (λ e. cc))) (selection_sound ts1)) (expect_sound k.Select ts0 (λ e. cc))) (explained_sound ts)

@@ -1,4 +1,4 @@
-//! Laws of queries, whichever parts of the language are served. Nothing here runs: each function has an empty body,
+//! Laws of queries. Nothing here runs: each function has an empty body,
 //! and its contract is a law of the definitions.
 
 ghost use Rattle.grammar_laws.specs.QueryLaws.{ReadIsQuery, QueryIsRead, OneTree, RefusalStands, FirstIsRead};

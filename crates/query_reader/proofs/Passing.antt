@@ -57,8 +57,8 @@ part_follows between part n found kept ts mid later (Err e) keeps done r f g is 
 pub opposite_below : (n : ℕ) (ts later new : List Token) (result : Result (WrittenCond WrittenGeometry) QueryFault)
     → sees k.Not ts ≡ true
     → later ≡ after k.Not ts
-    → Reads fault.OutOfMemory ((tree.Not <$> negation true n) later) result new
-    → Reads fault.OutOfMemory (negation true (suc n) ts) result new
+    → Reads fault.OutOfMemory ((tree.Not <$> negation n) later) result new
+    → Reads fault.OutOfMemory (negation (suc n) ts) result new
 unfolding negation after
 opposite_below n ts later new result is at r = rw is (rw (rw is at at) at r)
 
@@ -67,8 +67,8 @@ pub group_below : (n : ℕ) (ts mid later new : List Token) (result : Result (Wr
     → mid ≡ after k.Not ts
     → sees k.LeftParenthesis mid ≡ true
     → later ≡ after k.LeftParenthesis mid
-    → Reads fault.OutOfMemory (group (negation true n) later) result new
-    → Reads fault.OutOfMemory (negation true (suc n) ts) result new
+    → Reads fault.OutOfMemory (group (negation n) later) result new
+    → Reads fault.OutOfMemory (negation (suc n) ts) result new
 unfolding negation after
 group_below n ts mid later new result isnt same is at r =
     let here = rw isnt at same in
@@ -80,8 +80,8 @@ pub predicate_below : (n : ℕ) (ts mid later new : List Token) (result : Result
     → mid ≡ after k.Not ts
     → sees k.LeftParenthesis mid ≡ false
     → later ≡ after k.LeftParenthesis mid
-    → Reads fault.OutOfMemory (predicate true later) result new
-    → Reads fault.OutOfMemory (negation true (suc n) ts) result new
+    → Reads fault.OutOfMemory (predicate later) result new
+    → Reads fault.OutOfMemory (negation (suc n) ts) result new
 unfolding negation after
 predicate_below n ts mid later new result isnt same is at r =
     let here = rw isnt at same in

@@ -1,12 +1,11 @@
 -- A query is read by its parts.
-use Rattle.std.proofs.Common.{◌≡◌, true, Some, List, Result, Ok, Err, IfOk, IfErr, refl}
+use Rattle.std.proofs.Common.{◌≡◌, Some, List, Result, Ok, Err, IfOk, IfErr, refl}
 use Rattle.table_model.specs.Parsers.{Outcome, Parser, Reads, and_then, pure, expect}
 use Rattle.table_model.specs.QueryReading.{Reader, condition, reference, joined_on, query}
 use Rattle.table_model.specs.declared.faults.QueryFault.{QueryFault}
 use Rattle.table_model.specs.declared.faults.QueryFault.TheVariants as fault
 use Rattle.table_model.specs.declared.tokens.Token.{Token}
 use Rattle.table_model.specs.declared.tokens.TokenKind.TheVariants as k
-use Rattle.query_reader.specs.Language.{language}
 use Rattle.query_reader.specs.Queries.{joined_reference, by_parts}
 use Rattle.query_reader.specs.Steps.{mapped}
 
@@ -16,7 +15,7 @@ grouped (Ok p) f g = refl
 grouped (Err e) f g = refl
 
 -- a query is read part by part
-pub query_is : (ts : List Token) → query language ts ≡ by_parts ts
+pub query_is : (ts : List Token) → query ts ≡ by_parts ts
 unfolding query
 query_is ts = simp grouped
 
@@ -26,9 +25,9 @@ pub stepped : {F U V A B : Type 0} (o : Outcome F U) (p : Parser F A) (q : Parse
 stepped o p q g = simp grouped
 
 -- a second table reference and then its condition
-pub joined_on_is : (ts : List Token) → joined_on true ts ≡ and_then (joined_reference ts) (λ reference later. and_then (condition true later) (λ x. pure (Some reference, Some x)))
+pub joined_on_is : (ts : List Token) → joined_on ts ≡ and_then (joined_reference ts) (λ reference later. and_then (condition later) (λ x. pure (Some reference, Some x)))
 unfolding joined_on
-joined_on_is ts = stepped (expect fault.Syntax k.Join ts) reference (expect fault.Syntax k.On) (λ reference later. and_then (condition true later) (λ x. pure (Some reference, Some x)))
+joined_on_is ts = stepped (expect fault.Syntax k.Join ts) reference (expect fault.Syntax k.On) (λ reference later. and_then (condition later) (λ x. pure (Some reference, Some x)))
 
 -- a call's answer with what is made of it is what the reader and then that gives
 pub mapped_reads : {A B : Type 0} (f : A → B) (outcome : Outcome QueryFault A) (read : Result A QueryFault) (new : List Token)

@@ -1,4 +1,3 @@
-pub mod Language
 pub mod Predicates
 pub mod Queries
 pub mod Steps

@@ -4,7 +4,7 @@ use Rattle.geometry_model.specs.declared.relations.Predicate.{Predicate}
 use Rattle.geometry_model.specs.declared.relations.Predicate.TheVariants as p
 use Rattle.table_model.specs.Parsers.{place, next, ◌<$>◌, ◌>>=◌, pure}
 use Rattle.table_model.specs.QueryReading.{Reader, Functions, calls, called_or, name, column, geometry, operand_functions, relates, relates_by, truth_tested, comparison}
-use Rattle.table_model.specs.Served.{ServedCond, ServedItem, ServedOperand}
+use Rattle.table_model.specs.Queries.{Condition, ConditionOperand, SelectItem}
 use Rattle.table_model.specs.declared.queries.WrittenCond.{WrittenCond}
 use Rattle.table_model.specs.declared.queries.WrittenCond.TheVariants as c
 use Rattle.table_model.specs.declared.queries.WrittenItem.TheVariants as i
@@ -39,12 +39,12 @@ tested x = do
   is_to_hold ← comparand
   pure (call, is_to_hold)
 
--- what is between the parentheses of ST_IsEmpty in a condition
-abbrev pub empty_argument : ℕ → Reader (ServedCond true)
+-- what stands between the parentheses of ST_IsEmpty in a condition
+abbrev pub empty_argument : ℕ → Reader Condition
 empty_argument at = c.IsEmpty at <$> geometry
 
 -- the other functions that are predicates: ST_Relate and ST_IsEmpty (06-103r4, 6.1.15.2 and 6.1.2.2)
-abbrev pub other_functions : ℕ → Functions (ServedCond true)
+abbrev pub other_functions : ℕ → Functions Condition
 other_functions at = (codes "ST_Relate", truth_tested (relates_by at)) ∷ (codes "ST_IsEmpty", truth_tested (empty_argument at)) ∷ []
 
 -- which of them is called next
@@ -57,50 +57,50 @@ function_by (Some predicate) ts = Some (f.Named predicate)
 function_by None ts = other_function ts
 
 -- the arguments of a function whose name starts at a place
-abbrev pub arguments : Function → ℕ → Reader (ServedCond true)
+abbrev pub arguments : Function → ℕ → Reader Condition
 arguments (f.Named predicate) at = relates at predicate
 arguments f.Relate at = relates_by at
 arguments f.IsEmpty at = empty_argument at
 
 -- a call of a function, from its name on
-abbrev pub call : Function → Reader (ServedCond true)
+abbrev pub call : Function → Reader Condition
 call function ts = truth_tested (arguments function (place ts)) (next ts)
 
 -- a predicate, where the function that is called next is known
-abbrev pub predicate_by : Option Function → Reader (ServedCond true)
+abbrev pub predicate_by : Option Function → Reader Condition
 predicate_by (Some function) ts = call function ts
-predicate_by None ts = comparison true ts
+predicate_by None ts = comparison ts
 
 -- an operand that is a call of a function or a column
-abbrev pub other_operand : Reader (ServedOperand true)
-other_operand ts = called_or (operand_functions true (place ts)) (o.Column <$> column) ts
+abbrev pub other_operand : Reader ConditionOperand
+other_operand ts = called_or (operand_functions (place ts)) (o.Column <$> column) ts
 
--- what is between the parentheses of ST_AsText, as an operand
-abbrev pub text_argument : ℕ → Reader (ServedOperand true)
+-- what stands between the parentheses of ST_AsText, as an operand
+abbrev pub text_argument : ℕ → Reader ConditionOperand
 text_argument at = o.AsText at <$> geometry
 
--- what is between the parentheses of ST_Dimension, as an operand
-abbrev pub dimension_argument : ℕ → Reader (ServedOperand true)
+-- what stands between the parentheses of ST_Dimension, as an operand
+abbrev pub dimension_argument : ℕ → Reader ConditionOperand
 dimension_argument at = o.Dimension at <$> geometry
 
 -- a column, as an operand
-abbrev pub column_operand : Reader (ServedOperand true)
+abbrev pub column_operand : Reader ConditionOperand
 column_operand = o.Column <$> column
 
--- what is between the parentheses of ST_AsText, as an item
-abbrev pub text_item : ℕ → Reader (ServedItem true)
+-- what stands between the parentheses of ST_AsText, as an item
+abbrev pub text_item : ℕ → Reader SelectItem
 text_item at = i.AsText at <$> column
 
--- what is between the parentheses of ST_Dimension, as an item
-abbrev pub dimension_item : ℕ → Reader (ServedItem true)
+-- what stands between the parentheses of ST_Dimension, as an item
+abbrev pub dimension_item : ℕ → Reader SelectItem
 dimension_item at = i.Dimension at <$> column
 
--- what is between the parentheses of ST_IsEmpty, as an item
-abbrev pub empty_item : ℕ → Reader (ServedItem true)
+-- what stands between the parentheses of ST_IsEmpty, as an item
+abbrev pub empty_item : ℕ → Reader SelectItem
 empty_item at = i.IsEmpty at <$> column
 
 -- a column, as an item
-abbrev pub column_item : Reader (ServedItem true)
+abbrev pub column_item : Reader SelectItem
 column_item = i.Column <$> column
 
 -- the name of an alias, if one comes next

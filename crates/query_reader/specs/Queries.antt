@@ -1,8 +1,8 @@
--- A query by its parts, as a reader reads them: what comes before FROM, the tables, and what comes after them.
-use Rattle.std.specs.Prelude.{ℕ, true, Option}
+-- A query by its parts, as a reader reads them: what stands before FROM, the tables, and what stands after them.
+use Rattle.std.specs.Prelude.{ℕ, Option}
 use Rattle.table_model.specs.Parsers.{◌>>=◌, ◌>>◌, pure, eat, expect}
 use Rattle.table_model.specs.QueryReading.{Reader, Second, explained, selection, reference, second, where_condition, limited}
-use Rattle.table_model.specs.Served.{ServedCond, ServedQuery}
+use Rattle.table_model.specs.Queries.{Condition, SelectQuery}
 use Rattle.table_model.specs.declared.faults.QueryFault.TheVariants as fault
 use Rattle.table_model.specs.declared.queries.Explain.{Explain}
 use Rattle.table_model.specs.declared.queries.Query.{Query}
@@ -11,35 +11,34 @@ use Rattle.table_model.specs.declared.queries.WrittenColumn.{WrittenColumn}
 use Rattle.table_model.specs.declared.queries.WrittenCond.{WrittenCond}
 use Rattle.table_model.specs.declared.queries.WrittenReference.{WrittenReference}
 use Rattle.table_model.specs.declared.tokens.TokenKind.TheVariants as k
-use Rattle.query_reader.specs.Language.{language}
 
 -- whether the plan is asked for, and what SELECT lists
 abbrev pub head : Reader (Explain × Selection WrittenColumn)
 head = do
-  told ← explained language
+  told ← explained
   expect fault.Syntax k.Select
-  selection ← selection language
+  selection ← selection
   pure (told, selection)
 
 -- FROM and the tables
-abbrev pub sources : Reader (WrittenReference × Second true)
+abbrev pub sources : Reader (WrittenReference × Second)
 sources = do
   expect fault.Syntax k.From
   first ← reference
-  second ← second language
+  second ← second
   pure (first, second)
 
 -- what was read before LIMIT with the number of LIMIT, and then the text ends
 abbrev pub with_limit : {A : Type 0} → A → Reader (A × Option ℕ)
 with_limit x = do
-  limit ← limited language
+  limit ← limited
   eat k.Semicolon
   expect fault.Syntax k.End
   pure (x, limit)
 
 -- the condition of WHERE and the number of LIMIT, and then the text ends
-abbrev pub ending : Reader (Option (ServedCond true) × Option ℕ)
-ending = where_condition true >>= with_limit
+abbrev pub ending : Reader (Option Condition × Option ℕ)
+ending = where_condition >>= with_limit
 
 -- JOIN, a second table reference and ON
 abbrev pub joined_reference : Reader WrittenReference
@@ -54,7 +53,7 @@ abbrev pub assembled : {A C : Type 0} → Explain × Selection C → WrittenRefe
 assembled h s e = record { explain = h.0; selection = h.1; first = s.0; second = s.1.0; on = s.1.1; condition = e.0; limit = e.1 }
 
 -- a query, part by part
-abbrev pub by_parts : Reader (ServedQuery language)
+abbrev pub by_parts : Reader SelectQuery
 by_parts = do
   head ← head
   sources ← sources

@@ -3,7 +3,6 @@
 ghost use Rattle.std.specs.Prelude.{◌≡◌};
 ghost use Rattle.table_model.specs.QueryReading as spec;
 ghost use Rattle.table_model.specs.Parsers.{Reads};
-ghost use Rattle.query_reader.specs.Language.{language};
 
 use crate::condition::{CondOf, WrittenCond, negated};
 use crate::operands::{OperandOf, WrittenOperand, operand};
@@ -37,7 +36,7 @@ fn compared<'a>(
     left: WrittenOperand<'a>,
 ) -> Result<WrittenCond<'a>, QueryFault>
     ensures { Reads QueryFault.OutOfMemory
-        (spec.compared language.functions at left.entry tokens.old) result tokens.new }
+        (spec.compared at left.entry tokens.old) result tokens.new }
 {
     let Some(comparison) = comparison_of(tokens.kind()) else {
         return Err(refuse(tokens));
@@ -72,7 +71,7 @@ pub(crate) fn comparison<'a>(
     alloc: Global,
     tokens: &mut Cursor<'_, 'a>,
 ) -> Result<WrittenCond<'a>, QueryFault>
-    ensures { Reads QueryFault.OutOfMemory (spec.comparison language.functions tokens.old) result tokens.new }
+    ensures { Reads QueryFault.OutOfMemory (spec.comparison tokens.old) result tokens.new }
 {
     let at = tokens.place();
     let left = operand(alloc, tokens)?;

@@ -6,7 +6,6 @@ ghost use Rattle.table_model.specs.Outcomes.{Gives};
 ghost use Rattle.table_model.specs.QueryReading as spec;
 ghost use Rattle.table_model.specs.Parsers as steps;
 ghost use Rattle.table_model.specs.Parsers.{Reads};
-ghost use Rattle.query_reader.specs.Language.{language};
 ghost use Rattle.query_reader.specs.Steps.{mapped};
 
 use crate::Argument;
@@ -100,7 +99,7 @@ fn disjuncts<'a>(
 ) -> Result<Items<WrittenCond<'a>>, QueryFault>
     ensures ok { IfOk first.entry (λ found. Reads QueryFault.OutOfMemory
         (steps.parts QueryFault.Syntax TokenKind.Or
-        (spec.conjunction (spec.negation language.functions levels)) found tokens.old)
+        (spec.conjunction (spec.negation levels)) found tokens.old)
         result tokens.new) }
     ensures err { IfErr first.entry (λ fault. result ≡ Err fault) }
 {
@@ -122,7 +121,7 @@ pub(crate) fn condition<'a>(
     levels: usize,
 ) -> Result<WrittenCond<'a>, QueryFault>
     ensures { Reads QueryFault.OutOfMemory
-        (spec.condition_of (spec.negation language.functions levels) tokens.old) result tokens.new }
+        (spec.condition_of (spec.negation levels) tokens.old) result tokens.new }
 {
     let first = conjunction(alloc, tokens, levels);
     if !goes_on(tokens, &first, TokenKind::Or) {
@@ -142,7 +141,7 @@ fn conjuncts<'a>(
 ) -> Result<Items<WrittenCond<'a>>, QueryFault>
     ensures ok { IfOk first.entry (λ found. Reads QueryFault.OutOfMemory
         (steps.parts QueryFault.Syntax TokenKind.And
-        (spec.negation language.functions levels) found tokens.old)
+        (spec.negation levels) found tokens.old)
         result tokens.new) }
     ensures err { IfErr first.entry (λ fault. result ≡ Err fault) }
 {
@@ -164,7 +163,7 @@ fn conjunction<'a>(
     levels: usize,
 ) -> Result<WrittenCond<'a>, QueryFault>
     ensures { Reads QueryFault.OutOfMemory
-        (spec.conjunction (spec.negation language.functions levels) tokens.old) result tokens.new }
+        (spec.conjunction (spec.negation levels) tokens.old) result tokens.new }
 {
     let first = negation(alloc, tokens, levels);
     if !goes_on(tokens, &first, TokenKind::And) {
@@ -181,7 +180,7 @@ fn group<'a>(
     levels: usize,
 ) -> Result<WrittenCond<'a>, QueryFault>
     ensures { Reads QueryFault.OutOfMemory
-        (spec.group (spec.negation language.functions levels) tokens.old) result tokens.new }
+        (spec.group (spec.negation levels) tokens.old) result tokens.new }
 {
     closed(condition(alloc, tokens, levels), tokens)
 }
@@ -194,7 +193,7 @@ fn opposite<'a>(
     levels: usize,
 ) -> Result<WrittenCond<'a>, QueryFault>
     ensures { Reads QueryFault.OutOfMemory
-        (steps.◌<$>◌ tree.Not (spec.negation language.functions levels) tokens.old) result tokens.new }
+        (steps.◌<$>◌ tree.Not (spec.negation levels) tokens.old) result tokens.new }
 {
     negated(alloc, negation(alloc, tokens, levels))
 }
@@ -203,7 +202,7 @@ fn opposite<'a>(
 #[tactic(auto, unfolding(table_model::specs::QueryReading::negation))]
 fn innermost<'a>(alloc: Global, tokens: &mut Cursor<'_, 'a>) -> Result<WrittenCond<'a>, QueryFault>
     ensures { Reads QueryFault.OutOfMemory
-        (spec.negation language.functions 0 tokens.old) result tokens.new }
+        (spec.negation 0 tokens.old) result tokens.new }
 {
     if tokens.sees(TokenKind::Not) || tokens.sees(TokenKind::LeftParenthesis) {
         Err(QueryFault::TooDeep(tokens.place()))
@@ -221,7 +220,7 @@ fn negation<'a>(
     levels: usize,
 ) -> Result<WrittenCond<'a>, QueryFault>
     ensures { Reads QueryFault.OutOfMemory
-        (spec.negation language.functions levels tokens.old) result tokens.new }
+        (spec.negation levels tokens.old) result tokens.new }
 {
     if levels == 0 {
         innermost(alloc, tokens)

@@ -4,7 +4,6 @@ ghost use Rattle.table_model.specs.QueryReading as spec;
 ghost use Rattle.table_model.specs.Parsers as steps;
 ghost use Rattle.table_model.specs.Parsers.{Reads};
 ghost use Rattle.query_reader.specs.Predicates as names;
-ghost use Rattle.query_reader.specs.Language.{language};
 
 use crate::terminals::{calls, column, expect, refuse};
 use sql_tokens::cursor::Cursor;
@@ -64,7 +63,7 @@ fn column_item<'a>(tokens: &mut Cursor<'_, 'a>) -> Result<WrittenItem<'a>, Query
 /// Reads an item of the select list.
 #[tactic(auto, unfolding(table_model::specs::QueryReading::item))]
 fn item<'a>(tokens: &mut Cursor<'_, 'a>) -> Result<WrittenItem<'a>, QueryFault>
-    ensures { Reads QueryFault.OutOfMemory (spec.item language.functions tokens.old) result tokens.new }
+    ensures { Reads QueryFault.OutOfMemory (spec.item tokens.old) result tokens.new }
 {
     let at = tokens.place();
     if calls(tokens, b"ST_AsText") {
@@ -84,7 +83,7 @@ fn items<'a>(
     alloc: Global,
     tokens: &mut Cursor<'_, 'a>,
 ) -> Result<Items<WrittenItem<'a>>, QueryFault>
-    ensures { Reads QueryFault.OutOfMemory (spec.items language.functions tokens.old) result tokens.new }
+    ensures { Reads QueryFault.OutOfMemory (spec.items tokens.old) result tokens.new }
 {
     let mut items = Items::new(alloc);
     for _turn in 0..tokens.count() {
@@ -112,7 +111,7 @@ pub(crate) fn selection<'a>(
     alloc: Global,
     tokens: &mut Cursor<'_, 'a>,
 ) -> Result<Selection<'a>, QueryFault>
-    ensures { Reads QueryFault.OutOfMemory (spec.selection language tokens.old) result tokens.new }
+    ensures { Reads QueryFault.OutOfMemory (spec.selection tokens.old) result tokens.new }
 {
     if tokens.sees(TokenKind::Star) {
         tokens.advance();

@@ -5,7 +5,6 @@ ghost use Rattle.table_model.specs.Parsers as steps;
 ghost use Rattle.table_model.specs.Parsers.{Reads};
 ghost use Rattle.query_reader.specs.Predicates as names;
 ghost use Rattle.query_reader.specs.Predicates.{other_operand};
-ghost use Rattle.query_reader.specs.Language.{language};
 
 use crate::Argument;
 use crate::numbers::integer_value;
@@ -127,7 +126,7 @@ pub(crate) fn operand<'a>(
     alloc: Global,
     tokens: &mut Cursor<'_, 'a>,
 ) -> Result<WrittenOperand<'a>, QueryFault>
-    ensures { Reads QueryFault.OutOfMemory (spec.operand language.functions tokens.old) result tokens.new }
+    ensures { Reads QueryFault.OutOfMemory (spec.operand tokens.old) result tokens.new }
 {
     if tokens.sees(TokenKind::Null) {
         tokens.advance();

@@ -6,7 +6,6 @@ ghost use Rattle.table_model.specs.QueryReading as spec;
 ghost use Rattle.table_model.specs.Parsers.{Reads};
 ghost use Rattle.query_reader.specs.Predicates as names;
 ghost use Rattle.query_reader.specs.Predicates.{named_predicates, named_in};
-ghost use Rattle.query_reader.specs.Language.{language};
 
 use crate::comparisons::comparison;
 use crate::condition::{CondOf, WrittenCond, negated};
@@ -211,7 +210,7 @@ pub(crate) fn predicate<'a>(
     alloc: Global,
     tokens: &mut Cursor<'_, 'a>,
 ) -> Result<WrittenCond<'a>, QueryFault>
-    ensures { Reads QueryFault.OutOfMemory (spec.predicate language.functions tokens.old) result tokens.new }
+    ensures { Reads QueryFault.OutOfMemory (spec.predicate tokens.old) result tokens.new }
 {
     predicate_by_name(alloc, tokens)
 }

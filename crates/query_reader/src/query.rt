@@ -6,7 +6,6 @@ ghost use Rattle.table_model.specs.Parsers.{Reads};
 ghost use Rattle.table_model.specs.QueryGrammar.{AnswersQuery, IsQuery};
 ghost use Rattle.table_model.specs.QueryReading as spec;
 ghost use Rattle.table_model.specs.QueryRefusals.{AnswersFirst, StandsInQuery};
-ghost use Rattle.query_reader.specs.Language.{language};
 ghost use Rattle.query_reader.specs.Queries as parts;
 ghost use Rattle.query_reader.specs.Steps.{mapped};
 
@@ -32,7 +31,7 @@ fn where_condition<'a>(
     tokens: &mut Cursor<'_, 'a>,
 ) -> Result<Option<WrittenCond<'a>>, QueryFault>
     ensures { Reads QueryFault.OutOfMemory
-        (spec.where_condition language.functions tokens.old) result tokens.new }
+        (spec.where_condition tokens.old) result tokens.new }
 {
     if tokens.eat(TokenKind::Where) {
         present(condition(alloc, tokens, LEVEL_LIMIT))
@@ -60,7 +59,7 @@ fn limit_number(tokens: &mut Cursor<'_, '_>) -> Result<Option<u64>, QueryFault>
 
 /// Reads LIMIT and its integer, if they come next.
 fn limited(tokens: &mut Cursor<'_, '_>) -> Result<Option<u64>, QueryFault>
-    ensures { Reads QueryFault.OutOfMemory (spec.limited language tokens.old) result tokens.new }
+    ensures { Reads QueryFault.OutOfMemory (spec.limited tokens.old) result tokens.new }
 {
     if tokens.sees(TokenKind::Limit) {
         tokens.advance();
@@ -72,7 +71,7 @@ fn limited(tokens: &mut Cursor<'_, '_>) -> Result<Option<u64>, QueryFault>
 
 /// Reads EXPLAIN, and ANALYZE after it, if they come next.
 fn explained(tokens: &mut Cursor<'_, '_>) -> Explain
-    ensures { spec.explained language tokens.old ≡ Ok (result, tokens.new) }
+    ensures { spec.explained tokens.old ≡ Ok (result, tokens.new) }
 {
     if !says(tokens, b"EXPLAIN") {
         return Explain::No;
@@ -175,7 +174,7 @@ fn query_by_parts<'a>(alloc: Global, tokens: &mut Cursor<'_, 'a>) -> Result<Quer
 
 /// Reads a query, to the end of its tokens.
 fn query<'a>(alloc: Global, tokens: &mut Cursor<'_, 'a>) -> Result<Query<'a>, QueryFault>
-    ensures { Reads QueryFault.OutOfMemory (spec.query language tokens.old) result tokens.new }
+    ensures { Reads QueryFault.OutOfMemory (spec.query tokens.old) result tokens.new }
 {
     query_by_parts(alloc, tokens)
 }
@@ -195,7 +194,7 @@ fn bad_place(tokens: &[Token<'_>]) -> Option<usize>
 /// Reads the text of a query: its length is looked at first, then its tokens, then its grammar.
 #[tactic(auto, unfolding(table_model::specs::QueryReading::query_of))]
 fn read<'a>(alloc: Global, text: &'a str) -> Result<Query<'a>, QueryFault>
-    ensures { Gives QueryFault.OutOfMemory (λ q. q) result (spec.query_of language text.now) }
+    ensures { Gives QueryFault.OutOfMemory (λ q. q) result (spec.query_of text.now) }
 {
     if text.len() > TEXT_LIMIT {
         return Err(QueryFault::TooLong);
@@ -217,11 +216,11 @@ fn read<'a>(alloc: Global, text: &'a str) -> Result<Query<'a>, QueryFault>
 /// met first, Syntax, TooDeep at the 65th level of NOT and parentheses, and NumberTooBig at the first digit
 /// of a number that 64 bits don't hold. OutOfMemory may come in place of any result.
 pub fn read_query<'a>(alloc: Global, text: &'a str) -> Result<Query<'a>, QueryFault>
-    ensures ok { IfOk result (λ q. IsQuery language text.now q) }
-    ensures only { AnswersQuery language text.now result }
-    ensures first { AnswersFirst language text.now result }
-    ensures stands { IfErr result (λ fault. StandsInQuery language text.now fault) }
-    ensures exact { Gives QueryFault.OutOfMemory (λ q. q) result (spec.query_of language text.now) }
+    ensures ok { IfOk result (λ q. IsQuery text.now q) }
+    ensures only { AnswersQuery text.now result }
+    ensures first { AnswersFirst text.now result }
+    ensures stands { IfErr result (λ fault. StandsInQuery text.now fault) }
+    ensures exact { Gives QueryFault.OutOfMemory (λ q. q) result (spec.query_of text.now) }
 {
     read(alloc, text)
 }

@@ -3,7 +3,6 @@
 ghost use Rattle.table_model.specs.QueryReading as spec;
 ghost use Rattle.table_model.specs.Parsers.{Reads};
 ghost use Rattle.query_reader.specs.Predicates as names;
-ghost use Rattle.query_reader.specs.Language.{language};
 ghost use Rattle.query_reader.specs.Queries as parts;
 
 use crate::Argument;
@@ -56,7 +55,7 @@ pub(crate) type Second<'a> = SecondOf<'a, Argument<'a>>;
 /// Reads a second table reference, which has no condition.
 #[tactic(auto, unfolding(table_model::specs::QueryReading::crossed))]
 fn crossed<'a>(tokens: &mut Cursor<'_, 'a>) -> Result<Second<'a>, QueryFault>
-    ensures { Reads QueryFault.OutOfMemory (spec.crossed language.functions tokens.old) result tokens.new }
+    ensures { Reads QueryFault.OutOfMemory (spec.crossed tokens.old) result tokens.new }
 {
     Ok((Some(reference(tokens)?), None))
 }
@@ -73,7 +72,7 @@ fn joined_reference<'a>(tokens: &mut Cursor<'_, 'a>) -> Result<WrittenReference<
 
 /// Reads JOIN, a second table reference and its condition.
 fn joined_on<'a>(alloc: Global, tokens: &mut Cursor<'_, 'a>) -> Result<Second<'a>, QueryFault>
-    ensures { Reads QueryFault.OutOfMemory (spec.joined_on language.functions tokens.old) result tokens.new }
+    ensures { Reads QueryFault.OutOfMemory (spec.joined_on tokens.old) result tokens.new }
 {
     let reference = joined_reference(tokens)?;
     match condition(alloc, tokens, LEVEL_LIMIT) {
@@ -87,7 +86,7 @@ pub(crate) fn second<'a>(
     alloc: Global,
     tokens: &mut Cursor<'_, 'a>,
 ) -> Result<Second<'a>, QueryFault>
-    ensures { Reads QueryFault.OutOfMemory (spec.second language tokens.old) result tokens.new }
+    ensures { Reads QueryFault.OutOfMemory (spec.second tokens.old) result tokens.new }
 {
     if tokens.sees(TokenKind::Comma) {
         tokens.advance();

@@ -13,7 +13,7 @@ pub mod Binding
 pub mod Definitions
 pub mod Loading
 pub mod Databases
-pub mod Served
+pub mod Queries
 pub mod QueryReading
 pub mod Phrases
 pub mod QueryGrammar
@@ -41,5 +41,5 @@ pub mod SchemaRefusals
 pub mod FeatureTables
 pub mod ValidGeometries
 pub mod SchemaExamples
-pub mod Serving
+pub mod SpatialTables
 pub mod RunOutcomes

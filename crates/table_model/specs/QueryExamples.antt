@@ -1,7 +1,7 @@
--- Words for worked texts of queries, read with the whole language served.
-use Rattle.std.specs.Prelude.{ℕ, true, List, ◌++◌, codes, Option, Some, None, Result, Ok}
+-- Words for worked texts of queries.
+use Rattle.std.specs.Prelude.{ℕ, List, ◌++◌, codes, Option, Some, None, Result, Ok}
 use Rattle.table_model.specs.GeometryColumnExamples.{table}
-use Rattle.table_model.specs.Served.{ServedCond, ServedQuery, all_served, nothing_served}
+use Rattle.table_model.specs.Queries.{Condition, SelectQuery}
 use Rattle.table_model.specs.QueryReading.{query_of}
 use Rattle.table_model.specs.declared.faults.QueryFault.{QueryFault}
 use Rattle.table_model.specs.declared.queries.Explain.{Explain}
@@ -11,28 +11,24 @@ use Rattle.table_model.specs.declared.queries.Selection.TheVariants as selection
 use Rattle.table_model.specs.declared.queries.WrittenColumn.{WrittenColumn}
 use Rattle.table_model.specs.declared.queries.WrittenReference.{WrittenReference}
 
--- what a text reads as where the whole language is served
-abbrev pub read : List ℕ → Result (ServedQuery all_served) QueryFault
-read text = query_of all_served text
-
--- what a text reads as where a SELECT over one table without functions is served
-abbrev pub read_plain : List ℕ → Result (ServedQuery nothing_served) QueryFault
-read_plain text = query_of nothing_served text
+-- what a text reads as
+abbrev pub read : List ℕ → Result SelectQuery QueryFault
+read text = query_of text
 
 -- what a SELECT of all columns of the table t with this condition, from byte 22 on, reads as
-abbrev pub read_where : List ℕ → Result (ServedQuery all_served) QueryFault
+abbrev pub read_where : List ℕ → Result SelectQuery QueryFault
 read_where condition = read (codes "SELECT * FROM t WHERE " ++ condition)
 
 -- the tree of a SELECT over two tables, with its condition of ON, or of one over one table
-abbrev pub joined : Explain → Selection WrittenColumn → WrittenReference → Option WrittenReference → Option (ServedCond true) → Option (ServedCond true) → Result (ServedQuery all_served) QueryFault
+abbrev pub joined : Explain → Selection WrittenColumn → WrittenReference → Option WrittenReference → Option Condition → Option Condition → Result SelectQuery QueryFault
 joined told selection first second on condition =
     Ok (record { explain = told; selection = selection; first = first; second = second; on = on; condition = condition; limit = None })
 
 -- the tree of a SELECT of all columns of the table t with a condition
-abbrev pub all_where : ServedCond true → Result (ServedQuery all_served) QueryFault
+abbrev pub all_where : Condition → Result SelectQuery QueryFault
 all_where condition = joined explains.No selections.All (table (codes "t") 14) None None (Some condition)
 
 -- the tree of a SELECT over one table, with its condition and its limit
-abbrev pub under : Selection WrittenColumn → WrittenReference → Option (ServedCond true) → Option ℕ → Result (ServedQuery all_served) QueryFault
+abbrev pub under : Selection WrittenColumn → WrittenReference → Option Condition → Option ℕ → Result SelectQuery QueryFault
 under selection table condition limit =
     Ok (record { explain = explains.No; selection = selection; first = table; second = None; on = None; condition = condition; limit = limit })

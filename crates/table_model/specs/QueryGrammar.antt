@@ -1,6 +1,5 @@
 -- The grammar of queries: a relation for each rule, between a tree and the tokens that are written for it. SELECT over
--- one table or two, after the query expressions of 06-104r4, with its functions. Each part that may be served
--- or not is a parameter.
+-- one table or two, after the query expressions of 06-104r4, with its functions.
 use Rattle.std.specs.Prelude.{◌≡◌, ◌≤◌, ◌⊎◌, ℕ, zero, suc, Bool, true, false, ℤ, List, [], ◌∷◌, length, Option, Some, None, Result, Ok, codes}
 use Rattle.std.specs.Str.Parse.{digits_value}
 use Rattle.geometry_model.specs.declared.relations.Predicate.{Predicate}
@@ -28,7 +27,7 @@ use Rattle.table_model.specs.Outcomes.{Gives}
 use Rattle.table_model.specs.Parsers.{place}
 use Rattle.table_model.specs.Phrases.{Phrase, IsOne, IsToken, ◌▸◌, IsOptional, IsParts, IsWord}
 use Rattle.table_model.specs.QueryReading.{integer_value, limit_value, comparison_of, most_levels, bad_place}
-use Rattle.table_model.specs.Served.{Served, ItemArgument, ServedOperand, ServedCond, ServedItem, ServedQuery}
+use Rattle.table_model.specs.Queries.{Condition, ConditionOperand, SelectItem, SelectQuery}
 use Rattle.table_model.specs.Tokens.{tokens, most_bytes}
 
 -- ---- names, columns and operands
@@ -67,21 +66,20 @@ IsGeometry geometry ts =
     ((column : WrittenColumn) × (geometry ≡ g.Column column) × IsColumn column ts)
     ⊎ ((text : Name) × (geometry ≡ g.FromText text) × IsCall (codes "ST_GeomFromText") (IsString text) ts)
 
--- 'ST_AsText' '(' geom ')' | 'ST_Dimension' '(' geom ')', where functions are served
-abbrev pub IsOperandFunction : (functions : Bool) → ServedOperand functions → Phrase
-IsOperandFunction false operand ts = ⊥
-IsOperandFunction true operand ts =
+-- 'ST_AsText' '(' geom ')' | 'ST_Dimension' '(' geom ')'
+abbrev pub IsOperandFunction : ConditionOperand → Phrase
+IsOperandFunction operand ts =
     ((geometry : WrittenGeometry) × (operand ≡ o.AsText (place ts) geometry) × IsCall (codes "ST_AsText") (IsGeometry geometry) ts)
     ⊎ ((geometry : WrittenGeometry) × (operand ≡ o.Dimension (place ts) geometry) × IsCall (codes "ST_Dimension") (IsGeometry geometry) ts)
 
 -- operand = col | ('+' | '-')? integer | string | 'NULL' | 'ST_AsText' '(' geom ')' | 'ST_Dimension' '(' geom ')'
-abbrev pub IsOperand : (functions : Bool) → ServedOperand functions → Phrase
-IsOperand functions operand ts =
+abbrev pub IsOperand : ConditionOperand → Phrase
+IsOperand operand ts =
     ((column : WrittenColumn) × (operand ≡ o.Column column) × IsColumn column ts)
     ⊎ ((n : ℤ) × (operand ≡ o.Integer n) × IsInteger n ts)
     ⊎ ((text : Name) × (operand ≡ o.Text text) × IsString text ts)
     ⊎ ((operand ≡ o.Null) × IsToken k.Null ts)
-    ⊎ IsOperandFunction functions operand ts
+    ⊎ IsOperandFunction operand ts
 
 -- ---- predicates
 
@@ -105,11 +103,10 @@ function_of (p.Relate pattern) = None
 abbrev pub IsPair : WrittenGeometry → WrittenGeometry → Phrase
 IsPair a b = IsGeometry a ▸ IsToken k.Comma ▸ IsGeometry b
 
--- bool = rel '(' geom ',' geom ')' | 'ST_Relate' '(' geom ',' geom ',' string ')' | 'ST_IsEmpty' '(' geom ')', where
--- functions are served (06-103r4, 6.1.15.3, 6.1.15.2 and 6.1.2.2)
-abbrev pub IsBool : (functions : Bool) → ServedCond functions → Phrase
-IsBool false x ts = ⊥
-IsBool true x ts =
+-- bool = rel '(' geom ',' geom ')' | 'ST_Relate' '(' geom ',' geom ',' string ')' | 'ST_IsEmpty' '(' geom ')'
+-- (06-103r4, 6.1.15.3, 6.1.15.2 and 6.1.2.2)
+abbrev pub IsBool : Condition → Phrase
+IsBool x ts =
     ((predicate : Predicate) × (function : List ℕ) × (a b : WrittenGeometry) × (function_of predicate ≡ Some function)
     × (x ≡ c.Relates (place ts) (w.Named predicate) a b) × IsCall function (IsPair a b) ts)
     ⊎ ((a b : WrittenGeometry) × (pattern : Name) × (x ≡ c.Relates (place ts) (w.Relate pattern) a b)
@@ -128,17 +125,17 @@ IsTest bool x ts =
     ⊎ ((x ≡ c.Not bool) × (IsToken k.Equal ▸ IsNumber 0) ts)
 
 -- pred = operand cmp operand | operand 'IS' 'NOT'? 'NULL' | bool ('=' ('1' | '0'))?, for a rule of operands
-abbrev pub IsPredicateOf : (functions : Bool) → (ServedOperand functions → Phrase) → ServedCond functions → Phrase
-IsPredicateOf functions P x ts =
-    ((comparison : Comparison) × (left right : ServedOperand functions) × (x ≡ c.Compare (place ts) comparison left right)
+abbrev pub IsPredicateOf : (ConditionOperand → Phrase) → Condition → Phrase
+IsPredicateOf P x ts =
+    ((comparison : Comparison) × (left right : ConditionOperand) × (x ≡ c.Compare (place ts) comparison left right)
     × (P left ▸ IsComparison comparison ▸ P right) ts)
-    ⊎ ((operand : ServedOperand functions) × (x ≡ c.IsNull operand) × (P operand ▸ IsToken k.Is ▸ IsToken k.Null) ts)
-    ⊎ ((operand : ServedOperand functions) × (x ≡ c.Not (c.IsNull operand)) × (P operand ▸ IsToken k.Is ▸ IsToken k.Not ▸ IsToken k.Null) ts)
-    ⊎ ((bool : ServedCond functions) × (IsBool functions bool ▸ IsTest bool x) ts)
+    ⊎ ((operand : ConditionOperand) × (x ≡ c.IsNull operand) × (P operand ▸ IsToken k.Is ▸ IsToken k.Null) ts)
+    ⊎ ((operand : ConditionOperand) × (x ≡ c.Not (c.IsNull operand)) × (P operand ▸ IsToken k.Is ▸ IsToken k.Not ▸ IsToken k.Null) ts)
+    ⊎ ((bool : Condition) × (IsBool bool ▸ IsTest bool x) ts)
 
 -- pred, of operands
-abbrev pub IsPredicate : (functions : Bool) → ServedCond functions → Phrase
-IsPredicate functions = IsPredicateOf functions (IsOperand functions)
+abbrev pub IsPredicate : Condition → Phrase
+IsPredicate = IsPredicateOf IsOperand
 
 -- ---- conditions
 
@@ -164,36 +161,34 @@ IsNegationOf {A} P (suc levels) x ts =
     ⊎ P x ts
 
 -- neg, of predicates
-abbrev pub IsNegation : (functions : Bool) → ℕ → ServedCond functions → Phrase
-IsNegation functions = IsNegationOf (IsPredicate functions)
+abbrev pub IsNegation : ℕ → Condition → Phrase
+IsNegation = IsNegationOf IsPredicate
 
 -- a condition in which NOT and parentheses nest to so many levels at most
-abbrev pub IsCondition : (functions : Bool) → ServedCond functions → Phrase
-IsCondition functions = IsConditionOf (IsNegation functions most_levels)
+abbrev pub IsCondition : Condition → Phrase
+IsCondition = IsConditionOf (IsNegation most_levels)
 
 -- ---- the select list
 
--- 'ST_AsText' '(' col ')' | 'ST_Dimension' '(' col ')' | 'ST_IsEmpty' '(' col ')', where functions are served
-abbrev pub IsItemFunction : (functions : Bool) → ServedItem functions → Phrase
-IsItemFunction false item ts = ⊥
-IsItemFunction true item ts =
+-- 'ST_AsText' '(' col ')' | 'ST_Dimension' '(' col ')' | 'ST_IsEmpty' '(' col ')'
+abbrev pub IsItemFunction : SelectItem → Phrase
+IsItemFunction item ts =
     ((column : WrittenColumn) × (item ≡ i.AsText (place ts) column) × IsCall (codes "ST_AsText") (IsColumn column) ts)
     ⊎ ((column : WrittenColumn) × (item ≡ i.Dimension (place ts) column) × IsCall (codes "ST_Dimension") (IsColumn column) ts)
     ⊎ ((column : WrittenColumn) × (item ≡ i.IsEmpty (place ts) column) × IsCall (codes "ST_IsEmpty") (IsColumn column) ts)
 
 -- item = col | 'ST_AsText' '(' col ')' | 'ST_Dimension' '(' col ')' | 'ST_IsEmpty' '(' col ')'
-abbrev pub IsItem : (functions : Bool) → ServedItem functions → Phrase
-IsItem functions item ts =
+abbrev pub IsItem : SelectItem → Phrase
+IsItem item ts =
     ((column : WrittenColumn) × (item ≡ i.Column column) × IsColumn column ts)
-    ⊎ IsItemFunction functions item ts
+    ⊎ IsItemFunction item ts
 
--- items = '*' | item (',' item)* | 'COUNT' '(' '*' ')', which is alone, where it is served (SQL, the select list)
-abbrev pub IsSelection : (served : Served) → Selection (ItemArgument served.functions) → Phrase
-IsSelection served selection ts =
+-- items = '*' | item (',' item)* | 'COUNT' '(' '*' ')', which stands alone (SQL, the select list)
+abbrev pub IsSelection : Selection WrittenColumn → Phrase
+IsSelection selection ts =
     ((selection ≡ l.All) × IsToken k.Star ts)
-    ⊎ ((first : ServedItem served.functions) × (more : List (ServedItem served.functions)) × (selection ≡ l.Items (first ∷ more))
-    × IsParts k.Comma (IsItem served.functions) first more ts)
-    ⊎ ((served.count ≡ true) × (selection ≡ l.Count) × IsCall (codes "COUNT") (IsToken k.Star) ts)
+    ⊎ ((first : SelectItem) × (more : List SelectItem) × (selection ≡ l.Items (first ∷ more)) × IsParts k.Comma IsItem first more ts)
+    ⊎ ((selection ≡ l.Count) × IsCall (codes "COUNT") (IsToken k.Star) ts)
 
 -- ---- table references
 
@@ -209,54 +204,53 @@ abbrev pub IsCrossed : WrittenReference → Phrase
 IsCrossed reference ts = (IsToken k.Comma ▸ IsReference reference) ts ⊎ (IsToken k.Cross ▸ IsToken k.Join ▸ IsReference reference) ts
 
 -- 'INNER'? 'JOIN' ref 'ON' cond
-abbrev pub IsJoined : (functions : Bool) → WrittenReference → ServedCond functions → Phrase
-IsJoined functions reference on = IsOptional k.Inner ▸ IsToken k.Join ▸ IsReference reference ▸ IsToken k.On ▸ IsCondition functions on
+abbrev pub IsJoined : WrittenReference → Condition → Phrase
+IsJoined reference on = IsOptional k.Inner ▸ IsToken k.Join ▸ IsReference reference ▸ IsToken k.On ▸ IsCondition on
 
--- second? where second = ',' ref | 'CROSS' 'JOIN' ref | 'INNER'? 'JOIN' ref 'ON' cond, where it is served
-abbrev pub IsSecond : (served : Served) → Option WrittenReference → Option (ServedCond served.functions) → Phrase
-IsSecond served second on ts =
+-- second? where second = ',' ref | 'CROSS' 'JOIN' ref | 'INNER'? 'JOIN' ref 'ON' cond
+abbrev pub IsSecond : Option WrittenReference → Option Condition → Phrase
+IsSecond second on ts =
     ((second ≡ None) × (on ≡ None) × (ts ≡ []))
-    ⊎ ((served.second_reference ≡ true) × (reference : WrittenReference) × (second ≡ Some reference) × (on ≡ None) × IsCrossed reference ts)
-    ⊎ ((served.second_reference ≡ true) × (reference : WrittenReference) × (x : ServedCond served.functions) × (second ≡ Some reference) × (on ≡ Some x)
-    × IsJoined served.functions reference x ts)
+    ⊎ ((reference : WrittenReference) × (second ≡ Some reference) × (on ≡ None) × IsCrossed reference ts)
+    ⊎ ((reference : WrittenReference) × (x : Condition) × (second ≡ Some reference) × (on ≡ Some x) × IsJoined reference x ts)
 
 -- ---- queries
 
 -- ('WHERE' cond)?
-abbrev pub IsWhere : (functions : Bool) → Option (ServedCond functions) → Phrase
-IsWhere functions condition ts =
+abbrev pub IsWhere : Option Condition → Phrase
+IsWhere condition ts =
     ((condition ≡ None) × (ts ≡ []))
-    ⊎ ((x : ServedCond functions) × (condition ≡ Some x) × (IsToken k.Where ▸ IsCondition functions x) ts)
+    ⊎ ((x : Condition) × (condition ≡ Some x) × (IsToken k.Where ▸ IsCondition x) ts)
 
 -- an integer without a sign, within 64 bits with a sign
 abbrev pub IsRowCount : ℕ → Phrase
 IsRowCount n = IsOne (λ t. (t.kind ≡ k.Integer) × (limit_value t.text ≡ Some n))
 
--- ('LIMIT' integer)?, where it is served
-abbrev pub IsLimit : Served → Option ℕ → Phrase
-IsLimit served limit ts =
+-- ('LIMIT' integer)?
+abbrev pub IsLimit : Option ℕ → Phrase
+IsLimit limit ts =
     ((limit ≡ None) × (ts ≡ []))
-    ⊎ ((served.limit ≡ true) × (n : ℕ) × (limit ≡ Some n) × (IsToken k.Limit ▸ IsRowCount n) ts)
+    ⊎ ((n : ℕ) × (limit ≡ Some n) × (IsToken k.Limit ▸ IsRowCount n) ts)
 
--- ('EXPLAIN' 'ANALYZE'?)?, where they are served; neither word is reserved
-abbrev pub IsExplain : Served → Explain → Phrase
-IsExplain served told ts =
+-- ('EXPLAIN' 'ANALYZE'?)?; neither word is reserved
+abbrev pub IsExplain : Explain → Phrase
+IsExplain told ts =
     ((told ≡ explain.No) × (ts ≡ []))
-    ⊎ ((served.explain ≡ true) × (told ≡ explain.Plan) × IsWord (codes "EXPLAIN") ts)
-    ⊎ ((served.explain ≡ true) × (served.analyze ≡ true) × (told ≡ explain.Analyze) × (IsWord (codes "EXPLAIN") ▸ IsWord (codes "ANALYZE")) ts)
+    ⊎ ((told ≡ explain.Plan) × IsWord (codes "EXPLAIN") ts)
+    ⊎ ((told ≡ explain.Analyze) × (IsWord (codes "EXPLAIN") ▸ IsWord (codes "ANALYZE")) ts)
 
 -- query = ('EXPLAIN' 'ANALYZE'?)? 'SELECT' items 'FROM' ref second? ('WHERE' cond)? ('LIMIT' integer)? ';'?, and then
 -- the text ends (SQL, the query)
-abbrev pub IsSelect : (served : Served) → ServedQuery served → Phrase
-IsSelect served query =
-    IsExplain served query.explain ▸ IsToken k.Select ▸ IsSelection served query.selection ▸ IsToken k.From
-    ▸ IsReference query.first ▸ IsSecond served query.second query.on ▸ IsWhere served.functions query.condition
-    ▸ IsLimit served query.limit ▸ IsOptional k.Semicolon ▸ IsToken k.End
+abbrev pub IsSelect : SelectQuery → Phrase
+IsSelect query =
+    IsExplain query.explain ▸ IsToken k.Select ▸ IsSelection query.selection ▸ IsToken k.From
+    ▸ IsReference query.first ▸ IsSecond query.second query.on ▸ IsWhere query.condition
+    ▸ IsLimit query.limit ▸ IsOptional k.Semicolon ▸ IsToken k.End
 
 -- A text is a query: it isn't too long, it is made of tokens, and these are written for the tree.
-unfoldable pub IsQuery : (served : Served) → List ℕ → ServedQuery served → Type 0
-IsQuery served text query = (length text ≤ most_bytes) × (bad_place (tokens true text) ≡ None) × IsSelect served query (tokens true text)
+unfoldable pub IsQuery : List ℕ → SelectQuery → Type 0
+IsQuery text query = (length text ≤ most_bytes) × (bad_place (tokens true text) ≡ None) × IsSelect query (tokens true text)
 
--- a reader of a text returns the query that it is, whichever that is, unless memory ran out
-abbrev pub AnswersQuery : (served : Served) → List ℕ → Result (ServedQuery served) QueryFault → Type 0
-AnswersQuery served text result = (query : ServedQuery served) → IsQuery served text query → Gives fault.OutOfMemory (λ q. q) result (Ok query)
+-- a reader of a text answers the query that it is, whichever that is; want of memory may stand in its place
+abbrev pub AnswersQuery : List ℕ → Result SelectQuery QueryFault → Type 0
+AnswersQuery text result = (query : SelectQuery) → IsQuery text query → Gives fault.OutOfMemory (λ q. q) result (Ok query)

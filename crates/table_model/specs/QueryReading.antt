@@ -1,5 +1,5 @@
 -- Reading of a query: the tree of a text, or the first fault from left to right. SELECT over one table or two, after
--- the query expressions of 06-104r4, with its functions. Each part that may be served or not is a parameter.
+-- the query expressions of 06-104r4, with its functions.
 use Rattle.std.specs.Prelude.{ℕ, zero, suc, ◌^◌, Bool, true, false, not, ◌&&◌, ◌||◌, if◌then◌else◌, ◌==◌, nat_le, nat_lt, ℤ, pos, neg_ℤ, List, [], ◌∷◌, length, Option, Some, None, Result, Ok, Err, codes}
 use Rattle.std.specs.Str.Parse.{digits_value}
 use Rattle.geometry_model.specs.declared.relations.Predicate.{Predicate}
@@ -27,7 +27,7 @@ use Rattle.table_model.specs.declared.tokens.Token.{Token}
 use Rattle.table_model.specs.declared.tokens.TokenKind.{TokenKind}
 use Rattle.table_model.specs.declared.tokens.TokenKind.TheVariants as k
 use Rattle.table_model.specs.Parsers.{Outcome, Parser, kind, place, spelling, next, written, sees, after, ◌>>=◌, ◌>>◌, ◌<$>◌, pure, refuse, eat, expect, parts, value_of}
-use Rattle.table_model.specs.Served.{Served, ItemArgument, ServedOperand, ServedCond, ServedItem, ServedQuery}
+use Rattle.table_model.specs.Queries.{Condition, ConditionOperand, SelectItem, SelectQuery}
 use Rattle.table_model.specs.Texts.{same_name}
 use Rattle.table_model.specs.Tokens.{same_kind, tokens, most_bytes}
 use Rattle.table_model.specs.declared.queries.TheConstants.{LEVEL_LIMIT}
@@ -97,23 +97,22 @@ unfoldable pub integer : {A : Type 0} → Bool → Reader (WrittenOperand A)
 integer negative ts =
     if sees k.Integer ts then integer_or (integer_value negative (spelling ts)) (place ts) (next ts) else Err (fault.Syntax (place ts))
 
--- the functions that are operands, where functions are served; the number is the byte of the name
-abbrev pub operand_functions : (functions : Bool) → ℕ → Functions (ServedOperand functions)
-operand_functions false at = []
-operand_functions true at =
+-- the functions that are operands; the number is the byte of the name
+abbrev pub operand_functions : ℕ → Functions ConditionOperand
+operand_functions at =
     (codes "ST_AsText", enclosed (o.AsText at <$> geometry))
     ∷ (codes "ST_Dimension", enclosed (o.Dimension at <$> geometry))
     ∷ []
 
 -- operand = col | ('+' | '-')? integer | string | 'NULL' | 'ST_AsText' '(' geom ')' | 'ST_Dimension' '(' geom ')'
-unfoldable pub operand : (functions : Bool) → Reader (ServedOperand functions)
-operand functions ts =
+unfoldable pub operand : Reader ConditionOperand
+operand ts =
     if sees k.Null ts then Ok (o.Null, next ts)
     else (if sees k.Text ts then Ok (o.Text (written ts), next ts)
     else (if sees k.Plus ts then integer false (next ts)
     else (if sees k.Minus ts then integer true (next ts)
     else (if sees k.Integer ts then integer false ts
-    else called_or (operand_functions functions (place ts)) (o.Column <$> column) ts))))
+    else called_or (operand_functions (place ts)) (o.Column <$> column) ts))))
 
 -- ---- predicates
 
@@ -127,14 +126,14 @@ comparison_of k.Greater = Some m.Greater
 comparison_of k.GreaterOrEqual = Some m.GreaterOrEqual
 comparison_of _ = None
 
--- the rest of a comparison by its sign; where there is none the token can't be there
-abbrev pub compared_by : (functions : Bool) → ℕ → ServedOperand functions → Option Comparison → Reader (ServedCond functions)
-compared_by functions at left None = refuse fault.Syntax
-compared_by functions at left (Some comparison) = λ ts. (c.Compare at comparison left <$> operand functions) (next ts)
+-- the rest of a comparison by its sign; where there is none the token can't stand there
+abbrev pub compared_by : ℕ → ConditionOperand → Option Comparison → Reader Condition
+compared_by at left None = refuse fault.Syntax
+compared_by at left (Some comparison) = λ ts. (c.Compare at comparison left <$> operand) (next ts)
 
 -- the rest of a comparison, after its left side
-unfoldable pub compared : (functions : Bool) → ℕ → ServedOperand functions → Reader (ServedCond functions)
-compared functions at left ts = compared_by functions at left (comparison_of (kind ts)) ts
+unfoldable pub compared : ℕ → ConditionOperand → Reader Condition
+compared at left ts = compared_by at left (comparison_of (kind ts)) ts
 
 -- the rest of IS NULL or IS NOT NULL, after IS
 unfoldable pub null_test : {A : Type 0} → WrittenOperand A → Reader (WrittenCond A)
@@ -144,11 +143,11 @@ null_test left = do
   pure (if negated then c.Not (c.IsNull left) else c.IsNull left)
 
 -- operand cmp operand | operand 'IS' 'NOT'? 'NULL'
-unfoldable pub comparison : (functions : Bool) → Reader (ServedCond functions)
-comparison functions = λ ts. (do
-  left ← operand functions
+unfoldable pub comparison : Reader Condition
+comparison = λ ts. (do
+  left ← operand
   tests ← eat k.Is
-  if tests then null_test left else compared functions (place ts) left) ts
+  if tests then null_test left else compared (place ts) left) ts
 
 -- '1' or '0' after a predicate and '=', an integer token of that value: the predicate, or its NOT
 unfoldable pub truth_value : {A : Type 0} → WrittenCond A → Reader (WrittenCond A)
@@ -185,11 +184,10 @@ relates_by at = do
   pattern ← string
   pure (c.Relates at (w.Relate pattern) a b)
 
--- The functions that are predicates, where functions are served; the number is the byte of the name (06-103r4, 6.1.15.3
--- and 6.1.2.2; their names: this project's choice).
-abbrev pub predicate_functions : (functions : Bool) → ℕ → Functions (ServedCond functions)
-predicate_functions false at = []
-predicate_functions true at =
+-- The functions that are predicates; the number is the byte of the name (06-103r4, 6.1.15.3 and 6.1.2.2; their names:
+-- this project's choice).
+abbrev pub predicate_functions : ℕ → Functions Condition
+predicate_functions at =
     (codes "ST_Equals", truth_tested (relates at p.Equals))
     ∷ (codes "ST_Disjoint", truth_tested (relates at p.Disjoint))
     ∷ (codes "ST_Intersects", truth_tested (relates at p.Intersects))
@@ -203,8 +201,8 @@ predicate_functions true at =
     ∷ []
 
 -- pred = operand cmp operand | operand 'IS' 'NOT'? 'NULL' | bool ('=' ('1' | '0'))?
-unfoldable pub predicate : (functions : Bool) → Reader (ServedCond functions)
-predicate functions ts = called_or (predicate_functions functions (place ts)) (comparison functions) ts
+unfoldable pub predicate : Reader Condition
+predicate ts = called_or (predicate_functions (place ts)) comparison ts
 
 -- ---- conditions
 
@@ -235,53 +233,51 @@ group part = do
   pure inner
 
 -- neg = 'NOT' neg | '(' cond ')' | pred, where so many NOT and parentheses may still nest
-unfoldable pub negation : (functions : Bool) → ℕ → Reader (ServedCond functions)
-negation functions zero ts = if sees k.Not ts || sees k.LeftParenthesis ts then Err (fault.TooDeep (place ts)) else predicate functions ts
-negation functions (suc levels) ts =
-    if sees k.Not ts then (c.Not <$> negation functions levels) (next ts)
-    else (if sees k.LeftParenthesis ts then group (negation functions levels) (next ts) else predicate functions ts)
+unfoldable pub negation : ℕ → Reader Condition
+negation zero ts = if sees k.Not ts || sees k.LeftParenthesis ts then Err (fault.TooDeep (place ts)) else predicate ts
+negation (suc levels) ts =
+    if sees k.Not ts then (c.Not <$> negation levels) (next ts)
+    else (if sees k.LeftParenthesis ts then group (negation levels) (next ts) else predicate ts)
 
 -- how deep conditions may nest
 abbrev pub most_levels : ℕ
 most_levels = LEVEL_LIMIT
 
 -- cond, of so many levels at most
-abbrev pub condition : (functions : Bool) → Reader (ServedCond functions)
-condition functions = condition_of (negation functions most_levels)
+abbrev pub condition : Reader Condition
+condition = condition_of (negation most_levels)
 
 -- ---- the select list
 
--- the functions of the select list, where functions are served; the number is the byte of the name (06-103r4, 6.1.2.2)
-abbrev pub item_functions : (functions : Bool) → ℕ → Functions (ServedItem functions)
-item_functions false at = []
-item_functions true at =
+-- the functions of the select list; the number is the byte of the name (06-103r4, 6.1.2.2)
+abbrev pub item_functions : ℕ → Functions SelectItem
+item_functions at =
     (codes "ST_AsText", enclosed (i.AsText at <$> column))
     ∷ (codes "ST_Dimension", enclosed (i.Dimension at <$> column))
     ∷ (codes "ST_IsEmpty", enclosed (i.IsEmpty at <$> column))
     ∷ []
 
 -- item = col | 'ST_AsText' '(' col ')' | 'ST_Dimension' '(' col ')' | 'ST_IsEmpty' '(' col ')'
-unfoldable pub item : (functions : Bool) → Reader (ServedItem functions)
-item functions ts = called_or (item_functions functions (place ts)) (i.Column <$> column) ts
+unfoldable pub item : Reader SelectItem
+item ts = called_or (item_functions (place ts)) (i.Column <$> column) ts
 
 -- item (',' item)*
-abbrev pub items : (functions : Bool) → Reader (List (ServedItem functions))
-items functions = parts fault.Syntax k.Comma (item functions) []
+abbrev pub items : Reader (List SelectItem)
+items = parts fault.Syntax k.Comma item []
 
 -- '*' within 'COUNT' '(' '*' ')' (SQL, COUNT(*))
-abbrev pub counted : {C : Type 0} → Reader (Selection C)
+abbrev pub counted : Reader (Selection WrittenColumn)
 counted = expect fault.Syntax k.Star >> pure l.Count
 
--- the function that is alone in the select list, COUNT, where it is served (SQL, COUNT(*))
-abbrev pub count_function : {C : Type 0} → (count : Bool) → Functions (Selection C)
-count_function false = []
-count_function true = (codes "COUNT", enclosed counted) ∷ []
+-- the function that stands alone in the select list, COUNT (SQL, COUNT(*))
+abbrev pub count_function : Functions (Selection WrittenColumn)
+count_function = (codes "COUNT", enclosed counted) ∷ []
 
 -- items = '*' | item (',' item)* | 'COUNT' '(' '*' ')' (SQL, the select list)
-unfoldable pub selection : (served : Served) → Reader (Selection (ItemArgument served.functions))
-selection served ts =
+unfoldable pub selection : Reader (Selection WrittenColumn)
+selection ts =
     if sees k.Star ts then Ok (l.All, next ts)
-    else called_or (count_function served.count) (l.Items <$> items served.functions) ts
+    else called_or count_function (l.Items <$> items) ts
 
 -- ---- table references
 
@@ -299,37 +295,37 @@ reference = do
   pure (record { table = table; alias = alias })
 
 -- a second reference and its condition of ON, or neither
-abbrev pub Second : Bool → Type 0
-Second functions = Option WrittenReference × Option (ServedCond functions)
+abbrev pub Second : Type 0
+Second = Option WrittenReference × Option Condition
 
 -- ref, which has no condition
-unfoldable pub crossed : (functions : Bool) → Reader (Second functions)
-crossed functions = (λ reference. (Some reference, None)) <$> reference
+unfoldable pub crossed : Reader Second
+crossed = (λ reference. (Some reference, None)) <$> reference
 
 -- 'JOIN' ref 'ON' cond
-unfoldable pub joined_on : (functions : Bool) → Reader (Second functions)
-joined_on functions = do
+unfoldable pub joined_on : Reader Second
+joined_on = do
   expect fault.Syntax k.Join
   reference ← reference
   expect fault.Syntax k.On
-  x ← condition functions
+  x ← condition
   pure (Some reference, Some x)
 
--- second? where second = ',' ref | 'CROSS' 'JOIN' ref | 'INNER'? 'JOIN' ref 'ON' cond, where it is served
-abbrev pub second : (served : Served) → Reader (Second served.functions)
-second served ts =
-    if served.second_reference && sees k.Comma ts then crossed served.functions (next ts)
-    else (if served.second_reference && sees k.Cross ts then (expect fault.Syntax k.Join >> crossed served.functions) (next ts)
-    else (if served.second_reference && (sees k.Inner ts || sees k.Join ts) then joined_on served.functions (after k.Inner ts)
+-- second? where second = ',' ref | 'CROSS' 'JOIN' ref | 'INNER'? 'JOIN' ref 'ON' cond
+abbrev pub second : Reader Second
+second ts =
+    if sees k.Comma ts then crossed (next ts)
+    else (if sees k.Cross ts then (expect fault.Syntax k.Join >> crossed) (next ts)
+    else (if sees k.Inner ts || sees k.Join ts then joined_on (after k.Inner ts)
     else Ok ((None, None), ts)))
 
 -- ---- queries
 
 -- ('WHERE' cond)?
-unfoldable pub where_condition : (functions : Bool) → Reader (Option (ServedCond functions))
-where_condition functions = do
+unfoldable pub where_condition : Reader (Option Condition)
+where_condition = do
   filters ← eat k.Where
-  if filters then Some <$> condition functions else pure None
+  if filters then Some <$> condition else pure None
 
 -- the number of rows that digits give, within 64 bits with a sign
 abbrev pub limit_value : List ℕ → Option ℕ
@@ -344,34 +340,34 @@ limit_or (Some n) at rest = Ok (Some n, rest)
 unfoldable pub limit_number : Reader (Option ℕ)
 limit_number ts = if sees k.Integer ts then limit_or (limit_value (spelling ts)) (place ts) (next ts) else Err (fault.Syntax (place ts))
 
--- ('LIMIT' integer)?, where it is served
-abbrev pub limited : Served → Reader (Option ℕ)
-limited served ts = if served.limit && sees k.Limit ts then limit_number (next ts) else Ok (None, ts)
+-- ('LIMIT' integer)?
+abbrev pub limited : Reader (Option ℕ)
+limited ts = if sees k.Limit ts then limit_number (next ts) else Ok (None, ts)
 
 -- Whether this word comes next, in any ASCII case. It isn't reserved; with `(` after it, it is a function.
 unfoldable pub says : List ℕ → List Token → Bool
 says word ts = sees k.Word ts && not (sees k.LeftParenthesis (next ts)) && same_name (spelling ts) word
 
--- 'ANALYZE'? after EXPLAIN, where it is served
-abbrev pub analyzed : Served → Reader Explain
-analyzed served ts = if served.analyze && says (codes "ANALYZE") ts then Ok (explain.Analyze, next ts) else Ok (explain.Plan, ts)
+-- 'ANALYZE'? after EXPLAIN
+abbrev pub analyzed : Reader Explain
+analyzed ts = if says (codes "ANALYZE") ts then Ok (explain.Analyze, next ts) else Ok (explain.Plan, ts)
 
--- ('EXPLAIN' 'ANALYZE'?)?, where it is served
-abbrev pub explained : Served → Reader Explain
-explained served ts = if served.explain && says (codes "EXPLAIN") ts then analyzed served (next ts) else Ok (explain.No, ts)
+-- ('EXPLAIN' 'ANALYZE'?)?
+abbrev pub explained : Reader Explain
+explained ts = if says (codes "EXPLAIN") ts then analyzed (next ts) else Ok (explain.No, ts)
 
 -- query = ('EXPLAIN' 'ANALYZE'?)? 'SELECT' items 'FROM' ref second? ('WHERE' cond)? ('LIMIT' integer)? ';'?, and then
 -- the text ends (SQL, the query)
-unfoldable pub query : (served : Served) → Reader (ServedQuery served)
-query served = do
-  told ← explained served
+unfoldable pub query : Reader SelectQuery
+query = do
+  told ← explained
   expect fault.Syntax k.Select
-  selection ← selection served
+  selection ← selection
   expect fault.Syntax k.From
   first ← reference
-  second ← second served
-  condition ← where_condition served.functions
-  limit ← limited served
+  second ← second
+  condition ← where_condition
+  limit ← limited
   eat k.Semicolon
   expect fault.Syntax k.End
   pure (record { explain = told; selection = selection; first = first; second = second.0; on = second.1; condition = condition; limit = limit })
@@ -382,10 +378,10 @@ bad_place [] = None
 bad_place (t ∷ ts) = if same_kind t.kind k.Bad then Some t.at else bad_place ts
 
 -- Q1 at a bad token, and else the query that the tokens are
-abbrev pub query_by : (served : Served) → Option ℕ → List Token → Result (ServedQuery served) QueryFault
-query_by served (Some at) ts = Err (fault.Lex at)
-query_by served None ts = value_of (query served ts)
+abbrev pub query_by : Option ℕ → List Token → Result SelectQuery QueryFault
+query_by (Some at) ts = Err (fault.Lex at)
+query_by None ts = value_of (query ts)
 
 -- The query that a text is, or its fault: its length first, then its tokens, then its grammar.
-unfoldable pub query_of : (served : Served) → List ℕ → Result (ServedQuery served) QueryFault
-query_of served text = if nat_lt most_bytes (length text) then Err fault.TooLong else query_by served (bad_place (tokens true text)) (tokens true text)
+unfoldable pub query_of : List ℕ → Result SelectQuery QueryFault
+query_of text = if nat_lt most_bytes (length text) then Err fault.TooLong else query_by (bad_place (tokens true text)) (tokens true text)

@@ -1,5 +1,4 @@
--- The outcome of a query over tables: the bytes of its answer, or why it has none. It is generic in how geometries are served,
--- and in the text of a record.
+-- The outcome of a query over tables: the bytes of its answer, or why it has none. It is generic in the text of a record.
 use Rattle.std.specs.Prelude.{ℕ, ◌-◌, ◌^◌, min, List, [], map, Result, Ok, Err}
 use Rattle.std.specs.List.{concat}
 use Rattle.std.specs.Option.{option_map_or}
@@ -8,17 +7,19 @@ use Rattle.geometry_model.specs.Geometries.{Geometry}
 use Rattle.geometry_model.specs.GivenMatrix.{GivesMatrix}
 use Rattle.table_model.specs.AnswerTexts.{answer}
 use Rattle.table_model.specs.Binding.{statement}
-use Rattle.table_model.specs.Databases.{Database, load_tables}
+use Rattle.table_model.specs.Arguments.{denoted}
+use Rattle.table_model.specs.Databases.{load_tables}
 use Rattle.table_model.specs.ExplainTexts.{analyze_text, explain_text}
+use Rattle.table_model.specs.GeometryColumns.{geometry_binding, geometry_writing, read_geometry}
 use Rattle.table_model.specs.Loading.{Record}
-use Rattle.table_model.specs.Meanings.{Table, meaning}
+use Rattle.table_model.specs.Meanings.{meaning}
+use Rattle.table_model.specs.Plans.{chosen}
 use Rattle.table_model.specs.QueryReading.{query_of}
-use Rattle.table_model.specs.Served.{ServedQuery}
-use Rattle.table_model.specs.Serving.{Serving}
-use Rattle.table_model.specs.Statements.{Statement, by_conjuncts}
+use Rattle.table_model.specs.Queries.{SelectQuery}
+use Rattle.table_model.specs.SpatialTables.{SpatialDatabase, SpatialSchema, SpatialStatement, SpatialTable}
+use Rattle.table_model.specs.Statements.{by_conjuncts}
 use Rattle.table_model.specs.Truths.{truth}
 use Rattle.table_model.specs.Work.{work}
-use Rattle.table_model.specs.declared.definitions.TableDef.{TableDef}
 use Rattle.table_model.specs.declared.faults.QueryFault.{QueryFault}
 use Rattle.table_model.specs.declared.faults.TableFault.{TableFault}
 use Rattle.table_model.specs.declared.plans.Plan.{Plan}
@@ -45,33 +46,33 @@ records_text record_text records = concat (map record_text records)
 
 -- the records that answer a SELECT: the header, then a record for each row of its meaning; under COUNT(*) how many there are
 -- (SQL, the query)
-abbrev pub select_records : {T G B D : Type 0} → Serving T G B D → MatrixOf → Database T G → Statement B D → List Record
-select_records serving matrix database query =
-    answer serving.writing database.definitions (by_conjuncts query) (meaning (truth matrix serving.denotes) database.tables query)
+abbrev pub select_records : MatrixOf → SpatialDatabase → SpatialStatement → List Record
+select_records matrix database query =
+    answer geometry_writing database.definitions (by_conjuncts query) (meaning (truth matrix denoted) database.tables query)
 
 -- a count of 64 bits: it stays at the greatest number
 abbrev pub kept_count : ℕ → ℕ
 kept_count n = min n (2 ^ 64 - 1)
 
 -- the text of EXPLAIN ANALYZE, where the work of the plan is counted
-abbrev pub counted_text : {T G B D : Type 0} → Serving T G B D → MatrixOf → List (Table G) → Statement B D → Plan → List ℕ
-counted_text serving matrix tables query plan =
-    analyze_text (by_conjuncts query) plan (kept_count (work matrix serving.denotes tables (by_conjuncts query) plan))
+abbrev pub counted_text : MatrixOf → List SpatialTable → SpatialStatement → Plan → List ℕ
+counted_text matrix tables query plan =
+    analyze_text (by_conjuncts query) plan (kept_count (work matrix denoted tables (by_conjuncts query) plan))
 
 -- a text of the chosen plan; each query of one or two references has one
-abbrev pub plan_text : {T G B D : Type 0} → Serving T G B D → List (Table G) → Statement B D → (Plan → List ℕ) → List ℕ
-plan_text serving tables query text = option_map_or text (serving.plan tables (by_conjuncts query)) []
+abbrev pub plan_text : List SpatialTable → SpatialStatement → (Plan → List ℕ) → List ℕ
+plan_text tables query text = option_map_or text (chosen tables (by_conjuncts query)) []
 
 -- the text of the answer of a query that asks for rows, for its plan, or for its plan and the work (SQL, the query)
-abbrev pub text_for : {T G B D : Type 0} → Explain → RecordText → Serving T G B D → MatrixOf → Database T G → Statement B D → List ℕ
-text_for explains.No record_text serving matrix database query = records_text record_text (select_records serving matrix database query)
-text_for explains.Plan record_text serving matrix database query = plan_text serving database.tables query (explain_text (by_conjuncts query))
-text_for explains.Analyze record_text serving matrix database query =
-    plan_text serving database.tables query (counted_text serving matrix database.tables query)
+abbrev pub text_for : Explain → RecordText → MatrixOf → SpatialDatabase → SpatialStatement → List ℕ
+text_for explains.No record_text matrix database query = records_text record_text (select_records matrix database query)
+text_for explains.Plan record_text matrix database query = plan_text database.tables query (explain_text (by_conjuncts query))
+text_for explains.Analyze record_text matrix database query =
+    plan_text database.tables query (counted_text matrix database.tables query)
 
 -- the text of the answer of a query
-abbrev pub answer_text : {T G B D : Type 0} → RecordText → Serving T G B D → MatrixOf → Database T G → Statement B D → List ℕ
-answer_text record_text serving matrix database query = text_for query.explain record_text serving matrix database query
+abbrev pub answer_text : RecordText → MatrixOf → SpatialDatabase → SpatialStatement → List ℕ
+answer_text record_text matrix database query = text_for query.explain record_text matrix database query
 
 -- ---- outcomes
 
@@ -86,18 +87,18 @@ after of (Ok x) next = next x
 after of (Err e) next = Err (of e)
 
 -- the text of the answer of a written query over a database, or the fault of binding it
-abbrev pub query_outcome : {T G B D : Type 0} → RecordText → (serving : Serving T G B D) → MatrixOf → ServedQuery serving.language → Database T G → Result (List ℕ) Refusal
-query_outcome record_text serving matrix written database =
-    after OfQuery (statement serving.binding database.definitions written) (λ query. Ok (answer_text record_text serving matrix database query))
+abbrev pub query_outcome : RecordText → MatrixOf → SelectQuery → SpatialDatabase → Result (List ℕ) Refusal
+query_outcome record_text matrix written database =
+    after OfQuery (statement geometry_binding database.definitions written) (λ query. Ok (answer_text record_text matrix database query))
 
 -- the same over the tables' records, or the first fault among them
-abbrev pub loaded_outcome : {T G B D : Type 0} → RecordText → (serving : Serving T G B D) → MatrixOf → List (TableDef T) → List (List Record) → ServedQuery serving.language → Result (List ℕ) Refusal
-loaded_outcome record_text serving matrix definitions records written =
-    after OfTable (load_tables serving.reading definitions records)
-    (λ tables. query_outcome record_text serving matrix written (record { definitions = definitions; tables = tables }))
+abbrev pub loaded_outcome : RecordText → MatrixOf → SpatialSchema → List (List Record) → SelectQuery → Result (List ℕ) Refusal
+loaded_outcome record_text matrix definitions records written =
+    after OfTable (load_tables read_geometry definitions records)
+    (λ tables. query_outcome record_text matrix written (record { definitions = definitions; tables = tables }))
 
 -- the text of the answer of a query's text over the tables' records, or the first fault: the query is read first, then all tables
 -- are loaded, then the query is bound (SQL, the query; the order: this project's choice)
-abbrev pub outcome : {T G B D : Type 0} → RecordText → Serving T G B D → MatrixOf → List (TableDef T) → List (List Record) → List ℕ → Result (List ℕ) Refusal
-outcome record_text serving matrix definitions records text =
-    after OfQuery (query_of serving.language text) (loaded_outcome record_text serving matrix definitions records)
+abbrev pub outcome : RecordText → MatrixOf → SpatialSchema → List (List Record) → List ℕ → Result (List ℕ) Refusal
+outcome record_text matrix definitions records text =
+    after OfQuery (query_of text) (loaded_outcome record_text matrix definitions records)

@@ -14,7 +14,7 @@ ghost use Rattle.table_model.specs.GeometryColumnExamples.{
   from_text,
   operand_column,
 };
-ghost use Rattle.table_model.specs.QueryExamples.{read, read_plain, read_where, joined, all_where, under};
+ghost use Rattle.table_model.specs.QueryExamples.{read, read_where, joined, all_where, under};
 ghost use Rattle.table_model.specs.declared.conditions.Comparison.TheVariants.{Equal, NotEqual, Less, Greater};
 ghost use Rattle.table_model.specs.declared.faults.QueryFault.TheVariants.{Lex, Syntax, TooDeep, NumberTooBig};
 ghost use Rattle.table_model.specs.declared.queries.Explain.TheVariants as explains;
@@ -199,14 +199,5 @@ pub fn counts_are_refused()
     ensures of_nothing { read (codes "SELECT COUNT() FROM t") ≡ Err (Syntax 13) }
     ensures named { read (codes "SELECT COUNT(*) AS n FROM t") ≡ Err (Syntax 16) }
     ensures operand { read_where (codes "COUNT(*) = 1") ≡ Err (Syntax 22) }
-{}
-
-/// What isn't served is no part of the language.
-pub fn parts_are_left_out()
-    ensures second_reference { read_plain (codes "SELECT * FROM t, u") ≡ Err (Syntax 15) }
-    ensures function { read_plain (codes "SELECT ST_IsEmpty(geom) FROM t") ≡ Err (Syntax 7) }
-    ensures explain { read_plain (codes "EXPLAIN SELECT * FROM t") ≡ Err (Syntax 0) }
-    ensures limit { read_plain (codes "SELECT id FROM big LIMIT 2") ≡ Err (Syntax 19) }
-    ensures count { read_plain (codes "SELECT COUNT(*) FROM t") ≡ Err (Syntax 7) }
-    ensures name { read_plain (codes "SELECT count FROM t WHERE") ≡ Err (Syntax 25) }
+    ensures name { read (codes "SELECT count FROM t WHERE") ≡ Err (Syntax 25) }
 {}

@@ -2,7 +2,6 @@
 use Rattle.std.proofs.Common.{ap, Ok, sym, ℕ, ◌∙◌}
 use Rattle.engine.specs.Faults.{of_put}
 use Rattle.engine.specs.Runs.{none_reached, planned_text}
-use Rattle.engine.specs.Serving.{serving}
 use Rattle.engine.specs.declared.run_fault.Fault.TheVariants as faults
 use Rattle.engine.proofs.RunLemmas.{at-fault, bound-outcome, bound-work, memory-none, no-count, of-tables, put-of-tables, put-refused, query-of-tables, unbound-runs}
 use Rattle.engine.proofs.runs.answer_query.Goals as goal
@@ -34,7 +33,7 @@ returns-in_err-work-clause-answer g c = λ matrix gives.
     let database = c.args.database.now in
     let bound = c.in_ok-bound.bound in
     at-fault c.from_residual-in_err-work.result (of_put c.in_err-work.field-0.0) _ none_reached _ _ c.from_residual-in_err-work.ensures.1
-    (put-refused ℕ c.in_err-work.field-0.0 _ none_reached (planned_text bound.explain serving matrix database bound c.in_ok-plan.plan) _ _
+    (put-refused ℕ c.in_err-work.field-0.0 _ none_reached (planned_text bound.explain matrix database bound c.in_ok-plan.plan) _ _
     (bound-outcome matrix c.args.query.now database bound c.in_ok-plan.plan c.in_ok-bound.ensures.answer c.in_ok-plan.ensures.chosen)
     (c.in_err-work.ensures.text matrix gives).front)
 
@@ -49,7 +48,7 @@ pub returns-clause-answer : goal.returns-clause-answer
 returns-clause-answer g c = λ matrix gives.
     let database = c.args.database.now in
     let bound = c.in_ok-bound.bound in (
-      planned_text bound.explain serving matrix database bound c.in_ok-plan.plan,
+      planned_text bound.explain matrix database bound c.in_ok-plan.plan,
       bound-outcome matrix c.args.query.now database bound c.in_ok-plan.plan c.in_ok-bound.ensures.answer c.in_ok-plan.ensures.chosen,
       (c.in_ok-work.ensures.text matrix gives).whole,
     )

@@ -3,10 +3,10 @@ use Rattle.std.proofs.Common.{◌≡◌, ◌∷◌, [], OnOk, ap, subst, sym, �
 use Rattle.std.specs.Prelude.{option_to_list}
 use Rattle.csv.specs.Records.{fields_of}
 use Rattle.table_model.specs.AnswerTexts.{record_of}
+use Rattle.table_model.specs.GeometryColumns.{geometry_writing}
 use Rattle.table_model.specs.Meanings.{referenced}
 use Rattle.table_model.specs.Places.{AreThere, rows_at}
 use Rattle.executor.specs.Pairs.{IsPlace}
-use Rattle.engine.specs.Serving.{serving}
 use Rattle.engine.proofs.PairLemmas.{first-there, one-row, second-there, two-rows}
 use Rattle.engine.proofs.runs.pair_record.Goals as goal
 
@@ -33,7 +33,7 @@ pub returns-in-None : goal.returns-in-None
 returns-in-None g c =
     let tables = c.args.database.now.tables in
     let there = subst (λ rs. IsPlace (referenced tables rs) c.args.pair) (sym c.as_slice-references.ensures) c.requires.place in
-    subst (λ rows. OnOk c.row_record.result (fields_of c.row_record.new.fields ≡ record_of serving.writing c.args.query.now rows))
+    subst (λ rows. OnOk c.row_record.result (fields_of c.row_record.new.fields ≡ record_of geometry_writing c.args.query.now rows))
     (one-row tables c.as_slice-references.result.now c.index-references-0.result c.table-table.result.now c.args.pair.first c.row.result
     (subst (λ o. AreThere (referenced tables c.as_slice-references.result.now) (c.args.pair.first ∷ option_to_list o)) c.in-None.is there) c.table-table.ensures c.row.ensures
     ∙ ap (λ rs. rows_at (referenced tables rs) (c.args.pair.first ∷ [])) c.as_slice-references.ensures
@@ -44,7 +44,7 @@ pub returns-in-Some : goal.returns-in-Some
 returns-in-Some g c =
     let tables = c.args.database.now.tables in
     let there = subst (λ rs. IsPlace (referenced tables rs) c.args.pair) (sym c.as_slice-references.ensures) c.requires.place in
-    subst (λ rows. OnOk c.row_record-in-Some.result (fields_of c.row_record-in-Some.new.fields ≡ record_of serving.writing c.args.query.now rows))
+    subst (λ rows. OnOk c.row_record-in-Some.result (fields_of c.row_record-in-Some.new.fields ≡ record_of geometry_writing c.args.query.now rows))
     (two-rows tables c.as_slice-references.result.now c.index-references-0.result c.index-references-1.result c.table-table.result.now c.table-other.result.now
     c.args.pair.first c.in-Some.second c.row-in-Some.result c.row-in-Some-2.result
     (subst (λ o. AreThere (referenced tables c.as_slice-references.result.now) (c.args.pair.first ∷ option_to_list o)) c.in-Some.is there)

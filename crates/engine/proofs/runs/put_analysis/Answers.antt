@@ -1,10 +1,10 @@
 -- The number that is put is the work of the plan, whose rows were taken to their end from no work on.
 use Rattle.std.proofs.Common.{◌≡◌, ◌+◌, ◌∙◌, ap, subst, arith}
 use Rattle.sinks.specs.Sinks.{AppendsFront}
+use Rattle.table_model.specs.Arguments.{denoted}
 use Rattle.table_model.specs.ExplainTexts.{analyze_text}
 use Rattle.table_model.specs.RunOutcomes.{kept_count}
 use Rattle.table_model.specs.Work.{work}
-use Rattle.engine.specs.Serving.{serving}
 use Rattle.engine.proofs.PutLemmas.{put-begun, put-none}
 use Rattle.records.specs.declared.put_fault.PutFault.TheVariants as put
 use Rattle.engine.proofs.runs.put_analysis.Goals as goal
@@ -17,7 +17,7 @@ pub returns-in_err-analyze-clause-text : goal.returns-in_err-analyze-clause-text
 returns-in_err-analyze-clause-text g c = λ matrix m.
     let query = c.args.query.now in
     let plan = c.args.plan.now in
-    let number = work matrix serving.denotes c.args.database.now.tables query plan in
+    let number = work matrix denoted c.args.database.now.tables query plan in
     let none : 0 + number ≡ number = omega arith in
     let counted : c.count.result ≡ kept_count number =
     c.count.ensures ∙ c.into_work-work.ensures ∙ c.in_ok-count_rows.ensures.work matrix m ∙ c.new-rows.ensures.at_end matrix m

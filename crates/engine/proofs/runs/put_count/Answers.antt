@@ -1,6 +1,6 @@
 -- The header, or a front of it, is a front of the text; the record of the number comes after it, but under LIMIT 0.
 use Rattle.std.proofs.Common.{ap, ◌≢◌, ◌∷◌, ◌++◌, ◌∙◌, [], Some, codes, rules}
-use Rattle.engine.specs.Serving.{record_text}
+use Rattle.engine.specs.RecordTexts.{record_text}
 use Rattle.engine.proofs.PutLemmas.{first-begun, put-same, put-then}
 use Rattle.engine.proofs.RunLemmas.{number-text}
 use Rattle.engine.proofs.runs.put_count.Goals as goal

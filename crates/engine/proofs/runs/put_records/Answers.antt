@@ -12,7 +12,7 @@ use Rattle.records.specs.declared.put_fault.PutFault.TheVariants as put
 use Rattle.std.specs.Prelude.{Err}
 use Rattle.table_model.specs.Meanings.{Table}
 use Rattle.engine.specs.Runs.{choice_text}
-use Rattle.engine.specs.Serving.{record_text, serving}
+use Rattle.engine.specs.RecordTexts.{record_text}
 use Rattle.engine.proofs.PutLemmas.{put-begun}
 use Rattle.engine.proofs.RecordLemmas.{but-all, but-front, but-next, but-none, next-front, none_left}
 use Rattle.engine.proofs.runs.put_records.Goals as goal
@@ -44,7 +44,7 @@ returns-in_err-pair_record-clause-text g c = λ matrix m.
 pub returns-in_err-put-clause-text : goal.returns-in_err-put-clause-text
 returns-in_err-put-clause-text g c = λ matrix m.
     put-begun c.from_residual-in_err-put.result c.in_err-put.field-0.0 _ _ _ _ _ c.from_residual-in_err-put.ensures.1
-    (next-front (choice_text serving c.args.database.now c.args.query.now) (to_come matrix c.loop-row.rows) (to_come matrix c.next.new.self) (choice_of c.in_ok-pair.pair) _ _ _ (g.S.Sink.taken c.loop-row.sink) _
+    (next-front (choice_text c.args.database.now c.args.query.now) (to_come matrix c.loop-row.rows) (to_come matrix c.next.new.self) (choice_of c.in_ok-pair.pair) _ _ _ (g.S.Sink.taken c.loop-row.sink) _
     (row_given matrix c.loop-row.rows c.next.new.self c.next.result c.in-Some.row c.in_ok-pair.pair c.in-Some.is c.in_ok-pair.was (c.next.ensures.gives matrix m))
     (ap record_text c.in_ok-pair_record.ensures) (c.loop-row.invariant.put matrix m) c.in_err-put.ensures.front)
     (subst (λ n. CountsPut {A = Unit {0}} n (g.S.Sink.failures c.put.new.sink) (Err c.in_err-put.field-0.0)) c.loop-row.invariant.same c.in_err-put.ensures.failures)
@@ -57,7 +57,7 @@ loop-row-smaller g c =
 pub loop-row-preserved : goal.loop-row-preserved
 loop-row-preserved g c = record {
   put = λ matrix m.
-      but-next (choice_text serving c.args.database.now c.args.query.now) (to_come matrix c.loop-row.rows) (to_come matrix c.next.new.self) (choice_of c.in_ok-pair.pair) _ _ _ (g.S.Sink.taken c.loop-row.sink) _
+      but-next (choice_text c.args.database.now c.args.query.now) (to_come matrix c.loop-row.rows) (to_come matrix c.next.new.self) (choice_of c.in_ok-pair.pair) _ _ _ (g.S.Sink.taken c.loop-row.sink) _
       (row_given matrix c.loop-row.rows c.next.new.self c.next.result c.in-Some.row c.in_ok-pair.pair c.in-Some.is c.in_ok-pair.was (c.next.ensures.gives matrix m))
       (ap record_text c.in_ok-pair_record.ensures) (c.loop-row.invariant.put matrix m) c.in_ok-put.ensures.ok;
   counted = λ matrix m.
@@ -70,7 +70,7 @@ loop-row-preserved g c = record {
 
 pub returns-clause-text : goal.returns-clause-text
 returns-clause-text g c = λ matrix m. record {
-  whole = but-none (choice_text serving c.args.database.now c.args.query.now) (to_come matrix c.loop-row.rows) _ _ _
+  whole = but-none (choice_text c.args.database.now c.args.query.now) (to_come matrix c.loop-row.rows) _ _ _
       (none_left matrix c.loop-row.rows c.next.new.self c.next.result c.in_default.is (c.next.ensures.gives matrix m)) (c.loop-row.invariant.put matrix m);
   front = tt;
   failures = c.loop-row.invariant.same;

@@ -5,15 +5,14 @@ use Rattle.geometry_model.specs.Labels.{labelled_matrix}
 use Rattle.records.specs.RecordWriters.{IsReady}
 use Rattle.table_model.specs.RunOutcomes.{ByEveryMatrix}
 use Rattle.engine.specs.Runs.{choice_text}
-use Rattle.engine.specs.Serving.{serving}
 use Rattle.engine.proofs.RecordLemmas.{PutBut}
 use Rattle.engine.proofs.runs.put_records.Given as goal
 
 -- all records were put but those of the rows that are still to come, and no put has failed
 abbrev pub invariant-loop-row : goal.invariant-loop-row
 invariant-loop-row g l = record {
-  put : ByEveryMatrix (λ matrix. PutBut (concat (map (choice_text serving l.database l.query) (to_come matrix l.rows)))
-      (concat (map (choice_text serving l.database l.query) (to_come matrix l.fn.rows)))
+  put : ByEveryMatrix (λ matrix. PutBut (concat (map (choice_text l.database l.query) (to_come matrix l.rows)))
+      (concat (map (choice_text l.database l.query) (to_come matrix l.fn.rows)))
       (g.S.Sink.taken l.fn.sink) (g.S.Sink.taken l.sink));
   counted : ByEveryMatrix (λ matrix. work_at_end matrix l.rows ≡ work_at_end matrix l.fn.rows);
   tables : l.rows.tables ≡ l.fn.rows.tables;

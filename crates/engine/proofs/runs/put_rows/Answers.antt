@@ -5,10 +5,10 @@ use Rattle.executor.specs.Streams.{to_come}
 use Rattle.geometry_model.specs.Labels.{labelled_matrix}
 use Rattle.matrix_laws.proofs.Matrices.{labels_give_matrix}
 use Rattle.sinks.specs.Sinks.{AppendsFront}
+use Rattle.table_model.specs.Arguments.{denoted}
 use Rattle.table_model.specs.RunOutcomes.{kept_count}
 use Rattle.table_model.specs.Work.{work}
 use Rattle.engine.specs.Runs.{bound_text}
-use Rattle.engine.specs.Serving.{serving}
 use Rattle.engine.proofs.PutLemmas.{counts-as, put-begun}
 use Rattle.engine.proofs.RunLemmas.{meant-text}
 use Rattle.engine.proofs.runs.put_rows.Goals as goal
@@ -17,7 +17,7 @@ pub returns-in_err-put_answer-clause-text : goal.returns-in_err-put_answer-claus
 returns-in_err-put_answer-clause-text g c = λ matrix m.
     let database = c.args.database.now in
     let bound = c.args.query.now in
-    put-begun c.from_residual.result c.in_err-put_answer.field-0.0 (bound_text serving matrix database bound) _ _ _ _
+    put-begun c.from_residual.result c.in_err-put_answer.field-0.0 (bound_text matrix database bound) _ _ _ _
     c.from_residual.ensures.1
     (subst (λ l. AppendsFront (g.S.Sink.taken c.args.sink.now) (g.S.Sink.taken c.put_answer.new.sink) l)
     (meant-text matrix database bound (to_come matrix c.new-rows.result) (c.new-rows.ensures.meant matrix m)) (c.in_err-put_answer.ensures.text matrix m).front)
@@ -35,7 +35,7 @@ returns-clause-text g c = λ matrix m.
 
 pub returns-clause-work : goal.returns-clause-work
 returns-clause-work g c = λ matrix m.
-    let number = work matrix serving.denotes c.args.database.now.tables c.args.query.now c.args.plan.now in
+    let number = work matrix denoted c.args.database.now.tables c.args.query.now c.args.plan.now in
     let none : 0 + number ≡ number = omega arith in
     c.into_work.ensures ∙ c.in_ok-put_answer.ensures.work matrix m ∙ c.new-rows.ensures.at_end matrix m
     ∙ ap (λ n. kept_count (n + number)) c.new.ensures ∙ ap kept_count none

@@ -3,7 +3,6 @@ use Rattle.table_model.specs.declared.faults.QueryFault.TheVariants as fault
 use Rattle.table_model.specs.declared.tokens.TokenKind.TheVariants as k
 use Rattle.table_model.specs.Parsers.{parts_from, parts}
 use Rattle.table_model.specs.QueryReading.{conjunction, negation}
-use Rattle.query_reader.specs.Language.{language}
 use Rattle.query_reader.proofs.condition.+conditions.Given as goal
 
 abbrev pub decreases-negation : goal.decreases-negation
@@ -29,10 +28,10 @@ decreases-opposite l = 7 * l.levels + 6
 
 abbrev pub invariant-conjuncts-loop-turn : goal.invariant-conjuncts-loop-turn
 invariant-conjuncts-loop-turn l =
-    parts fault.Syntax k.And (negation language.functions l.levels) l.initial.parts l.fn.tokens
-    ≡ parts_from fault.Syntax k.And (negation language.functions l.levels) (l._turn-end - l._turn) l.parts l.tokens
+    parts fault.Syntax k.And (negation l.levels) l.initial.parts l.fn.tokens
+    ≡ parts_from fault.Syntax k.And (negation l.levels) (l._turn-end - l._turn) l.parts l.tokens
 
 abbrev pub invariant-disjuncts-loop-turn : goal.invariant-disjuncts-loop-turn
 invariant-disjuncts-loop-turn l =
-    parts fault.Syntax k.Or (conjunction (negation language.functions l.levels)) l.initial.parts l.fn.tokens
-    ≡ parts_from fault.Syntax k.Or (conjunction (negation language.functions l.levels)) (l._turn-end - l._turn) l.parts l.tokens
+    parts fault.Syntax k.Or (conjunction (negation l.levels)) l.initial.parts l.fn.tokens
+    ≡ parts_from fault.Syntax k.Or (conjunction (negation l.levels)) (l._turn-end - l._turn) l.parts l.tokens

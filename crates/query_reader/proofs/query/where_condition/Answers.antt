@@ -1,4 +1,4 @@
-use Rattle.std.proofs.Common.{Some, true}
+use Rattle.std.proofs.Common.{Some}
 use Rattle.table_model.specs.QueryReading.{condition, where_condition}
 use Rattle.query_reader.proofs.QueryParts.{mapped_reads}
 use Rattle.query_reader.proofs.query.where_condition.Goals as goal
@@ -6,4 +6,4 @@ use Rattle.query_reader.proofs.query.where_condition.Goals as goal
 pub returns-then-eat : goal.returns-then-eat
 unfolding where_condition
 returns-then-eat c =
-    rw (c.present.ensures, ← c.eat.ensures.found, c.if-eat.true, ← c.eat.ensures.after) (mapped_reads Some (condition true c.eat.new.self) c.condition.result c.condition.new.tokens c.condition.ensures)
+    rw (c.present.ensures, ← c.eat.ensures.found, c.if-eat.true, ← c.eat.ensures.after) (mapped_reads Some (condition c.eat.new.self) c.condition.result c.condition.new.tokens c.condition.ensures)
