@@ -125,7 +125,7 @@ abbrev pub AnswersQuery : {A T G B D : Type 0} → (serving : Serving T G B D) �
 AnswersQuery serving result database query old new =
     ByEveryMatrix (λ matrix. Runs result (query_outcome record_text serving matrix query database) none_reached old new)
 
--- the same of a run over the tables' records, by every function that gives the matrix (SQL, the query; 06-103r4, 6.1.15)
+-- what a run over the tables' records promises, by every function that gives the matrix (SQL, the query; 06-103r4, 6.1.15)
 abbrev pub RunsOver : {A T G B D : Type 0} → Serving T G B D → Result A Fault → List (TableDef T) → List (List Record) → List ℕ → Option (List ℕ) → Option (List ℕ) → Type 0
 RunsOver serving result definitions records text old new =
     ByEveryMatrix (λ matrix. Runs result (outcome record_text serving matrix definitions records text) (IsReached serving definitions records text) old new)
@@ -138,7 +138,7 @@ Counts result outcome = IfOk result (λ work. outcome ≡ Ok work)
 abbrev pub CountsQuery : {T G B D : Type 0} → (serving : Serving T G B D) → Result ℕ Fault → Database T G → ServedQuery serving.language → Type 0
 CountsQuery serving result database query = ByEveryMatrix (λ matrix. Counts result (query_work serving matrix query database))
 
--- the same of a run over the tables' records: none under EXPLAIN, else the work of the chosen plan (06-103r4, 6.1.15)
+-- the work of a run over the tables' records: none under EXPLAIN, else that of the chosen plan (06-103r4, 6.1.15)
 abbrev pub CountsOver : {T G B D : Type 0} → Serving T G B D → Result ℕ Fault → List (TableDef T) → List (List Record) → List ℕ → Type 0
 CountsOver serving result definitions records text = ByEveryMatrix (λ matrix. Counts result (work_outcome serving matrix definitions records text))
 
