@@ -62,7 +62,8 @@ PAGE = [
        " BeforeKey BeforeClose IsName is_among has_key names_of StandsAt StandsIn is_at_token")]),
     ("Queries",
      "A relation for each rule of the grammar, between a tree and the tokens that are written for it.",
-     [(T, "QueryGrammar", "IsDigits IsCall IsOperandFunction IsNumber IsPair IsPredicate IsChain IsCondition"
+     [(T, "Queries", ""),
+      (T, "QueryGrammar", "IsDigits IsCall IsOperandFunction IsNumber IsPair IsPredicate IsChain IsCondition"
        " IsNegation IsRowCount IsCrossed IsJoined IsItemFunction AnswersQuery"),
       (T, "QueryRefusals", "IsAnyInteger IsAnyOperand IsAnyNegation IsAnyCondition BeforeSecond BeforeOn"
        " ThroughFrom BeforeWhere IsAnyWhere BeforeLimit AreParts BeforeNegation BeforeOperand StandsAt"
@@ -81,7 +82,8 @@ PAGE = [
        " geometry_binding"),
       (T, "Loading", "GeometryReader and_then unless each is_space_or_tab trimmed number_in place_in"
        " field_under first_fault whole_number double_from insert_by_key keyed_rows rows_of filled_value is_number"),
-      (T, "Databases", "at_table fits_type fits_columns")]),
+      (T, "Databases", "at_table fits_type fits_columns"),
+      (T, "SpatialTables", "")]),
     ("Truth and meaning",
      "Truth has three values. The meaning of a query is the rows of the product of its tables at which ON"
      " and WHERE are true.",
@@ -92,7 +94,7 @@ PAGE = [
      "The records of the answer, their text, and what a run gives in place of an answer.",
      [(T, "AnswerTexts", "Writing name_of column_name reference_header column_header"),
       (T, "RunOutcomes", "RecordText counted_text after"),
-      ("engine", "Runs", "rows_text bound_text rows_of_choices choice_text count_text planned_work planned_text"
+      ("query_runs", "Runs", "rows_text bound_text rows_of_choices choice_text count_text planned_work planned_text"
        " answer_work query_work loaded_work work_outcome IsReached RefusesTable none_reached Counts IsOfTables"
        " PutsFront AnswersQuery CountsQuery"),
       (T, "Outcomes", ""),

@@ -129,10 +129,10 @@ abbrev pub AnswersQuery : {A : Type 0} → Result A Fault → SpatialDatabase �
 AnswersQuery result database query old new =
     ByEveryMatrix (λ matrix. Runs result (query_outcome record_text matrix query database) none_reached old new)
 
--- the same of a run over the tables' records, by every function that gives the matrix (SQL, the query; 06-103r4, 6.1.15)
-abbrev pub RunsOver : {A : Type 0} → Result A Fault → SpatialSchema → List (List Record) → List ℕ → Option (List ℕ) → Option (List ℕ) → Type 0
-RunsOver result definitions records text old new =
-    ByEveryMatrix (λ matrix. Runs result (outcome record_text matrix definitions records text) (IsReached definitions records text) old new)
+-- what a run over the tables' records promises, by every function that gives the matrix (SQL, the query; 06-103r4, 6.1.15)
+abbrev pub RunsOver : {A T G B D : Type 0} → Serving T G B D → Result A Fault → List (TableDef T) → List (List Record) → List ℕ → Option (List ℕ) → Option (List ℕ) → Type 0
+RunsOver serving result definitions records text old new =
+    ByEveryMatrix (λ matrix. Runs result (outcome record_text serving matrix definitions records text) (IsReached serving definitions records text) old new)
 
 -- a number that a call returns is the outcome
 abbrev pub Counts : Result ℕ Fault → Result ℕ Refusal → Type 0
@@ -142,9 +142,9 @@ Counts result outcome = IfOk result (λ work. outcome ≡ Ok work)
 abbrev pub CountsQuery : Result ℕ Fault → SpatialDatabase → SelectQuery → Type 0
 CountsQuery result database query = ByEveryMatrix (λ matrix. Counts result (query_work matrix query database))
 
--- the same of a run over the tables' records: none under EXPLAIN, else the work of the chosen plan (06-103r4, 6.1.15)
-abbrev pub CountsOver : Result ℕ Fault → SpatialSchema → List (List Record) → List ℕ → Type 0
-CountsOver result definitions records text = ByEveryMatrix (λ matrix. Counts result (work_outcome matrix definitions records text))
+-- the work of a run over the tables' records: none under EXPLAIN, else that of the chosen plan (06-103r4, 6.1.15)
+abbrev pub CountsOver : {T G B D : Type 0} → Serving T G B D → Result ℕ Fault → List (TableDef T) → List (List Record) → List ℕ → Type 0
+CountsOver serving result definitions records text = ByEveryMatrix (λ matrix. Counts result (work_outcome serving matrix definitions records text))
 
 -- a fault of loading names one of so many tables
 abbrev pub IsOfTables : ℕ → Fault → Type 0

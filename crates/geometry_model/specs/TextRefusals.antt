@@ -39,7 +39,7 @@ pub record IsOffGrid (text : List ℕ) (at : ℕ) : Type 0 where
   pub number : HasNumber text at minus whole fraction
   pub not_whole : is_whole fraction ≡ false
 
--- W3: they are, and the number is past the limit
+-- W3: the digits of the number behind its point are all zeros, and the number is past the limit
 pub record IsOutOfRange (text : List ℕ) (at : ℕ) : Type 0 where
   pub minus : Bool
   pub whole : List ℕ
@@ -52,7 +52,7 @@ pub record IsOutOfRange (text : List ℕ) (at : ℕ) : Type 0 where
 abbrev pub begins_more : ℕ → Bool
 begins_more c = is_ascii_digit c || c == 40
 
--- W4 by a position: its first number is where, the counts set aside, one position more than they allow can be the last
+-- W4 by a position: its first number begins the first position past the limit
 pub record HasTooManyPositions (text : List ℕ) : Type 0 where
   pub front : List ℕ
   pub tail : List ℕ
@@ -67,7 +67,7 @@ pub record HasTooManyPositions (text : List ℕ) : Type 0 where
   pub spelled : Writes written (front ++ codes "+0 0" ++ closing)
   pub counted : length (written_positions written) ≡ position_limit + 1
 
--- W4 by a part: its parenthesis is where one part more than the count allows can be the last
+-- W4 by a part: its parenthesis opens the first part past the limit
 pub record HasTooManyParts (text : List ℕ) : Type 0 where
   pub front : List ℕ
   pub tail : List ℕ
