@@ -3,6 +3,7 @@ import hashlib
 import os
 import pty
 import shutil
+import signal
 import subprocess
 import tarfile
 import time
@@ -106,7 +107,7 @@ class Builds(WithCheckout):
                     break
                 time.sleep(0.05)
             time.sleep(1)
-            child.send_signal(2)
+            child.send_signal(signal.SIGTERM)
             self.assertEqual(child.wait(timeout=20), 130)
             self.assertIn(b"broken off", child.stderr.read())
         before = len(self.checked())

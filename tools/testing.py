@@ -204,10 +204,14 @@ def gate(counts):
     before, begun = repository.current("sum")[1], time.monotonic()
     child = subprocess.Popen(["rt", "ci"], cwd=ROOT, stdout=subprocess.PIPE, text=True, errors="replace")
     last = ""
-    for line in child.stdout:
-        print(line, end="", flush=True)
-        last = line.strip() or last
-    status = child.wait()
+    try:
+        for line in child.stdout:
+            print(line, end="", flush=True)
+            last = line.strip() or last
+        status = child.wait()
+    finally:
+        if child.poll() is None:
+            child.terminate()
     found = re.fullmatch(r"(\d+) passed, (\d+) failed", last)
     passed, failed = (int(found[1]), int(found[2])) if found else (0, 0)
     counts.passed += passed
