@@ -61,7 +61,10 @@ def run(words, folder=ROOT, given=subprocess.DEVNULL):
 
 
 def side_by_side(parts):
-    """Runs the parts, as many at a time as half the processors: `rt try` uses more than one. Ends them where they are broken off."""
+    """Runs the parts, as many at a time as half the processors, since `rt try` uses more than one.
+
+    Where they are broken off, ends what they started.
+    """
     with ThreadPoolExecutor(max(1, proving.processors() // 2)) as pool:
         started = [pool.submit(*it) for it in parts]
         try:
