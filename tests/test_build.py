@@ -3,6 +3,7 @@ import hashlib
 import os
 import pty
 import shutil
+import signal
 import subprocess
 import tarfile
 import time
@@ -106,7 +107,7 @@ class Builds(WithCheckout):
                     break
                 time.sleep(0.05)
             time.sleep(1)
-            child.send_signal(2)
+            child.send_signal(signal.SIGTERM)
             self.assertEqual(child.wait(timeout=20), 130)
             self.assertIn(b"broken off", child.stderr.read())
         before = len(self.checked())
@@ -126,7 +127,8 @@ class Builds(WithCheckout):
     def test_verify_proves_a_copy_from_nothing(self):
         self.build()
         before = len(self.checkout.calls())
-        write(f"{self.checkout.root}/docs/PROVED.md", "# P\n\n## The chain\n\n1. `low/src/lib.rt`\n2. crates/low/specs/No.antt\n\n## More\n\n`middle/src/lib.rt`\n")
+        chain = "# P\n\n## The chain\n\n1. [`low`](../crates/low/src/lib.rt)\n2. crates/low/specs/No.antt\n\n"
+        write(f"{self.checkout.root}/docs/PROVED.md", chain + "## More\n\n`crates/middle/src/lib.rt`\n")
         ran = self.build("--verify")
         self.assertEqual(ran.returncode, 0, ran.stderr)
         folders = [folder for folder, words in self.checkout.calls()[before:] if words[0] in ("check", "lib", "run")]

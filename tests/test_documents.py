@@ -63,7 +63,8 @@ class ManyCallsOfOneBuild(unittest.TestCase):
             b"cases=3 ended=3 fault=0 differs=0 no-answer=0 proved=no\n"
         )
         found = answers.split([["relate"], ["relate"], ["--help"]], out, said)
-        self.assertEqual([tuple(it) for it in found], [(b"a\n== x\n", b"", 0), (b"", b"sfq: no\n", 5), (b"Usage: sfq y\n", b"", 0)])
+        wanted = [(b"a\n== x\n", b"", 0), (b"", b"sfq: no\n", 5), (b"Usage: sfq y\n", b"", 0)]
+        self.assertEqual([tuple(it) for it in found], wanted)
 
     def test_a_case_without_an_answer(self):
         for said in (b"case=00000 run=no-answer proved=no\n", b"run=none proved=no\n"):

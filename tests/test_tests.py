@@ -103,13 +103,15 @@ class RunsTests(WithCheckout):
             # ./lint, two quick tests, the nine of rt ci, one that asks the program, one long one of the gate
             self.assertEqual((status, last), (0, "14 passed, 0 failed, 1 skipped"), lines)
             self.assertEqual(self.verbs()[before:], ["ci"])
-            order = [lines.index(next(it for it in lines if word in it)) for word in ("test_one", "rt: proving", "test_four", "test_six")]
+            parts = ("test_one", "rt: proving", "test_four", "test_six")
+            order = [next(at for at, it in enumerate(lines) if part in it) for part in parts]
             self.assertEqual(order, sorted(order))
             self.assertEqual(self.checkout.run(["sfq"]).returncode, 0)
 
     def test_what_fails_is_named_and_counted(self):
         root = self.checkout.root
-        write(f"{root}/tests/test_small.py", SMALL.replace("{passes}", "False").replace("assertEqual(it, it)", "assertEqual(it, 0)"))
+        failing = SMALL.replace("{passes}", "False").replace("assertEqual(it, it)", "assertEqual(it, 0)")
+        write(f"{root}/tests/test_small.py", failing)
         status, last, lines = self.run_tests()
         self.assertEqual((status, last), (1, "4 passed, 2 failed, 2 skipped"), lines)
         self.assertIn("failed: test_small.Quick.test_one, test_small.Quick.test_two", lines)

@@ -182,7 +182,8 @@ class Proving:
                 self.say_one(f"proved {crate.name} in {took}")
             else:
                 self.failed.append(crate)
-                self.say_one(f"NOT PROVED: {crate.name}, after {took} (status {status}); see {os.path.relpath(crate.out, self.root)}/check.log")
+                place = os.path.relpath(f"{crate.out}/check.log", self.root)
+                self.say_one(f"NOT PROVED: {crate.name}, after {took} (status {status}); see {place}")
                 print("\n".join(text.splitlines()[-15:]), flush=True)
 
     def head(self):

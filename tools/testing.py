@@ -61,7 +61,10 @@ def run(words, folder=ROOT, given=subprocess.DEVNULL):
 
 
 def side_by_side(parts):
-    """Runs the parts, as many at a time as half the processors: `rt try` uses more than one. Ends them where they are broken off."""
+    """Runs the parts, as many at a time as half the processors, since `rt try` uses more than one.
+
+    Where they are broken off, ends what they started.
+    """
     with ThreadPoolExecutor(max(1, proving.processors() // 2)) as pool:
         started = [pool.submit(*it) for it in parts]
         try:
@@ -204,10 +207,14 @@ def gate(counts):
     before, begun = repository.current("sum")[1], time.monotonic()
     child = subprocess.Popen(["rt", "ci"], cwd=ROOT, stdout=subprocess.PIPE, text=True, errors="replace")
     last = ""
-    for line in child.stdout:
-        print(line, end="", flush=True)
-        last = line.strip() or last
-    status = child.wait()
+    try:
+        for line in child.stdout:
+            print(line, end="", flush=True)
+            last = line.strip() or last
+        status = child.wait()
+    finally:
+        if child.poll() is None:
+            child.terminate()
     found = re.fullmatch(r"(\d+) passed, (\d+) failed", last)
     passed, failed = (int(found[1]), int(found[2])) if found else (0, 0)
     counts.passed += passed

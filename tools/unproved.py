@@ -165,13 +165,22 @@ def refuse(said):
     """Says why there is no answer, from what `rt try` wrote, and returns the status."""
     last = said.rstrip(b"\n").rpartition(b"\n")[2]
     if last.startswith(b"run=no-answer"):
-        say("no answer: an unproved build takes at most a minute and writes at most 1 MiB; ./build makes the program without these limits")
+        say(
+            "no answer: an unproved build runs for at most a minute and writes at most 1 MiB; "
+            "./build makes the program without these limits"
+        )
         return NO_ANSWER
     sys.stderr.write(said.decode(errors="replace"))
     if last.startswith(b"run=fault"):
-        say("no answer: a run-time check of the unproved build stopped it, as the lines above say: a mistake in sfq or in the toolchain; ./build makes the proved program")
+        say(
+            "no answer: a run-time check stopped the unproved build, as the lines above say: a mistake in sfq or in the "
+            "toolchain; ./build makes the proved program"
+        )
     else:
-        say("no answer: the unproved build couldn't be made or run, as the lines above say; ./build makes the proved program")
+        say(
+            "no answer: the unproved build couldn't be made or run, as the lines above say; "
+            "./build makes the proved program"
+        )
     return NO_ANSWER
 
 
