@@ -8,6 +8,7 @@ use std::test::Fail;
 use table_model::conditions::{Bound, Reference};
 use table_model::plans::{Access, AccessMethod, Plan};
 use table_model::queries::Explain;
+use table_model::references::References;
 
 fn reference(alloc: Global, text: &str) -> Result<Reference, AllocError> {
     let mut name = Vec::new(alloc);
@@ -20,13 +21,13 @@ fn reference(alloc: Global, text: &str) -> Result<Reference, AllocError> {
 
 fn query(
     alloc: Global,
-    references: Vec<Reference>,
+    references: References<Reference>,
     counts: bool,
     limit: Option<u64>,
 ) -> Bound<(), ()> {
     Bound {
         explain: Explain::Plan,
-        references: Items::from_vec(references),
+        references,
         items: Items::new(alloc),
         conjuncts: Items::new(alloc),
         counts,
@@ -58,10 +59,10 @@ fn access(reference: usize, method: AccessMethod) -> Access {
 /// A probe of one table, and a scan of one whose rows are counted.
 #[test]
 fn plans_of_one_reference(rt: HostRuntime) -> Result<(), Fail> {
-    let big = vec![in rt.alloc(); reference(rt.alloc(), "big")?]?;
+    let big = References::one(rt.alloc(), reference(rt.alloc(), "big")?)?;
     let near = query(rt.alloc(), big, false, None);
     let probe = plan(rt.alloc(), 14, &[access(0, AccessMethod::Probe(0))], &[0])?;
-    let big = vec![in rt.alloc(); reference(rt.alloc(), "big")?]?;
+    let big = References::one(rt.alloc(), reference(rt.alloc(), "big")?)?;
     let all = query(rt.alloc(), big, true, Some(0));
     let scan = plan(rt.alloc(), 100, &[access(0, AccessMethod::Scan)], &[])?;
     let mut sink = MemorySink::new(rt.alloc());
@@ -76,7 +77,8 @@ fn plans_of_one_reference(rt: HostRuntime) -> Result<(), Fail> {
 /// Nested loops over two tables, of which the inner one is probed, and their work.
 #[test]
 fn plans_of_two_references(rt: HostRuntime) -> Result<(), Fail> {
-    let both = vec![in rt.alloc(); reference(rt.alloc(), "b")?, reference(rt.alloc(), "s")?]?;
+    let (b, s) = (reference(rt.alloc(), "b")?, reference(rt.alloc(), "s")?);
+    let both = References::two(rt.alloc(), b, s)?;
     let joined = query(rt.alloc(), both, false, None);
     let accesses = [
         access(1, AccessMethod::Scan),

@@ -1,6 +1,6 @@
 //! The plan that is chosen.
 
-ghost use Rattle.std.specs.Prelude.{◌≡◌, IfOk};
+ghost use Rattle.std.specs.Prelude.{◌≡◌, IfOk, Some};
 ghost use Rattle.planner.specs.Nestings.{accesses_in, chosen_for};
 ghost use Rattle.table_model.specs.Plans as spec;
 
@@ -47,19 +47,15 @@ fn plan_of<A>(
 }
 
 /// The chosen plan of a bound query, where `rows` holds the number of rows of each reference's table, in the query's
-/// order: the first lawful plan whose cost no lawful plan undercuts. None where the query has no reference or more
-/// than two, since no plan is lawful for it. It fails only when memory runs out.
+/// order: the first lawful plan whose cost no lawful plan undercuts. It fails only for want of memory.
 pub fn choose_by_counts<G, C>(
     alloc: Global,
     query: &Bound<GeometryArgument<G>, C>,
     rows: &[u32],
-) -> Result<Option<Plan>, AllocError>
-    ensures { IfOk result (λ plan. plan ≡ chosen_for rows.now query.now) }
+) -> Result<Plan, AllocError>
+    ensures { IfOk result (λ plan. chosen_for rows.now query.now ≡ Some plan) }
 {
     let conjuncts = query.conjuncts.as_slice();
-    let nestings = lawful_nestings(alloc, query.references.as_slice(), conjuncts)?;
-    match first_of_least(rows, nestings.as_slice()) {
-        Some(nesting) => Ok(Some(plan_of(alloc, rows, conjuncts, nesting)?)),
-        None => Ok(None),
-    }
+    let nestings = lawful_nestings(alloc, &query.references, conjuncts)?;
+    plan_of(alloc, rows, conjuncts, first_of_least(rows, nestings.as_slice()))
 }

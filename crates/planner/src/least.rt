@@ -1,6 +1,6 @@
 //! The first of the cheapest.
 
-ghost use Rattle.std.specs.Prelude.{◌≡◌};
+ghost use Rattle.std.specs.Prelude.{◌≡◌, ◌<◌, length, Some};
 ghost use Rattle.planner.specs.Nestings.{accesses_in, cheaper};
 ghost use Rattle.table_model.specs.Plans as spec;
 
@@ -8,22 +8,20 @@ use crate::accesses::Nesting;
 use crate::costs::cost;
 
 // The cheaper one of what was the least so far and the next; the earlier one of two that cost the same.
-fn cheaper(rows: &[u32], least: Option<Nesting>, next: Nesting) -> Nesting
-    ensures { result ≡ cheaper (λ n. spec.cost rows.now (accesses_in n)) least next }
+fn cheaper(rows: &[u32], least: Nesting, next: Nesting) -> Nesting
+    ensures { result ≡ cheaper (λ n. spec.cost rows.now (accesses_in n)) (Some least) next }
 {
-    match least {
-        Some(least) if cost(rows, least) <= cost(rows, next) => least,
-        _ => next,
-    }
+    if cost(rows, least) <= cost(rows, next) { least } else { next }
 }
 
-// The first of least cost; none where there are none.
-pub(crate) fn first_of_least(rows: &[u32], nestings: &[Nesting]) -> Option<Nesting>
-    ensures { result ≡ spec.first_of_least (λ n. spec.cost rows.now (accesses_in n)) nestings.now }
+// The first of least cost.
+pub(crate) fn first_of_least(rows: &[u32], nestings: &[Nesting]) -> Nesting
+    requires { 0 < length nestings.now }
+    ensures { spec.first_of_least (λ n. spec.cost rows.now (accesses_in n)) nestings.now ≡ Some result }
 {
-    let mut least = None;
-    for nesting in nestings {
-        least = Some(cheaper(rows, least, *nesting));
+    let mut least = nestings[0];
+    for place in 1..nestings.len() {
+        least = cheaper(rows, least, nestings[place]);
     }
     least
 }

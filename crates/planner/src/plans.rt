@@ -51,8 +51,5 @@ pub fn choose<I: EnvelopeIndex + Drop>(
     ensures lawful { IfOk result (spec.IsLawful database.now.tables query.now) }
 {
     let counts = row_counts(alloc, database, query.references.as_slice())?;
-    match choose_by_counts(alloc, query, counts.as_slice())? {
-        Some(plan) => Ok(plan),
-        None => unreachable!(),
-    }
+    choose_by_counts(alloc, query, counts.as_slice())
 }

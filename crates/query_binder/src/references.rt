@@ -10,6 +10,7 @@ use std::alloc::{AllocError, Global};
 use table_model::conditions::Reference;
 use table_model::faults::QueryFault;
 use table_model::queries::{Name, WrittenReference};
+use table_model::references::References;
 use table_model::texts::same_name;
 
 /// The place of a table by its name.
@@ -68,22 +69,18 @@ pub fn bound_references(
     definitions: &[TableDef],
     first: &WrittenReference<'_>,
     second: &Option<WrittenReference<'_>>,
-) -> Result<Items<Reference>, QueryFault>
+) -> Result<References<Reference>, QueryFault>
     ensures { Gives QueryFault.OutOfMemory (λ r. r) result
         (spec.bound_references definitions.now first.now second.now) }
 {
     let reference = bound_reference(alloc, definitions, first)?;
-    let mut references = Items::new(alloc);
     let Some(written) = second else {
-        references.push(reference)?;
-        return Ok(references);
+        return Ok(References::one(alloc, reference)?);
     };
     let other = bound_reference(alloc, definitions, written)?;
     if same_name(reference.name.as_slice(), other.name.as_slice()) {
         let at = name_start(&written.table, &written.alias);
         return Err(QueryFault::SameName(at));
     }
-    references.push(reference)?;
-    references.push(other)?;
-    Ok(references)
+    Ok(References::two(alloc, reference, other)?)
 }

@@ -1,6 +1,7 @@
 //! Queries bound to a database: names have become places, and literals values.
 
 use crate::queries::Explain;
+use crate::references::References;
 use geometry_model::Predicate;
 use sqlite_items::{Boxed, Items};
 
@@ -77,7 +78,7 @@ pub struct Reference {
 #[derive(Drop)]
 pub struct Bound<A, C> {
     pub explain: Explain,
-    pub references: Items<Reference>,
+    pub references: References<Reference>,
     pub items: Items<Item<C>>,
     pub conjuncts: Items<Cond<A>>,
     /// Whether COUNT(*) is listed: the number of rows is wanted.

@@ -20,6 +20,7 @@ pub mod plan_laws;
 pub mod plans;
 pub mod queries;
 pub mod query_examples;
+pub mod references;
 pub mod schema_examples;
 pub mod texts;
 pub mod tokens;

@@ -1,10 +1,12 @@
-use Rattle.std.proofs.Common.{sym}
+use Rattle.std.proofs.Common.{None}
 use Rattle.planner.specs.Nestings.{accesses_in}
+use Rattle.planner.specs.declared.accesses.Nesting.{Nesting}
 use Rattle.table_model.specs.Plans as spec
-use Rattle.planner.proofs.LeastStep.{one_more_taken}
+use Rattle.table_model.specs.declared.plans.AccessMethod.TheVariants as methods
+use Rattle.planner.proofs.LeastStep.{one_more_kept}
 use Rattle.planner.proofs.least.first_of_least.Goals as goal
 
-pub loop-nesting-preserved : goal.loop-nesting-preserved
-loop-nesting-preserved c =
-    let step = one_more_taken (λ n. spec.cost c.args.rows.now (accesses_in n)) c.args.nestings.now c.loop-nesting.nesting-index in
-    rw c.cheaper.ensures (rw c.loop-nesting.invariant (sym (step _ c.loop-nesting-test.true)))
+pub loop-place-preserved : goal.loop-place-preserved
+loop-place-preserved c =
+    one_more_kept (λ (n : Nesting). spec.cost c.args.rows.now (accesses_in n)) c.args.nestings.now c.loop-place.place (record { outer = record { reference = 0; method = methods.Scan }; inner = None })
+    c.loop-place.least c.cheaper-least.result c.loop-place-test.true c.loop-place.invariant c.cheaper-least.ensures

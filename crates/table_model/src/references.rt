@@ -1,0 +1,68 @@
+//! The references of a query.
+
+ghost use Rattle.std.specs.Prelude.{◌≡◌, ◌⊎◌, ◌∷◌, [], IfOk, length};
+ghost use Rattle.std.specs.Option.{option_copied, option_to_list};
+
+use sqlite_items::Items;
+use std::alloc::{AllocError, Global};
+use std::marker::Model;
+
+/// The references of a query in its order, one or two, generic in what a reference is. Contracts see the list of them.
+/// (SQL, FROM.)
+#[derive(Drop)]
+pub struct References<R> {
+    listed: Items<R>,
+}
+
+impl<R> Model for References<R> {
+    ghost use Rattle.std.specs.Prelude.{◌≡◌, ◌⊎◌, List, length};
+    ghost use Rattle.std.specs.Coded.{coded_list};
+
+    ghost Value = { List R };
+
+    ghost coded = { coded_list R.code };
+
+    ghost view = { λ r. r.listed };
+
+    ghost invariant = { λ r. (length r.listed ≡ 1) ⊎ (length r.listed ≡ 2) };
+}
+
+impl<R> References<R> {
+    /// One reference. It fails only for want of memory.
+    pub fn one(alloc: Global, only: R) -> Result<References<R>, AllocError>
+    where
+        R: Drop,
+        ensures { IfOk result (λ references. references ≡ only ∷ []) }
+    {
+        let mut listed = Items::new(alloc);
+        listed.push(only)?;
+        Ok(References { listed })
+    }
+
+    /// Two references, in their order. It fails only for want of memory.
+    pub fn two(alloc: Global, first: R, second: R) -> Result<References<R>, AllocError>
+    where
+        R: Drop,
+        ensures { IfOk result (λ references. references ≡ first ∷ second ∷ []) }
+    {
+        let mut listed = Items::new(alloc);
+        listed.push(first)?;
+        listed.push(second)?;
+        Ok(References { listed })
+    }
+
+    /// Lends the list of them.
+    pub fn as_slice(&self) -> &[R]
+        ensures { result.now ≡ self.now }
+    {
+        self.listed.as_slice()
+    }
+
+    /// Lends the first, and the second, where there are two.
+    pub fn parts(&self) -> (&R, Option<&R>)
+        ensures { self.now ≡ result.0.now ∷ option_to_list (option_copied result.1) }
+    {
+        let listed = self.listed.as_slice();
+        (&listed[0], listed.get(1))
+    }
+}
