@@ -1,37 +1,10 @@
 -- What the words of a command line order, by `clap`'s own definition of a command's matches.
-use Rattle.std.specs.Prelude.{◌≡◌, ◌⊎◌, List, Option, Some, true, codes, IsSome}
+use Rattle.std.specs.Prelude.{◌≡◌, ◌⊎◌, List, Option, Some, codes, IsSome}
 use Rattle.std.specs.String.{string_bytes}
-use Rattle.clap.specs.Words.{App, Row, Rule, Text, first_of, new_app, new_rule, subcommand_of, with_rule, with_subcommand}
-use Rattle.clap.specs.Simple.{on_top}
+use Rattle.clap.specs.Words.{Row, Text, first_of, subcommand_of}
+use Rattle.command_words.specs.Commands.{sfq}
 use Rattle.command_line.specs.declared.commands.Order.{Order}
 use Rattle.command_line.specs.declared.commands.Order.TheVariants as order
-
--- a word that has to be there, shown in help by one name
-abbrev pub required_word : Text → Rule
-required_word id = record (new_rule id) { required = true; value_names = 1 }
-
--- `run SCHEMA DIR QUERY`
-abbrev pub run : App
-run = with_rule (with_rule (with_rule (new_app (codes "run")) (required_word (codes "schema")))
-    (required_word (codes "directory"))) (required_word (codes "query"))
-
--- `check SCHEMA DIR`
-abbrev pub check : App
-check = with_rule (with_rule (new_app (codes "check")) (required_word (codes "schema"))) (required_word (codes "directory"))
-
--- `relate WKT WKT`
-abbrev pub relate : App
-relate = with_rule (with_rule (new_app (codes "relate")) (required_word (codes "first")))
-    (required_word (codes "second"))
-
--- `sfq` without its subcommands, of which one has to be there; it has a version, and shows its help without any word
-abbrev pub bare_sfq : App
-bare_sfq = on_top (λ s. record s { has_version = true; subcommand_required = true; arg_required_else_help = true })
-    (new_app (codes "sfq"))
-
--- `sfq` with its subcommands
-abbrev pub sfq : App
-sfq = with_subcommand (with_subcommand (with_subcommand bare_sfq run.top) check.top) relate.top
 
 -- the name of the order's subcommand
 abbrev pub name_of : Order → Text

@@ -1,19 +1,18 @@
-//! The commands of `sfq`, and how its words are read by them.
+//! How the words of `sfq` are read by its commands.
 
-ghost use Rattle.std.specs.Prelude.{◌≡◌, [], true, false, codes, IfOk, IfErr, IfSome, IfNone, OnOk, IsOkAnd, option_map};
+ghost use Rattle.std.specs.Prelude.{◌≡◌, [], true, codes, IfOk, IfErr, IfSome, IfNone, OnOk, option_map};
 ghost use Rattle.std.specs.String.{string_bytes};
 ghost use Rattle.clap.specs.Walk.{texts};
-ghost use Rattle.clap.specs.Words.{app_of, rule_of, rows_of, found_of, first_value, subcommand_rows_of, takes, fault_of, kind_of, HasKind, with_rule, AddsSubcommand};
-ghost use Rattle.command_line.specs.Orders.{Orders, OrdersBy, HasWords, HasTextsOf, HasRunWords, HasCheckWords, HasRelateWords, name_of, required_word, bare_sfq, check, run, relate, sfq};
+ghost use Rattle.clap.specs.Words.{rows_of, found_of, first_value, subcommand_rows_of, takes, fault_of, kind_of, HasKind};
+ghost use Rattle.command_words.specs.Commands.{sfq};
+ghost use Rattle.command_line.specs.Orders.{Orders, OrdersBy, HasWords, HasTextsOf, HasRunWords, HasCheckWords, HasRelateWords, name_of};
 
 use crate::commands::Order;
 use crate::misuse::Misuse;
+use clap::ArgMatches;
 use clap::error::ErrorKind;
-use clap::{Arg, ArgMatches, Command};
+use command_words::sfq_command;
 use std::alloc::{AllocError, Global};
-
-/// What `--version` prints.
-const VERSION: &str = "0.1.0";
 
 /// Reads the words of a command line, the program's name first, by `clap`. At Ok they are the
 /// command and its words, and no step of `clap` refuses them. A misuse is memory that ran out or of a kind
@@ -118,188 +117,4 @@ fn text_of(alloc: Global, matches: &ArgMatches<'_>, id: &str) -> Result<Option<S
         Some(text) => Ok(Some(String::from_str(alloc, text)?)),
         None => Ok(None),
     }
-}
-
-// The whole command line: a subcommand has to be there.
-fn sfq_command<'a>(alloc: Global) -> Result<Command<'a>, AllocError>
-    ensures { IfOk result (λ c. app_of c ≡ sfq) }
-{
-    let with_run = with_command(bare_command(alloc), run_command(alloc))?;
-    let with_check = with_command(with_run, check_command(alloc))?;
-    with_command(with_check, relate_command(alloc))
-}
-
-// The command with one more subcommand, where there was memory for that.
-fn with_command<'a>(
-    command: Command<'a>,
-    subcommand: Result<Command<'a>, AllocError>,
-) -> Result<Command<'a>, AllocError>
-    ensures { IfOk result (λ c. IsOkAnd subcommand.entry (λ s. AddsSubcommand command.entry s c)) }
-{
-    command.subcommand(subcommand?)
-}
-
-// What the help of `sfq` shows below its commands.
-const MORE: &str = "\
-Example, in a checkout:
-  sfq run examples/parcels/schema.sql examples/parcels 'SELECT id, name FROM parcel LIMIT 3'
-
-Statuses: 0 done, 2 the command line, 3 the schema, 4 a table, 5 the query or a geometry,
-6 a file or the output, 7 out of memory.
-
-The manual: man sfq, or man ./man/sfq.1 in a checkout. docs/FAULTS.md explains each fault.";
-
-// `sfq` before it has its subcommands. Without any word it shows its help.
-fn bare_command<'a>(alloc: Global) -> Command<'a>
-    ensures { app_of result ≡ bare_sfq }
-{
-    let about = "Runs SQL over tables of an integer grid, by exact geometry";
-    Command::new(alloc, "sfq")
-        .about(about)
-        .version(VERSION)
-        .subcommand_required(true)
-        .arg_required_else_help(true)
-        .after_help(MORE)
-}
-
-// The word that names the schema's file.
-fn schema_word<'a>(alloc: Global) -> Arg<'a>
-    ensures rule { rule_of result ≡ required_word (codes "schema") }
-    ensures local { result.global ≡ false }
-{
-    word(
-        alloc,
-        "schema",
-        "SCHEMA",
-        "The file of CREATE TABLE statements",
-    )
-}
-
-// The word that names the directory of the tables.
-fn directory_word<'a>(alloc: Global) -> Arg<'a>
-    ensures rule { rule_of result ≡ required_word (codes "directory") }
-    ensures local { result.global ≡ false }
-{
-    word(
-        alloc,
-        "directory",
-        "DIR",
-        "The directory of the tables: t.csv for table t",
-    )
-}
-
-// What the help of `run` shows of a query.
-const EXAMPLES: &str = "\
-Examples of a QUERY:
-  SELECT name FROM parcel WHERE ST_Touches(geom, ST_GeomFromText('POINT(4 4)'))
-  SELECT b.id, p.name FROM building b JOIN parcel p ON ST_Within(b.geom, p.geom)
-  EXPLAIN ANALYZE SELECT COUNT(*) FROM parcel WHERE geom IS NULL
-
-Example, in a checkout:
-  sfq run examples/parcels/schema.sql examples/parcels 'SELECT id, name FROM parcel LIMIT 3'
-
-Statuses: 0 done, 3 the schema, 4 a table, 5 the query, 6 a file or the output,
-7 out of memory. docs/FAULTS.md and man sfq explain each fault.";
-
-// The command with the words that name the schema's file and the directory of the tables.
-fn with_places<'a>(alloc: Global, command: Command<'a>) -> Result<Command<'a>, AllocError>
-    ensures { IfOk result (λ c. app_of c ≡ with_rule (with_rule (app_of command.entry)
-        (required_word (codes "schema"))) (required_word (codes "directory"))) }
-{
-    command.arg(schema_word(alloc))?.arg(directory_word(alloc))
-}
-
-// The word that is the query.
-fn query_word<'a>(alloc: Global) -> Arg<'a>
-    ensures rule { rule_of result ≡ required_word (codes "query") }
-    ensures local { result.global ≡ false }
-{
-    word(
-        alloc,
-        "query",
-        "QUERY",
-        "The SELECT (after -- where it begins with a -)",
-    )
-}
-
-// `run SCHEMA DIR QUERY`
-fn run_command<'a>(alloc: Global) -> Result<Command<'a>, AllocError>
-    ensures { IfOk result (λ c. app_of c ≡ run) }
-{
-    let about = "Writes the rows that a SELECT means, as CSV";
-    let run = Command::new(alloc, "run").about(about).after_help(EXAMPLES);
-    with_places(alloc, run)?.arg(query_word(alloc))
-}
-
-// What the help of `check` shows below its words.
-const CHECKING: &str = "\
-Example, in a checkout:
-  sfq check examples/parcels/schema.sql examples/parcels
-
-Statuses: 0 done, 3 the schema, 4 a table, 6 a file or the output, 7 out of memory.
-docs/FAULTS.md and man sfq explain each fault.";
-
-// `check SCHEMA DIR`
-fn check_command<'a>(alloc: Global) -> Result<Command<'a>, AllocError>
-    ensures { IfOk result (λ c. app_of c ≡ check) }
-{
-    let about = "Loads every table and lists how many rows each has";
-    let check = Command::new(alloc, "check").about(about);
-    with_places(alloc, check.after_help(CHECKING))
-}
-
-// The word that is the first geometry.
-fn first_word<'a>(alloc: Global) -> Arg<'a>
-    ensures rule { rule_of result ≡ required_word (codes "first") }
-    ensures local { result.global ≡ false }
-{
-    word(
-        alloc,
-        "first",
-        "WKT",
-        "The first geometry, such as POINT(1 2)",
-    )
-}
-
-// The word that is the second geometry.
-fn second_word<'a>(alloc: Global) -> Arg<'a>
-    ensures rule { rule_of result ≡ required_word (codes "second") }
-    ensures local { result.global ≡ false }
-{
-    word(
-        alloc,
-        "second",
-        "WKT",
-        "The second geometry, such as MULTIPOINT((1 2),(3 4))",
-    )
-}
-
-// What the help of `relate` shows below its words.
-const RELATING: &str = "\
-Example:
-  sfq relate 'LINESTRING(-2 2,2 -2)' 'POLYGON((0 0,4 0,4 4,0 4,0 0))'
-
-Statuses: 0 done, 5 a geometry, 6 the output, 7 out of memory.
-docs/FAULTS.md and man sfq explain each fault.";
-
-// `relate WKT WKT`
-fn relate_command<'a>(alloc: Global) -> Result<Command<'a>, AllocError>
-    ensures { IfOk result (λ c. app_of c ≡ relate) }
-{
-    let about = "Writes the DE-9IM matrix of two geometries in well-known text";
-    let relate = Command::new(alloc, "relate")
-        .about(about)
-        .after_help(RELATING);
-    relate.arg(first_word(alloc))?.arg(second_word(alloc))
-}
-
-// A required word in its place.
-fn word<'a>(alloc: Global, id: &'a str, name: &'a str, help: &'a str) -> Arg<'a>
-    ensures rule { rule_of result ≡ required_word id.entry.now }
-    ensures local { result.global ≡ false }
-{
-    Arg::new(alloc, id)
-        .value_name(name)
-        .help(help)
-        .required(true)
 }

@@ -1,0 +1,30 @@
+-- The commands of `sfq` and their words, as `clap` knows them.
+use Rattle.std.specs.Prelude.{true, codes}
+use Rattle.clap.specs.Words.{App, Rule, Text, new_app, new_rule, with_rule, with_subcommand}
+use Rattle.clap.specs.Simple.{on_top}
+
+-- a word that has to be there, shown in help by one name
+abbrev pub required_word : Text → Rule
+required_word id = record (new_rule id) { required = true; value_names = 1 }
+
+-- `run SCHEMA DIR QUERY`
+abbrev pub run : App
+run = with_rule (with_rule (with_rule (new_app (codes "run")) (required_word (codes "schema")))
+    (required_word (codes "directory"))) (required_word (codes "query"))
+
+-- `check SCHEMA DIR`
+abbrev pub check : App
+check = with_rule (with_rule (new_app (codes "check")) (required_word (codes "schema"))) (required_word (codes "directory"))
+
+-- `relate WKT WKT`
+abbrev pub relate : App
+relate = with_rule (with_rule (new_app (codes "relate")) (required_word (codes "first")))
+    (required_word (codes "second"))
+
+-- `sfq` without its subcommands, of which one has to be there; it has a version
+abbrev pub bare_sfq : App
+bare_sfq = on_top (λ s. record s { has_version = true; subcommand_required = true }) (new_app (codes "sfq"))
+
+-- `sfq` with its subcommands
+abbrev pub sfq : App
+sfq = with_subcommand (with_subcommand (with_subcommand bare_sfq run.top) check.top) relate.top

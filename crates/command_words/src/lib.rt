@@ -1,0 +1,160 @@
+//! The commands of `sfq` with their words, as `clap` reads them. The crate `command_line` reads the words of a command line by
+//! them.
+#![tactic(auto)]
+
+ghost use Rattle.std.specs.Prelude.{◌≡◌, false, codes, IfOk, IsOkAnd};
+ghost use Rattle.clap.specs.Words.{app_of, rule_of, with_rule, AddsSubcommand};
+ghost use Rattle.command_words.specs.Commands.{required_word, bare_sfq, check, run, relate, sfq};
+
+use clap::{Arg, Command};
+use std::alloc::{AllocError, Global};
+
+/// What `--version` prints.
+const VERSION: &str = "0.1.0";
+
+/// The whole command line of `sfq`, in which a subcommand has to be there. It fails only if memory runs out.
+pub fn sfq_command<'a>(alloc: Global) -> Result<Command<'a>, AllocError>
+    ensures { IfOk result (λ c. app_of c ≡ sfq) }
+{
+    let with_run = with_command(bare_command(alloc), run_command(alloc))?;
+    let with_check = with_command(with_run, check_command(alloc))?;
+    with_command(with_check, relate_command(alloc))
+}
+
+// The command with one more subcommand, where there was memory for that.
+fn with_command<'a>(
+    command: Command<'a>,
+    subcommand: Result<Command<'a>, AllocError>,
+) -> Result<Command<'a>, AllocError>
+    ensures { IfOk result (λ c. IsOkAnd subcommand.entry (λ s. AddsSubcommand command.entry s c)) }
+{
+    command.subcommand(subcommand?)
+}
+
+// `sfq` before it has its subcommands.
+fn bare_command<'a>(alloc: Global) -> Command<'a>
+    ensures { app_of result ≡ bare_sfq }
+{
+    let about = "Answers SQL over tables of an integer grid, by exact geometry";
+    Command::new(alloc, "sfq")
+        .about(about)
+        .version(VERSION)
+        .subcommand_required(true)
+}
+
+// The word that names the schema's file.
+fn schema_word<'a>(alloc: Global) -> Arg<'a>
+    ensures rule { rule_of result ≡ required_word (codes "schema") }
+    ensures local { result.global ≡ false }
+{
+    word(
+        alloc,
+        "schema",
+        "SCHEMA",
+        "The file of CREATE TABLE statements",
+    )
+}
+
+// The word that names the directory of the tables.
+fn directory_word<'a>(alloc: Global) -> Arg<'a>
+    ensures rule { rule_of result ≡ required_word (codes "directory") }
+    ensures local { result.global ≡ false }
+{
+    word(
+        alloc,
+        "directory",
+        "DIR",
+        "The directory of the tables: t.csv for table t",
+    )
+}
+
+// What the help of `run` shows of a query.
+const EXAMPLES: &str = "\
+Examples of a QUERY:
+  SELECT name FROM parcel WHERE ST_Touches(geom, ST_GeomFromText('POINT(4 4)'))
+  SELECT b.id, p.name FROM building b JOIN parcel p ON ST_Within(b.geom, p.geom)
+  EXPLAIN ANALYZE SELECT COUNT(*) FROM parcel WHERE geom IS NULL";
+
+// The command with the words that name the schema's file and the directory of the tables.
+fn with_places<'a>(alloc: Global, command: Command<'a>) -> Result<Command<'a>, AllocError>
+    ensures { IfOk result (λ c. app_of c ≡ with_rule (with_rule (app_of command.entry)
+        (required_word (codes "schema"))) (required_word (codes "directory"))) }
+{
+    command.arg(schema_word(alloc))?.arg(directory_word(alloc))
+}
+
+// The word that is the query.
+fn query_word<'a>(alloc: Global) -> Arg<'a>
+    ensures rule { rule_of result ≡ required_word (codes "query") }
+    ensures local { result.global ≡ false }
+{
+    word(
+        alloc,
+        "query",
+        "QUERY",
+        "The SELECT (after -- where it begins with a -)",
+    )
+}
+
+// `run SCHEMA DIR QUERY`
+fn run_command<'a>(alloc: Global) -> Result<Command<'a>, AllocError>
+    ensures { IfOk result (λ c. app_of c ≡ run) }
+{
+    let about = "Writes the rows that a SELECT means, as CSV";
+    let run = Command::new(alloc, "run").about(about).after_help(EXAMPLES);
+    with_places(alloc, run)?.arg(query_word(alloc))
+}
+
+// `check SCHEMA DIR`
+fn check_command<'a>(alloc: Global) -> Result<Command<'a>, AllocError>
+    ensures { IfOk result (λ c. app_of c ≡ check) }
+{
+    let about = "Loads every table, and tells how many rows each has";
+    with_places(alloc, Command::new(alloc, "check").about(about))
+}
+
+// The word that is the first geometry.
+fn first_word<'a>(alloc: Global) -> Arg<'a>
+    ensures rule { rule_of result ≡ required_word (codes "first") }
+    ensures local { result.global ≡ false }
+{
+    word(
+        alloc,
+        "first",
+        "WKT",
+        "The first geometry, such as POINT(1 2)",
+    )
+}
+
+// The word that is the second geometry.
+fn second_word<'a>(alloc: Global) -> Arg<'a>
+    ensures rule { rule_of result ≡ required_word (codes "second") }
+    ensures local { result.global ≡ false }
+{
+    word(
+        alloc,
+        "second",
+        "WKT",
+        "The second geometry, such as MULTIPOINT((1 2),(3 4))",
+    )
+}
+
+// `relate WKT WKT`
+fn relate_command<'a>(alloc: Global) -> Result<Command<'a>, AllocError>
+    ensures { IfOk result (λ c. app_of c ≡ relate) }
+{
+    let about = "Writes the DE-9IM matrix of two geometries in well-known text";
+    let relate = Command::new(alloc, "relate").about(about);
+    relate.arg(first_word(alloc))?.arg(second_word(alloc))
+}
+
+// A required word in its place.
+fn word<'a>(alloc: Global, id: &'a str, name: &'a str, help: &'a str) -> Arg<'a>
+    ensures rule { rule_of result ≡ required_word id.entry.now }
+    ensures local { result.global ≡ false }
+{
+    Arg::new(alloc, id)
+        .value_name(name)
+        .help(help)
+        .required(true)
+}
