@@ -160,7 +160,7 @@ chosen-text matrix database stated plan explains.No is =
 chosen-text matrix database stated plan explains.Plan is = ap (λ p. option_map_or (explain_text (by_conjuncts stated)) p []) is
 chosen-text matrix database stated plan explains.Analyze is = ap (λ p. option_map_or (counted_text matrix database.tables stated) p []) is
 
--- what a query is bound to is the query as it stands, by its conjuncts
+-- what a query is bound to is the query as it is written, by its conjuncts
 stated-after : {X : Type 0} (s : Checked SpatialStatement) (bound : SpatialQuery) (of : SpatialStatement → X) (planned : SpatialQuery → X) → (s >>= (λ stated. Ok (by_conjuncts stated))) ≡ Ok bound
     → ((stated : SpatialStatement) → by_conjuncts stated ≡ bound → of stated ≡ planned bound) → after OfQuery s (λ q. Ok (of q)) ≡ Ok (planned bound)
 stated-after (Ok stated) bound of planned is same =

@@ -1,4 +1,4 @@
--- What a run answers and puts.
+-- What a run returns and writes.
 use Rattle.std.specs.Prelude.{◌≡◌, ◌<◌, ◌⊎◌, ⊤, ℕ, Bool, true, false, IfOk, IsOk, List, ◌∷◌, [], codes, length, map, Option, Result, Ok, Err}
 use Rattle.std.specs.Option.{option_map_or}
 use Rattle.std.specs.Io.KnownBytes.{Appends, Keeps}
@@ -58,7 +58,7 @@ count_text limit count = records_text record_text ((codes "COUNT(*)" ∷ []) ∷
 
 -- ---- plans
 
--- the work of a bound query by a plan: none where the plan alone is told, and a count of 64 bits
+-- the work of a bound query by a plan: none where the plan alone is printed, and a count of 64 bits
 abbrev pub planned_work : Explain → MatrixOf → List SpatialTable → SpatialQuery → Plan → ℕ
 planned_work explains.No matrix tables query plan = kept_count (work matrix denoted tables query plan)
 planned_work explains.Plan matrix tables query plan = 0
@@ -138,7 +138,7 @@ RunsOver serving result definitions records text old new =
 abbrev pub Counts : Result ℕ Fault → Result ℕ Refusal → Type 0
 Counts result outcome = IfOk result (λ work. outcome ≡ Ok work)
 
--- what a query over a database answers is its work, by every function that gives the matrix (06-103r4, 6.1.15)
+-- what a query over a database returns is its work, by every function that gives the matrix (06-103r4, 6.1.15)
 abbrev pub CountsQuery : Result ℕ Fault → SpatialDatabase → SelectQuery → Type 0
 CountsQuery result database query = ByEveryMatrix (λ matrix. Counts result (query_work matrix query database))
 

@@ -286,7 +286,7 @@ digits_complete A negative n [] tail p = absurd p
 digits_complete A negative n (u ∷ []) tail (digits, is) = rw (is_kind u.kind k.Integer digits, is) refl
 digits_complete A negative n (u ∷ v ∷ more) tail p = absurd p
 
--- The kind of the next token alone tells how an operand is read; for each kind that one begins with. A word: a function or a column
+-- The kind of the next token alone says how an operand is read; for each kind that one begins with. A word: a function or a column
 operand_of_word : (ts : List Token) → kind ts ≡ k.Word
     → operand ts ≡ called_or (operand_functions (place ts)) (λ l. and_then (column l) (λ x rest. Ok (o.Column x, rest))) ts
 unfolding operand sees same_kind
@@ -492,7 +492,7 @@ other_call word P a tail d p = rw (
   call_miss word (codes "ST_IsEmpty") P a tail p d.9,
 ) refl
 
--- before an operand stands no predicate that is a function
+-- before an operand is no predicate that is a function
 pub no_predicate : (x : ConditionOperand) (a : List Token) (m : Token) (tail : List Token) → IsOperand x a → EndsColumn m.kind
     → predicate (a ++ m ∷ tail) ≡ comparison (a ++ m ∷ tail)
 unfolding predicate same_kind same_name
@@ -692,7 +692,7 @@ first_empty at P a tail call =
     let hit : calls (codes "ST_IsEmpty") (a ++ tail) ≡ true = call_hit (codes "ST_IsEmpty") P a tail call in
     inr (m _ refl, inr (m _ refl, inr (m _ refl, inr (m _ refl, inr (m _ refl, inr (m _ refl, inr (m _ refl, inr (m _ refl, inr (m _ refl, inl (hit, refl))))))))))
 
--- each function that is a predicate is read with its test: its name chooses its reader, and its tree stands at the place of the name
+-- each function that is a predicate is read with its test: its name chooses its reader, and its tree is at the place of the name
 bool_complete : (bool x : Condition) (a b : List Token) (t : Token) (rest : List Token) → IsBool bool a → IsTest bool x b → EndsPredicate t.kind
     → predicate (a ++ (b ++ t ∷ rest)) ≡ Ok (x, t ∷ rest)
 bool_complete bool x a b t rest (inl (predicate, function, y, z, names, ex, call)) test f =
@@ -877,7 +877,7 @@ pub negation_group : (levels : ℕ) (m : Token) (ts : List Token) → m.kind ≡
 unfolding negation sees kind next same_kind
 negation_group levels m ts e = rw e refl
 
--- NOT is read with what stands behind it, where that is read with one level less
+-- NOT is read with what comes after it, where that is read with one level less
 nested_not : (levels : ℕ) (x y : Condition) (used : List Token) (t : Token) (rest : List Token) → x ≡ c.Not y
     → Complete (negation levels) (IsNegation levels) EndsPredicate → EndsPredicate t.kind
     → ((m : Token) × (d : List Token) × (used ≡ m ∷ d) × (m.kind ≡ k.Not) × IsNegation levels y d) → negation (suc levels) (used ++ t ∷ rest) ≡ Ok (x, t ∷ rest)
@@ -1118,7 +1118,7 @@ reference_complete x used t rest (inr (inr (table, given, ex, (a, b, e, p, q))))
 abbrev pub EndsSecond : TokenKind → Type 0
 EndsSecond kind = EndsCondition kind × EndsReference kind × (same_kind kind k.Comma ≡ false) × (same_kind kind k.Cross ≡ false) × (same_kind kind k.Inner ≡ false) × (same_kind kind k.Join ≡ false)
 
--- The next token tells the form of a second reference; for each form. None of its tokens: there is none
+-- The next token shows the form of a second reference; for each form. None of its tokens: there is none
 pub second_of_none : (t : Token) (rest : List Token) → EndsSecond t.kind → second (t ∷ rest) ≡ Ok ((None, None), t ∷ rest)
 unfolding sees kind
 second_of_none t rest f = rw (f.2, f.3, f.4, f.5) refl
@@ -1379,7 +1379,7 @@ pub where_ends : (kind : TokenKind) → kind ≡ k.Where → EndsSecond kind
 unfolding same_kind
 where_ends kind e = ends_by EndsSecond kind k.Where e (((((refl, refl), refl), refl), refl), (refl, refl, refl), refl, refl, refl, refl)
 
--- from LIMIT on, the next token may stand behind the condition of WHERE: it is LIMIT, or what stands at the end
+-- from LIMIT on, the next token may follow the condition of WHERE: it is LIMIT, or what is at the end
 limit_begins : (most : Option ℕ) (a b ts : List Token) → ts ≡ a ++ b → IsLimit most a → IsTail b → Begins EndsBoth ts
 limit_begins most a b ts e (inl (ex, none)) q =
     let tail : Begins EndsBoth b = begins_but EndsAll EndsBoth b (λ kind f. f.0) (tail_begins b q) in
@@ -1388,7 +1388,7 @@ limit_begins most a b ts e (inr (n, ex, p)) q =
     let m = one_first _ (IsRowCount n) a p in
     (m.0, m.1 ++ b, e ∙ ap (λ l. l ++ b) m.2, limit_ends m.0.kind m.3)
 
--- from WHERE on, the next token may stand behind a second reference: it is WHERE, or what may stand in its place
+-- from WHERE on, the next token may follow a second reference: it is WHERE, or what may be in its place
 where_begins : (filter : Option Condition) (a b ts : List Token) → ts ≡ a ++ b → IsWhere filter a → Begins EndsBoth b → Begins EndsSecond ts
 where_begins filter a b ts e (inl (ex, none)) tail = (tail.0, tail.1, e ∙ ap (λ l. l ++ b) none ∙ tail.2, tail.3.1)
 where_begins filter a b ts e (inr (y, ex, p)) tail = go (one_first _ (IsCondition y) a p)
@@ -1399,7 +1399,7 @@ where_begins filter a b ts e (inr (y, ex, p)) tail = go (one_first _ (IsConditio
 pub ends_reference : (kind known : TokenKind) → kind ≡ known → EndsReference known → EndsReference kind
 ends_reference kind known e h = ends_by EndsReference kind known e h
 
--- from the second reference on, the next token may stand behind the first: a comma, CROSS, INNER, JOIN, or what may in their place
+-- from the second reference on, the next token may follow the first: a comma, CROSS, INNER, JOIN, or what may in their place
 second_begins : (both : Second) (a b ts : List Token) → ts ≡ a ++ b → IsBoth both a → Begins EndsSecond b → Begins EndsReference ts
 unfolding same_kind
 second_begins both a b ts e (inl (ex, ey, none)) (t, more, g, f) = (t, more, e ∙ ap (λ l. l ++ b) none ∙ g, f.1)
@@ -1432,7 +1432,7 @@ query_by_steps told listed first both filter most ts ts0 ts1 ts2 ts3 ts4 ts5 ts6
 abbrev pub Rest6 : Option ℕ → List Token → Type 0
 Rest6 most ts = (tail : List Token) × (limited ts ≡ Ok (most, tail)) × (expect fault.Syntax k.End (after k.Semicolon tail) ≡ Ok (tt, [])) × Begins EndsBoth ts
 
--- The rest of a query is read part by part from its end, since each part is read by the token that stands behind it. From LIMIT on
+-- The rest of a query is read part by part from its end, since each part is read by the token that comes after it. From LIMIT on
 rest6 : (most : Option ℕ) (ts : List Token) → (IsLimit most ▸ IsTail) ts → Rest6 most ts
 rest6 most ts (a, b, e, p, q) = (
   b,
@@ -1445,7 +1445,7 @@ rest6 most ts (a, b, e, p, q) = (
 abbrev pub Rest5 : Option Condition → Option ℕ → List Token → Type 0
 Rest5 filter most ts = (mid : List Token) × (where_condition ts ≡ Ok (filter, mid)) × Rest6 most mid × Begins EndsSecond ts
 
--- from WHERE on: what follows begins with a token that may stand behind its condition
+-- from WHERE on: what follows begins with a token that may follow its condition
 rest5 : (filter : Option Condition) (most : Option ℕ) (ts : List Token) → (IsWhere filter ▸ IsLimit most ▸ IsTail) ts
     → Rest5 filter most ts
 rest5 filter most ts (a, b, e, p, q) =
@@ -1460,7 +1460,7 @@ rest5 filter most ts (a, b, e, p, q) =
 abbrev pub Rest4 : Second → Option Condition → Option ℕ → List Token → Type 0
 Rest4 both filter most ts = (mid : List Token) × (second ts ≡ Ok (both, mid)) × Rest5 filter most mid × Begins EndsReference ts
 
--- from the second reference on: what follows begins with a token that may stand behind it
+-- from the second reference on: what follows begins with a token that may follow it
 rest4 : (both : Second) (filter : Option Condition) (most : Option ℕ) (ts : List Token)
     → (IsBoth both ▸ IsWhere filter ▸ IsLimit most ▸ IsTail) ts → Rest4 both filter most ts
 rest4 both filter most ts (a, b, e, p, q) =
@@ -1480,7 +1480,7 @@ from_ends kind e = ends_by EndsItems kind k.From e ((refl, refl), refl)
 abbrev pub IsRest : SelectQuery → Phrase
 IsRest q = IsSecond q.second q.on ▸ IsWhere q.condition ▸ IsLimit q.limit ▸ IsTail
 
--- each rule is read as far as its phrase goes, by the token that stands behind it
+-- each rule is read as far as its phrase goes, by the token that comes after it
 pub select_complete : (q : SelectQuery) (ts : List Token) → IsSelect q ts → query ts ≡ Ok (q, [])
 select_complete q ts (a0, b0, e0, told, p) = at_select (one_first _ _ b0 p)
   where

@@ -143,7 +143,7 @@ right_refused sign left a m tail f p e h =
 cut_off : (used a b : List Token) (t : Token) (rest : List Token) → used ≡ a ++ b → (tail : List Token) → b ++ t ∷ rest ≡ tail → used ++ t ∷ rest ≡ a ++ tail
 cut_off used a b t rest e tail g = ap (λ l. l ++ t ∷ rest) e ∙ append_assoc a b (t ∷ rest) ∙ ap (λ l. a ++ l) g
 
--- a left side that is too big, whatever stands behind it
+-- a left side that is too big, whatever comes after it
 left_stops : (used a : List Token) (m : Token) (d : List Token) → used ≡ a ++ m ∷ d → IsAnyInteger a → Stops operand a → Stops predicate used
 left_stops used a m d e p (f, is, h) = (
   f,
@@ -168,7 +168,7 @@ right_stops sign left used a m d e p g (f, is, h) = (
 abbrev pub LeftMeets : List Token → List Token → Token → List Token → Type 0
 LeftMeets used a m d = ((left : ConditionOperand) × IsOperand left a) ⊎ Stops predicate used
 
--- a left side is an operand, or too big, and then the predicate is refused for it whatever stands behind
+-- a left side is an operand, or too big, and then the predicate is refused for it whatever comes after
 left_meets : (x : ConditionOperand) (used a : List Token) (m : Token) (d : List Token) → used ≡ a ++ m ∷ d → IsAnyOperand x a → LeftMeets used a m d
 left_meets x used a m d e (inl p) = inl (x, p)
 left_meets x used a m d e (inr p) = go (integer_meets a p)
@@ -389,7 +389,7 @@ bare_meets n x used p = go (predicate_meets x used p)
       λ t rest. let unseen = not_seen used (t ∷ rest) (any_predicate_begins x used p) in negation_predicate n (used ++ t ∷ rest) unseen.0 unseen.1 ∙ h t rest,
     )
 
--- NOT nests one level more than what stands behind it
+-- NOT nests one level more than what comes after it
 negated : (n : ℕ) (y : Condition) (used : List Token) → (IsToken k.Not ▸ IsNegation n y) used → IsNegation (suc n) (c.Not y) used
 unfolding IsNegationOf
 negated n y used p = inl (y, refl, p)
@@ -583,7 +583,7 @@ abbrev pub Prefix : List Token → Type 0
 Prefix a = (told : Explain) × (listed : Selection WrittenColumn) × (first : WrittenReference)
     × ((t : Token) (rest : List Token) → EndsReference t.kind → query (a ++ t ∷ rest) ≡ and_then (second (t ∷ rest)) (finish told listed first))
 
--- a front up to the first reference is read, since each part is read by the token that stands behind it
+-- a front up to the first reference is read, since each part is read by the token that comes after it
 prefix_read : (a : List Token) → BeforeSecond a → Prefix a
 prefix_read a (told, listed, first, (x, b, e, p, q)) = (told, listed, first, with_select (one_first _ (IsSelection listed ▸ IsToken k.From ▸ IsReference first) b q))
   where
@@ -634,13 +634,13 @@ filter_refused told listed first both m tail f word h =
 abbrev pub IsOn : WrittenReference → Phrase
 IsOn given = IsOptional k.Inner ▸ IsToken k.Join ▸ IsReference given ▸ IsToken k.On
 
--- a fault in the condition of ON is what JOIN is refused for, once what stands before the condition is read
+-- a fault in the condition of ON is what JOIN is refused for, once what comes before the condition is read
 on_steps : (given : WrittenReference) (ts ts1 ts2 ts3 : List Token) (f : QueryFault) → expect fault.Syntax k.Join ts ≡ Ok (tt, ts1) → reference ts1 ≡ Ok (given, ts2)
     → expect fault.Syntax k.On ts2 ≡ Ok (tt, ts3) → condition ts3 ≡ Err f → joined_on ts ≡ Err f
 unfolding joined_on
 on_steps given ts ts1 ts2 ts3 f e1 e2 e3 e4 = rw (e1, e2, e3, e4) refl
 
--- JOIN, a reference and ON are read, so a fault behind them is answered
+-- JOIN, a reference and ON are read, so a fault behind them is returned
 on_refused : (given : WrittenReference) (used tail : List Token) (f : QueryFault) → (IsToken k.Join ▸ IsReference given ▸ IsToken k.On) used → condition tail ≡ Err f
     → joined_on (used ++ tail) ≡ Err f
 on_refused given used tail f p h =
@@ -689,7 +689,7 @@ crossed_begins given used (inr p) =
 in_a_row : (before a b v tail : List Token) → before ≡ a ++ b → (before ++ v) ++ tail ≡ a ++ (b ++ (v ++ tail))
 in_a_row before a b v tail e = append_assoc before v tail ∙ ap (λ l. l ++ (v ++ tail)) e ∙ append_assoc a b (v ++ tail)
 
--- a fault in the condition of ON is what the query is refused for, since all that stands before it is read
+-- a fault in the condition of ON is what the query is refused for, since all that comes before it is read
 on_hits : (before v : List Token) (u : Token) → BeforeOn before → Hits condition v u → Hits query (before ++ v) u
 on_hits before v u (given, (a, b, e, p, q)) (f, at, h) = (
   f,
@@ -711,7 +711,7 @@ with_condition given x used more (i, v1, e1, inner, (j, v2, e2, join, (r, o, e3,
   (j, v2 ++ more, ap (λ l. l ++ more) e2 ∙ append_assoc j v2 more, join, (r, o ++ more, ap (λ l. l ++ more) e3 ∙ append_assoc r o more, reference, (o, more, refl, on, cond))),
 )
 
--- the references are read, and what follows them is read next, or a fault in the condition of ON is answered
+-- the references are read, and what follows them is read next, or a fault in the condition of ON is returned
 abbrev pub Through : List Token → Type 0
 Through before =
     ((told : Explain) × (listed : Selection WrittenColumn) × (first : WrittenReference) × (both : Second)
@@ -847,7 +847,7 @@ limit_hits before u (a, b, e, p, (w, c, e2, filter, q)) digits none = go (one_on
 
 -- ---- fronts of a condition
 
--- a fault behind NOT is answered with one level less; with none left NOT itself is too deep
+-- a fault behind NOT is returned with one level less; with none left NOT itself is too deep
 not_step : (opened : ℕ) (m : Token) (v : List Token) (u : Token) → m.kind ≡ k.Not → ((levels : ℕ) → suc opened + levels ≡ most_levels → Hits (negation levels) v u)
     → (levels : ℕ) → opened + levels ≡ most_levels → Hits (negation levels) (m ∷ v) u
 not_step opened m v u is hit zero count = (fault.TooDeep m.at, refl, λ rest. too_deep_not m (v ++ u ∷ rest) is)
@@ -855,7 +855,7 @@ not_step opened m v u is hit (suc levels) count =
     let inner = hit levels (omega (arith, count)) in
     (inner.0, inner.1, λ rest. negation_not levels m (v ++ u ∷ rest) is ∙ ap (λ r. and_then r (λ y rest. Ok (c.Not y, rest))) (inner.2 rest))
 
--- a fault behind `(` and parts of its condition is answered with one level less; with none left `(` itself is too deep
+-- a fault behind `(` and parts of its condition is returned with one level less; with none left `(` itself is too deep
 group_step : (opened : ℕ) (m : Token) (d v : List Token) (u : Token) → m.kind ≡ k.LeftParenthesis → AreParts d
     → ((levels : ℕ) → suc opened + levels ≡ most_levels → Hits (negation levels) v u) → (levels : ℕ) → opened + levels ≡ most_levels → Hits (negation levels) (m ∷ (d ++ v)) u
 group_step opened m d v u is parts hit zero count = (fault.TooDeep m.at, refl, λ rest. too_deep_left m ((d ++ v) ++ u ∷ rest) is)
@@ -979,7 +979,7 @@ deep_hit u (inl e) zero count = (fault.TooDeep u.at, refl, λ rest. too_deep_not
 deep_hit u (inr e) zero count = (fault.TooDeep u.at, refl, λ rest. too_deep_left u rest e)
 deep_hit u which (suc levels) count = absurd (omega (arith, count))
 
--- where a fault stands at a token, one is answered, whatever follows the token
+-- where a fault applies at a token, one is returned, whatever follows the token
 stands_hits : (before : List Token) (u : Token) (g : QueryFault) → StandsAt before u g → Hits query before u
 stands_hits before u (fault.TooDeep at) (is, (which, p)) =
     hits_at query (before ++ []) before u (append-nil before) (nested_hits most_levels before [] u p (deep_hit u which))
@@ -1017,7 +1017,7 @@ given_itself : {A : Type 0} (r : Result A QueryFault) → Gives fault.OutOfMemor
 given_itself (Ok x) = refl
 given_itself (Err f) = λ _. refl
 
--- where a fault stands at a token of a text, one that stands there or before is given
+-- where a fault applies at a token of a text, one that applies there or before is given
 pub first_is_given : (text : List ℕ) (r : Result SelectQuery QueryFault) → Gives fault.OutOfMemory (λ q. q) r (query_of text) → AnswersFirst text r
 first_is_given text r given before after t g short good cut stands =
     let h = stands_hits before t g stands in (
@@ -1027,6 +1027,6 @@ first_is_given text r given before after t g short good cut stands =
       subst (λ answer. Gives fault.OutOfMemory (λ q. q) r answer) (fault_given text (before ++ t ∷ after) h.0 short good cut (h.2 after)) given,
     )
 
--- where a fault stands at a token of a text, one that stands there or before is read
+-- where a fault applies at a token of a text, one that applies there or before is read
 pub first_is_read : (text : List ℕ) → AnswersFirst text (query_of text)
 first_is_read text = first_is_given text (query_of text) (given_itself (query_of text))

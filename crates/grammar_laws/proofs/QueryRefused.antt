@@ -314,7 +314,7 @@ unfolding integer
 integer_faults A negative E ts h =
     if_faults (sees k.Integer ts) _ _ E (λ is. digits_faults A E (place ts) (next ts) (integer_value negative (spelling ts)) (h is)) (λ _. λ e. absurd (false≢true e))
 
--- digits that are too big are refused at the token where the reader stands, behind the tokens that it took
+-- digits that are too big are refused at the token where the reader is, behind the tokens that it took
 big_here : (all : List Token) (P : Phrase) {V : Type 0} (value : List ℕ → Option V) (ts : List Token) → Took all P ts → sees k.Integer ts ≡ true → value (spelling ts) ≡ None
     → ((before : List Token) (t : Token) → P before → t.kind ≡ k.Integer → value t.text ≡ None → IsTooBig before t)
     → StandsIn all (fault.NumberTooBig (place ts))
@@ -343,7 +343,7 @@ operand_faults all ts took =
 
 -- ---- predicates
 
--- the right side stands behind the left one and the sign of comparison, where an operand may stand
+-- the right side comes after the left one and the sign of comparison, where an operand may be there
 compared_faults : (all : List Token) (opened : ℕ) (at : ℕ) (left : ConditionOperand) (start ts : List Token) (v : Option Comparison)
     → Took all (BeforeNegation opened) start → Took start (IsOperand left) ts → comparison_of (kind ts) ≡ v
     → Faults (compared_by at left v ts) (StandsIn all)
@@ -357,7 +357,7 @@ compared_faults all opened at left start ts (Some comparison) stood read e =
     (operand_faults all (next ts) (but (BeforeNegation opened ▸ O ▸ IsComparison comparison) BeforeOperand all (next ts) both (λ used p. (opened, inr (left, comparison, p)))))
     (λ right rest. tt)
 
--- the left side stands where the predicate does; IS NULL behind it has no further operand
+-- the left side is where the predicate is; IS NULL behind it has no further operand
 comparison_faults : (all : List Token) (opened : ℕ) (ts : List Token) → Took all (BeforeNegation opened) ts → Faults (comparison ts) (StandsIn all)
 unfolding comparison compared
 comparison_faults all opened ts took =
@@ -417,7 +417,7 @@ condition_of_faults part P C all E sound each =
     (λ ors ts took. chain_faults k.And c.And part P (C ▸ AreEnded (IsToken k.Or) (IsConjunction P) ors) all E (λ e. cc) sound
     (λ ands ts2 took2. each ors ands ts2 (regroup C (AreEnded (IsToken k.Or) (IsConjunction P) ors) (AreEnded (IsToken k.And) P ands) all ts2 took2)) ts took)
 
--- what stood before the parts of a condition, and those
+-- what came before the parts of a condition, and those
 with_parts : (C : Phrase) (ors ands : List Condition) (all ts : List Token)
     → Took all (C ▸ AreEnded (IsToken k.Or) (IsConjunction IsAnyNegation) ors ▸ AreEnded (IsToken k.And) IsAnyNegation ands) ts → Took all (C ▸ AreParts) ts
 with_parts C ors ands all ts took = but _ (C ▸ AreParts) all ts took (λ used p. (p.0, p.1, p.2, p.3, (ors, ands, p.4)))
@@ -479,7 +479,7 @@ negation_faults all (suc levels) opened count ts took =
     (next ts) (seq B (IsToken k.LeftParenthesis) all ts (next ts) took (one k.LeftParenthesis ts (λ e. cc) h)))
     (λ _. predicate_faults all opened ts took))
 
--- the parts of a whole condition, of ON or of WHERE, stand where no level is open yet
+-- the parts of a whole condition, of ON or of WHERE, are where no level is open yet
 condition_faults : (C : Phrase) (all : List Token) → ((ts : List Token) → Took all (C ▸ AreParts) ts → Took all (BeforeNegation 0) ts)
     → (ts : List Token) → Took all C ts → Faults (condition ts) (StandsIn all)
 condition_faults C all begins ts took =
@@ -488,7 +488,7 @@ condition_faults C all begins ts took =
 
 -- ---- queries
 
--- the condition of ON stands behind JOIN, the second reference and ON
+-- the condition of ON comes after JOIN, the second reference and ON
 joined_on_faults : (all start ts : List Token) → Took all BeforeSecond start → Took start (IsOptional k.Inner) ts
     → Faults (joined_on ts) (StandsIn all)
 unfolding joined_on BeforeNegation
@@ -517,7 +517,7 @@ second_faults all ts took =
     (λ _. if_faults (sees k.Inner ts || sees k.Join ts) _ _ E
     (λ _. joined_on_faults all ts (after k.Inner ts) took (optional k.Inner ts (λ e. cc))) (λ _. tt)))
 
--- JOIN and ON with what stands between them, apart from the condition
+-- JOIN and ON with what is between them, apart from the condition
 on_alone : (given : WrittenReference) (x : Condition) (used : List Token)
     → (IsOptional k.Inner ▸ IsToken k.Join ▸ IsReference given ▸ IsToken k.On ▸ IsCondition x) used
     → ((IsOptional k.Inner ▸ IsToken k.Join ▸ IsReference given ▸ IsToken k.On) ▸ IsCondition x) used
@@ -529,7 +529,7 @@ on_alone given x used (i, v1, e1, inner, (j, v2, e2, join, (r, v3, e3, reference
   cond,
 )
 
--- what stands up to the last table reference and its condition
+-- what comes up to the last table reference and its condition
 through_from : (both : Second) (used : List Token) → (BeforeSecond ▸ IsBoth both) used → ThroughFrom used
 through_from both used (a, b, e, p, inl (x, y, none)) = inl (subst BeforeSecond (sym (e ∙ ap (λ l. a ++ l) none ∙ append-nil a)) p)
 through_from both used (a, b, e, p, inr (inl (given, x, y, second))) = inr (inl (given, (a, b, e, p, second)))
@@ -541,7 +541,7 @@ through_from both used (a, b, e, p, inr (inr (given, on, x, y, joined))) = go (o
       (a ++ f, d, e ∙ ap (λ l. a ++ l) e3 ∙ sym (append_assoc a f d), (given, (a, f, refl, p, front)), any_condition on d cond),
     ))
 
--- the condition of WHERE stands behind the last reference and its condition
+-- the condition of WHERE comes after the last reference and its condition
 where_faults : (all ts : List Token) → Took all ThroughFrom ts → Faults (where_condition ts) (StandsIn all)
 unfolding where_condition BeforeNegation
 where_faults all ts took =
@@ -563,7 +563,7 @@ count_faults : (E : QueryFault → Type 0) (at : ℕ) (rest : List Token) (v : O
 count_faults E at rest None h = λ _. h refl
 count_faults E at rest (Some n) h = tt
 
--- the integer of LIMIT stands behind FROM, WHERE and LIMIT, and is refused where it is too big
+-- the integer of LIMIT comes after FROM, WHERE and LIMIT, and is refused where it is too big
 limit_faults : (filter : Option Condition) (all mid ts : List Token) → Took all ThroughFrom mid → Took mid (IsWhere filter) ts
     → Faults (limited ts) (StandsIn all)
 unfolding limit_number
@@ -579,7 +579,7 @@ limit_faults filter all mid ts took read =
     (λ _. λ e. absurd (false≢true e)))
     (λ _. tt)
 
--- each reader stands behind what those before it took, which is the front of the grammar that its fault asks for
+-- each reader comes after what those before it took, which is the front of the grammar that its fault asks for
 pub query_faults : (ts : List Token) → Faults (query ts) (StandsIn ts)
 unfolding query
 query_faults ts =
@@ -606,7 +606,7 @@ by_value : {A : Type 0} (text : List ℕ) (E : QueryFault → Type 0) (r : Outco
 by_value text E (Ok p) h = tt
 by_value text E (Err f) h = h
 
--- a fault at one of the tokens stands in the text, which isn't too long and is made of tokens
+-- a fault at one of the tokens applies in the text, which isn't too long and is made of tokens
 in_text : (text : List ℕ) (r : Result SelectQuery QueryFault) → length text ≤ most_bytes → bad_place (tokens true text) ≡ None
     → IfErr r (λ f. is_at_token f ≡ true → StandsIn (tokens true text) f) → IfErr r (StandsInQuery text)
 in_text text (Ok q) short good h = tt
@@ -619,7 +619,7 @@ by_place text None short good =
     (by_value text (StandsIn (tokens true text)) (query (tokens true text)) (query_faults (tokens true text)))
 by_place text (Some at) short bad = λ e. absurd (false≢true e)
 
--- a fault at a token that is read stands there
+-- a fault at a token that is read applies there
 pub query_of_stands : (text : List ℕ) → IfErr (query_of text) (StandsInQuery text)
 unfolding query_of
 query_of_stands text = go (nat_lt most_bytes (length text)) refl
@@ -628,7 +628,7 @@ query_of_stands text = go (nat_lt most_bytes (length text)) refl
     go true e = λ is. absurd (false≢true is)
     go false e = by_place text (bad_place (tokens true text)) (ltb-false most_bytes (length text) e) refl
 
--- a fault at a token that is given stands there
+-- a fault at a token that is given applies there
 pub given_stands : (text : List ℕ) (r : Result SelectQuery QueryFault) → Gives fault.OutOfMemory (λ q. q) r (query_of text) → IfErr r (StandsInQuery text)
 given_stands text (Ok q) given = tt
 given_stands text (Err f) given = λ is. subst (λ r. IfErr r (StandsInQuery text)) (given (λ e. memory f is e)) (query_of_stands text) is

@@ -317,7 +317,7 @@ unfolding kind next
 comparison_taken [] comparison h = absurd (cc)
 comparison_taken (t ∷ ts) comparison h = (t ∷ [], refl, h)
 
--- behind the left side of a comparison, a sign and an operand are read; where no sign stands there the reader refuses
+-- behind the left side of a comparison, a sign and an operand are read; where no sign is there the reader refuses
 compared_sound : (at : ℕ) (left : ConditionOperand) (ts : List Token) (v : Option Comparison) → comparison_of (kind ts) ≡ v
     → IfRead (compared_by at left v ts) (TookCompared at left ts)
 compared_sound at left ts None e = tt
@@ -337,7 +337,7 @@ null_sound {A} left ts = go (sees k.Not ts) refl
     go false h = then_read (expect fault.Syntax k.Null ts) _ (λ x rest. Took ts (IsToken k.Null) rest) _
         (λ x rest q. inl (refl, q)) (expect_sound k.Null ts (λ e. cc))
 
--- an operand, a sign and an operand are a predicate, which stands at the place of the first
+-- an operand, a sign and an operand are a predicate, which is at the place of the first
 compare_taken : (ts mid rest : List Token) (left : ConditionOperand) (x : Condition)
     → Took ts (IsOperand left) mid → TookCompared (place ts) left mid x rest → Took ts (IsPredicate x) rest
 compare_taken ts mid rest left x took (comparison, right, e, q) =
@@ -355,7 +355,7 @@ null_taken ts mid rest left x took h (inr (e, q)) =
     but _ _ ts rest (seq (IsOperand left) (IsToken k.Is ▸ IsToken k.Not ▸ IsToken k.Null) ts mid rest took (seq (IsToken k.Is) (IsToken k.Not ▸ IsToken k.Null) mid (next mid) rest (one k.Is mid (λ e. cc) h) q))
     (λ used p. inr (inr (inl (left, e, p))))
 
--- IS behind an operand tells a test for NULL from a comparison, and both are predicates
+-- IS behind an operand separates a test for NULL from a comparison, and both are predicates
 comparison_sound : Sound comparison IsPredicate
 unfolding comparison compared
 comparison_sound ts =
@@ -739,7 +739,7 @@ joined_sound ts =
     (reference_sound ts1))
     (expect_sound k.Join ts (λ e. cc))
 
--- the next token tells the form of a second reference: a comma, CROSS, or INNER or JOIN; else none is read
+-- the next token shows the form of a second reference: a comma, CROSS, or INNER or JOIN; else none is read
 pub second_sound : Sound second IsBoth
 second_sound ts =
     let Q : Second → List Token → Type 0 = λ both rest. Took ts (IsBoth both) rest in
@@ -852,7 +852,7 @@ end_sound : (ts : List Token) → EndsOnce ts → IfRead (expect fault.Syntax k.
 unfolding expect
 end_sound ts once = if_read (sees k.End ts) _ _ _ (λ h. (one k.End ts (λ e. cc) h, ended ts once h)) (λ _. tt)
 
--- what each reader takes is the phrase of its rule, and the phrases stand one behind the other
+-- what each reader takes is the phrase of its rule, and the phrases follow one another
 pub query_sound : (ts : List Token) → EndsOnce ts → IfRead (query ts) (λ q rest. IsSelect q ts)
 unfolding query
 query_sound ts once =

@@ -39,7 +39,7 @@ tested x = do
   is_to_hold ← comparand
   pure (call, is_to_hold)
 
--- what stands between the parentheses of ST_IsEmpty in a condition
+-- what is between the parentheses of ST_IsEmpty in a condition
 abbrev pub empty_argument : ℕ → Reader Condition
 empty_argument at = c.IsEmpty at <$> geometry
 
@@ -75,11 +75,11 @@ predicate_by None ts = comparison ts
 abbrev pub other_operand : Reader ConditionOperand
 other_operand ts = called_or (operand_functions (place ts)) (o.Column <$> column) ts
 
--- what stands between the parentheses of ST_AsText, as an operand
+-- what is between the parentheses of ST_AsText, as an operand
 abbrev pub text_argument : ℕ → Reader ConditionOperand
 text_argument at = o.AsText at <$> geometry
 
--- what stands between the parentheses of ST_Dimension, as an operand
+-- what is between the parentheses of ST_Dimension, as an operand
 abbrev pub dimension_argument : ℕ → Reader ConditionOperand
 dimension_argument at = o.Dimension at <$> geometry
 
@@ -87,15 +87,15 @@ dimension_argument at = o.Dimension at <$> geometry
 abbrev pub column_operand : Reader ConditionOperand
 column_operand = o.Column <$> column
 
--- what stands between the parentheses of ST_AsText, as an item
+-- what is between the parentheses of ST_AsText, as an item
 abbrev pub text_item : ℕ → Reader SelectItem
 text_item at = i.AsText at <$> column
 
--- what stands between the parentheses of ST_Dimension, as an item
+-- what is between the parentheses of ST_Dimension, as an item
 abbrev pub dimension_item : ℕ → Reader SelectItem
 dimension_item at = i.Dimension at <$> column
 
--- what stands between the parentheses of ST_IsEmpty, as an item
+-- what is between the parentheses of ST_IsEmpty, as an item
 abbrev pub empty_item : ℕ → Reader SelectItem
 empty_item at = i.IsEmpty at <$> column
 

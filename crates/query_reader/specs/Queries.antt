@@ -1,4 +1,4 @@
--- A query by its parts, as a reader reads them: what stands before FROM, the tables, and what stands after them.
+-- A query by its parts, as a reader reads them: what comes before FROM, the tables, and what comes after them.
 use Rattle.std.specs.Prelude.{ℕ, Option}
 use Rattle.table_model.specs.Parsers.{◌>>=◌, ◌>>◌, pure, eat, expect}
 use Rattle.table_model.specs.QueryReading.{Reader, Second, explained, selection, reference, second, where_condition, limited}

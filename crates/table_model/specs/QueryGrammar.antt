@@ -183,7 +183,7 @@ IsItem item ts =
     ((column : WrittenColumn) × (item ≡ i.Column column) × IsColumn column ts)
     ⊎ IsItemFunction item ts
 
--- items = '*' | item (',' item)* | 'COUNT' '(' '*' ')', which stands alone (SQL, the select list)
+-- items = '*' | item (',' item)* | 'COUNT' '(' '*' ')', which is alone (SQL, the select list)
 abbrev pub IsSelection : Selection WrittenColumn → Phrase
 IsSelection selection ts =
     ((selection ≡ l.All) × IsToken k.Star ts)
@@ -251,6 +251,6 @@ IsSelect query =
 unfoldable pub IsQuery : List ℕ → SelectQuery → Type 0
 IsQuery text query = (length text ≤ most_bytes) × (bad_place (tokens true text) ≡ None) × IsSelect query (tokens true text)
 
--- a reader of a text answers the query that it is, whichever that is; want of memory may stand in its place
+-- a reader of a text returns the query that it is, whichever that is, unless memory ran out
 abbrev pub AnswersQuery : List ℕ → Result SelectQuery QueryFault → Type 0
 AnswersQuery text result = (query : SelectQuery) → IsQuery text query → Gives fault.OutOfMemory (λ q. q) result (Ok query)

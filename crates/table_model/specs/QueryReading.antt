@@ -126,7 +126,7 @@ comparison_of k.Greater = Some m.Greater
 comparison_of k.GreaterOrEqual = Some m.GreaterOrEqual
 comparison_of _ = None
 
--- the rest of a comparison by its sign; where there is none the token can't stand there
+-- the rest of a comparison by its sign; where there is none the token can't be there
 abbrev pub compared_by : ℕ → ConditionOperand → Option Comparison → Reader Condition
 compared_by at left None = refuse fault.Syntax
 compared_by at left (Some comparison) = λ ts. (c.Compare at comparison left <$> operand) (next ts)
@@ -269,7 +269,7 @@ items = parts fault.Syntax k.Comma item []
 abbrev pub counted : Reader (Selection WrittenColumn)
 counted = expect fault.Syntax k.Star >> pure l.Count
 
--- the function that stands alone in the select list, COUNT (SQL, COUNT(*))
+-- the function that is alone in the select list, COUNT (SQL, COUNT(*))
 abbrev pub count_function : Functions (Selection WrittenColumn)
 count_function = (codes "COUNT", enclosed counted) ∷ []
 

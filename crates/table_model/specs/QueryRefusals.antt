@@ -38,24 +38,24 @@ IsAnyCondition = IsConditionOf IsAnyNegation
 
 -- ---- fronts of it
 
--- what stands up to the first table reference
+-- what comes up to the first table reference
 abbrev pub BeforeSecond : Phrase
 BeforeSecond ts =
     (told : Explain) × (selection : Selection WrittenColumn) × (first : WrittenReference)
     × (IsExplain told ▸ IsToken k.Select ▸ IsSelection selection ▸ IsToken k.From ▸ IsReference first) ts
 
--- what stands before the condition of ON
+-- what comes before the condition of ON
 abbrev pub BeforeOn : Phrase
 BeforeOn ts = (second : WrittenReference) × (BeforeSecond ▸ IsOptional k.Inner ▸ IsToken k.Join ▸ IsReference second ▸ IsToken k.On) ts
 
--- what stands up to the last table reference and its condition
+-- what comes up to the last table reference and its condition
 abbrev pub ThroughFrom : Phrase
 ThroughFrom ts =
     BeforeSecond ts
     ⊎ ((second : WrittenReference) × (BeforeSecond ▸ IsCrossed second) ts)
     ⊎ ((on : Condition) × (BeforeOn ▸ IsAnyCondition on) ts)
 
--- what stands before the condition of WHERE
+-- what comes before the condition of WHERE
 abbrev pub BeforeWhere : Phrase
 BeforeWhere = ThroughFrom ▸ IsToken k.Where
 
@@ -63,23 +63,23 @@ BeforeWhere = ThroughFrom ▸ IsToken k.Where
 abbrev pub IsAnyWhere : Phrase
 IsAnyWhere ts = (ts ≡ []) ⊎ ((condition : Condition) × (IsToken k.Where ▸ IsAnyCondition condition) ts)
 
--- what stands before the integer of LIMIT
+-- what comes before the integer of LIMIT
 abbrev pub BeforeLimit : Phrase
 BeforeLimit = ThroughFrom ▸ IsAnyWhere ▸ IsToken k.Limit
 
--- the parts of a condition that stand before one more: (conj 'OR')* (neg 'AND')*
+-- the parts of a condition that come before one more: (conj 'OR')* (neg 'AND')*
 abbrev pub AreParts : Phrase
 AreParts ts =
     (ors ands : List Condition)
     × (AreEnded (IsToken k.Or) (IsConjunction IsAnyNegation) ors ▸ AreEnded (IsToken k.And) IsAnyNegation ands) ts
 
--- what stands before a neg at which so many NOT and parentheses are open
+-- what comes before a neg at which so many NOT and parentheses are open
 unfoldable pub BeforeNegation : ℕ → Phrase
 BeforeNegation zero ts = ((BeforeOn ▸ AreParts) ts) ⊎ ((BeforeWhere ▸ AreParts) ts)
 BeforeNegation (suc opened) ts =
     (BeforeNegation opened ▸ IsToken k.Not) ts ⊎ (BeforeNegation opened ▸ IsToken k.LeftParenthesis ▸ AreParts) ts
 
--- what stands before an operand: before a predicate, or between a comparison's left side and its right
+-- what comes before an operand: before a predicate, or between a comparison's left side and its right
 abbrev pub BeforeOperand : Phrase
 BeforeOperand ts =
     (opened : ℕ)
@@ -101,13 +101,13 @@ IsTooBig before t =
     ⊎ ((integer_value true t.text ≡ None) × (BeforeOperand ▸ IsToken k.Minus) before)
     ⊎ ((limit_value t.text ≡ None) × BeforeLimit before))
 
--- a fault stands at a token, after these tokens; none of the others is one at a token
+-- a fault applies at a token, after these tokens; none of the others is one at a token
 abbrev pub StandsAt : List Token → Token → QueryFault → Type 0
 StandsAt before t (fault.TooDeep at) = (at ≡ t.at) × IsTooDeep before t
 StandsAt before t (fault.NumberTooBig at) = (at ≡ t.at) × IsTooBig before t
 StandsAt before t _ = ⊥
 
--- a fault stands at one of these tokens
+-- a fault applies at one of these tokens
 abbrev pub StandsIn : List Token → QueryFault → Type 0
 StandsIn ts f = (before after : List Token) × (t : Token) × (ts ≡ before ++ t ∷ after) × StandsAt before t f
 
@@ -117,14 +117,14 @@ is_at_token (fault.TooDeep at) = true
 is_at_token (fault.NumberTooBig at) = true
 is_at_token _ = false
 
--- a fault that is one of those at a token stands in the text, which isn't too long and is made of tokens
+-- a fault that is one of those at a token applies in the text, which isn't too long and is made of tokens
 abbrev pub StandsInQuery : List ℕ → QueryFault → Type 0
 StandsInQuery text f =
     is_at_token f ≡ true → (length text ≤ most_bytes) × (bad_place (tokens true text) ≡ None) × StandsIn (tokens true text) f
 
--- Where a fault stands at a token of a text that isn't too long and is made of tokens, a reader answers one that stands
--- at that token or before it: so the first that stands is answered, and a query or another fault only where none
--- stands. Want of memory may stand in its place.
+-- Where a fault applies at a token of a text that isn't too long and is made of tokens, a reader returns one that applies
+-- at that token or before it: so the first that applies is returned, and a query or another fault only where none
+-- applies. Running out of memory may come instead.
 abbrev pub AnswersFirst : List ℕ → Result SelectQuery QueryFault → Type 0
 AnswersFirst text result = (before after : List Token) (t : Token) (g : QueryFault)
     → length text ≤ most_bytes → bad_place (tokens true text) ≡ None → tokens true text ≡ before ++ t ∷ after → StandsAt before t g
