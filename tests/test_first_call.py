@@ -1,5 +1,4 @@
 """The first call in a fresh clone, and a call after ./build."""
-import os
 import shutil
 import subprocess
 import tempfile
@@ -39,15 +38,10 @@ class FreshClone(unittest.TestCase):
         cloned = subprocess.run(["git", "clone", "-q", ROOT, self.clone], capture_output=True, text=True)
         if cloned.returncode:
             self.skipTest(f"needs a git repository: {cloned.stderr.strip()}")
-        self.handed = unproved.HandedIn(room.name)
+        self.handed = unproved.HandedIn(room.name, self.clone)
 
     def by_rt_alone(self):
-        before = os.getcwd()
-        os.chdir(self.clone)
-        try:
-            words = self.handed.words(CALL)
-        finally:
-            os.chdir(before)
+        words = self.handed.words(CALL)
         ran, seconds = timed(["rt", "try", *self.handed.flags(), "--", *words], f"{self.clone}/crates/sfq")
         self.assertEqual((ran.stdout, ran.returncode), (PRINTS, 0), ran.stderr)
         return seconds

@@ -35,7 +35,7 @@ def by_one_try(calls):
     """Runs all calls on one build by `rt try --cases`: a case per call, whose words are the lines of a file."""
     with tempfile.TemporaryDirectory(prefix="sfq-calls-") as room:
         os.mkdir(f"{room}/cases")
-        handed = unproved.HandedIn(room)
+        handed = unproved.HandedIn(room, repository.ROOT)
         for at, words in enumerate(calls):
             if any("\n" in it for it in words):
                 raise ValueError("a word with a line break can't be a case")
@@ -65,9 +65,4 @@ def split(calls, out, said):
 
 def ask(calls):
     """Returns the answer to each call, in order. Paths in them count from the root of the repository."""
-    before = os.getcwd()
-    os.chdir(repository.ROOT)
-    try:
-        return by_program(calls) if repository.is_built() else by_one_try(calls)
-    finally:
-        os.chdir(before)
+    return by_program(calls) if repository.is_built() else by_one_try(calls)

@@ -164,11 +164,15 @@ def flat(suite):
             yield it
 
 
-def system_tests(counts, is_wanted):
-    """Runs the tests in tests/ that are wanted."""
+def find_tests():
+    """Returns the tests in tests/."""
     sys.path.insert(0, f"{ROOT}/tests")
     found = unittest.defaultTestLoader.discover(f"{ROOT}/tests", top_level_dir=f"{ROOT}/tests")
-    unittest.TestSuite(it for it in flat(found) if is_wanted(it)).run(Result(counts))
+    return list(flat(found))
+
+
+def system_tests(counts, tests):
+    unittest.TestSuite(tests).run(Result(counts))
 
 
 def marked(test, mark):
@@ -190,7 +194,7 @@ def programs():
 
 def without_proof(is_long):
     counts = Counts()
-    wanted = lambda it: is_long or not marked(it, "IS_LONG")
+    wanted = [it for it in find_tests() if is_long or not marked(it, "IS_LONG")]
     lint(counts)
     if shutil.which("rt"):
         parts = [(try_tests, counts, it) for it in reversed(repository.crates_with_tests())]
@@ -232,11 +236,13 @@ def with_proof():
 
     `rt ci` proves and runs the crates' tests and the programs, so they aren't run without proof too.
     """
-    counts = Counts()
+    counts, tests = Counts(), find_tests()
     lint(counts)
-    system_tests(counts, lambda it: not marked(it, "ASKS_PROGRAM") and not marked(it, "IS_LONG"))
+    system_tests(counts, [it for it in tests if not marked(it, "ASKS_PROGRAM") and not marked(it, "IS_LONG")])
     gate(counts)
-    system_tests(counts, lambda it: marked(it, "IN_GATE") or marked(it, "ASKS_PROGRAM") and not marked(it, "IS_LONG"))
+    asking = [it for it in tests if marked(it, "ASKS_PROGRAM") and (marked(it, "IN_GATE") or not marked(it, "IS_LONG"))]
+    others = [it for it in tests if marked(it, "IN_GATE") and not marked(it, "ASKS_PROGRAM")]
+    side_by_side([(system_tests, counts, others), (system_tests, counts, asking)])
     return counts.close()
 
 

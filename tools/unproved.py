@@ -43,18 +43,25 @@ def is_for_clap(words):
 
 
 class HandedIn:
-    """The files that the program gets, by their names in its folder, and the words that name them there."""
+    """The files that the program gets, by their names in its folder, and the words that name them there.
 
-    def __init__(self, room):
-        self.room, self.files, self.names = room, {}, {}
+    Copies are made in `room`. Paths count from `base`.
+    """
+
+    def __init__(self, room, base):
+        self.room, self.base, self.files, self.names = room, base, {}, {}
+
+    def at(self, path):
+        return os.path.join(self.base, path) if path else ""
 
     def name(self, path, kind):
         """Returns the name that stands for the path in the program's folder."""
-        key = kind, os.path.realpath(path) if path else ""
+        key = kind, os.path.realpath(self.at(path)) if path else ""
         return self.names.setdefault(key, f"{kind}{len(self.names)}")
 
     def take(self, name, path):
         """Hands in the file under the name. What is no plain file, such as a pipe, is read first."""
+        path = self.at(path)
         try:
             mode = os.stat(path).st_mode
             if stat.S_ISDIR(mode) or name in self.files or not os.access(path, os.R_OK):
@@ -72,7 +79,7 @@ class HandedIn:
     def tables(self, name, folder, schema):
         """Hands in each file of the folder that is named as a table that the schema's text can name."""
         try:
-            found = sorted(os.listdir(folder + "/"))
+            found = sorted(os.listdir(self.at(folder) + "/"))
         except OSError:
             return
         for it in found:
@@ -80,7 +87,7 @@ class HandedIn:
             if ending != ".csv" or "=" in it or os.fsencode(table) not in schema:
                 continue
             path = f"{folder}/{it}"
-            if os.path.isdir(path):
+            if os.path.isdir(self.at(path)):
                 # It opens and can't be read: it has to be a directory in the program's folder too.
                 self.files[f"{name}/{it}/nothing"] = os.devnull
             else:
@@ -208,7 +215,7 @@ def answer(words):
         sys.stderr.write("error: invalid UTF-8 was detected in one or more arguments\n")
         return 2
     with tempfile.TemporaryDirectory(prefix="sfq-") as room:
-        handed = HandedIn(room)
+        handed = HandedIn(room, os.getcwd())
         named = handed.words(words)
         out, said = run_rt(["try", *handed.flags(), "--", *named], room, show_waiting)
     clear_waiting()
