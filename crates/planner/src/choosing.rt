@@ -57,5 +57,10 @@ pub fn choose_by_counts<G, C>(
 {
     let conjuncts = query.conjuncts.as_slice();
     let nestings = lawful_nestings(alloc, &query.references, conjuncts)?;
-    plan_of(alloc, rows, conjuncts, first_of_least(rows, nestings.as_slice()))
+    plan_of(
+        alloc,
+        rows,
+        conjuncts,
+        first_of_least(rows, nestings.as_slice()),
+    )
 }

@@ -11,7 +11,11 @@ use crate::costs::cost;
 fn cheaper(rows: &[u32], least: Nesting, next: Nesting) -> Nesting
     ensures { result ≡ cheaper (λ n. spec.cost rows.now (accesses_in n)) (Some least) next }
 {
-    if cost(rows, least) <= cost(rows, next) { least } else { next }
+    if cost(rows, least) <= cost(rows, next) {
+        least
+    } else {
+        next
+    }
 }
 
 // The first of least cost.
