@@ -1,6 +1,5 @@
 mod PrintLemmas
 pub mod Bodies
-pub mod CutFacts
 pub mod Digits
 pub mod KeptFacts
 pub mod Names

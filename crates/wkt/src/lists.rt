@@ -8,10 +8,9 @@ ghost use Rattle.wkt.specs.ReadingSteps.{ReadsInMemory, repeats};
 ghost use Rattle.wkt.specs.ReadingSteps as steps;
 
 use crate::cursor::{ByteClass, Cursor};
-use crate::polygons::Polygons;
 use crate::positions::{padded_point, padded_position};
-use crate::{LineString, WktFault};
 use fraction::GridPoint;
+use geometries::{LineString, Polygons, WktFault};
 use std::alloc::Global;
 
 /// The most positions of a geometry.

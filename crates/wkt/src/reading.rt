@@ -10,35 +10,17 @@ ghost use Rattle.geometry_model.specs.TextRefusals.{IsRefused};
 ghost use Rattle.geometry_model.specs.WellKnownText.{Spells};
 ghost use Rattle.wkt.specs.ReadingSteps.{ReadsAs, ReadsInMemory, IsReadAs, empty_word, meant};
 ghost use Rattle.wkt.specs.ReadingSteps as steps;
-ghost use Rattle.wkt.specs.Shapes.{geometry_in};
-ghost use Rattle.wkt.specs.TextFaults.{text_fault};
+ghost use Rattle.geometries.specs.Shapes.{geometry_in};
+ghost use Rattle.geometries.specs.TextFaults.{text_fault};
 
 use crate::cursor::{ByteClass, Cursor};
-use crate::geometry::{Larger, Shape};
 use crate::lists::{POSITION_LIMIT, Room, line_positions, points, polygons, rings};
-use crate::polygons::Polygons;
 use crate::positions::padded_position;
-use crate::{Geometry, LineString, WktFault};
+use geometries::{Geometry, Larger, LineString, Polygons, Shape, WktFault};
 use geometry_model::TextFault;
 use std::alloc::Global;
 
-impl From<TextFault> for WktFault {
-    ghost use Rattle.std.specs.Prelude.{◌≡◌, Some};
-    ghost use Rattle.wkt.specs.TextFaults.{text_fault};
-
-    ghost from_gives = { λ fault e. text_fault e ≡ Some fault };
-
-    fn from(fault: TextFault) -> WktFault {
-        match fault {
-            TextFault::Syntax(at) => WktFault::Syntax(at),
-            TextFault::OffGrid(at) => WktFault::OffGrid(at),
-            TextFault::OutOfRange(at) => WktFault::OutOfRange(at),
-            TextFault::TooLong => WktFault::TooLong,
-        }
-    }
-}
-
-/// Reads the word EMPTY if a word comes next, and returns whether one does.
+/// Reads the word EMPTY where a word stands, and tells whether one does.
 #[tactic(auto, unfolding(crate::specs::ReadingSteps::empty_word))]
 fn reads_empty(cursor: &mut Cursor<'_>) -> Result<bool, TextFault>
     ensures { ReadsAs (λ empty. empty) (empty_word cursor.old) result cursor.new }

@@ -1,0 +1,4 @@
+pub mod Cuts
+pub mod KeptGeometries
+pub mod Shapes
+pub mod TextFaults
