@@ -21,9 +21,10 @@ abbrev pub relate : App
 relate = with_rule (with_rule (new_app (codes "relate")) (required_word (codes "first")))
     (required_word (codes "second"))
 
--- `sfq` without its subcommands, of which one has to be there; it has a version
+-- `sfq` without its subcommands, of which one has to be there; it has a version, and shows its help without any word
 abbrev pub bare_sfq : App
-bare_sfq = on_top (λ s. record s { has_version = true; subcommand_required = true }) (new_app (codes "sfq"))
+bare_sfq = on_top (λ s. record s { has_version = true; subcommand_required = true; arg_required_else_help = true })
+    (new_app (codes "sfq"))
 
 -- `sfq` with its subcommands
 abbrev pub sfq : App

@@ -31,7 +31,17 @@ fn with_command<'a>(
     command.subcommand(subcommand?)
 }
 
-// `sfq` before it has its subcommands.
+// What the help of `sfq` shows below its commands.
+const MORE: &str = "\
+Example, in a checkout:
+  sfq run examples/parcels/schema.sql examples/parcels 'SELECT id, name FROM parcel LIMIT 3'
+
+Statuses: 0 done, 2 the command line, 3 the schema, 4 a table, 5 the query or a geometry,
+6 a file or the output, 7 out of memory.
+
+The manual: man sfq, or man ./man/sfq.1 in a checkout. docs/FAULTS.md explains each fault.";
+
+// `sfq` before it has its subcommands. Without any word it shows its help.
 fn bare_command<'a>(alloc: Global) -> Command<'a>
     ensures { app_of result ≡ bare_sfq }
 {
@@ -40,6 +50,8 @@ fn bare_command<'a>(alloc: Global) -> Command<'a>
         .about(about)
         .version(VERSION)
         .subcommand_required(true)
+        .arg_required_else_help(true)
+        .after_help(MORE)
 }
 
 // The word that names the schema's file.
@@ -73,7 +85,13 @@ const EXAMPLES: &str = "\
 Examples of a QUERY:
   SELECT name FROM parcel WHERE ST_Touches(geom, ST_GeomFromText('POINT(4 4)'))
   SELECT b.id, p.name FROM building b JOIN parcel p ON ST_Within(b.geom, p.geom)
-  EXPLAIN ANALYZE SELECT COUNT(*) FROM parcel WHERE geom IS NULL";
+  EXPLAIN ANALYZE SELECT COUNT(*) FROM parcel WHERE geom IS NULL
+
+Example, in a checkout:
+  sfq run examples/parcels/schema.sql examples/parcels 'SELECT id, name FROM parcel LIMIT 3'
+
+Statuses: 0 done, 3 the schema, 4 a table, 5 the query, 6 a file or the output,
+7 out of memory. docs/FAULTS.md and man sfq explain each fault.";
 
 // The command with the words that name the schema's file and the directory of the tables.
 fn with_places<'a>(alloc: Global, command: Command<'a>) -> Result<Command<'a>, AllocError>
@@ -105,12 +123,21 @@ fn run_command<'a>(alloc: Global) -> Result<Command<'a>, AllocError>
     with_places(alloc, run)?.arg(query_word(alloc))
 }
 
+// What the help of `check` shows below its words.
+const CHECKING: &str = "\
+Example, in a checkout:
+  sfq check examples/parcels/schema.sql examples/parcels
+
+Statuses: 0 done, 3 the schema, 4 a table, 6 a file or the output, 7 out of memory.
+docs/FAULTS.md and man sfq explain each fault.";
+
 // `check SCHEMA DIR`
 fn check_command<'a>(alloc: Global) -> Result<Command<'a>, AllocError>
     ensures { IfOk result (λ c. app_of c ≡ check) }
 {
-    let about = "Loads every table, and tells how many rows each has";
-    with_places(alloc, Command::new(alloc, "check").about(about))
+    let about = "Loads every table and lists how many rows each has";
+    let check = Command::new(alloc, "check").about(about);
+    with_places(alloc, check.after_help(CHECKING))
 }
 
 // The word that is the first geometry.
@@ -139,12 +166,22 @@ fn second_word<'a>(alloc: Global) -> Arg<'a>
     )
 }
 
+// What the help of `relate` shows below its words.
+const RELATING: &str = "\
+Example:
+  sfq relate 'LINESTRING(-2 2,2 -2)' 'POLYGON((0 0,4 0,4 4,0 4,0 0))'
+
+Statuses: 0 done, 5 a geometry, 6 the output, 7 out of memory.
+docs/FAULTS.md and man sfq explain each fault.";
+
 // `relate WKT WKT`
 fn relate_command<'a>(alloc: Global) -> Result<Command<'a>, AllocError>
     ensures { IfOk result (λ c. app_of c ≡ relate) }
 {
     let about = "Writes the DE-9IM matrix of two geometries in well-known text";
-    let relate = Command::new(alloc, "relate").about(about);
+    let relate = Command::new(alloc, "relate")
+        .about(about)
+        .after_help(RELATING);
     relate.arg(first_word(alloc))?.arg(second_word(alloc))
 }
 
