@@ -162,7 +162,7 @@ class Faults:
         return self.found
 
     def row(self, place, part, header, fault, cell):
-        """Collects the examples of one row: between two `;` stands one example."""
+        """Collects the examples of one row: an example ends at a `;`."""
         for it in re.findall(r"(?:`[^`]*`|[^;`])+", cell):
             codes, at = re.findall(r"`([^`]*)`", it), re.search(r"\(at (\d+)", re.sub(r"`[^`]*`", "", it))
             if codes:
