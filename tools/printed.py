@@ -50,7 +50,7 @@ def fences(text):
 
 
 def follows(fence):
-    """Whether the block belongs to the one before it: no heading and at most a paragraph stand between."""
+    """Whether the block belongs to the one before it: no heading and at most a paragraph is between."""
     paragraphs = [it for it in re.split(r"\n\s*\n", fence.before.strip()) if it]
     return len(paragraphs) < 2 and not re.search(r"^#", fence.before, re.M)
 
@@ -162,7 +162,7 @@ class Faults:
         return self.found
 
     def row(self, place, part, header, fault, cell):
-        """Collects the examples of one row: between two `;` stands one example."""
+        """Collects the examples of one row: an example ends at a `;`."""
         for it in re.findall(r"(?:`[^`]*`|[^;`])+", cell):
             codes, at = re.findall(r"`([^`]*)`", it), re.search(r"\(at (\d+)", re.sub(r"`[^`]*`", "", it))
             if codes:
@@ -171,7 +171,7 @@ class Faults:
                 self.found.append(Shown(place, words, line + "\n", status))
 
     def call(self, part, header, line, text, codes):
-        """Returns the call that the example stands for, and the status of its part of the document."""
+        """Returns the call that the example means, and the status of its part of the document."""
         if "schema" in part:
             return ["run", *self.database(codes[0]), "SELECT id FROM t"], 3
         if "query" in part:

@@ -82,9 +82,9 @@ def crates_with_tests(root=ROOT):
 
 def version(root=ROOT):
     """Returns the version that `sfq --version` prints."""
-    for path in files_of("command_line", root):
+    for path in sorted(glob.glob(f"{root}/crates/command_*/src/*.rt")):
         with open(path, encoding="utf-8") as text:
             found = re.search(r'VERSION: &str = "([^"]+)"', text.read())
             if found:
                 return found[1]
-    fail("crates/command_line names no version")
+    fail("no crate of the command line names a version")

@@ -1,4 +1,4 @@
-"""Answers one call of sfq by an unproved build with run-time checks, which `rt try` makes anew for each call.
+"""Runs one call of sfq by an unproved build with run-time checks, which `rt try` makes anew for each call.
 
 ./sfq runs this where ./build hasn't made the program. `rt try` runs the program in a folder of its own, so the schema and
 the tables are handed in. Standard output, standard error and the status are those of the program; where there is no whole
@@ -206,7 +206,7 @@ def pass_on(out, err, status):
 
 
 def answer(words):
-    """Answers the call, and returns the status."""
+    """Runs the call, and returns the status."""
     if not shutil.which("rt"):
         say("the command rt of the Rattle kit is needed to build the program")
         return NO_ANSWER
