@@ -4,9 +4,9 @@ use engine::{Fault, run};
 use feature_table::Schema;
 use rtree::{Envelope, EnvelopeIndex, ListIndex};
 use schema_reader::read_schema;
+use sinks::MemorySink;
 use std::alloc::{AllocError, Global};
 use std::test::Fail;
-use wkt::MemorySink;
 
 const SCHEMA: &[u8] = b"CREATE TABLE big (id INTEGER PRIMARY KEY, geom POINT);";
 

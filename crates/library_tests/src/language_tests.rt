@@ -1,55 +1,8 @@
-//! The whole query language, with places counted by hand.
+//! The trees of queries as they are read, with places counted by hand.
 
 use query_reader::{Argument, read_query};
 use std::test::Fail;
-use table_model::faults::QueryFault;
 use table_model::queries::{Explain, WrittenCond, WrittenPredicate};
-
-/// The first fault of a text, with its byte.
-#[test]
-fn texts_are_taken_or_refused(rt: HostRuntime) {
-    for (text, fault) in &[
-        ("SELECT id FROM t WHERE", Some(QueryFault::Syntax(22))),
-        ("SELECT id -- c\n", Some(QueryFault::Syntax(15))),
-        (
-            "SELECT id FROM t WHERE name = 'b",
-            Some(QueryFault::Lex(30)),
-        ),
-        (
-            "SELECT id FROM t WHERE a = - 9223372036854775809",
-            Some(QueryFault::NumberTooBig(29)),
-        ),
-        (
-            "SELECT id FROM t AS explain WHERE NOT a IS NOT NULL -- all",
-            None,
-        ),
-        (
-            "SELECT a.id FROM t a WHERE (a.id <> 1 OR name != 'it''s') AND +5 < 6;",
-            None,
-        ),
-        ("ANALYZE SELECT id FROM t", Some(QueryFault::Syntax(0))),
-        ("SELECT id FROM t, u, v", Some(QueryFault::Syntax(19))),
-        (
-            "SELECT id FROM t CROSS JOIN u ON a = b",
-            Some(QueryFault::Syntax(30)),
-        ),
-        (
-            "SELECT id FROM big LIMIT 9223372036854775808",
-            Some(QueryFault::NumberTooBig(25)),
-        ),
-        ("SELECT COUNT(*), id FROM t", Some(QueryFault::Syntax(15))),
-        (
-            "SELECT id FROM t WHERE ST_IsEmpty(geom) = 2",
-            Some(QueryFault::Syntax(42)),
-        ),
-        (
-            "SELECT COUNT(*) FROM t WHERE ST_Within(ST_GeomFromText('POINT (1 2)'), geom)",
-            None,
-        ),
-    ] {
-        assert!(rt; read_query(rt.alloc(), text).err() == *fault);
-    }
-}
 
 // Where a predicate starts.
 fn predicate_at(cond: &WrittenCond<'_, Argument<'_>>) -> Option<usize> {

@@ -1,9 +1,10 @@
 //! What geometries show, and what is printed of them.
 
 use geometry_model::{GeometryType, Kind, TextFault};
+use sinks::MemorySink;
+use sinks::devices::StopSink;
 use std::alloc::{AllocError, Global};
 use std::test::Fail;
-use wkt::devices::StopSink;
 use wkt::{WktFault, print, read};
 
 type Shown = (GeometryType, Kind, bool, usize, usize, usize);
@@ -61,6 +62,26 @@ fn geometries_show_their_parts(rt: HostRuntime) -> Result<(), Fail> {
         ),
     ] {
         assert!(rt; shown(rt.alloc(), text)? == *wanted);
+    }
+    Ok(())
+}
+
+/// Lines of one position are printed, which no table and no query takes.
+#[test]
+fn lines_of_one_position(rt: HostRuntime) -> Result<(), Fail> {
+    for (text, canonical) in &[
+        ("LINESTRING(3 3,3 3,3 3)", "LINESTRING(3 3)"),
+        ("LINESTRING(5 6)", "LINESTRING(5 6)"),
+        (
+            "multilinestring ( (0 0, 1 1) ,( 5 5,5 5 ) )",
+            "MULTILINESTRING((0 0,1 1),(5 5))",
+        ),
+    ] {
+        for spelled in &[*text, *canonical] {
+            let mut sink = MemorySink::new(rt.alloc());
+            print(&read(rt.alloc(), spelled.as_bytes())?, &mut sink)?;
+            assert!(rt; sink.bytes() == canonical.as_bytes());
+        }
     }
     Ok(())
 }

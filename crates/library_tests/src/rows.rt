@@ -1,11 +1,8 @@
 //! Tables of tests, a row a line, and what their parts say.
 
-use crate::shapes::{self, valid};
-use de9im::{Matrix, Work, relate};
+use crate::shapes;
 use fraction::GridPoint;
-use geometry_model::Kind;
 use orient::Segment;
-use std::alloc::Global;
 use std::test::Fail;
 
 /// The three parts of a row.
@@ -34,16 +31,4 @@ pub(crate) fn segment(text: &str) -> Result<Segment, Fail> {
     let (start, end) = text.split_once(" to ").ok_or("a segment has two ends")?;
     let segment = Segment::new(position(start)?, position(end)?);
     Ok(segment.ok_or("equal ends")?)
-}
-
-/// The matrix of two texts, and the kinds of both geometries.
-pub(crate) fn related(
-    alloc: Global,
-    first: &str,
-    second: &str,
-    work: &mut Work,
-) -> Result<(Matrix, Kind, Kind), Fail> {
-    let (first, second) = (valid(alloc, first)?, valid(alloc, second)?);
-    let matrix = relate(alloc, &first, &second, work)?;
-    Ok((matrix, first.kind(), second.kind()))
 }

@@ -1,4 +1,4 @@
-//! Where points lie in geometries.
+//! Where points stand in geometries, and the labels of two.
 
 use crate::rows::{number, parts_of, position};
 use crate::shapes::valid;
@@ -7,36 +7,10 @@ use side_labels::{Labels, Location, labels, locate};
 use std::alloc::Global;
 use std::test::Fail;
 
-// A geometry, a point by both numerators and the denominator, and where it lies. A closed line has no boundary, two ends at
-// one point cancel, and three don't.
-const LOCATED: &str = "POINT(1 2) | 1 2 over 1 | interior
-POINT(1 2) | 2 1 over 1 | exterior
-POINT(3 1) | 3 1 over 2 | exterior
+// A geometry, a point between the positions of the grid by both numerators and the denominator, and where it stands.
+const LOCATED: &str = "POINT(3 1) | 3 1 over 2 | exterior
 POINT(3 1) | 6 2 over 2 | interior
-POINT EMPTY | 0 0 over 1 | exterior
-MULTIPOINT EMPTY | 0 0 over 1 | exterior
-MULTIPOINT((1 2),(3 4)) | 1 2 over 1 | interior
-MULTIPOINT((1 2),(3 4)) | 3 4 over 1 | interior
-MULTIPOINT((1 2),(3 4)) | 1 4 over 1 | exterior
-MULTIPOINT(1 1,1 1) | 1 1 over 1 | interior
-LINESTRING(0 0,2 1,4 0) | 0 0 over 1 | boundary
-LINESTRING(0 0,2 1,4 0) | 2 1 over 1 | interior
-LINESTRING(0 0,2 1,4 0) | 2 0 over 1 | exterior
-LINESTRING(0 0,2 1,4 0) | 2 1 over 2 | interior
-LINESTRING(0 0,2 0,2 2,0 0) | 0 0 over 1 | interior
-LINESTRING EMPTY | 0 0 over 1 | exterior
-MULTILINESTRING((0 0,2 0),(2 0,4 0)) | 2 0 over 1 | interior
-MULTILINESTRING((0 0,2 0),(2 0,4 0),(2 0,2 2)) | 2 0 over 1 | boundary
-POLYGON((0 2,2 0,4 2,2 4,0 2)) | 2 1 over 1 | interior
-POLYGON((0 2,2 0,4 2,2 4,0 2)) | 2 2 over 1 | interior
-POLYGON((0 2,2 0,4 2,2 4,0 2)) | 4 2 over 1 | boundary
-POLYGON((0 0,10 0,10 10,0 10,0 0),(4 4,6 4,6 6,4 6,4 4)) | 5 5 over 1 | exterior
-POLYGON((0 0,10 0,10 10,0 10,0 0),(4 4,6 4,6 6,4 6,4 4)) | 4 5 over 1 | boundary
-POLYGON((0 0,10 0,10 10,0 10,0 0),(4 4,6 4,6 6,4 6,4 4)) | 2 5 over 1 | interior
-MULTIPOLYGON(((0 0,4 0,4 4,0 4,0 0)),((6 0,8 0,8 4,6 4,6 0))) | 5 2 over 1 | exterior
-MULTIPOLYGON(((0 0,4 0,4 4,0 4,0 0)),((6 0,8 0,8 4,6 4,6 0))) | 7 2 over 1 | interior
-MULTIPOLYGON(((0 0,9 0,9 9,0 9,0 0),(2 2,8 2,8 8,2 8,2 2)),((4 4,6 4,6 6,4 6,4 4))) | 3 3 over 1 | exterior
-MULTIPOLYGON(((0 0,9 0,9 9,0 9,0 0),(2 2,8 2,8 8,2 8,2 2)),((4 4,6 4,6 6,4 6,4 4))) | 5 5 over 1 | interior";
+LINESTRING(0 0,2 1,4 0) | 2 1 over 2 | interior";
 
 // The point of two numerators over a denominator.
 fn point(text: &str) -> Result<RatPoint, Fail> {
@@ -48,7 +22,7 @@ fn point(text: &str) -> Result<RatPoint, Fail> {
     Ok(RatPoint::reduced(i128::from(at.x()), i128::from(at.y()), i64::from(w)))
 }
 
-// Where a point lies in the geometry of a text.
+// Where a point stands in the geometry of a text.
 fn located(alloc: Global, text: &str, point: &RatPoint) -> Result<&'static str, Fail> {
     Ok(match locate(&valid(alloc, text)?, point) {
         Location::Interior => "interior",

@@ -1,11 +1,13 @@
-//! Tests of sinks and records, of points, segments and envelopes, and of the texts, validity, location and relations
-//! of geometries.
+//! Tests of the libraries that need code: failing devices, counts of work, laws, and values of which no command prints
+//! anything. What a command prints is tested by the rows of `scripts`.
 #![tactic(auto)]
 
 #[cfg(test)]
-mod area_validity_tests;
+mod bound_query_tests;
 #[cfg(test)]
 mod box_tests;
+#[cfg(test)]
+mod device_tests;
 #[cfg(test)]
 mod edge_tests;
 #[cfg(test)]
@@ -15,23 +17,27 @@ mod gap_tests;
 #[cfg(test)]
 mod index_tests;
 #[cfg(test)]
+mod language_tests;
+#[cfg(test)]
+mod law_tests;
+#[cfg(test)]
+mod loading_tests;
+#[cfg(test)]
 mod location_tests;
 #[cfg(test)]
+mod matrix_tests;
+#[cfg(test)]
 mod noding_tests;
+#[cfg(test)]
+mod order_tests;
 #[cfg(test)]
 mod pair_tests;
 #[cfg(test)]
 mod point_tests;
 #[cfg(test)]
-mod predicate_tests;
-#[cfg(test)]
 mod printing_tests;
 #[cfg(test)]
-mod reading_tests;
-#[cfg(test)]
 mod record_tests;
-#[cfg(test)]
-mod relation_tests;
 #[cfg(test)]
 mod rows;
 #[cfg(test)]
@@ -40,5 +46,7 @@ mod segment_tests;
 mod shapes;
 #[cfg(test)]
 mod sink_tests;
+#[cfg(test)]
+mod starved_index_tests;
 #[cfg(test)]
 mod validity_tests;

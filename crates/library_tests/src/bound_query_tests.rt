@@ -1,0 +1,71 @@
+//! What names and conditions of a query are bound to, with places counted by hand.
+
+use geometry_model::Predicate;
+use query_binder::{Bound, bind};
+use query_reader::read_query;
+use schema_reader::read_schema;
+use std::alloc::Global;
+use std::test::Fail;
+use table_model::conditions::{ColumnPlace, Cond, GeometryArgument, Item, Operand, Reference};
+
+const SCHEMA: &[u8] =
+    b"CREATE TABLE t (id INTEGER PRIMARY KEY, pop INTEGER, name TEXT, geom GEOMETRY);";
+
+fn bound(alloc: Global, text: &str) -> Result<Bound, Fail> {
+    let schema = read_schema(alloc, SCHEMA)?;
+    let query = read_query(alloc, text)?;
+    Ok(bind(alloc, &query, schema.tables())?)
+}
+
+// Whether this is the name of the first reference.
+fn names_first(references: &[Reference], name: &str) -> bool {
+    match references {
+        [first, ..] => first.name.as_slice() == name.as_bytes(),
+        [] => false,
+    }
+}
+
+// Whether a column and the text of another one are selected, each told by its reference and its place.
+fn selects(items: &[Item<ColumnPlace>], column: (usize, usize), text: (usize, usize)) -> bool {
+    match items {
+        [Item::Column(first), Item::AsText(second)] => {
+            (first.reference, first.column) == column && (second.reference, second.column) == text
+        }
+        _ => false,
+    }
+}
+
+/// Aliases as they are spelled, places of columns, conjuncts one after another, and a quote in a string.
+#[test]
+fn binds_every_part(rt: HostRuntime) -> Result<(), Fail> {
+    let query = bound(
+        rt.alloc(),
+        "SELECT a.NAME, ST_AsText(b.geom) FROM T AS A JOIN t b \
+         ON ST_Within(a.geom, ST_GeomFromText('POINT(1 2)')) = 0 \
+         WHERE ST_Relate(a.geom, b.geom, 't0*******') = 1 AND (a.name = 'o''k' AND b.pop > 2) LIMIT 3",
+    )?;
+    assert!(rt; query.limit == Some(3));
+    assert!(rt; names_first(query.references.as_slice(), "A"));
+    assert!(rt; selects(query.items.as_slice(), (0, 2), (1, 3)));
+    let [
+        Cond::Not(within),
+        Cond::Relates(Predicate::Relate(_), _, _),
+        named,
+        _,
+    ] = query.conjuncts.as_slice()
+    else {
+        panic!(rt; "other conjuncts")
+    };
+    let Cond::Relates(
+        Predicate::Within,
+        GeometryArgument::Column(_),
+        GeometryArgument::Literal(constant),
+    ) = within.get() else {
+        panic!(rt; "no constant")
+    };
+    assert!(rt; !constant.get().is_empty());
+    assert!(rt;
+        matches!(named, Cond::Compare(_, _, Operand::Text(bytes)) if bytes.as_slice() == b"o'k".as_slice())
+    );
+    Ok(())
+}

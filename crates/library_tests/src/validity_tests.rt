@@ -1,0 +1,66 @@
+//! Geometries of points and lines, and the faults that a refusal tells of.
+
+use crate::shapes::valid;
+use geometry_model::{Kind, ValidityFault};
+use std::test::Fail;
+use validity::CheckFault;
+
+#[test]
+fn points_and_lines_are_kept(rt: HostRuntime) -> Result<(), Fail> {
+    // The kind of a geometry, whether it is empty, and how many segments it has.
+    for (text, kind, is_empty, segments) in &[
+        ("POINT EMPTY", Kind::Point, true, 0),
+        ("POINT(1 2)", Kind::Point, false, 0),
+        ("MULTIPOINT EMPTY", Kind::Point, true, 0),
+        ("multipoint ( 3 4.0, -1 2 )", Kind::Point, false, 0),
+        ("LINESTRING EMPTY", Kind::Line, true, 0),
+        ("LINESTRING(0 0,0 0,1 1,1 1,0 0)", Kind::Line, false, 2),
+        ("linestring(-1 2, 3 4, 5 -6)", Kind::Line, false, 2),
+    ] {
+        let valid = valid(rt.alloc(), text)?;
+        assert!(rt; valid.kind() == *kind && valid.is_empty() == *is_empty);
+        assert!(rt; valid.segments().len() == *segments);
+    }
+    Ok(())
+}
+
+#[test]
+fn refusals_tell_the_fault(rt: HostRuntime) {
+    for (refusal, fault) in &[
+        (
+            CheckFault::TooFewPoints(3),
+            Some(ValidityFault::TooFewPoints(3)),
+        ),
+        (
+            CheckFault::RingNotClosed(0),
+            Some(ValidityFault::RingNotClosed(0)),
+        ),
+        (
+            CheckFault::RingNotSimple(1),
+            Some(ValidityFault::RingNotSimple(1)),
+        ),
+        (
+            CheckFault::RingsMeet(1, 2),
+            Some(ValidityFault::RingsMeet(1, 2)),
+        ),
+        (
+            CheckFault::HoleOutside(1),
+            Some(ValidityFault::HoleOutside(1)),
+        ),
+        (
+            CheckFault::HolesNested(1, 2),
+            Some(ValidityFault::HolesNested(1, 2)),
+        ),
+        (
+            CheckFault::ElementsMeet(0, 1),
+            Some(ValidityFault::ElementsMeet(0, 1)),
+        ),
+        (
+            CheckFault::ElementInside(1, 0),
+            Some(ValidityFault::ElementInside(1, 0)),
+        ),
+        (CheckFault::OutOfMemory, None),
+    ] {
+        assert!(rt; refusal.validity_fault() == *fault);
+    }
+}
