@@ -2,10 +2,13 @@
 
 use de9im::Work;
 use feature_table::{Database, Schema};
+use query_binder::{Bound, Cond, bind};
+use query_reader::read_query;
 use rtree::ListIndex;
-use spatial_sql::{Bound, Cond, Truth, bind, read_query, read_schema, value};
+use schema_reader::read_schema;
 use std::alloc::Global;
 use std::test::Fail;
+use truth::{Truth, value};
 
 const SCHEMA: &[u8] =
     b"CREATE TABLE t (id INTEGER PRIMARY KEY, pop INTEGER, name TEXT, geom GEOMETRY);";
@@ -50,7 +53,7 @@ fn truths(
 // A query over the table, bound.
 fn bound(alloc: Global, text: &str, database: &Database<'_, ListIndex>) -> Result<Bound, Fail> {
     let query = read_query(alloc, text)?;
-    Ok(bind(alloc, &query, database)?)
+    Ok(bind(alloc, &query, database.definitions())?)
 }
 
 // The truths of the first conjunct of a query at the rows of the loaded table.

@@ -4,7 +4,7 @@ use feature_table::TableDef;
 use geometry_model::{GeometryFault, Predicate, TextFault, ValidityFault};
 use query_binder::{Bound, QueryFault, bind};
 use query_reader::read_query;
-use spatial_sql::read_schema;
+use schema_reader::read_schema;
 use std::alloc::Global;
 use std::test::Fail;
 use table_model::conditions::{ColumnPlace, Cond, GeometryArgument, Item, Operand, Reference};

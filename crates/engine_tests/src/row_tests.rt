@@ -6,8 +6,10 @@ use de9im::Work;
 use executor::{RowPair, Rows};
 use feature_table::Database;
 use planner::choose;
+use query_binder::bind;
+use query_reader::read_query;
 use rtree::RTree;
-use spatial_sql::{bind, read_query, read_schema};
+use schema_reader::read_schema;
 use std::alloc::Global;
 use std::test::Fail;
 
@@ -18,7 +20,7 @@ fn first_of(
     query: &str,
 ) -> Result<(Option<RowPair>, u64), Fail> {
     let query = read_query(alloc, query)?;
-    let bound = bind(alloc, &query, database)?;
+    let bound = bind(alloc, &query, database.definitions())?;
     let plan = choose(alloc, database, &bound)?;
     let mut rows = Rows::new(alloc, database, &bound, &plan, Work::new());
     let first = match rows.next() {

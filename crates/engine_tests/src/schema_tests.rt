@@ -1,7 +1,7 @@
 //! Schemas, with places counted by hand.
 
 use feature_table::ColumnType;
-use spatial_sql::{SchemaFault, read_schema};
+use schema_reader::{SchemaFault, read_schema};
 use std::test::Fail;
 
 /// The first fault of a schema, with its byte.
