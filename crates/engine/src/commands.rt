@@ -1,22 +1,21 @@
 //! What the program does with its order, over readers and sinks of any kind.
 
 ghost use Rattle.std.specs.Prelude.{◌≡◌, length, IfOk};
-ghost use Rattle.engine.specs.Failures.{failure_status};
-ghost use Rattle.engine.specs.Runs.{IsOfTables};
+ghost use Rattle.failures.specs.Failures.{failure_status};
+ghost use Rattle.query_runs.specs.Runs.{IsOfTables};
 
-use crate::failure::{Failure, fault_line, status};
-use crate::relate::relate_texts;
-use crate::run_fault::Fault;
-use crate::runs::run;
 use command_line::Order;
+use failures::{Failure, Fault, fault_line, status};
 use feature_table::{Database, Schema};
 use itoa::Buffer;
+use query_runs::run;
 use rtree::{EnvelopeIndex, RTree};
-use spatial_sql::read_schema;
+use schema_reader::read_schema;
+use sinks::{Sink, SinkFault, put_parts};
 use std::alloc::{AllocError, Global};
 use std::io::{ErrorKind, Read};
 use table_model::tokens::TEXT_LIMIT;
-use wkt::{Sink, SinkFault, put_parts};
+use text_relation::relate_texts;
 
 /// The index that is kept of each geometry column.
 type ColumnIndex = RTree;

@@ -2,8 +2,7 @@
 
 use geometry_model::Predicate;
 use query_binder::{Bound, bind};
-use query_reader::read_query;
-use schema_reader::read_schema;
+use spatial_sql::{read_query, read_schema};
 use std::alloc::Global;
 use std::test::Fail;
 use table_model::conditions::{ColumnPlace, Cond, GeometryArgument, Item, Operand, Reference};

@@ -3,7 +3,7 @@
 use feature_table::{LoadFault, Records, Schema, Table};
 use fraction::GridPoint;
 use rtree::{Envelope, EnvelopeIndex, ListIndex};
-use schema_reader::read_schema;
+use spatial_sql::read_schema;
 use std::alloc::Global;
 use std::io::{self, Read};
 use std::test::Fail;

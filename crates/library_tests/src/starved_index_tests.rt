@@ -3,7 +3,7 @@
 use engine::{Fault, run};
 use feature_table::Schema;
 use rtree::{Envelope, EnvelopeIndex, ListIndex};
-use schema_reader::read_schema;
+use spatial_sql::read_schema;
 use sinks::MemorySink;
 use std::alloc::{AllocError, Global};
 use std::test::Fail;

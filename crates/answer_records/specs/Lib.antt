@@ -1,0 +1,2 @@
+pub mod RecordTexts
+pub mod AnswerFields

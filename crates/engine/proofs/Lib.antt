@@ -1,7 +1,0 @@
-pub mod TextLemmas
-pub mod PairLemmas
-pub mod ReaderLemmas
-pub mod RunLemmas
-pub mod PutLemmas
-pub mod RelationLemmas
-pub mod RecordLemmas

@@ -1,0 +1,5 @@
+pub mod PairLemmas
+pub mod ReaderLemmas
+pub mod RunLemmas
+pub mod PutLemmas
+pub mod RecordLemmas

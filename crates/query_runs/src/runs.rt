@@ -1,0 +1,339 @@
+//! A run: from a query's text and the tables' texts to the text of the answer.
+
+ghost use Rattle.std.specs.Prelude.{◌≡◌, ◌∷◌, [], ℕ, IfErr, IfOk, List, Ok, Some, length, map, OnOk};
+ghost use Rattle.csv.specs.Records.{fields_of};
+ghost use Rattle.std.specs.List.{concat};
+ghost use Rattle.query_runs.specs.Puts.{PutsText};
+ghost use Rattle.query_runs.specs.Runs.{AnswersQuery, CountsOver, CountsQuery, IsOfTables, RunsOver, bound_text, choice_text, count_after, count_text, planned_text, planned_work, rows_of_choices, rows_text};
+ghost use Rattle.answer_records.specs.RecordTexts.{record_text};
+ghost use Rattle.executor.specs.Pairs.{HasReferences, IsPlace, pair_rows};
+ghost use Rattle.executor.specs.Streams.{to_come, work_at_end};
+ghost use Rattle.feature_table.specs.Tables.{EachRecordsOf, records_in};
+ghost use Rattle.records.specs.RecordWriters.{CountsPut, IsReady};
+ghost use Rattle.table_model.specs.AnswerTexts.{record_of};
+ghost use Rattle.table_model.specs.Arguments.{denoted};
+ghost use Rattle.table_model.specs.BoundQueries.{IsBound, geometry_fits};
+ghost use Rattle.table_model.specs.ExplainTexts.{analyze_text, explain_text};
+ghost use Rattle.table_model.specs.GeometryColumns.{geometry_writing};
+ghost use Rattle.table_model.specs.Loading.{Record};
+ghost use Rattle.table_model.specs.Meanings.{referenced};
+ghost use Rattle.table_model.specs.Plans.{IsLawful};
+ghost use Rattle.table_model.specs.QueryReading.{query_of};
+ghost use Rattle.table_model.specs.RunOutcomes.{ByEveryMatrix, kept_count};
+ghost use Rattle.table_model.specs.Work as spec;
+
+use answer_records::{header_record, row_record};
+use csv::ByteRecord;
+use de9im::Work;
+use executor::{RowPair, Rows};
+use explain::{analyze, explain};
+use failures::Fault;
+use feature_table::{Database, Schema};
+use itoa::Buffer;
+use planner::choose;
+use records::{PutFault, RecordWriter};
+use rtree::EnvelopeIndex;
+use sinks::Sink;
+use spatial_sql::{Bound, Query, bind, read_query};
+use std::alloc::{AllocError, Global};
+use std::io::Read;
+use table_model::plans::Plan;
+use table_model::queries::Explain;
+
+/// Runs a query over the tables that the readers give, one for each table of the schema, in its order: reads
+/// the query, loads all tables, binds, chooses the plan, and writes the header and the rows, or what EXPLAIN prints. Where
+/// the readers' texts are known the answer is that of the records that `csv` reads of them; whatever the readers are,
+/// there are records of which this is the answer. The work returned is that of the chosen plan, and none under EXPLAIN.
+pub fn run<I: EnvelopeIndex + Drop, R: Read + Drop, S: Sink>(
+    alloc: Global,
+    schema: &Schema,
+    readers: Vec<R>,
+    query: &str,
+    sink: &mut S,
+) -> Result<Work, Fault>
+    requires { length readers.items ≡ length schema.now }
+    ensures texts { (texts : List (List ℕ)) → map R.remaining readers.items ≡ map Some texts
+        → RunsOver result schema.now (map records_in texts) query.now
+        (S.taken sink.old) (S.taken sink.new) }
+    ensures work { (texts : List (List ℕ)) → map R.remaining readers.items ≡ map Some texts
+        → CountsOver result schema.now (map records_in texts) query.now }
+    ensures records { (records : List (List Record)) × EachRecordsOf (map R.remaining readers.items) records
+        × RunsOver result schema.now records query.now (S.taken sink.old) (S.taken sink.new)
+        × CountsOver result schema.now records query.now }
+    ensures failures { S.failures sink.new ≡ count_after (S.failures sink.old) result }
+    ensures table { IfErr result (IsOfTables (length schema.now)) }
+{
+    let query = read_query(alloc, query)?;
+    load_and_answer::<I, R, S>(alloc, schema, readers, &query, sink)
+}
+
+// Loads all tables and runs a query over them. What is said of the query is said of each text that reads as it does.
+fn load_and_answer<I: EnvelopeIndex + Drop, R: Read + Drop, S: Sink>(
+    alloc: Global,
+    schema: &Schema,
+    readers: Vec<R>,
+    query: &Query<'_>,
+    sink: &mut S,
+) -> Result<Work, Fault>
+    requires { length readers.items ≡ length schema.now }
+    ensures texts { (text : List ℕ) (texts : List (List ℕ)) → query_of text ≡ Ok query.now
+        → map R.remaining readers.items ≡ map Some texts
+        → RunsOver result schema.now (map records_in texts) text (S.taken sink.old)
+        (S.taken sink.new) }
+    ensures work { (text : List ℕ) (texts : List (List ℕ)) → query_of text ≡ Ok query.now
+        → map R.remaining readers.items ≡ map Some texts
+        → CountsOver result schema.now (map records_in texts) text }
+    ensures records { (text : List ℕ) → query_of text ≡ Ok query.now
+        → (records : List (List Record)) × EachRecordsOf (map R.remaining readers.items) records
+        × RunsOver result schema.now records text (S.taken sink.old) (S.taken sink.new)
+        × CountsOver result schema.now records text }
+    ensures failures { S.failures sink.new ≡ count_after (S.failures sink.old) result }
+    ensures table { IfErr result (IsOfTables (length schema.now)) }
+{
+    let database: Database<'_, I> = Database::load(alloc, schema, readers)?;
+    answer_query(alloc, query, &database, sink)
+}
+
+// Runs a query over a database: binds it, chooses its plan, and writes its answer. At Ok all of the answer has been
+// written; nothing where the query isn't bound, and a beginning where the sink failed or memory ran out.
+fn answer_query<I: EnvelopeIndex + Drop, S: Sink>(
+    alloc: Global,
+    query: &Query<'_>,
+    database: &Database<'_, I>,
+    sink: &mut S,
+) -> Result<Work, Fault>
+    ensures answer { AnswersQuery result database.now query.now
+        (S.taken sink.old) (S.taken sink.new) }
+    ensures work { CountsQuery result database.now query.now }
+    ensures failures { S.failures sink.new ≡ count_after (S.failures sink.old) result }
+    ensures table { (count : ℕ) → IfErr result (IsOfTables count) }
+{
+    let bound = bind(alloc, query, database)?;
+    let plan = choose(alloc, database, &bound)?;
+    let work = put_planned(alloc, database, &bound, &plan, sink)?;
+    Ok(work)
+}
+
+// Writes what a bound query asks for, by a lawful plan, and returns the work.
+fn put_planned<I: EnvelopeIndex + Drop, S: Sink>(
+    alloc: Global,
+    database: &Database<'_, I>,
+    query: &Bound,
+    plan: &Plan,
+    sink: &mut S,
+) -> Result<Work, PutFault>
+    requires bound { IsBound geometry_fits database.now.definitions query.now }
+    requires lawful { IsLawful database.now.tables query.now plan.now }
+    ensures text { ByEveryMatrix (λ matrix. PutsText result
+        (planned_text query.now.explain matrix database.now query.now plan.now)
+        (S.taken sink.old) (S.taken sink.new) (S.failures sink.old) (S.failures sink.new)) }
+    ensures failures { CountsPut (S.failures sink.old) (S.failures sink.new) result }
+    ensures work { ByEveryMatrix (λ matrix. IfOk result (λ n. n
+        ≡ planned_work query.now.explain matrix database.now.tables query.now plan.now)) }
+{
+    match query.explain {
+        Explain::No => put_rows(alloc, database, query, plan, sink),
+        Explain::Plan => put_plan(query, plan, sink),
+        Explain::Analyze => put_analysis(alloc, database, query, plan, sink),
+    }
+}
+
+// Writes the rows that a bound query means as a lawful plan finds them, and returns the work.
+fn put_rows<I: EnvelopeIndex + Drop, S: Sink>(
+    alloc: Global,
+    database: &Database<'_, I>,
+    query: &Bound,
+    plan: &Plan,
+    sink: &mut S,
+) -> Result<Work, PutFault>
+    requires bound { IsBound geometry_fits database.now.definitions query.now }
+    requires lawful { IsLawful database.now.tables query.now plan.now }
+    ensures text { ByEveryMatrix (λ matrix. PutsText result
+        (bound_text matrix database.now query.now)
+        (S.taken sink.old) (S.taken sink.new) (S.failures sink.old) (S.failures sink.new)) }
+    ensures failures { CountsPut (S.failures sink.old) (S.failures sink.new) result }
+    ensures work { ByEveryMatrix (λ matrix. IfOk result (λ n. n
+        ≡ kept_count (spec.work matrix denoted database.now.tables query.now plan.now))) }
+{
+    let mut rows = Rows::new(alloc, database, query, plan, Work::new());
+    put_answer(alloc, database, query, &mut rows, sink)?;
+    Ok(rows.into_work())
+}
+
+// Writes what EXPLAIN prints of a plan. Nothing is executed, so there is no work.
+fn put_plan<S: Sink>(query: &Bound, plan: &Plan, sink: &mut S) -> Result<Work, PutFault>
+    ensures text { PutsText result (explain_text query.now plan.now)
+        (S.taken sink.old) (S.taken sink.new) (S.failures sink.old) (S.failures sink.new) }
+    ensures work { IfOk result (λ n. n ≡ 0) }
+{
+    explain(query, plan, sink)?;
+    Ok(Work::new())
+}
+
+// Executes a lawful plan to its end, writes what EXPLAIN ANALYZE prints of it, and returns the work.
+fn put_analysis<I: EnvelopeIndex + Drop, S: Sink>(
+    alloc: Global,
+    database: &Database<'_, I>,
+    query: &Bound,
+    plan: &Plan,
+    sink: &mut S,
+) -> Result<Work, PutFault>
+    requires bound { IsBound geometry_fits database.now.definitions query.now }
+    requires lawful { IsLawful database.now.tables query.now plan.now }
+    ensures text { ByEveryMatrix (λ matrix. PutsText result (analyze_text query.now plan.now
+        (kept_count (spec.work matrix denoted database.now.tables query.now plan.now)))
+        (S.taken sink.old) (S.taken sink.new) (S.failures sink.old) (S.failures sink.new)) }
+    ensures failures { CountsPut (S.failures sink.old) (S.failures sink.new) result }
+    ensures work { ByEveryMatrix (λ matrix. IfOk result (λ n. n
+        ≡ kept_count (spec.work matrix denoted database.now.tables query.now plan.now))) }
+{
+    let mut rows = Rows::new(alloc, database, query, plan, Work::new());
+    count_rows(&mut rows)?;
+    let work = rows.into_work();
+    analyze(query, plan, work.count(), sink)?;
+    Ok(work)
+}
+
+// Writes the answer of a query, of which these rows are still to come: how many there are under COUNT(*), else the header
+// and the record of each row, as it comes.
+fn put_answer<I: EnvelopeIndex + Drop, S: Sink>(
+    alloc: Global,
+    database: &Database<'_, I>,
+    query: &Bound,
+    rows: &mut Rows<'_, I>,
+    sink: &mut S,
+) -> Result<(), PutFault>
+    requires references { HasReferences database.now.definitions query.now.references }
+    requires tables { rows.old.tables ≡ referenced database.now.tables query.now.references }
+    ensures text { ByEveryMatrix (λ matrix. PutsText result
+        (rows_text database.now query.now
+        (rows_of_choices database.now query.now (to_come matrix rows.old)))
+        (S.taken sink.old) (S.taken sink.new) (S.failures sink.old) (S.failures sink.new)) }
+    ensures work { ByEveryMatrix (λ matrix. OnOk result (rows.new.work ≡ work_at_end matrix rows.old)) }
+{
+    let mut writer = RecordWriter::new(alloc);
+    if query.counts {
+        let count = count_rows(rows)?;
+        return put_count(alloc, query.limit, count, &mut writer, sink);
+    }
+    let header = header_record(alloc, database.definitions(), query)?;
+    writer.put(alloc, &header, sink)?;
+    put_records(alloc, database, query, rows, &mut writer, sink)
+}
+
+// Takes rows to their end, and returns how many there were. A number past 64 bits counts as running out of memory.
+fn count_rows<I: EnvelopeIndex + Drop>(rows: &mut Rows<'_, I>) -> Result<u64, AllocError>
+    ensures count { ByEveryMatrix (λ matrix. IfOk result (λ n. n ≡ length (to_come matrix rows.old))) }
+    ensures work { ByEveryMatrix (λ matrix. OnOk result (rows.new.work ≡ work_at_end matrix rows.old)) }
+{
+    let mut count: u64 = 0;
+    while let Some(found) = rows.next() {
+        found?;
+        let Some(more) = count.checked_add(1) else {
+            return Err(AllocError);
+        };
+        count = more;
+    }
+    Ok(count)
+}
+
+// Writes the header of COUNT(*), and the record of the number; under LIMIT 0 there is none.
+fn put_count<S: Sink>(
+    alloc: Global,
+    limit: Option<u64>,
+    count: u64,
+    writer: &mut RecordWriter,
+    sink: &mut S,
+) -> Result<(), PutFault>
+    requires { IsReady writer.old }
+    ensures { PutsText result (count_text limit count)
+        (S.taken sink.old) (S.taken sink.new) (S.failures sink.old) (S.failures sink.new) }
+{
+    put_field(alloc, b"COUNT(*)", writer, sink)?;
+    if limit == Some(0) {
+        return Ok(());
+    }
+    let mut digits = Buffer::new();
+    put_field(alloc, digits.format(count).as_bytes(), writer, sink)
+}
+
+// The record of one field.
+fn one_field(alloc: Global, field: &[u8]) -> Result<ByteRecord, AllocError>
+    ensures { IfOk result (λ r. fields_of r ≡ field.now ∷ []) }
+{
+    let mut fields = ByteRecord::new(alloc);
+    fields.push_field(field)?;
+    Ok(fields)
+}
+
+// Writes a record of one field.
+fn put_field<S: Sink>(
+    alloc: Global,
+    field: &[u8],
+    writer: &mut RecordWriter,
+    sink: &mut S,
+) -> Result<(), PutFault>
+    requires { IsReady writer.old }
+    ensures ready { OnOk result (IsReady writer.new) }
+    ensures puts { PutsText result (record_text (field.now ∷ []))
+        (S.taken sink.old) (S.taken sink.new) (S.failures sink.old) (S.failures sink.new) }
+{
+    let fields = one_field(alloc, field)?;
+    writer.put(alloc, &fields, sink)
+}
+
+// Writes the record of each row that is still to come, as it comes.
+fn put_records<I: EnvelopeIndex + Drop, S: Sink>(
+    alloc: Global,
+    database: &Database<'_, I>,
+    query: &Bound,
+    rows: &mut Rows<'_, I>,
+    writer: &mut RecordWriter,
+    sink: &mut S,
+) -> Result<(), PutFault>
+    requires writer { IsReady writer.old }
+    requires references { HasReferences database.now.definitions query.now.references }
+    requires tables { rows.old.tables ≡ referenced database.now.tables query.now.references }
+    ensures text { ByEveryMatrix (λ matrix. PutsText result
+        (concat (map (choice_text database.now query.now) (to_come matrix rows.old)))
+        (S.taken sink.old) (S.taken sink.new) (S.failures sink.old) (S.failures sink.new)) }
+    ensures work { ByEveryMatrix (λ matrix. OnOk result (rows.new.work ≡ work_at_end matrix rows.old)) }
+{
+    let mut fields = ByteRecord::new(alloc);
+    while let Some(row) = rows.next() {
+        let pair = row?;
+        pair_record(alloc, database, query, pair, &mut fields)?;
+        writer.put(alloc, &fields, sink)?;
+    }
+    Ok(())
+}
+
+// Makes a record that of a pair.
+fn pair_record<I: EnvelopeIndex + Drop>(
+    alloc: Global,
+    database: &Database<'_, I>,
+    query: &Bound,
+    pair: RowPair,
+    fields: &mut ByteRecord,
+) -> Result<(), AllocError>
+    requires references { HasReferences database.now.definitions query.now.references }
+    requires place { IsPlace (referenced database.now.tables query.now.references) pair }
+    ensures { OnOk result (fields_of fields.new
+        ≡ record_of geometry_writing query.now
+        (pair_rows (referenced database.now.tables query.now.references) pair)) }
+{
+    let references = query.references.as_slice();
+    let table = database.table(references[0].table);
+    match pair.second {
+        None => row_record(alloc, fields, query, &[table.row(pair.first)]),
+        Some(second) => {
+            let other = database.table(references[1].table);
+            row_record(
+                alloc,
+                fields,
+                query,
+                &[table.row(pair.first), other.row(second)],
+            )
+        }
+    }
+}

@@ -1,0 +1,6 @@
+//! The DE-9IM matrix of two geometries in well-known text, or why there is none.
+#![tactic(auto)]
+
+pub mod relate;
+
+pub use relate::relate_texts;
