@@ -3,8 +3,8 @@
 use engine::{Fault, run};
 use feature_table::Schema;
 use rtree::{Envelope, EnvelopeIndex, ListIndex};
-use spatial_sql::read_schema;
 use sinks::MemorySink;
+use spatial_sql::read_schema;
 use std::alloc::{AllocError, Global};
 use std::test::Fail;
 
