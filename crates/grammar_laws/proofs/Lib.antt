@@ -12,3 +12,15 @@ pub mod SchemaComplete
 pub mod SchemaRefused
 pub mod SchemaFirst
 pub mod SchemaLaws
+pub mod Filtering
+pub mod WrittenConjuncts
+pub mod WrittenInduction
+pub mod BoundFacts
+pub mod RuleFacts
+pub mod NameFacts
+pub mod FromFacts
+pub mod AllColumnFacts
+pub mod ItemRules
+pub mod CondRules
+pub mod GeometryRuleFacts
+pub mod QueryRuleFacts

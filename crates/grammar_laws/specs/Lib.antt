@@ -1,2 +1,5 @@
 pub mod QueryLaws
 pub mod SchemaLaws
+pub mod FilterLaws
+pub mod BoundLaws
+pub mod RuleLaws

@@ -2,8 +2,8 @@
 
 ghost use Rattle.query_binder.specs.Scopes.{Binds, cond_in, conjuncts_in};
 ghost use Rattle.std.specs.Prelude.{◌≡◌, [], ◌∷◌, map, IfOk};
-ghost use Rattle.binding_laws.specs.FilterLaws as laws;
-ghost use Rattle.binding_laws.specs.FilterLaws.{joined_in_order};
+ghost use Rattle.grammar_laws.specs.FilterLaws as laws;
+ghost use Rattle.grammar_laws.specs.FilterLaws.{joined_in_order};
 
 use crate::Cond;
 use crate::conditions::{WrittenCond, bound_cond};

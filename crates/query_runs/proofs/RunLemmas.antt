@@ -6,7 +6,7 @@ use Rattle.std.specs.Option.{option_map_or}
 use Rattle.std.specs.Io.KnownBytes.{Keeps}
 use Rattle.std.proofs.lemmas.List.{length-map}
 use Rattle.std.proofs.lemmas.Simd.{map-map}
-use Rattle.binding_laws.proofs.Filtering.{bound_of_statement, meaning_by_conjuncts}
+use Rattle.grammar_laws.proofs.Filtering.{bound_of_statement, meaning_by_conjuncts}
 use Rattle.geometry_model.specs.Geometries.{Geometry}
 use Rattle.sinks.specs.Sinks.{AppendsFront}
 use Rattle.table_model.proofs.PlaceFacts.{meant_gives_limited}

@@ -7,8 +7,8 @@ use Rattle.table_model.specs.declared.queries.WrittenCond.TheVariants as written
 use Rattle.table_model.specs.declared.queries.WrittenGeometry.{WrittenGeometry}
 use Rattle.table_model.specs.declared.queries.WrittenOperand.{WrittenOperand}
 use Rattle.table_model.specs.declared.queries.WrittenPredicate.{WrittenPredicate}
-use Rattle.binding_laws.specs.FilterLaws.{BoundByParts, joined_in_order, only}
-use Rattle.binding_laws.proofs.WrittenConjuncts.{by_written_parts}
+use Rattle.grammar_laws.specs.FilterLaws.{BoundByParts, joined_in_order, only}
+use Rattle.grammar_laws.proofs.WrittenConjuncts.{by_written_parts}
 use Rattle.query_binder.specs.Scopes.{Binds, cond_in, conjuncts_in}
 use Rattle.query_binder.specs.declared.scope.Scope.{Scope}
 use Rattle.query_binder.proofs.conjuncts.+conjuncts.Goals as goal

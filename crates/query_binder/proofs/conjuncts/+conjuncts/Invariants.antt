@@ -1,5 +1,5 @@
 use Rattle.std.proofs.Common.{◌≡◌, map, drop}
-use Rattle.binding_laws.specs.FilterLaws.{joined_in_order}
+use Rattle.grammar_laws.specs.FilterLaws.{joined_in_order}
 use Rattle.query_binder.specs.Scopes.{conjuncts_in}
 use Rattle.query_binder.proofs.Outcomes.{behind}
 use Rattle.query_binder.proofs.conjuncts.+conjuncts.Given as goal

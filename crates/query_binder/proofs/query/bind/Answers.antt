@@ -1,5 +1,5 @@
 -- What binding returns is bound to the definitions.
-use Rattle.binding_laws.proofs.BoundFacts.{geometry_answer_is_bound}
+use Rattle.grammar_laws.proofs.BoundFacts.{geometry_answer_is_bound}
 use Rattle.query_binder.proofs.query.bind.Goals as goal
 
 pub returns-clause-bound : goal.returns-clause-bound

@@ -1,5 +1,0 @@
-use Rattle.binding_laws.proofs.BoundFacts.{geometry_queries_are_bound}
-use Rattle.binding_laws.proofs.bound_queries.geometry_queries_are_bound.Goals as goal
-
-pub returns : goal.returns
-returns c = geometry_queries_are_bound

@@ -1,5 +1,0 @@
-use Rattle.binding_laws.proofs.WrittenConjuncts.{by_written_parts}
-use Rattle.binding_laws.proofs.filters.conjuncts_bound_by_parts.Goals as goal
-
-pub returns : goal.returns
-returns g c = by_written_parts

@@ -1,5 +1,0 @@
-use Rattle.binding_laws.proofs.QueryRuleFacts.{bindings_agree}
-use Rattle.binding_laws.proofs.rules.bindings_agree.Goals as goal
-
-pub returns : goal.returns
-returns c = bindings_agree

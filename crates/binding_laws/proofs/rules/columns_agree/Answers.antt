@@ -1,5 +1,0 @@
-use Rattle.binding_laws.proofs.NameFacts.{columns_agree}
-use Rattle.binding_laws.proofs.rules.columns_agree.Goals as goal
-
-pub returns : goal.returns
-returns g c = columns_agree g.row.T.Denot

@@ -1,5 +1,0 @@
-use Rattle.binding_laws.proofs.GeometryRuleFacts.{conditions_agree}
-use Rattle.binding_laws.proofs.rules.conditions_agree.Goals as goal
-
-pub returns : goal.returns
-returns c = conditions_agree

@@ -1,3 +1,0 @@
-pub mod FilterLaws
-pub mod BoundLaws
-pub mod RuleLaws

@@ -1,0 +1,41 @@
+//! Laws of what is filtered, whatever a geometry is. Nothing here runs: each function has an empty body, and its
+//! contract is a law of the definitions.
+
+ghost use Rattle.grammar_laws.specs.FilterLaws.{
+  ConjunctsByParts,
+  BoundOfStatement,
+  ConjunctsBoundByParts,
+  ConjunctsAreTrue,
+  ConjunctsAreFiltered,
+  MeaningByConjuncts,
+};
+
+/// The conjuncts of an AND are those of its parts, in order; any other condition is its own only one.
+pub fn conjuncts_by_parts<A>()
+    ensures { ConjunctsByParts A }
+{}
+
+/// A query is bound to the conjuncts of its ON and its WHERE as they are written, and both bindings have one fault.
+pub fn bound_of_statement<T, A, B, C, D>()
+    ensures { BoundOfStatement T A B C D }
+{}
+
+/// The conjuncts that an AND is bound to are those of its parts, in order; any other condition is bound to one.
+pub fn conjuncts_bound_by_parts<T, A, B, C, D>()
+    ensures { ConjunctsBoundByParts T A B C D }
+{}
+
+/// A choice of rows passes all conjuncts of a condition exactly where it is true.
+pub fn conjuncts_are_true<G, A>()
+    ensures { ConjunctsAreTrue G A }
+{}
+
+/// A choice of rows passes all conjuncts of a query exactly where its ON and its WHERE, joined by AND, are true.
+pub fn conjuncts_are_filtered<G, A, C>()
+    ensures { ConjunctsAreFiltered G A C }
+{}
+
+/// What a query means is what its conjuncts filter.
+pub fn meaning_by_conjuncts<G, A, C>()
+    ensures { MeaningByConjuncts G A C }
+{}
