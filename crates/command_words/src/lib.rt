@@ -45,7 +45,7 @@ The manual: man sfq, or man ./man/sfq.1 in a checkout. docs/FAULTS.md explains e
 fn bare_command<'a>(alloc: Global) -> Command<'a>
     ensures { app_of result ≡ bare_sfq }
 {
-    let about = "Answers SQL over tables of an integer grid, by exact geometry";
+    let about = "Runs SQL over tables of an integer grid, by exact geometry";
     Command::new(alloc, "sfq")
         .about(about)
         .version(VERSION)

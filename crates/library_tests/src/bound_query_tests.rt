@@ -24,7 +24,7 @@ fn names_first(references: &[Reference], name: &str) -> bool {
     }
 }
 
-// Whether a column and the text of another one are selected, each told by its reference and its place.
+// Whether a column and the text of another one are selected, each given by its reference and its place.
 fn selects(items: &[Item<ColumnPlace>], column: (usize, usize), text: (usize, usize)) -> bool {
     match items {
         [Item::Column(first), Item::AsText(second)] => {

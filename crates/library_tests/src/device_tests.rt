@@ -124,7 +124,7 @@ fn refused_unread(rt: &HostRuntime, table: &str, line: &[u8], wanted: u8) -> Res
     Ok(out.bytes().is_empty() && err.bytes() == line && status == wanted)
 }
 
-/// A failed reading is told of its table, unless a table before it doesn't load.
+/// A failed reading names its table, unless a table before it doesn't load.
 #[test]
 fn a_failed_reading_is_told_of_its_table(rt: HostRuntime) -> Result<(), Fail> {
     assert!(rt; refused_unread(&rt, "id\n1\n", b"sfq: u L11\n", 6)?);

@@ -1,4 +1,4 @@
-//! Where points stand in geometries, and the labels of two.
+//! Where points lie in geometries, and the labels of two.
 
 use crate::rows::{number, parts_of, position};
 use crate::shapes::valid;
@@ -7,7 +7,7 @@ use side_labels::{Labels, Location, labels, locate};
 use std::alloc::Global;
 use std::test::Fail;
 
-// A geometry, a point between the positions of the grid by both numerators and the denominator, and where it stands.
+// A geometry, a point between the positions of the grid by both numerators and the denominator, and where it lies.
 const LOCATED: &str = "POINT(3 1) | 3 1 over 2 | exterior
 POINT(3 1) | 6 2 over 2 | interior
 LINESTRING(0 0,2 1,4 0) | 2 1 over 2 | interior";
@@ -22,7 +22,7 @@ fn point(text: &str) -> Result<RatPoint, Fail> {
     Ok(RatPoint::reduced(i128::from(at.x()), i128::from(at.y()), i64::from(w)))
 }
 
-// Where a point stands in the geometry of a text.
+// Where a point lies in the geometry of a text.
 fn located(alloc: Global, text: &str, point: &RatPoint) -> Result<&'static str, Fail> {
     Ok(match locate(&valid(alloc, text)?, point) {
         Location::Interior => "interior",

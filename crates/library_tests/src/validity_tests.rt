@@ -1,4 +1,4 @@
-//! Geometries of points and lines, and the faults that a refusal tells of.
+//! Geometries of points and lines, and the faults that a refusal names.
 
 use crate::shapes::valid;
 use geometry_model::{Kind, ValidityFault};

@@ -22,7 +22,7 @@ SpatialTable = Table Geometry
 abbrev pub SpatialDatabase : Type 0
 SpatialDatabase = Database ColumnShape Geometry
 
--- a query bound as it stands, with the whole conditions of ON and WHERE
+-- a query bound as it is written, with the whole conditions of ON and WHERE
 abbrev pub SpatialStatement : Type 0
 SpatialStatement = Statement (GeometryArgument Geometry) ColumnPlace
 

@@ -28,7 +28,7 @@ impl<R> Model for References<R> {
 }
 
 impl<R> References<R> {
-    /// One reference. It fails only for want of memory.
+    /// One reference. It fails only when memory runs out.
     pub fn one(alloc: Global, only: R) -> Result<References<R>, AllocError>
     where
         R: Drop,
@@ -39,7 +39,7 @@ impl<R> References<R> {
         Ok(References { listed })
     }
 
-    /// Two references, in their order. It fails only for want of memory.
+    /// Two references, in their order. It fails only when memory runs out.
     pub fn two(alloc: Global, first: R, second: R) -> Result<References<R>, AllocError>
     where
         R: Drop,

@@ -20,7 +20,7 @@ use geometries::{Geometry, Larger, LineString, Polygons, Shape, WktFault};
 use geometry_model::TextFault;
 use std::alloc::Global;
 
-/// Reads the word EMPTY where a word stands, and tells whether one does.
+/// Reads the word EMPTY if a word comes next, and returns whether one does.
 #[tactic(auto, unfolding(crate::specs::ReadingSteps::empty_word))]
 fn reads_empty(cursor: &mut Cursor<'_>) -> Result<bool, TextFault>
     ensures { ReadsAs (λ empty. empty) (empty_word cursor.old) result cursor.new }

@@ -1,5 +1,5 @@
 use Rattle.std.proofs.Common.{rules}
-use Rattle.query_runs.proofs.binding.bind.Goals as goal
+use Rattle.spatial_sql.proofs.binding.bind.Goals as goal
 
 pub returns-clause-answer : goal.returns-clause-answer
 returns-clause-answer g c = search rules
