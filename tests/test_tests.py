@@ -91,6 +91,14 @@ class RunsTests(WithCheckout):
         self.assertIn("skipped: test_small.Quick.test_three: needs the package nothing", lines)
         self.assertNotIn("ci", self.verbs())
 
+    def test_parts(self):
+        self.assertEqual(self.run_tests("scripts")[:2], (0, "1 passed, 0 failed, 0 skipped"))
+        self.assertEqual(self.run_tests("lint", "low")[:2], (0, "3 passed, 0 failed, 0 skipped"))
+        self.assertEqual(self.run_tests("--long", "test_small")[:2], (0, "4 passed, 0 failed, 2 skipped"))
+        ran = self.checkout.run(["test", "nothing"])
+        self.assertEqual(ran.returncode, 2)
+        self.assertIn(b"no part nothing: the parts are lint, low, scripts, test_small", ran.stderr)
+
     def test_long(self):
         self.assertEqual(self.run_tests("--long")[:2], (0, "8 passed, 0 failed, 2 skipped"))
 

@@ -192,17 +192,34 @@ def programs():
     ]
 
 
-def without_proof(is_long):
-    counts = Counts()
-    wanted = [it for it in find_tests() if is_long or not marked(it, "IS_LONG")]
-    lint(counts)
+def parts_without_proof(counts, is_long):
+    """Returns the parts of ./test by their names, in the order in which they begin."""
+    parts = {"lint": (lint, counts)}
     if shutil.which("rt"):
-        parts = [(try_tests, counts, it) for it in reversed(repository.crates_with_tests())]
-        parts += [(play_program, counts, it) for it in programs()]
-        side_by_side([*parts, (system_tests, counts, wanted)])
+        parts |= {it: (try_tests, counts, it) for it in reversed(repository.crates_with_tests())}
+        parts |= {it: (play_program, counts, it) for it in programs()}
     else:
         counts.skip("tests of crates, programs", "needs the command rt of the Rattle kit")
-        system_tests(counts, wanted)
+    files = {}
+    for it in find_tests():
+        if is_long or not marked(it, "IS_LONG"):
+            files.setdefault(type(it).__module__.split(".")[0], []).append(it)
+    return parts, files
+
+
+def without_proof(is_long, named):
+    """Runs all parts, or those that are named: lint, a crate, or a file of tests/ such as test_manual."""
+    counts = Counts()
+    parts, files = parts_without_proof(counts, is_long)
+    unknown = [it for it in named if it not in parts and it not in files]
+    if unknown:
+        print(f"sfq: no part {unknown[0]}: the parts are {', '.join([*parts, *sorted(files)])}", file=sys.stderr)
+        return 2
+    is_wanted = lambda it: not named or it in named
+    if is_wanted("lint"):
+        lint(counts)
+    tests = [test for it in files if is_wanted(it) for test in files[it]]
+    side_by_side([*(parts[it] for it in parts if it != "lint" and is_wanted(it)), (system_tests, counts, tests)])
     return counts.close()
 
 
