@@ -299,8 +299,9 @@ def try_edits_of(counts, crate, edits, room):
     for it in edits:
         shutil.copy(it, folder)
     status, out, err, took = run(["rt", "must-fail", crate], room)
-    print(out + err, end="", flush=True)
     for it in edits:
         name = f"{crate}/{os.path.basename(it)}"
-        is_refused = f"must-fail {name}: refused" in out
+        said = next((line for line in (out + err).splitlines() if f"must-fail {name}: " in line), "")
+        print(said or out + err, flush=True)
+        is_refused = f"must-fail {name}: refused" in said
         counts.take(f"edit {name}", is_refused, took / len(edits), text=f"rt must-fail: status {status}")
