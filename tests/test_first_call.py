@@ -48,8 +48,8 @@ class FreshClone(unittest.TestCase):
         self.handed = unproved.HandedIn(room.name, self.clone)
 
     def by_rt_alone(self):
-        words = ["rt", "try", *self.handed.flags(), "--", *self.handed.words(CALL)]
-        ran, seconds = timed(words, f"{self.clone}/crates/sfq")
+        words = self.handed.words(CALL)
+        ran, seconds = timed(["rt", "try", *self.handed.flags(), "--", *words], f"{self.clone}/crates/sfq")
         self.assertEqual((ran.stdout, ran.returncode), (PRINTS, 0), ran.stderr)
         return seconds
 
