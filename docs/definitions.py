@@ -6,7 +6,7 @@ where the page isn't what it would write.
 
 A definition's words are the comment above it, and its clause of the standard the parenthesis at the
 end of that comment. PAGE lists the sections, their files, and in each file the helpers that are left
-out. SHOWN names the definitions that are printed whole.
+out, or the one definition that is listed, behind a +. SHOWN names the definitions that are printed whole.
 """
 
 import pathlib
@@ -16,7 +16,7 @@ import sys
 HERE = pathlib.Path(__file__).resolve().parent
 CRATES = HERE.parent / "crates"
 DEFINITION = re.compile(r"^(?:abbrev |unfoldable )?pub (?:data |record |abbrev )?([^\s:({]+)")
-STANDARD = re.compile(r"\s*\(((?:06-10[34]r4|SQL|clause)[^()]*(?:\([^()]*\)[^()]*)*)\)$")
+STANDARD = re.compile(r"\s*\(((?:06-10[34]r4|SQL|clause|this project's choice)[^()]*(?:\([^()]*\)[^()]*)*)\)$")
 
 G, T = "geometry_model", "table_model"
 # Sections: a title, a sentence or two, and files with the names that they leave out.
@@ -63,6 +63,7 @@ PAGE = [
     ("Queries",
      "A relation for each rule of the grammar, between a tree and the tokens that are written for it.",
      [(T, "Queries", ""),
+      (T, "QueryReading", "+most_levels"),
       (T, "QueryGrammar", "IsDigits IsCall IsOperandFunction IsNumber IsPair IsPredicate IsChain IsCondition"
        " IsNegation IsRowCount IsCrossed IsJoined IsItemFunction AnswersQuery"),
       (T, "QueryRefusals", "IsAnyInteger IsAnyOperand IsAnyNegation IsAnyCondition BeforeSecond BeforeOn"
@@ -73,7 +74,8 @@ PAGE = [
      " that the functions of binding, which contracts name, follow them.",
      [(T, "BindingRules", "IsNowhere IsSomewhere IsTwice IsFirst IsOnly Then FirstFault AreOneName"
        " IsBoundPredicate IsRefusedPredicate IsRefusedOperand GeometryRules IsGeometryPart"),
-      (T, "QueryRules", "IsTableNamed IsThere StandsBefore IsListed AreInOrder IsRefusedWhole IsWhole")]),
+      (T, "QueryRules", "IsTableNamed IsTaken IsFromAfter IsRefusedAfter IsThere StandsBefore IsListed"
+       " AreInOrder IsRefusedWhole IsWhole")]),
     ("Tables and loading",
      "A record is a list of fields, each some bytes. Loading gives the typed rows by ascending key, or the"
      " first fault.",
@@ -112,21 +114,22 @@ SHOWN = ["IsPoint", "side", "on", "IsInterior", "IsBoundary", "IsExterior", "Has
          "related", "search_condition", "filtered", "meaning", "answer", "outcome", "ByEveryMatrix", "RunsOver"]
 HEAD = """# Definitions
 
-For whoever doubts the proof. The machine proves that the program does what the definitions say. It
-can't prove that the definitions say what the standards mean. People have to judge that, and this
-page is what they have to read.
+For whoever doubts the proof. The machine proves that the program does what the definitions say, not
+that these say what the standards mean. People have to judge that, by reading this page.
 
 Each row is a definition: its name, what it says, and its clause of OGC 06-103r4 or 06-104r4, or its
 part of SQL. Where no clause is named, this project chose. The definitions that matter most are
 printed whole. [PROVED](PROVED.md) lists the ten that carry the headline, in order.
 
-Three things are left out, since nobody has to believe them: helpers of a definition, functions that
-a law ties to a definition on this page, and labels, cut points and pieces, by which the proof goes.
-Worked examples are proved by computing, in the files `src/*_examples.rt` of the two models.
+Left out are helpers, which are beside their definition in its file; and what nobody has to believe:
+functions that a law ties to a definition on this page, and labels, cut points and pieces, by which
+the proof goes. Worked examples are proved by computing, in `src/*_examples.rt` of the two models.
 
-In the printed definitions `A × B` says both, `A → B` that A implies B, `(x : T) → ..` says it of
-every x, `¬ A` that A isn't so, and `⊥` is never so. `≡` is equality, `x ∷ xs` a list that begins
-with x, ℕ and ℤ are the whole numbers, and `pos n` is n in ℤ. `codes "T*"` is the bytes of a text.
+What ends in `Type 0` is a fact, what ends in `Bool` computes, and a `record` is a fact with parts.
+`A × B` says both, `A → B` that A implies B, `(x : T) → ..` says it of every x, `¬ A` that A isn't
+so, and `⊥` is never so. `≡` is equality, `x ∷ xs` a list that begins with x, ℕ and ℤ are the whole
+numbers, `<ℤ` and the like are those of ℤ, and `pos n` is n in ℤ. `codes "T*"` is the bytes of a
+text.
 
 `docs/definitions.py` makes this page from the comments in the specifications. Change it there.
 """
@@ -182,12 +185,14 @@ def section(title, words, files, problems):
             continue
         found = entries(path)
         names = [name for name, _, _, _ in found]
+        if left_out.startswith("+"):
+            left_out = " ".join(name for name in names if name != left_out[1:])
         problems += [f"no definition {name} in {module}" for name in left_out.split() if name not in names]
         for name, said, clause, whole in found:
             if name[0].isalpha() and name not in left_out.split():
                 rows += f"| `{name}` | {cell(said)} | {cell(clause)} |\n"
                 shown += f"{whole}\n\n" if name in SHOWN else ""
-    text += f"\n| name | what it is | clause |\n|---|---|---|\n{rows}"
+    text += f"\n| name | what it is | standard |\n|---|---|---|\n{rows}"
     return text + (f"\n```text\n{shown.rstrip()}\n```\n" if shown else "")
 
 

@@ -11,7 +11,7 @@ import unittest
 
 from support import WithCheckout, needs, read, write
 
-# Proves each crate, and leaves a program.
+# Proves each crate by `rt all`, and leaves a program. What was proved is kept in a file, by the texts, as the real `rt` keeps it.
 PROVES = """
 if words[0] == "version":
     finish("rattle-kit-99 logic 0123abcd\\n", "", 0)
@@ -21,13 +21,51 @@ if words[0] == "run":
         program.write("#!/bin/sh\\necho proved\\n# GLIBC_2.17 GLIBC_2.34\\n")
     os.chmod("out/sfq", 0o755)
     finish("", "", 0)
-crate = os.path.basename(os.getcwd())
-if crate == os.environ.get("BREAKS"):
-    finish("low.rt:1:1: error\\nlogic=not-proved\\n", "", 1)
-if crate == os.environ.get("WAITS"):
-    import time
-    time.sleep(60)
-finish("logic=proved functions=3 sum=0123abcd\\n", "", 0)
+if words[0] != "all":
+    finish("", "", 0)
+import time
+root = os.getcwd()
+while not os.path.isfile(root + "/crates.txt"):
+    root = os.path.dirname(root)
+crates = {}
+for line in open(root + "/crates.txt"):
+    name, _, libraries = line.partition(":")
+    crates[name] = libraries.split()
+def below(name):
+    return set().union(*({it} | below(it) for it in crates[name] if it in crates))
+def text_of(name):
+    file = root + "/crates/" + name + "/src/" + ("main.rt" if name == "sfq" else "lib.rt")
+    return open(file).read() + "".join(text_of(it) for it in sorted(below(name)))
+wanted = set(crates) if os.getcwd() == root else {os.path.basename(os.getcwd())} | below(os.path.basename(os.getcwd()))
+failed, summary = set(), []
+for name in sorted(wanted, key=lambda it: (len(below(it)), it)):
+    lacking = sorted(failed & below(name))
+    if lacking:
+        failed.add(name)
+        summary.append(name + ": not run, since " + lacking[0] + " failed")
+        continue
+    kept = root + "/crates/" + name + "/out/kept"
+    is_kept = words[1] == "check" and os.path.isfile(kept) and open(kept).read() == text_of(name)
+    sys.stdout.write("== " + name + "\\n")
+    if name == os.environ.get("BREAKS"):
+        failed.add(name)
+        sys.stdout.write("low.rt:1:1: error\\nlogic=not-proved\\n")
+        summary.append(name + ": failed (1)")
+        continue
+    if not is_kept:
+        with open(room + "/checked", "a") as checked:
+            checked.write(words[1] + " " + name + "\\n")
+        sys.stdout.flush()
+        if name == os.environ.get("WAITS"):
+            time.sleep(60)
+        sys.stdout.write("logic=proved functions=3 sum=0123abcd\\n")
+        os.makedirs(os.path.dirname(kept), exist_ok=True)
+        open(kept, "w").write(text_of(name))
+    summary.append(name + ": ok")
+    sys.stdout.flush()
+    time.sleep(0.05)
+sys.stdout.write("== summary\\n" + "\\n".join(summary) + "\\n")
+finish("", "", 1 if failed else 0)
 """
 
 
@@ -44,9 +82,11 @@ class Builds(WithCheckout):
             for name in environment:
                 del os.environ[name]
 
-    def checked(self):
+    def checked(self, verb="check"):
         """Returns the crates that were checked, in order."""
-        return [os.path.basename(folder) for folder, words in self.checkout.calls() if words[0] in ("check", "lib")]
+        path = f"{self.checkout.room}/bin/checked"
+        lines = read(path).split("\n") if os.path.isfile(path) else []
+        return [it.partition(" ")[2] for it in lines if it.startswith(f"{verb} ")]
 
     def test_proves_each_crate_after_those_below_and_links(self):
         ran = self.build("--jobs", "2")
@@ -76,26 +116,27 @@ class Builds(WithCheckout):
 
     def test_a_kit_of_another_name_and_the_same_logic_proves_nothing_anew(self):
         self.build()
-        before = len(self.checked())
+        calls = lambda: [words[0] for _, words in self.checkout.calls()].count("all")
+        before = calls()
         self.checkout.behave(PROVES.replace("kit-99", "kit-100"))
         ran = self.build()
         self.assertIn(b"kit: rattle-kit-100 logic 0123abcd\n", ran.stdout)
-        self.assertEqual(self.checked()[before:], [])
+        self.assertEqual(calls(), before)
         self.checkout.behave(PROVES.replace("0123abcd", "4567"))
         self.build()
-        self.assertEqual(len(self.checked()[before:]), 4)
+        self.assertGreater(calls(), before)
 
     def test_a_crate_that_is_not_proved(self):
         ran = self.build(BREAKS="low")
         self.assertEqual(ran.returncode, 1)
         text = ran.stdout.decode()
-        self.assertIn("NOT PROVED: low", text)
+        self.assertEqual(text.count("NOT PROVED: low"), 1)
         self.assertIn("low.rt:1:1: error", text)
         self.assertIn("not reached: middle", text)
         self.assertIn("not reached: sfq", text)
-        self.assertIn("proved command_line", text)
+        self.assertIn("1 of 4 crates proved, 0 s: command_line", text)
         self.assertIn(b"sfq: 1 of 4 crates proved", ran.stderr)
-        self.assertEqual(sorted(self.checked()), ["command_line", "low"])
+        self.assertEqual(self.checked(), ["command_line"])
 
     def test_broken_off_it_goes_on(self):
         environment = {**os.environ, "PATH": f"{self.checkout.room}/bin:{os.environ['PATH']}", "WAITS": "middle"}
@@ -103,7 +144,7 @@ class Builds(WithCheckout):
             [f"{self.checkout.root}/build"], env=environment, stdout=subprocess.DEVNULL, stderr=subprocess.PIPE
         ) as child:
             for _ in range(400):
-                if "middle" in self.checked() and "command_line" in self.checked():
+                if "middle" in self.checked():
                     break
                 time.sleep(0.05)
             time.sleep(1)
@@ -112,7 +153,7 @@ class Builds(WithCheckout):
             self.assertIn(b"broken off", child.stderr.read())
         before = len(self.checked())
         self.assertEqual(self.build().returncode, 0)
-        self.assertEqual(self.checked()[before:], ["middle", "sfq"])
+        self.assertEqual(sorted(self.checked()[before:]), ["command_line", "middle", "sfq"])
 
     def test_a_terminal_shows_one_line_that_renews_itself(self):
         ours, theirs = pty.openpty()
@@ -131,8 +172,8 @@ class Builds(WithCheckout):
         write(f"{self.checkout.root}/docs/PROVED.md", chain + "## More\n\n`crates/middle/src/lib.rt`\n")
         ran = self.build("--verify")
         self.assertEqual(ran.returncode, 0, ran.stderr)
-        folders = [folder for folder, words in self.checkout.calls()[before:] if words[0] in ("check", "lib", "run")]
-        self.assertEqual(len(folders), 5)
+        folders = [folder for folder, words in self.checkout.calls()[before:] if words[0] in ("all", "run")]
+        self.assertEqual(sorted(self.checked("verdict")), ["command_line", "low", "middle", "sfq"])
         self.assertFalse(any(it.startswith(self.checkout.root) for it in folders))
         text = ran.stdout.decode()
         total = hashlib.sha256(read(f"{self.checkout.root}/crates/low/src/lib.rt").encode()).hexdigest()

@@ -21,27 +21,40 @@ CLEAN = {
     "crates/one/must-fail/two.edit": "file: src/lib.rt\nold:     1\nnew:     2\n",
 }
 
+# A stand-in for `rt`, whose layout is that no line ends with a space.
+LAYS_OUT = f"""#!{sys.executable}
+import pathlib
+for path in pathlib.Path("src").glob("**/*.rt"):
+    path.write_text("".join(line.rstrip() + "\\n" for line in path.read_text().splitlines()))
+"""
+# A stand-in for the script that writes the definitions: the page is the name of the file that they are in.
+MAKES = """import pathlib, sys
+sys.exit(pathlib.Path("DEFINITIONS.md").read_text() != pathlib.Path("../crates/one/specs/Ones.antt").name + "\\n")
+"""
+
 
 class Refused(unittest.TestCase):
     """Each change of a clean repository is one finding, and the status is 1."""
 
-    def found(self, path=None, text=None):
-        """Runs ./lint in the clean repository with one file changed, and returns its status and lines."""
+    def found(self, path=None, text=None, more={}):
+        """Runs ./lint in the clean repository with more files and one file changed, and returns its status and lines."""
         with tempfile.TemporaryDirectory(prefix="sfq-lint-") as name:
             room = pathlib.Path(name)
-            for file, clean in {**CLEAN, **({path: text} if path else {})}.items():
+            for file, clean in {**CLEAN, **more, **({path: text} if path else {})}.items():
                 (room / file).parent.mkdir(parents=True, exist_ok=True)
                 (room / file).write_text(clean, encoding="utf-8")
             shutil.copy(ROOT / "lint", room / "lint")
-            (room / "bin").mkdir()
+            (room / "bin").mkdir(exist_ok=True)
+            for program in (room / "bin").iterdir():
+                program.chmod(0o755)
             environment = {**os.environ, "PATH": str(room / "bin")}
             ran = subprocess.run(
                 [sys.executable, room / "lint"], env=environment, capture_output=True, text=True
             )
         return ran.returncode, ran.stdout.splitlines()
 
-    def refused(self, path, text, line, word):
-        status, lines = self.found(path, text)
+    def refused(self, path, text, line, word, more={}):
+        status, lines = self.found(path, text, more)
         self.assertEqual((status, len(lines)), (1, 1), lines)
         self.assertTrue(lines[0].startswith(f"{path}:{line}: "), lines)
         self.assertIn(word, lines[0])
@@ -85,6 +98,25 @@ class Refused(unittest.TestCase):
         self.assertEqual(self.found("docs/ARCHITECTURE.md", one), (0, []))
         self.refused("docs/ARCHITECTURE.md", table, 1, "no row for the crate one")
         self.refused("docs/ARCHITECTURE.md", one.replace("| one |", "| one |\n| `two` | two |"), 6, "two")
+
+    def test_another_layout(self):
+        more = {"bin/rt": LAYS_OUT}
+        self.assertEqual(self.found(more=more), (0, []))
+        code = CLEAN["crates/one/src/lib.rt"].replace("    1\n", "    1 \n")
+        self.refused("crates/one/src/lib.rt", code, 1, "rt fmt", more)
+
+    def test_a_document_past_its_size(self):
+        page = CLEAN["README.md"]
+        self.assertEqual(self.found("README.md", page + "\n" * 117), (0, []))
+        self.refused("README.md", page + "\n" * 118, 1, "121 lines of at most 120")
+        lines = ("x" * 99 + "\n") * 81 + "x" * (8192 - len(page) - 8101) + "\n"
+        self.assertEqual(self.found("README.md", page + lines), (0, []))
+        self.refused("README.md", page + "x" + lines, 1, "8193 bytes of at most 8192")
+
+    def test_definitions_that_are_stale(self):
+        more = {"docs/definitions.py": MAKES}
+        self.assertEqual(self.found("docs/DEFINITIONS.md", "Ones.antt\n", more), (0, []))
+        self.refused("docs/DEFINITIONS.md", "Twos.antt\n", 1, "docs/definitions.py", more)
 
     def test_handles(self):
         self.refused("HANDLES", "Handles allowed: Net.\n", 1, "has to be")

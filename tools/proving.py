@@ -1,17 +1,23 @@
-"""Proves every crate, as many at a time as processors and memory allow, and goes on where an earlier run was broken off.
+"""Proves every crate by `rt all`, as many at a time as processors and memory allow, and shows how far it is.
 
-A crate that is proved gets the file out/proved, with a sum over its files, those below it and the kit's logic, and the last
-line of its check. While the sum stays the same, the crate isn't checked again.
+`rt all` keeps what it proved, so a run that was broken off goes on where it was. A crate that is proved gets the file
+out/proved, with a sum over its files, those below it and the kit's logic, and the last line of its check. While the sums of
+all crates stay the same, nothing is called.
 """
 import hashlib
 import os
+import queue
 import re
 import signal
 import subprocess
 import sys
+import threading
 import time
 
 import repository
+
+# What a check from nothing takes at most, in bytes: two of four that ran beside each other took this much.
+MEMORY_OF_A_CHECK = 3_000_000_000
 
 
 def processors():
@@ -44,23 +50,17 @@ def span(seconds):
 
 
 class Crate:
-    """A crate with what the order of the checks depends on."""
+    """A crate, and what is known of its proof."""
 
     def __init__(self, name, root, below, logic, libraries):
-        self.name, self.folder, self.below = name, f"{root}/crates/{name}", below
-        self.out, self.mark = f"{self.folder}/out", f"{self.folder}/out/proved"
-        self.verb = "check"
-        self.code, self.proofs, total = 0, 0, hashlib.sha256(repr((logic, libraries)).encode())
+        self.name, self.below, self.out = name, below, f"{root}/crates/{name}/out"
+        total = hashlib.sha256(repr((logic, libraries)).encode())
         for path in repository.files_of(name, root):
             with open(path, "rb") as file:
-                text = file.read()
-            if path.endswith(".rt"):
-                self.code += text.count(b"\n")
-            else:
-                self.proofs += text.count(b"\n")
-            total.update(repr((os.path.relpath(path, root), text)).encode())
+                total.update(repr((os.path.relpath(path, root), file.read())).encode())
         total.update(repr([it.sum for it in below]).encode())
-        self.sum, self.line, self.height = total.hexdigest(), None, 0
+        self.sum, self.line, self.text = total.hexdigest(), None, ""
+        self.is_done, self.has_failed = False, False
 
     def every_below(self):
         found = {}
@@ -68,30 +68,23 @@ class Crate:
             found.update({it.name: it, **it.every_below()})
         return found
 
-    def memory(self):
-        """Returns about the most memory that a check from nothing takes, in bytes, by what some took."""
-        below = sum(it.code for it in self.every_below().values())
-        return 1_000_000_000 + 1_000_000 * self.code + 200_000 * self.proofs + 150_000 * below
-
-    def work(self):
-        """Returns a measure of how long a check takes: code counts more than proofs."""
-        return 300 + 5 * self.code + self.proofs
-
     def read_mark(self):
         """Takes over what an earlier run proved."""
         try:
-            with open(self.mark, encoding="utf-8") as file:
+            with open(f"{self.out}/proved", encoding="utf-8") as file:
                 total, line = file.read().splitlines()[:2]
         except (OSError, ValueError):
             return
         if total == self.sum:
-            self.line = line
+            self.line, self.is_done = line, True
 
     def write_mark(self, line):
-        self.line = line
-        with open(self.mark + ".new", "w", encoding="utf-8") as file:
+        """Notes that the crate is proved. `line` is the last one of its check; '-' where it was proved before and rt says no more."""
+        self.line, self.is_done = line, True
+        os.makedirs(self.out, exist_ok=True)
+        with open(f"{self.out}/proved.new", "w", encoding="utf-8") as file:
             file.write(f"{self.sum}\n{line}\n")
-        os.replace(self.mark + ".new", self.mark)
+        os.replace(f"{self.out}/proved.new", f"{self.out}/proved")
 
     def functions(self):
         found = re.search(r"\bfunctions=(\d+)", self.line or "")
@@ -105,135 +98,162 @@ def crates_of(root, logic):
     def make(name):
         if name not in made:
             below = [make(it) for it in lines[name] if it in lines]
-            for it in below:
-                # A library that others use is built in the same call that proves it.
-                it.verb = "lib"
             made[name] = Crate(name, root, below, logic, lines[name])
         return made[name]
 
-    crates = [make(it) for it in lines]
-    for it in crates:
-        it.height = it.work()
-    for it in sorted(crates, key=lambda it: -len(it.every_below())):
-        for below in it.below:
-            below.height = max(below.height, below.work() + it.height)
-    return sorted(crates, key=lambda it: len(it.every_below()))
+    return sorted(map(make, lines), key=lambda it: len(it.every_below()))
 
 
 class Proving:
-    """One run over the crates that aren't proved yet."""
+    """One run over all crates. `verb` is check, or verdict, which takes nothing from earlier runs and proves tests too."""
 
-    def __init__(self, root, logic, workers=0):
-        self.root, self.logic = root, logic
+    def __init__(self, root, logic, jobs=0, verb="check"):
+        self.root, self.verb = root, verb
         self.crates = crates_of(root, logic)
-        for it in self.crates:
-            it.read_mark()
-        self.workers, self.memory = workers or processors(), 0.85 * free_memory()
-        self.running, self.failed, self.begun = {}, [], time.monotonic()
+        self.named = {it.name: it for it in self.crates}
+        if verb == "check":
+            for it in self.crates:
+                it.read_mark()
+        self.jobs = jobs or max(1, min(processors(), free_memory() // MEMORY_OF_A_CHECK))
+        self.failed, self.begun, self.child = False, time.monotonic(), None
         self.on_terminal = sys.stdout.isatty()
-
-    def left(self):
-        taken = {it.name for it in [*self.failed, *self.running]}
-        return [it for it in self.crates if it.line is None and it.name not in taken]
 
     def proved(self):
         return [it for it in self.crates if it.line is not None]
 
-    def start_ready(self):
-        """Starts what can be checked now, first what the longest chain of others waits for."""
-        ready = [it for it in self.left() if all(below.line is not None for below in it.below)]
-        ready.sort(key=lambda it: -it.height)
-        for at, crate in enumerate(ready):
-            idle = self.workers - sum(jobs for _, _, jobs in self.running.values())
-            held = sum(it.memory() for it in self.running)
-            if idle < 1 or self.running and held + crate.memory() > self.memory:
-                continue
-            jobs = max(1, min(4, idle // (len(ready) - at)))
-            if self.running and held + jobs * crate.memory() > self.memory:
-                jobs = 1
-            self.start(crate, jobs)
-
-    def start(self, crate, jobs):
-        os.makedirs(crate.out, exist_ok=True)
-        with open(f"{crate.out}/check.log", "wb") as log:
-            child = subprocess.Popen(
-                ["rt", crate.verb, "--jobs", str(jobs)],
-                cwd=crate.folder,
-                stdin=subprocess.DEVNULL,
-                stdout=log,
-                stderr=subprocess.STDOUT,
-                start_new_session=True,
-            )
-        self.running[crate] = child, time.monotonic(), jobs
-
-    def take_ended(self):
-        """Takes what ended, and says so."""
-        for crate, (child, begun, _) in list(self.running.items()):
-            status = child.poll()
-            if status is None:
-                continue
-            del self.running[crate]
-            took = span(time.monotonic() - begun)
-            with open(f"{crate.out}/check.log", encoding="utf-8", errors="replace") as log:
-                text = log.read()
-            lines = [it for it in text.splitlines() if it.startswith("logic=proved ")]
-            if status == 0 and lines:
-                crate.write_mark(lines[-1])
-                self.say_one(f"proved {crate.name} in {took}")
-            else:
-                self.failed.append(crate)
-                place = os.path.relpath(f"{crate.out}/check.log", self.root)
-                self.say_one(f"NOT PROVED: {crate.name}, after {took} (status {status}); see {place}")
-                print("\n".join(text.splitlines()[-15:]), flush=True)
-
     def head(self):
-        return f"{len(self.proved())} of {len(self.crates)} crates proved, {span(time.monotonic() - self.begun)}"
+        done = sum(it.is_done for it in self.crates)
+        return f"{done} of {len(self.crates)} crates proved, {span(time.monotonic() - self.begun)}"
 
-    def say_one(self, text):
-        if not self.on_terminal:
-            print(f"{self.head()}: {text}", flush=True)
-        elif text.startswith("NOT"):
-            print(f"\r\x1b[K{text}", flush=True)
+    def say(self, text):
+        if self.on_terminal:
+            print("\r\x1b[K", end="")
+        print(text, flush=True)
 
     def renew(self):
         """Renews the one line that a terminal shows."""
-        if self.on_terminal:
-            names = ", ".join(it.name for it in self.running)
-            line = f"{self.head()}; now {names}" if names else self.head()
-            width = os.get_terminal_size(1).columns or 80
-            print(f"\r{line[: width - 1]}\x1b[K", end="", flush=True)
+        if not self.on_terminal:
+            return
+        waiting = [it for it in self.crates if not it.is_done and all(low.is_done for low in it.below)]
+        line = f"{self.head()}; now {', '.join(it.name for it in waiting[: self.jobs])}" if waiting else self.head()
+        width = os.get_terminal_size(1).columns or 80
+        print(f"\r{line[: width - 1]}\x1b[K", end="", flush=True)
+
+    def take_block(self, name, text):
+        """Takes what rt said of a crate, once it is done with it."""
+        crate = self.named.get(name)
+        if crate is None or crate.is_done:
+            return
+        crate.text = text
+        found = [it for it in text.splitlines() if it.startswith("logic=proved ")]
+        if found:
+            crate.write_mark(found[-1])
+        elif not text.strip() or "begins with what a check kept" in text:
+            crate.is_done = True
+        if crate.is_done and not self.on_terminal:
+            self.say(f"{self.head()}: {name}")
+
+    def take_summary(self, text):
+        """Takes the lines that rt closes with: each crate is ok, failed or wasn't run."""
+        for name, said in re.findall(r"^(\w+): (ok|failed .*|not run, .*)$", text, re.M):
+            crate = self.named.get(name)
+            if crate is None:
+                continue
+            if said == "ok":
+                if crate.line is None:
+                    crate.write_mark("-")
+                continue
+            is_known = crate.has_failed
+            self.failed, crate.line, crate.is_done = True, None, False
+            if is_known or said.startswith("not run"):
+                continue
+            crate.has_failed = True
+            os.makedirs(crate.out, exist_ok=True)
+            with open(f"{crate.out}/check.log", "w", encoding="utf-8") as log:
+                log.write(crate.text)
+            place = os.path.relpath(f"{crate.out}/check.log", self.root)
+            self.say(f"NOT PROVED: {name}; see {place}")
+            self.say("\n".join(crate.text.splitlines()[-15:]))
+
+    def prove_in(self, folder):
+        """Proves the crates in a folder and those below them, and returns whether all are proved."""
+        words = ["rt", "all", self.verb, "--jobs", str(self.jobs)]
+        self.child = subprocess.Popen(
+            words,
+            cwd=folder,
+            stdin=subprocess.DEVNULL,
+            stdout=subprocess.PIPE,
+            stderr=subprocess.STDOUT,
+            text=True,
+            errors="replace",
+            start_new_session=True,
+        )
+        lines = queue.Queue()
+
+        def read():
+            for line in self.child.stdout:
+                lines.put(line)
+            lines.put(None)
+
+        threading.Thread(target=read, daemon=True).start()
+        name, text, begun = "", [], True
+        while begun:
+            self.renew()
+            try:
+                line = lines.get(timeout=0.3)
+            except queue.Empty:
+                continue
+            begun = line is not None
+            if line is None or line.startswith("== "):
+                if name == "summary":
+                    self.take_summary("".join(text))
+                elif name:
+                    self.take_block(name, "".join(text))
+                elif line is None:
+                    self.say("".join(text[-15:]).rstrip())
+                name, text = (line or "").removeprefix("== ").strip(), []
+            else:
+                text.append(line)
+        return self.child.wait() == 0 and not self.failed
+
+    def folders(self):
+        """Returns where `rt all` is called, in turn.
+
+        Before its first proof `rt all` reads all that a crate needs, for each crate that no other uses. So first all is
+        proved that one library needs, the one with the most crates below, and then the rest.
+        """
+        used = {low.name: low for it in self.crates for low in it.below}
+        large = max(used.values(), key=lambda it: len(it.every_below()), default=None)
+        is_worth_it = self.verb == "check" and large is not None and large.line is None
+        return [f"{self.root}/crates/{large.name}", self.root] if is_worth_it else [self.root]
 
     def run(self):
         """Proves what isn't proved, and returns whether every crate is. Ends its checks where it is broken off."""
         kept = len(self.proved())
         if kept:
             print(f"{kept} of {len(self.crates)} crates are proved already and haven't changed", flush=True)
+        is_proved = kept == len(self.crates)
         try:
-            while True:
-                self.take_ended()
-                self.start_ready()
-                if not self.running:
-                    break
-                self.renew()
-                time.sleep(0.3)
+            if not is_proved:
+                is_proved = all([self.prove_in(it) for it in self.folders()])
         finally:
             self.end()
         if self.on_terminal:
             print("\r\x1b[K", end="")
-        for it in self.left():
-            print(f"not reached: {it.name}, which uses a crate that isn't proved", flush=True)
-        return len(self.proved()) == len(self.crates)
+        for it in self.crates:
+            if any(low.line is None for low in it.every_below().values()):
+                print(f"not reached: {it.name}, which uses a crate that isn't proved", flush=True)
+        return is_proved and len(self.proved()) == len(self.crates)
 
     def end(self):
-        """Ends the checks that run still: each is a group of its own, which this run started."""
-        for child, _, _ in self.running.values():
-            try:
-                os.killpg(child.pid, signal.SIGTERM)
-            except ProcessLookupError:
-                pass
-        for child, _, _ in self.running.values():
-            try:
-                child.wait(timeout=10)
-            except subprocess.TimeoutExpired:
-                os.killpg(child.pid, signal.SIGKILL)
-                child.wait()
+        """Ends the checks that run still: they are a group of their own, which this run started."""
+        if self.child is None or self.child.poll() is not None:
+            return
+        try:
+            os.killpg(self.child.pid, signal.SIGTERM)
+            self.child.wait(timeout=10)
+        except ProcessLookupError:
+            pass
+        except subprocess.TimeoutExpired:
+            os.killpg(self.child.pid, signal.SIGKILL)
+            self.child.wait()

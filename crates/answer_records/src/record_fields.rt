@@ -1,6 +1,6 @@
 //! The records of an answer, made in memory.
 
-ghost use Rattle.std.specs.Prelude.{◌≡◌, ◌∷◌, ◌++◌, [], ◌<◌, IfOk, OnOk, codes};
+ghost use Rattle.std.specs.Prelude.{◌≡◌, ◌∷◌, ◌++◌, [], ◌<◌, IfOk, OnErr, OnOk, codes};
 ghost use Rattle.std.specs.Fmt.{signed_decimal};
 ghost use Rattle.csv.specs.Records.{fields_of, partial_of};
 ghost use Rattle.geometry_model.specs.CanonicalText.{canonical_text};
@@ -36,8 +36,25 @@ pub fn header_record(
 }
 
 /// Makes a record that of some rows, one for each reference of the query; what was in it is gone. It fails only when
-/// memory runs out.
+/// memory runs out, and then leaves the record empty.
 pub fn row_record(
+    alloc: Global,
+    fields: &mut ByteRecord,
+    query: &Bound,
+    rows: &[Row<'_>],
+) -> Result<(), AllocError>
+    ensures ok { OnOk result (fields_of fields.new ≡ record_of geometry_writing query.now rows.now) }
+    ensures refused { OnErr result (fields_of fields.new ≡ []) }
+{
+    let filled = fill(alloc, fields, query, rows);
+    if filled.is_err() {
+        fields.clear();
+    }
+    filled
+}
+
+// Makes a record that of some rows. Where memory runs out, some of it may be there.
+fn fill(
     alloc: Global,
     fields: &mut ByteRecord,
     query: &Bound,

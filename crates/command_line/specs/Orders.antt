@@ -3,8 +3,8 @@ use Rattle.std.specs.Prelude.{◌≡◌, ◌⊎◌, List, Option, Some, codes, I
 use Rattle.std.specs.String.{string_bytes}
 use Rattle.clap.specs.Words.{Row, Text, first_of, subcommand_of}
 use Rattle.command_words.specs.Commands.{sfq}
-use Rattle.command_line.specs.declared.commands.Order.{Order}
-use Rattle.command_line.specs.declared.commands.Order.TheVariants as order
+use Rattle.command_line.specs.declared.known_commands.Order.{Order}
+use Rattle.command_line.specs.declared.known_commands.Order.TheVariants as order
 
 -- the name of the order's subcommand
 abbrev pub name_of : Order → Text

@@ -1,10 +1,10 @@
 //! The command line of `sfq`: what its words ask for, and what is wrong with them.
 #![tactic(auto)]
 
-mod commands;
+mod known_commands;
 mod misuse;
 mod reading;
 
-pub use commands::Order;
+pub use known_commands::Order;
 pub use misuse::Misuse;
 pub use reading::order;

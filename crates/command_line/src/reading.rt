@@ -7,7 +7,7 @@ ghost use Rattle.clap.specs.Words.{rows_of, found_of, first_value, subcommand_ro
 ghost use Rattle.command_words.specs.Commands.{sfq};
 ghost use Rattle.command_line.specs.Orders.{Orders, OrdersBy, HasWords, HasTextsOf, HasRunWords, HasCheckWords, HasRelateWords, name_of};
 
-use crate::commands::Order;
+use crate::known_commands::Order;
 use crate::misuse::Misuse;
 use clap::ArgMatches;
 use clap::error::ErrorKind;

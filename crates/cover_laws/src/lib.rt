@@ -3,8 +3,8 @@
 //! Nothing here runs: each function has an empty body, and its contract is a law.
 #![tactic(auto)]
 
+pub mod gap_sides;
 pub mod gaps;
-pub mod sides;
 pub mod standing;
 
 ghost use Rattle.cover_laws.specs.CoveringLaws.{GapIsThere, GapsCover, FullCovers, FullOffCovers};

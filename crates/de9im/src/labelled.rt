@@ -1,20 +1,20 @@
-//! The matrix that the labels of two geometries show: another way to the matrix that `relate` returns, by every node and every
-//! piece. Tests compare the two.
+//! The cells that the labels of two geometries show: another way to the matrix that `relate` returns, by every node and every
+//! piece. Tests compare the texts of the two.
 
 ghost use Rattle.std.specs.Prelude.{◌≡◌};
 ghost use Rattle.std.specs.List.{list_any};
 ghost use Rattle.geometry_model.specs.Labels.{is_pair, is_side_pair, labelled_cell, matrix_of_labels};
 
 use geometry_model::{Dimension, Location};
-use matrices::Matrix;
+use matrices::MatrixCells;
 use side_labels::{Label, Labels, SideLabels};
 
-/// The matrix that labels show: of each two parts the greatest dimension of a node, a piece or a side of one with these labels. The
+/// The cells of the matrix that labels show: of each two parts the greatest dimension of a node, a piece or a side of one with these labels. The
 /// two exteriors share an area always (OGC 06-103r4, 6.1.15.2; labels: this project's choice). It takes no memory.
-pub fn matrix_of_labels(labels: &Labels) -> Matrix
+pub fn matrix_of_labels(labels: &Labels) -> MatrixCells
     ensures { result ≡ matrix_of_labels labels.now }
 {
-    Matrix {
+    MatrixCells {
         interior_interior: cell(labels, Location::Interior, Location::Interior),
         interior_boundary: cell(labels, Location::Interior, Location::Boundary),
         interior_exterior: cell(labels, Location::Interior, Location::Exterior),
@@ -31,11 +31,11 @@ pub fn matrix_of_labels(labels: &Labels) -> Matrix
 fn cell(labels: &Labels, first: Location, second: Location) -> Dimension
     ensures { result ≡ labelled_cell labels.now first second }
 {
-    if some_side(labels.of_sides(), first, second) {
+    if some_side(labels.sides(), first, second) {
         Dimension::Two
-    } else if some_label(labels.of_pieces(), first, second) {
+    } else if some_label(labels.pieces(), first, second) {
         Dimension::One
-    } else if some_label(labels.of_points(), first, second) {
+    } else if some_label(labels.nodes(), first, second) {
         Dimension::Zero
     } else {
         Dimension::Empty

@@ -3,6 +3,7 @@
 #![tactic(auto)]
 
 mod labelled;
+mod matrix;
 mod pattern;
 mod predicate;
 mod relating;
@@ -10,7 +11,8 @@ mod work;
 
 pub use geometry_model::{Dimension, Kind, Location, Pattern, PatternCharacter, Predicate};
 pub use labelled::matrix_of_labels;
-pub use matrices::Matrix;
+pub use matrices::MatrixCells;
+pub use matrix::Matrix;
 pub use matrix_patterns::{PatternText, SpatialPredicate};
 pub use pattern::MatrixPattern;
 pub use predicate::holds;

@@ -4,8 +4,9 @@ ghost use Rattle.std.specs.Prelude.{◌≡◌};
 ghost use Rattle.geometry_model.specs.Patterns.{takes, matches};
 ghost use Rattle.geometry_model.specs.declared.relations.Pattern.{Pattern};
 
+use crate::matrix::Matrix;
 use geometry_model::{Dimension, Pattern, PatternCharacter};
-use matrices::Matrix;
+use matrices::MatrixCells;
 
 /// What a pattern of the DE-9IM matrix does (06-103r4, 6.1.15.2). [`Pattern`] alone has it.
 pub trait MatrixPattern {
@@ -21,16 +22,23 @@ impl MatrixPattern for Pattern {
     ghost pattern = { λ p. p };
 
     fn matches(&self, matrix: &Matrix) -> bool {
-        takes(self.interior_interior, matrix.interior_interior)
-            && takes(self.interior_boundary, matrix.interior_boundary)
-            && takes(self.interior_exterior, matrix.interior_exterior)
-            && takes(self.boundary_interior, matrix.boundary_interior)
-            && takes(self.boundary_boundary, matrix.boundary_boundary)
-            && takes(self.boundary_exterior, matrix.boundary_exterior)
-            && takes(self.exterior_interior, matrix.exterior_interior)
-            && takes(self.exterior_boundary, matrix.exterior_boundary)
-            && takes(self.exterior_exterior, matrix.exterior_exterior)
+        matches_cells(self, matrix.cells())
     }
+}
+
+// Whether each character of the pattern takes its cell.
+pub(crate) fn matches_cells(pattern: &Pattern, cells: &MatrixCells) -> bool
+    ensures { result ≡ matches pattern.now cells.now }
+{
+    takes(pattern.interior_interior, cells.interior_interior)
+        && takes(pattern.interior_boundary, cells.interior_boundary)
+        && takes(pattern.interior_exterior, cells.interior_exterior)
+        && takes(pattern.boundary_interior, cells.boundary_interior)
+        && takes(pattern.boundary_boundary, cells.boundary_boundary)
+        && takes(pattern.boundary_exterior, cells.boundary_exterior)
+        && takes(pattern.exterior_interior, cells.exterior_interior)
+        && takes(pattern.exterior_boundary, cells.exterior_boundary)
+        && takes(pattern.exterior_exterior, cells.exterior_exterior)
 }
 
 // Whether a pattern character takes a cell of a matrix.

@@ -3,9 +3,10 @@
 ghost use Rattle.std.specs.Prelude.{◌≡◌};
 ghost use Rattle.geometry_model.specs.Predicates.{like, crosses, overlaps, holds};
 
-use crate::pattern::MatrixPattern;
+use crate::matrix::Matrix;
+use crate::pattern::matches_cells;
 use geometry_model::{Kind, Pattern, Predicate};
-use matrices::Matrix;
+use matrices::MatrixCells;
 use matrix_patterns::PatternText;
 
 /// Whether the predicate holds of two geometries of these kinds whose DE-9IM matrix this is (06-103r4, 6.1.15.3; the
@@ -13,54 +14,55 @@ use matrix_patterns::PatternText;
 pub fn holds(predicate: Predicate, first: Kind, second: Kind, matrix: &Matrix) -> bool
     ensures { result ≡ holds predicate first second matrix.now }
 {
+    let cells = matrix.cells();
     match predicate {
-        Predicate::Equals => like("**F**FFF*", matrix),
-        Predicate::Disjoint => like("FF*FF****", matrix),
-        Predicate::Intersects => !like("FF*FF****", matrix),
+        Predicate::Equals => like("**F**FFF*", cells),
+        Predicate::Disjoint => like("FF*FF****", cells),
+        Predicate::Intersects => !like("FF*FF****", cells),
         Predicate::Touches => {
-            like("FT*******", matrix) || like("F**T*****", matrix) || like("F***T****", matrix)
+            like("FT*******", cells) || like("F**T*****", cells) || like("F***T****", cells)
         }
-        Predicate::Crosses => crosses(first, second, matrix),
-        Predicate::Within => like("T*F**F***", matrix),
-        Predicate::Contains => like("T*F**F***", &matrix.transposed()),
-        Predicate::Overlaps => overlaps(first, second, matrix),
-        Predicate::Relate(pattern) => pattern.matches(matrix),
+        Predicate::Crosses => crosses(first, second, cells),
+        Predicate::Within => like("T*F**F***", cells),
+        Predicate::Contains => like("T*F**F***", &cells.transposed()),
+        Predicate::Overlaps => overlaps(first, second, cells),
+        Predicate::Relate(pattern) => matches_cells(&pattern, cells),
     }
 }
 
-// Whether the matrix matches the pattern of this text.
-fn like(text: &str, matrix: &Matrix) -> bool
-    ensures { result ≡ like text.now matrix.now }
+// Whether the cells match the pattern of this text.
+fn like(text: &str, cells: &MatrixCells) -> bool
+    ensures { result ≡ like text.now cells.now }
 {
     match Pattern::read(text) {
-        Some(pattern) => pattern.matches(matrix),
+        Some(pattern) => matches_cells(&pattern, cells),
         None => false,
     }
 }
 
 // Crosses: by the kinds of the two geometries.
-fn crosses(first: Kind, second: Kind, matrix: &Matrix) -> bool
-    ensures { result ≡ crosses first second matrix.now }
+fn crosses(first: Kind, second: Kind, cells: &MatrixCells) -> bool
+    ensures { result ≡ crosses first second cells.now }
 {
     match (first, second) {
         (Kind::Point, Kind::Line | Kind::Area) | (Kind::Line, Kind::Area) => {
-            like("T*T******", matrix)
+            like("T*T******", cells)
         }
         (Kind::Line | Kind::Area, Kind::Point) | (Kind::Area, Kind::Line) => {
-            like("T*****T**", matrix)
+            like("T*****T**", cells)
         }
-        (Kind::Line, Kind::Line) => like("0********", matrix),
+        (Kind::Line, Kind::Line) => like("0********", cells),
         (Kind::Point, Kind::Point) | (Kind::Area, Kind::Area) => false,
     }
 }
 
 // Overlaps: by the kinds of the two geometries.
-fn overlaps(first: Kind, second: Kind, matrix: &Matrix) -> bool
-    ensures { result ≡ overlaps first second matrix.now }
+fn overlaps(first: Kind, second: Kind, cells: &MatrixCells) -> bool
+    ensures { result ≡ overlaps first second cells.now }
 {
     match (first, second) {
-        (Kind::Point, Kind::Point) | (Kind::Area, Kind::Area) => like("T*T***T**", matrix),
-        (Kind::Line, Kind::Line) => like("1*T***T**", matrix),
+        (Kind::Point, Kind::Point) | (Kind::Area, Kind::Area) => like("T*T***T**", cells),
+        (Kind::Line, Kind::Line) => like("1*T***T**", cells),
         _ => false,
     }
 }

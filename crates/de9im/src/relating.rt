@@ -4,8 +4,9 @@ ghost use Rattle.std.specs.Prelude.{◌≡◌, IfOk, OnOk, OnErr};
 ghost use Rattle.geometry_model.specs.Dimensions.{IsMatrix};
 ghost use Rattle.integers.specs.Counts.{one_more};
 
+use crate::matrix::Matrix;
 use crate::work::Work;
-use matrices::{Matrix, find_matrix};
+use matrices::find_matrix;
 use std::alloc::{AllocError, Global};
 use validity::Valid;
 
@@ -21,7 +22,7 @@ pub fn relate(
     ensures counted { OnOk result (work.new ≡ one_more work.old) }
     ensures refused { OnErr result (work.new ≡ work.old) }
 {
-    let matrix = find_matrix(alloc, first, second)?;
+    let cells = find_matrix(alloc, first, second)?;
     work.add_one();
-    Ok(matrix)
+    Ok(Matrix::of_cells(cells))
 }

@@ -18,7 +18,7 @@ use Rattle.ring_tests.proofs.Boxes.{sharing_boxes_overlap}
 use Rattle.edge_boxes.specs.Runs.{LiesIn}
 use Rattle.edge_boxes.specs.Strips.{rise, LiesInStrip, IsStripOf, lies_beside}
 use Rattle.edge_boxes.specs.OneLine.{SharesNone}
-use Rattle.edge_boxes.specs.declared.runs.Run.{Run}
+use Rattle.edge_boxes.specs.declared.kept_runs.Run.{Run}
 use Rattle.edge_boxes.specs.declared.strips.Direction.{Direction}
 use Rattle.edge_boxes.specs.declared.strips.Strip.{Strip}
 use Rattle.edge_boxes.proofs.EdgeSides.{beyond, on_off_beyond, on_off_short}

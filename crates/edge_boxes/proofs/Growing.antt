@@ -6,7 +6,7 @@ use Rattle.edge_boxes.specs.Runs.{SumsUp}
 use Rattle.edge_boxes.specs.BoxLists.{end_of, covered, IsRun, IsBoxAt, AreBoxes}
 use Rattle.edge_boxes.specs.Builds.{covered_by_all, KeepsBoxes, IsNextBox, IsRunFrom}
 use Rattle.edge_boxes.specs.declared.boxes.EdgeBox.{EdgeBox}
-use Rattle.edge_boxes.specs.declared.runs.Run.{Run}
+use Rattle.edge_boxes.specs.declared.kept_runs.Run.{Run}
 use Rattle.edge_boxes.proofs.BoxFacts.{found_before, covered_before}
 
 -- ---- one box more

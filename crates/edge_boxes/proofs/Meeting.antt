@@ -16,7 +16,7 @@ use Rattle.edge_boxes.specs.Meetings.{is_asked, places_asked, IsAskedStep}
 use Rattle.edge_boxes.specs.declared.boxes.EdgeBox.{EdgeBox}
 use Rattle.edge_boxes.proofs.BoxFacts.{rest_is, run_then_rest, run_counted, found_before, covered_before}
 use Rattle.edge_boxes.proofs.Steps.{box_before, leaf_ordered, inner_covered}
-use Rattle.edge_boxes.specs.declared.meetings.Asked.{Asked}
+use Rattle.edge_boxes.specs.declared.meeting_bounds.Asked.{Asked}
 
 -- ---- two lists, one behind the other
 -- the places asked for in two lists are those in the first, and those in the second counted on from its length

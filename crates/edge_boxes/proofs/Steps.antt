@@ -12,7 +12,7 @@ use Rattle.edge_boxes.specs.EdgeCrossings.{AreCrossings, IsTold, on_any}
 use Rattle.edge_boxes.specs.Walks.{IsStep}
 use Rattle.edge_boxes.specs.declared.boxes.EdgeBox.{EdgeBox}
 use Rattle.edge_boxes.specs.declared.cells.Cell.{Cell}
-use Rattle.edge_boxes.specs.declared.crossings.Crossings.{Crossings}
+use Rattle.edge_boxes.specs.declared.point_crossings.Crossings.{Crossings}
 use Rattle.edge_boxes.proofs.BoxFacts.{run_then_rest, rest_is, found_before, covered_before}
 use Rattle.edge_boxes.proofs.Telling.{none_found}
 

@@ -11,10 +11,10 @@ use Rattle.edge_boxes.specs.Cells.{IsFloor, IsCeiling, IsCellOf}
 use Rattle.edge_boxes.specs.Strips.{rise, IsInStrip, LiesInStrip, IsStripOf, lies_under, lies_over}
 use Rattle.edge_boxes.specs.Runs.{SumsUpEnds}
 use Rattle.edge_boxes.specs.EdgeCrossings.{AreCrossings, IsTold, IsToldByStrip}
-use Rattle.edge_boxes.specs.declared.crossings.Crossings.{Crossings}
-use Rattle.edge_boxes.specs.declared.runs.Run.{Run}
+use Rattle.edge_boxes.specs.declared.point_crossings.Crossings.{Crossings}
+use Rattle.edge_boxes.specs.declared.kept_runs.Run.{Run}
 use Rattle.edge_boxes.specs.declared.cells.Cell.{Cell}
-use Rattle.edge_boxes.specs.declared.runs.Ends.{Ends}
+use Rattle.edge_boxes.specs.declared.kept_runs.Ends.{Ends}
 use Rattle.edge_boxes.specs.declared.strips.Strip.{Strip}
 use Rattle.edge_boxes.proofs.EdgeSides.{beyond, IsOff, IsOver, off_beyond, over_beyond}
 use Rattle.edge_boxes.proofs.Telling.{each_of, none_found, spanning_found}

@@ -13,9 +13,9 @@ use Rattle.integers.proofs.Signs.{less_from, at_most_no}
 use Rattle.edge_boxes.specs.Runs.{LiesIn, Telescopes, SumsUp}
 use Rattle.edge_boxes.specs.Cells.{IsFloor, IsCeiling, IsCellOf}
 use Rattle.edge_boxes.specs.EdgeCrossings.{AreCrossings}
-use Rattle.edge_boxes.specs.declared.crossings.Crossings.{Crossings}
+use Rattle.edge_boxes.specs.declared.point_crossings.Crossings.{Crossings}
 use Rattle.edge_boxes.specs.declared.cells.Cell.{Cell}
-use Rattle.edge_boxes.specs.declared.runs.Run.{Run}
+use Rattle.edge_boxes.specs.declared.kept_runs.Run.{Run}
 use Rattle.edge_boxes.proofs.EdgeSides.{IsOff, IsOver, off_left, off_right, off_below, is_over}
 use Rattle.edge_boxes.proofs.RunSums.{odd_joined}
 

@@ -3,7 +3,7 @@ use Rattle.std.specs.Prelude.{◌≡◌, ◌⊎◌, ℕ, ◌-◌, ◌<◌, ◌�
 use Rattle.geometry_model.specs.Geometries.{Edge}
 use Rattle.edge_boxes.specs.BoxLists.{AreBoxes, IsBoxAt, IsRun, covered}
 use Rattle.edge_boxes.specs.Strips.{IsStripOf}
-use Rattle.edge_boxes.specs.declared.runs.Run.{Run}
+use Rattle.edge_boxes.specs.declared.kept_runs.Run.{Run}
 use Rattle.edge_boxes.specs.declared.strips.Strip.{Strip}
 use Rattle.edge_boxes.specs.declared.boxes.EdgeBox.{EdgeBox}
 

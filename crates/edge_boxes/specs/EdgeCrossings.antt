@@ -9,11 +9,11 @@ use Rattle.geometry_model.specs.Crossings.{odd, strictly_above, at_or_above}
 use Rattle.edge_boxes.specs.Runs.{SumsUp, SumsUpEnds}
 use Rattle.edge_boxes.specs.Strips.{IsStripOf}
 use Rattle.edge_boxes.specs.Cells.{IsCellOf}
-use Rattle.edge_boxes.specs.declared.runs.Ends.{Ends}
-use Rattle.edge_boxes.specs.declared.runs.Run.{Run}
+use Rattle.edge_boxes.specs.declared.kept_runs.Ends.{Ends}
+use Rattle.edge_boxes.specs.declared.kept_runs.Run.{Run}
 use Rattle.edge_boxes.specs.declared.strips.Strip.{Strip}
 use Rattle.edge_boxes.specs.declared.cells.Cell.{Cell}
-use Rattle.edge_boxes.specs.declared.crossings.Crossings.{Crossings}
+use Rattle.edge_boxes.specs.declared.point_crossings.Crossings.{Crossings}
 
 -- the point lies on one of the edges (06-103r4, 6.1.7)
 abbrev pub on_any : List Edge → Point → Bool

@@ -5,7 +5,7 @@ use Rattle.geometry_model.specs.Envelopes.{Envelope, overlap}
 use Rattle.ring_tests.specs.RunLaws.{box_of}
 use Rattle.edge_boxes.specs.BoxLists.{covered}
 use Rattle.edge_boxes.specs.declared.boxes.EdgeBox.{EdgeBox}
-use Rattle.edge_boxes.specs.declared.meetings.Asked.{Asked}
+use Rattle.edge_boxes.specs.declared.meeting_bounds.Asked.{Asked}
 
 -- the edge at this place is asked for: it isn't before the first one, and its bounds meet those asked for
 abbrev pub is_asked : Asked → ℕ → Edge → Bool

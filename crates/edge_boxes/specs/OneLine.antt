@@ -7,7 +7,7 @@ use Rattle.geometry_model.specs.FirstFaults.{share_point}
 use Rattle.edge_boxes.specs.BoxLists.{covered}
 use Rattle.edge_boxes.specs.Runs.{SumsUp}
 use Rattle.edge_boxes.specs.declared.boxes.EdgeBox.{EdgeBox}
-use Rattle.edge_boxes.specs.declared.runs.Run.{Run}
+use Rattle.edge_boxes.specs.declared.kept_runs.Run.{Run}
 
 -- two edges are on one line and share a point
 abbrev pub meet_on_one_line : Edge → Edge → Bool

@@ -6,8 +6,8 @@ use Rattle.geometry_model.specs.Geometries.{Edge}
 use Rattle.geometry_model.specs.Crossings.{exactly_one, spans, odd}
 use Rattle.geometry_model.specs.Envelopes.{Envelope}
 use Rattle.edge_boxes.specs.Strips.{IsStripOf}
-use Rattle.edge_boxes.specs.declared.runs.Ends.{Ends}
-use Rattle.edge_boxes.specs.declared.runs.Run.{Run}
+use Rattle.edge_boxes.specs.declared.kept_runs.Ends.{Ends}
+use Rattle.edge_boxes.specs.declared.kept_runs.Run.{Run}
 
 -- the position lies within the bounds, their sides counted (06-103r4, 6.1.2.2: Envelope)
 pub record IsWithin (b : Envelope) (a : Position) : Type 0 where

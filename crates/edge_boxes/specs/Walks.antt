@@ -5,7 +5,7 @@ use Rattle.geometry_model.specs.Geometries.{Edge}
 use Rattle.edge_boxes.specs.EdgeCrossings.{AreCrossings}
 use Rattle.edge_boxes.specs.BoxLists.{covered}
 use Rattle.edge_boxes.specs.declared.boxes.EdgeBox.{EdgeBox}
-use Rattle.edge_boxes.specs.declared.crossings.Crossings.{Crossings}
+use Rattle.edge_boxes.specs.declared.point_crossings.Crossings.{Crossings}
 
 -- a step to an earlier place returns how the point lies to the edges between
 pub record IsStep (boxes : List EdgeBox) (edges : List Edge) (p : Point) (place next : ℕ) (c : Crossings) : Type 0 where

@@ -1,6 +1,6 @@
 //! The list of boxes over consecutive edges, and what is asked of it.
 
-ghost use Rattle.std.specs.Prelude.{◌≡◌, ◌≤◌, ◌<◌, length, List, IfOk, OnOk, slice_range};
+ghost use Rattle.std.specs.Prelude.{◌≡◌, ◌≤◌, ◌<◌, length, List, [], IfOk, OnErr, OnOk, slice_range};
 ghost use Rattle.std.specs.List.{list_any};
 ghost use Rattle.geometry_model.specs.Geometries.{Edge};
 ghost use Rattle.edge_boxes.specs.Cells.{IsCellOf};
@@ -13,10 +13,10 @@ ghost use Rattle.edge_boxes.specs.Walks.{IsStep};
 use crate::bounds::Bounds;
 use crate::building::boxes_over;
 use crate::cells::Cell;
-use crate::crossings::{Crossings, none, of_edges, told};
+use crate::kept_runs::Run;
 use crate::lines::is_one_on_line_among;
-use crate::meetings::{Asked, push_asked};
-use crate::runs::Run;
+use crate::meeting_bounds::{Asked, push_asked};
+use crate::point_crossings::{Crossings, none, of_edges, told};
 use fraction::RatPoint;
 use orient::Segment;
 use std::alloc::{AllocError, Global};
@@ -74,7 +74,7 @@ impl EdgeBoxes {
     }
 
     /// Leaves in the vector the places, from one on, of the edges whose bounds meet these, ascending. It may run out
-    /// of memory.
+    /// of memory, and then leaves the vector empty.
     pub fn meeting(
         &self,
         edges: &[Segment],
@@ -83,16 +83,20 @@ impl EdgeBoxes {
         found: &mut Vec<usize>,
     ) -> Result<(), AllocError>
         requires { BoxesOf self.now edges.now }
-        ensures { OnOk result (found.new.items ≡ places_meeting bounds.now from edges.now) }
+        ensures exact { OnOk result (found.new.items ≡ places_meeting bounds.now from edges.now) }
+        ensures refused { OnErr result (found.new.items ≡ []) }
     {
         let asked = Asked {
             bounds: *bounds,
             from,
         };
         found.clear();
-        push_asked(self.boxes.as_slice(), edges, &asked, found)?;
-        found.reverse();
-        Ok(())
+        let pushed = push_asked(self.boxes.as_slice(), edges, &asked, found);
+        match pushed {
+            Ok(()) => found.reverse(),
+            Err(_) => found.clear(),
+        }
+        pushed
     }
 }
 

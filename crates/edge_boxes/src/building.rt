@@ -6,7 +6,7 @@ ghost use Rattle.edge_boxes.specs.BoxLists.{AreBoxes, IsRun, covered};
 ghost use Rattle.edge_boxes.specs.Builds.{KeepsBoxes, IsNextFirst, IsNextBox, IsRunFrom, IsStripAt};
 
 use crate::boxes::{EdgeBox, covered, run_of};
-use crate::runs::Run;
+use crate::kept_runs::Run;
 use crate::strips::Strip;
 use orient::Segment;
 use std::alloc::{AllocError, Global};

@@ -3,16 +3,16 @@
 #![tactic(auto)]
 
 pub mod bounds;
+pub mod box_laws;
 mod boxes;
 mod building;
 mod cells;
-pub mod crossings;
-pub mod laws;
+mod kept_runs;
 mod lines;
-mod meetings;
-mod runs;
+mod meeting_bounds;
+pub mod point_crossings;
 mod strips;
 
 pub use bounds::Bounds;
 pub use boxes::EdgeBoxes;
-pub use crossings::Crossings;
+pub use point_crossings::Crossings;

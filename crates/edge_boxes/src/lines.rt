@@ -9,7 +9,7 @@ ghost use Rattle.edge_boxes.specs.OneLine.{meet_on_one_line, SharesNone, IsLineS
 
 use crate::bounds::Bounds;
 use crate::boxes::{EdgeBox, covered, run_of};
-use crate::runs::Run;
+use crate::kept_runs::Run;
 use orient::{Segment, side_number};
 use ring_tests::share_point;
 

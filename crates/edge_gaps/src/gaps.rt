@@ -1,6 +1,6 @@
 //! The gaps of an edge among other edges.
 
-ghost use Rattle.std.specs.Prelude.{◌≡◌, false, [], OnOk, IfOk};
+ghost use Rattle.std.specs.Prelude.{◌≡◌, false, [], OnErr, OnOk};
 ghost use Rattle.edge_boxes.specs.BoxLists.{BoxesOf};
 ghost use Rattle.cover_laws.specs.Gaps.{AreGaps, SharesNoStretch};
 
@@ -44,8 +44,27 @@ impl Gaps {
         }
     }
 
-    /// Fills it for an edge among others, whose boxes come along. It may run out of memory.
+    /// Fills it for an edge among others, whose boxes come along. It may run out of memory, and then is that of no edge.
     pub fn find(
+        &mut self,
+        edge: &Segment,
+        others: &[Segment],
+        boxes: &EdgeBoxes,
+    ) -> Result<(), AllocError>
+        requires { BoxesOf boxes.now others.now }
+        ensures found { OnOk result (AreGaps edge.now others.now self.new) }
+        ensures refused { OnErr result (self.new ≡ record { shared = []; stops = [] }) }
+    {
+        let filled = self.fill(edge, others, boxes);
+        if filled.is_err() {
+            self.shared.clear();
+            self.stops.clear();
+        }
+        filled
+    }
+
+    /// Fills it for an edge among others. Where memory runs out, some of it may be filled.
+    fn fill(
         &mut self,
         edge: &Segment,
         others: &[Segment],
@@ -59,18 +78,13 @@ impl Gaps {
         set_stops(&mut self.stops, edge, self.shared.as_slice())
     }
 
-    /// Whether one of the others may share a stretch with the edge: where it returns false, none does. It may fail for want of
-    /// memory, and forgets what it was filled with.
-    pub fn may_share_stretch(
-        &mut self,
-        edge: &Segment,
-        others: &[Segment],
-        boxes: &EdgeBoxes,
-    ) -> Result<bool, AllocError>
+    /// Whether one of the others, whose boxes come along, may share a stretch with the edge: where it returns false, none does.
+    /// It takes no memory.
+    pub fn may_share_stretch(edge: &Segment, others: &[Segment], boxes: &EdgeBoxes) -> bool
         requires { BoxesOf boxes.now others.now }
-        ensures { IfOk result (λ may. may ≡ false → SharesNoStretch edge.now others.now) }
+        ensures { result ≡ false → SharesNoStretch edge.now others.now }
     {
-        Ok(boxes.meets_on_line(others, edge))
+        boxes.meets_on_line(others, edge)
     }
 
     /// Lends the points that the edge shares with others.

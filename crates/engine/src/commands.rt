@@ -1,19 +1,27 @@
 //! What the program does with its order, over readers and sinks of any kind.
 
-ghost use Rattle.std.specs.Prelude.{◌≡◌, length, IfOk};
-ghost use Rattle.failures.specs.Failures.{failure_status};
+ghost use Rattle.std.specs.Prelude.{◌≡◌, length, take, Err, IfErr, IfOk, IfSome, OnErr, OnOk};
+ghost use Rattle.std.specs.String.{string_bytes};
+ghost use Rattle.std.specs.Io.KnownBytes.{Appends};
+ghost use Rattle.engine.specs.Commands.{ChecksFiles, ChecksTables, EndsOf, IsFaultOf, IsUnread, Opens, OpensTables, ReadsSchema, RelateEnds, RunsFiles, RunsTables, check_text, table_paths};
+ghost use Rattle.engine.specs.Ends.{Serves, Writes};
+ghost use Rattle.engine.specs.Commands as spec;
+ghost use Rattle.failures.specs.Failures.{failure_line, failure_status};
 ghost use Rattle.query_runs.specs.Runs.{IsOfTables};
+ghost use Rattle.sinks.specs.Sinks.{AppendsFront, CountsFailure};
 
 use command_line::Order;
 use failures::{Failure, Fault, fault_line, status};
 use feature_table::{Database, Schema};
 use itoa::Buffer;
-use query_runs::run;
+use observers::{RowObserver, Unobserved};
+use query_runs::run_observed;
 use rtree::{EnvelopeIndex, RTree};
 use schema_reader::read_schema;
 use sinks::{Sink, SinkFault, put_parts};
 use std::alloc::{AllocError, Global};
 use std::io::{ErrorKind, Read};
+use table_model::faults::SchemaFault;
 use table_model::tokens::TEXT_LIMIT;
 use text_relation::relate_texts;
 
@@ -33,6 +41,25 @@ pub fn serve<R: Read + Drop, F: FnMut(&str) -> Option<R>, S: Sink, E: Sink>(
     err: &mut E,
 ) -> u8
     requires { F.IsAlwaysCallable opener }
+    ensures serves { Serves E.taken E.failures
+        (EndsOf F.FnMut R.remaining S.taken S.failures out.old out.new opener order.now)
+        result err.old err.new }
+{
+    serve_observed(alloc, order, opener, out, err, &mut Unobserved)
+}
+
+/// The same, where each candidate that a query looks at, and each row that it finds, is reported to an observer.
+pub fn serve_observed<
+    R: Read + Drop,
+    F: FnMut(&str) -> Option<R>,
+    S: Sink,
+    E: Sink,
+    O: RowObserver,
+>(alloc: Global, order: &Order, opener: F, out: &mut S, err: &mut E, observer: &mut O) -> u8
+    requires { F.IsAlwaysCallable opener }
+    ensures serves { Serves E.taken E.failures
+        (EndsOf F.FnMut R.remaining S.taken S.failures out.old out.new opener order.now)
+        result err.old err.new }
 {
     match order {
         Order::Run {
@@ -44,7 +71,7 @@ pub fn serve<R: Read + Drop, F: FnMut(&str) -> Option<R>, S: Sink, E: Sink>(
                 schema: schema.as_str(),
                 directory: directory.as_str(),
             };
-            serve_run(alloc, &paths, query.as_str(), opener, out, err)
+            serve_run(alloc, &paths, query.as_str(), opener, out, err, observer)
         }
         Order::Check { schema, directory } => {
             let paths = Paths {
@@ -66,39 +93,55 @@ struct Paths<'a> {
 
 // Runs a query: the schema's file is read first, then the schema, then all files of tables are opened in the
 // schema's order, and then the query is run.
-fn serve_run<R: Read + Drop, F: FnMut(&str) -> Option<R>, S: Sink, E: Sink>(
+fn serve_run<R: Read + Drop, F: FnMut(&str) -> Option<R>, S: Sink, E: Sink, O: RowObserver>(
     alloc: Global,
     paths: &Paths<'_>,
     query: &str,
     mut opener: F,
     out: &mut S,
     err: &mut E,
+    observer: &mut O,
 ) -> u8
     requires { F.IsAlwaysCallable opener }
+    ensures { Serves E.taken E.failures
+        (RunsFiles F.FnMut R.remaining S.taken S.failures out.old out.new opener
+        paths.now.schema.now paths.now.directory.now query.now)
+        result err.old err.new }
 {
     let schema = match schema_in(alloc, opener(paths.schema)) {
         Ok(schema) => schema,
         Err(failure) => return failed(&failure, err),
     };
-    match run_over(alloc, &schema, paths.directory, query, opener, out) {
+    match run_over(
+        alloc,
+        &schema,
+        paths.directory,
+        query,
+        opener,
+        out,
+        observer,
+    ) {
         Ok(()) => 0,
         Err(failure) => failed(&failure, err),
     }
 }
 
 // Opens the files of all tables, and runs a query over them.
-fn run_over<'s, R: Read + Drop, F: FnMut(&str) -> Option<R>, S: Sink>(
+fn run_over<'s, R: Read + Drop, F: FnMut(&str) -> Option<R>, S: Sink, O: RowObserver>(
     alloc: Global,
     schema: &'s Schema,
     directory: &str,
     query: &str,
     opener: F,
     out: &mut S,
+    observer: &mut O,
 ) -> Result<(), Failure<'s>>
     requires { F.IsAlwaysCallable opener }
+    ensures { RunsTables F.FnMut R.remaining S.taken S.failures out.old out.new opener
+        directory.now query.now schema.entry.now result }
 {
     let readers = open_tables(alloc, schema, directory, opener)?;
-    match run::<ColumnIndex, R, S>(alloc, schema, readers, query, out) {
+    match run_observed::<ColumnIndex, R, S, O>(alloc, schema, readers, query, out, observer) {
         Ok(_) => Ok(()),
         Err(fault) => Err(run_failure(schema, fault)),
     }
@@ -114,6 +157,10 @@ fn serve_check<R: Read + Drop, F: FnMut(&str) -> Option<R>, S: Sink, E: Sink>(
     err: &mut E,
 ) -> u8
     requires { F.IsAlwaysCallable opener }
+    ensures { Serves E.taken E.failures
+        (ChecksFiles F.FnMut R.remaining S.taken S.failures out.old out.new opener
+        paths.now.schema.now paths.now.directory.now)
+        result err.old err.new }
 {
     let schema = match schema_in(alloc, opener(paths.schema)) {
         Ok(schema) => schema,
@@ -134,6 +181,8 @@ fn check_over<'s, R: Read + Drop, F: FnMut(&str) -> Option<R>, S: Sink>(
     out: &mut S,
 ) -> Result<(), Failure<'s>>
     requires { F.IsAlwaysCallable opener }
+    ensures { ChecksTables F.FnMut R.remaining S.taken S.failures out.old out.new opener
+        directory.now schema.entry.now result }
 {
     let readers = open_tables(alloc, schema, directory, opener)?;
     let database: Database<'_, ColumnIndex> = match Database::load(alloc, schema, readers) {
@@ -150,8 +199,15 @@ fn check_over<'s, R: Read + Drop, F: FnMut(&str) -> Option<R>, S: Sink>(
 fn put_counts<I: EnvelopeIndex + Drop, S: Sink>(
     database: &Database<'_, I>,
     out: &mut S,
-) -> Result<(), SinkFault> {
-    for (place, table) in database.definitions().iter().enumerate() {
+) -> Result<(), SinkFault>
+    ensures ok { OnOk result (Appends (S.taken out.old) (S.taken out.new)
+        (check_text database.now.definitions database.now.tables)) }
+    ensures front { OnErr result (AppendsFront (S.taken out.old) (S.taken out.new)
+        (check_text database.now.definitions database.now.tables)) }
+    ensures failures { CountsFailure (S.failures out.old) (S.failures out.new) result }
+{
+    let definitions = database.definitions();
+    for (place, table) in definitions.iter().enumerate() {
         let mut digits = Buffer::new();
         let rows = digits.format(database.table(place).rows());
         put_parts(
@@ -169,7 +225,12 @@ fn serve_relate<S: Sink, E: Sink>(
     second: &str,
     out: &mut S,
     err: &mut E,
-) -> u8 {
+) -> u8
+    ensures { Serves E.taken E.failures
+        (λ end. RelateEnds first.now second.now end (S.taken out.old) (S.taken out.new)
+        (S.failures out.old) (S.failures out.new))
+        result err.old err.new }
+{
     let matrix = match relate_texts(alloc, first.as_bytes(), second.as_bytes()) {
         Ok(matrix) => matrix,
         Err(failure) => return failed(&failure, err),
@@ -182,20 +243,20 @@ fn serve_relate<S: Sink, E: Sink>(
 
 /// Writes the line of a failure, and returns its status, also where the line can't be written.
 pub fn failed<E: Sink>(failure: &Failure<'_>, err: &mut E) -> u8
-    ensures { result ≡ failure_status failure.now }
+    ensures status { result ≡ failure_status failure.now }
+    ensures line { Writes (E.taken err.old) (E.taken err.new) (E.failures err.old)
+        (E.failures err.new) (failure_line failure.now) }
 {
     let _ = fault_line(failure, err);
     status(failure)
 }
 
 // The bytes of a schema's file, but for what is past the greatest length of a schema.
-fn schema_text<R: Read + Drop>(
-    alloc: Global,
-    file: Option<R>,
-) -> Result<Vec<u8>, Failure<'static>> {
-    let Some(file) = file else {
-        return Err(Failure::SchemaUnreadable);
-    };
+fn schema_text<R: Read + Drop>(alloc: Global, file: R) -> Result<Vec<u8>, Failure<'static>>
+    ensures text { IfOk result (λ text. IfSome (R.remaining file)
+        (λ bytes. text.items ≡ take SCHEMA_BYTES bytes)) }
+    ensures failure { IfErr result IsUnread }
+{
     let mut text = Vec::new(alloc);
     match file.take(SCHEMA_BYTES).read_to_end(&mut text) {
         Ok(_) => Ok(text),
@@ -205,11 +266,26 @@ fn schema_text<R: Read + Drop>(
 }
 
 // The schema that a file spells.
-fn schema_in<R: Read + Drop>(alloc: Global, file: Option<R>) -> Result<Schema, Failure<'static>> {
+fn schema_in<R: Read + Drop>(alloc: Global, file: Option<R>) -> Result<Schema, Failure<'static>>
+    ensures { ReadsSchema R.remaining file result }
+{
+    let Some(file) = file else {
+        return Err(Failure::SchemaUnreadable);
+    };
     let text = schema_text(alloc, file)?;
     match read_schema(alloc, text.as_slice()) {
         Ok(schema) => Ok(schema),
-        Err(fault) => Err(Failure::Schema(fault)),
+        Err(fault) => Err(schema_failure(fault)),
+    }
+}
+
+// The failure that a fault of a schema is.
+fn schema_failure(fault: SchemaFault) -> Failure<'static>
+    ensures { result ≡ spec.schema_failure fault }
+{
+    match fault {
+        SchemaFault::OutOfMemory => Failure::OutOfMemory,
+        _ => Failure::Schema(fault),
     }
 }
 
@@ -221,7 +297,11 @@ fn open_tables<'s, R: Read + Drop, F: FnMut(&str) -> Option<R>>(
     mut opener: F,
 ) -> Result<Vec<R>, Failure<'s>>
     requires { F.IsAlwaysCallable opener }
-    ensures { IfOk result (λ readers. length readers.items ≡ length schema.entry.now) }
+    ensures count { IfOk result (λ readers. length readers.items ≡ length schema.entry.now) }
+    ensures opened { IfOk result (λ readers. (after : F)
+        × Opens F.FnMut opener (table_paths directory.now schema.entry.now) readers.items after) }
+    ensures failure { IfErr result (λ failure.
+        OpensTables {R = R} F.FnMut opener directory.now schema.entry.now (Err failure)) }
 {
     let mut readers = Vec::new(alloc);
     for table in schema.tables() {
@@ -232,15 +312,17 @@ fn open_tables<'s, R: Read + Drop, F: FnMut(&str) -> Option<R>>(
         let Some(reader) = opener(path.as_str()) else {
             return Err(Failure::TableUnreadable(name));
         };
-        if readers.push(reader).is_err() {
+        let Ok(()) = readers.push(reader) else {
             return Err(Failure::OutOfMemory);
-        }
+        };
     }
     Ok(readers)
 }
 
 // The path of a table's file.
-fn table_path(alloc: Global, directory: &str, name: &str) -> Result<String, AllocError> {
+fn table_path(alloc: Global, directory: &str, name: &str) -> Result<String, AllocError>
+    ensures { IfOk result (λ path. string_bytes path ≡ spec.table_path directory.now name.now) }
+{
     let mut path = String::from_str(alloc, directory)?;
     path.push_str("/")?;
     path.push_str(name)?;
@@ -251,6 +333,7 @@ fn table_path(alloc: Global, directory: &str, name: &str) -> Result<String, Allo
 // The failure that a fault of a run is.
 fn run_failure(schema: &Schema, fault: Fault) -> Failure<'_>
     requires { IsOfTables (length schema.now) fault }
+    ensures { IsFaultOf schema.entry.now fault result }
 {
     match fault {
         Fault::Query(fault) => Failure::Query(fault),

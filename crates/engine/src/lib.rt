@@ -5,7 +5,8 @@
 pub mod commands;
 pub mod first_run;
 
-pub use commands::{failed, serve};
+pub use commands::{failed, serve, serve_observed};
 pub use failures::{Failure, Fault, GeometryWord, fault_line, status};
-pub use query_runs::run;
+pub use observers::{RowObserver, Unobserved};
+pub use query_runs::{run, run_observed};
 pub use text_relation::relate_texts;

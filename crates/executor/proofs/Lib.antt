@@ -9,3 +9,4 @@ pub mod StreamLemmas
 pub mod WalkLemmas
 pub mod OrderLemmas
 mod MemoryLemmas
+mod IterationLemmas

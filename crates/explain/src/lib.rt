@@ -1,8 +1,8 @@
 //! What EXPLAIN and EXPLAIN ANALYZE say of a plan.
 #![tactic(auto)]
 
-mod accesses;
-mod filters;
+mod access_lines;
+mod filter_line;
 mod lines;
 pub mod plan_text;
 

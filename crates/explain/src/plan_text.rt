@@ -5,9 +5,10 @@ ghost use Rattle.std.specs.Io.KnownBytes.{Appends};
 ghost use Rattle.sinks.specs.Sinks.{AppendsFront, CountsFailure};
 ghost use Rattle.table_model.specs.ExplainTexts.{line, access_lines, filters_text, explain_text, analyze_text};
 
-use crate::accesses::put_accesses;
-use crate::filters::put_filters;
+use crate::access_lines::put_accesses;
+use crate::filter_line::put_filters;
 use crate::lines::{put_count, put_limit, put_number};
+use de9im::Work;
 use sinks::{Sink, SinkFault};
 use table_model::conditions::Bound;
 use table_model::plans::Plan;
@@ -38,17 +39,28 @@ pub fn explain<S: Sink, A, C>(
 pub fn analyze<S: Sink, A, C>(
     query: &Bound<A, C>,
     plan: &Plan,
-    work: u64,
+    work: &Work,
     sink: &mut S,
 ) -> Result<(), SinkFault>
     ensures ok { OnOk result
-        (Appends (S.taken sink.old) (S.taken sink.new) (analyze_text query.now plan.now work)) }
+        (Appends (S.taken sink.old) (S.taken sink.new) (analyze_text query.now plan.now work.now)) }
     ensures front { OnErr result
-        (AppendsFront (S.taken sink.old) (S.taken sink.new) (analyze_text query.now plan.now work)) }
+        (AppendsFront (S.taken sink.old) (S.taken sink.new) (analyze_text query.now plan.now work.now)) }
     ensures failures { CountsFailure (S.failures sink.old) (S.failures sink.new) result }
 {
     explain(query, plan, sink)?;
-    put_number(sink, b"work", work)
+    put_work(sink, work)
+}
+
+// Writes the line of the work.
+fn put_work<S: Sink>(sink: &mut S, work: &Work) -> Result<(), SinkFault>
+    ensures ok { OnOk result
+        (Appends (S.taken sink.old) (S.taken sink.new) (line (codes "work") (decimal work.now))) }
+    ensures front { OnErr result
+        (AppendsFront (S.taken sink.old) (S.taken sink.new) (line (codes "work") (decimal work.now))) }
+    ensures failures { CountsFailure (S.failures sink.old) (S.failures sink.new) result }
+{
+    put_number(sink, b"work", work.count())
 }
 
 // Writes the lines of a plan's accesses.

@@ -1,17 +1,1 @@
-pub mod FailureLemmas
-pub mod FieldLemmas
-pub mod SchemaLemmas
-pub mod HeaderLemmas
-pub mod EachLemmas
-pub mod RowLemmas
-pub mod ReadingLemmas
-pub mod LoadingLemmas
-pub mod LoadLemmas
-pub mod GeometryFieldLemmas
-pub mod KeyLemmas
-pub mod OrderLemmas
-pub mod AscentLemmas
-pub mod ReaderRecords
 pub mod DatabaseLemmas
-pub mod IndexLemmas
-pub mod MapLemmas

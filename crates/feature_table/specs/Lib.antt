@@ -1,10 +1,5 @@
 pub mod Cells
 pub mod GeometryFields
-pub mod KeyedRows
-pub mod Layouts
-pub mod Reading
-pub mod Records
-pub mod Outcomes
-pub mod RowReading
-pub mod Tables
 pub mod Indexes
+pub mod Outcomes
+pub mod Tables

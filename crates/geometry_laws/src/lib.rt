@@ -2,7 +2,7 @@
 #![tactic(auto)]
 
 pub mod coverings;
+pub mod line_sides;
 pub mod neighbourhoods;
 pub mod parity;
 pub mod points;
-pub mod sides;

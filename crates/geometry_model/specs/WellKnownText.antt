@@ -7,18 +7,18 @@ use Rattle.std.specs.Option.{option_to_list}
 use Rattle.std.specs.Str.{str_to_ascii_lowercase}
 use Rattle.std.specs.Str.Parse.{digits_value}
 use Rattle.geometry_model.specs.Points.{Position}
-use Rattle.geometry_model.specs.declared.limits.TheConstants.{COORDINATE_LIMIT}
 use Rattle.geometry_model.specs.Geometries.{Geometry, Point, MultiPoint, LineString, MultiLineString, Polygon, MultiPolygon, joined_rings}
 
--- the greatest size of a coordinate
+-- the greatest size of a coordinate: 10,000,000 either way (this project's choice)
 abbrev pub coordinate_limit : ℕ
-coordinate_limit = COORDINATE_LIMIT
+coordinate_limit = 10000000
 
--- the most positions of a geometry, as they are written
+-- the most positions of a geometry, as they are written: 10,000 (this project's choice)
 abbrev pub position_limit : ℕ
 position_limit = 10000
 
--- the most rings of a polygon or of all polygons of a MULTIPOLYGON, and elements of a MULTILINESTRING
+-- the most rings of a polygon or of all polygons of a MULTIPOLYGON, and elements of a MULTILINESTRING: 1,000 (this
+-- project's choice)
 abbrev pub part_limit : ℕ
 part_limit = 1000
 

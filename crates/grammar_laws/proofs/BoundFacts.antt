@@ -1,7 +1,7 @@
 -- What is bound fits the definitions.
 use Rattle.std.proofs.Common.{◌≡◌, ◌<◌, ◌+◌, ◌&&◌, inl, inr, ℕ, zero, suc, Bool, true, false, if◌then◌else◌, List, [], ◌∷◌, ◌++◌, length, map, Option, Some, None, Result, Ok, Err, IfOk, IfSome, refl, sym, ap, ap₂, subst, ◌∙◌, arith}
-use Rattle.std.specs.Prelude.{◌||◌, not, slice_get, is_some, is_none}
-use Rattle.std.specs.List.{list_all, flat_map, enumerate_from, cons_option}
+use Rattle.std.specs.Prelude.{not, slice_get, is_some, is_none}
+use Rattle.std.specs.List.{list_all, list_any, flat_map, enumerate_from, cons_option}
 use Rattle.std.proofs.lemmas.List.Elements.{All-nil, All-cons}
 use Rattle.std.proofs.lemmas.List.Quantifiers.{position-Some}
 use Rattle.geometry_model.specs.declared.text_faults.TextFault.{TextFault}
@@ -11,11 +11,12 @@ use Rattle.geometry_model.specs.CheckedTexts.{geometry_in_text, tested, valid_or
 use Rattle.geometry_model.specs.FirstFaults.{validity_fault}
 use Rattle.geometry_model.specs.Geometries.{Geometry}
 use Rattle.geometry_model.specs.TextReading.{read_text}
-use Rattle.table_model.specs.Binding.{GeometryBinding, Checked, ◌>>=◌, binding, bound_references, bound_reference, reference_at, table_place, two_references, with_second, name_start, columns_of, type_of, refers_to, column_named, found_in, column_meant, columns_meant, the_one, bound_column, geometry_of_type, geometry_only, unquoted, bound_operand, comparable, checked_types, bound_predicate, bound_by_parts, bound_cond, bound_condition, bound_item, bound_items, items_of, counts}
+use Rattle.table_model.specs.Binding.{GeometryBinding, Checked, ◌>>=◌, binding, bound_references, bound_reference, reference_at, table_place, named_apart, next_reference, references_after, name_start, columns_of, type_of, refers_to, column_named, found_in, column_meant, columns_meant, the_one, bound_column, geometry_of_type, geometry_only, unquoted, bound_operand, comparable, checked_types, bound_predicate, bound_by_parts, bound_cond, bound_condition, bound_item, bound_items, items_of, counts}
 use Rattle.table_model.specs.BoundQueries.{GeometryFits, IsBound, AreReferences, place_type, column_type, reference_columns, is_geometry, operand_type, type_if, can_compare, fits_by_parts, cond_fits, item_fits, argument_fits, geometry_fits}
 use Rattle.table_model.specs.GeometryColumns.{ColumnShape, geometry_binding, bound_argument, literal}
 use Rattle.table_model.specs.Loading.{and_then, each}
 use Rattle.table_model.specs.Outcomes.{Gives}
+use Rattle.table_model.specs.References.{AreOneOrTwo}
 use Rattle.table_model.specs.Statements.{conjuncts_of}
 use Rattle.table_model.specs.Texts.{same_name}
 use Rattle.table_model.specs.declared.conditions.Bound.{Bound}
@@ -394,43 +395,57 @@ placed schema w (Some place) found =
 one_reference : {T : Type 0} (schema : List (TableDef T)) (w : WrittenReference) → IfOk (bound_reference schema w) (λ r. r.table < length schema)
 one_reference schema w = placed schema w (table_place schema w.table.text) refl
 
+-- it is of the schema, and its name is none of those before it
+abbrev IsApart : {T : Type 0} → List (TableDef T) → List Reference → Reference → Type 0
+IsApart schema before r = (r.table < length schema) × (list_any (λ other. same_name other.name r.name) before ≡ false)
+
+-- a reference of another name than those before it is taken, one of a name that is taken is refused
+apart : {T : Type 0} (schema : List (TableDef T)) (before : List Reference) (at : ℕ) (r : Reference) (taken : Bool) → list_any (λ other. same_name other.name r.name) before ≡ taken
+    → r.table < length schema → IfOk (if taken then Err (query_fault.SameName at) else Ok r) (IsApart schema before)
+apart schema before at r true is there = tt
+apart schema before at r false is there = (there, is)
+
+-- so a reference that is bound after others is apart from them
+next_ok : {T : Type 0} (schema : List (TableDef T)) (before : List Reference) (w : WrittenReference) → IfOk (next_reference schema before w) (IsApart schema before)
+next_ok schema before w =
+    then_ok (bound_reference schema w) (named_apart before (name_start w.table w.alias)) (λ r. r.table < length schema) (IsApart schema before) (one_reference schema w)
+    (λ r there. apart schema before (name_start w.table w.alias) r (list_any (λ other. same_name other.name r.name) before) refl there)
+
 -- one reference to a table of the schema is what FROM may have
 one_ok : {T : Type 0} (schema : List (TableDef T)) (r : Reference) → r.table < length schema → AreReferences schema (r ∷ [])
 one_ok schema r there = record { few = inl refl; there = All-cons (λ (x : Reference). x.table < length schema) r [] there (All-nil (λ (x : Reference). x.table < length schema)); differ = refl }
 
--- two are, where their names differ; with one name they are refused
-chosen : {T : Type 0} (schema : List (TableDef T)) (r s : Reference) (at : ℕ) (same : Bool) → same_name r.name s.name ≡ same → r.table < length schema → s.table < length schema
-    → IfOk (if same then Err (query_fault.SameName at) else Ok (r ∷ s ∷ [])) (AreReferences schema)
-chosen schema r s at true is there too = tt
-chosen schema r s at false is there too = record {
+-- two are, where the second is apart from the first
+two_ok : {T : Type 0} (schema : List (TableDef T)) (r s : Reference) → r.table < length schema → IsApart schema (r ∷ []) s → AreReferences schema (r ∷ s ∷ [])
+two_ok schema r s there is = record {
   few = inr refl;
-  there = All-cons P r (s ∷ []) there (All-cons P s [] too (All-nil P));
-  differ = ap (λ b. not (b || false) && true) is;
+  there = All-cons P r (s ∷ []) there (All-cons P s [] is.0 (All-nil P));
+  differ = ap (λ b. not b && true) is.1;
 }
   where
     P : Reference → Type 0
     P x = x.table < length schema
 
--- so it is with an absent second reference, and with a bound one
-second_ok : {T : Type 0} (schema : List (TableDef T)) (first : Reference) (o : Option WrittenReference) → first.table < length schema → IfOk (with_second schema first o) (AreReferences schema)
-second_ok schema first None there = one_ok schema first there
-second_ok schema first (Some w) there =
-    then_ok (bound_reference schema w) (λ s. two_references first s (name_start w.table w.alias)) (λ r. r.table < length schema) (AreReferences schema)
-    (one_reference schema w) (λ s too. chosen schema first s (name_start w.table w.alias) (same_name first.name s.name) refl there too)
-
--- and with all that FROM is bound to
-references_ok : {T : Type 0} (schema : List (TableDef T)) (one : WrittenReference) (other : Option WrittenReference) → IfOk (bound_references schema one other) (AreReferences schema)
-references_ok schema one other =
-    then_ok (bound_reference schema one) (λ first. with_second schema first other) (λ r. r.table < length schema) (AreReferences schema)
-    (one_reference schema one) (λ first there. second_ok schema first other there)
+-- so one reference or two are bound to such ones
+references_ok : {T : Type 0} (schema : List (TableDef T)) (written : List WrittenReference) → AreOneOrTwo written → IfOk (bound_references schema written) (AreReferences schema)
+references_ok schema [] (inl none) = absurd (omega (arith, none))
+references_ok schema [] (inr none) = absurd (omega (arith, none))
+references_ok schema (w ∷ []) few =
+    then_ok (next_reference schema [] w) (λ r. references_after schema (r ∷ []) []) (IsApart schema []) (AreReferences schema) (next_ok schema [] w) (λ r is. one_ok schema r is.0)
+references_ok schema (w ∷ other ∷ []) few =
+    then_ok (next_reference schema [] w) (λ r. references_after schema (r ∷ []) (other ∷ [])) (IsApart schema []) (AreReferences schema) (next_ok schema [] w)
+    (λ r is. then_ok (next_reference schema (r ∷ []) other) (λ s. references_after schema (r ∷ s ∷ []) []) (IsApart schema (r ∷ [])) (AreReferences schema) (next_ok schema (r ∷ []) other)
+    (λ s apart. two_ok schema r s is.0 apart))
+references_ok schema (w ∷ other ∷ third ∷ more) (inl many) = absurd (omega (arith, many))
+references_ok schema (w ∷ other ∷ third ∷ more) (inr many) = absurd (omega (arith, many))
 
 -- ---- queries
 
 -- a query is bound part by part, and each part fits the definitions
-pub binding_ok : {T A B C D : Type 0} (how : GeometryBinding T A B C D) (fits : GeometryFits T B D) → Fitting how fits → (schema : List (TableDef T)) (query : Query A C)
+pub binding_ok : {T A B C D : Type 0} (how : GeometryBinding T A B C D) (fits : GeometryFits T B D) → Fitting how fits → (schema : List (TableDef T)) (query : Query A C) → AreOneOrTwo query.references
     → IfOk (binding how schema query) (IsBound fits schema)
-binding_ok how fits fitting schema query =
-    then_ok (bound_references schema query.first query.second) _ (AreReferences schema) (IsBound fits schema) (references_ok schema query.first query.second)
+binding_ok how fits fitting schema query few =
+    then_ok (bound_references schema query.references) _ (AreReferences schema) (IsBound fits schema) (references_ok schema query.references few)
     (λ references are. then_ok (bound_items how schema references query.selection) _ (λ listed. (list_all (item_fits fits schema references) listed ≡ true) × (counts query.selection ≡ true → listed ≡ [])) (IsBound fits schema) (items_ok how fits fitting schema references query.selection)
     (λ listed fit. then_ok (bound_condition how schema references query.on) _ (λ cs. list_all (cond_fits fits schema references) cs ≡ true) (IsBound fits schema) (condition_ok how fits fitting schema references query.on)
     (λ joining joining_fits. then_ok (bound_condition how schema references query.condition) _ (λ cs. list_all (cond_fits fits schema references) cs ≡ true) (IsBound fits schema) (condition_ok how fits fitting schema references query.condition)
@@ -481,7 +496,7 @@ geometry_fitting = record {
 
 -- which is all that the binding of a query asks of its geometries
 pub geometry_queries_are_bound : GeometryQueriesAreBound
-geometry_queries_are_bound definitions query = binding_ok geometry_binding geometry_fits geometry_fitting definitions query
+geometry_queries_are_bound definitions query few = binding_ok geometry_binding geometry_fits geometry_fitting definitions query few
 
 -- where a call that may run out of memory answers, its answer is the one that was to be given
 answered : {X : Type 0} (r s : Checked X) (P : X → Type 0) → IfOk s P → Gives query_fault.OutOfMemory (λ x. x) r s → IfOk r P
@@ -490,5 +505,5 @@ answered (Err e) s P is gives = tt
 
 -- a binder that returns what binding gives, or runs out of memory, returns what is bound to these definitions
 pub geometry_answer_is_bound : (definitions : List (TableDef ColumnShape)) (query : Query WrittenGeometry WrittenColumn) (r : Checked (Bound (GeometryArgument Geometry) ColumnPlace))
-    → Gives query_fault.OutOfMemory (λ b. b) r (binding geometry_binding definitions query) → IfOk r (IsBound geometry_fits definitions)
-geometry_answer_is_bound definitions query r gives = answered r (binding geometry_binding definitions query) (IsBound geometry_fits definitions) (geometry_queries_are_bound definitions query) gives
+    → AreOneOrTwo query.references → Gives query_fault.OutOfMemory (λ b. b) r (binding geometry_binding definitions query) → IfOk r (IsBound geometry_fits definitions)
+geometry_answer_is_bound definitions query r few gives = answered r (binding geometry_binding definitions query) (IsBound geometry_fits definitions) (geometry_queries_are_bound definitions query few) gives

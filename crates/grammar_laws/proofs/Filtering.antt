@@ -60,7 +60,7 @@ in_form s r v f is = ap (λ q. q >>= f) is ∙ then_then r (λ x. Ok (v x)) f
 -- both bindings take the same steps; taking the conjuncts of ON and WHERE refuses nothing and may come last
 pub bound_of_statement : (T A B C D : Type 0) → BoundOfStatement T A B C D
 bound_of_statement T A B C D how schema query =
-    same_then (bound_references schema query.first query.second) _ _ (λ references.
+    same_then (bound_references schema query.references) _ _ (λ references.
     same_then (bound_items how schema references query.selection) _ _ (λ listed.
     in_form (bound_condition how schema references query.on) (bound_whole how schema references query.on) conjuncts_in _ (in_whole how schema references query.on)
     ∙ same_then (bound_whole how schema references query.on) _ _ (λ on.
@@ -68,7 +68,7 @@ bound_of_statement T A B C D how schema query =
     ∙ sym (then_then (bound_whole how schema references query.condition) _ _))
     ∙ sym (then_then (bound_whole how schema references query.on) _ _))
     ∙ sym (then_then (bound_items how schema references query.selection) _ _))
-    ∙ sym (then_then (bound_references schema query.first query.second) _ _)
+    ∙ sym (then_then (bound_references schema query.references) _ _)
 
 -- ---- truth
 

@@ -1,10 +1,11 @@
 -- The references that FROM is bound to agree with the rules.
-use Rattle.std.proofs.Common.{◌≡◌, ◌+◌, ℕ, zero, suc, Bool, true, false, cond, List, [], ◌∷◌, slice_get, Option, Some, None, IfOk, IfErr, refl, sym, ap, subst, ◌∙◌, arith}
+use Rattle.std.proofs.Common.{◌≡◌, ◌+◌, inl, inr, ℕ, zero, suc, Bool, true, false, cond, List, [], ◌∷◌, ◌++◌, slice_get, Option, Some, None, IfOk, IfErr, refl, sym, ap, subst, ◌∙◌, arith}
 use Rattle.std.proofs.lemmas.Iterator.Adapters.{position_from-zero}
-use Rattle.std.specs.List.{position, position_from}
-use Rattle.table_model.specs.Binding.{bound_reference, bound_references, name_start, reference_at, reference_name, table_name, table_place, with_second}
-use Rattle.table_model.specs.BindingRules.{IsFirst, IsNowhere}
-use Rattle.table_model.specs.QueryRules.{IsBoundReference, IsFrom, IsRefusedFrom, IsRefusedReference, IsTableNamed, alias_or}
+use Rattle.std.specs.Prelude.{◌||◌}
+use Rattle.std.specs.List.{list_any, position, position_from}
+use Rattle.table_model.specs.Binding.{bound_reference, bound_references, name_start, named_apart, next_reference, reference_at, reference_name, references_after, table_name, table_place}
+use Rattle.table_model.specs.BindingRules.{IsFirst, IsNowhere, IsSomewhere}
+use Rattle.table_model.specs.QueryRules.{IsBoundReference, IsFrom, IsFromAfter, IsNextReference, IsRefusedAfter, IsRefusedFrom, IsRefusedNext, IsRefusedReference, IsTableNamed, IsTaken, alias_or}
 use Rattle.table_model.specs.Texts.{same_name}
 use Rattle.table_model.specs.declared.conditions.Reference.{Reference}
 use Rattle.table_model.specs.declared.definitions.TableDef.{TableDef}
@@ -13,7 +14,7 @@ use Rattle.table_model.specs.declared.queries.Name.{Name}
 use Rattle.table_model.specs.declared.queries.WrittenReference.{WrittenReference}
 use Rattle.grammar_laws.specs.RuleLaws.{Agrees, ReferencesAgree}
 use Rattle.grammar_laws.proofs.NameFacts.{agreed, first_is_one, not_nowhere, somewhere}
-use Rattle.grammar_laws.proofs.RuleFacts.{answered, differ, sequence, tested}
+use Rattle.grammar_laws.proofs.RuleFacts.{differ, pure, sequence, tested}
 
 -- ---- the first that passes a test
 
@@ -93,13 +94,50 @@ reference_agrees schema w =
 
 -- ---- FROM
 
--- FROM binds one table or two, one after the other, and refuses two references of one name
-pub from_agrees : {T : Type 0} (schema : List (TableDef T)) (w : WrittenReference) (other : Option WrittenReference) → Agrees (IsFrom schema w other) (IsRefusedFrom schema w other) (bound_references schema w other)
-from_agrees schema w None = answered (IsBoundReference schema w) (IsRefusedReference schema w) (bound_reference schema w) (λ first. first ∷ []) (reference_agrees schema w)
-from_agrees schema w (Some other) =
-    sequence (IsBoundReference schema w) (IsRefusedReference schema w) _ _ (bound_reference schema w) (λ first. with_second schema first (Some other)) (reference_agrees schema w)
-    (λ first first_is. sequence (IsBoundReference schema other) (IsRefusedReference schema other) _ _ (bound_reference schema other) _ (reference_agrees schema other)
-    (λ second second_is. tested (same_name first.name second.name) (faults.SameName (name_start other.table other.alias)) (first ∷ second ∷ [])))
+-- a list that a test finds something in has it somewhere
+found_somewhere : {X : Type 0} (p : X → Bool) (xs : List X) → list_any p xs ≡ true → IsSomewhere (λ x. p x ≡ true) xs
+found_somewhere p [] h = absurd (differ h)
+found_somewhere p (x ∷ xs) h = at (p x) refl h (found_somewhere p xs)
+  where
+    at : (b : Bool) → p x ≡ b → b || list_any p xs ≡ true → (list_any p xs ≡ true → IsSomewhere (λ x. p x ≡ true) xs) → IsSomewhere (λ x. p x ≡ true) (x ∷ xs)
+    at true is h more = inl is
+    at false is h more = inr (more h)
+
+-- and what is somewhere is found
+somewhere_found : {X : Type 0} (p : X → Bool) (xs : List X) → IsSomewhere (λ x. p x ≡ true) xs → list_any p xs ≡ true
+somewhere_found p [] h = absurd h
+somewhere_found p (x ∷ xs) (inl is) = ap (λ b. b || list_any p xs) is
+somewhere_found p (x ∷ xs) (inr later) = at (p x) (somewhere_found p xs later)
+  where
+    at : (b : Bool) → list_any p xs ≡ true → b || list_any p xs ≡ true
+    at true is = refl
+    at false is = is
+
+-- a reference is refused where its name is taken
+apart_agrees : (before : List Reference) (at : ℕ) (r : Reference)
+    → Agrees (λ next. (IsTaken before r.name → ⊥) × (next ≡ r)) (λ fault. IsTaken before r.name × (fault ≡ faults.SameName at)) (named_apart before at r)
+apart_agrees before at r =
+    let taken : Reference → Bool = λ other. same_name other.name r.name in
+    tested (IsTaken before r.name) (list_any taken before) (faults.SameName at) r (found_somewhere taken before) (somewhere_found taken before)
+
+-- a reference after others is bound, and then its name is compared
+next_agrees : {T : Type 0} (schema : List (TableDef T)) (before : List Reference) (w : WrittenReference)
+    → Agrees (IsNextReference schema before w) (IsRefusedNext schema before w) (next_reference schema before w)
+next_agrees schema before w =
+    sequence (IsBoundReference schema w) (IsRefusedReference schema w) _ _ (bound_reference schema w) (named_apart before (name_start w.table w.alias)) (reference_agrees schema w)
+    (λ r is. apart_agrees before (name_start w.table w.alias) r)
+
+-- references are bound one after the other
+after_agrees : {T : Type 0} (schema : List (TableDef T)) (before : List Reference) (ws : List WrittenReference)
+    → Agrees (IsFromAfter schema before ws) (IsRefusedAfter schema before ws) (references_after schema before ws)
+after_agrees schema before [] = pure before
+after_agrees schema before (w ∷ more) =
+    sequence (IsNextReference schema before w) (IsRefusedNext schema before w) _ _ (next_reference schema before w) (λ r. references_after schema (before ++ r ∷ []) more) (next_agrees schema before w)
+    (λ r is. after_agrees schema (before ++ r ∷ []) more)
+
+-- so is FROM, with none before it
+pub from_agrees : {T : Type 0} (schema : List (TableDef T)) (written : List WrittenReference) → Agrees (IsFrom schema written) (IsRefusedFrom schema written) (bound_references schema written)
+from_agrees schema written = after_agrees schema [] written
 
 pub references_agree : (T : Type 0) → ReferencesAgree T
-references_agree T schema first second = from_agrees schema first second
+references_agree T schema written = from_agrees schema written

@@ -24,7 +24,7 @@ use Rattle.table_model.specs.declared.tokens.Token.{Token}
 use Rattle.table_model.specs.declared.tokens.TokenKind.{TokenKind}
 use Rattle.table_model.specs.declared.tokens.TokenKind.TheVariants as k
 use Rattle.table_model.specs.Parsers.{kind, place, spelling, next, written, sees, after, and_then, expect, parts_from}
-use Rattle.table_model.specs.QueryGrammar.{IsName, IsColumn, IsDigits, IsInteger, IsString, IsCall, IsGeometry, IsOperandFunction, IsOperand, IsComparison, function_of, IsPair, IsBool, IsNumber, IsTest, IsPredicate, IsChain, IsConjunction, IsConditionOf, IsNegationOf, IsNegation, IsCondition, IsItemFunction, IsItem, IsSelection, IsReference, IsCrossed, IsJoined, IsSecond, IsWhere, IsRowCount, IsLimit, IsExplain, IsSelect}
+use Rattle.table_model.specs.QueryGrammar.{IsName, IsColumn, IsDigits, IsInteger, IsString, IsCall, IsGeometry, IsOperandFunction, IsOperand, IsComparison, function_of, IsPair, IsBool, IsNumber, IsTest, IsPredicate, IsChain, IsConjunction, IsConditionOf, IsNegationOf, IsNegation, IsCondition, IsItemFunction, IsItem, IsSelection, IsReference, IsReferences, IsCrossed, IsJoined, IsSecond, IsWhere, IsRowCount, IsLimit, IsExplain, IsSelect}
 use Rattle.table_model.specs.QueryReading.{Reader, Functions, name, column, calls, called_or, enclosed, string, geometry, integer, operand_functions, operand, comparison_of, compared, null_test, comparison, truth_value, truth_test, truth_tested, relates, relates_by, predicate_functions, predicate, chain, conjunction, condition_of, group, negation, condition, item_functions, item, items, counted, count_function, selection, alias, reference, Second, crossed, joined_on, second, where_condition, limit_value, limit_number, limited, says, explained, query}
 use Rattle.table_model.specs.Queries.{Condition, ConditionOperand, SelectItem, SelectQuery}
 use Rattle.table_model.specs.Texts.{same_name}
@@ -1119,7 +1119,7 @@ abbrev pub EndsSecond : TokenKind → Type 0
 EndsSecond kind = EndsCondition kind × EndsReference kind × (same_kind kind k.Comma ≡ false) × (same_kind kind k.Cross ≡ false) × (same_kind kind k.Inner ≡ false) × (same_kind kind k.Join ≡ false)
 
 -- The next token shows the form of a second reference; for each form. None of its tokens: there is none
-pub second_of_none : (t : Token) (rest : List Token) → EndsSecond t.kind → second (t ∷ rest) ≡ Ok ((None, None), t ∷ rest)
+pub second_of_none : (t : Token) (rest : List Token) → EndsSecond t.kind → second (t ∷ rest) ≡ Ok (([], None), t ∷ rest)
 unfolding sees kind
 second_of_none t rest f = rw (f.2, f.3, f.4, f.5) refl
 
@@ -1146,14 +1146,14 @@ second_of_join m ts e = rw e refl
 
 -- a second reference without a condition is read
 crossed_complete : (given : WrittenReference) (used : List Token) (t : Token) (rest : List Token) → IsReference given used → EndsReference t.kind
-    → crossed (used ++ t ∷ rest) ≡ Ok ((Some given, None), t ∷ rest)
+    → crossed (used ++ t ∷ rest) ≡ Ok ((given ∷ [], None), t ∷ rest)
 unfolding crossed
 crossed_complete given used t rest p f = rw (reference_complete given used t rest p f) refl
 
 -- JOIN with its reference and condition, where each step of the reader reads its part
 joined_by_steps : (given : WrittenReference) (x : Condition) (ts ts1 ts2 ts3 ts4 : List Token)
     → expect fault.Syntax k.Join ts ≡ Ok (tt, ts1) → reference ts1 ≡ Ok (given, ts2) → expect fault.Syntax k.On ts2 ≡ Ok (tt, ts3) → condition ts3 ≡ Ok (x, ts4)
-    → joined_on ts ≡ Ok ((Some given, Some x), ts4)
+    → joined_on ts ≡ Ok ((given ∷ [], Some x), ts4)
 unfolding joined_on
 joined_by_steps given x ts ts1 ts2 ts3 ts4 e1 e2 e3 e4 = rw (e1, e2, e3, e4) refl
 
@@ -1164,11 +1164,11 @@ on_ends kind e = ends_by EndsReference kind k.On e (refl, refl, refl)
 
 -- JOIN with its reference and condition is read: ON ends the reference
 joined_complete : (given : WrittenReference) (x : Condition) (used : List Token) (t : Token) (rest : List Token) → IsJoin given x used → EndsCondition t.kind
-    → joined_on (used ++ t ∷ rest) ≡ Ok ((Some given, Some x), t ∷ rest)
+    → joined_on (used ++ t ∷ rest) ≡ Ok ((given ∷ [], Some x), t ∷ rest)
 joined_complete given x used t rest p f = with_join (one_first _ (IsReference given ▸ IsToken k.On ▸ IsCondition x) used p)
   where
     with_on : (m : Token) (d a b : List Token) → used ≡ m ∷ d → m.kind ≡ k.Join → d ≡ a ++ b → IsReference given a
-        → ((n : Token) × (d2 : List Token) × (b ≡ n ∷ d2) × (n.kind ≡ k.On) × IsCondition x d2) → joined_on (used ++ t ∷ rest) ≡ Ok ((Some given, Some x), t ∷ rest)
+        → ((n : Token) × (d2 : List Token) × (b ≡ n ∷ d2) × (n.kind ≡ k.On) × IsCondition x d2) → joined_on (used ++ t ∷ rest) ≡ Ok ((given ∷ [], Some x), t ∷ rest)
     with_on m d a b e join e2 r (n, d2, g, on, h) =
         let cut : d ++ t ∷ rest ≡ a ++ n ∷ (d2 ++ t ∷ rest) = split d a b d2 (t ∷ rest) n e2 g in
         ap (λ l. joined_on (l ++ t ∷ rest)) e
@@ -1177,12 +1177,12 @@ joined_complete given x used t rest p f = with_join (one_first _ (IsReference gi
         (expect_read k.On n (d2 ++ t ∷ rest) on) (condition_complete x d2 t rest h f)
 
     with_join : ((m : Token) × (d : List Token) × (used ≡ m ∷ d) × (m.kind ≡ k.Join) × (IsReference given ▸ IsToken k.On ▸ IsCondition x) d)
-        → joined_on (used ++ t ∷ rest) ≡ Ok ((Some given, Some x), t ∷ rest)
+        → joined_on (used ++ t ∷ rest) ≡ Ok ((given ∷ [], Some x), t ∷ rest)
     with_join (m, d, e, join, (a, b, e2, r, q)) = with_on m d a b e join e2 r (one_first _ (IsCondition x) b q)
 
 -- two tables without a condition between them
 crossed_second : (given : WrittenReference) (used : List Token) (t : Token) (rest : List Token) → IsCrossed given used → EndsReference t.kind
-    → second (used ++ t ∷ rest) ≡ Ok ((Some given, None), t ∷ rest)
+    → second (used ++ t ∷ rest) ≡ Ok ((given ∷ [], None), t ∷ rest)
 crossed_second given used t rest (inl p) f =
     let comma = one_first _ (IsReference given) used p in
     ap (λ l. second (l ++ t ∷ rest)) comma.2 ∙ second_of_comma comma.0 (comma.1 ++ t ∷ rest) comma.3 ∙ crossed_complete given comma.1 t rest comma.4 f
@@ -1196,7 +1196,7 @@ crossed_second given used t rest (inr p) f =
 
 -- two tables with a condition between them, with INNER or without
 joined_second : (given : WrittenReference) (x : Condition) (used : List Token) (t : Token) (rest : List Token)
-    → IsJoined given x used → EndsCondition t.kind → second (used ++ t ∷ rest) ≡ Ok ((Some given, Some x), t ∷ rest)
+    → IsJoined given x used → EndsCondition t.kind → second (used ++ t ∷ rest) ≡ Ok ((given ∷ [], Some x), t ∷ rest)
 joined_second given x used t rest (a, b, e, inl none, q) f =
     let join = one_first _ (IsReference given ▸ IsToken k.On ▸ IsCondition x) b q in
     let same : used ≡ b = e ∙ ap (λ l. l ++ b) none in
@@ -1424,7 +1424,7 @@ query_by_steps : (told : Explain) (listed : Selection WrittenColumn) (first : Wr
     → explained ts ≡ Ok (told, ts0) → expect fault.Syntax k.Select ts0 ≡ Ok (tt, ts1) → selection ts1 ≡ Ok (listed, ts2) → expect fault.Syntax k.From ts2 ≡ Ok (tt, ts3)
     → reference ts3 ≡ Ok (first, ts4) → second ts4 ≡ Ok (both, ts5) → where_condition ts5 ≡ Ok (filter, ts6) → limited ts6 ≡ Ok (most, tail)
     → expect fault.Syntax k.End (after k.Semicolon tail) ≡ Ok (tt, [])
-    → query ts ≡ Ok (record { explain = told; selection = listed; first = first; second = both.0; on = both.1; condition = filter; limit = most }, [])
+    → query ts ≡ Ok (record { explain = told; selection = listed; references = first ∷ both.0; on = both.1; condition = filter; limit = most }, [])
 unfolding query
 query_by_steps told listed first both filter most ts ts0 ts1 ts2 ts3 ts4 ts5 ts6 tail e0 e1 e2 e3 e4 e5 e6 e7 e8 = rw (e0, e1, e2, e3, e4, e5, e6, e7, e8) refl
 
@@ -1476,30 +1476,43 @@ pub from_ends : (kind : TokenKind) → kind ≡ k.From → EndsItems kind
 unfolding same_kind
 from_ends kind e = ends_by EndsItems kind k.From e ((refl, refl), refl)
 
--- what is written from the second reference on
+-- what is written from the condition of WHERE on
 abbrev pub IsRest : SelectQuery → Phrase
-IsRest q = IsSecond q.second q.on ▸ IsWhere q.condition ▸ IsLimit q.limit ▸ IsTail
+IsRest q = IsWhere q.condition ▸ IsLimit q.limit ▸ IsTail
+
+-- the references of FROM begin with one, and what is written behind it is that of the second and the rest
+from_first : (references : List WrittenReference) (on : Option Condition) (R : Phrase) (ts : List Token) → (IsReferences references on ▸ R) ts
+    → (first : WrittenReference) × (more : List WrittenReference) × (references ≡ first ∷ more) × (IsReference first ▸ IsSecond more on ▸ R) ts
+from_first references on R ts (a, b, e, (first, more, is, (c, d, e2, p, q)), r) =
+    (first, more, is, (c, d ++ b, e ∙ ap (λ l. l ++ b) e2 ∙ append_assoc c d b, p, (d, b, refl, q, r)))
+
+-- what is read with these references is the query that has them
+with_references : (ts : List Token) (q : SelectQuery) (references : List WrittenReference) → q.references ≡ references
+    → query ts ≡ Ok (record { explain = q.explain; selection = q.selection; references = references; on = q.on; condition = q.condition; limit = q.limit }, []) → query ts ≡ Ok (q, [])
+with_references ts q references is =
+    subst (λ rs. query ts ≡ Ok (record { explain = q.explain; selection = q.selection; references = rs; on = q.on; condition = q.condition; limit = q.limit }, [])) (sym is)
 
 -- each rule is read as far as its phrase goes, by the token that comes after it
 pub select_complete : (q : SelectQuery) (ts : List Token) → IsSelect q ts → query ts ≡ Ok (q, [])
 select_complete q ts (a0, b0, e0, told, p) = at_select (one_first _ _ b0 p)
   where
     at_reference : (m : Token) (ts1 a1 : List Token) (n : Token) (ts3 : List Token) → b0 ≡ m ∷ ts1 → m.kind ≡ k.Select → ts1 ≡ a1 ++ n ∷ ts3 → n.kind ≡ k.From → IsSelection q.selection a1
-        → (IsReference q.first ▸ IsRest q) ts3 → query ts ≡ Ok (q, [])
-    at_reference m ts1 a1 n ts3 e1 s cut f l1 (a, b, e, r, w) =
-        let more = rest4 (q.second, q.on) q.condition q.limit b w in
-        query_by_steps q.explain q.selection q.first (q.second, q.on) q.condition q.limit ts (m ∷ ts1) ts1 (n ∷ ts3) ts3 b more.0 more.2.0 more.2.2.0
+        → ((first : WrittenReference) × (later : List WrittenReference) × (q.references ≡ first ∷ later) × (IsReference first ▸ IsSecond later q.on ▸ IsRest q) ts3) → query ts ≡ Ok (q, [])
+    at_reference m ts1 a1 n ts3 e1 s cut f l1 (first, later, is, (a, b, e, r, w)) =
+        let more = rest4 (later, q.on) q.condition q.limit b w in
+        with_references ts q (first ∷ later) is (query_by_steps q.explain q.selection first (later, q.on) q.condition q.limit ts (m ∷ ts1) ts1 (n ∷ ts3) ts3 b more.0 more.2.0 more.2.2.0
         (ap explained (e0 ∙ ap (λ l. a0 ++ l) e1) ∙ explained_complete q.explain a0 m ts1 told s)
         (expect_read k.Select m ts1 s)
         (ap selection cut ∙ selection_complete q.selection a1 n ts3 l1 (from_ends n.kind f))
         (expect_read k.From n ts3 f)
-        (ap reference e ∙ complete_at reference IsReference EndsReference reference_complete q.first a b r more.3)
-        more.1 more.2.1 more.2.2.1 more.2.2.2
+        (ap reference e ∙ complete_at reference IsReference EndsReference reference_complete first a b r more.3)
+        more.1 more.2.1 more.2.2.1 more.2.2.2)
 
     at_from : (m : Token) (ts1 a1 b1 : List Token) → b0 ≡ m ∷ ts1 → m.kind ≡ k.Select → ts1 ≡ a1 ++ b1 → IsSelection q.selection a1
-        → ((n : Token) × (ts3 : List Token) × (b1 ≡ n ∷ ts3) × (n.kind ≡ k.From) × (IsReference q.first ▸ IsRest q) ts3) → query ts ≡ Ok (q, [])
-    at_from m ts1 a1 b1 e1 s cut l1 (n, ts3, e2, f, r) = at_reference m ts1 a1 n ts3 e1 s (cut ∙ ap (λ l. a1 ++ l) e2) f l1 r
+        → ((n : Token) × (ts3 : List Token) × (b1 ≡ n ∷ ts3) × (n.kind ≡ k.From) × (IsReferences q.references q.on ▸ IsRest q) ts3) → query ts ≡ Ok (q, [])
+    at_from m ts1 a1 b1 e1 s cut l1 (n, ts3, e2, f, r) =
+        at_reference m ts1 a1 n ts3 e1 s (cut ∙ ap (λ l. a1 ++ l) e2) f l1 (from_first q.references q.on (IsRest q) ts3 r)
 
-    at_select : ((m : Token) × (ts1 : List Token) × (b0 ≡ m ∷ ts1) × (m.kind ≡ k.Select) × (IsSelection q.selection ▸ IsToken k.From ▸ IsReference q.first ▸ IsRest q) ts1)
+    at_select : ((m : Token) × (ts1 : List Token) × (b0 ≡ m ∷ ts1) × (m.kind ≡ k.Select) × (IsSelection q.selection ▸ IsToken k.From ▸ IsReferences q.references q.on ▸ IsRest q) ts1)
         → query ts ≡ Ok (q, [])
-    at_select (m, ts1, e1, s, (a1, b1, cut, l1, more)) = at_from m ts1 a1 b1 e1 s cut l1 (one_first _ (IsReference q.first ▸ IsRest q) b1 more)
+    at_select (m, ts1, e1, s, (a1, b1, cut, l1, more)) = at_from m ts1 a1 b1 e1 s cut l1 (one_first _ (IsReferences q.references q.on ▸ IsRest q) b1 more)

@@ -569,7 +569,7 @@ condition_hits n used v u (ors, ands, (a, b, e, p, q)) hit =
 abbrev pub finish : Explain → Selection WrittenColumn → WrittenReference → Second → Reader SelectQuery
 finish told listed first both = λ ts. and_then (where_condition ts) (λ condition rest. and_then (limited rest) (λ most tail.
     and_then (expect fault.Syntax k.End (after k.Semicolon tail))
-    (λ _ last. Ok (record { explain = told; selection = listed; first = first; second = both.0; on = both.1; condition = condition; limit = most }, last))))
+    (λ _ last. Ok (record { explain = told; selection = listed; references = first ∷ both.0; on = both.1; condition = condition; limit = most }, last))))
 
 -- a query up to its first reference, where each step of the reader reads its part: what is left is the second reference and the rest
 query_steps : (told : Explain) (listed : Selection WrittenColumn) (first : WrittenReference) (ts ts0 ts1 ts2 ts3 ts4 : List Token)
@@ -727,18 +727,18 @@ through_second a ts both rest p begins e = prefix_at a ts p begins ∙ ap (λ r.
 through_meets : (before : List Token) → ThroughFrom before → Through before
 through_meets before (inl p) =
     let prefix = prefix_read before p in
-    inl (prefix.0, prefix.1, prefix.2, (None, None), λ m tail ends. through_second before (m ∷ tail) (None, None) (m ∷ tail) prefix (m, tail, refl, ends.1) (second_of_none m tail ends))
+    inl (prefix.0, prefix.1, prefix.2, ([], None), λ m tail ends. through_second before (m ∷ tail) ([], None) (m ∷ tail) prefix (m, tail, refl, ends.1) (second_of_none m tail ends))
 through_meets before (inr (inl (given, (a, x, e, p, other)))) =
     let prefix = prefix_read a p in
     inl (
       prefix.0,
       prefix.1,
       prefix.2,
-      (Some given, None),
+      (given ∷ [], None),
       λ m tail ends.
           ap query (ap (λ l. l ++ m ∷ tail) e ∙ append_assoc a x (m ∷ tail))
-          ∙ through_second a (x ++ m ∷ tail) (Some given, None) (m ∷ tail) prefix (begins_more EndsReference x (m ∷ tail) (crossed_begins given x other))
-          (second_complete (Some given, None) x m tail (inr (inl (given, refl, refl, other))) ends),
+          ∙ through_second a (x ++ m ∷ tail) (given ∷ [], None) (m ∷ tail) prefix (begins_more EndsReference x (m ∷ tail) (crossed_begins given x other))
+          (second_complete (given ∷ [], None) x m tail (inr (inl (given, refl, refl, other))) ends),
     )
 through_meets before (inr (inr (on, (a, d, e, (given, (x, y, e2, p, j)), cond)))) =
     go (condition_of_meets (negation most_levels) IsAnyNegation (IsNegation most_levels) (negation_complete most_levels) (any_negation_meets most_levels) on d cond)
@@ -753,12 +753,12 @@ through_meets before (inr (inr (on, (a, d, e, (given, (x, y, e2, p, j)), cond)))
           prefix.0,
           prefix.1,
           prefix.2,
-          (Some given, Some z),
+          (given ∷ [], Some z),
           λ m tail ends.
               ap query (cut (m ∷ tail) ∙ ap (λ l. x ++ l) (sym (append_assoc y d (m ∷ tail))))
-              ∙ through_second x ((y ++ d) ++ m ∷ tail) (Some given, Some z) (m ∷ tail) prefix
+              ∙ through_second x ((y ++ d) ++ m ∷ tail) (given ∷ [], Some z) (m ∷ tail) prefix
               (begins_more EndsReference (y ++ d) (m ∷ tail) (begins_more EndsReference y d (on_begins given y j)))
-              (second_complete (Some given, Some z) (y ++ d) m tail (inr (inr (given, z, refl, refl, with_condition given z y d j s))) ends),
+              (second_complete (given ∷ [], Some z) (y ++ d) m tail (inr (inr (given, z, refl, refl, with_condition given z y d j s))) ends),
         )
     go (inr (f, at, h)) = inr (
       f,

@@ -1,14 +1,17 @@
 -- A text is read exactly where it is a query, and as that query.
-use Rattle.std.proofs.Common.{◌≡◌, ℕ, ◌≤◌, Bool, true, false, if◌then◌else◌, List, length, Option, Some, None, Result, Ok, Err, IfOk, nat_lt, refl, subst}
+use Rattle.std.proofs.Common.{◌≡◌, inl, inr, ℕ, suc, ◌≤◌, Bool, true, false, if◌then◌else◌, List, ◌∷◌, length, Option, Some, None, Result, Ok, Err, IfOk, nat_lt, refl, sym, ap, subst}
 use Rattle.std.proofs.lemmas.Bool.{ltb-false, le-ltb}
 use Rattle.table_model.specs.declared.faults.QueryFault.{QueryFault}
 use Rattle.table_model.specs.declared.faults.QueryFault.TheVariants as fault
 use Rattle.table_model.specs.Outcomes.{Gives}
 use Rattle.table_model.specs.Parsers.{Outcome, value_of}
-use Rattle.table_model.specs.QueryGrammar.{IsSelect, IsQuery, AnswersQuery}
+use Rattle.table_model.specs.QueryGrammar.{IsReferences, IsSecond, IsSelect, IsQuery, AnswersQuery}
 use Rattle.table_model.specs.QueryReading.{bad_place, query, query_by, query_of}
-use Rattle.table_model.specs.Queries.{SelectQuery}
+use Rattle.table_model.specs.Queries.{Condition, SelectQuery}
+use Rattle.table_model.specs.References.{AreOneOrTwo}
 use Rattle.table_model.specs.Tokens.{tokens, most_bytes}
+use Rattle.table_model.specs.declared.queries.WrittenReference.{WrittenReference}
+use Rattle.table_model.specs.declared.tokens.Token.{Token}
 use Rattle.grammar_laws.proofs.QueryComplete.{select_complete}
 use Rattle.grammar_laws.proofs.QuerySound.{query_sound}
 use Rattle.grammar_laws.proofs.TokenReaders.{IfRead, map_read}
@@ -56,6 +59,25 @@ same_answer r a b p q = cc
 -- a text is one query at most
 pub one_tree : (text : List ℕ) (a b : SelectQuery) → IsQuery text a → IsQuery text b → a ≡ b
 one_tree text a b p q = same_answer (query_of text) a b (query_is_read text a p) (query_is_read text b q)
+
+-- behind the first reference there is one more or none
+few_more : (first : WrittenReference) (more : List WrittenReference) (on : Option Condition) (ts : List Token) → IsSecond more on ts → AreOneOrTwo (first ∷ more)
+few_more first more on ts (inl (none, x, y)) = inl (ap (λ l. suc (length l)) none)
+few_more first more on ts (inr (inl (given, one, x, p))) = inr (ap (λ l. suc (length l)) one)
+few_more first more on ts (inr (inr (given, y, one, x, p))) = inr (ap (λ l. suc (length l)) one)
+
+-- so the references of FROM are one or two
+few_in : (references : List WrittenReference) (on : Option Condition) (ts : List Token) → IsReferences references on ts → AreOneOrTwo references
+few_in references on ts (first, more, is, (a, b, e, p, second)) = subst (λ l. AreOneOrTwo l) (sym is) (few_more first more on b second)
+
+-- and so are those of a query
+few_of : (q : SelectQuery) (ts : List Token) → IsSelect q ts → AreOneOrTwo q.references
+few_of q ts (a0, b0, e0, told, (a1, b1, e1, select, (a2, b2, e2, listed, (a3, b3, e3, from, (a4, b4, e4, references, rest))))) = few_in q.references q.on a4 references
+
+-- a query has one reference or two
+pub references_are_few : (text : List ℕ) (q : SelectQuery) → IsQuery text q → AreOneOrTwo q.references
+unfolding IsQuery
+references_are_few text q (short, good, select) = few_of q (tokens true text) select
 
 -- what is given as the text's query is one
 pub given_is_query : (text : List ℕ) (r : Result SelectQuery QueryFault) → Gives fault.OutOfMemory (λ q. q) r (query_of text) → IfOk r (λ q. IsQuery text q)

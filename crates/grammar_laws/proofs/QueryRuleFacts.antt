@@ -42,7 +42,7 @@ stated query references listed on condition =
 -- what a query is bound to, step after step
 InSteps : {T A B C D : Type 0} → GeometryRules T A B C D → List (TableDef T) → Query A C → Statement B D → Type 0
 InSteps rules schema query =
-    Then (IsFrom schema query.first query.second) (λ references. Then (AreItems rules schema references query.selection)
+    Then (IsFrom schema query.references) (λ references. Then (AreItems rules schema references query.selection)
     (λ listed. Then (IsWhole rules schema references query.on) (λ on. Then (IsWhole rules schema references query.condition)
     (λ condition s. s ≡ stated query references listed on condition))))
 
@@ -51,7 +51,7 @@ steps_agree : {T A B C D : Type 0} (rules : GeometryRules T A B C D) (how : Geom
     → Agrees (InSteps rules schema query) (IsRefusedQuery rules schema query) (statement how schema query)
 unfolding InSteps stated
 steps_agree rules how agrees schema query =
-    sequence (IsFrom schema query.first query.second) (IsRefusedFrom schema query.first query.second) _ _ (bound_references schema query.first query.second) _ (from_agrees schema query.first query.second)
+    sequence (IsFrom schema query.references) (IsRefusedFrom schema query.references) _ _ (bound_references schema query.references) _ (from_agrees schema query.references)
     (λ references are. sequence (AreItems rules schema references query.selection) (AreRefusedItems rules schema references query.selection) _ _ (bound_items how schema references query.selection) _
     (items_agree rules how agrees schema references query.selection)
     (λ listed listed_are. sequence (IsWhole rules schema references query.on) (IsRefusedWhole rules schema references query.on) _ _ (bound_whole how schema references query.on) _

@@ -24,7 +24,7 @@ use Rattle.table_model.specs.declared.tokens.Token.{Token}
 use Rattle.table_model.specs.declared.tokens.TokenKind.{TokenKind}
 use Rattle.table_model.specs.declared.tokens.TokenKind.TheVariants as k
 use Rattle.table_model.specs.Parsers.{kind, place, spelling, next, written, sees, after, and_then, expect, parts_from, parts}
-use Rattle.table_model.specs.QueryGrammar.{IsName, IsColumn, IsDigits, IsInteger, IsString, IsCall, IsGeometry, IsOperandFunction, IsOperand, IsComparison, function_of, IsPair, IsBool, IsNumber, IsTest, IsPredicate, IsChain, IsConjunction, IsConditionOf, IsNegationOf, IsNegation, IsCondition, IsItem, IsSelection, IsReference, IsSecond, IsWhere, IsRowCount, IsLimit, IsExplain, IsSelect}
+use Rattle.table_model.specs.QueryGrammar.{IsName, IsColumn, IsDigits, IsInteger, IsString, IsCall, IsGeometry, IsOperandFunction, IsOperand, IsComparison, function_of, IsPair, IsBool, IsNumber, IsTest, IsPredicate, IsChain, IsConjunction, IsConditionOf, IsNegationOf, IsNegation, IsCondition, IsItem, IsSelection, IsReference, IsReferences, IsSecond, IsWhere, IsRowCount, IsLimit, IsExplain, IsSelect}
 use Rattle.table_model.specs.QueryReading.{Reader, Functions, name, column, calls, called_or, enclosed, string, geometry, integer, integer_value, integer_or, operand_functions, operand, comparison_of, compared, compared_by, null_test, comparison, truth_value, truth_test, truth_tested, relates, relates_by, predicate_functions, predicate, chain, conjunction, condition_of, group, negation, condition, item_functions, item, items, counted, count_function, selection, alias, reference, Second, crossed, joined_on, second, where_condition, limit_value, limit_or, limit_number, limited, says, analyzed, explained, query}
 use Rattle.table_model.specs.Queries.{Condition, ConditionOperand, SelectItem, SelectQuery}
 use Rattle.table_model.specs.Texts.{same_name}
@@ -708,7 +708,7 @@ IsBoth both = IsSecond both.0 both.1
 
 -- behind a comma or CROSS JOIN, a reference is read and no condition
 crossed_sound : (ts : List Token)
-    → IfRead (crossed ts) (λ both rest. (reference : WrittenReference) × (both.0 ≡ Some reference) × (both.1 ≡ None) × Took ts (IsReference reference) rest)
+    → IfRead (crossed ts) (λ both rest. (reference : WrittenReference) × (both.0 ≡ reference ∷ []) × (both.1 ≡ None) × Took ts (IsReference reference) rest)
 unfolding crossed
 crossed_sound ts = then_read (reference ts) _ (λ x rest. Took ts (IsReference x) rest) _ (λ x rest q. (x, refl, refl, q)) (reference_sound ts)
 
@@ -718,10 +718,10 @@ IsJoin reference on = IsToken k.Join ▸ IsReference reference ▸ IsToken k.On 
 
 -- JOIN, a reference, ON and a condition are read one behind the other, since the reader demands each
 joined_sound : (ts : List Token)
-    → IfRead (joined_on ts) (λ both rest. (reference : WrittenReference) × (x : Condition) × (both.0 ≡ Some reference) × (both.1 ≡ Some x) × Took ts (IsJoin reference x) rest)
+    → IfRead (joined_on ts) (λ both rest. (reference : WrittenReference) × (x : Condition) × (both.0 ≡ reference ∷ []) × (both.1 ≡ Some x) × Took ts (IsJoin reference x) rest)
 unfolding joined_on
 joined_sound ts =
-    let Q : Second → List Token → Type 0 = λ both rest. (reference : WrittenReference) × (x : Condition) × (both.0 ≡ Some reference) × (both.1 ≡ Some x) × Took ts (IsJoin reference x) rest in
+    let Q : Second → List Token → Type 0 = λ both rest. (reference : WrittenReference) × (x : Condition) × (both.0 ≡ reference ∷ []) × (both.1 ≡ Some x) × Took ts (IsJoin reference x) rest in
     then_read (expect fault.Syntax k.Join ts) _ (λ u rest. Took ts (IsToken k.Join) rest) Q
     (λ u ts1 p1. then_read (reference ts1) _ (λ x rest. Took ts1 (IsReference x) rest) Q
     (λ given ts2 p2. then_read (expect fault.Syntax k.On ts2) _ (λ u rest. Took ts2 (IsToken k.On) rest) Q
@@ -744,13 +744,13 @@ pub second_sound : Sound second IsBoth
 second_sound ts =
     let Q : Second → List Token → Type 0 = λ both rest. Took ts (IsBoth both) rest in
     if_read (sees k.Comma ts) _ _ Q
-    (λ h. map_read (crossed (next ts)) (λ both rest. (reference : WrittenReference) × (both.0 ≡ Some reference) × (both.1 ≡ None) × Took (next ts) (IsReference reference) rest) Q
+    (λ h. map_read (crossed (next ts)) (λ both rest. (reference : WrittenReference) × (both.0 ≡ reference ∷ []) × (both.1 ≡ None) × Took (next ts) (IsReference reference) rest) Q
     (λ both rest q. but _ _ ts rest (seq (IsToken k.Comma) (IsReference q.0) ts (next ts) rest (one k.Comma ts (λ e. cc) h) q.3)
     (λ used p. inr (inl (q.0, q.1, q.2, inl p))))
     (crossed_sound (next ts)))
     (λ _. if_read (sees k.Cross ts) _ _ Q
     (λ h. then_read (expect fault.Syntax k.Join (next ts)) _ (λ u rest. Took (next ts) (IsToken k.Join) rest) Q
-    (λ u mid took. map_read (crossed mid) (λ both rest. (reference : WrittenReference) × (both.0 ≡ Some reference) × (both.1 ≡ None) × Took mid (IsReference reference) rest) Q
+    (λ u mid took. map_read (crossed mid) (λ both rest. (reference : WrittenReference) × (both.0 ≡ reference ∷ []) × (both.1 ≡ None) × Took mid (IsReference reference) rest) Q
     (λ both rest q. but _ _ ts rest
     (seq (IsToken k.Cross) (IsToken k.Join ▸ IsReference q.0) ts (next ts) rest (one k.Cross ts (λ e. cc) h) (seq (IsToken k.Join) (IsReference q.0) (next ts) mid rest took q.3))
     (λ used p. inr (inl (q.0, q.1, q.2, inr p))))
@@ -758,11 +758,16 @@ second_sound ts =
     (expect_sound k.Join (next ts) (λ e. cc)))
     (λ _. if_read (sees k.Inner ts || sees k.Join ts) _ _ Q
     (λ h. map_read (joined_on (after k.Inner ts))
-    (λ both rest. (reference : WrittenReference) × (x : Condition) × (both.0 ≡ Some reference) × (both.1 ≡ Some x) × Took (after k.Inner ts) (IsJoin reference x) rest) Q
+    (λ both rest. (reference : WrittenReference) × (x : Condition) × (both.0 ≡ reference ∷ []) × (both.1 ≡ Some x) × Took (after k.Inner ts) (IsJoin reference x) rest) Q
     (λ both rest q. but _ _ ts rest (seq (IsOptional k.Inner) (IsJoin q.0 q.1) ts (after k.Inner ts) rest (optional k.Inner ts (λ e. cc)) q.4)
     (λ used p. inr (inr (q.0, q.1, q.2, q.3, p))))
     (joined_sound (after k.Inner ts)))
     (λ _. ([], refl, inl (refl, refl, refl)))))
+
+-- a first reference and what is read behind it are the references of FROM
+references_taken : (first : WrittenReference) (both : Second) (ts mid rest : List Token) → Took ts (IsReference first) mid → Took mid (IsBoth both) rest
+    → Took ts (IsReferences (first ∷ both.0) both.1) rest
+references_taken first both ts mid rest p q = but _ _ ts rest (seq (IsReference first) (IsBoth both) ts mid rest p q) (λ used h. (first, both.0, refl, h))
 
 -- where the query says a word next, that word is the next token
 says_taken : (word : List ℕ) (ts : List Token) → says word ts ≡ true → Took ts (IsWord word) (next ts)
@@ -871,10 +876,10 @@ query_sound ts once =
     then_read (expect fault.Syntax k.End ts8) _ (λ u rest. Took ts8 (IsToken k.End) rest × (rest ≡ [])) R
     (λ u9 ts9 p9.
     all_taken
-    (IsExplain told ▸ IsToken k.Select ▸ IsSelection listed ▸ IsToken k.From ▸ IsReference first ▸ IsBoth both ▸ IsWhere filter ▸ IsLimit most
+    (IsExplain told ▸ IsToken k.Select ▸ IsSelection listed ▸ IsToken k.From ▸ IsReferences (first ∷ both.0) both.1 ▸ IsWhere filter ▸ IsLimit most
     ▸ IsOptional k.Semicolon ▸ IsToken k.End) ts ts9
     (seq (IsExplain told) _ ts ts0 ts9 p0 (seq (IsToken k.Select) _ ts0 ts1 ts9 p1 (seq (IsSelection listed) _ ts1 ts2 ts9 p2 (seq (IsToken k.From) _ ts2 ts3 ts9 p3
-    (seq (IsReference first) _ ts3 ts4 ts9 p4 (seq (IsBoth both) _ ts4 ts5 ts9 p5 (seq (IsWhere filter) _ ts5 ts6 ts9 p6 (seq (IsLimit most) _ ts6 ts7 ts9 p7
-    (seq (IsOptional k.Semicolon) (IsToken k.End) ts7 ts8 ts9 p8 p9.0))))))))) p9.1)
+    (seq (IsReferences (first ∷ both.0) both.1) _ ts3 ts5 ts9 (references_taken first both ts3 ts4 ts5 p4 p5) (seq (IsWhere filter) _ ts5 ts6 ts9 p6 (seq (IsLimit most) _ ts6 ts7 ts9 p7
+    (seq (IsOptional k.Semicolon) (IsToken k.End) ts7 ts8 ts9 p8 p9.0)))))))) p9.1)
     (end_sound ts8 (ends_left _ ts7 ts8 (ends_left _ ts6 ts7 (ends_left _ ts5 ts6 (ends_left _ ts4 ts5 (ends_left _ ts3 ts4 (ends_left _ ts2 ts3 (ends_left _ ts1 ts2 (ends_left _ ts0 ts1 (ends_left _ ts ts0 once p0) p1) p2) p3) p4) p5) p6) p7) p8)))
     (limit_sound ts6)) (where_sound ts5)) (second_sound ts4)) (reference_sound ts3)) (expect_sound k.From ts2 (λ e. cc))) (selection_sound ts1)) (expect_sound k.Select ts0 (λ e. cc))) (explained_sound ts)

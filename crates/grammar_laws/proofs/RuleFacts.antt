@@ -60,10 +60,11 @@ pub answered : {X Y : Type 0} (First : X → Type 0) (Refused : QueryFault → T
     → Agrees (Then First (λ x y. y ≡ v x)) (FirstFault First Refused (λ x fault. ⊥)) (r >>= (λ x. Ok (v x)))
 answered First Refused r v a = sequence First Refused (λ x y. y ≡ v x) (λ x fault. ⊥) r (λ x. Ok (v x)) a (λ x is. pure (v x))
 
--- a test between a fault and an answer
-pub tested : {X : Type 0} (b : Bool) (e : QueryFault) (v : X) → Agrees (λ x. (b ≡ true → ⊥) × (x ≡ v)) (λ fault. (b ≡ true) × (fault ≡ e)) (if b then Err e else Ok v)
-tested true e v = record { stands = tt; refused = (refl, refl); answers = λ x is. absurd (is.0 refl); refuses = λ fault is. ap Err (sym is.1) }
-tested false e v = record { stands = (differ, refl); refused = tt; answers = λ x is. ap Ok (sym is.1); refuses = λ fault is. absurd (differ is.0) }
+-- a test of a fact between a fault and an answer
+pub tested : {X : Type 0} (P : Type 0) (b : Bool) (e : QueryFault) (v : X) → (b ≡ true → P) → (P → b ≡ true)
+    → Agrees (λ x. (P → ⊥) × (x ≡ v)) (λ fault. P × (fault ≡ e)) (if b then Err e else Ok v)
+tested P true e v is_so is_found = record { stands = tt; refused = (is_so refl, refl); answers = λ x is. absurd (is.0 (is_so refl)); refuses = λ fault is. ap Err (sym is.1) }
+tested P false e v is_so is_found = record { stands = (λ p. differ (is_found p), refl); refused = tt; answers = λ x is. ap Ok (sym is.1); refuses = λ fault is. absurd (differ (is_found is.0)) }
 
 -- a test of types
 pub types_tested : {X : Type 0} (b : Bool) (at : ℕ) (v : X) → Agrees (λ x. (b ≡ true) × (x ≡ v)) (λ fault. (b ≡ false) × (fault ≡ faults.TypeMismatch at)) (checked_types b at v)

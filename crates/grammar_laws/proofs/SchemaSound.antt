@@ -5,10 +5,10 @@ use Rattle.grammar_laws.proofs.QuerySound.{EndsOnce, ends_left, all_taken}
 use Rattle.grammar_laws.proofs.TokenReaders.{IfRead, Took, then_read, if_read, map_read, eaten, same, one, seq, but, expect_taken}
 use Rattle.std.specs.Prelude.{nat_le, codes}
 use Rattle.std.proofs.lemmas.Bool.{and_parts, false≢true}
-use Rattle.table_model.specs.Definitions.{is_integer}
+use Rattle.table_model.specs.Definitions.{most_columns, is_integer}
 use Rattle.table_model.specs.Parsers.{kind, place, spelling, next, sees, after, and_then, ◌>>=◌, pure, expect}
 use Rattle.table_model.specs.SchemaGrammar.{IsNamed, IsType, IsNotNull, IsPrimaryKey, IsMark, AreMarks, Marked, IsMarked, key_places, IsTable, AreTables}
-use Rattle.table_model.specs.SchemaReading.{sees_word, expect_word, sees_name, new_name, type_named, type_or, column_type, null_mark, key_mark, marks, has_column, most_columns, column, is_there, key_after, columns_from, columns, closed, close, table_name, table, goes_on, tables_from, all_tables, schema}
+use Rattle.table_model.specs.SchemaReading.{sees_word, expect_word, sees_name, new_name, type_named, type_or, column_type, null_mark, key_mark, marks, has_column, column, is_there, key_after, columns_from, columns, closed, close, table_name, table, goes_on, tables_from, all_tables, schema}
 use Rattle.table_model.specs.declared.definitions.ColumnType.{ColumnType}
 use Rattle.table_model.specs.declared.definitions.ColumnDef.{ColumnDef}
 use Rattle.table_model.specs.declared.definitions.TableDef.{TableDef}

@@ -4,6 +4,7 @@ use Rattle.table_model.specs.QueryGrammar.{IsQuery}
 use Rattle.table_model.specs.QueryReading.{query_of}
 use Rattle.table_model.specs.QueryRefusals.{StandsInQuery, AnswersFirst}
 use Rattle.table_model.specs.Queries.{SelectQuery}
+use Rattle.table_model.specs.References.{AreOneOrTwo}
 
 -- what a text is read as, it is by the grammar
 abbrev pub ReadIsQuery : Type 0
@@ -16,6 +17,10 @@ QueryIsRead = (text : List ℕ) (query : SelectQuery) → IsQuery text query →
 -- a text is one query at most
 abbrev pub OneTree : Type 0
 OneTree = (text : List ℕ) (a b : SelectQuery) → IsQuery text a → IsQuery text b → a ≡ b
+
+-- a query has one reference or two
+abbrev pub ReferencesAreFew : Type 0
+ReferencesAreFew = (text : List ℕ) (query : SelectQuery) → IsQuery text query → AreOneOrTwo query.references
 
 -- a fault at a token that a text is refused for applies there
 abbrev pub RefusalStands : Type 0

@@ -1,5 +1,5 @@
 -- The laws of what a query is bound to: the functions of binding return what the rules say, and the rules say what they return.
-use Rattle.std.specs.Prelude.{◌≡◌, List, Option, Ok, Err, IfOk, IfErr}
+use Rattle.std.specs.Prelude.{◌≡◌, List, Ok, Err, IfOk, IfErr}
 use Rattle.table_model.specs.Binding.{Checked, GeometryBinding, binding, bound_column, bound_cond, bound_references, statement}
 use Rattle.table_model.specs.BindingRules.{GeometryRules, IsBoundColumn, IsRefusedColumn, IsCond, IsRefusedCond, geometry_rules}
 use Rattle.table_model.specs.GeometryColumns.{ColumnShape, geometry_binding}
@@ -31,8 +31,7 @@ pub record GeometryAgrees {T A B C D : Type 0} (rules : GeometryRules T A B C D)
 
 -- what the tables of FROM are bound to, and where they are refused, is what the rules say (SQL, FROM)
 abbrev pub ReferencesAgree : (T : Type 0) → Type 0
-ReferencesAgree T = (schema : List (TableDef T)) (first : WrittenReference) (second : Option WrittenReference)
-    → Agrees (IsFrom schema first second) (IsRefusedFrom schema first second) (bound_references schema first second)
+ReferencesAgree T = (schema : List (TableDef T)) (written : List WrittenReference) → Agrees (IsFrom schema written) (IsRefusedFrom schema written) (bound_references schema written)
 
 -- what a column is bound to, and where it is refused, is what the rules say (SQL, column names)
 abbrev pub ColumnsAgree : (T : Type 0) → Type 0

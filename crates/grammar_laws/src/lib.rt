@@ -5,6 +5,6 @@
 
 pub mod bound_queries;
 pub mod filters;
-pub mod queries;
+pub mod query_laws;
 pub mod rules;
-pub mod schemas;
+pub mod schema_laws;

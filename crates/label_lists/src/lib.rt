@@ -117,21 +117,21 @@ impl Labels {
     }
 
     /// Lends the labels of the nodes.
-    pub fn of_points(&self) -> &[Label]
+    pub fn nodes(&self) -> &[Label]
         ensures { result.now ≡ self.now.of_points }
     {
         self.points.as_slice()
     }
 
     /// Lends the labels of the pieces.
-    pub fn of_pieces(&self) -> &[Label]
+    pub fn pieces(&self) -> &[Label]
         ensures { result.now ≡ self.now.of_pieces }
     {
         self.pieces.as_slice()
     }
 
     /// Lends the labels of the sides of the pieces, none for an upright one.
-    pub fn of_sides(&self) -> &[Option<SideLabels>]
+    pub fn sides(&self) -> &[Option<SideLabels>]
         ensures { result.now ≡ self.now.of_sides }
     {
         self.sides.as_slice()

@@ -1,6 +1,7 @@
 //! Envelopes of geometries, with values worked out by hand.
 
 use crate::shapes::valid;
+use rtree::Envelope;
 use std::alloc::Global;
 use std::test::Fail;
 
@@ -8,7 +9,7 @@ type Bounds = (i32, i32, i32, i32);
 
 // The least and the greatest x and y of the geometry of a text.
 fn bounds(alloc: Global, text: &str) -> Result<Option<Bounds>, Fail> {
-    match valid(alloc, text)?.envelope() {
+    match Envelope::of(&valid(alloc, text)?) {
         None => Ok(None),
         Some(envelope) => Ok(Some((
             envelope.least_x(),

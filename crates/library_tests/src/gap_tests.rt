@@ -29,7 +29,7 @@ fn numbers(alloc: Global, points: &[RatPoint]) -> Result<Vec<Numbers>, Fail> {
 /// Fills the gaps for an edge among others. It returns whether they may share a stretch.
 fn fill(alloc: Global, gaps: &mut Gaps, edge: &Segment, others: &[Segment]) -> Result<bool, Fail> {
     let boxes = EdgeBoxes::build(alloc, others)?;
-    let may_share = gaps.may_share_stretch(edge, others, &boxes)?;
+    let may_share = Gaps::may_share_stretch(edge, others, &boxes);
     gaps.find(edge, others, &boxes)?;
     Ok(may_share)
 }

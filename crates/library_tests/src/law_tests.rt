@@ -1,6 +1,6 @@
 //! The laws of loaded tables, at plain types.
 
-use table_laws::loading::{required_are_filled, rows_are_permuted, rows_ascend, rows_fit};
+use table_laws::loading_laws::{required_are_filled, rows_are_permuted, rows_ascend, rows_fit};
 
 #[test]
 fn laws_stand_at_plain_types() {

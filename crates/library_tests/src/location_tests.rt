@@ -48,12 +48,12 @@ fn labelled(alloc: Global, first: &str, second: &str) -> Result<Labels, Fail> {
 #[test]
 fn labels_of_two_lines(rt: HostRuntime) -> Result<(), Fail> {
     let labels = labelled(rt.alloc(), "LINESTRING(0 0,3 1)", "LINESTRING(0 1,2 0)")?;
-    assert!(rt; (labels.of_points().len(), labels.of_pieces().len()) == (5, 4));
+    assert!(rt; (labels.nodes().len(), labels.pieces().len()) == (5, 4));
     // The crossing is the third node.
-    let crossing = labels.of_points()[2];
+    let crossing = labels.nodes()[2];
     assert!(rt; crossing.is_pair(Location::Interior, Location::Interior));
     // Beside a line there is no inside.
-    for sides in labels.of_sides() {
+    for sides in labels.sides() {
         let outside = sides.is_some_and(|sides| sides.has_pair(
             Location::Exterior,
             Location::Exterior,

@@ -18,7 +18,7 @@ use Rattle.cover_laws.proofs.GapTheorems.{gap_has_mediant}
 use Rattle.matrix_laws.specs.Cells.{Shows, raised, IsPartOf}
 use Rattle.matrix_laws.proofs.Growing.{still_shown}
 use Rattle.cover_laws.specs.Covering.{IsOffEdges, ShowsOff, ShowsOn, ShowsAt, ShowsGap}
-use Rattle.side_labels.specs.declared.sides.Sides.{Sides}
+use Rattle.side_labels.specs.declared.piece_sides.Sides.{Sides}
 use Rattle.matrices.specs.Raising.{IsRaisedTo, Grows, ShowsOffAt, ShowsGapOff, with_sides}
 use Rattle.matrices.proofs.Growth.{part_of_itself, raised_one, raised_two, raised_so, shown_kept, grows_raised}
 use Rattle.cover_laws.proofs.CoveringTheorems.{gap_is_there}

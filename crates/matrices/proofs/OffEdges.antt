@@ -13,7 +13,7 @@ use Rattle.geometry_laws.proofs.Each.{none_passed, none_passes}
 use Rattle.geometry_laws.proofs.RingParity.{each_from_all}
 use Rattle.geometry_laws.proofs.CoverTheorems.{all_from_each}
 use Rattle.edge_boxes.specs.EdgeCrossings.{AreCrossings, on_any, is_odd_above}
-use Rattle.edge_boxes.specs.declared.crossings.Crossings.{Crossings}
+use Rattle.edge_boxes.specs.declared.point_crossings.Crossings.{Crossings}
 use Rattle.cover_laws.specs.Gaps.{mostly}
 use Rattle.cover_laws.specs.Covering.{IsOffEdges}
 use Rattle.matrices.specs.Raising.{off_edges}

@@ -11,7 +11,7 @@ use Rattle.geometry_model.specs.declared.shapes.Kind.TheVariants as kinds
 use Rattle.geometry_model.specs.declared.point_sets.Location.{Location}
 use Rattle.geometry_model.specs.declared.point_sets.Location.TheVariants.{Interior, Boundary, Exterior}
 use Rattle.geometry_model.specs.declared.point_sets.Dimension.TheVariants.{Zero, Two}
-use Rattle.side_labels.specs.declared.sides.Sides.{Sides}
+use Rattle.side_labels.specs.declared.piece_sides.Sides.{Sides}
 use Rattle.cover_laws.specs.Gaps.{IsBetween, mostly}
 use Rattle.matrix_laws.specs.Cells.{Shows, raised, IsPartOf, IsSound, CoversPosition}
 use Rattle.cover_laws.specs.Covering.{IsOffEdges, ShowsOff}

@@ -6,7 +6,7 @@ ghost use Rattle.cover_laws.specs.Gaps.{of_own_edges};
 ghost use Rattle.matrices.specs.Raising.{ShowsAllOff};
 
 use geometry_model::{Dimension, Kind, Location};
-use matrix_cells::Matrix;
+use matrix_cells::MatrixCells;
 use validity::Valid;
 
 /// Where almost all points of its own edges lie in a geometry of this kind: in the interior of lines, on the boundary of an
@@ -23,7 +23,7 @@ pub(crate) fn of_own_edges(kind: Kind) -> Location
 
 /// Whether the matrix shows all that edges of a geometry of the first kind can show in this part of the other, off the other's
 /// edges: themselves and, on their sides, the exterior and the interior.
-fn is_full_in(matrix: &Matrix, kind: Kind, part: Location) -> bool
+fn is_full_in(matrix: &MatrixCells, kind: Kind, part: Location) -> bool
     ensures { result ≡ true → ShowsAllOff kind part matrix.now }
 {
     matrix.shows(of_own_edges(kind), part, Dimension::One)
@@ -32,7 +32,7 @@ fn is_full_in(matrix: &Matrix, kind: Kind, part: Location) -> bool
 }
 
 /// Whether the matrix shows all that gaps of the first geometry's edges can show off the edges of the second.
-pub(crate) fn is_full_off(first: &Valid, second: &Valid, matrix: &Matrix) -> bool
+pub(crate) fn is_full_off(first: &Valid, second: &Valid, matrix: &MatrixCells) -> bool
     ensures { result ≡ true → IsFullOff first.now second.now matrix.now }
 {
     is_full_in(matrix, first.kind(), Location::Exterior)
@@ -41,7 +41,7 @@ pub(crate) fn is_full_off(first: &Valid, second: &Valid, matrix: &Matrix) -> boo
 
 /// Whether the matrix shows all that gaps of the first geometry's edges can show on the edges of the second: themselves and, on
 /// their sides, each two parts that the sides of edges can be in.
-pub(crate) fn is_full_on(first: &Valid, second: &Valid, matrix: &Matrix) -> bool
+pub(crate) fn is_full_on(first: &Valid, second: &Valid, matrix: &MatrixCells) -> bool
     ensures { result ≡ true → IsFullOn first.now second.now matrix.now }
 {
     let is_first_area = first.kind() == Kind::Area;

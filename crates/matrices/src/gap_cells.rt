@@ -14,7 +14,7 @@ use crate::fullness::of_own_edges;
 use edge_boxes::Crossings;
 use fraction::RatPoint;
 use geometry_model::{Dimension, Kind, Location};
-use matrix_cells::Matrix;
+use matrix_cells::MatrixCells;
 use orient::Segment;
 use side_labels::{Sides, sides_at, sides_by};
 use validity::Valid;
@@ -52,7 +52,7 @@ fn off_edges(kind: Kind, is_odd_above: bool) -> Location
 /// Shows what a gap of an edge of the first geometry shows that lies in this part of the second one, off its edges: the gap
 /// itself and, where it isn't upright, its sides, of which one is exterior to the first geometry, and of an area's edge the other
 /// interior (OGC 06-103r4, 6.1.15.2).
-fn raise_off(first: &Valid, edge: &Segment, part: Location, matrix: &mut Matrix)
+fn raise_off(first: &Valid, edge: &Segment, part: Location, matrix: &mut MatrixCells)
     ensures { IsRaisedTo (λ m. ShowsOff first.now m edge.now part) matrix.old matrix.new }
 {
     matrix.raise(of_own_edges(first.kind()), part, Dimension::One);
@@ -66,7 +66,7 @@ fn raise_off(first: &Valid, edge: &Segment, part: Location, matrix: &mut Matrix)
 }
 
 /// Shows that the lower sides of both geometries share an area, and the upper ones (OGC 06-103r4, 6.1.15.2).
-fn raise_sides(first: &Sides, second: &Sides, matrix: &mut Matrix)
+fn raise_sides(first: &Sides, second: &Sides, matrix: &mut MatrixCells)
     ensures { matrix.new ≡ with_sides first.now second.now matrix.old }
 {
     matrix.raise(first.lower, second.lower, Dimension::Two);
@@ -76,7 +76,7 @@ fn raise_sides(first: &Sides, second: &Sides, matrix: &mut Matrix)
 /// Shows what the point of a gap shows at which the gap is asked for. Off the second geometry's edges `raise_off` says it. A gap
 /// that one of them shares shows itself and, where it isn't upright, its sides as they lie at the point in both geometries
 /// (OGC 06-103r4, 6.1.15.2).
-fn raise_at(first: &Valid, second: &Valid, edge: &Segment, p: &RatPoint, matrix: &mut Matrix)
+fn raise_at(first: &Valid, second: &Valid, edge: &Segment, p: &RatPoint, matrix: &mut MatrixCells)
     ensures { IsRaisedTo (λ m. ShowsAt first.now second.now m edge.now p.now) matrix.old matrix.new }
 {
     let found = crossings(second, p);
@@ -100,7 +100,13 @@ fn raise_at(first: &Valid, second: &Valid, edge: &Segment, p: &RatPoint, matrix:
 }
 
 /// Shows what the point of a gap shows, unless an edge of the second geometry holds it.
-fn raise_off_at(first: &Valid, second: &Valid, edge: &Segment, p: &RatPoint, matrix: &mut Matrix)
+fn raise_off_at(
+    first: &Valid,
+    second: &Valid,
+    edge: &Segment,
+    p: &RatPoint,
+    matrix: &mut MatrixCells,
+)
     ensures { IsRaisedTo (λ m. ShowsOffAt first.now second.now m edge.now p.now) matrix.old matrix.new }
 {
     let found = crossings(second, p);
@@ -121,7 +127,7 @@ pub(crate) fn raise_gaps(
     second: &Valid,
     edge: &Segment,
     stops: &[RatPoint],
-    matrix: &mut Matrix,
+    matrix: &mut MatrixCells,
 )
     requires own { Contains (edges first.now) edge.now }
     requires length { HasLength edge.now }
@@ -143,7 +149,7 @@ pub(crate) fn raise_gaps_off(
     second: &Valid,
     edge: &Segment,
     stops: &[RatPoint],
-    matrix: &mut Matrix,
+    matrix: &mut MatrixCells,
 )
     requires own { Contains (edges first.now) edge.now }
     requires length { HasLength edge.now }

@@ -1,5 +1,5 @@
-//! The DE-9IM matrix of two geometries as a value: its cells, what raises them, and its text (OGC 06-103r4, 6.1.15.2). The
-//! crate `matrices` finds it.
+//! The cells of the DE-9IM matrix of two geometries while they are found: what raises them, and their text (OGC 06-103r4,
+//! 6.1.15.2). The crate `matrices` finds them, and `relate` of `de9im` makes a matrix of them.
 #![tactic(auto)]
 
 ghost use Rattle.std.specs.Prelude.{◌≡◌};
@@ -9,11 +9,11 @@ ghost use Rattle.matrix_laws.specs.Cells.{at_most, greater};
 pub use geometry_model::{Dimension, Location};
 use std::marker::Model;
 
-/// The DE-9IM matrix of two geometries: how large the set is that each part of the first has in common with each part
-/// of the second. The first word of a field is the part of the first geometry, the second that of the other
-/// (06-103r4, 6.1.15.2).
+/// The cells of a DE-9IM matrix of two geometries: how large the set is that each part of the first has in common with
+/// each part of the second. The first word of a field is the part of the first geometry, the second that of the other
+/// (06-103r4, 6.1.15.2). Contracts see them as that matrix; only `relate` of `de9im` makes a matrix of them.
 #[derive(Clone, Copy, Debug, PartialEq, Eq)]
-pub struct Matrix {
+pub struct MatrixCells {
     /// Of both interiors.
     pub interior_interior: Dimension,
     /// Of the interior of the first and the boundary of the second.
@@ -34,7 +34,7 @@ pub struct Matrix {
     pub exterior_exterior: Dimension,
 }
 
-impl Model for Matrix {
+impl Model for MatrixCells {
     ghost use Rattle.geometry_model.specs.Dimensions as dimensions;
 
     ghost Value = { dimensions.Matrix };
@@ -64,18 +64,18 @@ impl Model for Matrix {
     } };
 }
 
-impl Matrix {
+impl MatrixCells {
     ghost use Rattle.std.specs.Prelude.{◌≡◌};
     ghost use Rattle.geometry_model.specs.Dimensions.{cell, transposed};
     ghost use Rattle.geometry_model.specs.Patterns.{matrix_text};
     ghost use Rattle.matrix_laws.specs.Cells.{at_most, raised};
     ghost use Rattle.matrix_cells.specs.Cells as spec;
 
-    /// The matrix that shows no more than that the exteriors share an area (06-103r4, 6.1.15.2).
-    pub fn of_exteriors() -> Matrix
+    /// The cells that show no more than that the exteriors share an area (06-103r4, 6.1.15.2).
+    pub fn of_exteriors() -> MatrixCells
         ensures { result ≡ spec.of_exteriors }
     {
-        Matrix {
+        MatrixCells {
             interior_interior: Dimension::Empty,
             interior_boundary: Dimension::Empty,
             interior_exterior: Dimension::Empty,
@@ -106,7 +106,7 @@ impl Matrix {
         }
     }
 
-    /// Whether it shows at least this dimension of two parts (06-103r4, 6.1.15.2).
+    /// Whether they show at least this dimension of two parts (06-103r4, 6.1.15.2).
     pub fn shows(&self, first: Location, second: Location, dimension: Dimension) -> bool
         ensures { result ≡ at_most dimension (cell self.now first second) }
     {
@@ -131,11 +131,11 @@ impl Matrix {
         }
     }
 
-    /// The matrix of the two geometries the other way round.
-    pub fn transposed(&self) -> Matrix
+    /// The cells of the two geometries the other way round.
+    pub fn transposed(&self) -> MatrixCells
         ensures { result ≡ transposed self.now }
     {
-        Matrix {
+        MatrixCells {
             interior_interior: self.interior_interior,
             interior_boundary: self.boundary_interior,
             interior_exterior: self.exterior_interior,
@@ -148,7 +148,7 @@ impl Matrix {
         }
     }
 
-    /// The nine characters of the matrix, by rows: interior, boundary and exterior of the first geometry, each with
+    /// The nine characters of the cells, by rows: interior, boundary and exterior of the first geometry, each with
     /// those of the second (06-103r4, 6.1.15.2).
     pub fn text(&self) -> [u8; 9]
         ensures { result ≡ matrix_text self.now }

@@ -4,7 +4,7 @@
 #![tactic(auto)]
 
 pub mod areas;
-pub mod cells;
+pub mod cell_laws;
 pub mod cuts;
 pub mod elements;
 pub mod given_matrices;

@@ -8,7 +8,7 @@ ghost use Rattle.noding.specs.Sweeps.{own_breaks, IsWide, AscendPositions};
 
 use crate::answers::Meet;
 use crate::break_points::Breaks;
-use crate::positions::first_from;
+use crate::listed_positions::first_from;
 use crate::ranges::{greatest_x, least_x};
 use fraction::{GridPoint, RatPoint};
 use orient::{Segment, on};

@@ -5,18 +5,18 @@
 pub mod answers;
 mod break_points;
 mod breaks;
-mod crossings;
-pub mod meetings;
+mod crossing_products;
+mod listed_positions;
 pub mod noded;
 pub mod nodings;
 mod orders;
-mod positions;
-mod products;
 mod ranges;
+mod segment_crossings;
+pub mod segment_meetings;
 mod stretches;
 mod sweeps;
 
 pub use answers::Meet;
-pub use meetings::meet;
 pub use noded::Noded;
 pub use nodings::node;
+pub use segment_meetings::meet;

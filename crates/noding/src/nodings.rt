@@ -8,9 +8,9 @@ ghost use Rattle.noding.specs.Nodings.{piece_of, AscendingPoints, AscendingPiece
 ghost use Rattle.noding.specs.Ranges.{overlapping_pairs};
 
 use crate::break_points::Break;
+use crate::listed_positions::listed_order;
 use crate::noded::Noded;
 use crate::orders::{points_in_order, stretches_in_order};
-use crate::positions::listed_order;
 use crate::sweeps::{sweep_order, swept_breaks};
 use fraction::{GridPoint, RatPoint};
 use orient::Segment;

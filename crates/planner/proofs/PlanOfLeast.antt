@@ -7,7 +7,7 @@ use Rattle.table_model.specs.declared.conditions.GeometryArgument.{GeometryArgum
 use Rattle.table_model.specs.declared.conditions.Reference.{Reference}
 use Rattle.planner.proofs.LeastMap.{least_map}
 use Rattle.planner.specs.Nestings.{accesses_in}
-use Rattle.planner.specs.declared.accesses.Nesting.{Nesting}
+use Rattle.planner.specs.declared.lawful_accesses.Nesting.{Nesting}
 
 -- the plan of the first nesting of least cost is the first plan of least cost:
 -- the nestings' accesses are the lawful ones in order, and a plan costs what its accesses do

@@ -4,9 +4,9 @@ ghost use Rattle.std.specs.Prelude.{◌≡◌, IfOk, Some};
 ghost use Rattle.planner.specs.Nestings.{accesses_in, chosen_for};
 ghost use Rattle.table_model.specs.Plans as spec;
 
-use crate::accesses::{Nesting, lawful_nestings};
 use crate::costs::cost;
-use crate::filters::filters;
+use crate::filter_order::filters;
+use crate::lawful_accesses::{Nesting, lawful_nestings};
 use crate::least::first_of_least;
 use sqlite_items::Items;
 use std::alloc::{AllocError, Global};

@@ -4,7 +4,7 @@ ghost use Rattle.std.specs.Prelude.{◌≡◌, ◌<◌, ◌^◌, slice_index_or}
 ghost use Rattle.planner.specs.Nestings.{accesses_in};
 ghost use Rattle.table_model.specs.Plans as spec;
 
-use crate::accesses::Nesting;
+use crate::lawful_accesses::Nesting;
 use table_model::plans::{Access, AccessMethod};
 
 // The number of rows of a reference.

@@ -4,8 +4,8 @@ ghost use Rattle.std.specs.Prelude.{◌≡◌, ◌<◌, length, Some};
 ghost use Rattle.planner.specs.Nestings.{accesses_in, cheaper};
 ghost use Rattle.table_model.specs.Plans as spec;
 
-use crate::accesses::Nesting;
 use crate::costs::cost;
+use crate::lawful_accesses::Nesting;
 
 // The cheaper one of what was the least so far and the next; the earlier one of two that cost the same.
 fn cheaper(rows: &[u32], least: Nesting, next: Nesting) -> Nesting

@@ -2,13 +2,14 @@
 //! the order in which its conjuncts are evaluated. A query is known here by its conjuncts, a table by its number of rows.
 #![tactic(auto)]
 
-mod accesses;
 pub mod choosing;
+pub mod chosen_plans;
 mod costs;
 mod driving;
-mod filters;
+mod filter_order;
+mod lawful_accesses;
 mod least;
-pub mod plans;
 
 pub use choosing::choose_by_counts;
-pub use plans::choose;
+pub use chosen_plans::choose;
+pub use table_model::plans::{Access, AccessMethod, Plan};

@@ -3,7 +3,7 @@
 ghost use Rattle.std.specs.Prelude.{◌≡◌};
 ghost use Rattle.table_model.specs.Binding as spec;
 
-use crate::references::name_start;
+use crate::reference_binding::name_start;
 use crate::scope::Scope;
 use crate::{ColumnShape, TableDef};
 use table_model::conditions::{ColumnPlace, Reference};

@@ -6,7 +6,7 @@ ghost use Rattle.grammar_laws.specs.FilterLaws as laws;
 ghost use Rattle.grammar_laws.specs.FilterLaws.{joined_in_order};
 
 use crate::Cond;
-use crate::conditions::{WrittenCond, bound_cond};
+use crate::condition_binding::{WrittenCond, bound_cond};
 use crate::scope::Scope;
 use sqlite_items::Items;
 use std::alloc::{AllocError, Global};

@@ -2,20 +2,20 @@
 //! places, strings the bytes that they hold, and texts of geometries valid geometries.
 #![tactic(auto)]
 
-mod arguments;
+mod argument_binding;
 mod columns;
-mod conditions;
+mod condition_binding;
 mod conjuncts;
-mod items;
-mod operands;
+mod item_binding;
+mod operand_binding;
 mod patterns;
-mod query;
-mod references;
+mod query_binding;
+mod reference_binding;
 mod scope;
 mod strings;
 
 use geometry_model::GeometryType;
-pub use query::bind;
+pub use query_binding::bind;
 use sqlite_items::Boxed;
 use table_model::conditions::{ColumnPlace, GeometryArgument};
 pub use table_model::faults::QueryFault;

@@ -1,5 +1,5 @@
 -- A query is read by its parts.
-use Rattle.std.proofs.Common.{◌≡◌, Some, List, Result, Ok, Err, IfOk, IfErr, refl}
+use Rattle.std.proofs.Common.{◌≡◌, Some, List, [], ◌∷◌, Result, Ok, Err, IfOk, IfErr, refl}
 use Rattle.table_model.specs.Parsers.{Outcome, Parser, Reads, and_then, pure, expect}
 use Rattle.table_model.specs.QueryReading.{Reader, condition, reference, joined_on, query}
 use Rattle.table_model.specs.declared.faults.QueryFault.{QueryFault}
@@ -25,9 +25,9 @@ pub stepped : {F U V A B : Type 0} (o : Outcome F U) (p : Parser F A) (q : Parse
 stepped o p q g = simp grouped
 
 -- a second table reference and then its condition
-pub joined_on_is : (ts : List Token) → joined_on ts ≡ and_then (joined_reference ts) (λ reference later. and_then (condition later) (λ x. pure (Some reference, Some x)))
+pub joined_on_is : (ts : List Token) → joined_on ts ≡ and_then (joined_reference ts) (λ reference later. and_then (condition later) (λ x. pure (reference ∷ [], Some x)))
 unfolding joined_on
-joined_on_is ts = stepped (expect fault.Syntax k.Join ts) reference (expect fault.Syntax k.On) (λ reference later. and_then (condition later) (λ x. pure (Some reference, Some x)))
+joined_on_is ts = stepped (expect fault.Syntax k.Join ts) reference (expect fault.Syntax k.On) (λ reference later. and_then (condition later) (λ x. pure (reference ∷ [], Some x)))
 
 -- a call's answer with what is made of it is what the reader and then that gives
 pub mapped_reads : {A B : Type 0} (f : A → B) (outcome : Outcome QueryFault A) (read : Result A QueryFault) (new : List Token)

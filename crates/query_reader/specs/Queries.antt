@@ -1,8 +1,9 @@
 -- A query by its parts, as a reader reads them: what comes before FROM, the tables, and what comes after them.
-use Rattle.std.specs.Prelude.{ℕ, Option}
-use Rattle.table_model.specs.Parsers.{◌>>=◌, ◌>>◌, pure, eat, expect}
+use Rattle.std.specs.Prelude.{ℕ, List, ◌∷◌, Option}
+use Rattle.table_model.specs.Parsers.{Outcome, and_then, ◌>>=◌, ◌>>◌, pure, eat, expect}
 use Rattle.table_model.specs.QueryReading.{Reader, Second, explained, selection, reference, second, where_condition, limited}
 use Rattle.table_model.specs.Queries.{Condition, SelectQuery}
+use Rattle.table_model.specs.declared.faults.QueryFault.{QueryFault}
 use Rattle.table_model.specs.declared.faults.QueryFault.TheVariants as fault
 use Rattle.table_model.specs.declared.queries.Explain.{Explain}
 use Rattle.table_model.specs.declared.queries.Query.{Query}
@@ -20,13 +21,17 @@ head = do
   selection ← selection
   pure (told, selection)
 
+-- the references of FROM and the condition of ON, of the first reference and of what was read after it
+abbrev pub with_first : WrittenReference → Outcome QueryFault Second → Outcome QueryFault (List WrittenReference × Option Condition)
+with_first first outcome = and_then outcome (λ second. pure (first ∷ second.0, second.1))
+
 -- FROM and the tables
-abbrev pub sources : Reader (WrittenReference × Second)
+abbrev pub sources : Reader (List WrittenReference × Option Condition)
 sources = do
   expect fault.Syntax k.From
   first ← reference
   second ← second
-  pure (first, second)
+  pure (first ∷ second.0, second.1)
 
 -- what was read before LIMIT with the number of LIMIT, and then the text ends
 abbrev pub with_limit : {A : Type 0} → A → Reader (A × Option ℕ)
@@ -49,8 +54,8 @@ joined_reference = do
   pure reference
 
 -- the query of these parts
-abbrev pub assembled : {A C : Type 0} → Explain × Selection C → WrittenReference × (Option WrittenReference × Option (WrittenCond A)) → Option (WrittenCond A) × Option ℕ → Query A C
-assembled h s e = record { explain = h.0; selection = h.1; first = s.0; second = s.1.0; on = s.1.1; condition = e.0; limit = e.1 }
+abbrev pub assembled : {A C : Type 0} → Explain × Selection C → List WrittenReference × Option (WrittenCond A) → Option (WrittenCond A) × Option ℕ → Query A C
+assembled h s e = record { explain = h.0; selection = h.1; references = s.0; on = s.1; condition = e.0; limit = e.1 }
 
 -- a query, part by part
 abbrev pub by_parts : Reader SelectQuery

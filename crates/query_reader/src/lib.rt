@@ -2,17 +2,17 @@
 //! of a query are read into the tree that the grammar gives.
 #![tactic(auto)]
 
-mod comparisons;
+mod comparison_reader;
 mod condition;
-mod items;
-mod numbers;
-mod operands;
+mod item_reader;
+mod literal_reader;
+mod operand_reader;
 mod predicates;
-mod query;
-mod references;
+mod reference_reader;
+mod select_reader;
 mod terminals;
 
-pub use query::read_query;
+pub use select_reader::read_query;
 use sqlite_items::Boxed;
 pub use table_model::faults::QueryFault;
 use table_model::queries::{WrittenColumn, WrittenGeometry};

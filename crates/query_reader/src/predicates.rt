@@ -7,9 +7,9 @@ ghost use Rattle.table_model.specs.Parsers.{Reads};
 ghost use Rattle.query_reader.specs.Predicates as names;
 ghost use Rattle.query_reader.specs.Predicates.{named_predicates, named_in};
 
-use crate::comparisons::comparison;
+use crate::comparison_reader::comparison;
 use crate::condition::{CondOf, WrittenCond, negated};
-use crate::operands::argument;
+use crate::operand_reader::argument;
 use crate::terminals::{calls, closed, expect, string};
 use geometry_model::Predicate;
 use sql_tokens::cursor::Cursor;

@@ -230,7 +230,7 @@ table-refused-by A false false table f answer next reached old is of given there
     (subst (λ b. RefusesTable b (reached table) (after OfTable answer next) (record { table = table; fault = f })) (sym of) same, keeps-same old)
 
 -- the same of a result, with the fault telling which of the three it is
-table-refused : {A X : Type 0} (r : Result A Fault) (f : TableFault) (answer : Result X TableFault) (next : X → Result (List ℕ) Refusal) (reached : ℕ → Type 0) (old : Option (List ℕ))
+pub table-refused : {A X : Type 0} (r : Result A Fault) (f : TableFault) (answer : Result X TableFault) (next : X → Result (List ℕ) Refusal) (reached : ℕ → Type 0) (old : Option (List ℕ))
     → IsErrAnd r (λ x. x ≡ of_table f) → (¬ (IsFailure f.fault) → answer ≡ Err f) → reached f.table → Runs r (after OfTable answer next) reached old old
 table-refused {A = A} r f answer next reached old is given there =
     at-fault r (of_table f) (after OfTable answer next) reached old old is

@@ -3,4 +3,4 @@
 
 pub mod runs;
 
-pub use runs::run;
+pub use runs::{run, run_observed};

@@ -30,6 +30,7 @@ use explain::{analyze, explain};
 use failures::Fault;
 use feature_table::{Database, Schema};
 use itoa::Buffer;
+use observers::{RowObserver, Unobserved};
 use planner::choose;
 use records::{PutFault, RecordWriter};
 use rtree::EnvelopeIndex;
@@ -63,17 +64,42 @@ pub fn run<I: EnvelopeIndex + Drop, R: Read + Drop, S: Sink>(
     ensures failures { S.failures sink.new ≡ count_after (S.failures sink.old) result }
     ensures table { IfErr result (IsOfTables (length schema.now)) }
 {
+    run_observed::<I, R, S, Unobserved>(alloc, schema, readers, query, sink, &mut Unobserved)
+}
+
+/// The same as `run`, where each candidate that is looked at, and each row that is found, is reported to an observer.
+pub fn run_observed<I: EnvelopeIndex + Drop, R: Read + Drop, S: Sink, O: RowObserver>(
+    alloc: Global,
+    schema: &Schema,
+    readers: Vec<R>,
+    query: &str,
+    sink: &mut S,
+    observer: &mut O,
+) -> Result<Work, Fault>
+    requires { length readers.items ≡ length schema.now }
+    ensures texts { (texts : List (List ℕ)) → map R.remaining readers.items ≡ map Some texts
+        → RunsOver result schema.now (map records_in texts) query.now
+        (S.taken sink.old) (S.taken sink.new) }
+    ensures work { (texts : List (List ℕ)) → map R.remaining readers.items ≡ map Some texts
+        → CountsOver result schema.now (map records_in texts) query.now }
+    ensures records { (records : List (List Record)) × EachRecordsOf (map R.remaining readers.items) records
+        × RunsOver result schema.now records query.now (S.taken sink.old) (S.taken sink.new)
+        × CountsOver result schema.now records query.now }
+    ensures failures { S.failures sink.new ≡ count_after (S.failures sink.old) result }
+    ensures table { IfErr result (IsOfTables (length schema.now)) }
+{
     let query = read_query(alloc, query)?;
-    load_and_answer::<I, R, S>(alloc, schema, readers, &query, sink)
+    load_and_answer::<I, R, S, O>(alloc, schema, readers, &query, sink, observer)
 }
 
 // Loads all tables and runs a query over them. What is said of the query is said of each text that reads as it does.
-fn load_and_answer<I: EnvelopeIndex + Drop, R: Read + Drop, S: Sink>(
+fn load_and_answer<I: EnvelopeIndex + Drop, R: Read + Drop, S: Sink, O: RowObserver>(
     alloc: Global,
     schema: &Schema,
     readers: Vec<R>,
     query: &Query<'_>,
     sink: &mut S,
+    observer: &mut O,
 ) -> Result<Work, Fault>
     requires { length readers.items ≡ length schema.now }
     ensures texts { (text : List ℕ) (texts : List (List ℕ)) → query_of text ≡ Ok query.now
@@ -91,16 +117,17 @@ fn load_and_answer<I: EnvelopeIndex + Drop, R: Read + Drop, S: Sink>(
     ensures table { IfErr result (IsOfTables (length schema.now)) }
 {
     let database: Database<'_, I> = Database::load(alloc, schema, readers)?;
-    answer_query(alloc, query, &database, sink)
+    answer_query(alloc, query, &database, sink, observer)
 }
 
 // Runs a query over a database: binds it, chooses its plan, and writes its answer. At Ok all of the answer has been
 // written; nothing where the query isn't bound, and a beginning where the sink failed or memory ran out.
-fn answer_query<I: EnvelopeIndex + Drop, S: Sink>(
+fn answer_query<I: EnvelopeIndex + Drop, S: Sink, O: RowObserver>(
     alloc: Global,
     query: &Query<'_>,
     database: &Database<'_, I>,
     sink: &mut S,
+    observer: &mut O,
 ) -> Result<Work, Fault>
     ensures answer { AnswersQuery result database.now query.now
         (S.taken sink.old) (S.taken sink.new) }
@@ -110,17 +137,18 @@ fn answer_query<I: EnvelopeIndex + Drop, S: Sink>(
 {
     let bound = bind(alloc, query, database)?;
     let plan = choose(alloc, database, &bound)?;
-    let work = put_planned(alloc, database, &bound, &plan, sink)?;
+    let work = put_planned(alloc, database, &bound, &plan, sink, observer)?;
     Ok(work)
 }
 
 // Writes what a bound query asks for, by a lawful plan, and returns the work.
-fn put_planned<I: EnvelopeIndex + Drop, S: Sink>(
+fn put_planned<I: EnvelopeIndex + Drop, S: Sink, O: RowObserver>(
     alloc: Global,
     database: &Database<'_, I>,
     query: &Bound,
     plan: &Plan,
     sink: &mut S,
+    observer: &mut O,
 ) -> Result<Work, PutFault>
     requires bound { IsBound geometry_fits database.now.definitions query.now }
     requires lawful { IsLawful database.now.tables query.now plan.now }
@@ -132,19 +160,20 @@ fn put_planned<I: EnvelopeIndex + Drop, S: Sink>(
         ≡ planned_work query.now.explain matrix database.now.tables query.now plan.now)) }
 {
     match query.explain {
-        Explain::No => put_rows(alloc, database, query, plan, sink),
+        Explain::No => put_rows(alloc, database, query, plan, sink, observer),
         Explain::Plan => put_plan(query, plan, sink),
-        Explain::Analyze => put_analysis(alloc, database, query, plan, sink),
+        Explain::Analyze => put_analysis(alloc, database, query, plan, sink, observer),
     }
 }
 
 // Writes the rows that a bound query means as a lawful plan finds them, and returns the work.
-fn put_rows<I: EnvelopeIndex + Drop, S: Sink>(
+fn put_rows<I: EnvelopeIndex + Drop, S: Sink, O: RowObserver>(
     alloc: Global,
     database: &Database<'_, I>,
     query: &Bound,
     plan: &Plan,
     sink: &mut S,
+    observer: &mut O,
 ) -> Result<Work, PutFault>
     requires bound { IsBound geometry_fits database.now.definitions query.now }
     requires lawful { IsLawful database.now.tables query.now plan.now }
@@ -156,7 +185,7 @@ fn put_rows<I: EnvelopeIndex + Drop, S: Sink>(
         ≡ kept_count (spec.work matrix denoted database.now.tables query.now plan.now))) }
 {
     let mut rows = Rows::new(alloc, database, query, plan, Work::new());
-    put_answer(alloc, database, query, &mut rows, sink)?;
+    put_answer(alloc, database, query, &mut rows, sink, observer)?;
     Ok(rows.into_work())
 }
 
@@ -171,12 +200,13 @@ fn put_plan<S: Sink>(query: &Bound, plan: &Plan, sink: &mut S) -> Result<Work, P
 }
 
 // Executes a lawful plan to its end, writes what EXPLAIN ANALYZE prints of it, and returns the work.
-fn put_analysis<I: EnvelopeIndex + Drop, S: Sink>(
+fn put_analysis<I: EnvelopeIndex + Drop, S: Sink, O: RowObserver>(
     alloc: Global,
     database: &Database<'_, I>,
     query: &Bound,
     plan: &Plan,
     sink: &mut S,
+    observer: &mut O,
 ) -> Result<Work, PutFault>
     requires bound { IsBound geometry_fits database.now.definitions query.now }
     requires lawful { IsLawful database.now.tables query.now plan.now }
@@ -188,20 +218,21 @@ fn put_analysis<I: EnvelopeIndex + Drop, S: Sink>(
         ≡ kept_count (spec.work matrix denoted database.now.tables query.now plan.now))) }
 {
     let mut rows = Rows::new(alloc, database, query, plan, Work::new());
-    count_rows(&mut rows)?;
+    count_rows(&mut rows, observer)?;
     let work = rows.into_work();
-    analyze(query, plan, work.count(), sink)?;
+    analyze(query, plan, &work, sink)?;
     Ok(work)
 }
 
 // Writes the answer of a query, of which these rows are still to come: how many there are under COUNT(*), else the header
 // and the record of each row, as it comes.
-fn put_answer<I: EnvelopeIndex + Drop, S: Sink>(
+fn put_answer<I: EnvelopeIndex + Drop, S: Sink, O: RowObserver>(
     alloc: Global,
     database: &Database<'_, I>,
     query: &Bound,
     rows: &mut Rows<'_, I>,
     sink: &mut S,
+    observer: &mut O,
 ) -> Result<(), PutFault>
     requires references { HasReferences database.now.definitions query.now.references }
     requires tables { rows.old.tables ≡ referenced database.now.tables query.now.references }
@@ -213,21 +244,24 @@ fn put_answer<I: EnvelopeIndex + Drop, S: Sink>(
 {
     let mut writer = RecordWriter::new(alloc);
     if query.counts {
-        let count = count_rows(rows)?;
+        let count = count_rows(rows, observer)?;
         return put_count(alloc, query.limit, count, &mut writer, sink);
     }
     let header = header_record(alloc, database.definitions(), query)?;
     writer.put(alloc, &header, sink)?;
-    put_records(alloc, database, query, rows, &mut writer, sink)
+    put_records(alloc, database, query, rows, &mut writer, sink, observer)
 }
 
 // Takes rows to their end, and returns how many there were. A number past 64 bits counts as running out of memory.
-fn count_rows<I: EnvelopeIndex + Drop>(rows: &mut Rows<'_, I>) -> Result<u64, AllocError>
+fn count_rows<I: EnvelopeIndex + Drop, O: RowObserver>(
+    rows: &mut Rows<'_, I>,
+    observer: &mut O,
+) -> Result<u64, AllocError>
     ensures count { ByEveryMatrix (λ matrix. IfOk result (λ n. n ≡ length (to_come matrix rows.old))) }
     ensures work { ByEveryMatrix (λ matrix. OnOk result (rows.new.work ≡ work_at_end matrix rows.old)) }
 {
     let mut count: u64 = 0;
-    while let Some(found) = rows.next() {
+    while let Some(found) = rows.next_observed(observer) {
         found?;
         let Some(more) = count.checked_add(1) else {
             return Err(AllocError);
@@ -283,13 +317,14 @@ fn put_field<S: Sink>(
 }
 
 // Writes the record of each row that is still to come, as it comes.
-fn put_records<I: EnvelopeIndex + Drop, S: Sink>(
+fn put_records<I: EnvelopeIndex + Drop, S: Sink, O: RowObserver>(
     alloc: Global,
     database: &Database<'_, I>,
     query: &Bound,
     rows: &mut Rows<'_, I>,
     writer: &mut RecordWriter,
     sink: &mut S,
+    observer: &mut O,
 ) -> Result<(), PutFault>
     requires writer { IsReady writer.old }
     requires references { HasReferences database.now.definitions query.now.references }
@@ -300,7 +335,7 @@ fn put_records<I: EnvelopeIndex + Drop, S: Sink>(
     ensures work { ByEveryMatrix (λ matrix. OnOk result (rows.new.work ≡ work_at_end matrix rows.old)) }
 {
     let mut fields = ByteRecord::new(alloc);
-    while let Some(row) = rows.next() {
+    while let Some(row) = rows.next_observed(observer) {
         let pair = row?;
         pair_record(alloc, database, query, pair, &mut fields)?;
         writer.put(alloc, &fields, sink)?;

@@ -34,8 +34,7 @@ impl RecordWriter {
     }
 
     /// Writes the text of a record, ended by a line feed: all of it at Ok, and a beginning of it where the sink
-    /// fails or memory runs out. At Ok it is ready for the next record, which needs as many fields as this
-    /// one.
+    /// fails or memory runs out. In each case it is ready for the next record.
     pub fn put<S: Sink>(
         &mut self,
         alloc: Global,
@@ -43,7 +42,7 @@ impl RecordWriter {
         sink: &mut S,
     ) -> Result<(), PutFault>
         requires { IsReady self.old }
-        ensures ready { OnOk result (IsReady self.new) }
+        ensures ready { IsReady self.new }
         ensures ok { OnOk result
             (Appends (S.taken sink.old) (S.taken sink.new) (row_text default_writer (fields_of fields.now))) }
         ensures front { OnErr result (AppendsFront (S.taken sink.old) (S.taken sink.new)
@@ -52,7 +51,7 @@ impl RecordWriter {
     {
         self.let_go(alloc);
         let begin = self.kept().len();
-        self.write(fields)?;
+        self.write(alloc, fields)?;
         put_all(sink, behind(self.kept(), begin))?;
         Ok(())
     }
@@ -74,14 +73,15 @@ impl RecordWriter {
         self.writer.get_ref().as_slice()
     }
 
-    // Adds the text of a record to the text that is kept.
-    fn write(&mut self, fields: &ByteRecord) -> Result<(), AllocError>
+    // Adds the text of a record to the text that is kept. Where memory runs out, no text is kept.
+    fn write(&mut self, alloc: Global, fields: &ByteRecord) -> Result<(), AllocError>
         requires { IsReady self.old }
-        ensures ready { OnOk result (IsReady self.new) }
+        ensures ready { IsReady self.new }
         ensures added { OnOk result
             (text_kept self.new ≡ text_kept self.old ++ row_text default_writer (fields_of fields.now)) }
     {
         if self.writer.write_byte_record(fields).is_err() || self.writer.flush().is_err() {
+            self.writer = fresh_writer(alloc);
             return Err(AllocError);
         }
         Ok(())

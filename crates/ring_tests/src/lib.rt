@@ -2,9 +2,9 @@
 //! inside. They go over slices, so one polygon, one ring or a part of it is tested alike. Nothing here takes memory.
 #![tactic(auto)]
 
-mod edges;
-pub mod laws;
+mod edge_pairs;
+pub mod ring_laws;
 mod rings;
 
-pub use edges::share_point;
+pub use edge_pairs::share_point;
 pub use rings::{clash, is_inside, is_not_closed};

@@ -4,7 +4,7 @@ ghost use Rattle.std.specs.Prelude.{◌≡◌, ◌<◌};
 ghost use Rattle.geometry_model.specs.FirstFaults as spec;
 ghost use Rattle.ring_tests.specs.EdgeRuns.{is_odd_above};
 
-use crate::edges::{share_other, share_point};
+use crate::edge_pairs::{share_other, share_point};
 use fraction::{GridPoint, RatPoint};
 use orient::{Segment, crosses_up};
 

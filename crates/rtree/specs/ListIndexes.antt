@@ -1,7 +1,7 @@
 -- What the plain index shows.
 use Rattle.std.specs.Prelude.{List, Option}
 use Rattle.geometry_model.specs.Envelopes.{Envelope}
-use Rattle.rtree.specs.declared.lists.ListIndex.{ListIndex}
+use Rattle.rtree.specs.declared.list_index.ListIndex.{ListIndex}
 
 -- the envelopes of its list
 abbrev pub listed : ListIndex → List (Option Envelope)

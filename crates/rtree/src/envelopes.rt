@@ -1,9 +1,10 @@
-//! Envelopes: the least upright rectangle round some positions.
+//! Envelopes: the least upright rectangle round a geometry or some positions.
 
-ghost use Rattle.std.specs.Prelude.{◌≡◌, ◌≤ℤ◌, ◌&&◌, ◌++◌, List};
+ghost use Rattle.std.specs.Prelude.{◌≡◌, ◌↔◌, ◌≤ℤ◌, ◌&&◌, ◌++◌, List, true};
 ghost use Rattle.geometry_model.specs.Points.{Position};
 ghost use Rattle.std.specs.Int.{int_min, int_max};
-ghost use Rattle.geometry_model.specs.Envelopes.{Envelope as Rectangle, envelope_at, with_position, envelope_of_positions, joined, overlap, meets};
+ghost use Rattle.geometry_model.specs.Geometries.{Geometry, is_empty};
+ghost use Rattle.geometry_model.specs.Envelopes.{Envelope as Rectangle, envelope_at, with_position, envelope, envelope_of_positions, joined, overlap, meets};
 
 use fraction::GridPoint;
 use std::marker::Model;
@@ -37,7 +38,27 @@ impl Model for Envelope {
     } };
 }
 
+/// What is a valid geometry, and so has an envelope. (OGC 06-103r4, 6.1.2.2: Envelope.)
+pub trait Enveloped {
+    // The geometry that a value is.
+    ghost geometry: { Self → Geometry };
+
+    /// Its envelope, absent exactly where it is empty. It takes no memory. (OGC 06-103r4, 6.1.2.2: Envelope.)
+    fn envelope(&self) -> Option<Envelope>
+        ensures value { result ≡ envelope (geometry self.now) }
+        ensures absent { (result ≡ None) ↔ (is_empty (geometry self.now) ≡ true) };
+}
+
 impl Envelope {
+    /// The envelope of a geometry, absent exactly where it is empty. It takes no memory. (OGC 06-103r4, 6.1.2.2:
+    /// Envelope.)
+    pub fn of<T: Enveloped>(shape: &T) -> Option<Envelope>
+        ensures value { result ≡ envelope (T.geometry shape.now) }
+        ensures absent { (result ≡ None) ↔ (is_empty (T.geometry shape.now) ≡ true) }
+    {
+        shape.envelope()
+    }
+
     /// The envelope of some positions; absent where there are none. (OGC 06-103r4, 6.1.2.2: Envelope.)
     pub fn of_positions(positions: &[GridPoint]) -> Option<Envelope>
         ensures { result ≡ envelope_of_positions positions.now }

@@ -6,11 +6,11 @@
 
 pub mod envelopes;
 pub mod indexes;
-pub mod lists;
+pub mod list_index;
 mod packing;
 pub mod trees;
 
-pub use envelopes::{Envelope, meets};
+pub use envelopes::{Envelope, Enveloped, meets};
 pub use indexes::EnvelopeIndex;
-pub use lists::ListIndex;
+pub use list_index::ListIndex;
 pub use trees::RTree;

@@ -1,6 +1,6 @@
 //! Blocks of scripts: comments, files and rows.
 
-use crate::commands::{DIRECTORY, SCHEMA};
+use crate::played_commands::{DIRECTORY, SCHEMA};
 use crate::short_forms::written_out;
 use std::alloc::{AllocError, Global};
 

@@ -3,8 +3,8 @@
 #![tactic(auto)]
 
 mod blocks;
-mod commands;
 mod files;
+mod played_commands;
 mod script;
 mod short_forms;
 

@@ -1,8 +1,8 @@
 //! Scripts, and the rows of them that differ.
 
 use crate::blocks::Block;
-use crate::commands::output;
 use crate::files::Files;
+use crate::played_commands::output;
 use crate::short_forms::written_out;
 use std::alloc::{AllocError, Global};
 

@@ -2,11 +2,13 @@
 //! SELECT means; and it relates two geometries by their DE-9IM matrix.
 #![tactic(auto)]
 
+mod interruptions;
 mod progress;
 
 use crate::progress::Progress;
+use bounded_readers::BoundedReader;
 use command_line::{Misuse, Order, order};
-use engine::{Failure, failed, serve};
+use engine::{Failure, failed, serve_observed};
 use sinks::{Sink, StdSink, put_all};
 use std::alloc::{AllocError, Global};
 use std::io::{self, BufWriter, ErrorKind};
@@ -20,7 +22,8 @@ const MISUSE: u8 = 2;
 const NOT_UTF8: &[u8] = b"error: invalid UTF-8 was detected in one or more arguments\n";
 
 fn main(rt: HostRuntime) -> ExitCode {
-    let mut err = StdSink::new(rt.stderr());
+    let progress = Progress::new(&rt);
+    let mut err = StdSink::new(progress.before(rt.stderr()));
     let words = match read_words(&rt) {
         Ok(words) => words,
         Err(error) => return ExitCode::from(failed_words(&error, &mut err)),
@@ -29,14 +32,17 @@ fn main(rt: HostRuntime) -> ExitCode {
         Ok(order) => order,
         Err(misuse) => return ExitCode::from(failed_order(&rt, &misuse, &mut err)),
     };
-    let buffer = match BufWriter::new(rt.alloc(), rt.stdout()) {
+    let buffer = match BufWriter::new(rt.alloc(), progress.before(rt.stdout())) {
         Ok(buffer) => buffer,
         Err(_) => return ExitCode::from(failed(&Failure::OutOfMemory, &mut err)),
     };
     let mut out = StdSink::new(buffer);
-    let progress = Progress::new(&rt);
-    let opener = |path: &str| Some(progress.follow(path, fs::open(&rt, path).ok()?));
-    let status = serve(rt.alloc(), &order, opener, &mut out, &mut err);
+    let mut search = progress.search();
+    let opener = |path: &str| {
+        let file = fs::open(&rt, path).ok()?;
+        Some(BoundedReader::new(progress.follow(path, file)))
+    };
+    let status = serve_observed(rt.alloc(), &order, opener, &mut out, &mut err, &mut search);
     if out.flush().is_err() && status == 0 {
         return ExitCode::from(failed(&Failure::WriteFailed, &mut err));
     }

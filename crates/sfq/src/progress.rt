@@ -1,14 +1,16 @@
-//! How far the loading of tables is: a line on standard error, where that is a terminal and loading takes longer than a
-//! second.
+//! How far a command is: a line on standard error, where that is a terminal and the command takes longer than half a second.
+//! It is removed before anything else is written, and doesn't come back once the output is on a terminal.
 
+use crate::interruptions::{PatientFile, write_again};
+use observers::{Followed, ReadObserver, RowObserver};
 use std::cell::Cell;
 use std::fs::File;
-use std::io::{self, IsTerminal, Read, Write};
+use std::io::{self, IsTerminal, Write};
 use std::path::Path;
 use std::time::{Duration, Instant};
 
-/// How many seconds pass before anything is printed.
-const PATIENCE_SECONDS: u64 = 1;
+/// How many milliseconds pass before anything is printed.
+const PATIENCE_MILLISECONDS: u64 = 500;
 
 /// How many milliseconds a line stays before it is written anew.
 const PAUSE_MILLISECONDS: u64 = 100;
@@ -16,10 +18,13 @@ const PAUSE_MILLISECONDS: u64 = 100;
 /// What takes a line away: back to its first column, and all from there on is erased.
 const CLEAR: &[u8] = b"\r\x1b[K";
 
+/// How many candidates are looked at from one look at the clock to the next.
+const STRIDE: u64 = 64;
+
 /// How many bytes are a megabyte.
 const MEGABYTE: u64 = 1_000_000;
 
-/// How far loading is. It prints nothing where standard error is no terminal.
+/// How far a command is. It prints nothing where standard error is no terminal.
 #[derive(Drop)]
 pub struct Progress<'r> {
     rt: &'r HostRuntime,
@@ -31,10 +36,12 @@ pub struct Progress<'r> {
     due: Cell<Duration>,
     // Whether a line is on the terminal.
     stands: Cell<bool>,
+    // Whether the output has begun on a terminal, so that no line is printed any more.
+    is_over: Cell<bool>,
 }
 
 impl<'r> Progress<'r> {
-    /// Loading that begins now.
+    /// A command that begins now.
     pub fn new(rt: &'r HostRuntime) -> Progress<'r> {
         let start = if rt.stderr().is_terminal() {
             Instant::now(rt).ok()
@@ -45,20 +52,43 @@ impl<'r> Progress<'r> {
             rt,
             start,
             opened: Cell::new(0),
-            due: Cell::new(Duration::from_secs(PATIENCE_SECONDS)),
+            due: Cell::new(Duration::from_millis(PATIENCE_MILLISECONDS)),
             stands: Cell::new(false),
+            is_over: Cell::new(false),
         }
     }
 
-    /// The reader of an opened file, whose reading is reported by its name. Without memory the name is left out.
-    pub fn follow(&self, path: &str, file: File) -> Followed<'_> {
+    /// The reader of an opened file, whose reading is reported by its name and made again where a signal interrupts it.
+    /// Without memory the name is left out.
+    pub fn follow(&self, path: &str, file: File) -> Followed<PatientFile, FileReading<'_>> {
         let place = self.opened.get();
         self.opened.set(place.saturating_add(1));
-        Followed {
-            file,
+        let reading = FileReading {
             name: self.name_of(path),
             place,
             bytes: 0,
+            progress: self,
+        };
+        Followed::new(PatientFile::new(file), reading)
+    }
+
+    /// What reports the search for rows.
+    pub fn search(&self) -> Search<'_> {
+        Search {
+            candidates: 0,
+            rows: 0,
+            total: 0,
+            progress: self,
+        }
+    }
+
+    /// A stream before whose bytes the line is removed; on a terminal no line is printed after the first of them. What a
+    /// signal interrupts is written again.
+    pub fn before<W: Write + IsTerminal>(&self, stream: W) -> Cleared<'_, W> {
+        let is_last = stream.is_terminal();
+        Cleared {
+            stream,
+            is_last,
             progress: self,
         }
     }
@@ -70,22 +100,22 @@ impl<'r> Progress<'r> {
         String::from_str(self.rt.alloc(), stem).ok()
     }
 
-    // Prints how far a table is read, where it is time for a line. A line that can't be written is left out.
-    fn tell(&self, name: &str, place: u64, bytes: u64) {
+    // Whether it is time for a line. If so, the one that is there is removed, and the next is due after a pause.
+    fn takes_line(&self) -> bool {
+        if self.is_over.get() {
+            return false;
+        }
         let Some(elapsed) = self.start.and_then(|start| start.elapsed(self.rt).ok()) else {
-            return;
+            return false;
         };
         if elapsed < self.due.get() {
-            return;
+            return false;
         }
         let pause = Duration::from_millis(PAUSE_MILLISECONDS);
         self.due.set(elapsed.saturating_add(pause));
         self.clear();
-        let tables = self.opened.get().saturating_sub(1);
-        let read = bytes / MEGABYTE;
-        let mut err = self.rt.stderr();
-        let _ = write!(err, "sfq: loading {name} ({place} of {tables}), {read} MB");
         self.stands.set(true);
+        true
     }
 
     // Removes the line from the terminal.
@@ -96,9 +126,8 @@ impl<'r> Progress<'r> {
     }
 }
 
-/// A file that is read, and how far. Once it is dropped, read to its end or not, no line is left on the terminal.
-pub struct Followed<'p> {
-    file: File,
+/// How far a file is read. Once it is dropped, with its reader, no line is left on the terminal.
+pub struct FileReading<'p> {
     name: Option<String>,
     // The schema's is 0, and the tables' go from 1 on.
     place: u64,
@@ -106,28 +135,102 @@ pub struct Followed<'p> {
     progress: &'p Progress<'p>,
 }
 
-impl Read for Followed<'_> {
-    fn read(&mut self, buf: &mut [u8]) -> io::Result<usize> {
-        let count = self.file.read(buf)?;
-        self.bytes = self.bytes.saturating_add(count as u64);
+impl ReadObserver for FileReading<'_> {
+    // Prints how far a table is read, where it is time for a line. A line that can't be written is left out.
+    fn came(&mut self, bytes: usize) {
+        self.bytes = self.bytes.saturating_add(bytes as u64);
         if let Some(name) = &self.name
             && self.place > 0
+            && self.progress.takes_line()
         {
-            self.progress.tell(name.as_str(), self.place, self.bytes);
+            let place = self.place;
+            let tables = self.progress.opened.get().saturating_sub(1);
+            let read = self.bytes / MEGABYTE;
+            let mut err = self.progress.rt.stderr();
+            let _ = write!(err, "sfq: loading {name} ({place} of {tables}), {read} MB");
         }
-        Ok(count)
     }
 }
 
-impl Drop for Followed<'_> {
+impl Drop for FileReading<'_> {
     fn drop(self) {
         let Self {
-            file: _,
             name: _,
             place: _,
             bytes: _,
             progress,
         } = self;
         progress.clear();
+    }
+}
+
+/// How far the search for the rows of a query is. Once it is dropped, no line is left on the terminal.
+pub struct Search<'p> {
+    candidates: u64,
+    rows: u64,
+    // How many rows of the table that is walked over were to come at first.
+    total: usize,
+    progress: &'p Progress<'p>,
+}
+
+impl RowObserver for Search<'_> {
+    // Prints how far the search is, where it is time for a line. A line that can't be written is left out.
+    fn looked(&mut self, left: usize) {
+        if self.candidates == 0 {
+            self.total = left.saturating_add(1);
+        }
+        self.candidates = self.candidates.saturating_add(1);
+        if self.candidates % STRIDE == 0 && self.progress.takes_line() {
+            let Search {
+                candidates,
+                rows,
+                total,
+                ..
+            } = self;
+            let row = total.saturating_sub(left);
+            let mut err = self.progress.rt.stderr();
+            let _ = write!(
+                err,
+                "sfq: row {row} of {total}, {candidates} candidates, {rows} found"
+            );
+        }
+    }
+
+    fn found(&mut self) {
+        self.rows = self.rows.saturating_add(1);
+    }
+}
+
+impl Drop for Search<'_> {
+    fn drop(self) {
+        let Self {
+            candidates: _,
+            rows: _,
+            total: _,
+            progress,
+        } = self;
+        progress.clear();
+    }
+}
+
+/// A stream before whose bytes the line is removed, and whose writes are made again where a signal interrupts them.
+#[derive(Drop)]
+pub struct Cleared<'p, W: Write> {
+    stream: W,
+    is_last: bool,
+    progress: &'p Progress<'p>,
+}
+
+impl<W: Write> Write for Cleared<'_, W> {
+    fn write(&mut self, buffer: &[u8]) -> io::Result<usize> {
+        self.progress.clear();
+        if self.is_last {
+            self.progress.is_over.set(true);
+        }
+        write_again(&mut self.stream, buffer)
+    }
+
+    fn flush(&mut self) -> io::Result<()> {
+        self.stream.flush()
     }
 }

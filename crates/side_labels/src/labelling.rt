@@ -10,7 +10,7 @@ ghost use Rattle.noding.specs.Nodings.{piece_of};
 ghost use Rattle.side_labels.specs.Samples.{HasSample};
 
 use crate::location::locate;
-use crate::sides::sides_at;
+use crate::piece_sides::sides_at;
 use fraction::{GridPoint, RatPoint};
 use label_lists::{Label, Labels, SideLabels};
 use noding::node;

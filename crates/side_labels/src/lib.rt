@@ -3,10 +3,10 @@
 
 pub mod labelling;
 pub mod location;
-pub mod sides;
+pub mod piece_sides;
 
-pub use geometry_model::Location;
+pub use geometry_model::{Location, Location as Loc};
 pub use label_lists::{Label, Labels, SideLabels};
 pub use labelling::labels;
 pub use location::locate;
-pub use sides::{Sides, sides_at, sides_by};
+pub use piece_sides::{Sides, sides_at, sides_by};

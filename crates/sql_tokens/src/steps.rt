@@ -1,6 +1,6 @@
 //! The small steps of the readers of queries: a token of a kind, and what a predicate is compared with.
 
-ghost use Rattle.std.specs.Prelude.{◌≡◌};
+ghost use Rattle.std.specs.Prelude.{◌≡◌, OnErr};
 ghost use Rattle.sql_tokens.specs.Comparands as spec;
 ghost use Rattle.table_model.specs.Parsers as steps;
 ghost use Rattle.table_model.specs.Parsers.{Reads};
@@ -17,11 +17,12 @@ pub fn refuse(tokens: &Cursor<'_, '_>) -> QueryFault
     QueryFault::Syntax(tokens.place())
 }
 
-/// Reads a token of a kind.
+/// Reads a token of a kind. A refusal leaves the tokens as they were.
 #[tactic(auto, unfolding(table_model::specs::Parsers::expect))]
 pub fn expect(tokens: &mut Cursor<'_, '_>, wanted: TokenKind) -> Result<(), QueryFault>
-    ensures { Reads QueryFault.OutOfMemory
+    ensures reads { Reads QueryFault.OutOfMemory
         (steps.expect QueryFault.Syntax wanted tokens.old) result tokens.new }
+    ensures refused { OnErr result (tokens.new ≡ tokens.old) }
 {
     if tokens.sees(wanted) {
         tokens.advance();
@@ -31,9 +32,10 @@ pub fn expect(tokens: &mut Cursor<'_, '_>, wanted: TokenKind) -> Result<(), Quer
     }
 }
 
-/// Reads the 1 or the 0 that a predicate is compared with: whether it is to hold.
+/// Reads the 1 or the 0 that a predicate is compared with: whether it is to hold. A refusal leaves the tokens as they were.
 fn truth(tokens: &mut Cursor<'_, '_>) -> Result<bool, QueryFault>
-    ensures { Reads QueryFault.OutOfMemory (spec.truth tokens.old) result tokens.new }
+    ensures reads { Reads QueryFault.OutOfMemory (spec.truth tokens.old) result tokens.new }
+    ensures refused { OnErr result (tokens.new ≡ tokens.old) }
 {
     if !tokens.sees(TokenKind::Integer) {
         return Err(refuse(tokens));
@@ -47,9 +49,12 @@ fn truth(tokens: &mut Cursor<'_, '_>) -> Result<bool, QueryFault>
     }
 }
 
-/// Reads what a predicate is compared with, where it is compared: whether it is to hold.
+/// Reads what a predicate is compared with, where it is compared: whether it is to hold. What is refused comes after an
+/// equal sign, which alone was taken.
+#[tactic(auto, unfolding(table_model::specs::Parsers::after))]
 pub fn comparand(tokens: &mut Cursor<'_, '_>) -> Result<bool, QueryFault>
-    ensures { Reads QueryFault.OutOfMemory (spec.comparand tokens.old) result tokens.new }
+    ensures reads { Reads QueryFault.OutOfMemory (spec.comparand tokens.old) result tokens.new }
+    ensures refused { OnErr result (tokens.new ≡ steps.next tokens.old) }
 {
     if tokens.eat(TokenKind::Equal) {
         truth(tokens)

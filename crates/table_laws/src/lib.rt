@@ -3,4 +3,4 @@
 
 pub mod double_keys;
 pub mod feature_tables;
-pub mod loading;
+pub mod loading_laws;

@@ -1,6 +1,6 @@
 -- The binding of a written query to the tables of a schema: names become places, or the first fault.
 use Rattle.std.specs.Prelude.{ℕ, ◌+◌, Bool, true, false, ◌&&◌, ◌||◌, if◌then◌else◌, ◌==◌, List, [], ◌∷◌, ◌++◌, map, slice_get, Option, Some, None, Result, Ok, Err}
-use Rattle.std.specs.List.{position, enumerate_from, filter_map, flat_map}
+use Rattle.std.specs.List.{position, enumerate_from, filter_map, flat_map, list_any}
 use Rattle.geometry_model.specs.declared.relations.Pattern.{Pattern}
 use Rattle.geometry_model.specs.declared.relations.Predicate.{Predicate}
 use Rattle.geometry_model.specs.declared.relations.Predicate.TheVariants as predicates
@@ -84,22 +84,26 @@ abbrev pub name_start : Name → Option Name → ℕ
 name_start table (Some alias) = alias.at
 name_start table None = table.at
 
--- two references need two names, else there is a fault at the second's (SQL, correlation names)
-abbrev pub two_references : Reference → Reference → ℕ → Checked (List Reference)
-two_references first second at = if same_name first.name second.name then Err (SameName at) else Ok (first ∷ second ∷ [])
+-- a reference behind others needs a name that none of them has, else there is a fault at its name (SQL, correlation names)
+abbrev pub named_apart : List Reference → ℕ → Reference → Checked Reference
+named_apart before at reference = if list_any (λ other. same_name other.name reference.name) before then Err (SameName at) else Ok reference
 
--- the references, where there is a second one or none (SQL, FROM)
-abbrev pub with_second : {T : Type 0} → List (TableDef T) → Reference → Option WrittenReference → Checked (List Reference)
-with_second schema first None = Ok (first ∷ [])
-with_second schema first (Some written) = do
-  second ← bound_reference schema written
-  two_references first second (name_start written.table written.alias)
+-- a reference behind others: its table first, then its name (SQL, FROM)
+abbrev pub next_reference : {T : Type 0} → List (TableDef T) → List Reference → WrittenReference → Checked Reference
+next_reference schema before written = do
+  reference ← bound_reference schema written
+  named_apart before (name_start written.table written.alias) reference
 
--- the references of FROM, the tables from left to right before the names (SQL, FROM)
-abbrev pub bound_references : {T : Type 0} → List (TableDef T) → WrittenReference → Option WrittenReference → Checked (List Reference)
-bound_references schema written second = do
-  first ← bound_reference schema written
-  with_second schema first second
+-- references behind others, which are listed first (SQL, FROM)
+abbrev pub references_after : {T : Type 0} → List (TableDef T) → List Reference → List WrittenReference → Checked (List Reference)
+references_after schema before [] = Ok before
+references_after schema before (written ∷ more) = do
+  reference ← next_reference schema before written
+  references_after schema (before ++ reference ∷ []) more
+
+-- the references of FROM, from left to right (SQL, FROM)
+abbrev pub bound_references : {T : Type 0} → List (TableDef T) → List WrittenReference → Checked (List Reference)
+bound_references schema = references_after schema []
 
 -- ---- columns
 
@@ -341,7 +345,7 @@ counts selections.Count = true
 -- a query bound to the tables of a schema, with its conjuncts: the tables of FROM first, then the select list, ON and WHERE (SQL, the query)
 abbrev pub binding : {T A B C D : Type 0} → GeometryBinding T A B C D → List (TableDef T) → Query A C → Checked (Bound B D)
 binding how schema query = do
-  references ← bound_references schema query.first query.second
+  references ← bound_references schema query.references
   listed ← bound_items how schema references query.selection
   joining ← bound_condition how schema references query.on
   filtering ← bound_condition how schema references query.condition
@@ -350,7 +354,7 @@ binding how schema query = do
 -- a query bound as it is written: the tables of FROM first, then the select list, ON and WHERE (SQL, the query)
 abbrev pub statement : {T A B C D : Type 0} → GeometryBinding T A B C D → List (TableDef T) → Query A C → Checked (Statement B D)
 statement how schema query = do
-  references ← bound_references schema query.first query.second
+  references ← bound_references schema query.references
   listed ← bound_items how schema references query.selection
   on ← bound_whole how schema references query.on
   condition ← bound_whole how schema references query.condition

@@ -1,11 +1,12 @@
 -- When a bound query is bound to these definitions: its tables and columns are there, and each type fits.
-use Rattle.std.specs.Prelude.{◌≡◌, ◌<◌, ◌⊎◌, Bool, true, false, ◌&&◌, All, List, [], map, length, slice_get, Option, Some, None, is_some, is_none}
+use Rattle.std.specs.Prelude.{◌≡◌, ◌<◌, Bool, true, false, ◌&&◌, All, List, [], map, length, slice_get, Option, Some, None, is_some, is_none}
 use Rattle.std.specs.List.{list_all}
 use Rattle.geometry_model.specs.Geometries.{Geometry}
 use Rattle.geometry_model.specs.FirstFaults.{validity_fault}
 use Rattle.table_model.specs.Binding.{columns_of, comparable, type_of}
 use Rattle.table_model.specs.Definitions.{names_differ}
 use Rattle.table_model.specs.GeometryColumns.{ColumnShape}
+use Rattle.table_model.specs.References.{AreOneOrTwo}
 use Rattle.table_model.specs.declared.conditions.Bound.{Bound}
 use Rattle.table_model.specs.declared.conditions.ColumnPlace.{ColumnPlace}
 use Rattle.table_model.specs.declared.conditions.Cond.{Cond}
@@ -99,7 +100,7 @@ item_fits fits definitions references (items.IsEmpty c) = fits.item_argument def
 
 -- there are one or two references, the table of each is there, and their names differ (SQL, FROM)
 pub record AreReferences {T : Type 0} (definitions : List (TableDef T)) (references : List Reference) : Type 0 where
-  pub few : (length references ≡ 1) ⊎ (length references ≡ 2)
+  pub few : AreOneOrTwo references
   pub there : All (λ (r : Reference). r.table < length definitions) references
   pub differ : names_differ (map (λ r. r.name) references) ≡ true
 

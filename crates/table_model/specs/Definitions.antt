@@ -6,7 +6,14 @@ use Rattle.table_model.specs.declared.definitions.ColumnType.{ColumnType}
 use Rattle.table_model.specs.declared.definitions.ColumnType.TheVariants as column
 use Rattle.table_model.specs.declared.definitions.ColumnDef.{ColumnDef}
 use Rattle.table_model.specs.declared.definitions.TableDef.{TableDef}
-use Rattle.table_model.specs.declared.definitions.TheConstants.{COLUMN_LIMIT, TABLE_LIMIT}
+
+-- the most tables of a schema: 16 (this project's choice)
+abbrev pub most_tables : ℕ
+most_tables = 16
+
+-- the most columns of a table: 32 (this project's choice)
+abbrev pub most_columns : ℕ
+most_columns = 32
 
 -- no two of these names are the same (names are compared without regard to ASCII case)
 abbrev pub names_differ : List (List ℕ) → Bool
@@ -30,8 +37,8 @@ column_names columns = map (λ c. c.name) columns
 
 -- a table has at most 32 columns, whose names differ, and one of them is its key
 abbrev pub lawful_table : {T : Type 0} → TableDef T → Bool
-lawful_table table = nat_le (length table.columns) COLUMN_LIMIT && (names_differ (column_names table.columns) && may_be_key (slice_get table.columns table.key))
+lawful_table table = nat_le (length table.columns) most_columns && (names_differ (column_names table.columns) && may_be_key (slice_get table.columns table.key))
 
 -- a schema has at most 16 tables, whose names differ, each of them lawful
 unfoldable pub lawful : {T : Type 0} → List (TableDef T) → Bool
-lawful tables = nat_le (length tables) TABLE_LIMIT && (names_differ (map (λ t. t.name) tables) && list_all lawful_table tables)
+lawful tables = nat_le (length tables) most_tables && (names_differ (map (λ t. t.name) tables) && list_all lawful_table tables)

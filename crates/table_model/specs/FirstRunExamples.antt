@@ -88,8 +88,7 @@ abbrev pub bound_names : WrittenCond WrittenGeometry → Checked BoundQuery
 bound_names condition = binding geometry_binding towns (record {
   explain = explains.No;
   selection = selections.Items (written_item (codes "id") 7 ∷ written_item (codes "name") 11 ∷ []);
-  first = record { table = record { text = codes "t"; at = 21 }; alias = None };
-  second = None;
+  references = record { table = record { text = codes "t"; at = 21 }; alias = None } ∷ [];
   on = None;
   condition = Some condition;
   limit = None;

@@ -104,12 +104,11 @@ tables = table_of None ∷ record {
 } ∷ []
 
 -- what a SELECT is bound to over these tables
-abbrev pub bound : Selection WrittenColumn → WrittenReference → Option WrittenReference → Option (WrittenCond WrittenGeometry) → Checked (Bound (GeometryArgument Geometry) ColumnPlace)
-bound selection first second condition = binding geometry_binding tables (record {
+abbrev pub bound : Selection WrittenColumn → List WrittenReference → Option (WrittenCond WrittenGeometry) → Checked (Bound (GeometryArgument Geometry) ColumnPlace)
+bound selection references condition = binding geometry_binding tables (record {
   explain = explains.No;
   selection = selection;
-  first = first;
-  second = second;
+  references = references;
   on = None;
   condition = condition;
   limit = None;
@@ -117,7 +116,7 @@ bound selection first second condition = binding geometry_binding tables (record
 
 -- what SELECT id FROM t WHERE is bound to: the condition starts at byte 23
 abbrev pub bound_where : WrittenCond WrittenGeometry → Checked (Bound (GeometryArgument Geometry) ColumnPlace)
-bound_where condition = bound (selections.Items (written_item.Column (bare (codes "id") 7) ∷ [])) (table (codes "t") 15) None (Some condition)
+bound_where condition = bound (selections.Items (written_item.Column (bare (codes "id") 7) ∷ [])) (table (codes "t") 15 ∷ []) (Some condition)
 
 -- ---- answers
 

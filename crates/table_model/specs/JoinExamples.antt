@@ -54,8 +54,7 @@ written_join = record {
       written_items.Column (of (name (codes "b") 7) (name (codes "id") 9))
       ∷ written_items.Column (of (name (codes "s") 13) (name (codes "id") 15))
       ∷ []);
-  first = aliased (name (codes "big") 23) (name (codes "b") 27);
-  second = Some (aliased (name (codes "sq") 34) (name (codes "s") 37));
+  references = aliased (name (codes "big") 23) (name (codes "b") 27) ∷ aliased (name (codes "sq") 34) (name (codes "s") 37) ∷ [];
   on = Some (written_conds.Relates 42 (written_predicates.Named predicates.Intersects)
       (written_geometry.Column (of (name (codes "b") 56) (name (codes "geom") 58)))
       (written_geometry.Column (of (name (codes "s") 64) (name (codes "geom") 66))));

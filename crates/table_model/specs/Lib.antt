@@ -42,4 +42,5 @@ pub mod FeatureTables
 pub mod ValidGeometries
 pub mod SchemaExamples
 pub mod SpatialTables
+pub mod References
 pub mod RunOutcomes

@@ -12,7 +12,6 @@ use Rattle.table_model.specs.declared.definitions.ColumnType.{ColumnType}
 use Rattle.table_model.specs.declared.definitions.ColumnType.TheVariants as column
 use Rattle.table_model.specs.declared.definitions.ColumnDef.{ColumnDef}
 use Rattle.table_model.specs.declared.definitions.TableDef.{TableDef}
-use Rattle.table_model.specs.declared.definitions.TheConstants.{ROW_LIMIT}
 use Rattle.table_model.specs.declared.faults.LoadFault.{LoadFault}
 use Rattle.table_model.specs.declared.faults.LoadFault.TheVariants as fault
 use Rattle.table_model.specs.declared.values.Value.{Value}
@@ -99,9 +98,9 @@ values_of geometry table header number fields =
 unfoldable pub row_of : {T G : Type 0} → GeometryReader T G → TableDef T → Record → ℕ → Record → Result (Row G) LoadFault
 row_of geometry table header number fields = each (values_of geometry table header number fields)
 
--- the most rows that a table has
+-- the most rows of a table: 100,000 (this project's choice)
 abbrev pub row_limit : ℕ
-row_limit = ROW_LIMIT
+row_limit = 100000
 
 -- the typed row of the record of this number: the length is tested first, then the number of rows, then the
 -- fields

@@ -1,5 +1,5 @@
 -- Words for worked texts of queries.
-use Rattle.std.specs.Prelude.{ℕ, List, ◌++◌, codes, Option, Some, None, Result, Ok}
+use Rattle.std.specs.Prelude.{ℕ, List, [], ◌∷◌, ◌++◌, codes, Option, Some, None, Result, Ok}
 use Rattle.table_model.specs.GeometryColumnExamples.{table}
 use Rattle.table_model.specs.Queries.{Condition, SelectQuery}
 use Rattle.table_model.specs.QueryReading.{query_of}
@@ -19,16 +19,16 @@ read text = query_of text
 abbrev pub read_where : List ℕ → Result SelectQuery QueryFault
 read_where condition = read (codes "SELECT * FROM t WHERE " ++ condition)
 
--- the tree of a SELECT over two tables, with its condition of ON, or of one over one table
-abbrev pub joined : Explain → Selection WrittenColumn → WrittenReference → Option WrittenReference → Option Condition → Option Condition → Result SelectQuery QueryFault
-joined told selection first second on condition =
-    Ok (record { explain = told; selection = selection; first = first; second = second; on = on; condition = condition; limit = None })
+-- the tree of a SELECT over one table or two, with its condition of ON
+abbrev pub joined : Explain → Selection WrittenColumn → List WrittenReference → Option Condition → Option Condition → Result SelectQuery QueryFault
+joined told selection references on condition =
+    Ok (record { explain = told; selection = selection; references = references; on = on; condition = condition; limit = None })
 
 -- the tree of a SELECT of all columns of the table t with a condition
 abbrev pub all_where : Condition → Result SelectQuery QueryFault
-all_where condition = joined explains.No selections.All (table (codes "t") 14) None None (Some condition)
+all_where condition = joined explains.No selections.All (table (codes "t") 14 ∷ []) None (Some condition)
 
 -- the tree of a SELECT over one table, with its condition and its limit
 abbrev pub under : Selection WrittenColumn → WrittenReference → Option Condition → Option ℕ → Result SelectQuery QueryFault
 under selection table condition limit =
-    Ok (record { explain = explains.No; selection = selection; first = table; second = None; on = None; condition = condition; limit = limit })
+    Ok (record { explain = explains.No; selection = selection; references = table ∷ []; on = None; condition = condition; limit = limit })

@@ -207,12 +207,17 @@ IsCrossed reference ts = (IsToken k.Comma ▸ IsReference reference) ts ⊎ (IsT
 abbrev pub IsJoined : WrittenReference → Condition → Phrase
 IsJoined reference on = IsOptional k.Inner ▸ IsToken k.Join ▸ IsReference reference ▸ IsToken k.On ▸ IsCondition on
 
--- second? where second = ',' ref | 'CROSS' 'JOIN' ref | 'INNER'? 'JOIN' ref 'ON' cond
-abbrev pub IsSecond : Option WrittenReference → Option Condition → Phrase
-IsSecond second on ts =
-    ((second ≡ None) × (on ≡ None) × (ts ≡ []))
-    ⊎ ((reference : WrittenReference) × (second ≡ Some reference) × (on ≡ None) × IsCrossed reference ts)
-    ⊎ ((reference : WrittenReference) × (x : Condition) × (second ≡ Some reference) × (on ≡ Some x) × IsJoined reference x ts)
+-- second? where second = ',' ref | 'CROSS' 'JOIN' ref | 'INNER'? 'JOIN' ref 'ON' cond: the references after the first
+abbrev pub IsSecond : List WrittenReference → Option Condition → Phrase
+IsSecond more on ts =
+    ((more ≡ []) × (on ≡ None) × (ts ≡ []))
+    ⊎ ((reference : WrittenReference) × (more ≡ reference ∷ []) × (on ≡ None) × IsCrossed reference ts)
+    ⊎ ((reference : WrittenReference) × (x : Condition) × (more ≡ reference ∷ []) × (on ≡ Some x) × IsJoined reference x ts)
+
+-- ref second?: one reference or two, and the condition of ON
+abbrev pub IsReferences : List WrittenReference → Option Condition → Phrase
+IsReferences references on ts =
+    (first : WrittenReference) × (more : List WrittenReference) × (references ≡ first ∷ more) × (IsReference first ▸ IsSecond more on) ts
 
 -- ---- queries
 
@@ -244,7 +249,7 @@ IsExplain told ts =
 abbrev pub IsSelect : SelectQuery → Phrase
 IsSelect query =
     IsExplain query.explain ▸ IsToken k.Select ▸ IsSelection query.selection ▸ IsToken k.From
-    ▸ IsReference query.first ▸ IsSecond query.second query.on ▸ IsWhere query.condition
+    ▸ IsReferences query.references query.on ▸ IsWhere query.condition
     ▸ IsLimit query.limit ▸ IsOptional k.Semicolon ▸ IsToken k.End
 
 -- A text is a query: it isn't too long, it is made of tokens, and these are written for the tree.

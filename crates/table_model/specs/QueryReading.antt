@@ -30,7 +30,6 @@ use Rattle.table_model.specs.Parsers.{Outcome, Parser, kind, place, spelling, ne
 use Rattle.table_model.specs.Queries.{Condition, ConditionOperand, SelectItem, SelectQuery}
 use Rattle.table_model.specs.Texts.{same_name}
 use Rattle.table_model.specs.Tokens.{same_kind, tokens, most_bytes}
-use Rattle.table_model.specs.declared.queries.TheConstants.{LEVEL_LIMIT}
 
 -- a reader of a part of a query
 abbrev pub Reader : Type 0 → Type 0
@@ -239,9 +238,9 @@ negation (suc levels) ts =
     if sees k.Not ts then (c.Not <$> negation levels) (next ts)
     else (if sees k.LeftParenthesis ts then group (negation levels) (next ts) else predicate ts)
 
--- how deep conditions may nest
+-- the most levels to which NOT and parentheses may nest in a condition: 64 (this project's choice)
 abbrev pub most_levels : ℕ
-most_levels = LEVEL_LIMIT
+most_levels = 64
 
 -- cond, of so many levels at most
 abbrev pub condition : Reader Condition
@@ -294,13 +293,13 @@ reference = do
   alias ← alias
   pure (record { table = table; alias = alias })
 
--- a second reference and its condition of ON, or neither
+-- the references after the first, one or none, and the condition of ON
 abbrev pub Second : Type 0
-Second = Option WrittenReference × Option Condition
+Second = List WrittenReference × Option Condition
 
 -- ref, which has no condition
 unfoldable pub crossed : Reader Second
-crossed = (λ reference. (Some reference, None)) <$> reference
+crossed = (λ reference. (reference ∷ [], None)) <$> reference
 
 -- 'JOIN' ref 'ON' cond
 unfoldable pub joined_on : Reader Second
@@ -309,7 +308,7 @@ joined_on = do
   reference ← reference
   expect fault.Syntax k.On
   x ← condition
-  pure (Some reference, Some x)
+  pure (reference ∷ [], Some x)
 
 -- second? where second = ',' ref | 'CROSS' 'JOIN' ref | 'INNER'? 'JOIN' ref 'ON' cond
 abbrev pub second : Reader Second
@@ -317,7 +316,7 @@ second ts =
     if sees k.Comma ts then crossed (next ts)
     else (if sees k.Cross ts then (expect fault.Syntax k.Join >> crossed) (next ts)
     else (if sees k.Inner ts || sees k.Join ts then joined_on (after k.Inner ts)
-    else Ok ((None, None), ts)))
+    else Ok (([], None), ts)))
 
 -- ---- queries
 
@@ -370,7 +369,7 @@ query = do
   limit ← limited
   eat k.Semicolon
   expect fault.Syntax k.End
-  pure (record { explain = told; selection = selection; first = first; second = second.0; on = second.1; condition = condition; limit = limit })
+  pure (record { explain = told; selection = selection; references = first ∷ second.0; on = second.1; condition = condition; limit = limit })
 
 -- the place of the bad token, where there is one
 abbrev pub bad_place : List Token → Option ℕ

@@ -1,6 +1,6 @@
 -- What the tables of FROM, the select list and a whole query are bound to, and where they are refused, apart from the
 -- functions that compute it. Of several faults the first is the one: FROM goes first, then the select list, ON and WHERE.
-use Rattle.std.specs.Prelude.{◌≡◌, ◌⊎◌, ◌<◌, ℕ, List, [], ◌∷◌, map, slice_get, Option, Some, None}
+use Rattle.std.specs.Prelude.{◌≡◌, ◌⊎◌, ◌<◌, ℕ, List, [], ◌∷◌, ◌++◌, map, slice_get, Option, Some, None}
 use Rattle.std.specs.List.{AllZip}
 use Rattle.table_model.specs.Binding.{columns_of, counts, name_start}
 use Rattle.table_model.specs.BindingRules.{GeometryRules, FirstFault, IsBoundColumn, IsCond, IsFirst, IsGeometryPart, AreOneName, IsNoGeometry, IsNowhere, IsRefusedColumn, IsRefusedCond, IsSomewhere, Then}
@@ -44,20 +44,41 @@ IsBoundReference {T} schema written reference =
 abbrev pub IsRefusedReference : {T : Type 0} → List (TableDef T) → WrittenReference → QueryFault → Type 0
 IsRefusedReference schema written fault = IsNowhere (IsTableNamed written.table.text) schema × (fault ≡ faults.UnknownTable written.table.at)
 
--- the references of FROM: one, or two of different names (SQL, FROM and correlation names)
-abbrev pub IsFrom : {T : Type 0} → List (TableDef T) → WrittenReference → Option WrittenReference → List Reference → Type 0
-IsFrom schema written None = Then (IsBoundReference schema written) (λ first references. references ≡ first ∷ [])
-IsFrom schema written (Some other) =
-    Then (IsBoundReference schema written) (λ first. Then (IsBoundReference schema other)
-    (λ second references. (AreOneName first.name second.name → ⊥) × (references ≡ first ∷ second ∷ [])))
+-- one of these references has this name
+abbrev pub IsTaken : List Reference → List ℕ → Type 0
+IsTaken references name = IsSomewhere (λ other. AreOneName other.name name) references
 
--- the tables from left to right, and then Q4 where both references have one name, at the second's: its alias where it has one
-abbrev pub IsRefusedFrom : {T : Type 0} → List (TableDef T) → WrittenReference → Option WrittenReference → QueryFault → Type 0
-IsRefusedFrom schema written None = FirstFault (IsBoundReference schema written) (IsRefusedReference schema written) (λ first fault. ⊥)
-IsRefusedFrom schema written (Some other) =
+-- a reference behind others, none of which has its name (SQL, FROM and correlation names)
+abbrev pub IsNextReference : {T : Type 0} → List (TableDef T) → List Reference → WrittenReference → Reference → Type 0
+IsNextReference schema before written =
+    Then (IsBoundReference schema written) (λ reference next. (IsTaken before reference.name → ⊥) × (next ≡ reference))
+
+-- its table is refused, or then Q4 where one of the others has its name: at its alias where it has one, else at its table's name
+abbrev pub IsRefusedNext : {T : Type 0} → List (TableDef T) → List Reference → WrittenReference → QueryFault → Type 0
+IsRefusedNext schema before written =
     FirstFault (IsBoundReference schema written) (IsRefusedReference schema written)
-    (λ first. FirstFault (IsBoundReference schema other) (IsRefusedReference schema other)
-    (λ second fault. AreOneName first.name second.name × (fault ≡ faults.SameName (name_start other.table other.alias))))
+    (λ reference fault. IsTaken before reference.name × (fault ≡ faults.SameName (name_start written.table written.alias)))
+
+-- references behind others, which are listed first
+abbrev pub IsFromAfter : {T : Type 0} → List (TableDef T) → List Reference → List WrittenReference → List Reference → Type 0
+IsFromAfter schema before [] = λ references. references ≡ before
+IsFromAfter schema before (written ∷ more) =
+    Then (IsNextReference schema before written) (λ reference. IsFromAfter schema (before ++ reference ∷ []) more)
+
+-- where references behind others are refused
+abbrev pub IsRefusedAfter : {T : Type 0} → List (TableDef T) → List Reference → List WrittenReference → QueryFault → Type 0
+IsRefusedAfter schema before [] = λ fault. ⊥
+IsRefusedAfter schema before (written ∷ more) =
+    FirstFault (IsNextReference schema before written) (IsRefusedNext schema before written)
+    (λ reference. IsRefusedAfter schema (before ++ reference ∷ []) more)
+
+-- the references of FROM from left to right, each of another name than those before it (SQL, FROM and correlation names)
+abbrev pub IsFrom : {T : Type 0} → List (TableDef T) → List WrittenReference → List Reference → Type 0
+IsFrom schema = IsFromAfter schema []
+
+-- FROM is refused at the first of its references that is
+abbrev pub IsRefusedFrom : {T : Type 0} → List (TableDef T) → List WrittenReference → QueryFault → Type 0
+IsRefusedFrom schema = IsRefusedAfter schema []
 
 -- ---- the select list
 
@@ -137,7 +158,7 @@ IsRefusedWhole rules schema references None = λ fault. ⊥
 
 -- what a query is bound to as it is written; EXPLAIN, COUNT(*) and LIMIT are carried over (SQL, the query)
 pub record IsStatement {T A B C D : Type 0} (rules : GeometryRules T A B C D) (schema : List (TableDef T)) (query : Query A C) (stated : Statement B D) : Type 0 where
-  pub references : IsFrom schema query.first query.second stated.references
+  pub references : IsFrom schema query.references stated.references
   pub items : AreItems rules schema stated.references query.selection stated.items
   pub on : IsWhole rules schema stated.references query.on stated.on
   pub condition : IsWhole rules schema stated.references query.condition stated.condition
@@ -148,7 +169,7 @@ pub record IsStatement {T A B C D : Type 0} (rules : GeometryRules T A B C D) (s
 -- where a query is refused: in FROM, then in the select list, then in ON, then in WHERE (SQL, the query)
 abbrev pub IsRefusedQuery : {T A B C D : Type 0} → GeometryRules T A B C D → List (TableDef T) → Query A C → QueryFault → Type 0
 IsRefusedQuery rules schema query =
-    FirstFault (IsFrom schema query.first query.second) (IsRefusedFrom schema query.first query.second)
+    FirstFault (IsFrom schema query.references) (IsRefusedFrom schema query.references)
     (λ references. FirstFault (AreItems rules schema references query.selection) (AreRefusedItems rules schema references query.selection)
     (λ listed. FirstFault (IsWhole rules schema references query.on) (IsRefusedWhole rules schema references query.on)
     (λ on. FirstFault (IsWhole rules schema references query.condition) (IsRefusedWhole rules schema references query.condition) (λ condition fault. ⊥))))

@@ -3,14 +3,13 @@
 use Rattle.std.specs.Prelude.{ℕ, zero, suc, Bool, true, false, not, ◌&&◌, ◌||◌, if◌then◌else◌, nat_le, nat_lt, List, [], ◌∷◌, ◌++◌, length, codes, Option, Some, None, Result, Ok, Err}
 use Rattle.std.specs.List.{list_all, list_any}
 use Rattle.std.specs.Option.{option_map}
-use Rattle.table_model.specs.Definitions.{is_integer}
+use Rattle.table_model.specs.Definitions.{most_tables, most_columns, is_integer}
 use Rattle.table_model.specs.Parsers.{Outcome, Parser, place, spelling, next, sees, ◌>>=◌, ◌>>◌, ◌<$>◌, pure, refuse, eat, expect, value_of}
 use Rattle.table_model.specs.Texts.{same_name}
 use Rattle.table_model.specs.Tokens.{tokens, most_bytes}
 use Rattle.table_model.specs.declared.definitions.ColumnType.{ColumnType}
 use Rattle.table_model.specs.declared.definitions.ColumnType.TheVariants as types
 use Rattle.table_model.specs.declared.definitions.ColumnDef.{ColumnDef}
-use Rattle.table_model.specs.declared.definitions.TheConstants.{COLUMN_LIMIT, TABLE_LIMIT}
 use Rattle.table_model.specs.declared.definitions.TableDef.{TableDef}
 use Rattle.table_model.specs.declared.faults.SchemaFault.{SchemaFault}
 use Rattle.table_model.specs.declared.faults.SchemaFault.TheVariants as fault
@@ -92,10 +91,6 @@ marks has_key type = do
 abbrev pub has_column : {T : Type 0} → List (ColumnDef T) → List ℕ → Bool
 has_column columns name = list_any (λ c. same_name c.name name) columns
 
--- the most columns of a table
-abbrev pub most_columns : ℕ
-most_columns = COLUMN_LIMIT
-
 -- column = name type mark*, after those that were read: the column, and whether it is the key
 unfoldable pub column : {T : Type 0} → (List ℕ → Option T) → List (ColumnDef T) → Bool → Reader (ColumnDef T × Bool)
 column geometry columns has_key = λ ts. (do
@@ -144,10 +139,6 @@ close name read = λ ts. (do
 -- whether one of these tables has a name
 abbrev pub has_table : {T : Type 0} → List (TableDef T) → List ℕ → Bool
 has_table tables name = list_any (λ t. same_name t.name name) tables
-
--- the most tables of a schema
-abbrev pub most_tables : ℕ
-most_tables = TABLE_LIMIT
 
 -- the name of a table, after those that were read
 unfoldable pub table_name : {T : Type 0} → List (TableDef T) → Reader (List ℕ)

@@ -3,10 +3,9 @@
 -- are set aside (after SQL's CREATE TABLE). Generic in what names a type of geometry.
 use Rattle.std.specs.Prelude.{◌≡◌, ◌≤◌, ◌<◌, ◌⊎◌, ℕ, Bool, true, false, List, [], ◌∷◌, ◌++◌, codes, length, map, Option, Result, Err}
 use Rattle.std.specs.List.{list_any}
-use Rattle.table_model.specs.Definitions.{is_integer}
+use Rattle.table_model.specs.Definitions.{most_tables, most_columns, is_integer}
 use Rattle.table_model.specs.Outcomes.{Gives}
 use Rattle.table_model.specs.SchemaGrammar.{IsNamed, IsType, IsNotNull, IsMark, Marked, IsMarked}
-use Rattle.table_model.specs.SchemaReading.{most_columns, most_tables}
 use Rattle.table_model.specs.Texts.{same_name}
 use Rattle.table_model.specs.Tokens.{tokens, most_bytes}
 use Rattle.table_model.specs.declared.definitions.ColumnType.{ColumnType}

@@ -8,7 +8,6 @@ use Rattle.table_model.specs.declared.tokens.Token.{Token}
 use Rattle.table_model.specs.declared.tokens.TokenKind.{TokenKind}
 use Rattle.table_model.specs.declared.tokens.TokenKind.TheVariants as k
 use Rattle.table_model.specs.Texts.{same_name}
-use Rattle.table_model.specs.declared.tokens.TheConstants.{TEXT_LIMIT}
 
 -- whether two kinds of token are the same
 unfoldable pub same_kind : TokenKind → TokenKind → Bool
@@ -121,9 +120,9 @@ tokens_from strings zero at (b ∷ z) =
 unfoldable pub tokens : Bool → List ℕ → List Token
 tokens strings text = tokens_from strings 0 0 text
 
--- how many bytes a schema or a query may have
+-- the most bytes of the text of a schema, and of a query: 65,536 (this project's choice)
 abbrev pub most_bytes : ℕ
-most_bytes = TEXT_LIMIT
+most_bytes = 65536
 
 -- the place where the text of a token begins
 abbrev pub text_place : Token → ℕ

@@ -60,20 +60,20 @@ pub fn loaded_geometries()
 
 /// Names that aren't there, or stand for two things.
 pub fn refused_names()
-    ensures no_table { bound selections.All (table (codes "t") 14) (Some (table (codes "v") 17)) None
+    ensures no_table { bound selections.All (table (codes "t") 14 ∷ table (codes "v") 17 ∷ []) None
         ≡ Err (query.UnknownTable 17) }
     ensures one_name { bound (selections.Items (items.Column (bare (codes "id") 7) ∷ []))
-        (table (codes "t") 15) (Some (table (codes "t") 18)) None ≡ Err (query.SameName 18) }
-    ensures one_alias { bound selections.All (table (codes "t") 14)
-        (Some (aliased (name (codes "u") 17) (name (codes "T") 19))) None ≡ Err (query.SameName 19) }
+        (table (codes "t") 15 ∷ table (codes "t") 18 ∷ []) None ≡ Err (query.SameName 18) }
+    ensures one_alias { bound selections.All (table (codes "t") 14
+        ∷ aliased (name (codes "u") 17) (name (codes "T") 19) ∷ []) None ≡ Err (query.SameName 19) }
     ensures no_column { bound (selections.Items (items.Column (bare (codes "nope") 7) ∷ []))
-        (table (codes "t") 17) None None ≡ Err (query.UnknownColumn 7) }
+        (table (codes "t") 17 ∷ []) None ≡ Err (query.UnknownColumn 7) }
     ensures table_behind_alias { bound
         (selections.Items (items.Column (of (name (codes "t") 7) (name (codes "id") 9)) ∷ []))
-        (aliased (name (codes "t") 17) (name (codes "a") 19)) None None
+        (aliased (name (codes "t") 17) (name (codes "a") 19) ∷ []) None
         ≡ Err (query.UnknownColumn 7) }
     ensures two_columns { bound (selections.Items (items.Column (bare (codes "id") 7) ∷ []))
-        (table (codes "t") 15) (Some (table (codes "u") 18)) None ≡ Err (query.AmbiguousColumn 7) }
+        (table (codes "t") 15 ∷ table (codes "u") 18 ∷ []) None ≡ Err (query.AmbiguousColumn 7) }
 {}
 
 /// Types that don't fit: the arguments of a predicate are bound before its types are compared.
@@ -90,7 +90,7 @@ pub fn refused_types()
         (conds.Compare 23 Equal (operands.AsText 23 (geometry_column (codes "pop") 33))
         (operand_column (codes "nope") 40)) ≡ Err (query.TypeMismatch 23) }
     ensures item { bound (selections.Items (items.AsText 7 (bare (codes "pop") 17) ∷ []))
-        (table (codes "t") 27) None None ≡ Err (query.TypeMismatch 7) }
+        (table (codes "t") 27 ∷ []) None ≡ Err (query.TypeMismatch 7) }
     ensures later_argument { bound_where
         (conds.Relates 23 (predicates.Named Within) (geometry_column (codes "pop") 33)
         (geometry_column (codes "nope") 38)) ≡ Err (query.UnknownColumn 38) }

@@ -13,6 +13,7 @@ pub mod first_run_examples;
 pub mod geometry_column_examples;
 pub mod join_examples;
 pub mod limit_examples;
+pub mod limits;
 pub mod place_examples;
 pub mod place_laws;
 pub mod plan_examples;

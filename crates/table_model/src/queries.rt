@@ -1,6 +1,7 @@
 //! Queries as they are written. Parentheses leave no trace, and names and strings are parts of the query's text.
 
 use crate::conditions::Comparison;
+use crate::references::References;
 use crate::texts::Slice;
 use geometry_model::Predicate;
 use sqlite_items::{Boxed, Items};
@@ -108,8 +109,8 @@ pub enum Explain {
 pub struct Query<'a, A, C> {
     pub explain: Explain,
     pub selection: Selection<'a, C>,
-    pub first: WrittenReference<'a>,
-    pub second: Option<WrittenReference<'a>>,
+    /// The table references of FROM, one or two.
+    pub references: References<WrittenReference<'a>>,
     /// The condition of ON.
     pub on: Option<WrittenCond<'a, A>>,
     /// The condition of WHERE.

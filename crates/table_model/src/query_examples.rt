@@ -30,14 +30,14 @@ pub fn plans_are_asked_for()
     ensures explain { read
         (codes "EXPLAIN SELECT id FROM big WHERE ST_Intersects(geom, ST_GeomFromText('POLYGON((0 0,4 0,4 4,0 4,0 0))'))")
         ≡ joined explains.Plan (selections.Items (items.Column (bare (codes "id") 15) ∷ []))
-        (table (codes "big") 23) None None
+        (table (codes "big") 23 ∷ []) None
         (Some (conds.Relates 33 (predicates.Named Intersects) (geometry_column (codes "geom") 47)
         (from_text (codes "POLYGON((0 0,4 0,4 4,0 4,0 0))") 69))) }
     ensures analyze { read (codes "explain analyze SELECT * FROM t;")
-        ≡ joined explains.Analyze selections.All (table (codes "t") 30) None None None }
+        ≡ joined explains.Analyze selections.All (table (codes "t") 30 ∷ []) None None }
     ensures names { read (codes "SELECT * FROM explain analyze")
-        ≡ joined explains.No selections.All (aliased (name (codes "explain") 14) (name (codes "analyze") 22))
-        None None None }
+        ≡ joined explains.No selections.All (aliased (name (codes "explain") 14) (name (codes "analyze") 22) ∷ [])
+        None None }
 {}
 
 /// A second table, in each of the ways in which it is written.
@@ -47,22 +47,22 @@ pub fn tables_are_joined()
         ≡ joined explains.No
         (selections.Items (items.Column (of (name (codes "b") 7) (name (codes "id") 9))
         ∷ items.Column (of (name (codes "s") 13) (name (codes "id") 15)) ∷ []))
-        (aliased (name (codes "big") 23) (name (codes "b") 27))
-        (Some (aliased (name (codes "sq") 34) (name (codes "s") 37)))
+        (aliased (name (codes "big") 23) (name (codes "b") 27)
+        ∷ aliased (name (codes "sq") 34) (name (codes "s") 37) ∷ [])
         (Some (conds.Relates 42 (predicates.Named Intersects)
         (geometries.Column (of (name (codes "b") 56) (name (codes "geom") 58)))
         (geometries.Column (of (name (codes "s") 64) (name (codes "geom") 66)))))
         (Some (conds.Compare 78 NotEqual (operands.Column (of (name (codes "b") 78) (name (codes "id") 80)))
         (operands.Integer (pos 2)))) }
     ensures inner_word { read (codes "SELECT * FROM t INNER JOIN u AS v ON id = 1")
-        ≡ joined explains.No selections.All (table (codes "t") 14)
-        (Some (aliased (name (codes "u") 27) (name (codes "v") 32)))
+        ≡ joined explains.No selections.All (table (codes "t") 14
+        ∷ aliased (name (codes "u") 27) (name (codes "v") 32) ∷ [])
         (Some (conds.Compare 37 Equal (operand_column (codes "id") 37) (operands.Integer (pos 1)))) None }
     ensures cross { read (codes "SELECT * FROM sq a CROSS JOIN sq b")
-        ≡ joined explains.No selections.All (aliased (name (codes "sq") 14) (name (codes "a") 17))
-        (Some (aliased (name (codes "sq") 30) (name (codes "b") 33))) None None }
+        ≡ joined explains.No selections.All (aliased (name (codes "sq") 14) (name (codes "a") 17)
+        ∷ aliased (name (codes "sq") 30) (name (codes "b") 33) ∷ []) None None }
     ensures comma { read (codes "SELECT * FROM t, u")
-        ≡ joined explains.No selections.All (table (codes "t") 14) (Some (table (codes "u") 17)) None None }
+        ≡ joined explains.No selections.All (table (codes "t") 14 ∷ table (codes "u") 17 ∷ []) None None }
 {}
 
 /// Functions in the select list.
@@ -71,7 +71,7 @@ pub fn items_are_functions()
         ≡ joined explains.No
         (selections.Items (items.AsText 7 (bare (codes "geom") 17)
         ∷ items.Dimension 24 (bare (codes "geom") 37) ∷ items.IsEmpty 44 (bare (codes "geom") 55) ∷ []))
-        (table (codes "e") 66) None None None }
+        (table (codes "e") 66 ∷ []) None None }
 {}
 
 /// Functions in conditions: predicates, alone or compared with 1 or 0 in any spelling, and operands.
@@ -146,7 +146,7 @@ pub fn rows_are_counted()
         ≡ under selections.Count (table (codes "t") 21)
         (Some (conds.Compare 29 Equal (operand_column (codes "id") 29) (operands.Integer (pos 1)))) (Some 0) }
     ensures explained { read (codes "EXPLAIN SELECT COUNT(*) FROM t")
-        ≡ joined explains.Plan selections.Count (table (codes "t") 29) None None None }
+        ≡ joined explains.Plan selections.Count (table (codes "t") 29 ∷ []) None None }
     ensures name { read (codes "SELECT count FROM t")
         ≡ under (selections.Items (items.Column (bare (codes "count") 7) ∷ [])) (table (codes "t") 18) None
         None }

@@ -1,22 +1,23 @@
 //! The references of a query.
 
-ghost use Rattle.std.specs.Prelude.{◌≡◌, ◌⊎◌, ◌∷◌, [], IfOk, length};
+ghost use Rattle.std.specs.Prelude.{◌≡◌, ◌∷◌, [], IfOk};
 ghost use Rattle.std.specs.Option.{option_copied, option_to_list};
 
 use sqlite_items::Items;
 use std::alloc::{AllocError, Global};
 use std::marker::Model;
 
-/// The references of a query in its order, one or two, generic in what a reference is. Contracts see the list of them.
-/// (SQL, FROM.)
+/// The references of a query, written or bound, in their order: one or two, generic in what a reference is. Contracts
+/// see the list of them. (SQL, FROM.)
 #[derive(Drop)]
 pub struct References<R> {
     listed: Items<R>,
 }
 
 impl<R> Model for References<R> {
-    ghost use Rattle.std.specs.Prelude.{◌≡◌, ◌⊎◌, List, length};
+    ghost use Rattle.std.specs.Prelude.{List};
     ghost use Rattle.std.specs.Coded.{coded_list};
+    ghost use Rattle.table_model.specs.References.{AreOneOrTwo};
 
     ghost Value = { List R };
 
@@ -24,7 +25,7 @@ impl<R> Model for References<R> {
 
     ghost view = { λ r. r.listed };
 
-    ghost invariant = { λ r. (length r.listed ≡ 1) ⊎ (length r.listed ≡ 2) };
+    ghost invariant = { λ r. AreOneOrTwo r.listed };
 }
 
 impl<R> References<R> {

@@ -2,12 +2,12 @@
 //! Features, part 2).
 #![tactic(auto)]
 
-mod arguments;
-mod comparisons;
-mod conditions;
+mod comparison_values;
+mod condition_values;
+mod denotations;
 mod logic;
-mod relations;
+mod relation_values;
 mod sides;
 
-pub use conditions::value;
+pub use condition_values::value;
 pub use table_model::values::Truth;

@@ -10,7 +10,7 @@ ghost use Rattle.table_model.specs.Truths as spec;
 ghost use Rattle.table_model.specs.Work.{is_as_text};
 ghost use Rattle.truth.specs.Sides.{order_of_texts, side_value, text_in};
 
-use crate::arguments::{field_at, geometry_at};
+use crate::denotations::{field_at, geometry_at};
 use feature_table::{Field, Row};
 use geometry_model::Kind;
 use query_binder::Argument;

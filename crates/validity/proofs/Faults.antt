@@ -1,20 +1,15 @@
 -- The first fault, and the geometries that have none.
-use Rattle.std.proofs.Common.{◌≡◌, sym, ap, ◌∙◌, subst, map, length, get_or, Option, Some, None}
-use Rattle.std.specs.List.{find}
-use Rattle.std.proofs.lemmas.Option.{slice_get-get_or}
+use Rattle.std.proofs.Common.{◌≡◌, sym, ap, ◌∙◌, subst, Option, Some, None}
 use Rattle.std.specs.Option.{MatchOption}
-use Rattle.geometry_model.specs.Geometries.{Geometry, rings}
+use Rattle.geometry_model.specs.Geometries.{Geometry}
 use Rattle.geometry_model.specs.Validity.{HasFault, IsValid}
-use Rattle.geometry_model.specs.FirstFaults.{has_fault, numbers, validity_fault}
+use Rattle.geometry_model.specs.FirstFaults.{validity_fault}
 use Rattle.geometry_model.specs.declared.validity_faults.ValidityFault.{ValidityFault}
-use Rattle.geometry_model.specs.declared.validity_faults.ValidityFault.TheVariants.{RingNotClosed}
-use Rattle.geometry_laws.specs.PieceLaws.{HasClosedRings}
-use Rattle.matrix_laws.proofs.Closing.{closed}
 use Rattle.validity.specs.CheckFaults.{fault_in, IsFaultOf, IsFirstFaultOf, IsStandingFaultOf}
 use Rattle.validity.specs.declared.check_fault.CheckFault.{CheckFault}
 use Rattle.validity_laws.specs.FaultLaws.{IsFirst}
 use Rattle.validity_laws.proofs.FirstPlace.{first_fault_is_first}
-use Rattle.validity_laws.proofs.FirstFaultFacts.{none_is_found_where_valid, are_closed}
+use Rattle.validity_laws.proofs.FirstFaultFacts.{none_is_found_where_valid}
 
 -- a geometry in which no fault is found is valid, since the test finds one wherever one applies
 pub no_fault_valid : (g : Geometry) → validity_fault g ≡ None → IsValid g
@@ -35,7 +30,3 @@ found_stands g refusal fault tells found = subst (λ o. MatchOption o (Unit {0})
 -- the refusal is of the fault that is found
 pub found_is_told : (g : Geometry) (refusal : CheckFault) (fault : ValidityFault) → fault_in refusal ≡ Some fault → validity_fault g ≡ Some fault → IsFaultOf g refusal
 found_is_told g refusal fault tells found = subst (λ o. MatchOption o (Unit {0}) (λ f. validity_fault g ≡ Some f)) (sym tells) found
-
--- where no ring is found that isn't closed, all are closed
-pub none_open : (g : Geometry) → find (has_fault g) (map RingNotClosed (numbers 0 (length (rings g)))) ≡ None → HasClosedRings g
-none_open g none k d h = closed (get_or (rings g) k d) (λ n. are_closed g none k (get_or (rings g) k d, slice_get-get_or (rings g) k d h, n))

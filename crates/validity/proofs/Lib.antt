@@ -1,15 +1,5 @@
 pub mod CheckedTexts
-pub mod Edges
-pub mod Envelopes
 pub mod Faults
-pub mod Few
-pub mod Finding
 pub mod Kept
-pub mod Near
-pub mod NearNumbers
 pub mod OddEndFacts
-pub mod OutlineFacts
-pub mod PartFacts
 pub mod PolygonPromises
-pub mod Polygons
-pub mod RingNumbers

@@ -1,9 +1,5 @@
 pub mod CheckFaults
 pub mod Contents
-pub mod FaultOrder
-pub mod NearEdges
-pub mod Neighbours
 pub mod OddEnds
-pub mod Outlines
 pub mod PolygonPromises
 pub mod ValidGeometries

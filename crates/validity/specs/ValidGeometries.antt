@@ -1,15 +1,12 @@
--- What is true of each edge that is kept, and of what is kept of a valid geometry.
-use Rattle.std.specs.Prelude.{◌≢◌, List}
-use Rattle.geometry_model.specs.Geometries.{Geometry, Edge, edges}
+-- What is kept of a valid geometry, and what is true of each of its edges.
+use Rattle.std.specs.Prelude.{List}
+use Rattle.geometry_model.specs.Geometries.{Geometry, edges}
 use Rattle.geometry_model.specs.Points.{Position}
 use Rattle.geometry_model.specs.Validity.{IsValid}
 use Rattle.edge_boxes.specs.BoxLists.{BoxesOf}
 use Rattle.edge_boxes.specs.declared.boxes.EdgeBoxes.{EdgeBoxes}
+pub use Rattle.outlines.specs.Runs.{HasLength}
 use Rattle.validity.specs.OddEnds.{AreOddEnds, ended_lines}
-
--- the ends of an edge differ (06-103r4, 6.1.7: Line)
-abbrev pub HasLength : Edge → Type 0
-HasLength edge = edge.start ≢ edge.end
 
 -- the geometry has no fault, the boxes are those of its edges, and the positions its odd ends (06-103r4, 6.1.7, 6.1.8.1 and 6.1.11)
 pub record IsKept (g : Geometry) (boxes : EdgeBoxes) (odd_ends : List Position) : Type 0 where

@@ -3,13 +3,7 @@
 
 pub mod check_fault;
 pub mod checked_texts;
-mod first_faults;
-mod near_edges;
-mod neighbours;
 mod odd_ends;
-mod outlines;
-mod part_tests;
-mod runs;
 mod valid_envelopes;
 pub mod valid_geometry;
 

@@ -4,17 +4,22 @@ ghost use Rattle.std.specs.Prelude.{◌≡◌, flat_map};
 ghost use Rattle.geometry_model.specs.Envelopes.{envelope, envelope_of_positions};
 
 use crate::valid_geometry::Valid;
-use rtree::Envelope;
-use wkt::LineString;
+use rtree::{Envelope, Enveloped};
+use wkt::{Geometry, LineString};
 
-impl Valid {
-    /// Its envelope, absent exactly where it is empty. It takes no memory. (06-103r4, 6.1.2.2: Envelope.)
-    pub fn envelope(&self) -> Option<Envelope>
-        ensures { result ≡ envelope self.now }
-    {
-        let geometry = self.geometry();
-        Envelope::with_positions(geometry.listed(), of_lines(geometry.lines()))
+impl Enveloped for Valid {
+    ghost geometry = { λ g. g };
+
+    fn envelope(&self) -> Option<Envelope> {
+        envelope_of(self.geometry())
     }
+}
+
+/// The envelope of a geometry. (06-103r4, 6.1.2.2: Envelope.)
+fn envelope_of(geometry: &Geometry) -> Option<Envelope>
+    ensures { result ≡ envelope geometry.now }
+{
+    Envelope::with_positions(geometry.listed(), of_lines(geometry.lines()))
 }
 
 /// The envelope of the positions of some lines.

@@ -14,13 +14,12 @@ ghost use Rattle.validity.specs.PolygonPromises.{HolesAreCutOut, HolesAreInside,
 ghost use Rattle.validity.specs.PolygonPromises.{StretchesStay, OutsideIsExterior, RingsPart, RingsHaveSides};
 
 use crate::check_fault::CheckFault;
-use crate::first_faults::first_fault;
 use crate::odd_ends::{odd_ends, stands_at_one};
-use crate::outlines::Outline;
 use edge_boxes::EdgeBoxes;
 use fraction::{GridPoint, RatPoint};
 use geometry_model::Kind;
 use orient::Segment;
+use outlines::{Outline, first_fault};
 use std::alloc::{AllocError, Global};
 use std::marker::Model;
 use wkt::Geometry;

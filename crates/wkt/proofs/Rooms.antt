@@ -11,7 +11,7 @@ use Rattle.geometry_model.specs.declared.text_faults.TextFault.TheVariants.{TooL
 use Rattle.text_laws.proofs.RoomLists.{items, ring, alone, itself, rings_of, alone_of, positions_in, positions_of_both, parts_are_items, polygons_are_items, going_on, then_same}
 use Rattle.wkt.specs.ReadingSteps as steps
 use Rattle.wkt.specs.ReadingSteps.{left_of}
-use Rattle.wkt.specs.declared.lists.Room.{Room}
+use Rattle.wkt.specs.declared.list_reader.Room.{Room}
 
 -- two readers that read alike are one
 pub alike : {A : Type 0} (s t : Reader A) → ((i : Input) → s i ≡ t i) → s ≡ t

@@ -13,7 +13,7 @@ use Rattle.geometry_model.specs.declared.text_faults.TextFault.{TextFault}
 use Rattle.geometries.specs.TextFaults.{text_fault}
 use Rattle.wkt.specs.declared.cursor.ByteClass.{ByteClass}
 use Rattle.wkt.specs.declared.cursor.ByteClass.TheVariants as classes
-use Rattle.wkt.specs.declared.lists.Room.{Room}
+use Rattle.wkt.specs.declared.list_reader.Room.{Room}
 use Rattle.geometries.specs.declared.wkt_fault.WktFault.{WktFault}
 use Rattle.geometries.specs.declared.wkt_fault.WktFault.TheVariants as faults
 

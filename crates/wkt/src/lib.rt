@@ -2,11 +2,11 @@
 //! the crate `geometries`, and sinks, into which a text is printed, those of the crate `sinks`.
 #![tactic(auto)]
 
+mod coordinate_reader;
 mod cursor;
 pub mod kept_laws;
-mod lists;
-mod numbers;
-mod positions;
+mod list_reader;
+mod position_reader;
 pub mod printing;
 mod reading;
 

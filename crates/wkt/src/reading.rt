@@ -14,8 +14,8 @@ ghost use Rattle.geometries.specs.Shapes.{geometry_in};
 ghost use Rattle.geometries.specs.TextFaults.{text_fault};
 
 use crate::cursor::{ByteClass, Cursor};
-use crate::lists::{POSITION_LIMIT, Room, line_positions, points, polygons, rings};
-use crate::positions::padded_position;
+use crate::list_reader::{POSITION_LIMIT, Room, line_positions, points, polygons, rings};
+use crate::position_reader::padded_position;
 use geometries::{Geometry, Larger, LineString, Polygons, Shape, WktFault};
 use geometry_model::TextFault;
 use std::alloc::Global;

@@ -8,9 +8,9 @@ use Rattle.explain.proofs.plan_text.analyze.Goals as goal
 pub returns-in_err-explain-clause-front : goal.returns-in_err-explain-clause-front
 returns-in_err-explain-clause-front g c =
     OnErr-holds c.from_residual.result
-    (AppendsFront-more _ _ (explain_text c.args.query.now c.args.plan.now) (line (codes "work") (decimal c.args.work)) c.in_err-explain.ensures.front)
+    (AppendsFront-more _ _ (explain_text c.args.query.now c.args.plan.now) (line (codes "work") (decimal c.args.work.now)) c.in_err-explain.ensures.front)
 
 pub returns-clause-front : goal.returns-clause-front
 returns-clause-front g c =
-    then-front c.put_number.result _ (g.S.Sink.taken c.explain.new.sink) _ (explain_text c.args.query.now c.args.plan.now) (line (codes "work") (decimal c.args.work)) c.in_ok-explain.ensures.ok
-    c.put_number.ensures.front
+    then-front c.put_work.result _ (g.S.Sink.taken c.explain.new.sink) _ (explain_text c.args.query.now c.args.plan.now) (line (codes "work") (decimal c.args.work.now)) c.in_ok-explain.ensures.ok
+    c.put_work.ensures.front

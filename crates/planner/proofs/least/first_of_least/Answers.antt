@@ -1,6 +1,6 @@
 use Rattle.std.proofs.Common.{None}
 use Rattle.planner.specs.Nestings.{accesses_in}
-use Rattle.planner.specs.declared.accesses.Nesting.{Nesting}
+use Rattle.planner.specs.declared.lawful_accesses.Nesting.{Nesting}
 use Rattle.table_model.specs.Plans as spec
 use Rattle.table_model.specs.declared.plans.AccessMethod.TheVariants as methods
 use Rattle.planner.proofs.LeastStep.{one_more_kept}

@@ -38,7 +38,7 @@ returns-in-None g c =
     (subst (λ o. AreThere (referenced tables c.as_slice-references.result.now) (c.args.pair.first ∷ option_to_list o)) c.in-None.is there) c.table-table.ensures c.row.ensures
     ∙ ap (λ rs. rows_at (referenced tables rs) (c.args.pair.first ∷ [])) c.as_slice-references.ensures
     ∙ ap (λ o. rows_at (referenced tables c.args.query.now.references) (c.args.pair.first ∷ option_to_list o)) (sym c.in-None.is))
-    c.row_record.ensures
+    c.row_record.ensures.ok
 
 pub returns-in-Some : goal.returns-in-Some
 returns-in-Some g c =
@@ -51,4 +51,4 @@ returns-in-Some g c =
     c.table-table.ensures c.row-in-Some.ensures c.table-other.ensures c.row-in-Some-2.ensures
     ∙ ap (λ rs. rows_at (referenced tables rs) (c.args.pair.first ∷ c.in-Some.second ∷ [])) c.as_slice-references.ensures
     ∙ ap (λ o. rows_at (referenced tables c.args.query.now.references) (c.args.pair.first ∷ option_to_list o)) (sym c.in-Some.is))
-    c.row_record-in-Some.ensures
+    c.row_record-in-Some.ensures.ok

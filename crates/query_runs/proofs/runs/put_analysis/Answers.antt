@@ -19,8 +19,8 @@ returns-in_err-analyze-clause-text g c = λ matrix m.
     let plan = c.args.plan.now in
     let number = work matrix denoted c.args.database.now.tables query plan in
     let none : 0 + number ≡ number = omega arith in
-    let counted : c.count.result ≡ kept_count number =
-    c.count.ensures ∙ c.into_work-work.ensures ∙ c.in_ok-count_rows.ensures.work matrix m ∙ c.new-rows.ensures.at_end matrix m
+    let counted : c.into_work-work.result ≡ kept_count number =
+    c.into_work-work.ensures ∙ c.in_ok-count_rows.ensures.work matrix m ∙ c.new-rows.ensures.at_end matrix m
     ∙ ap (λ n. kept_count (n + number)) c.new.ensures ∙ ap kept_count none in
     put-begun c.from_residual-in_err-analyze.result put.Sink (analyze_text query plan (kept_count number)) _ _ _ _ c.from_residual-in_err-analyze.ensures.1
     (subst (λ n. AppendsFront (g.S.Sink.taken c.args.sink.now) (g.S.Sink.taken c.analyze.new.sink) (analyze_text query plan n)) counted c.in_err-analyze.ensures.front)

@@ -30,7 +30,7 @@ pub pair_record-requires-clause-place : goal.pair_record-requires-clause-place
 pair_record-requires-clause-place g c =
     let P : List (Table Geometry) → Type 0 = λ ts. IsPlace ts c.in_ok-pair.pair in
     subst P (c.loop-row.invariant.tables ∙ c.requires.tables)
-    (row_there c.loop-row.rows.tables c.next.result c.in-Some.row c.in_ok-pair.pair c.in-Some.is c.in_ok-pair.was c.next.ensures.places)
+    (row_there c.loop-row.rows.tables c.next_observed.result c.in-Some.row c.in_ok-pair.pair c.in-Some.is c.in_ok-pair.was c.next_observed.ensures.places)
 
 pub returns-in_err-pair-clause-text : goal.returns-in_err-pair-clause-text
 returns-in_err-pair-clause-text g c = λ matrix m.
@@ -44,26 +44,26 @@ returns-in_err-pair_record-clause-text g c = λ matrix m.
 pub returns-in_err-put-clause-text : goal.returns-in_err-put-clause-text
 returns-in_err-put-clause-text g c = λ matrix m.
     put-begun c.from_residual-in_err-put.result c.in_err-put.field-0.0 _ _ _ _ _ c.from_residual-in_err-put.ensures.1
-    (next-front (choice_text c.args.database.now c.args.query.now) (to_come matrix c.loop-row.rows) (to_come matrix c.next.new.self) (choice_of c.in_ok-pair.pair) _ _ _ (g.S.Sink.taken c.loop-row.sink) _
-    (row_given matrix c.loop-row.rows c.next.new.self c.next.result c.in-Some.row c.in_ok-pair.pair c.in-Some.is c.in_ok-pair.was (c.next.ensures.gives matrix m))
+    (next-front (choice_text c.args.database.now c.args.query.now) (to_come matrix c.loop-row.rows) (to_come matrix c.next_observed.new.self) (choice_of c.in_ok-pair.pair) _ _ _ (g.S.Sink.taken c.loop-row.sink) _
+    (row_given matrix c.loop-row.rows c.next_observed.new.self c.next_observed.result c.in-Some.row c.in_ok-pair.pair c.in-Some.is c.in_ok-pair.was (c.next_observed.ensures.gives matrix m))
     (ap record_text c.in_ok-pair_record.ensures) (c.loop-row.invariant.put matrix m) c.in_err-put.ensures.front)
     (subst (λ n. CountsPut {A = Unit {0}} n (g.S.Sink.failures c.put.new.sink) (Err c.in_err-put.field-0.0)) c.loop-row.invariant.same c.in_err-put.ensures.failures)
 
 pub loop-row-smaller : goal.loop-row-smaller
 loop-row-smaller g c =
-    fewer (to_come labelled_matrix c.loop-row.rows) (choice_of c.in_ok-pair.pair) (to_come labelled_matrix c.next.new.self)
-    (row_given labelled_matrix c.loop-row.rows c.next.new.self c.next.result c.in-Some.row c.in_ok-pair.pair c.in-Some.is c.in_ok-pair.was (c.next.ensures.gives labelled_matrix labels_give_matrix))
+    fewer (to_come labelled_matrix c.loop-row.rows) (choice_of c.in_ok-pair.pair) (to_come labelled_matrix c.next_observed.new.self)
+    (row_given labelled_matrix c.loop-row.rows c.next_observed.new.self c.next_observed.result c.in-Some.row c.in_ok-pair.pair c.in-Some.is c.in_ok-pair.was (c.next_observed.ensures.gives labelled_matrix labels_give_matrix))
 
 pub loop-row-preserved : goal.loop-row-preserved
 loop-row-preserved g c = record {
   put = λ matrix m.
-      but-next (choice_text c.args.database.now c.args.query.now) (to_come matrix c.loop-row.rows) (to_come matrix c.next.new.self) (choice_of c.in_ok-pair.pair) _ _ _ (g.S.Sink.taken c.loop-row.sink) _
-      (row_given matrix c.loop-row.rows c.next.new.self c.next.result c.in-Some.row c.in_ok-pair.pair c.in-Some.is c.in_ok-pair.was (c.next.ensures.gives matrix m))
+      but-next (choice_text c.args.database.now c.args.query.now) (to_come matrix c.loop-row.rows) (to_come matrix c.next_observed.new.self) (choice_of c.in_ok-pair.pair) _ _ _ (g.S.Sink.taken c.loop-row.sink) _
+      (row_given matrix c.loop-row.rows c.next_observed.new.self c.next_observed.result c.in-Some.row c.in_ok-pair.pair c.in-Some.is c.in_ok-pair.was (c.next_observed.ensures.gives matrix m))
       (ap record_text c.in_ok-pair_record.ensures) (c.loop-row.invariant.put matrix m) c.in_ok-put.ensures.ok;
   counted = λ matrix m.
-      row_counted matrix c.loop-row.rows c.next.new.self c.next.result c.in-Some.row c.in_ok-pair.pair c.in-Some.is c.in_ok-pair.was (c.next.ensures.counted matrix m)
+      row_counted matrix c.loop-row.rows c.next_observed.new.self c.next_observed.result c.in-Some.row c.in_ok-pair.pair c.in-Some.is c.in_ok-pair.was (c.next_observed.ensures.counted matrix m)
       ∙ c.loop-row.invariant.counted matrix m;
-  tables = c.next.ensures.tables ∙ c.loop-row.invariant.tables;
+  tables = c.next_observed.ensures.tables ∙ c.loop-row.invariant.tables;
   ready = c.in_ok-put.ensures.ready;
   same = c.in_ok-put.ensures.failures ∙ c.loop-row.invariant.same;
 }
@@ -71,7 +71,7 @@ loop-row-preserved g c = record {
 pub returns-clause-text : goal.returns-clause-text
 returns-clause-text g c = λ matrix m. record {
   whole = but-none (choice_text c.args.database.now c.args.query.now) (to_come matrix c.loop-row.rows) _ _ _
-      (none_left matrix c.loop-row.rows c.next.new.self c.next.result c.in_default.is (c.next.ensures.gives matrix m)) (c.loop-row.invariant.put matrix m);
+      (none_left matrix c.loop-row.rows c.next_observed.new.self c.next_observed.result c.in_default.is (c.next_observed.ensures.gives matrix m)) (c.loop-row.invariant.put matrix m);
   front = tt;
   failures = c.loop-row.invariant.same;
 }

@@ -1,5 +1,0 @@
-use Rattle.std.proofs.Common.{rules}
-use Rattle.answer_records.proofs.record_fields.row_record.Goals as goal
-
-pub loop-item-init : goal.loop-item-init
-loop-item-init c = search rules

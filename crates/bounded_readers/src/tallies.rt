@@ -1,0 +1,192 @@
+//! How long the field and the record are that a CSV text is in, and whether one was longer than its limit.
+
+ghost use Rattle.std.specs.Prelude.{◌≡◌};
+ghost use Rattle.bounded_readers.specs.Bounds as spec;
+
+/// The greatest length of a field, in bytes, its quotes among them.
+pub const FIELD_BYTES: u64 = 1 << 20;
+
+/// How many fields a record has at most.
+pub const RECORD_FIELDS: u64 = 100_000;
+
+/// The greatest length of a record, in bytes: 32 of the greatest fields, and as much as one more for what is between
+/// them. The blank lines before a record count.
+pub const RECORD_BYTES: u64 = 33 << 20;
+
+const COMMA: u8 = b',';
+
+const QUOTE: u8 = b'"';
+
+/// Where a CSV text is after some of its bytes.
+#[derive(Clone, Copy, Debug, PartialEq, Eq)]
+pub enum Place {
+    /// Before its first byte.
+    Start,
+    /// After the first byte of a byte order mark.
+    FirstMark,
+    /// After the second byte of a byte order mark.
+    SecondMark,
+    /// Where a record begins, or a blank line.
+    RecordStart,
+    /// Where a field begins, behind a comma.
+    FieldStart,
+    /// In a field, outside quotes.
+    Unquoted,
+    /// In a field, in quotes.
+    Quoted,
+    /// Behind a quote in quotes: it ends them, or is the first of two that mean one.
+    QuoteInQuotes,
+}
+
+/// Where a CSV text is, and how long its field and its record are so far.
+#[derive(Clone, Copy, Debug, PartialEq, Eq)]
+pub struct Tally {
+    place: Place,
+    // The bytes of the field.
+    field_bytes: u64,
+    // The fields of the record that have ended.
+    ended_fields: u64,
+    // The bytes of the record and of the blank lines before it.
+    record_bytes: u64,
+    // Whether a field or a record was longer than its limit.
+    is_past: bool,
+}
+
+impl Tally {
+    ghost use Rattle.std.specs.Prelude.{IsTrue, ◌↔◌};
+    ghost use Rattle.std.specs.List.{fold};
+
+    /// Of a text of which no byte has come.
+    pub fn new() -> Tally
+        ensures { result ≡ spec.first_tally }
+    {
+        Tally {
+            place: Place::Start,
+            field_bytes: 0,
+            ended_fields: 0,
+            record_bytes: 0,
+            is_past: false,
+        }
+    }
+
+    /// Whether a field or a record was longer than its limit.
+    pub fn is_past(&self) -> bool
+        ensures { result ≡ spec.is_past self.now }
+    {
+        self.is_past
+    }
+
+    /// The tally after more bytes.
+    pub fn after(self, bytes: &[u8]) -> Tally
+        ensures { result ≡ fold spec.tally_after self bytes.now }
+    {
+        let mut tally = self;
+        for byte in bytes {
+            tally = tally.after_byte(*byte);
+        }
+        tally
+    }
+
+    // The tally after a byte.
+    fn after_byte(self, byte: u8) -> Tally
+        ensures { result ≡ spec.tally_after self byte }
+    {
+        self.moved(place_after(self.place, byte)).checked()
+    }
+
+    // The tally after a byte that leads to a place.
+    fn moved(self, place: Place) -> Tally
+        ensures { result ≡ spec.moved self place }
+    {
+        match place {
+            Place::RecordStart => self.at_record(),
+            Place::FieldStart => Tally {
+                place,
+                field_bytes: 0,
+                ended_fields: self.ended_fields.saturating_add(1),
+                record_bytes: self.record_bytes.saturating_add(1),
+                is_past: self.is_past,
+            },
+            _ => Tally {
+                place,
+                field_bytes: self.field_bytes.saturating_add(1),
+                ended_fields: self.ended_fields,
+                record_bytes: self.record_bytes.saturating_add(1),
+                is_past: self.is_past,
+            },
+        }
+    }
+
+    // The tally where a record or a blank line begins.
+    fn at_record(self) -> Tally
+        ensures { result ≡ spec.at_record self }
+    {
+        let record_bytes = if is_in_record(self.place) {
+            0
+        } else {
+            self.record_bytes.saturating_add(1)
+        };
+        Tally {
+            place: Place::RecordStart,
+            field_bytes: 0,
+            ended_fields: 0,
+            record_bytes,
+            is_past: self.is_past,
+        }
+    }
+
+    // The tally with its lengths compared with their limits.
+    fn checked(self) -> Tally
+        ensures { result ≡ spec.checked self }
+    {
+        let is_past = self.is_past
+            || self.field_bytes > FIELD_BYTES
+            || self.ended_fields >= RECORD_FIELDS
+            || self.record_bytes > RECORD_BYTES;
+        Tally { is_past, ..self }
+    }
+}
+
+// Whether a place is in a record, so that the end of the line ends one.
+fn is_in_record(place: Place) -> bool
+    ensures { result ≡ spec.is_in_record place }
+{
+    !matches!(place, Place::Start | Place::RecordStart)
+}
+
+// The place after a byte.
+fn place_after(place: Place, byte: u8) -> Place
+    ensures { result ≡ spec.place_after place byte }
+{
+    match place {
+        Place::Start if byte == 0xEF => Place::FirstMark,
+        Place::FirstMark if byte == 0xBB => Place::SecondMark,
+        Place::SecondMark if byte == 0xBF => Place::RecordStart,
+        Place::Start | Place::RecordStart | Place::FieldStart => place_from_start(byte),
+        Place::FirstMark | Place::SecondMark | Place::Unquoted => place_outside(byte),
+        Place::Quoted if byte == QUOTE => Place::QuoteInQuotes,
+        Place::Quoted => Place::Quoted,
+        Place::QuoteInQuotes => place_from_start(byte),
+    }
+}
+
+// The place after a byte at the start of a field; or after a quote in quotes, where a second one is part of the field.
+fn place_from_start(byte: u8) -> Place
+    ensures { result ≡ spec.place_from_start byte }
+{
+    if byte == QUOTE {
+        return Place::Quoted;
+    }
+    place_outside(byte)
+}
+
+// The place after a byte outside quotes, where a quote is a byte like others.
+fn place_outside(byte: u8) -> Place
+    ensures { result ≡ spec.place_outside byte }
+{
+    match byte {
+        COMMA => Place::FieldStart,
+        b'\n' | b'\r' => Place::RecordStart,
+        _ => Place::Unquoted,
+    }
+}

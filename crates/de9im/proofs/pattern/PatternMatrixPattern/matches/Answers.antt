@@ -1,5 +1,0 @@
-use Rattle.std.proofs.Common.{rules}
-use Rattle.de9im.proofs.pattern.PatternMatrixPattern.matches.Goals as goal
-
-pub returns-then-takes-8 : goal.returns-then-takes-8
-returns-then-takes-8 c = search rules

@@ -1,0 +1,158 @@
+//! How a point lies to edges: on one of them, and below how many.
+
+ghost use Rattle.std.specs.Prelude.{◌≡◌, List, [], ◌∷◌, ◌++◌, IfSome, false, int_le, int_lt};
+ghost use Rattle.geometry_model.specs.Crossings.{exactly_one};
+ghost use Rattle.geometry_model.specs.Points.{Point};
+ghost use Rattle.geometry_model.specs.Geometries.{Edge};
+ghost use Rattle.edge_boxes.specs.Runs.{SumsUp};
+ghost use Rattle.edge_boxes.specs.Cells.{IsCellOf};
+ghost use Rattle.edge_boxes.specs.EdgeCrossings.{AreCrossings, IsTold, IsToldByStrip, lie_apart};
+
+use crate::bounds::Bounds;
+use crate::cells::Cell;
+use crate::kept_runs::{Ends, Run};
+use crate::strips::Strip;
+use fraction::RatPoint;
+use orient::{Segment, crossing_at};
+
+/// How a point lies to edges (OGC 06-103r4, 6.1.11.1: inside). Of an edge's ends the left one counts and the right one
+/// doesn't; an upright edge lies above no point.
+#[derive(Clone, Copy, Debug, PartialEq)]
+pub struct Crossings {
+    /// Whether it lies on one of them.
+    pub on: bool,
+    /// Whether an odd number of them lie strictly above it.
+    pub odd_above: bool,
+    /// Whether an odd number of them lie above it or go through it.
+    pub odd_at_or_above: bool,
+}
+
+/// A point that edges neither hold nor lie above.
+const NONE: Crossings = Crossings {
+    on: false,
+    odd_above: false,
+    odd_at_or_above: false,
+};
+
+impl Crossings {
+    /// How a point lies to two lists of edges, one behind the other.
+    pub(crate) fn join(self, later: Crossings) -> Crossings
+        ensures { (p : Point) (xs ys : List Edge) → AreCrossings self xs p → AreCrossings later ys p
+            → AreCrossings result (xs ++ ys) p }
+    {
+        Crossings {
+            on: self.on | later.on,
+            odd_above: self.odd_above != later.odd_above,
+            odd_at_or_above: self.odd_at_or_above != later.odd_at_or_above,
+        }
+    }
+}
+
+/// How a point lies to no edges.
+pub(crate) fn none() -> Crossings
+    ensures { result ≡ record { on = false; odd_above = false; odd_at_or_above = false } }
+{
+    NONE
+}
+
+/// Edges off the point, of which an odd number or an even one lie above it.
+fn above(is_odd: bool) -> Crossings
+    ensures { result ≡ record { on = false; odd_above = is_odd; odd_at_or_above = is_odd } }
+{
+    Crossings {
+        on: false,
+        odd_above: is_odd,
+        odd_at_or_above: is_odd,
+    }
+}
+
+/// Whether exactly one of the ends isn't to the right of a coordinate.
+fn spans(ends: &Ends, floor: i32) -> bool
+    ensures { result ≡ exactly_one (int_le ends.now.first_x floor) (int_le ends.now.last_x floor) }
+{
+    (ends.first_x <= floor) != (ends.last_x <= floor)
+}
+
+/// Whether the bounds are wholly left or right of the point, or below it.
+fn is_apart(bounds: &Bounds, cell: &Cell) -> bool
+    ensures { result ≡ lie_apart bounds.now cell.now }
+{
+    (bounds.greatest_x < cell.ceiling_x)
+        | (cell.floor_x < bounds.least_x)
+        | (bounds.greatest_y < cell.ceiling_y)
+}
+
+/// Whether the bounds are wholly above the point.
+fn is_over(bounds: &Bounds, cell: &Cell) -> bool
+    ensures { result ≡ int_lt cell.now.floor_y bounds.now.least_y }
+{
+    cell.floor_y < bounds.least_y
+}
+
+/// How the point lies to a run of edges that doesn't hold it, where the run's strip and ends show.
+fn told_by_strip(strip: &Strip, ends: &Ends, cell: &Cell) -> Option<Crossings>
+    ensures { IfSome result (IsToldByStrip strip.now ends.now cell.now) }
+{
+    if strip.is_under(cell) {
+        Some(NONE)
+    } else if strip.is_over(cell) && ends.is_chain {
+        Some(above(spans(ends, cell.floor_x)))
+    } else {
+        None
+    }
+}
+
+/// How the point lies to a run of edges that doesn't hold it, where the run's bounds and ends show it, or its strip and ends.
+pub(crate) fn told(run: &Run, cell: &Cell) -> Option<Crossings>
+    ensures { IfSome result (IsTold run.now cell.now) }
+{
+    if is_apart(&run.bounds, cell) {
+        return Some(NONE);
+    }
+    if is_over(&run.bounds, cell) && run.ends.is_chain {
+        return Some(above(spans(&run.ends, cell.floor_x)));
+    }
+    match &run.strip {
+        Some(strip) => told_by_strip(strip, &run.ends, cell),
+        None => None,
+    }
+}
+
+/// How the point lies to one edge, by the side of it.
+fn by_side(edge: &Segment, point: &RatPoint) -> Crossings
+    ensures { AreCrossings result (edge.now ∷ []) point.now }
+{
+    let found = crossing_at(edge, point);
+    Crossings {
+        on: found.on,
+        odd_above: found.strictly_above,
+        odd_at_or_above: found.at_or_above,
+    }
+}
+
+/// How the point lies to one edge. At a position of the grid a side costs no more than a look at the edge's bounds; elsewhere
+/// it takes long products.
+fn of_edge(edge: &Segment, point: &RatPoint, cell: &Cell) -> Crossings
+    requires { IsCellOf cell.now point.now }
+    ensures { AreCrossings result (edge.now ∷ []) point.now }
+{
+    if point.denominator() == 1 {
+        return by_side(edge, point);
+    }
+    match told(&Run::of(edge), cell) {
+        Some(crossings) => crossings,
+        None => by_side(edge, point),
+    }
+}
+
+/// How the point lies to some edges.
+pub(crate) fn of_edges(edges: &[Segment], point: &RatPoint, cell: &Cell) -> Crossings
+    requires { IsCellOf cell.now point.now }
+    ensures { AreCrossings result edges.now point.now }
+{
+    let mut found = NONE;
+    for edge in edges {
+        found = found.join(of_edge(edge, point, cell));
+    }
+    found
+}

@@ -1,0 +1,191 @@
+-- What files give, and how commands over them end.
+use Rattle.std.proofs.Common.{Bool, true, false, ◌≡◌, ◌≢◌, ◌+◌, ◌<◌, ◌≤◌, ◌⊎◌, inl, inr, ℕ, zero, suc, List, [], ◌∷◌, ◌++◌, length, map, take, get_or, Option, None, Some, Result, Ok, Err, refl, sym, ◌∙◌, ap, subst, add-one, arith}
+use Rattle.std.specs.Prelude.{IfSome, IsErrAnd, slice_get}
+use Rattle.std.specs.Option.{option_map}
+use Rattle.std.specs.Io.Take.{take_inner, take_limit, take_remaining}
+use Rattle.std.specs.declared.io.traits.Take.{Take}
+use Rattle.std.specs.Fn.{CalledAt, Mut}
+use Rattle.std.proofs.lemmas.Bool.{cases_lt, lt-ltb}
+use Rattle.std.proofs.lemmas.List.{length-take, take_all}
+use denote.Ref.{Bor}
+use Rattle.engine.specs.Commands.{IsFaultOf, IsTextOf, IsUnread, Opens, ReadsSchema, check_outcome, check_text, schema_failure}
+use Rattle.engine.specs.Ends.{failed_writes}
+use Rattle.failures.specs.declared.failure.Failure.{Failure}
+use Rattle.failures.specs.declared.failure.Failure.TheVariants as f
+use Rattle.failures.specs.declared.run_fault.Fault.{Fault}
+use Rattle.failures.specs.declared.run_fault.Fault.TheVariants as faults
+use Rattle.query_runs.specs.Runs.{Runs, count_after}
+use Rattle.failures.specs.Faults.{load_wants_memory, memory_or, of_table}
+use Rattle.table_model.specs.Databases.{load_tables}
+use Rattle.table_model.specs.GeometryColumns.{read_geometry, shape_named}
+use Rattle.table_model.specs.Loading.{Record}
+use Rattle.table_model.specs.RunOutcomes.{OfTable, Refusal, after}
+use Rattle.table_model.specs.SchemaReading.{schema_of}
+use Rattle.table_model.specs.SpatialTables.{SpatialDatabase, SpatialSchema}
+use Rattle.table_model.specs.Tokens.{most_bytes}
+use Rattle.table_model.specs.declared.faults.LoadFault.{LoadFault}
+use Rattle.table_model.specs.declared.faults.TableFault.{TableFault}
+use Rattle.table_model.specs.declared.faults.SchemaFault.{SchemaFault}
+use Rattle.table_model.specs.declared.faults.SchemaFault.TheVariants as fault
+
+-- ---- the schema's file
+
+too_long : (text : List ℕ) → most_bytes < length text → schema_of shape_named text ≡ Err fault.TooLong
+unfolding schema_of
+too_long text past = rw (lt-ltb most_bytes (length text) past) refl
+
+cut_by : (limit : ℕ) (bytes : List ℕ) → limit ≡ most_bytes + 1 → (limit < length bytes) ⊎ (length bytes ≤ limit)
+    → schema_of shape_named (take limit bytes) ≡ schema_of shape_named bytes
+cut_by limit bytes is (inl past) =
+    let more : most_bytes < length (take limit bytes) = omega (arith, length-take {A = ℕ}) in
+    let all : most_bytes < length bytes = omega arith in
+    too_long (take limit bytes) more ∙ sym (too_long bytes all)
+cut_by limit bytes is (inr within) = ap (schema_of shape_named) (take_all limit bytes within)
+
+-- a text that is too long is refused alike where it is cut one byte past the greatest length
+pub schema-cut : (limit : ℕ) (bytes : List ℕ) → limit ≡ most_bytes + 1 → schema_of shape_named (take limit bytes) ≡ schema_of shape_named bytes
+schema-cut limit bytes is = cut_by limit bytes is (cases_lt limit (length bytes))
+
+-- the bytes that are read up to a limit are those of the reader beneath
+taken : (known : Option (List ℕ)) (limit : ℕ) (text : List ℕ) → IfSome (option_map (take limit) known) (λ bytes. text ≡ bytes) → IfSome known (λ bytes. text ≡ take limit bytes)
+taken None limit text is = tt
+taken (Some bytes) limit text is = is
+
+pub taken-from : {R : Type 0} (remaining : R → Option (List ℕ)) (reading : Take R) (file : R) (limit : ℕ) (text : List ℕ) → take_limit reading ≡ limit → take_inner reading ≡ file
+    → IfSome (take_remaining remaining reading) (λ bytes. text ≡ bytes) → IfSome (remaining file) (λ bytes. text ≡ take limit bytes)
+taken-from remaining reading file limit text limited inner is =
+    taken (remaining file) limit text
+    (subst (λ known. IfSome known (λ bytes. text ≡ bytes))
+    (ap (λ n. option_map (take n) (remaining (take_inner reading))) limited ∙ ap (λ r. option_map (take limit) (remaining r)) inner) is)
+
+-- what the text that was read gives, the text of the file gives
+pub text-gives : (known : Option (List ℕ)) (limit : ℕ) (text : List ℕ) (answer : Result SpatialSchema SchemaFault) → limit ≡ most_bytes + 1
+    → IfSome known (λ bytes. text ≡ take limit bytes) → schema_of shape_named text ≡ answer
+    → (whole : List ℕ) × IsTextOf known whole × (schema_of shape_named whole ≡ answer)
+text-gives None limit text answer is read gives = (text, tt, gives)
+text-gives (Some bytes) limit text answer is read gives =
+    (bytes, refl, sym (schema-cut limit bytes is) ∙ ap (schema_of shape_named) (sym read) ∙ gives)
+
+-- a schema that isn't read
+pub unread-schema : {R : Type 0} (remaining : R → Option (List ℕ)) (file : Option R) (reader : R) (failure : Failure) → file ≡ Some reader → IsUnread failure
+    → ReadsSchema remaining file (Err failure)
+unread-schema remaining file reader failure is (inl unread) =
+    subst (λ x. ReadsSchema remaining file (Err x)) (sym unread) (subst (λ o. ReadsSchema remaining o (Err f.SchemaUnreadable)) (sym is) tt)
+unread-schema remaining file reader failure is (inr memory) =
+    subst (λ x. ReadsSchema remaining file (Err x)) (sym memory) (subst (λ o. ReadsSchema remaining o (Err f.OutOfMemory)) (sym is) tt)
+
+-- a file that can't be opened
+pub unopened-schema : {R : Type 0} (remaining : R → Option (List ℕ)) (file : Option R) → file ≡ None → ReadsSchema remaining file (Err f.SchemaUnreadable)
+unopened-schema remaining file is = subst (λ o. ReadsSchema remaining o (Err f.SchemaUnreadable)) (sym is) refl
+
+-- a file's text that is a schema
+pub read-schema : {R : Type 0} (remaining : R → Option (List ℕ)) (file : Option R) (reader : R) (limit : ℕ) (text : List ℕ) (definitions : SpatialSchema) → file ≡ Some reader
+    → limit ≡ most_bytes + 1 → IfSome (remaining reader) (λ bytes. text ≡ take limit bytes) → schema_of shape_named text ≡ Ok definitions → ReadsSchema remaining file (Ok definitions)
+read-schema remaining file reader limit text definitions is limited read gives =
+    subst (λ o. ReadsSchema remaining o (Ok definitions)) (sym is) (text-gives (remaining reader) limit text (Ok definitions) limited read gives)
+
+-- and one that isn't
+refused : {R : Type 0} (remaining : R → Option (List ℕ)) (file : Option R) (reader : R) (limit : ℕ) (text : List ℕ) (refusal : SchemaFault) → file ≡ Some reader
+    → limit ≡ most_bytes + 1 → IfSome (remaining reader) (λ bytes. text ≡ take limit bytes) → schema_of shape_named text ≡ Err refusal → ReadsSchema remaining file (Err (f.Schema refusal))
+refused remaining file reader limit text refusal is limited read gives =
+    subst (λ o. ReadsSchema remaining o (Err (f.Schema refusal))) (sym is) (text-gives (remaining reader) limit text (Err refusal) limited read gives)
+
+pub refused-schema : {R : Type 0} (remaining : R → Option (List ℕ)) (file : Option R) (reader : R) (limit : ℕ) (text : List ℕ) (refusal : SchemaFault) → file ≡ Some reader
+    → limit ≡ most_bytes + 1 → IfSome (remaining reader) (λ bytes. text ≡ take limit bytes) → (refusal ≢ fault.OutOfMemory → schema_of shape_named text ≡ Err refusal)
+    → ReadsSchema remaining file (Err (schema_failure refusal))
+refused-schema remaining file reader limit text (fault.Syntax at) is limited read gives = refused remaining file reader limit text (fault.Syntax at) is limited read (gives (λ e. cc e))
+refused-schema remaining file reader limit text (fault.DoubleName at) is limited read gives = refused remaining file reader limit text (fault.DoubleName at) is limited read (gives (λ e. cc e))
+refused-schema remaining file reader limit text (fault.NoKey at) is limited read gives = refused remaining file reader limit text (fault.NoKey at) is limited read (gives (λ e. cc e))
+refused-schema remaining file reader limit text (fault.TwoKeys at) is limited read gives = refused remaining file reader limit text (fault.TwoKeys at) is limited read (gives (λ e. cc e))
+refused-schema remaining file reader limit text (fault.TooMany at) is limited read gives = refused remaining file reader limit text (fault.TooMany at) is limited read (gives (λ e. cc e))
+refused-schema remaining file reader limit text fault.TooLong is limited read gives = refused remaining file reader limit text fault.TooLong is limited read (gives (λ e. cc e))
+refused-schema remaining file reader limit text fault.OutOfMemory is limited read gives =
+    subst (λ o. ReadsSchema remaining o (Err f.OutOfMemory)) (sym is) tt
+
+-- the failure of a step that is handed on
+pub handed-on : {A : Type 0} (r : Result A Failure) (failure : Failure) → IsErrAnd r (λ x. x ≡ failure) → (P : Result A Failure → Type 0) → P (Err failure) → P r
+handed-on (Ok a) failure is P fact = absurd is
+handed-on (Err e) failure is P fact = subst (λ x. P (Err x)) (sym is) fact
+
+-- ---- lists
+
+-- the element at a place
+pub there : {X : Type 0} (xs : List X) (i : ℕ) (x : X) → i < length xs → x ≡ get_or xs i x → slice_get xs i ≡ Some x
+there [] i x within is = absurd (omega arith)
+there (y ∷ xs) zero x within is = ap Some (sym is)
+there (y ∷ xs) (suc i) x within is =
+    let more : i < length xs = omega arith in
+    there xs i x more is
+
+-- what a list is mapped to at a place
+pub map-there : {X Y : Type 0} (of : X → Y) (xs : List X) (i : ℕ) (x : X) → slice_get xs i ≡ Some x → slice_get (map of xs) i ≡ Some (of x)
+map-there of [] i x is = cc is
+map-there of (y ∷ xs) zero x is =
+    let same : y ≡ x = cc is in
+    ap (λ z. Some (of z)) same
+map-there of (y ∷ xs) (suc i) x is = map-there of xs i x is
+
+-- one element more of a beginning
+pub take-more : {X : Type 0} (xs : List X) (i : ℕ) (x : X) → slice_get xs i ≡ Some x → take (suc i) xs ≡ take i xs ++ x ∷ []
+take-more [] i x is = cc is
+take-more (y ∷ xs) zero x is =
+    let same : y ≡ x = cc is in
+    ap (λ z. z ∷ []) same
+take-more (y ∷ xs) (suc i) x is = ap (λ l. y ∷ l) (take-more xs i x is)
+
+-- ---- opened files
+
+module _ {F R : Type 0} (g : Mut F (Bor (List ℕ) × Unit {0}) (Option R)) where
+  -- one file more is opened
+  pub Opens-next : (opener : F) (paths : List (List ℕ)) (readers : List R) (next : F) (path : List ℕ) (reader : R) (after : F)
+      → Opens g opener paths readers next → CalledAt g next path (Some reader) after → Opens g opener (paths ++ path ∷ []) (readers ++ reader ∷ []) after
+  Opens-next opener [] [] next path reader after opens called =
+      (after, subst (λ s. CalledAt g s path (Some reader) after) opens called, refl)
+  Opens-next opener [] (r ∷ readers) next path reader after opens called = absurd opens
+  Opens-next opener (p ∷ paths) [] next path reader after opens called = absurd opens
+  Opens-next opener (p ∷ paths) (r ∷ readers) next path reader after opens called =
+      (opens.0, opens.1, Opens-next opens.0 paths readers next path reader after opens.2 called)
+
+  -- a table's file more is opened
+  pub table-next : (opener : F) (paths : List (List ℕ)) (i : ℕ) (path : List ℕ) (readers : List R) (now : F) (reader : R) (more : List R) (after : F)
+      → slice_get paths i ≡ Some path → Opens g opener (take i paths) readers now → CalledAt g now path (Some reader) after → more ≡ readers ++ reader ∷ []
+      → Opens g opener (take (i + 1) paths) more after
+  table-next opener paths i path readers now reader more after is opens called grown =
+      rw add-one (subst (λ ps. Opens g opener ps more after) (sym (take-more paths i path is))
+      (subst (λ rs. Opens g opener (take i paths ++ path ∷ []) rs after) (sym grown) (Opens-next opener (take i paths) readers now path reader after opens called)))
+
+-- ---- ends
+
+-- what a fault says is the same, whatever would have been returned
+pub runs-as : (A B : Type 0) (e : Fault) (outcome : Result (List ℕ) Refusal) (reached : ℕ → Type 0) (old new : Option (List ℕ)) → Runs {A = A} (Err e) outcome reached old new
+    → Runs {A = B} (Err e) outcome reached old new
+runs-as A B (faults.Query e) outcome reached old new is = is
+runs-as A B (faults.Load table e) outcome reached old new is = is
+runs-as A B faults.Sink outcome reached old new is = is
+runs-as A B faults.Memory outcome reached old new is = is
+
+-- a sink's failures are counted for a fault as for its failure
+pub counts-as : (definitions : SpatialSchema) (e : Fault) (failure : Failure) (before : ℕ) → IsFaultOf definitions e failure
+    → count_after {A = ℕ} before (Err e) ≡ failed_writes before (Err failure)
+counts-as definitions (faults.Query e) failure before is = subst (λ x. before ≡ failed_writes before (Err x)) (sym is) refl
+counts-as definitions (faults.Load table e) failure before is = subst (λ x. before ≡ failed_writes before (Err x)) (sym is.1) refl
+counts-as definitions faults.Sink failure before is = subst (λ x. count_after {A = ℕ} before (Err faults.Sink) ≡ failed_writes before (Err x)) (sym is) refl
+counts-as definitions faults.Memory failure before is = subst (λ x. before ≡ failed_writes before (Err x)) (sym is) refl
+
+count-of : (memory : Bool) (table : ℕ) (e : LoadFault) (before : ℕ) → count_after {A = ℕ} before (Err (memory_or memory (faults.Load table e))) ≡ before
+count-of true table e before = refl
+count-of false table e before = refl
+
+-- a table that isn't loaded counts no failure of the sink
+pub table-counts : (definitions : SpatialSchema) (refusal : TableFault) (e : Fault) (failure : Failure) (before : ℕ) → e ≡ of_table refusal → IsFaultOf definitions e failure
+    → before ≡ failed_writes before (Err failure)
+table-counts definitions refusal e failure before is names =
+    sym (count-of (load_wants_memory refusal.fault) refusal.table refusal.fault before)
+    ∙ ap (λ x. count_after {A = ℕ} before (Err x)) (sym is)
+    ∙ counts-as definitions e failure before names
+
+-- the lines of tables that have loaded
+pub check-loaded : (definitions : SpatialSchema) (records : List (List Record)) (database : SpatialDatabase) → load_tables read_geometry definitions records ≡ Ok database.tables
+    → database.definitions ≡ definitions → check_outcome definitions records ≡ Ok (check_text database.definitions database.tables)
+check-loaded definitions records database loaded same =
+    ap (λ r. after OfTable r (λ tables. Ok (check_text definitions tables))) loaded ∙ ap (λ ds. Ok (check_text ds database.tables)) (sym same)

@@ -1,0 +1,3 @@
+pub mod EndLemmas
+pub mod CountLemmas
+pub mod FileLemmas

@@ -1,0 +1,77 @@
+-- Each exit over the tables' files.
+use Rattle.std.proofs.Common.{◌≡◌, Err, Ok, Result, refl}
+use Rattle.engine.proofs.FileLemmas.{check-loaded, handed-on, table-counts}
+use Rattle.engine.specs.Commands.{CheckEnds, OverTables, IsLoadedTo, check_text}
+use Rattle.query_runs.proofs.RunLemmas.{table-refused}
+use Rattle.failures.specs.declared.run_fault.Fault.{Fault}
+use Rattle.failures.specs.declared.run_fault.Fault.TheVariants as faults
+use Rattle.table_model.specs.Databases.{load_tables}
+use Rattle.table_model.specs.GeometryColumns.{read_geometry}
+use Rattle.engine.proofs.commands.check_over.Goals as goal
+
+pub returns-in_err-readers : goal.returns-in_err-readers
+returns-in_err-readers g c =
+    let before = g.S.Sink.taken c.args.out.now in
+    let count = g.S.Sink.failures c.args.out.now in
+    handed-on c.from_residual.result c.in_err-readers.field-0.0 c.from_residual.ensures.1
+    (λ r. OverTables g.F.FnMut g.R.Read.remaining c.args.opener c.args.directory.now c.args.schema.now (CheckEnds c.args.schema.now before before count count) r (c.args.out.now ≡ c.args.out.now))
+    (record { readers = Err c.in_err-readers.field-0.0; opened = c.in_err-readers.ensures.failure; rest = (refl, refl) })
+
+pub returns-in-Err : goal.returns-in-Err
+returns-in-Err g c =
+    let these = c.in-Err.ensures.records in
+    let failed : Result (Unit {0}) Fault = Err c.from.result in record {
+      readers = Ok c.in_ok-readers.readers.items;
+      opened = c.in_ok-readers.ensures.opened;
+      rest = (
+        these.records,
+        these.are_of,
+        record {
+          checks = (
+            c.from.result,
+            c.run_failure.ensures,
+            table-refused failed c.in-Err.fault (load_tables read_geometry c.args.schema.now these.records) (λ tables. Ok (check_text c.args.schema.now tables))
+                (IsLoadedTo c.args.schema.now these.records) (g.S.Sink.taken c.args.out.now) c.from.ensures these.loads (c.in-Err.ensures.table, these.earlier),
+          );
+          failures = table-counts c.args.schema.now c.in-Err.fault c.from.result c.run_failure.result (g.S.Sink.failures c.args.out.now) c.from.ensures c.run_failure.ensures;
+        },
+      );
+    }
+
+pub returns-in-Ok-put_counts : goal.returns-in-Ok-put_counts
+returns-in-Ok-put_counts g c =
+    let these = c.in-Ok.ensures.records in record {
+      readers = Ok c.in_ok-readers.readers.items;
+      opened = c.in_ok-readers.ensures.opened;
+      rest = (
+        these.records,
+        these.are_of,
+        record {
+          checks = (
+            check_text c.in-Ok.database.definitions c.in-Ok.database.tables,
+            check-loaded c.args.schema.now these.records c.in-Ok.database these.loads c.in-Ok.ensures.schema,
+            c.in-Ok-put_counts.ensures.ok,
+          );
+          failures = c.in-Ok-put_counts.ensures.failures;
+        },
+      );
+    }
+
+pub returns : goal.returns
+returns g c =
+    let these = c.in-Ok.ensures.records in record {
+      readers = Ok c.in_ok-readers.readers.items;
+      opened = c.in_ok-readers.ensures.opened;
+      rest = (
+        these.records,
+        these.are_of,
+        record {
+          checks = (
+            faults.Sink,
+            refl,
+            (check_text c.in-Ok.database.definitions c.in-Ok.database.tables, check-loaded c.args.schema.now these.records c.in-Ok.database these.loads c.in-Ok.ensures.schema, c.in-Err-put_counts.ensures.front),
+          );
+          failures = c.in-Err-put_counts.ensures.failures;
+        },
+      );
+    }

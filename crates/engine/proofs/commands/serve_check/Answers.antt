@@ -1,0 +1,48 @@
+-- Each exit: the schema isn't read, the command over it is done, or it ends in a failure.
+use Rattle.std.proofs.Common.{Err, Ok, refl}
+use Rattle.engine.proofs.commands.serve_check.Goals as goal
+
+pub returns-in-Err : goal.returns-in-Err
+returns-in-Err g c = record {
+  end = Err c.in-Err.failure;
+  ends = record {
+    file = c.opener.result;
+    next = c.opener.new.self;
+    opened = record { shown = c.args.paths.now.schema; shows = refl; called = c.opener.ensures };
+    schema = Err c.in-Err.failure;
+    read = c.in-Err.ensures;
+    rest = (refl, refl);
+  };
+  returned = c.failed.ensures.status;
+  reported = c.failed.ensures.line;
+}
+
+pub returns-in-Ok-check_over : goal.returns-in-Ok-check_over
+returns-in-Ok-check_over g c = record {
+  end = Ok tt;
+  ends = record {
+    file = c.opener.result;
+    next = c.opener.new.self;
+    opened = record { shown = c.args.paths.now.schema; shows = refl; called = c.opener.ensures };
+    schema = Ok c.in-Ok.schema;
+    read = c.in-Ok.ensures;
+    rest = c.in-Ok-check_over.ensures;
+  };
+  returned = refl;
+  reported = refl;
+}
+
+pub returns : goal.returns
+returns g c = record {
+  end = Err c.in-Err-check_over.failure;
+  ends = record {
+    file = c.opener.result;
+    next = c.opener.new.self;
+    opened = record { shown = c.args.paths.now.schema; shows = refl; called = c.opener.ensures };
+    schema = Ok c.in-Ok.schema;
+    read = c.in-Ok.ensures;
+    rest = c.in-Err-check_over.ensures;
+  };
+  returned = c.failed-in-Err-check_over.ensures.status;
+  reported = c.failed-in-Err-check_over.ensures.line;
+}

@@ -1,0 +1,197 @@
+-- What each command means: the texts of the outcomes, the files that are opened, and the ends that there may be.
+use Rattle.std.specs.Prelude.{◌≡◌, ◌++◌, ◌<◌, ◌⊎◌, ⊤, ℕ, List, [], ◌∷◌, codes, decimal, length, map, take, slice_get, Option, Some, None, Result, Ok, Err}
+use Rattle.std.specs.Fn.{CalledAt, Mut}
+use denote.Ref.{Bor}
+use Rattle.command_line.specs.declared.known_commands.Order.{Order}
+use Rattle.command_line.specs.declared.known_commands.Order.TheVariants as orders
+use Rattle.engine.specs.Ends.{Answers, End, Then, failed_writes}
+use Rattle.failures.specs.declared.failure.Failure.{Failure}
+use Rattle.failures.specs.declared.failure.Failure.TheVariants as f
+use Rattle.failures.specs.declared.run_fault.Fault.{Fault}
+use Rattle.failures.specs.declared.run_fault.Fault.TheVariants as faults
+use Rattle.feature_table.specs.Tables.{EachRecordsOf, EarlierLoad}
+use Rattle.geometry_model.specs.Dimensions.{Matrix}
+use Rattle.geometry_model.specs.Patterns.{matrix_text}
+use Rattle.query_runs.specs.Runs.{Runs, RunsOver}
+use Rattle.std.specs.String.{string_bytes}
+use Rattle.table_model.specs.Databases.{load_tables}
+use Rattle.table_model.specs.GeometryColumns.{ColumnShape, read_geometry, shape_named}
+use Rattle.table_model.specs.Loading.{Record}
+use Rattle.table_model.specs.RunOutcomes.{ByEveryMatrix, MatrixOf, OfTable, Refusal, after}
+use Rattle.table_model.specs.SchemaReading.{schema_of}
+use Rattle.table_model.specs.SpatialTables.{SpatialSchema, SpatialTable}
+use Rattle.table_model.specs.declared.definitions.TableDef.{TableDef}
+use Rattle.table_model.specs.declared.faults.SchemaFault.{SchemaFault}
+use Rattle.table_model.specs.declared.faults.SchemaFault.TheVariants as s
+use Rattle.text_relation.specs.Relations.{and_then, relation}
+
+-- ---- relate
+
+-- the text of a matrix: its nine characters and a line feed (06-103r4, 6.1.15.2)
+abbrev pub relate_text : Matrix → List ℕ
+relate_text matrix = matrix_text matrix ++ codes "\n"
+
+-- the text of the matrix of the geometries that two texts spell, or the first refusal (06-103r4, 6.1.15.2)
+abbrev pub relate_outcome : MatrixOf → List ℕ → List ℕ → Result (List ℕ) Failure
+relate_outcome matrix first second = and_then (relation matrix first second) (λ m. Ok (relate_text m))
+
+-- relating two texts ends so
+pub record RelateEnds (first second : List ℕ) (end : End) (old new : Option (List ℕ)) (before after : ℕ) : Type 0 where
+  pub answers : ByEveryMatrix (λ matrix. Answers (relate_outcome matrix first second) end old new)
+  pub failures : after ≡ failed_writes before end
+
+-- ---- check
+
+-- the line of a table: its name, a blank and how many rows it has
+abbrev pub count_line : TableDef ColumnShape → SpatialTable → List ℕ
+count_line definition rows = definition.name ++ codes " " ++ decimal (length rows) ++ codes "\n"
+
+-- the line of each table, in schema order
+abbrev pub check_text : SpatialSchema → List SpatialTable → List ℕ
+check_text [] tables = []
+check_text (definition ∷ definitions) [] = []
+check_text (definition ∷ definitions) (rows ∷ tables) = count_line definition rows ++ check_text definitions tables
+
+-- the lines of the tables that the records load as, or the first fault among them
+abbrev pub check_outcome : SpatialSchema → List (List Record) → Result (List ℕ) Refusal
+check_outcome definitions records =
+    after OfTable (load_tables read_geometry definitions records) (λ tables. Ok (check_text definitions tables))
+
+-- a table of which the reading may fail: it is one of the schema, and each table before it has loaded
+abbrev pub IsLoadedTo : SpatialSchema → List (List Record) → ℕ → Type 0
+IsLoadedTo definitions records table = (table < length definitions) × EarlierLoad read_geometry definitions records table
+
+-- ---- failures of runs
+
+-- the names of the tables of a schema
+abbrev pub table_names : SpatialSchema → List (List ℕ)
+table_names definitions = map (λ t. t.name) definitions
+
+-- the failure that a fault of a run is: that of a table has the table's name
+abbrev pub IsFaultOf : SpatialSchema → Fault → Failure → Type 0
+IsFaultOf definitions (faults.Query fault) failure = failure ≡ f.Query fault
+IsFaultOf definitions (faults.Load table fault) failure =
+    (name : Bor (List ℕ)) × (failure ≡ f.Load name fault) × (slice_get (table_names definitions) table ≡ Some name.now)
+IsFaultOf definitions faults.Sink failure = failure ≡ f.WriteFailed
+IsFaultOf definitions faults.Memory failure = failure ≡ f.OutOfMemory
+
+-- a run ended so: it is done, or its fault is this failure
+abbrev pub EndsAs : SpatialSchema → End → (Result (Unit {0}) Fault → Type 0) → Type 0
+EndsAs definitions (Ok done) Run = Run (Ok done)
+EndsAs definitions (Err failure) Run = (fault : Fault) × IsFaultOf definitions fault failure × Run (Err fault)
+
+-- ---- files
+
+-- the text of a reader is this one, where its bytes are known
+abbrev pub IsTextOf : Option (List ℕ) → List ℕ → Type 0
+IsTextOf None text = ⊤
+IsTextOf (Some bytes) text = text ≡ bytes
+
+-- a schema's file isn't read: reading failed, or memory ran out
+abbrev pub IsUnread : Failure → Type 0
+IsUnread failure = (failure ≡ f.SchemaUnreadable) ⊎ (failure ≡ f.OutOfMemory)
+
+-- the failure that a fault of a schema is, and running out of memory
+abbrev pub schema_failure : SchemaFault → Failure
+schema_failure s.OutOfMemory = f.OutOfMemory
+schema_failure fault = f.Schema fault
+
+-- what a schema's file gives: the schema that its text is, or the text's first fault; the file can't be opened, reading failed, or memory
+-- ran out
+abbrev pub ReadsSchema : {R : Type 0} → (R → Option (List ℕ)) → Option R → Result SpatialSchema Failure → Type 0
+ReadsSchema remaining None result = result ≡ Err f.SchemaUnreadable
+ReadsSchema remaining (Some reader) (Ok definitions) =
+    (text : List ℕ) × IsTextOf (remaining reader) text × (schema_of shape_named text ≡ Ok definitions)
+ReadsSchema remaining (Some reader) (Err (f.Schema fault)) =
+    (text : List ℕ) × IsTextOf (remaining reader) text × (schema_of shape_named text ≡ Err fault)
+ReadsSchema remaining (Some reader) (Err f.SchemaUnreadable) = ⊤
+ReadsSchema remaining (Some reader) (Err f.OutOfMemory) = ⊤
+ReadsSchema remaining (Some reader) (Err failure) = ⊥
+
+-- the path of a table's file
+abbrev pub table_path : List ℕ → List ℕ → List ℕ
+table_path directory name = directory ++ codes "/" ++ name ++ codes ".csv"
+
+-- the paths of the tables' files, in schema order
+abbrev pub table_paths : List ℕ → SpatialSchema → List (List ℕ)
+table_paths directory definitions = map (table_path directory) (table_names definitions)
+
+-- what opens a path was called at these paths, in order, and gave these readers
+abbrev pub Opens : {F R : Type 0} → Mut F (Bor (List ℕ) × Unit {0}) (Option R) → F → List (List ℕ) → List R → F → Type 0
+Opens g opener [] [] after = after ≡ opener
+Opens g opener [] (reader ∷ readers) after = ⊥
+Opens g opener (path ∷ paths) [] after = ⊥
+Opens {F} g opener (path ∷ paths) (reader ∷ readers) after = (next : F) × CalledAt g opener path (Some reader) next × Opens g next paths readers after
+
+-- the readers of the tables' files, or the first that can't be opened; or memory ran out
+abbrev pub OpensTables : {F R : Type 0} → Mut F (Bor (List ℕ) × Unit {0}) (Option R) → F → List ℕ → SpatialSchema → Result (List R) Failure → Type 0
+OpensTables {F} g opener directory definitions (Ok readers) = (after : F) × Opens g opener (table_paths directory definitions) readers after
+OpensTables {F} {R} g opener directory definitions (Err (f.TableUnreadable name)) =
+    (place : ℕ) × (readers : List R) × (next after : F)
+    × Opens g opener (take place (table_paths directory definitions)) readers next
+    × CalledAt g next (table_path directory name.now) None after
+    × (slice_get (table_names definitions) place ≡ Some name.now)
+OpensTables g opener directory definitions (Err f.OutOfMemory) = ⊤
+OpensTables g opener directory definitions (Err failure) = ⊥
+
+-- ---- commands over files
+
+-- over some records of these readers a command ends so
+abbrev pub OverReaders : {R : Type 0} → (R → Option (List ℕ)) → (List (List Record) → End → Type 0) → End → List R → Type 0
+OverReaders remaining Over end readers = (records : List (List Record)) × EachRecordsOf (map remaining readers) records × Over records end
+
+-- a command over the tables of a schema: all their files are opened, in schema order, and over their records it ends so; else it ends
+-- in the failure of opening them
+pub record OverTables {F R : Type 0} (g : Mut F (Bor (List ℕ) × Unit {0}) (Option R)) (remaining : R → Option (List ℕ)) (opener : F) (directory : List ℕ)
+    (definitions : SpatialSchema) (Over : List (List Record) → End → Type 0) (end : End) (Nothing : Type 0) : Type 0 where
+  pub readers : Result (List R) Failure
+  pub opened : OpensTables g opener directory definitions readers
+  pub rest : Then readers (OverReaders remaining Over end) end Nothing
+
+-- a command over files: the schema's is opened first, and over its schema the command ends so; else it ends in the failure of reading it
+pub record OverFiles {F R : Type 0} (g : Mut F (Bor (List ℕ) × Unit {0}) (Option R)) (remaining : R → Option (List ℕ)) (opener : F) (path : List ℕ)
+    (Over : F → SpatialSchema → End → Type 0) (end : End) (Nothing : Type 0) : Type 0 where
+  pub file : Option R
+  pub next : F
+  pub opened : CalledAt g opener path file next
+  pub schema : Result SpatialSchema Failure
+  pub read : ReadsSchema remaining file schema
+  pub rest : Then schema (λ definitions. Over next definitions end) end Nothing
+
+-- a run over the tables' records ends so
+pub record RunEnds (definitions : SpatialSchema) (query : List ℕ) (old new : Option (List ℕ)) (before after : ℕ) (records : List (List Record)) (end : End) : Type 0 where
+  pub runs : EndsAs definitions end (λ result. RunsOver result definitions records query old new)
+  pub failures : after ≡ failed_writes before end
+
+-- counting the rows of the tables ends so
+pub record CheckEnds (definitions : SpatialSchema) (old new : Option (List ℕ)) (before after : ℕ) (records : List (List Record)) (end : End) : Type 0 where
+  pub checks : EndsAs definitions end (λ result. Runs result (check_outcome definitions records) (IsLoadedTo definitions records) old new)
+  pub failures : after ≡ failed_writes before end
+
+-- the sink of the answer, before and after a command
+module _ {F R S : Type 0} (g : Mut F (Bor (List ℕ) × Unit {0}) (Option R)) (remaining : R → Option (List ℕ)) (taken : S → Option (List ℕ)) (failures : S → ℕ) (old new : S) where
+  -- a run over the files of the tables of a schema ends so
+  abbrev pub RunsTables : F → List ℕ → List ℕ → SpatialSchema → End → Type 0
+  RunsTables next directory query definitions end =
+      OverTables g remaining next directory definitions (RunEnds definitions query (taken old) (taken new) (failures old) (failures new)) end (new ≡ old)
+
+  -- and counting their rows
+  abbrev pub ChecksTables : F → List ℕ → SpatialSchema → End → Type 0
+  ChecksTables next directory definitions end =
+      OverTables g remaining next directory definitions (CheckEnds definitions (taken old) (taken new) (failures old) (failures new)) end (new ≡ old)
+
+  -- running a query over a schema's file and those of its tables ends so
+  abbrev pub RunsFiles : F → List ℕ → List ℕ → List ℕ → End → Type 0
+  RunsFiles opener schema directory query end =
+      OverFiles g remaining opener schema (λ next. RunsTables next directory query) end (new ≡ old)
+
+  -- and counting the rows of its tables
+  abbrev pub ChecksFiles : F → List ℕ → List ℕ → End → Type 0
+  ChecksFiles opener schema directory end = OverFiles g remaining opener schema (λ next. ChecksTables next directory) end (new ≡ old)
+
+  -- doing what an order says ends so
+  abbrev pub EndsOf : F → Order → End → Type 0
+  EndsOf opener (orders.Run schema directory query) end = RunsFiles opener (string_bytes schema) (string_bytes directory) (string_bytes query) end
+  EndsOf opener (orders.Check schema directory) end = ChecksFiles opener (string_bytes schema) (string_bytes directory) end
+  EndsOf opener (orders.Relate first second) end =
+      RelateEnds (string_bytes first) (string_bytes second) end (taken old) (taken new) (failures old) (failures new)

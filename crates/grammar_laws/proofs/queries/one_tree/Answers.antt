@@ -1,5 +1,0 @@
-use Rattle.grammar_laws.proofs.QueryLaws.{one_tree}
-use Rattle.grammar_laws.proofs.queries.one_tree.Goals as goal
-
-pub returns : goal.returns
-returns c = one_tree

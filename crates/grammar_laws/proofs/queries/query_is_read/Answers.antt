@@ -1,5 +1,0 @@
-use Rattle.grammar_laws.proofs.QueryLaws.{query_is_read}
-use Rattle.grammar_laws.proofs.queries.query_is_read.Goals as goal
-
-pub returns : goal.returns
-returns c = query_is_read

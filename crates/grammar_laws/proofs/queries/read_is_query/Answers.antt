@@ -1,5 +1,0 @@
-use Rattle.grammar_laws.proofs.QueryLaws.{read_is_query}
-use Rattle.grammar_laws.proofs.queries.read_is_query.Goals as goal
-
-pub returns : goal.returns
-returns c = read_is_query

@@ -1,5 +1,0 @@
-use Rattle.grammar_laws.proofs.SchemaLaws.{given_is_schema}
-use Rattle.grammar_laws.proofs.schemas.read_is_schema.Goals as goal
-
-pub returns : goal.returns
-returns g c = given_is_schema

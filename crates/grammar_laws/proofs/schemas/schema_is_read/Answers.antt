@@ -1,5 +1,0 @@
-use Rattle.grammar_laws.proofs.SchemaLaws.{schema_of_complete}
-use Rattle.grammar_laws.proofs.schemas.schema_is_read.Goals as goal
-
-pub returns : goal.returns
-returns g c = schema_of_complete

@@ -1,5 +1,0 @@
-use Rattle.std.proofs.Common.{rules}
-use Rattle.label_lists.proofs.Labels.of_points.Goals as goal
-
-pub returns : goal.returns
-returns c = search rules

@@ -1,0 +1,10 @@
+pub mod FailureLemmas
+pub mod FieldLemmas
+pub mod SchemaLemmas
+pub mod HeaderLemmas
+pub mod EachLemmas
+pub mod RowLemmas
+pub mod LoadingLemmas
+pub mod LoadLemmas
+pub mod GeometryFieldLemmas
+pub mod ReaderRecords

@@ -1,0 +1,17 @@
+use Rattle.std.proofs.Common.{◌+◌, ◌≤◌, ◌≡◌, List}
+use Rattle.loaded_tables.proofs.LoadingLemmas.{AreRead, Midway}
+use Rattle.table_parts.specs.GeometryFields.{reading}
+use Rattle.loaded_tables.specs.Layouts.{IsLayout}
+use Rattle.table_parts.specs.Records.{Gives, IsReady, asked}
+use Rattle.table_model.specs.Loading.{Record, row_limit}
+use Rattle.loaded_tables.proofs.loading.read_rows.Given as goal
+
+abbrev pub invariant-loop-place : goal.invariant-loop-place
+invariant-loop-place g l = record {
+  ready : IsReady l.records;
+  asked : asked l.records ≡ 1 + l.place;
+  within : (header : Record) → IsLayout l.table.columns header l.layout → l.place ≤ row_limit;
+  midway : (header : Record) (rest : List Record) → IsLayout l.table.columns header l.layout → Gives g.R.Read.remaining l.fn.records rest
+      → Midway g.R.Read.remaining l.records reading l.table header rest l.place l.rows.items;
+  read : (header : Record) → IsLayout l.table.columns header l.layout → AreRead reading l.table header l.place l.rows.items;
+}

@@ -1,0 +1,13 @@
+-- What a field shows.
+use Rattle.loaded_tables.specs.declared.cells.Field.{Field}
+use Rattle.loaded_tables.specs.declared.cells.Field.TheVariants as field
+use Rattle.table_parts.specs.GeometryFields.{GeometryValue}
+use Rattle.table_model.specs.declared.values.Value.{Value}
+use Rattle.table_model.specs.declared.values.Value.TheVariants as value
+
+-- the value that a field shows: of what is lent, its bytes
+abbrev pub shown : Field → Value GeometryValue
+shown field.Null = value.Null
+shown (field.Int n) = value.Integer n
+shown (field.Text text) = value.Text text.now
+shown (field.Geom geometry) = value.Geometry geometry.now

@@ -1,0 +1,85 @@
+//! The rows of a table, read record by record.
+
+ghost use Rattle.std.specs.Prelude.{◌≡◌, ◌+◌, ◌-◌, ◌<◌, ◌≤◌, IfErr, IsOk, List, OnOk, length, take, true, vec_len};
+ghost use Rattle.loaded_tables.specs.Layouts.{IsLayout};
+ghost use Rattle.table_parts.specs.Outcomes.{Loads, is_of_reading};
+ghost use Rattle.table_parts.specs.Records.{Gives, IsReady, asked, read_failed, record_limit};
+ghost use Rattle.loaded_tables.specs.RowReading.{IsOfRecord, RowsOfRecords, TakesRow};
+ghost use Rattle.table_parts.specs.GeometryFields.{reading};
+ghost use Rattle.table_model.specs.Loading as spec;
+
+use crate::geometry_fields::Geometry;
+use crate::headers::Layout;
+use crate::schemas::TableDef;
+use crate::typed_rows::checked_row;
+use csv::ByteRecord;
+use sqlite_items::Items;
+use std::alloc::Global;
+use std::io::Read;
+use table_model::definitions::ROW_LIMIT;
+use table_model::faults::LoadFault;
+use table_model::values::Value;
+use table_parts::{Records, next_record};
+
+/// Reads the next record, and returns its row where there is one.
+fn next_row<R: Read + Drop>(
+    alloc: Global,
+    table: &TableDef,
+    layout: &Layout,
+    number: usize,
+    records: &mut Records<R>,
+    record: &mut ByteRecord,
+) -> Result<Option<Items<Value<Geometry>>>, LoadFault>
+    requires size { vec_len layout.now.places ≡ length table.now.columns }
+    requires ready { IsReady records.old }
+    requires limit { asked records.old < record_limit }
+    ensures asked { asked records.new ≡ asked records.old + 1 }
+    ensures read_failed { IfErr result (λ f. is_of_reading f ≡ true → read_failed records.new ≡ true) }
+    ensures ready { OnOk result (IsReady records.new) }
+    ensures takes { (header : spec.Record) (rest : List spec.Record)
+        → IsLayout table.now.columns header layout.now → Gives R.remaining records.old rest
+        → TakesRow R.remaining records.new reading table.now header number rest result }
+    ensures record { (header : spec.Record) → IsLayout table.now.columns header layout.now
+        → IsOfRecord reading table.now header number result }
+{
+    let found = next_record(records, record)?;
+    if !found {
+        return Ok(None);
+    }
+    let row = checked_row(alloc, table, layout, number, record)?;
+    Ok(Some(row))
+}
+
+/// Reads the records after the header, each of which is a row. The record after the last that is allowed has
+/// a fault.
+pub(crate) fn read_rows<R: Read + Drop>(
+    alloc: Global,
+    table: &TableDef,
+    layout: &Layout,
+    records: &mut Records<R>,
+) -> Result<Vec<Items<Value<Geometry>>>, LoadFault>
+    requires size { vec_len layout.now.places ≡ length table.now.columns }
+    requires ready { IsReady records.old }
+    requires header { asked records.old ≡ 1 }
+    ensures taken { asked records.new ≤ record_limit }
+    ensures read_failed { IfErr result (λ f. is_of_reading f ≡ true → read_failed records.new ≡ true) }
+    ensures loads { (header : spec.Record) (rest : List spec.Record)
+        → IsLayout table.now.columns header layout.now → Gives R.remaining records.old rest
+        → Loads (λ rows. rows.items) result (spec.rows_of reading table.now header rest) }
+    ensures records { (header : spec.Record) → IsLayout table.now.columns header layout.now
+        → RowsOfRecords reading table.now header (λ rows. rows.items) result }
+    ensures before { (header : spec.Record) (rest : List spec.Record)
+        → IsLayout table.now.columns header layout.now → Gives R.remaining records.old rest
+        → IfErr result (λ f. is_of_reading f ≡ true
+        → IsOk (spec.each (take (asked records.new - 2) (spec.checked_rows reading table.now header rest)))) }
+{
+    let mut rows = Vec::new(alloc);
+    let mut record = ByteRecord::new(alloc);
+    for place in 0..ROW_LIMIT + 1 {
+        match next_row(alloc, table, layout, place + 1, records, &mut record)? {
+            Some(row) => rows.push(row)?,
+            None => return Ok(rows),
+        }
+    }
+    Err(LoadFault::TooManyRows)
+}

@@ -1,0 +1,167 @@
+//! Tables of typed rows.
+
+ghost use Rattle.std.specs.Prelude.{◌≡◌, ◌-◌, ◌∷◌, ◌<◌, ◌≤◌, ℕ, IfErr, IfOk, IsTrue, List, [], Some, length, slice_get, true};
+ghost use Rattle.loaded_tables.specs.Cells.{shown};
+ghost use Rattle.table_parts.specs.Outcomes.{Loads, is_of_reading};
+ghost use Rattle.table_parts.specs.Records.{Gives, IsReady, asked, read_failed, record_limit};
+ghost use Rattle.table_parts.specs.GeometryFields.{reading, takes};
+ghost use Rattle.table_parts.specs.Indexes.{column_envelopes};
+ghost use Rattle.loaded_tables.specs.Tables.{IsOfRecords, IsOfSomeRecords, IsTable, NoFaultBefore, table_in};
+ghost use Rattle.table_model.specs.Definitions.{lawful};
+ghost use Rattle.table_model.specs.FeatureTables.{AreRows};
+ghost use Rattle.table_model.specs.Loading as spec;
+
+use crate::cells::{Field, field_of};
+use crate::geometry_fields::Geometry;
+use crate::headers::layout_of;
+use crate::loading::read_rows;
+use crate::schemas::TableDef;
+use csv::ByteRecord;
+use rtree::EnvelopeIndex;
+use sqlite_items::Items;
+use std::alloc::Global;
+use std::io::Read;
+use std::marker::Model;
+use table_model::faults::LoadFault;
+use table_model::values::Value;
+use table_parts::{Indexes, Records, next_record, order_by_key};
+
+/// A row of a table, which contracts see as the list of its values. (06-104r4, feature tables.)
+#[derive(Drop)]
+pub struct Row<'a> {
+    values: &'a Items<Value<Geometry>>,
+}
+
+impl<'a> Model for Row<'a> {
+    ghost use Rattle.table_model.specs.Meanings as plain;
+    ghost use Rattle.table_parts.specs.GeometryFields.{GeometryValue};
+
+    ghost Value = { plain.Row GeometryValue };
+
+    ghost view = { λ r. r.values.now };
+}
+
+impl<'a> Row<'a> {
+    /// How many fields the row has. Of a table that was loaded they are as many as its columns.
+    pub fn len(&self) -> usize
+        ensures { result ≡ length self.now }
+    {
+        self.values.len()
+    }
+
+    /// Lends the field of the column at a place.
+    pub fn field(&self, column: usize) -> Field<'a>
+        requires { column < length self.now }
+        ensures { slice_get self.now column ≡ Some (shown result) }
+    {
+        let values = self.values.as_slice();
+        field_of(&values[column])
+    }
+}
+
+/// A table: the rows of a lawful definition, by ascending key, with an index of each geometry column. Contracts see it
+/// as the list of its rows. (06-104r4, feature tables.)
+#[derive(Drop)]
+pub struct Table<I: EnvelopeIndex> {
+    rows: Vec<Items<Value<Geometry>>>,
+    indexes: Indexes<I>,
+}
+
+impl<I: EnvelopeIndex> Model for Table<I> {
+    ghost use Rattle.table_model.specs.Meanings as plain;
+    ghost use Rattle.table_parts.specs.GeometryFields.{GeometryValue, takes};
+    ghost use Rattle.table_parts.specs.Indexes.{ListColumns};
+    ghost use Rattle.loaded_tables.specs.Tables.{IsTable};
+
+    ghost Value = { plain.Table GeometryValue };
+
+    ghost view = { λ t. t.rows.items };
+
+    ghost invariant = { λ t.
+        IsTable takes t.rows.items × ListColumns I.indexed t.rows.items t.indexes };
+}
+
+impl<I: EnvelopeIndex + Drop> Table<I> {
+    /// Loads the table of a definition, which is lawful by itself, from the CSV text that a reader gives. The
+    /// answer is the first fault where there is one: of the header, then of the records in order, then a
+    /// repeated key. A fault of reading is returned where it comes. Whatever the reader is, there are records
+    /// of which this is the answer, and at Ok the rows are those of a table of this definition. It is
+    /// `Table::load_from` over the records of the reader, so at most 100,002 of them are read, the header
+    /// among them. (06-104r4, feature tables.)
+    pub fn load<R: Read + Drop>(
+        alloc: Global,
+        table: &TableDef,
+        reader: R,
+    ) -> Result<Table<I>, LoadFault>
+        requires { IsTrue (lawful (table.now ∷ [])) }
+        ensures loads { (text : List ℕ) → R.remaining reader ≡ Some text
+            → Loads (λ t. t) result (table_in reading table.now text) }
+        ensures records { IsOfRecords reading table.now (R.remaining reader) (λ t. t) result }
+        ensures rows { IfOk result (AreRows takes table.now) }
+    {
+        let mut records = Records::new(alloc, reader);
+        Table::load_from(alloc, table, &mut records)
+    }
+
+    /// Loads the table of a definition, which is lawful by itself, from records of which none was asked for
+    /// yet. The answer is that of `Table::load`. It asks for at most 100,002 records, the header among them,
+    /// and returns that reading failed only where `csv` returned an error of reading, and where no record
+    /// before that one has a fault.
+    pub fn load_from<R: Read + Drop>(
+        alloc: Global,
+        table: &TableDef,
+        records: &mut Records<R>,
+    ) -> Result<Table<I>, LoadFault>
+        requires lawful { IsTrue (lawful (table.now ∷ [])) }
+        requires ready { IsReady records.old }
+        requires none { asked records.old ≡ 0 }
+        ensures taken { asked records.new ≤ record_limit }
+        ensures read_failed { IfErr result (λ f. is_of_reading f ≡ true → read_failed records.new ≡ true) }
+        ensures loads { (all : List spec.Record) → Gives R.remaining records.old all
+            → Loads (λ t. t) result (spec.load reading table.now all) }
+        ensures records { IsOfSomeRecords reading table.now (λ t. t) result }
+        ensures before { (all : List spec.Record) → Gives R.remaining records.old all
+            → IfErr result
+            (λ f. is_of_reading f ≡ true → NoFaultBefore reading table.now all (asked records.new - 1)) }
+        ensures rows { IfOk result (AreRows takes table.now) }
+    {
+        let mut header = ByteRecord::new(alloc);
+        let found = next_record(records, &mut header)?;
+        // No header record is a header without fields, so it lacks the first column.
+        if !found {
+            return Err(LoadFault::MissingColumn);
+        }
+        let layout = layout_of(alloc, table.columns.as_slice(), &header)?;
+        let mut rows = read_rows(alloc, table, &layout, records)?;
+        order_by_key(alloc, &mut rows, table.key)?;
+        let indexes = Indexes::build(alloc, table, rows.as_slice())?;
+        Ok(Table { rows, indexes })
+    }
+
+    /// How many rows there are. They are the rows of a table: at most 100,000, strictly ascending by key,
+    /// each value one for its column. (06-104r4, feature tables.)
+    pub fn rows(&self) -> usize
+        ensures count { result ≡ length self.now }
+        ensures table { IsTable takes self.now }
+    {
+        self.rows.len()
+    }
+
+    /// Lends the row at a place.
+    pub fn row(&self, i: usize) -> Row<'_>
+        requires { i < length self.now }
+        ensures { slice_get self.now i ≡ Some result }
+    {
+        Row {
+            values: &self.rows[i],
+        }
+    }
+
+    /// Lends the index of a column: it lists the envelope of the column's geometry in each row. That of NULL, as that of
+    /// an empty geometry, is absent, and so is each in a column that holds no geometries. (06-103r4, 6.1.2.2: Envelope.)
+    pub fn index(&self, column: usize) -> &I
+        ensures { I.indexed result.now ≡ column_envelopes column self.now }
+    {
+        self.indexes.get(column)
+    }
+}

@@ -1,0 +1,28 @@
+//! The cells of the matrix of two valid geometries.
+
+ghost use Rattle.std.specs.Prelude.{◌≡◌, IfOk};
+ghost use Rattle.geometry_model.specs.Dimensions.{IsMatrix};
+ghost use Rattle.geometry_model.specs.Labels.{labelled_matrix};
+
+use crate::matrix_edges::{raise_edges, raise_edges_off};
+use crate::matrix_positions::raise_own_ends;
+use edge_gaps::Gaps;
+use matrix_cells::MatrixCells;
+use std::alloc::{AllocError, Global};
+use validity::Valid;
+
+/// The cells of the DE-9IM matrix of two valid geometries (06-103r4, 6.1.15.2). It fails only when memory runs out.
+pub fn find_matrix(alloc: Global, first: &Valid, second: &Valid) -> Result<MatrixCells, AllocError>
+    ensures labelled { IfOk result (λ m. m ≡ labelled_matrix first.now second.now) }
+    ensures point_sets { IfOk result (λ m. IsMatrix first.now second.now m) }
+{
+    let mut matrix = MatrixCells::of_exteriors();
+    raise_own_ends(first, second, &mut matrix);
+    let mut turned = matrix.transposed();
+    raise_own_ends(second, first, &mut turned);
+    let mut gaps = Gaps::new(alloc);
+    raise_edges(second, first, &mut gaps, &mut turned)?;
+    matrix = turned.transposed();
+    raise_edges_off(first, second, &mut gaps, &mut matrix)?;
+    Ok(matrix)
+}

@@ -1,0 +1,109 @@
+//! What listed positions and the ends of lines show of a matrix.
+
+ghost use Rattle.std.specs.Prelude.{◌≡◌, true, All, Contains};
+ghost use Rattle.geometry_model.specs.Points.{IsPoint};
+ghost use Rattle.geometry_model.specs.Geometries.{Geometry, edges, listed};
+ghost use Rattle.geometry_model.specs.Locations.{locate, ends};
+ghost use Rattle.geometry_model.specs.Validity.{IsValid};
+ghost use Rattle.geometry_model.specs.declared.point_sets.Dimension.TheVariants.{Zero};
+ghost use Rattle.validity.specs.ValidGeometries.{HasLength};
+ghost use Rattle.matrix_laws.specs.Cells.{Shows, CoversPosition};
+ghost use Rattle.matrices.specs.Raising.{Grows, ShowsOwnEnds, ShowsRow, CoversEndsOf};
+
+use fraction::{GridPoint, RatPoint};
+use geometry_model::{Dimension, Kind, Location};
+use matrix_cells::MatrixCells;
+use side_labels::locate;
+use validity::Valid;
+use wkt::LineString;
+
+/// Shows that the parts in which a point lies share it (OGC 06-103r4, 6.1.15.2).
+pub(crate) fn raise_point(first: &Valid, second: &Valid, p: &RatPoint, matrix: &mut MatrixCells)
+    requires { IsPoint p.now }
+    ensures grows { Grows first.now second.now matrix.old matrix.new }
+    ensures shows { Shows matrix.new (locate first.now p.now) (locate second.now p.now) Zero }
+{
+    matrix.raise(locate(first, p), locate(second, p), Dimension::Zero);
+}
+
+/// The same of a position.
+fn raise_position(first: &Valid, second: &Valid, at: GridPoint, matrix: &mut MatrixCells)
+    ensures grows { Grows first.now second.now matrix.old matrix.new }
+    ensures shows { CoversPosition first.now second.now matrix.new at }
+{
+    raise_point(first, second, &RatPoint::of_grid(at), matrix);
+}
+
+/// The same of a listed position of a geometry, which is in its interior (OGC 06-103r4, 6.1.4 and 6.1.5): it is located in the
+/// second geometry alone.
+fn raise_listed_at(second: &Valid, at: GridPoint, matrix: &mut MatrixCells)
+    ensures grows { (a : Geometry) → Contains (listed a) at → Grows a second.now matrix.old matrix.new }
+    ensures shows { (a : Geometry) → Contains (listed a) at → CoversPosition a second.now matrix.new at }
+{
+    let part = locate(second, &RatPoint::of_grid(at));
+    matrix.raise(Location::Interior, part, Dimension::Zero);
+}
+
+/// Whether it is shown that a part of the first geometry shares a point with each part that a geometry of this kind has: points
+/// have no boundary (OGC 06-103r4, 6.1.4).
+fn shows_row(matrix: &MatrixCells, part: Location, kind: Kind) -> bool
+    ensures { result ≡ true → ShowsRow part kind matrix.now }
+{
+    matrix.shows(part, Location::Interior, Dimension::Zero)
+        && matrix.shows(part, Location::Exterior, Dimension::Zero)
+        && (kind == Kind::Point || matrix.shows(part, Location::Boundary, Dimension::Zero))
+}
+
+/// Shows where the listed positions of the first geometry lie in the second, until nothing more can come.
+fn raise_listed(first: &Valid, second: &Valid, matrix: &mut MatrixCells)
+    ensures grows { Grows first.now second.now matrix.old matrix.new }
+    ensures shows { All (CoversPosition first.now second.now matrix.new) (listed first.now) }
+{
+    for position in first.geometry().listed() {
+        if shows_row(matrix, Location::Interior, second.kind()) {
+            return;
+        }
+        raise_listed_at(second, *position, matrix);
+    }
+}
+
+/// Shows where the two ends of a line lie.
+fn raise_ends_of(first: &Valid, second: &Valid, line: &[GridPoint], matrix: &mut MatrixCells)
+    ensures grows { Grows first.now second.now matrix.old matrix.new }
+    ensures shows { All (CoversPosition first.now second.now matrix.new) (ends line.now) }
+{
+    if line.is_empty() {
+        return;
+    }
+    raise_position(first, second, line[0], matrix);
+    raise_position(first, second, line[line.len() - 1], matrix);
+}
+
+/// Shows where those ends of the first geometry's lines lie that are on its boundary, until nothing more can come
+/// (OGC 06-103r4, 6.1.8.1: the mod 2 rule).
+fn raise_line_ends(first: &Valid, second: &Valid, lines: &[LineString], matrix: &mut MatrixCells)
+    ensures grows { Grows first.now second.now matrix.old matrix.new }
+    ensures shows { All (CoversEndsOf first.now second.now matrix.new) lines.now }
+{
+    for line in lines {
+        if shows_row(matrix, Location::Boundary, second.kind()) {
+            return;
+        }
+        raise_ends_of(first, second, line.positions(), matrix);
+    }
+}
+
+/// Shows where the listed positions of the first geometry and the boundary of its lines lie in the second.
+pub(crate) fn raise_own_ends(first: &Valid, second: &Valid, matrix: &mut MatrixCells)
+    ensures grows { Grows first.now second.now matrix.old matrix.new }
+    ensures shows { ShowsOwnEnds first.now second.now matrix.new }
+    ensures valid { IsValid first.now }
+    ensures lengths { All HasLength (edges first.now) }
+{
+    let geometry = first.geometry();
+    let lines = geometry.lines();
+    raise_listed(first, second, matrix);
+    if first.kind() == Kind::Line {
+        raise_line_ends(first, second, lines, matrix);
+    }
+}

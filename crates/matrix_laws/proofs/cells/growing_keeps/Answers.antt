@@ -1,5 +1,0 @@
-use Rattle.matrix_laws.proofs.CellTheorems.{growing_keeps}
-use Rattle.matrix_laws.proofs.cells.growing_keeps.Goals as goal
-
-pub returns : goal.returns
-returns _ = growing_keeps

@@ -1,5 +1,0 @@
-use Rattle.matrix_laws.proofs.CellTheorems.{parts_are_ordered}
-use Rattle.matrix_laws.proofs.cells.parts_are_ordered.Goals as goal
-
-pub returns : goal.returns
-returns _ = parts_are_ordered

@@ -1,5 +1,0 @@
-use Rattle.matrix_laws.proofs.CellTheorems.{piece_is_there}
-use Rattle.matrix_laws.proofs.cells.piece_is_there.Goals as goal
-
-pub returns : goal.returns
-returns _ = piece_is_there

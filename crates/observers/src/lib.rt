@@ -1,0 +1,9 @@
+//! Observers, to which a run reports how far it is: how many bytes a reader gave, how many candidates were looked at and
+//! how many rows were found. They can't change what is read or found.
+#![tactic(auto)]
+
+pub mod readers;
+pub mod rows;
+
+pub use readers::{Followed, ReadObserver};
+pub use rows::{RowObserver, Unobserved};

@@ -1,0 +1,10 @@
+pub mod ClosedRings
+pub mod Edges
+pub mod Envelopes
+pub mod Few
+pub mod Finding
+pub mod NearNumbers
+pub mod OutlineFacts
+pub mod PartFacts
+pub mod Polygons
+pub mod RingNumbers

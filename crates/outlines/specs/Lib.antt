@@ -1,0 +1,4 @@
+pub mod FaultOrder
+pub mod Neighbours
+pub mod Outlines
+pub mod Runs

@@ -1,5 +1,0 @@
-use Rattle.std.proofs.Common.{rules}
-use Rattle.rtree.proofs.lists.ListIndexEnvelopeIndex.build.Goals as goal
-
-pub returns : goal.returns
-returns c = search rules

@@ -1,0 +1,79 @@
+//! Comparisons at rows.
+
+ghost use Rattle.std.specs.Prelude.{◌≡◌, ◌||◌, IfOk, IsOk, false};
+ghost use Rattle.table_model.specs.Arguments.{denoted};
+ghost use Rattle.table_model.specs.Truths as spec;
+ghost use Rattle.table_model.specs.Work.{is_as_text};
+
+use crate::denotations::geometry_at;
+use crate::logic::truth_of;
+use crate::sides::{operand_side, order_of};
+use feature_table::Row;
+use query_binder::Argument;
+use std::alloc::{AllocError, Global};
+use std::cmp::Ordering;
+use table_model::conditions::{Comparison, Operand};
+use table_model::values::Truth;
+
+/// Whether a sign of comparison takes an order.
+fn takes(sign: Comparison, order: Ordering) -> bool
+    ensures { result ≡ spec.takes sign order }
+{
+    match sign {
+        Comparison::Equal => order.is_eq(),
+        Comparison::NotEqual => order.is_ne(),
+        Comparison::Less => order.is_lt(),
+        Comparison::LessOrEqual => order.is_le(),
+        Comparison::Greater => order.is_gt(),
+        Comparison::GreaterOrEqual => order.is_ge(),
+    }
+}
+
+/// A comparison by the order of its sides: without one it is unknown.
+fn compared(sign: Comparison, order: Option<Ordering>) -> Truth
+    ensures { result ≡ spec.compared sign order }
+{
+    order.map_or(Truth::Unknown, |order| truth_of(takes(sign, order)))
+}
+
+/// A comparison of two sides at the rows. It takes memory for ST_AsText alone. (SQL, comparison.)
+pub(crate) fn comparison(
+    alloc: Global,
+    sign: Comparison,
+    a: &Operand<Argument>,
+    b: &Operand<Argument>,
+    rows: &[Row<'_>],
+) -> Result<Truth, AllocError>
+    ensures truth { IfOk result (λ t. t ≡ spec.compared sign
+        (spec.order_of (spec.operand_value denoted rows.now a.now)
+        (spec.operand_value denoted rows.now b.now))) }
+    ensures no_memory { is_as_text a.now || is_as_text b.now ≡ false → IsOk result }
+{
+    let left = operand_side(alloc, rows, a)?;
+    let right = operand_side(alloc, rows, b)?;
+    Ok(compared(sign, order_of(&left, &right)))
+}
+
+/// IS NULL of a side at the rows. It takes memory for ST_AsText alone. (SQL, the null predicate.)
+pub(crate) fn null_test(
+    alloc: Global,
+    operand: &Operand<Argument>,
+    rows: &[Row<'_>],
+) -> Result<Truth, AllocError>
+    ensures truth { IfOk result
+        (λ t. t ≡ spec.truth_of (spec.is_null (spec.operand_value denoted rows.now operand.now))) }
+    ensures no_memory { is_as_text operand.now ≡ false → IsOk result }
+{
+    let side = operand_side(alloc, rows, operand)?;
+    Ok(truth_of(side.is_null()))
+}
+
+/// ST_IsEmpty of what an argument denotes at the rows: of NULL it is unknown. (06-103r4, 6.1.2.2.)
+pub(crate) fn emptiness(argument: &Argument, rows: &[Row<'_>]) -> Truth
+    ensures { result ≡ spec.emptiness (denoted rows.now argument.now) }
+{
+    match geometry_at(rows, argument) {
+        Some(geometry) => truth_of(geometry.is_empty()),
+        None => Truth::Unknown,
+    }
+}

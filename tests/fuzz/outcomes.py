@@ -1,0 +1,114 @@
+"""What the program may write, as docs/FAULTS.md and the README say, and the predicates as patterns of matrices."""
+import re
+from typing import NamedTuple
+
+MATRIX = re.compile(rb"[F012]{8}2\n")
+# Why a geometry is refused.
+REASON = r"(?:W[123] at \d+|W4|V[1235] \d+|V[4678] \d+ \d+)"
+NAME = r"[A-Za-z_]\w*"
+# The lines of faults by their statuses. Nothing fails here, so `write failed` and `out of memory` aren't among them.
+LINES = {
+    3: r"S[1-5] at \d+|S6",
+    4: rf"{NAME} (?:L[12]|L[345789] record \d+|L6 record \d+ {REASON}|L10)",
+    5: rf"Q(?:[1-79]|1[02]) at \d+|Q8 at \d+ {REASON}|Q11|(?:first|second) {REASON}",
+    6: rf"schema unreadable|{NAME} (?:L11|unreadable)",
+}
+LINES = {status: re.compile(f"sfq: (?:{lines})\n".encode()) for status, lines in LINES.items()}
+MISUSE, REFUSED = 2, 5
+# The statuses of faults of each command.
+STATUSES = {b"run": (3, 4, 5, 6), b"check": (3, 4, 6), b"relate": (5,)}
+METHOD = r"\w+ (?:scan|probe \d+)\n"
+EXPLAINED = re.compile(
+    rf"cost \d+\nouter {METHOD}(?:inner {METHOD})?filter (?:none|\d+(?: \d+)*)\n(?:count\n)?(?:limit \d+\n)?(?:work \d+\n)?".encode()
+)
+CHECKED = re.compile(rb"(?:\w+ \d+\n)*")
+# The patterns of each predicate, of which one has to match, by the dimensions of the two types where they matter.
+ALWAYS = {
+    "ST_Equals": ("**F**FFF*",),
+    "ST_Disjoint": ("FF*FF****",),
+    "ST_Touches": ("FT*******", "F**T*****", "F***T****"),
+    "ST_Within": ("T*F**F***",),
+    "ST_Contains": ("T*****FF*",),
+}
+LOWER, HIGHER = "T*T******", "T*****T**"
+CROSSES = {(0, 1): LOWER, (0, 2): LOWER, (1, 2): LOWER, (1, 0): HIGHER, (2, 0): HIGHER, (2, 1): HIGHER, (1, 1): "0********"}
+OVERLAPS = {(0, 0): "T*T***T**", (1, 1): "1*T***T**", (2, 2): "T*T***T**"}
+PREDICATES = (*ALWAYS, "ST_Intersects", "ST_Crosses", "ST_Overlaps")
+
+
+class Ran(NamedTuple):
+    """What a run wrote, and its status: below 0 its signal, None where it didn't end."""
+
+    out: bytes
+    err: bytes
+    status: int
+
+    def line(self):
+        """Returns the fault's line without the program's name and line feed."""
+        return self.err.decode("latin-1").removeprefix("sfq: ").removesuffix("\n")
+
+
+def fault_status(line):
+    """Returns the status of a line of standard error, or None where no fault has such a line."""
+    return next((status for status, form in LINES.items() if form.fullmatch(line)), None)
+
+
+def wrong_outcome(ran, words):
+    """Returns what is wrong with the status and the two streams of a run of sfq with these words, or None."""
+    if ran.status is None:
+        return "it didn't end"
+    if ran.status < 0:
+        return f"it ended by signal {-ran.status}"
+    if ran.status == 0:
+        return wrong_answer(ran, words)
+    if ran.out:
+        return "there is a fault, and standard output isn't empty"
+    if ran.status == MISUSE:
+        return None if ran.err.startswith(b"error: ") or b"Usage: " in ran.err else "no text of a misuse"
+    if fault_status(ran.err) != ran.status or ran.status not in STATUSES.get(b"".join(words[:1]), ()):
+        return "no fault has this line and status"
+    if ran.status == REFUSED and (words[0] == b"relate") != ran.err.startswith((b"sfq: first ", b"sfq: second ")):
+        return "another command has faults like this"
+    return None
+
+
+def wrong_answer(ran, words):
+    """Returns what is wrong with the two streams of a run without a fault, or None. Help may have any form."""
+    if ran.err:
+        return "standard error isn't empty, and the status is 0"
+    if not ran.out.endswith(b"\n") and words[:1] != [b"check"]:
+        return "the output isn't lines"
+    forms = {b"relate": MATRIX, b"check": CHECKED}
+    is_plain = words[1:2] == [b"--"] or not any(it.startswith(b"-") for it in words)
+    form = forms.get(words[0]) if words and is_plain else None
+    return None if form is None or form.fullmatch(ran.out) else "the output has another form"
+
+
+def transposed(matrix):
+    return "".join(matrix[it] for it in (0, 3, 6, 1, 4, 7, 2, 5, 8))
+
+
+def takes(character, cell):
+    return character in ("*", cell) or (character == "T" and cell in "012")
+
+
+def matches(pattern, matrix):
+    return all(takes(*it) for it in zip(pattern, matrix))
+
+
+def dimension(text):
+    """Returns the dimension of a geometry's type: 0, 1 or 2."""
+    word = text.lower()
+    return 2 if "polygon" in word else 1 if "line" in word else 0
+
+
+def holds(predicate, matrix, dimensions):
+    """Whether a predicate holds of two geometries. One that isn't named is the pattern of an ST_Relate."""
+    if predicate == "ST_Intersects":
+        return not holds("ST_Disjoint", matrix, dimensions)
+    if predicate in ALWAYS:
+        return any(matches(it, matrix) for it in ALWAYS[predicate])
+    if predicate in ("ST_Crosses", "ST_Overlaps"):
+        pattern = (CROSSES if predicate == "ST_Crosses" else OVERLAPS).get(dimensions)
+        return pattern is not None and matches(pattern, matrix)
+    return matches(predicate, matrix)

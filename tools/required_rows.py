@@ -1,0 +1,135 @@
+#!/usr/bin/env python3
+"""Prints each line of tests/required_rows.txt that no test has, and ends with status 1 if there is one.
+
+usage: python3 tools/required_rows.py [LIST]
+"""
+import glob
+import os
+import re
+import sys
+
+import repository
+
+SCRIPTS = f"{repository.ROOT}/crates/scripts"
+LIBRARY_TESTS = f"{repository.ROOT}/crates/library_tests/src"
+LIST = f"{repository.ROOT}/tests/required_rows.txt"
+# What `$S` means in a script.
+SQUARE = "ST_GeomFromText('POLYGON((0 0,4 0,4 4,0 4,0 0))')"
+
+
+def read(path):
+    with open(path, encoding="utf-8") as text:
+        return text.read()
+
+
+def written_out(text):
+    """Returns a text with the short forms of scripts written out."""
+    def meant(form):
+        repeated = re.fullmatch(r"(\d+) to (\d+) of (.*)", form[1], re.S)
+        if repeated:
+            first, last, part = repeated.groups()
+            return "".join(part.replace("$", str(it)) for it in range(int(first), int(last) + 1))
+        byte = re.fullmatch(r"byte (\d+)", form[1])
+        return chr(int(byte[1])) if byte else form[1]
+
+    return re.sub(r"\{([^}]*)\}", meant, text.replace("$S", SQUARE))
+
+
+class Row:
+    """A command over files, and what it has to print. Files are a name, `schema` or `table NAME`, and a text."""
+
+    def __init__(self, command, output, files):
+        self.command, self.output, self.files = command, output, files
+
+    def has_files(self, others):
+        return all(self.files.get(name) == text for name, text in others.items())
+
+
+class Tests:
+    """The rows of the scripts by their commands, and the sources of the tests that need code."""
+
+    def __init__(self, rows, library):
+        self.rows, self.library = {}, library
+        for it in rows:
+            self.rows.setdefault(it.command, []).append(it)
+
+    def has_row(self, command, output, files):
+        return any(it.output == output and it.has_files(files) for it in self.rows.get(command, []))
+
+
+def rows_of(script):
+    """Returns the rows of a script, as crates/scripts/src/blocks.rt reads it."""
+    rows, files = [], {}
+    for lines in script.split("\n\n"):
+        head, _, body = (lines.strip("\n") + "\n").replace("\\\n", "").partition("\n")
+        if not head or head.startswith("#"):
+            continue
+        if head == "schema" or head.startswith("table "):
+            files = {**files, head: written_out(body)}
+        else:
+            rows.append(Row(written_out(head), written_out(body), files))
+    return rows
+
+
+def all_tests():
+    names = read(f"{SCRIPTS}/args").splitlines()
+    rows = [row for it in names for row in rows_of(read(f"{SCRIPTS}/data/{it}"))]
+    library = {os.path.basename(it): read(it) for it in glob.glob(f"{LIBRARY_TESTS}/*.rt")}
+    return Tests(rows, library)
+
+
+def text_of(written):
+    """Returns a text that a line of the list writes: it ends with a line feed, unless there is a backslash at its end."""
+    lines = written.replace("\\n", "\n")
+    return written_out(lines[:-1] if lines.endswith("\\") else lines + "\n")
+
+
+def transposed(matrix):
+    return "".join(matrix[it] for it in (0, 3, 6, 1, 4, 7, 2, 5, 8))
+
+
+def is_library_row(line, tests):
+    name, _, text = line.removeprefix("library ").partition(": ")
+    return text in tests.library.get(name, "")
+
+
+def is_pair(line, tests):
+    pair, _, matrix = line.removeprefix("pair ").partition(" => ")
+    first, _, second = pair.partition(" | ")
+    return (tests.has_row(f"relate {first} | {second}", f"{matrix}\n", {})
+            and tests.has_row(f"relate {second} | {first}", f"{transposed(matrix)}\n", {}))
+
+
+def missing(lines, tests):
+    """Returns the lines of a list that no test has."""
+    found, files = [], {}
+    for line in lines:
+        command, arrow, output = line.partition(" => ")
+        if not line or line.startswith("#"):
+            continue
+        if line.startswith("schema "):
+            files = {"schema": text_of(line.removeprefix("schema "))}
+        elif line.startswith("table "):
+            _, name, text = line.split(" ", 2)
+            files = {**files, f"table {name}": text_of(text)}
+        elif line.startswith("library "):
+            found += [] if is_library_row(line, tests) else [line]
+        elif line.startswith("pair "):
+            found += [] if is_pair(line, tests) else [line]
+        elif not arrow:
+            found.append(line)
+        else:
+            needed = {} if command.startswith(("relate ", "sfq")) else files
+            found += [] if tests.has_row(written_out(command), text_of(output), needed) else [line]
+    return found
+
+
+def main(words):
+    found = missing(read(words[0] if words else LIST).splitlines(), all_tests())
+    for it in found:
+        print(it)
+    return 1 if found else 0
+
+
+if __name__ == "__main__":
+    sys.exit(main(sys.argv[1:]))
