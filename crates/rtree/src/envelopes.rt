@@ -1,4 +1,4 @@
-//! Envelopes: the least upright rectangle round a geometry or some positions.
+//! Envelopes: the smallest rectangle along the axes that holds a geometry or some positions.
 
 ghost use Rattle.std.specs.Prelude.{◌≡◌, ◌↔◌, ◌≤ℤ◌, ◌&&◌, ◌++◌, List, true};
 ghost use Rattle.geometry_model.specs.Points.{Position};
