@@ -68,7 +68,7 @@ levels_of entries = levels_up (length entries) (eights entries)
 abbrev pub around : List Entry → Option Envelope
 around node = joined_all (map (λ e. e.1) node)
 
--- how many nodes of the tree over a list of envelopes meet the one asked for: the nodes that a search opens
+-- how many nodes of the tree over a list of envelopes, leaves among them, have an envelope that meets the one asked for
 abbrev pub opened : List (Option Envelope) → Option Envelope → ℕ
 opened envelopes asked =
     count_by (λ node. meets (around node) asked) (flat_map (λ level. level) (levels_of (in_order (present envelopes))))
