@@ -1,4 +1,4 @@
--- How a record is written.
+-- How a record of an answer is written.
 use Rattle.csv.specs.Writing.{row_text, default_writer}
 use Rattle.table_model.specs.RunOutcomes.{RecordText}
 

@@ -1,12 +1,12 @@
 -- When a CSV text has passed its bound. (RFC 4180, 2.4 to 2.7. A line ends in a carriage return or a line feed, and a line feed right
--- behind a carriage return counts as a blank line, which is no record.)
+-- after a carriage return counts as a blank line, which is no record.)
 use Rattle.std.specs.Prelude.{ℕ, nat_le, nat_lt, Bool, true, false, ◌==◌, ◌||◌, if◌then◌else◌}
 use Rattle.integers.specs.Counts.{one_more}
 use Rattle.bounded_readers.specs.declared.tallies.Place.{Place}
 use Rattle.bounded_readers.specs.declared.tallies.Place.TheVariants as at
 use Rattle.bounded_readers.specs.declared.tallies.Tally.{Tally}
 
--- the greatest length of a field, in bytes, its quotes among them
+-- the greatest length of a field, in bytes, with its quotes
 abbrev pub field_limit : ℕ
 field_limit = 1048576
 
@@ -14,7 +14,7 @@ field_limit = 1048576
 abbrev pub fields_limit : ℕ
 fields_limit = 100000
 
--- the greatest length of a record, in bytes, blank lines before it among them
+-- the greatest length of a record, in bytes, with blank lines before it
 abbrev pub record_limit : ℕ
 record_limit = 34603008
 
@@ -47,11 +47,11 @@ is_in_record _ = true
 
 -- ---- lengths
 
--- of a text of which no byte has come
+-- the lengths before the first byte
 abbrev pub first_tally : Tally
 first_tally = record { place = at.Start; field_bytes = 0; ended_fields = 0; record_bytes = 0; is_past = false }
 
--- where a record or a blank line begins: the next record has no byte yet, but those of blank lines before it
+-- the lengths where a record or a blank line begins: the record counts only the blank lines before it
 abbrev pub at_record : Tally → Tally
 at_record t = record t {
   place = at.RecordStart;
@@ -60,7 +60,7 @@ at_record t = record t {
   record_bytes = if is_in_record t.place then 0 else one_more t.record_bytes;
 }
 
--- behind a comma that ends a field
+-- the lengths after a comma that ends a field
 abbrev pub at_field : Tally → Tally
 at_field t = record t {
   place = at.FieldStart;
@@ -69,7 +69,7 @@ at_field t = record t {
   record_bytes = one_more t.record_bytes;
 }
 
--- behind a byte of a field
+-- the lengths after a byte of a field
 abbrev pub in_field : Tally → Place → Tally
 in_field t place = record t { place = place; field_bytes = one_more t.field_bytes; record_bytes = one_more t.record_bytes }
 

@@ -1,4 +1,4 @@
--- What the words of a command line order, by `clap`'s own definition of a command's matches.
+-- Which order the words of a command line give, by `clap`'s own definition of what matches a command.
 use Rattle.std.specs.Prelude.{◌≡◌, ◌⊎◌, List, Option, Some, codes, IsSome}
 use Rattle.std.specs.String.{string_bytes}
 use Rattle.clap.specs.Words.{Row, Text, first_of, subcommand_of}

@@ -206,8 +206,8 @@ goes_back e f p q h c x hx t g y i = go (compare p t.lo) refl
     go Equal k = held (less_left t.lo p y t.lo_is_point (h.span).lesser (same_symmetric t.lo p ∙ (equal_is_same p t.lo).0 k) i.after)
     go Greater k = held (less_transitive t.lo p y t.lo_is_point (h.span).lesser i.is_point (turn_less p t.lo k) i.after)
 
--- ---- of two edges that share two points none is upright where the other isn't
--- each point of an upright edge has its x
+-- ---- of two edges that share two points none is vertical where the other isn't
+-- each point of a vertical edge has its x
 upright_coordinate : (f : Edge) → f.start.x ≡ f.end.x → (p : Point) → IsPoint p → on f p ≡ true → f.start.x *ℤ p.W ≡ p.X *ℤ pos 1
 upright_coordinate f e p hp k = by_hull (hull_from_on f p hp k)
   where
@@ -223,7 +223,7 @@ same_column s px pw qx qw e f = nothing (px *ℤ qw) (qx *ℤ pw) (turned px pw 
     nothing : (u v : ℤ) → u ≡ v → v -ℤ u ≡ pos 0
     nothing u v e = omega (arith, ints)
 
--- two points of an edge that isn't upright differ in x, and an upright edge holds no two such points
+-- two points of an edge that isn't vertical differ in x, and a vertical edge holds no two such points
 pub not_upright_either : (e f : Edge) (p q : Point) → e.start.x ≢ e.end.x → Span e p q → on f p ≡ true → on f q ≡ true → f.start.x ≢ f.end.x
 not_upright_either e f p q n s fp fq k = clash (right p q) (same_column f.start.x p.X p.W q.X q.W (upright_coordinate f k p s.lesser fp) (upright_coordinate f k q s.greater fq)) (strictly_right e.start e.end p q n (on_line e p s.lesser_on) (on_line e q s.greater_on) s.in_order)
   where

@@ -17,30 +17,30 @@ use Rattle.matrix_laws.specs.Cells.{Shows, CoversPosition}
 abbrev pub IsOffEdges : Geometry → Point → Type 0
 IsOffEdges b y = All (λ f. on f y ≡ false) (edges b)
 
--- of a gap of an edge of a that lies in this part of b, off its edges: the gap itself, and where the edge isn't upright its sides, of which one is exterior to a and of an area's edge the other interior
+-- the matrix shows a gap of an edge of a that lies in this part of b, off b's edges: the gap itself, and if the edge isn't vertical its sides; one side is exterior to a, and at an area's edge the other is interior
 pub record ShowsOff (a : Geometry) (m : Matrix) (e : Edge) (l : Location) : Type 0 where
   pub piece : Shows m (of_own_edges (kind a)) l One
   pub outer : e.start.x ≢ e.end.x → Shows m Exterior l Two
   pub inner : kind a ≡ kinds.Area → e.start.x ≢ e.end.x → Shows m Interior l Two
 
--- of a gap that an edge of b shares: the gap itself, and its sides as they lie at a point of it
+-- the matrix shows a gap that an edge of b shares: the gap itself, and its sides as they lie at a point of it
 pub record ShowsOn (a b : Geometry) (m : Matrix) (e : Edge) (y : Point) : Type 0 where
   pub piece : Shows m (of_own_edges (kind a)) (of_own_edges (kind b)) One
   pub lower : e.start.x ≢ e.end.x → Shows m (below a y) (below b y) Two
   pub upper : e.start.x ≢ e.end.x → Shows m (above a y) (above b y) Two
 
--- of a gap, by a point within it
+-- the matrix shows a gap, by a point within it
 pub record ShowsAt (a b : Geometry) (m : Matrix) (e : Edge) (y : Point) : Type 0 where
   pub off : IsOffEdges b y → ShowsOff a m e (mostly b y)
   pub shared : (IsOffEdges b y → ⊥) → ShowsOn a b m e y
 
--- of a gap, by some point within it
+-- the matrix shows a gap, by some point within it
 pub record ShowsGap (a b : Geometry) (m : Matrix) (e : Edge) (p q : Point) : Type 0 where
   pub sample : Point
   pub between : IsBetween e p q sample
   pub shows : ShowsAt a b m e sample
 
--- it shows all odd ends of lines, and all listed positions of the second geometry
+-- the matrix shows all odd ends of lines, and all listed positions of the second geometry
 pub record ShowsEnds (a b : Geometry) (m : Matrix) : Type 0 where
   pub of_first : kind a ≡ kinds.Line → (x : Point) → IsPoint x → is_odd_end (lines a) x ≡ true → Shows m (locate a x) (locate b x) Zero
   pub of_second : kind b ≡ kinds.Line → (x : Point) → IsPoint x → is_odd_end (lines b) x ≡ true → Shows m (locate a x) (locate b x) Zero

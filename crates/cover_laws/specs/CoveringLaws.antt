@@ -14,7 +14,7 @@ use Rattle.cover_laws.specs.Gaps.{EdgeGaps, AreGaps, IsBetween, IsGap, SharesNoS
 use Rattle.matrix_laws.specs.Cells.{Shows, Covers}
 use Rattle.cover_laws.specs.Covering.{ShowsAt, ShowsGap, ShowsOff, ShowsEnds}
 
--- what a gap of an edge of a shows of two valid geometries is there (06-103r4, 6.1.15.2)
+-- what a gap of an edge of a shows of two valid geometries is in their matrix (06-103r4, 6.1.15.2)
 abbrev pub GapIsThere : Type 0
 GapIsThere = (a b : Geometry) → IsValid a → IsValid b → (e : Edge) → Contains (edges a) e → e.start ≢ e.end → (p q y : Point) → IsGap e (edges b) p q → IsBetween e p q y → ShowsAt a b (labelled_matrix a b) e y
 
@@ -28,7 +28,7 @@ pub record IsFullOff (a b : Geometry) (m : Matrix) : Type 0 where
   pub in_exterior : (e : Edge) → ShowsOff a m e Exterior
   pub in_interior : kind b ≡ kinds.Area → (e : Edge) → ShowsOff a m e Interior
 
--- it shows all that gaps can show that an edge of b shares: that the own edges share a stretch, and each two parts that sides can be in an area
+-- the matrix shows all that gaps can show that an edge of b shares: that both geometries' edges share a stretch, and an area of each two parts in which sides can be
 pub record IsFullOn (a b : Geometry) (m : Matrix) : Type 0 where
   pub piece : Shows m (of_own_edges (kind a)) (of_own_edges (kind b)) One
   pub outer : Shows m Exterior Exterior Two
@@ -40,7 +40,7 @@ pub record IsFullOn (a b : Geometry) (m : Matrix) : Type 0 where
 abbrev pub FullCovers : Type 0
 FullCovers = (a b : Geometry) → IsValid a → IsValid b → (e : Edge) → Contains (edges a) e → e.start ≢ e.end → (m : Matrix) → ShowsEnds a b m → IsFullOff a b m → IsFullOn a b m → Covers a b m e
 
--- where no edge of b shares a stretch with an edge of a, it is enough that the matrix shows all that lies off b's edges, and that the own edges share a point
+-- where no edge of b shares a stretch with an edge of a, it is enough that the matrix shows all that lies off b's edges, and that both geometries' edges share a point
 abbrev pub FullOffCovers : Type 0
 FullOffCovers = (a b : Geometry) → IsValid a → IsValid b → (e : Edge) → Contains (edges a) e → e.start ≢ e.end → (m : Matrix) → ShowsEnds a b m → IsFullOff a b m → Shows m (of_own_edges (kind a)) (of_own_edges (kind b)) Zero
     → SharesNoStretch e (edges b) → Covers a b m e

@@ -1,4 +1,4 @@
--- Laws of gaps: what lies alike all along one, and what its ends share with it.
+-- Laws of gaps: what is the same all along a gap, and at its ends.
 use Rattle.std.specs.Prelude.{◌≡◌, ◌≢◌, ◌⊎◌, true, false, List, ◌++◌, All, Contains}
 use Rattle.geometry_model.specs.Points.{Position, Point, IsPoint, least_form, mediant}
 use Rattle.geometry_model.specs.Geometries.{Edge, Geometry, kind, edges, lines, listed}
@@ -13,28 +13,28 @@ use Rattle.geometry_laws.specs.PieceLaws.{HasClosedRings}
 use Rattle.matrix_laws.specs.PolygonLaws.{ArePartedAs}
 use Rattle.cover_laws.specs.Gaps.{IsBetween, IsGap, IsWithin, IsShared, mostly, of_own_edges}
 
--- the mediant of a gap's ends, in whatever triple, lies strictly between them
+-- the mediant of a gap's ends, whichever triples they are, lies strictly between them
 abbrev pub GapHasMediant : Type 0
 GapHasMediant = (e : Edge) (fs : List Edge) (p q : Point) → IsGap e fs p q → IsBetween e p q (least_form (mediant p q))
 
--- between the ends of a gap there is a point that is no cut, whatever edges and listed positions may cut
+-- between the ends of a gap there is a point that isn't a cut of these edges and listed positions
 abbrev pub GapHasNoCut : Type 0
 GapHasNoCut = (e : Edge) (fs : List Edge) (p q : Point) → IsGap e fs p q → (es : List Edge) (ps : List Position) → (x : Point) × IsBetween e p q x × (IsCut es ps x → ⊥)
 
--- all points strictly between the ends of a gap lie alike, but for listed positions and odd ends (06-103r4, 6.1.15.2)
+-- all points strictly between the ends of a gap lie in the same part, except listed positions and odd ends (06-103r4, 6.1.15.2)
 abbrev pub GapIsAlike : Type 0
 GapIsAlike = (b : Geometry) → HasClosedRings b → (e : Edge) (p q : Point) → IsGap e (edges b) p q → (x y : Point) → IsBetween e p q x → IsBetween e p q y → mostly b x ≡ mostly b y
 
--- and so does each point from the one end to the other, both counted, that no edge holds; then no edge holds those between (06-103r4, 6.1.15.2)
+-- so does each point of the gap, its ends counted, that is on no edge; then no point between the ends is (06-103r4, 6.1.15.2)
 abbrev pub GapEndIsAlike : Type 0
 GapEndIsAlike = (b : Geometry) → HasClosedRings b → (e : Edge) (p q : Point) → IsGap e (edges b) p q → (x y : Point) → IsBetween e p q y → IsPoint x → on e x ≡ true → IsWithin (record { lesser = p; greater = q }) x
     → All (λ f. on f x ≡ false) (edges b) → (mostly b x ≡ mostly b y) × All (λ f. on f y ≡ false) (edges b)
 
--- a point lies where almost all do, unless an odd number of ends are there or it is a listed position (06-103r4, 6.1.8.1)
+-- a point lies where `mostly` says, unless it is an odd end or a listed position (06-103r4, 6.1.8.1)
 abbrev pub MostlyIsLocated : Type 0
 MostlyIsLocated = (g : Geometry) (x : Point) → IsPoint x → (kind g ≡ kinds.Line → is_odd_end (lines g) x ≡ false) → All (λ a. stands_at x a ≡ false) (listed g) → locate g x ≡ mostly g x
 
--- so does each point that is no cut (06-103r4, 6.1.8.1)
+-- so does each point that isn't a cut (06-103r4, 6.1.8.1)
 abbrev pub NoCutIsMostly : Type 0
 NoCutIsMostly = (a b : Geometry) (x : Point) → IsPoint x → (IsCut (edges_of_both a b) (listed a ++ listed b) x → ⊥) → (locate a x ≡ mostly a x) × (locate b x ≡ mostly b x)
 
@@ -54,7 +54,7 @@ SidesOffEdges = (g : Geometry) (x : Point) → IsPoint x → All (λ f. on f x �
 abbrev pub SidesOfNoArea : Type 0
 SidesOfNoArea = (g : Geometry) (x : Point) → kind g ≢ kinds.Area → (below g x ≡ Exterior) × (above g x ≡ Exterior)
 
--- at a point of an edge of a valid area that isn't upright and that is no cut, one side is interior and the other exterior (06-103r4, 6.1.11.1)
+-- at a point of an edge of a valid area that isn't vertical and that is no cut, one side is interior and the other exterior (06-103r4, 6.1.11.1)
 abbrev pub SidesOfOwnEdge : Type 0
 SidesOfOwnEdge = (a b : Geometry) → IsValid a → kind a ≡ kinds.Area → (e : Edge) → Contains (edges a) e → e.start.x ≢ e.end.x → (x : Point) → IsPoint x → on e x ≡ true
     → (IsCut (edges_of_both a b) (listed a ++ listed b) x → ⊥) → ArePartedAs (below a x) (above a x)
@@ -64,7 +64,7 @@ abbrev pub SidesWithinOwnEdge : Type 0
 SidesWithinOwnEdge = (a : Geometry) → IsValid a → kind a ≡ kinds.Area → (e : Edge) → Contains (edges a) e → e.start.x ≢ e.end.x → (p q x : Point) → IsPoint p → IsPoint q → on e p ≡ true → on e q ≡ true → IsBetween e p q x
     → ArePartedAs (below a x) (above a x)
 
--- all along an edge of a valid area that isn't upright, strictly between two of its points, each side lies alike (06-103r4, 6.1.11.1)
+-- all along an edge of a valid area that isn't vertical, strictly between two of its points, each side lies alike (06-103r4, 6.1.11.1)
 abbrev pub SidesAlongOwnEdge : Type 0
 SidesAlongOwnEdge = (a : Geometry) → IsValid a → (e : Edge) → Contains (edges a) e → e.start.x ≢ e.end.x → (p q x y : Point) → IsPoint p → IsPoint q → on e p ≡ true → on e q ≡ true → IsBetween e p q x → IsBetween e p q y
     → (below a x ≡ below a y) × (above a x ≡ above a y)

@@ -24,7 +24,7 @@ pub record IsBetween (e : Edge) (p q x : Point) : Type 0 where
 abbrev pub IsClear : Edge → Point → Point → Edge → Type 0
 IsClear e p q f = (x : Point) → IsBetween e p q x → on f x ≡ false
 
--- the other edge, on the same line, holds all of them
+-- the other edge, on the same line, holds all points between the two
 abbrev pub IsShared : Edge → Point → Point → Edge → Type 0
 IsShared e p q f = (on_one_line e f ≡ true) × ((x : Point) → IsBetween e p q x → on f x ≡ true)
 
@@ -42,7 +42,7 @@ pub record IsWithin (c : Piece) (x : Point) : Type 0 where
   pub not_before : compare x c.lesser ≡ Less → ⊥
   pub not_after : compare c.greater x ≡ Less → ⊥
 
--- where an edge meets others: the points that it shares with them, and the stops, between neighbours of which there are its gaps
+-- where an edge meets others: the points that it shares with them, and its stops, whose neighbours have its gaps between them
 pub record EdgeGaps : Type 0 where
   pub shared : List Point
   pub stops : List Point
@@ -73,6 +73,6 @@ of_own_edges kinds.Point = Exterior
 of_own_edges kinds.Line = Interior
 of_own_edges kinds.Area = Location.Boundary
 
--- no other edge shares a stretch with the edge: any two points that both hold are one, where they are on one line
+-- no other edge shares a stretch with the edge: of two edges on one line, at most one point is on both
 abbrev pub SharesNoStretch : Edge → List Edge → Type 0
 SharesNoStretch e others = (f : Edge) → Contains others f → on_one_line e f ≡ true → (x y : Point) → IsPoint x → IsPoint y → on e x ≡ true → on f x ≡ true → on e y ≡ true → on f y ≡ true → same_point x y ≡ true

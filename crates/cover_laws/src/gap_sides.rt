@@ -12,7 +12,7 @@ pub fn sides_of_no_area()
     ensures { SidesOfNoArea }
 {}
 
-/// At a point of an edge of a valid area that isn't upright and that is no cut, one side is interior and the other exterior
+/// At a point of an edge of a valid area that isn't vertical and that is no cut, one side is interior and the other exterior
 /// (06-103r4, 6.1.11.1).
 pub fn sides_of_own_edge()
     ensures { SidesOfOwnEdge }
@@ -23,7 +23,7 @@ pub fn sides_within_own_edge()
     ensures { SidesWithinOwnEdge }
 {}
 
-/// All along an edge of a valid geometry that isn't upright, strictly between two of its points, each side lies alike
+/// All along an edge of a valid geometry that isn't vertical, strictly between two of its points, each side lies alike
 /// (06-103r4, 6.1.11.1).
 pub fn sides_along_own_edge()
     ensures { SidesAlongOwnEdge }

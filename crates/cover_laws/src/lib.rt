@@ -9,7 +9,7 @@ pub mod standing;
 
 ghost use Rattle.cover_laws.specs.CoveringLaws.{GapIsThere, GapsCover, FullCovers, FullOffCovers};
 
-/// What a gap of an edge shows of two valid geometries is there: the gap itself, and its sides where the edge isn't upright (06-103r4, 6.1.15.2).
+/// What a gap of an edge shows of two valid geometries is there: the gap itself, and its sides where the edge isn't vertical (06-103r4, 6.1.15.2).
 pub fn gap_is_there()
     ensures { GapIsThere }
 {}

@@ -9,8 +9,8 @@ use geometry_model::{Dimension, Location};
 use matrices::MatrixCells;
 use side_labels::{Label, Labels, SideLabels};
 
-/// The cells of the matrix that labels show: of each two parts the greatest dimension of a node, a piece or a side of one with these labels. The
-/// two exteriors share an area always (OGC 06-103r4, 6.1.15.2; labels: this project's choice). It takes no memory.
+/// The cells of the matrix that labels show: for each two parts the greatest dimension of what has this label, where a node has 0, a piece 1,
+/// and the side of a piece 2. The two exteriors always share an area (OGC 06-103r4, 6.1.15.2; labels: this project's choice). It takes no memory.
 pub fn matrix_of_labels(labels: &Labels) -> MatrixCells
     ensures { result ≡ matrix_of_labels labels.now }
 {
@@ -27,7 +27,7 @@ pub fn matrix_of_labels(labels: &Labels) -> MatrixCells
     }
 }
 
-// The greatest dimension of what has this pair of parts as its label: a side of a piece, a piece, a node, nothing.
+// The greatest dimension of what has this pair of parts as its label: a side of a piece has 2, a piece 1, a node 0.
 fn cell(labels: &Labels, first: Location, second: Location) -> Dimension
     ensures { result ≡ labelled_cell labels.now first second }
 {

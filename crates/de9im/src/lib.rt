@@ -1,5 +1,5 @@
-//! The dimensionally extended nine-intersection model of two geometries (OGC 06-103r4, 6.1.15): their matrix, patterns
-//! that it is matched with, and the spatial predicates that it decides.
+//! The dimensionally extended nine-intersection model of two geometries (OGC 06-103r4, 6.1.15): `relate` computes their
+//! matrix; patterns match it, and the spatial predicates follow from it.
 #![tactic(auto)]
 
 mod labelled;

@@ -4,8 +4,8 @@ use geometry_model::{Dimension, Location};
 use matrices::MatrixCells;
 use std::marker::Model;
 
-/// The DE-9IM matrix of two geometries: how large the set is that each part of the first has in common with each part of
-/// the second (06-103r4, 6.1.15.2). [`relate`](crate::relate) is the only public call that makes one.
+/// The DE-9IM matrix of two geometries: the dimension of what each part of the first has in common with each part of the
+/// second (06-103r4, 6.1.15.2). [`relate`](crate::relate) is the only public call that makes one.
 #[derive(Clone, Copy, Debug, PartialEq, Eq)]
 pub struct Matrix {
     cells: MatrixCells,

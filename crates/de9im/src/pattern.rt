@@ -8,12 +8,12 @@ use crate::matrix::Matrix;
 use geometry_model::{Dimension, Pattern, PatternCharacter};
 use matrices::MatrixCells;
 
-/// What a pattern of the DE-9IM matrix does (06-103r4, 6.1.15.2). [`Pattern`] alone has it.
+/// A pattern of the DE-9IM matrix, as what matches matrices (06-103r4, 6.1.15.2). Only [`Pattern`] implements it.
 pub trait MatrixPattern {
     // The pattern that a value is.
     ghost pattern: { Self → Pattern };
 
-    /// Whether each character of the pattern takes its cell of the matrix (06-103r4, 6.1.15.2).
+    /// Whether each character of the pattern matches its cell of the matrix (06-103r4, 6.1.15.2).
     fn matches(&self, matrix: &Matrix) -> bool
         ensures { result ≡ matches (pattern self.now) matrix.now };
 }
@@ -26,7 +26,7 @@ impl MatrixPattern for Pattern {
     }
 }
 
-// Whether each character of the pattern takes its cell.
+// Whether each character of the pattern matches its cell.
 pub(crate) fn matches_cells(pattern: &Pattern, cells: &MatrixCells) -> bool
     ensures { result ≡ matches pattern.now cells.now }
 {
@@ -41,7 +41,7 @@ pub(crate) fn matches_cells(pattern: &Pattern, cells: &MatrixCells) -> bool
         && takes(pattern.exterior_exterior, cells.exterior_exterior)
 }
 
-// Whether a pattern character takes a cell of a matrix.
+// Whether a pattern character matches a cell of a matrix.
 fn takes(character: PatternCharacter, dimension: Dimension) -> bool
     ensures { result ≡ takes character dimension }
 {

@@ -40,7 +40,7 @@ fn like(text: &str, cells: &MatrixCells) -> bool
     }
 }
 
-// Crosses: by the kinds of the two geometries.
+// Whether Crosses holds, by the kinds of the two geometries.
 fn crosses(first: Kind, second: Kind, cells: &MatrixCells) -> bool
     ensures { result ≡ crosses first second cells.now }
 {
@@ -56,7 +56,7 @@ fn crosses(first: Kind, second: Kind, cells: &MatrixCells) -> bool
     }
 }
 
-// Overlaps: by the kinds of the two geometries.
+// Whether Overlaps holds, by the kinds of the two geometries.
 fn overlaps(first: Kind, second: Kind, cells: &MatrixCells) -> bool
     ensures { result ≡ overlaps first second cells.now }
 {

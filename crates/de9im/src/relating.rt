@@ -1,4 +1,4 @@
-//! The matrix of two geometries, counted.
+//! Computes the matrix of two geometries, and counts it.
 
 ghost use Rattle.std.specs.Prelude.{◌≡◌, IfOk, OnOk, OnErr};
 ghost use Rattle.geometry_model.specs.Dimensions.{IsMatrix};

@@ -1,4 +1,4 @@
-//! How many matrices were computed.
+//! The count of the matrices that were computed.
 
 use std::marker::Model;
 

@@ -1,4 +1,4 @@
--- Lists of boxes over consecutive edges. Each box comes after those of its subtree, which it counts.
+-- Lists of boxes over consecutive edges. Each box comes after the boxes of its subtree, and has their number.
 use Rattle.std.specs.Prelude.{◌≡◌, ◌⊎◌, ℕ, zero, suc, ◌-◌, ◌≤◌, List, ◌++◌, length, drop, Option, Some, None, slice_get}
 use Rattle.geometry_model.specs.Geometries.{Edge}
 use Rattle.edge_boxes.specs.Runs.{SumsUp}
@@ -11,12 +11,12 @@ abbrev pub end_of : Option EdgeBox → ℕ
 end_of None = 0
 end_of (Some b) = b.end
 
--- up to which edge the boxes before a place go
+-- the place of the first edge that no box before this place is over
 abbrev pub covered : List EdgeBox → ℕ → ℕ
 covered boxes zero = 0
 covered boxes (suc place) = end_of (slice_get boxes place)
 
--- the edges from one place up to another are summed up by the run
+-- the run sums up the edges from one place to before another
 pub record IsRun (edges : List Edge) (run : Run) (first end : ℕ) : Type 0 where
   pub own : List Edge
   pub split : drop first edges ≡ own ++ drop end edges
@@ -24,7 +24,7 @@ pub record IsRun (edges : List Edge) (run : Run) (first end : ℕ) : Type 0 wher
   pub ordered : first ≤ end
   pub within : end ≤ length edges
 
--- at its place the box comes after its subtree, with the run of all edges of it
+-- the box comes right after its subtree, and its run is that of all edges of the subtree
 pub record IsBoxAt (edges : List Edge) (boxes : List EdgeBox) (place : ℕ) (b : EdgeBox) : Type 0 where
   pub subtree : b.size ≤ place
   pub run : IsRun edges b.run (covered boxes (place - b.size)) b.end

@@ -1,4 +1,4 @@
--- Whole numbers next to a point's coordinates.
+-- The cell of the grid in which a point lies: the whole numbers next to its coordinates.
 use Rattle.std.specs.Prelude.{◌≡◌, ℤ, ◌*ℤ◌, int_le}
 use Rattle.geometry_model.specs.Points.{Point, IsPoint}
 use Rattle.edge_boxes.specs.declared.cells.Cell.{Cell}

@@ -1,4 +1,4 @@
--- How a point lies to the edges of a list.
+-- How a point lies relative to the edges of a list.
 use Rattle.std.specs.Prelude.{◌≡◌, Bool, ◌||◌, List, int_lt, count_by}
 use Rattle.std.specs.List.{list_any}
 use Rattle.geometry_model.specs.Points.{Point}
@@ -27,7 +27,7 @@ is_odd_above edges p = odd (count_by (λ e. strictly_above e p) edges)
 abbrev pub is_odd_at_or_above : List Edge → Point → Bool
 is_odd_at_or_above edges p = odd (count_by (λ e. at_or_above e p) edges)
 
--- so the point lies to the edges
+-- the three answers are right for the point and these edges
 pub record AreCrossings (c : Crossings) (edges : List Edge) (p : Point) : Type 0 where
   pub on : c.on ≡ on_any edges p
   pub above : c.odd_above ≡ is_odd_above edges p
@@ -37,10 +37,10 @@ pub record AreCrossings (c : Crossings) (edges : List Edge) (p : Point) : Type 0
 abbrev pub lie_apart : Envelope → Cell → Bool
 lie_apart b c = int_lt b.greatest_x c.ceiling_x || int_lt c.floor_x b.least_x || int_lt b.greatest_y c.ceiling_y
 
--- what a run shows of a point in a cell holds, whatever the run's edges are
+-- what a run says of a point in a cell is right, whatever the run's edges are
 abbrev pub IsTold : Run → Cell → Crossings → Type 0
 IsTold run cell c = (p : Point) (es : List Edge) → IsCellOf cell p → SumsUp run es → AreCrossings c es p
 
--- what a run's strip and ends show of a point in a cell holds, whatever the run's edges are
+-- what a run's strip and ends say of a point in a cell is right, whatever the run's edges are
 abbrev pub IsToldByStrip : Strip → Ends → Cell → Crossings → Type 0
 IsToldByStrip strip ends cell c = (p : Point) (es : List Edge) → IsCellOf cell p → IsStripOf strip es → SumsUpEnds ends es → AreCrossings c es p

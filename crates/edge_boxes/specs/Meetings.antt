@@ -16,11 +16,11 @@ abbrev pub places_asked : Asked → ℕ → List Edge → List ℕ
 places_asked asked place [] = []
 places_asked asked place (e ∷ es) = cond (is_asked asked place e) (place ∷ places_asked asked (suc place) es) (places_asked asked (suc place) es)
 
--- the places, from one on, of the edges whose bounds meet these, ascending
+-- the places, from this one on, of the edges whose bounds meet these, ascending
 abbrev pub places_meeting : Envelope → ℕ → List Edge → List ℕ
 places_meeting bounds from edges = places_asked (record { bounds = bounds; from = from }) 0 edges
 
--- a step to an earlier place adds the places asked for between, descending
+-- a step to an earlier place adds the places between that are asked for, descending
 pub record IsAskedStep (boxes : List EdgeBox) (edges : List Edge) (asked : Asked) (place next : ℕ) (old new : List ℕ) : Type 0 where
   pub earlier : next < place
   pub own : List Edge

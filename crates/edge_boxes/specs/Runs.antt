@@ -21,7 +21,7 @@ pub record LiesIn (b : Envelope) (e : Edge) : Type 0 where
   pub start : IsWithin b e.start
   pub end : IsWithin b e.end
 
--- of the edges an odd number span a point exactly where one of the first and the last x isn't to the right of it
+-- an odd number of the edges span a point exactly if just one of the first x and the last x is at most the point's
 abbrev pub Telescopes : List Edge → ℤ → ℤ → Type 0
 Telescopes es first last = (p : Point) → odd (count_by (λ e. spans e p) es) ≡ exactly_one (int_le (first *ℤ p.W) p.X) (int_le (last *ℤ p.W) p.X)
 

@@ -1,4 +1,4 @@
--- Strips: what lies between two lines of one direction.
+-- Strips: the part of the plane between two parallel lines.
 use Rattle.std.specs.Prelude.{◌≡◌, Bool, ◌&&◌, ◌||◌, List, ℤ, pos, ◌-ℤ◌, ◌*ℤ◌, ◌≤ℤ◌, ◌<ℤ◌, int_lt}
 use Rattle.std.specs.List.{AllByRecursion}
 use Rattle.geometry_model.specs.Points.{Position}
@@ -7,7 +7,7 @@ use Rattle.edge_boxes.specs.declared.strips.Direction.{Direction}
 use Rattle.edge_boxes.specs.declared.strips.Strip.{Strip}
 use Rattle.edge_boxes.specs.declared.cells.Cell.{Cell}
 
--- how far a place lies above the line through the origin in this direction, times the direction's way to the right
+-- how far a position lies above the line through the origin in this direction, times the x of the direction
 abbrev pub rise : Direction → ℤ → ℤ → ℤ
 rise d x y = d.dx *ℤ y -ℤ d.dy *ℤ x
 
@@ -26,7 +26,7 @@ pub record IsStripOf (s : Strip) (es : List Edge) : Type 0 where
   pub rightward : pos 0 <ℤ s.direction.dx
   pub lies : AllByRecursion (LiesInStrip s) es
 
--- the wider strip has the same direction, and what lies in the other lies in it
+-- the wider strip has the same direction, and has all that lies in the other
 pub record IsWider (s wider : Strip) : Type 0 where
   pub same : wider.direction.dx ≡ s.direction.dx
   pub holds : (a : Position) → IsInStrip s a → IsInStrip wider a

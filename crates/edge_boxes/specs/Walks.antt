@@ -7,7 +7,7 @@ use Rattle.edge_boxes.specs.BoxLists.{covered}
 use Rattle.edge_boxes.specs.declared.boxes.EdgeBox.{EdgeBox}
 use Rattle.edge_boxes.specs.declared.point_crossings.Crossings.{Crossings}
 
--- a step to an earlier place returns how the point lies to the edges between
+-- a step to an earlier place returns how the point lies relative to the edges between
 pub record IsStep (boxes : List EdgeBox) (edges : List Edge) (p : Point) (place next : ℕ) (c : Crossings) : Type 0 where
   pub earlier : next < place
   pub own : List Edge

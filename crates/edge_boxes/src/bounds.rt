@@ -1,4 +1,4 @@
-//! Bounds of edges: upright rectangles.
+//! Bounds of edges: the smallest rectangles along the axes that hold them.
 
 ghost use Rattle.std.specs.Prelude.{◌≡◌, ◌&&◌, int_le};
 ghost use Rattle.std.specs.Int.{int_min, int_max};

@@ -16,7 +16,7 @@ use fraction::RatPoint;
 use orient::{Segment, crossing_at};
 
 /// How a point lies to edges (OGC 06-103r4, 6.1.11.1: inside). Of an edge's ends the left one counts and the right one
-/// doesn't; an upright edge lies above no point.
+/// doesn't; a vertical edge lies above no point.
 #[derive(Clone, Copy, Debug, PartialEq)]
 pub struct Crossings {
     /// Whether it lies on one of them.

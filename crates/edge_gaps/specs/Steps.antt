@@ -10,18 +10,18 @@ use Rattle.fraction.specs.Orders.{position_order}
 use Rattle.noding.specs.Meetings.{is_common_cut}
 use Rattle.noding.specs.Nodings.{ListsPoint}
 
--- the edge shares the point with another; it is a cut of them, and its denominator keeps the limit
+-- the edge shares the point with another; it is a cut of the two, and its denominator is within the limit
 pub record IsSharedPoint (e : Edge) (others : List Edge) (p : Point) : Type 0 where
   pub on_edge : on e p ≡ true
   pub on_other : Any (λ f. on f p ≡ true) others
   pub is_cut : IsCut (e ∷ others) [] p
   pub limit : p.W ≤ℤ pos meeting_limit
 
--- each cut of two edges that both hold is one of the points
+-- each cut that is on both edges is one of the points
 abbrev pub ListsCommonCuts : Edge → Edge → List Point → Type 0
 ListsCommonCuts e f points = (p : Point) → IsPoint p → is_common_cut e f p ≡ true → ListsPoint points p
 
--- shared points, among them the common cuts with the edges that are asked first
+-- shared points, among them the common cuts with each edge that was asked so far
 pub record AreSharedSoFar (e : Edge) (others : List Edge) (IsAsked : ℕ → Edge → Type 0) (count : ℕ) (points : List Point) : Type 0 where
   pub from : (p : Point) → Contains points p → IsSharedPoint e others p
   pub found : (k : ℕ) (f : Edge) → k < count → IsAsked k f → ListsCommonCuts e f points

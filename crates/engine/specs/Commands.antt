@@ -35,7 +35,7 @@ relate_text matrix = matrix_text matrix ++ codes "\n"
 abbrev pub relate_outcome : MatrixOf → List ℕ → List ℕ → Result (List ℕ) Failure
 relate_outcome matrix first second = and_then (relation matrix first second) (λ m. Ok (relate_text m))
 
--- relating two texts ends so
+-- relating two texts may end like this
 pub record RelateEnds (first second : List ℕ) (end : End) (old new : Option (List ℕ)) (before after : ℕ) : Type 0 where
   pub answers : ByEveryMatrix (λ matrix. Answers (relate_outcome matrix first second) end old new)
   pub failures : after ≡ failed_writes before end
@@ -57,7 +57,7 @@ abbrev pub check_outcome : SpatialSchema → List (List Record) → Result (List
 check_outcome definitions records =
     after OfTable (load_tables read_geometry definitions records) (λ tables. Ok (check_text definitions tables))
 
--- a table of which the reading may fail: it is one of the schema, and each table before it has loaded
+-- reading this table may have failed: it is one of the schema, and each table before it has loaded
 abbrev pub IsLoadedTo : SpatialSchema → List (List Record) → ℕ → Type 0
 IsLoadedTo definitions records table = (table < length definitions) × EarlierLoad read_geometry definitions records table
 
@@ -67,7 +67,7 @@ IsLoadedTo definitions records table = (table < length definitions) × EarlierLo
 abbrev pub table_names : SpatialSchema → List (List ℕ)
 table_names definitions = map (λ t. t.name) definitions
 
--- the failure that a fault of a run is: that of a table has the table's name
+-- the failure of a fault of a run; the failure of a table's fault has the table's name
 abbrev pub IsFaultOf : SpatialSchema → Fault → Failure → Type 0
 IsFaultOf definitions (faults.Query fault) failure = failure ≡ f.Query fault
 IsFaultOf definitions (faults.Load table fault) failure =
@@ -75,14 +75,14 @@ IsFaultOf definitions (faults.Load table fault) failure =
 IsFaultOf definitions faults.Sink failure = failure ≡ f.WriteFailed
 IsFaultOf definitions faults.Memory failure = failure ≡ f.OutOfMemory
 
--- a run ended so: it is done, or its fault is this failure
+-- how a run ended: it is done, or its fault is this failure
 abbrev pub EndsAs : SpatialSchema → End → (Result (Unit {0}) Fault → Type 0) → Type 0
 EndsAs definitions (Ok done) Run = Run (Ok done)
 EndsAs definitions (Err failure) Run = (fault : Fault) × IsFaultOf definitions fault failure × Run (Err fault)
 
 -- ---- files
 
--- the text of a reader is this one, where its bytes are known
+-- the text of a reader is this one, if its bytes are known
 abbrev pub IsTextOf : Option (List ℕ) → List ℕ → Type 0
 IsTextOf None text = ⊤
 IsTextOf (Some bytes) text = text ≡ bytes
@@ -91,12 +91,12 @@ IsTextOf (Some bytes) text = text ≡ bytes
 abbrev pub IsUnread : Failure → Type 0
 IsUnread failure = (failure ≡ f.SchemaUnreadable) ⊎ (failure ≡ f.OutOfMemory)
 
--- the failure that a fault of a schema is, and running out of memory
+-- the failure of a schema's fault, which may be running out of memory
 abbrev pub schema_failure : SchemaFault → Failure
 schema_failure s.OutOfMemory = f.OutOfMemory
 schema_failure fault = f.Schema fault
 
--- what a schema's file gives: the schema that its text is, or the text's first fault; the file can't be opened, reading failed, or memory
+-- what a schema's file gives: the schema of its text, or the text's first fault; or else the file can't be opened, reading failed, or memory
 -- ran out
 abbrev pub ReadsSchema : {R : Type 0} → (R → Option (List ℕ)) → Option R → Result SpatialSchema Failure → Type 0
 ReadsSchema remaining None result = result ≡ Err f.SchemaUnreadable
@@ -116,7 +116,7 @@ table_path directory name = directory ++ codes "/" ++ name ++ codes ".csv"
 abbrev pub table_paths : List ℕ → SpatialSchema → List (List ℕ)
 table_paths directory definitions = map (table_path directory) (table_names definitions)
 
--- what opens a path was called at these paths, in order, and gave these readers
+-- the function that opens files was called with these paths, in order, and returned these readers
 abbrev pub Opens : {F R : Type 0} → Mut F (Bor (List ℕ) × Unit {0}) (Option R) → F → List (List ℕ) → List R → F → Type 0
 Opens g opener [] [] after = after ≡ opener
 Opens g opener [] (reader ∷ readers) after = ⊥
@@ -136,11 +136,11 @@ OpensTables g opener directory definitions (Err failure) = ⊥
 
 -- ---- commands over files
 
--- over some records of these readers a command ends so
+-- the command ends like this over some records of these readers
 abbrev pub OverReaders : {R : Type 0} → (R → Option (List ℕ)) → (List (List Record) → End → Type 0) → End → List R → Type 0
 OverReaders remaining Over end readers = (records : List (List Record)) × EachRecordsOf (map remaining readers) records × Over records end
 
--- a command over the tables of a schema: all their files are opened, in schema order, and over their records it ends so; else it ends
+-- how a command over the tables of a schema ends: all their files are opened, in schema order, and it ends over their records; else it ends
 -- in the failure of opening them
 pub record OverTables {F R : Type 0} (g : Mut F (Bor (List ℕ) × Unit {0}) (Option R)) (remaining : R → Option (List ℕ)) (opener : F) (directory : List ℕ)
     (definitions : SpatialSchema) (Over : List (List Record) → End → Type 0) (end : End) (Nothing : Type 0) : Type 0 where
@@ -148,7 +148,7 @@ pub record OverTables {F R : Type 0} (g : Mut F (Bor (List ℕ) × Unit {0}) (Op
   pub opened : OpensTables g opener directory definitions readers
   pub rest : Then readers (OverReaders remaining Over end) end Nothing
 
--- a command over files: the schema's is opened first, and over its schema the command ends so; else it ends in the failure of reading it
+-- how a command over files ends: the schema's file is opened first, and the command ends over its schema; else it ends in the failure of reading it
 pub record OverFiles {F R : Type 0} (g : Mut F (Bor (List ℕ) × Unit {0}) (Option R)) (remaining : R → Option (List ℕ)) (opener : F) (path : List ℕ)
     (Over : F → SpatialSchema → End → Type 0) (end : End) (Nothing : Type 0) : Type 0 where
   pub file : Option R
@@ -158,12 +158,12 @@ pub record OverFiles {F R : Type 0} (g : Mut F (Bor (List ℕ) × Unit {0}) (Opt
   pub read : ReadsSchema remaining file schema
   pub rest : Then schema (λ definitions. Over next definitions end) end Nothing
 
--- a run over the tables' records ends so
+-- a run over the tables' records may end like this
 pub record RunEnds (definitions : SpatialSchema) (query : List ℕ) (old new : Option (List ℕ)) (before after : ℕ) (records : List (List Record)) (end : End) : Type 0 where
   pub runs : EndsAs definitions end (λ result. RunsOver result definitions records query old new)
   pub failures : after ≡ failed_writes before end
 
--- counting the rows of the tables ends so
+-- counting the rows of the tables may end like this
 pub record CheckEnds (definitions : SpatialSchema) (old new : Option (List ℕ)) (before after : ℕ) (records : List (List Record)) (end : End) : Type 0 where
   pub checks : EndsAs definitions end (λ result. Runs result (check_outcome definitions records) (IsLoadedTo definitions records) old new)
   pub failures : after ≡ failed_writes before end

@@ -1,4 +1,4 @@
--- How a command ends, and what it returns and writes of that.
+-- How a command ends, and what it returns and writes then.
 use Rattle.std.specs.Prelude.{◌≡◌, ◌⊎◌, ℕ, List, Option, Result, Ok, Err}
 use Rattle.std.specs.Io.KnownBytes.{Appends, Keeps}
 use Rattle.integers.specs.Counts.{one_more}
@@ -30,15 +30,15 @@ abbrev pub failed_writes : ℕ → End → ℕ
 failed_writes before (Err f.WriteFailed) = one_more before
 failed_writes before _ = before
 
--- what was written of an outcome, which is a text or a failure: the text where the command is done, a beginning of it where it
--- can't be written, and nothing else
+-- what was written of an outcome, which is a text or a failure: the text if the command is done, a beginning of it if it can't be
+-- written, else nothing
 abbrev pub Answers : Result (List ℕ) Failure → End → Option (List ℕ) → Option (List ℕ) → Type 0
 Answers outcome (Ok done) old new = (text : List ℕ) × (outcome ≡ Ok text) × Appends old new text
 Answers outcome (Err f.WriteFailed) old new = (text : List ℕ) × (outcome ≡ Ok text) × AppendsFront old new text
 Answers outcome (Err f.OutOfMemory) old new = Keeps old new
 Answers outcome (Err failure) old new = (outcome ≡ Err failure) × Keeps old new
 
--- what a command promises whose ends are these: it returns the status of one of them, and standard error has its line
+-- what a command promises that may end in these ways: it returns the status of one of them, and standard error has its line
 pub record Serves {E : Type 0} (taken : E → Option (List ℕ)) (failures : E → ℕ) (Ends : End → Type 0) (status : ℕ) (old new : E) : Type 0 where
   pub end : End
   pub ends : Ends end

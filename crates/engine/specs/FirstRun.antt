@@ -1,4 +1,4 @@
--- Words for the worked run: the text of the answer of a query over its table.
+-- Short names for the worked example of a run: the text of the answer of a query over its table.
 use Rattle.std.specs.Prelude.{ℕ, List, ◌∷◌, []}
 use Rattle.geometry_model.specs.Labels.{labelled_matrix}
 use Rattle.table_model.specs.BindingExamples.{towns}

@@ -1,4 +1,4 @@
-//! What the program does with its order, over readers and sinks of any kind.
+//! The commands of the program: `serve` does what the command line orders, over readers and sinks of any kind.
 
 ghost use Rattle.std.specs.Prelude.{◌≡◌, length, take, Err, IfErr, IfOk, IfSome, OnErr, OnOk};
 ghost use Rattle.std.specs.String.{string_bytes};
@@ -25,14 +25,14 @@ use table_model::faults::SchemaFault;
 use table_model::tokens::TEXT_LIMIT;
 use text_relation::relate_texts;
 
-/// The index that is kept of each geometry column.
+/// The type of the index of each geometry column.
 type ColumnIndex = RTree;
 
 /// How many bytes of a schema's file are read: one more than a schema may have.
 const SCHEMA_BYTES: u64 = TEXT_LIMIT as u64 + 1;
 
-/// Does what the order says: writes the answer on `out` and the line of a failure to `err`, and returns the status.
-/// The opener gives the reader of the file at a path, and None where it can't be opened.
+/// Does what the order says. It writes the answer to `out` and the line of a failure to `err`, and returns the status of the
+/// program: 0, or that of the failure. The opener returns the reader of the file at a path, or None if it can't be opened.
 pub fn serve<R: Read + Drop, F: FnMut(&str) -> Option<R>, S: Sink, E: Sink>(
     alloc: Global,
     order: &Order,
@@ -48,7 +48,7 @@ pub fn serve<R: Read + Drop, F: FnMut(&str) -> Option<R>, S: Sink, E: Sink>(
     serve_observed(alloc, order, opener, out, err, &mut Unobserved)
 }
 
-/// The same, where each candidate that a query looks at, and each row that it finds, is reported to an observer.
+/// The same as `serve`. It reports each candidate that a query looks at, and each row that it finds, to an observer.
 pub fn serve_observed<
     R: Read + Drop,
     F: FnMut(&str) -> Option<R>,
@@ -148,7 +148,7 @@ fn run_over<'s, R: Read + Drop, F: FnMut(&str) -> Option<R>, S: Sink, O: RowObse
 }
 
 // Loads every table, and writes a line for each, in the schema's order: its name and how many rows it has. The files are
-// opened as for a run, and nothing is written where one of them doesn't load.
+// opened as for a run. If one of the tables doesn't load, nothing is written.
 fn serve_check<R: Read + Drop, F: FnMut(&str) -> Option<R>, S: Sink, E: Sink>(
     alloc: Global,
     paths: &Paths<'_>,
@@ -172,7 +172,7 @@ fn serve_check<R: Read + Drop, F: FnMut(&str) -> Option<R>, S: Sink, E: Sink>(
     }
 }
 
-// Opens the files of all tables, loads these, and writes their lines.
+// Opens the files of all tables, loads the tables, and writes their lines.
 fn check_over<'s, R: Read + Drop, F: FnMut(&str) -> Option<R>, S: Sink>(
     alloc: Global,
     schema: &'s Schema,
@@ -241,7 +241,7 @@ fn serve_relate<S: Sink, E: Sink>(
     }
 }
 
-/// Writes the line of a failure, and returns its status, also where the line can't be written.
+/// Writes the line of a failure, and returns its status. The status is the same if the line can't be written.
 pub fn failed<E: Sink>(failure: &Failure<'_>, err: &mut E) -> u8
     ensures status { result ≡ failure_status failure.now }
     ensures line { Writes (E.taken err.old) (E.taken err.new) (E.failures err.old)
@@ -251,7 +251,7 @@ pub fn failed<E: Sink>(failure: &Failure<'_>, err: &mut E) -> u8
     status(failure)
 }
 
-// The bytes of a schema's file, but for what is past the greatest length of a schema.
+// The bytes of a schema's file, up to one more than a schema may have: the reader of schemas refuses a longer one.
 fn schema_text<R: Read + Drop>(alloc: Global, file: R) -> Result<Vec<u8>, Failure<'static>>
     ensures text { IfOk result (λ text. IfSome (R.remaining file)
         (λ bytes. text.items ≡ take SCHEMA_BYTES bytes)) }
@@ -265,7 +265,7 @@ fn schema_text<R: Read + Drop>(alloc: Global, file: R) -> Result<Vec<u8>, Failur
     }
 }
 
-// The schema that a file spells.
+// The schema in a file, or why there is none. None stands for a file that can't be opened.
 fn schema_in<R: Read + Drop>(alloc: Global, file: Option<R>) -> Result<Schema, Failure<'static>>
     ensures { ReadsSchema R.remaining file result }
 {
@@ -279,7 +279,7 @@ fn schema_in<R: Read + Drop>(alloc: Global, file: Option<R>) -> Result<Schema, F
     }
 }
 
-// The failure that a fault of a schema is.
+// The failure of the program for a fault of a schema.
 fn schema_failure(fault: SchemaFault) -> Failure<'static>
     ensures { result ≡ spec.schema_failure fault }
 {
@@ -330,7 +330,7 @@ fn table_path(alloc: Global, directory: &str, name: &str) -> Result<String, Allo
     Ok(path)
 }
 
-// The failure that a fault of a run is.
+// The failure of the program for a fault of a run. That of loading has the table's name in place of its number.
 fn run_failure(schema: &Schema, fault: Fault) -> Failure<'_>
     requires { IsOfTables (length schema.now) fault }
     ensures { IsFaultOf schema.entry.now fault result }

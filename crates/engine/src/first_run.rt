@@ -1,4 +1,4 @@
-//! The answer of the worked run, computed: the bytes that its records are.
+//! A worked example of answers, proved by computing: the bytes that are written for two queries.
 
 ghost use Rattle.std.specs.Prelude.{◌≡◌, codes};
 ghost use Rattle.table_model.specs.FirstRunExamples.{first_query, third_query};

@@ -1,5 +1,5 @@
 //! The engine: what each command of the program does, over readers and sinks of any kind. It runs a query, loads and counts
-//! tables, or relates two texts. The calls and faults of the crates below that its users need are exported here too.
+//! tables, or relates two texts. It also exports the calls and faults of the crates below that its users need.
 #![tactic(auto)]
 
 pub mod commands;

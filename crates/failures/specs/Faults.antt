@@ -20,24 +20,24 @@ abbrev pub load_wants_memory : LoadFault → Bool
 load_wants_memory load.OutOfMemory = true
 load_wants_memory _ = false
 
--- running out of memory, or else a fault
+-- running out of memory if the Bool says so, else the fault
 abbrev pub memory_or : Bool → Fault → Fault
 memory_or true fault = faults.Memory
 memory_or false fault = fault
 
--- a query's fault, and running out of memory
+-- the fault of a run for a query's fault, which may be running out of memory
 abbrev pub of_query : QueryFault → Fault
 of_query f = memory_or (wants_memory f) (faults.Query f)
 
--- a fault of loading the table at a place, and running out of memory
+-- the fault of a run for a fault of loading the table at a place, which may be running out of memory
 abbrev pub of_load : ℕ → LoadFault → Fault
 of_load table f = memory_or (load_wants_memory f) (faults.Load table f)
 
--- a fault of loading with its table, and running out of memory
+-- the fault of a run for a fault of loading with its table, which may be running out of memory
 abbrev pub of_table : TableFault → Fault
 of_table f = of_load f.table f.fault
 
--- a fault of putting records
+-- the fault of a run for a fault of writing records
 abbrev pub of_put : PutFault → Fault
 of_put put.Sink = faults.Sink
 of_put put.Memory = faults.Memory

@@ -9,7 +9,7 @@ pub record Fraction : Type 0 where
   pub numerator : ℤ
   pub denominator : ℤ
 
--- it stands for a number where the denominator is at least 1
+-- a quotient is a number if its denominator is at least 1
 abbrev pub IsFraction : Fraction → Type 0
 IsFraction f = pos 0 <ℤ f.denominator
 
@@ -17,14 +17,14 @@ IsFraction f = pos 0 <ℤ f.denominator
 abbrev pub x_of : Point → Fraction
 x_of p = record { numerator = p.X; denominator = p.W }
 
--- the second
+-- the second coordinate of a point
 abbrev pub y_of : Point → Fraction
 y_of p = record { numerator = p.Y; denominator = p.W }
 
--- two fractions stand for one number: multiplied across
+-- two fractions are the same number: compared without division
 abbrev pub same_fraction : Fraction → Fraction → Bool
 same_fraction f g = int_eq (f.numerator *ℤ g.denominator) (g.numerator *ℤ f.denominator)
 
--- the order of the numbers that two fractions stand for
+-- the order of two fractions as numbers
 abbrev pub compare_fractions : Fraction → Fraction → Ordering
 compare_fractions f g = int_cmp (f.numerator *ℤ g.denominator) (g.numerator *ℤ f.denominator)

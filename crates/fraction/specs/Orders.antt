@@ -1,4 +1,4 @@
--- The orders as the comparison traits want them: lawful over all records of numbers, also over those that stand for nothing.
+-- The orders as the comparison traits need them: lawful over all records of numbers, also over those that aren't fractions or points.
 use Rattle.std.specs.Prelude.{pos}
 use Rattle.std.specs.declared.cmp.Ordering.{Ordering}
 use Rattle.std.specs.Ordering.{int_cmp, on, then_cmp}
@@ -14,7 +14,7 @@ position_order = then_cmp (on (λ a. a.x) int_cmp) (on (λ a. a.y) int_cmp)
 abbrev pub made_fraction : Fraction → Fraction
 made_fraction f = record { numerator = f.numerator; denominator = int_max (pos 1) f.denominator }
 
--- fractions by the numbers that they stand for
+-- fractions by their values
 abbrev pub fraction_order : Fraction → Fraction → Ordering
 fraction_order = on made_fraction compare_fractions
 

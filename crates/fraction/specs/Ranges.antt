@@ -4,27 +4,27 @@ use Rattle.geometry_model.specs.Points.{Position, Point, IsPoint, IsLeast}
 use Rattle.geometry_model.specs.WellKnownText.{coordinate_limit}
 use Rattle.fraction.specs.Fractions.{Fraction, IsFraction}
 
--- a position has both coordinates within the limit
+-- a position on the grid has both coordinates within the limit
 pub record IsOnGrid (a : Position) : Type 0 where
   pub x : unsigned_abs a.x ≤ coordinate_limit
   pub y : unsigned_abs a.y ≤ coordinate_limit
 
--- the greatest denominator of a point that meeting segments of the grid have
+-- the greatest denominator of a point at which two segments of the grid meet
 abbrev pub meeting_limit : ℕ
 meeting_limit = 8 * coordinate_limit * coordinate_limit
 
--- the greatest denominator of a point: twice that, so that the mediant of two points that meeting segments have is one
+-- the greatest denominator of a point: twice that, so that the mediant of two such points is one
 abbrev pub denominator_limit : ℕ
 denominator_limit = 16 * coordinate_limit * coordinate_limit
 
--- the numbers of a point that lies within the limit and has a denominator within its own
+-- the point's coordinates and its denominator are within their limits
 pub record IsInRange (p : Point) : Type 0 where
   pub positive : IsPoint p
   pub denominator : p.W ≤ℤ pos denominator_limit
   pub x : unsigned_abs p.X ≤ coordinate_limit * unsigned_abs p.W
   pub y : unsigned_abs p.Y ≤ coordinate_limit * unsigned_abs p.W
 
--- the numbers of one coordinate of such a point
+-- the fraction is a coordinate of such a point
 pub record IsFractionInRange (f : Fraction) : Type 0 where
   pub positive : IsFraction f
   pub denominator : f.denominator ≤ℤ pos denominator_limit

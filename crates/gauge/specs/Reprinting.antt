@@ -1,4 +1,4 @@
--- What is written again of a text.
+-- What is written for a text: its geometry's canonical text.
 use Rattle.std.specs.Prelude.{ℕ, List, Option}
 use Rattle.std.specs.Io.KnownBytes.{Appends}
 use Rattle.geometry_model.specs.Geometries.{Geometry}

@@ -1,4 +1,4 @@
--- What a geometry's content stands for.
+-- Which geometry a content is.
 use Rattle.geometry_model.specs.Geometries.{Geometry, Point, MultiPoint, LineString, MultiLineString, Polygon, MultiPolygon}
 use Rattle.geometries.specs.declared.geometry.Larger.{Larger}
 use Rattle.geometries.specs.declared.geometry.Larger.TheVariants as larger

@@ -1,4 +1,4 @@
--- The fault of a text that a fault of reading names.
+-- The fault of a text that a fault of reading stands for.
 use Rattle.std.specs.Prelude.{Option, Some, None}
 use Rattle.geometry_model.specs.declared.text_faults.TextFault.{TextFault}
 use Rattle.geometry_model.specs.declared.text_faults.TextFault.TheVariants as text

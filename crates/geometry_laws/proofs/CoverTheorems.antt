@@ -56,7 +56,7 @@ over_straight f x = crosswise (breadth f) x.X x.W
     crosswise : (d x w : ℤ) → (d *ℤ x) *ℤ w ≡ x *ℤ (d *ℤ w)
     crosswise d x w = solve (d ∷ x ∷ w ∷ []) ((var 0 ⊗ var 1) ⊗ var 2) (var 1 ⊗ (var 0 ⊗ var 2)) tt
 
--- two points straight above a third are on one upright line
+-- two points straight above a third are on one vertical line
 straight : (p z x : Point) → IsPoint x → p.X *ℤ x.W ≡ x.X *ℤ p.W → z.X *ℤ x.W ≡ x.X *ℤ z.W → right p z ≡ pos 0
 straight p z x hx e f = cancel_zero x.W (right p z) hx (solve (p.X ∷ p.W ∷ z.X ∷ z.W ∷ x.W ∷ []) (var 4 ⊗ (var 2 ⊗ var 1 ⊖ var 0 ⊗ var 3)) ((var 2 ⊗ var 4) ⊗ var 1 ⊖ (var 0 ⊗ var 4) ⊗ var 3) tt
     ∙ ap₂ (λ (s t : ℤ). s *ℤ p.W -ℤ t *ℤ z.W) f e ∙ solve (x.X ∷ p.W ∷ z.W ∷ []) ((var 0 ⊗ var 2) ⊗ var 1 ⊖ (var 0 ⊗ var 1) ⊗ var 2) (lit (pos 0)) tt)
@@ -84,18 +84,18 @@ first_is_above es x hx = go (first es x hx)
       alike = all_from_each (λ e. at_or_above e (over_point r.edge x) ≡ strictly_above e x) es (each_of (λ e. at_or_above e (over_point r.edge x) ≡ strictly_above e x) es (λ g m. label_of_first es x hx r g m));
     })
 
--- a dot counts as upright, but no dot of these positions goes through the point
+-- a dot counts as vertical, but no dot of these positions goes through the point
 pub slant_dots : (ps : List Position) (p : Point) → IsPoint p → Each (λ a. stands_at p a ≡ false) ps → Each (IsSlant p) (dots ps)
 slant_dots [] p hp h = tt
 slant_dots (a ∷ ps) p hp h = (λ k e. let z : true ≡ false = sym (dot_stands a p hp k) ∙ h.0 in absurd (cc), slant_dots ps p hp h.1)
 
--- so nothing upright among the marks of both geometries goes through the point
+-- so nothing vertical among the marks of both geometries goes through the point
 slant_marks : (a b : Geometry) (s : Point) → IsPoint s → IsSlantAt a s → IsSlantAt b s → Each (IsSlant s) (marks a b)
 slant_marks a b s hs h k = each_append (IsSlant s) (edges_of_both a b) (dots (listed a ++ listed b))
     (each_append (IsSlant s) (edges a) (edges b) (each_from_all (IsSlant s) (edges a) h.edges) (each_from_all (IsSlant s) (edges b) k.edges))
     (slant_dots (listed a ++ listed b) s hs (each_append (λ q. stands_at s q ≡ false) (listed a) (listed b) (each_from_all (λ q. stands_at s q ≡ false) (listed a) h.positions) (each_from_all (λ q. stands_at s q ≡ false) (listed b) k.positions)))
 
--- just below and just above a point that no upright edge goes through, all points of some triangle lie alike
+-- just below and just above a point that no vertical edge goes through, all points of some triangle lie alike
 pub sides_have_triangles : (a b : Geometry) → HasClosedRings a → HasClosedRings b → (s : Point) → IsPoint s → IsSlantAt a s → IsSlantAt b s
     → HasTriangle (common a (below a s) b (below b s)) × HasTriangle (common a (above a s) b (above b s))
 sides_have_triangles a b ca cb s hs h k = (

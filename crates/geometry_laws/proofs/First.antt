@@ -168,14 +168,14 @@ label_of_first es x hx r g m = go (spans g x) refl
         ∙ number (breadth r.edge) (side_rightward g x) (height r.edge x) (breadth g) (wide r.edge x hx r.is_above) (high r.edge x r.is_above) (breadth_positive g x hx e)
         (λ l. r.least g m (and_from (spans g x) (int_lt (side_rightward g x) (pos 0)) e (less_yes (side_rightward g x) (pos 0) l))))
 
--- no edge above x meets the upright line between x and the first edge's point
+-- no edge above x meets the vertical line between x and the first edge's point
 straight_side : (a b : Position) (p q : Point) → side a b q *ℤ p.W ≡ side a b p *ℤ q.W +ℤ ((b.x -ℤ a.x) *ℤ up p q -ℤ (b.y -ℤ a.y) *ℤ right p q)
 straight_side a b p q = solve (a.x ∷ a.y ∷ b.x ∷ b.y ∷ p.X ∷ p.Y ∷ p.W ∷ q.X ∷ q.Y ∷ q.W ∷ [])
     (((var 2 ⊖ var 0) ⊗ (var 8 ⊖ var 1 ⊗ var 9) ⊖ (var 3 ⊖ var 1) ⊗ (var 7 ⊖ var 0 ⊗ var 9)) ⊗ var 6)
     (((var 2 ⊖ var 0) ⊗ (var 5 ⊖ var 1 ⊗ var 6) ⊖ (var 3 ⊖ var 1) ⊗ (var 4 ⊖ var 0 ⊗ var 6)) ⊗ var 9
     ⊕ ((var 2 ⊖ var 0) ⊗ (var 8 ⊗ var 6 ⊖ var 5 ⊗ var 9) ⊖ (var 3 ⊖ var 1) ⊗ (var 7 ⊗ var 6 ⊖ var 4 ⊗ var 9))) tt
 
--- on one upright line the side from left to right grows with the height, by the breadth
+-- on one vertical line the side from left to right grows with the height, by the breadth
 rightward_along : (g : Edge) (p q : Point) → right p q ≡ pos 0 → side_rightward g q *ℤ p.W ≡ side_rightward g p *ℤ q.W +ℤ breadth g *ℤ up p q
 rightward_along g p q e = go (int_le g.start.x g.end.x)
   where
@@ -187,7 +187,7 @@ rightward_along g p q e = go (int_le g.start.x g.end.x)
     go true = dropped g.start g.end
     go false = dropped g.end g.start
 
--- an edge at or above p meets the upright line through p at p or higher
+-- an edge at or above p meets the vertical line through p at p or higher
 pub not_lower : (g : Edge) (p z : Point) → IsPoint p → IsPoint z → at_or_above g p ≡ true → on g z ≡ true → right p z ≡ pos 0 → up p z <ℤ pos 0 → ⊥
 not_lower g p z hp hz h k e l = clash (side_rightward g z *ℤ p.W) (side_rightward g p *ℤ z.W) (breadth g *ℤ up p z) (rightward_along g p z e) flat_times
     (times_weak (side_rightward g p) z.W (at_most_from (side_rightward g p) (pos 0) ((and_parts (spans g p) (int_le (side_rightward g p) (pos 0)) h).1)) hz)

@@ -158,7 +158,7 @@ w_across p q x = solve (values p q x x) (right' U V ⊗ P.W) (right' P V ⊗ U.W
 pub y_across : (p q x : Point) → right p q *ℤ x.Y ≡ (right x q *ℤ p.Y +ℤ right p x *ℤ q.Y) +ℤ area p q x
 y_across p q x = solve (values p q x x) (right' U V ⊗ P.Y) ((right' P V ⊗ U.Y ⊕ right' U P ⊗ V.Y) ⊕ area' U V P) tt
 
--- the same with the distances upwards, for an upright line: Y
+-- the same with the distances upwards, for a vertical line: Y
 y_upright : (p q x : Point) → up p q *ℤ x.Y ≡ up x q *ℤ p.Y +ℤ up p x *ℤ q.Y
 y_upright p q x = solve (p.Y ∷ p.W ∷ q.Y ∷ q.W ∷ x.Y ∷ x.W ∷ []) ((var 2 ⊗ var 1 ⊖ var 0 ⊗ var 3) ⊗ var 4) ((var 2 ⊗ var 5 ⊖ var 4 ⊗ var 3) ⊗ var 0 ⊕ (var 4 ⊗ var 1 ⊖ var 0 ⊗ var 5) ⊗ var 2) tt
 

@@ -114,7 +114,7 @@ off_beyond l e z hz s h = decide (on e z) refl
     decide true f = absurd (apart (hull_from_on e z hz f))
     decide false f = f
 
--- the line through two positions, and upright and level lines
+-- the line through two positions, and vertical and horizontal lines
 pub line_side : (a b : Position) → Line
 line_side a b = record { a = a.y -ℤ b.y; b = b.x -ℤ a.x; c = (b.y -ℤ a.y) *ℤ a.x -ℤ (b.x -ℤ a.x) *ℤ a.y }
 
@@ -135,7 +135,7 @@ side_at_end a b = solve (a.x ∷ a.y ∷ b.x ∷ b.y ∷ []) ((var 2 ⊖ var 0) 
 not_between : (a b x : ℤ) → (int_le a x && int_le x b) || (int_le b x && int_le x a) ≡ false → ((x <ℤ a) × (x <ℤ b)) ⊎ ((a <ℤ x) × (b <ℤ x))
 not_between a b x e = grind (arith, ints)
 
--- upright and level lines on one side of which an edge lies: it is at m or to the right
+-- vertical and horizontal lines on one side of which an edge lies: it is at m or to the right
 x_low : (m : ℤ) (e : Edge) → m ≤ℤ e.start.x → m ≤ℤ e.end.x → Parts e (record { a = pos 0 -ℤ pos 1; b = pos 0; c = m })
 x_low m e h k = record { at_start = low m e.start.x e.start.y h; at_end = low m e.end.x e.end.y k }
   where
@@ -186,7 +186,7 @@ range a b = go (at_most_or_less a b)
     go (inl h) = record { low = a; high = b; low_a = same a; low_b = h; high_a = h; high_b = same b; is_end = inl (refl, refl) }
     go (inr h) = record { low = b; high = a; low_a = weak b a h; low_b = same b; high_a = same a; high_b = weak b a h; is_end = inr (refl, refl) }
 
--- a point outside an edge's range of x is parted from it by the upright line through the nearer end
+-- a point outside an edge's range of x is parted from it by the vertical line through the nearer end
 by_x : (e : Edge) (p : Point) → between e.start.x e.end.x p.X p.W ≡ false → Parted e p
 by_x e p f = go (not_between (e.start.x *ℤ p.W) (e.end.x *ℤ p.W) p.X f) (range e.start.x e.end.x)
   where

@@ -1,4 +1,4 @@
--- A point moved down or up by 1/n: from some n on it is off every edge that isn't upright, and what is strictly above it there is what is at or above it here, or strictly above it.
+-- A point moved down or up by 1/n: from some n on it is off every edge that isn't vertical, and what is strictly above it there is what is at or above it here, or strictly above it.
 use Rattle.std.proofs.Common.{ℕ, ◌<◌, ℤ, pos, ◌+ℤ◌, ◌-ℤ◌, ◌*ℤ◌, ◌≤ℤ◌, ◌<ℤ◌, int_lt, int_le, ◌≡◌, ◌⊎◌, inl, inr, Bool, true, false, ◌&&◌, if◌then◌else◌, refl, sym, ap, ap₂, ◌∙◌, [], ◌∷◌, arith}
 use borrow.Author.Differences.{ints}
 use Rattle.geometry_model.specs.Points.{Position, Point, IsPoint}
@@ -37,7 +37,7 @@ side_lifted a b d n p = solve (a.x ∷ a.y ∷ b.x ∷ b.y ∷ p.X ∷ p.Y ∷ p
     ((var 2 ⊖ var 0) ⊗ ((var 7 ⊗ var 5 ⊕ lit (pos 1) ⊗ var 8) ⊖ var 1 ⊗ (var 7 ⊗ var 6 ⊕ lit (pos 1) ⊗ lit (pos 0))) ⊖ (var 3 ⊖ var 1) ⊗ ((var 7 ⊗ var 4 ⊕ lit (pos 1) ⊗ lit (pos 0)) ⊖ var 0 ⊗ (var 7 ⊗ var 6 ⊕ lit (pos 1) ⊗ lit (pos 0))))
     (var 7 ⊗ side' ⊕ var 8 ⊗ (var 2 ⊖ var 0)) tt
 
--- an edge through the point, if any, isn't upright
+-- an edge through the point, if any, isn't vertical
 abbrev pub IsSlant : Point → Edge → Type 0
 IsSlant p e = on e p ≡ true → e.start.x ≡ e.end.x → ⊥
 
@@ -103,7 +103,7 @@ rightward_lifted d e n p = go (int_le e.start.x e.end.x)
     go true = side_lifted e.start e.end d n p
     go false = side_lifted e.end e.start d n p
 
--- an edge that spans a point isn't upright
+-- an edge that spans a point isn't vertical
 strict_order : (s t x w : ℤ) → pos 0 <ℤ w → int_le (s *ℤ w) x ≡ true → int_le (t *ℤ w) x ≡ false → pos 0 <ℤ (t -ℤ s)
 strict_order s t x w hw e f = cancel_positive w (t -ℤ s) (weak w hw) (apart (s *ℤ w) (t *ℤ w) x (w *ℤ (t -ℤ s)) (solve (s ∷ t ∷ w ∷ []) (var 1 ⊗ var 2 ⊖ var 0 ⊗ var 2) (var 2 ⊗ (var 1 ⊖ var 0)) tt) (at_most_from (s *ℤ w) x e) (not_at_most_from (t *ℤ w) x f))
   where

@@ -31,7 +31,7 @@ labels_constant a b ca cb c h x y i j = let d : Ends c = piece_ends (edges_of_bo
   locate_within (edges_of_both a b) (listed a ++ listed b) c h d x y i j b (each_from_all IsClosed (rings b) cb) (second_belongs a b),
 )
 
--- and where it isn't upright, both its sides are labelled alike at all of them
+-- and where it isn't vertical, both its sides are labelled alike at all of them
 pub sides_constant : (a b : Geometry) → HasClosedRings a → HasClosedRings b → (c : Piece) (h : IsPieceOf a b c) → is_upright c ≡ false → (x y : Point) → IsInside a b c h x → IsInside a b c h y
     → ((above a x ≡ above a y) × (above b x ≡ above b y)) × ((below a x ≡ below a y) × (below b x ≡ below b y))
 sides_constant a b ca cb c h f x y i j = let d : Ends c = piece_ends (edges_of_both a b) (listed a ++ listed b) c h in (

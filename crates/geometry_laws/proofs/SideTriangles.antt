@@ -1,4 +1,4 @@
--- Just below and just above a point that no upright edge goes through there are triangles of points that lie as the sides say.
+-- Just below and just above a point that no vertical edge goes through there are triangles of points that lie as the sides say.
 use Rattle.std.proofs.Common.{ℕ, ◌+◌, ◌<◌, ◌≤◌, ℤ, pos, ◌+ℤ◌, ◌-ℤ◌, ◌*ℤ◌, ◌≤ℤ◌, ◌<ℤ◌, ◌≡◌, Bool, false, if◌then◌else◌, refl, sym, ap, ◌∙◌, List, [], ◌∷◌, arith}
 use borrow.Author.Differences.{ints}
 use Rattle.geometry_model.specs.Points.{Point, IsPoint}
@@ -88,7 +88,7 @@ upper_triangle a b ca cb s hs h = go (moved_soon 0 (pos 1) strictly_above strict
         (above_from b s (lifted (pos 1) r.0 s) (each_right (λ e. strictly_above e (lifted (pos 1) r.0 s) ≡ strictly_above e s) (edges a) (edges b) ((r.1).alike)))
 
 -- ---- straight below and straight above
--- a point moved up or down stays on its upright line
+-- a point moved up or down stays on its vertical line
 straight_lifted : (d : ℤ) (n : ℕ) (s : Point) → (lifted d n s).X *ℤ s.W ≡ s.X *ℤ (lifted d n s).W
 straight_lifted d n s = solve (s.X ∷ s.W ∷ pos n ∷ []) ((var 2 ⊗ var 0 ⊕ lit (pos 1) ⊗ lit (pos 0)) ⊗ var 1) (var 0 ⊗ (var 2 ⊗ var 1 ⊕ lit (pos 1) ⊗ lit (pos 0))) tt
 

@@ -165,7 +165,7 @@ on_from_touch g x hx f = go (position_reaches g.start x) refl (position_reaches 
     go false s true t k = back s t
     go false s false t k = absurd (let z : false ≡ true = sym (ap₂ xor s t) ∙ k in cc)
 
--- ---- on a line that isn't upright a later point is to the right
+-- ---- on a line that isn't vertical a later point is to the right
 -- between two points of a line the rise, times the line's breadth, is its height times the run, up to their sides
 by_slope : (a b : Position) (p q : Point) → (b.x -ℤ a.x) *ℤ up p q ≡ (b.y -ℤ a.y) *ℤ right p q +ℤ (side a b q *ℤ p.W -ℤ side a b p *ℤ q.W)
 by_slope a b p q = solve (a.x ∷ a.y ∷ b.x ∷ b.y ∷ p.X ∷ p.Y ∷ p.W ∷ q.X ∷ q.Y ∷ q.W ∷ [])
@@ -174,7 +174,7 @@ by_slope a b p q = solve (a.x ∷ a.y ∷ b.x ∷ b.y ∷ p.X ∷ p.Y ∷ p.W �
     ⊕ (((var 2 ⊖ var 0) ⊗ (var 8 ⊖ var 1 ⊗ var 9) ⊖ (var 3 ⊖ var 1) ⊗ (var 7 ⊖ var 0 ⊗ var 9)) ⊗ var 6
     ⊖ ((var 2 ⊖ var 0) ⊗ (var 5 ⊖ var 1 ⊗ var 6) ⊖ (var 3 ⊖ var 1) ⊗ (var 4 ⊖ var 0 ⊗ var 6)) ⊗ var 9)) tt
 
--- a later point straight above would make the line upright
+-- a later point straight above would make the line vertical
 pub strictly_right : (a b : Position) (p q : Point) → (a.x ≡ b.x → ⊥) → side a b p ≡ pos 0 → side a b q ≡ pos 0 → compare p q ≡ Less → pos 0 <ℤ right p q
 strictly_right a b p q f s t l = go (lex_of_less p q l)
   where
@@ -197,7 +197,7 @@ strictly_right a b p q f s t l = go (lex_of_less p q l)
     go (inl h) = h
     go (inr h) = absurd (clash (up p q) (pick (zero_product (b.x -ℤ a.x) (up p q) (level h.0))) h.1)
 
--- the edge of a piece that isn't upright isn't upright
+-- the edge of a piece that isn't vertical isn't vertical
 pub slant_edge : (es : List Edge) (ps : List Position) (c : Piece) (h : IsPiece es ps c) → Ends c → is_upright c ≡ false → h.edge.start.x ≡ h.edge.end.x → ⊥
 slant_edge es ps c h d f e = not_equal_from (c.lesser.X *ℤ c.greater.W) (c.greater.X *ℤ c.lesser.W) f (cross (one c.lesser d.lesser h.lesser_on) (one c.greater d.greater h.greater_on))
   where
@@ -258,7 +258,7 @@ parity_at_or_above rs p = odd_count (λ e. at_or_above e p) (edges_of_lines rs)
     ∙ parity_xor (λ e. strictly_above e p) (λ e. touches e p) (edges_of_lines rs)
     ∙ ap (λ (t : Bool). xor t (parity (λ e. touches e p) (edges_of_lines rs))) (sym (parity_of_rings rs p))
 
--- so within a piece that isn't upright it is kept as well
+-- so within a piece that isn't vertical it is kept as well
 pub odd_at_or_above_within : (es : List Edge) (ps : List Position) (c : Piece) (h : IsPiece es ps c) → Ends c → (h.edge.start.x ≡ h.edge.end.x → ⊥) → (x y : Point) → Inside es ps c h x → Inside es ps c h y → (rs : List (List Position)) → Each IsClosed rs → ((e : Edge) → Among e (edges_of_lines rs) → Among e es) → odd_at_or_above rs x ≡ odd_at_or_above rs y
 odd_at_or_above_within es ps c h d s x y i j rs k f = parity_at_or_above rs x ∙ ap₂ xor (odd_within es ps c h d x y i j rs k f)
     (same_parity (λ e. touches e x) (λ e. touches e y) (edges_of_lines rs) (each_of (λ e. touches e x ≡ touches e y) (edges_of_lines rs) (λ e m. same_touches es ps c h d s e x y (f e m) i j))) ∙ sym (parity_at_or_above rs y)
@@ -272,7 +272,7 @@ above_within es ps c h d x y i j (Geometry.MultiLineString ls) k b = refl
 above_within es ps c h d x y i j (Geometry.Polygon rs) k b = ap (λ (t : Bool). if t then Interior else Exterior) (odd_within es ps c h d x y i j rs k b.edge)
 above_within es ps c h d x y i j (Geometry.MultiPolygon qs) k b = ap (λ (t : Bool). if t then Interior else Exterior) (odd_within es ps c h d x y i j (joined_rings qs) k b.edge)
 
--- and what is just below, where the piece isn't upright
+-- and what is just below, where the piece isn't vertical
 pub below_within : (es : List Edge) (ps : List Position) (c : Piece) (h : IsPiece es ps c) → Ends c → (h.edge.start.x ≡ h.edge.end.x → ⊥) → (x y : Point) → Inside es ps c h x → Inside es ps c h y → (g : Geometry) → Each IsClosed (rings g) → Belongs es ps g → below g x ≡ below g y
 below_within es ps c h d s x y i j (Geometry.Point o) k b = refl
 below_within es ps c h d s x y i j (Geometry.MultiPoint qs) k b = refl

@@ -1,4 +1,4 @@
--- Laws of what finitely many points and lines leave free, and of the first edge above a point.
+-- Laws of what finitely many points and lines don't cover, and of the first edge above a point.
 use Rattle.std.specs.Prelude.{◌≡◌, ◌≢◌, ℕ, ◌+◌, ◌<◌, ◌⊎◌, false, true, List, All, Contains, ℤ, pos, ◌+ℤ◌, ◌-ℤ◌, ◌*ℤ◌, ◌<ℤ◌}
 use Rattle.geometry_model.specs.Points.{Point, IsPoint, same_point}
 use Rattle.geometry_model.specs.Geometries.{Edge, Geometry, edges, listed}
@@ -19,7 +19,7 @@ pub record Line : Type 0 where
 abbrev pub value : Line → Point → ℤ
 value l p = l.a *ℤ p.X +ℤ l.b *ℤ p.Y +ℤ l.c *ℤ p.W
 
--- it is a line: not both coefficients are 0
+-- it is a line: a and b aren't both 0
 abbrev pub IsLine : Line → Type 0
 IsLine l = (l.a ≢ pos 0) ⊎ (l.b ≢ pos 0)
 
@@ -33,7 +33,7 @@ abbrev pub LinesDontCover : Type 0
 LinesDontCover = (ls : List Line) (p q r : Point) → All IsLine ls → area p q r ≢ pos 0
     → (k m n : ℕ) × (0 < k + m + n) × All (λ l. value l (weighted_three k p m q n r) ≢ pos 0) ls
 
--- the points are on one upright line
+-- the points are on one vertical line
 abbrev pub IsStraightOver : Point → Point → Type 0
 IsStraightOver p q = p.X *ℤ q.W ≡ q.X *ℤ p.W
 
@@ -41,7 +41,7 @@ IsStraightOver p q = p.X *ℤ q.W ≡ q.X *ℤ p.W
 abbrev pub IsLower : Point → Point → Type 0
 IsLower p q = (p.Y *ℤ q.W) <ℤ (q.Y *ℤ p.W)
 
--- the first of the edges that are strictly above x, and its point straight above x: every other such edge meets the upright line there or higher, and just the edges that are strictly above x are at or above that point
+-- the first of the edges that are strictly above x, and its point straight above x: every other such edge meets the vertical line there or higher, and the edges at or above that point are exactly those strictly above x
 pub record FirstAbove (es : List Edge) (x : Point) : Type 0 where
   pub point : Point
   pub edge : Edge
@@ -58,12 +58,12 @@ pub record FirstAbove (es : List Edge) (x : Point) : Type 0 where
 abbrev pub FirstIsAbove : Type 0
 FirstIsAbove = (es : List Edge) (x : Point) → IsPoint x → All (λ e. strictly_above e x ≡ false) es ⊎ FirstAbove es x
 
--- no upright edge goes through the point, and no listed position is there
+-- no vertical edge goes through the point, and no listed position is there
 pub record IsSlantAt (g : Geometry) (p : Point) : Type 0 where
   pub edges : All (λ e. on e p ≡ true → e.start.x ≡ e.end.x → ⊥) (edges g)
   pub positions : All (λ a. stands_at p a ≡ false) (listed g)
 
--- just below and just above such a point there are triangles of points that lie as the sides say
+-- just below and just above such a point there are triangles of points that lie where `below` and `above` say
 abbrev pub SidesHaveTriangles : Type 0
 SidesHaveTriangles = (a b : Geometry) → HasClosedRings a → HasClosedRings b → (s : Point) → IsPoint s → IsSlantAt a s → IsSlantAt b s
     → HasTriangle (common a (below a s) b (below b s)) × HasTriangle (common a (above a s) b (above b s))
@@ -74,7 +74,7 @@ pub record IsJustBelow (k : ℕ) (p q : Point) : Type 0 where
   pub lower : IsLower p q
   pub near : (pos k *ℤ (q.Y *ℤ p.W -ℤ p.Y *ℤ q.W)) <ℤ (p.W *ℤ q.W)
 
--- a point straight below s and one straight above it, both nearer than 1/k, that lie in g as below and above say
+-- a point straight below s and one straight above it, both nearer than 1/k, that lie in g where `below` and `above` say
 pub record NearSides (g : Geometry) (s : Point) (k : ℕ) : Type 0 where
   pub under : Point
   pub over : Point
@@ -85,16 +85,16 @@ pub record NearSides (g : Geometry) (s : Point) (k : ℕ) : Type 0 where
   pub under_stands : locate g under ≡ below g s
   pub over_stands : locate g over ≡ above g s
 
--- straight below and straight above a point through which no upright edge goes there are, arbitrarily near, points that lie as below and above say
+-- straight below and straight above a point through which no vertical edge goes there are, arbitrarily near, points that lie where `below` and `above` say
 abbrev pub SidesAreNear : Type 0
 SidesAreNear = (g : Geometry) (s : Point) → IsPoint s → IsSlantAt g s → (k : ℕ) → NearSides g s k
 
--- nearer than some 1/k, all points straight below s lie in g as below says, and all straight above it as above says
+-- nearer than some 1/k, all points straight below s lie in g where `below` says, and all straight above it where `above` says
 pub record AllNearStand (g : Geometry) (s : Point) : Type 0 where
   pub k : ℕ
   pub under_stand : (t : Point) → IsPoint t → IsJustBelow k t s → locate g t ≡ below g s
   pub over_stand : (t : Point) → IsPoint t → IsJustBelow k s t → locate g t ≡ above g s
 
--- straight below and straight above a point through which no upright edge goes, all points near enough lie as below and above say
+-- straight below and straight above a point through which no vertical edge goes, all points near enough lie where `below` and `above` say
 abbrev pub NearPointsStandSo : Type 0
 NearPointsStandSo = (g : Geometry) (s : Point) → IsPoint s → IsSlantAt g s → AllNearStand g s

@@ -1,4 +1,4 @@
--- Laws of pieces and neighbourhoods: on what stretches and around which points labels stay as they are.
+-- Laws of pieces and neighbourhoods: on which stretches and around which points labels are constant.
 use Rattle.std.specs.Prelude.{◌≡◌, false, true, List, ◌++◌, All}
 use Rattle.std.specs.declared.cmp.Ordering.TheVariants.{Less}
 use Rattle.geometry_model.specs.Points.{Position, Point, IsPoint, compare}
@@ -29,12 +29,12 @@ IsPieceOf a b c = IsPiece (edges_of_both a b) (listed a ++ listed b) c
 abbrev pub IsInside : (a b : Geometry) (c : Piece) → IsPieceOf a b c → Point → Type 0
 IsInside a b c h x = Inside (edges_of_both a b) (listed a ++ listed b) c h x
 
--- all points strictly within a piece lie alike in both geometries
+-- all points strictly within a piece have one label
 abbrev pub LabelsAreConstant : Type 0
 LabelsAreConstant = (a b : Geometry) → HasClosedRings a → HasClosedRings b → (c : Piece) (h : IsPieceOf a b c) → (x y : Point) → IsInside a b c h x → IsInside a b c h y
     → (locate a x ≡ locate a y) × (locate b x ≡ locate b y)
 
--- and their upper and lower sides are labelled alike, where the piece isn't upright
+-- and if the piece isn't vertical, their upper sides have one label, and so do their lower sides
 abbrev pub SidesAreConstant : Type 0
 SidesAreConstant = (a b : Geometry) → HasClosedRings a → HasClosedRings b → (c : Piece) (h : IsPieceOf a b c) → is_upright c ≡ false → (x y : Point) → IsInside a b c h x → IsInside a b c h y
     → ((above a x ≡ above a y) × (above b x ≡ above b y)) × ((below a x ≡ below a y) × (below b x ≡ below b y))

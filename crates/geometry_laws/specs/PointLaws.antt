@@ -13,15 +13,15 @@ use Rattle.geometry_model.specs.Locations.{locate}
 abbrev pub SameIsReflexive : Type 0
 SameIsReflexive = (p : Point) → same_point p p ≡ true
 
--- the order of two points in the test doesn't matter
+-- if p is the same as q, q is the same as p
 abbrev pub SameIsSymmetric : Type 0
 SameIsSymmetric = (p q : Point) → same_point p q ≡ same_point q p
 
--- two points that are both the same as a third are the same
+-- if p is the same as q, and q as r, then p is the same as r
 abbrev pub SameIsTransitive : Type 0
 SameIsTransitive = (p q r : Point) → IsPoint q → same_point p q ≡ true → same_point q r ≡ true → same_point p r ≡ true
 
--- the other way round
+-- an order the other way round
 abbrev pub reversed : Ordering → Ordering
 reversed Less = Greater
 reversed Equal = Equal
@@ -31,11 +31,11 @@ reversed Greater = Less
 abbrev pub CompareIsReversed : Type 0
 CompareIsReversed = (p q : Point) → compare q p ≡ reversed (compare p q)
 
--- two points are equal in the order exactly where they are one point
+-- two points compare as equal exactly if they are the same point
 abbrev pub EqualIsSame : Type 0
 EqualIsSame = (p q : Point) → (compare p q ≡ Equal) ↔ (same_point p q ≡ true)
 
--- a point before one that is before a third is before the third
+-- if p is before q, and q before r, then p is before r
 abbrev pub LessIsTransitive : Type 0
 LessIsTransitive = (p q r : Point) → IsPoint p → IsPoint q → IsPoint r → compare p q ≡ Less → compare q r ≡ Less → compare p r ≡ Less
 
@@ -44,39 +44,39 @@ abbrev pub MediantIsBetween : Type 0
 MediantIsBetween = (p q : Point) → IsPoint p → IsPoint q → compare p q ≡ Less
     → IsPoint (mediant p q) × (compare p (mediant p q) ≡ Less) × (compare (mediant p q) q ≡ Less)
 
--- what is said of a point is said of all triples that stand for it
+-- what is said of a point doesn't depend on the triple that is taken for it
 abbrev pub Respects : {A : Type 0} → (Point → A) → Type 0
 Respects f = (p q : Point) → IsPoint p → IsPoint q → same_point p q ≡ true → f p ≡ f q
 
--- the order doesn't depend on the triple
+-- the order of points doesn't depend on the triple
 abbrev pub CompareRespects : Type 0
 CompareRespects = (r : Point) → Respects (λ p. compare p r)
 
--- nor does the side of a line
+-- nor does the side of a line on which a point is
 abbrev pub SideRespects : Type 0
 SideRespects = (a b : Position) → Respects (λ p. int_cmp (side a b p) (pos 0))
 
--- nor being on an edge
+-- nor whether it is on an edge
 abbrev pub OnRespects : Type 0
 OnRespects = (e : Edge) → Respects (on e)
 
--- nor what spans the point
+-- nor whether an edge spans it
 abbrev pub SpansRespects : Type 0
 SpansRespects = (e : Edge) → Respects (spans e)
 
--- nor what is strictly above it
+-- nor whether an edge is strictly above it
 abbrev pub StrictlyAboveRespects : Type 0
 StrictlyAboveRespects = (e : Edge) → Respects (strictly_above e)
 
--- nor what is at or above it
+-- nor whether an edge is at or above it
 abbrev pub AtOrAboveRespects : Type 0
 AtOrAboveRespects = (e : Edge) → Respects (at_or_above e)
 
--- nor the parity of what is strictly above it
+-- nor whether an odd number of edges are strictly above it
 abbrev pub OddAboveRespects : Type 0
 OddAboveRespects = (rs : List (List Position)) → Respects (odd_above rs)
 
--- nor the parity of what is at or above it
+-- nor whether an odd number of edges are at or above it
 abbrev pub OddAtOrAboveRespects : Type 0
 OddAtOrAboveRespects = (rs : List (List Position)) → Respects (odd_at_or_above rs)
 

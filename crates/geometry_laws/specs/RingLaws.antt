@@ -1,4 +1,4 @@
--- Laws of rings: what a straight stretch that misses them leaves as it is.
+-- Laws of rings: inside and outside don't change along a straight stretch that misses them.
 use Rattle.std.specs.Prelude.{◌≡◌, ℕ, ◌+◌, ◌<◌, false, List, [], ◌∷◌, All}
 use Rattle.geometry_model.specs.Points.{Position, Point, IsPoint}
 use Rattle.geometry_model.specs.Geometries.{Edge, edges_of_lines}
@@ -16,7 +16,7 @@ IsClosed (a ∷ rest) = last_after a rest ≡ a
 abbrev pub Misses : Point → Point → Edge → Type 0
 Misses p q e = (m n : ℕ) → 0 < m + n → on e (weighted m p n q) ≡ false
 
--- two points joined by a straight stretch that misses all edges of closed rings have equal parity over the rings (06-103r4, 6.1.11.1: the inside of rings is connected so)
+-- two points joined by a straight stretch that misses all edges of closed rings are both inside the rings or both outside (06-103r4, 6.1.11.1)
 abbrev pub ParityIsKept : Type 0
 ParityIsKept = (rings : List (List Position)) (p q : Point) → IsPoint p → IsPoint q → All IsClosed rings → All (Misses p q) (edges_of_lines rings)
     → odd_above rings p ≡ odd_above rings q

@@ -3,11 +3,11 @@ use Rattle.std.specs.Prelude.{◌≡◌, ◌↔◌, ℤ, pos, ◌+ℤ◌, ◌-�
 use Rattle.geometry_model.specs.Points.{Position, Point}
 use Rattle.geometry_model.specs.Sides.{side}
 
--- from b to a a point lies on the other side
+-- exchanging the two positions of a line changes the sign of a point's side
 abbrev pub SideIsAntisymmetric : Type 0
 SideIsAntisymmetric = (a b : Position) (p : Point) → side b a p ≡ pos 0 -ℤ side a b p
 
--- p is on the line through a and b: a multiple of p is a sum of both with weights
+-- p is on the line through a and b: a multiple of p is a weighted sum of the two
 pub record IsOnLine (a b : Position) (p : Point) : Type 0 where
   pub multiple : ℤ
   pub of_a : ℤ

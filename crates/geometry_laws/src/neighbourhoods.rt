@@ -7,7 +7,7 @@ pub fn labels_are_constant()
     ensures { LabelsAreConstant }
 {}
 
-/// All points strictly within a piece that isn't upright have one label on the upper side and one on the lower.
+/// All points strictly within a piece that isn't vertical have one label on the upper side and one on the lower.
 pub fn sides_are_constant()
     ensures { SidesAreConstant }
 {}

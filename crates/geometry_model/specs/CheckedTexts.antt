@@ -1,4 +1,4 @@
--- Bytes as valid geometries: they are read, and what they spell is tested.
+-- Bytes as valid geometries: the text is read, then the geometry is checked.
 use Rattle.std.specs.Prelude.{ℕ, List, Option, Some, None, Result, Ok, Err}
 use Rattle.geometry_model.specs.Geometries.{Geometry}
 use Rattle.geometry_model.specs.TextReading.{read_text}
@@ -13,7 +13,7 @@ abbrev pub valid_or : Geometry → Option ValidityFault → Result Geometry Geom
 valid_or g None = Ok g
 valid_or g (Some f) = Err (fault.Invalid f)
 
--- what was read is tested
+-- the valid geometry that was read, or the fault
 abbrev pub tested : Result Geometry TextFault → Result Geometry GeometryFault
 tested (Ok g) = valid_or g (validity_fault g)
 tested (Err f) = Err (fault.Text f)

@@ -1,4 +1,4 @@
--- The points at which the edges and listed positions of two geometries cut one another.
+-- The points at which the edges of two geometries are cut: their ends, listed positions and crossings.
 use Rattle.std.specs.Prelude.{◌≡◌, Bool, true, false, ◌&&◌, ◌||◌, List, [], ◌∷◌, ◌++◌, map, flat_map, Contains, if◌then◌else◌, pos, ◌-ℤ◌, ◌*ℤ◌, int_lt}
 use Rattle.std.specs.declared.cmp.Ordering.{Ordering}
 use Rattle.std.specs.declared.cmp.Ordering.TheVariants.{Less, Equal, Greater}
@@ -16,7 +16,7 @@ pub data IsCut (es : List Edge) (ps : List Position) (p : Point) : Type 0 where
   Listed : IsPoint p → (a : Position) → Contains ps a → same_point (point_at a) p ≡ true → IsCut es ps p
   AtCrossing : IsPoint p → (e f : Edge) → Contains es e → Contains es f → on_one_line e f ≡ false → on e p ≡ true → on f p ≡ true → IsCut es ps p
 
--- the triple with W at least 0 that stands for the same point
+-- the same point, as a triple whose W is at least 0
 abbrev pub turned_up : Point → Point
 turned_up p =
     if int_lt p.W (pos 0) then record { X = pos 0 -ℤ p.X; Y = pos 0 -ℤ p.Y; W = pos 0 -ℤ p.W }
@@ -33,7 +33,7 @@ meeting_point e f =
       W = s -ℤ t;
     }
 
--- the point, if it is one and both edges go through it
+-- the point, if its W is at least 1 and both edges go through it
 abbrev pub if_on_both : Edge → Edge → Point → List Point
 if_on_both e f p =
     if int_lt (pos 0) p.W && on e p && on f p then p ∷ []
@@ -43,7 +43,7 @@ if_on_both e f p =
 abbrev pub crossings : Edge → Edge → List Point
 crossings e f = if_on_both e f (least_form (meeting_point e f))
 
--- x before y and the rest, in its place behind y, or left out where it is there already
+-- x before y, left out because it equals y, or after y: `behind` is the rest with x in its place
 abbrev pub placed : {A : Type 0} → Ordering → A → A → List A → List A → List A
 placed Less x y rest behind = x ∷ y ∷ rest
 placed Equal x y rest behind = y ∷ rest

@@ -8,7 +8,7 @@ use Rattle.geometry_model.specs.declared.point_sets.Location.TheVariants.{Interi
 use Rattle.geometry_model.specs.declared.point_sets.Dimension.{Dimension}
 use Rattle.geometry_model.specs.declared.point_sets.Dimension.TheVariants.{Empty, Zero, One, Two}
 
--- the point of the hull of two points at the weights m and n
+-- a point of the segment from p to q, weighted by m and n; all weights but two zeros give all its rational points
 abbrev pub weighted : ℕ → Point → ℕ → Point → Point
 weighted m p n q = record {
   X = pos m *ℤ p.X +ℤ pos n *ℤ q.X;
@@ -16,7 +16,7 @@ weighted m p n q = record {
   W = pos m *ℤ p.W +ℤ pos n *ℤ q.W;
 }
 
--- the point of the hull of three points at the weights k, m and n
+-- a point of the triangle of p, q and r, weighted by k, m and n; all weights but three zeros give all its rational points
 abbrev pub weighted_three : ℕ → Point → ℕ → Point → ℕ → Point → Point
 weighted_three k p m q n r = record {
   X = pos k *ℤ p.X +ℤ pos m *ℤ q.X +ℤ pos n *ℤ r.X;
@@ -24,7 +24,7 @@ weighted_three k p m q n r = record {
   W = pos k *ℤ p.W +ℤ pos m *ℤ q.W +ℤ pos n *ℤ r.W;
 }
 
--- twice the signed area of the triangle of three points, scaled by their W: 0 exactly where they are on one line
+-- twice the signed area of the triangle of three points, times each W: 0 exactly if they are on one line
 abbrev pub area : Point → Point → Point → ℤ
 area p q r =
     (p.X *ℤ (q.Y *ℤ r.W -ℤ r.Y *ℤ q.W) -ℤ p.Y *ℤ (q.X *ℤ r.W -ℤ r.X *ℤ q.W))
@@ -56,7 +56,7 @@ pub record HasTriangle (S : Point → Type 0) : Type 0 where
   pub not_on_one_line : area p q r ≢ pos 0
   pub within : (k m n : ℕ) → 0 < k + m + n → S (weighted_three k p m q n r)
 
--- the dimension of a set of points (06-103r4, 6.1.15.2: dim of an intersection)
+-- the dimension of a set of points, by the largest of triangle, segment and point that it holds (06-103r4, 6.1.15.2: dim of an intersection)
 abbrev pub HasDimension : (Point → Type 0) → Dimension → Type 0
 HasDimension S Two = HasTriangle S
 HasDimension S One = HasSegment S × ¬ (HasTriangle S)
@@ -87,7 +87,7 @@ cell m Exterior Interior = m.exterior_interior
 cell m Exterior Boundary = m.exterior_boundary
 cell m Exterior Exterior = m.exterior_exterior
 
--- the matrix with this cell at each two parts (06-103r4, 6.1.15.2)
+-- the matrix whose cell for each two parts is what the function returns (06-103r4, 6.1.15.2)
 abbrev pub matrix_of : (Location → Location → Dimension) → Matrix
 matrix_of d = record {
   interior_interior = d Interior Interior;
@@ -101,11 +101,11 @@ matrix_of d = record {
   exterior_exterior = d Exterior Exterior;
 }
 
--- the points that are in one part of a and in one part of b (06-103r4, 6.1.15.2)
+-- the points in part l of a and in part k of b (06-103r4, 6.1.15.2)
 abbrev pub common : Geometry → Location → Geometry → Location → Point → Type 0
 common a l b k p = part a l p × part b k p
 
--- the matrix is that of a and b (06-103r4, 6.1.15.2)
+-- the matrix is that of a and b: each cell is the dimension of what its two parts share (06-103r4, 6.1.15.2)
 abbrev pub IsMatrix : Geometry → Geometry → Matrix → Type 0
 IsMatrix a b m = (l k : Location) → HasDimension (common a l b k) (cell m l k)
 

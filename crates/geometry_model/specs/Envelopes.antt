@@ -1,4 +1,4 @@
--- Envelopes: the least upright rectangle round a geometry.
+-- Envelopes: the smallest rectangle along the axes that holds a geometry.
 use Rattle.std.specs.Prelude.{Bool, true, false, ◌&&◌, List, [], ◌∷◌, Option, Some, None, ℤ, int_le}
 use Rattle.std.specs.Int.{int_min, int_max}
 use Rattle.geometry_model.specs.Points.{Position}
@@ -15,7 +15,7 @@ pub record Envelope : Type 0 where
 abbrev pub envelope_at : Position → Envelope
 envelope_at a = record { least_x = a.x; greatest_x = a.x; least_y = a.y; greatest_y = a.y }
 
--- the envelope of both (06-103r4, 6.1.2.2: Envelope)
+-- the smallest envelope that holds both (06-103r4, 6.1.2.2: Envelope)
 abbrev pub joined : Envelope → Envelope → Envelope
 joined e f = record {
   least_x = int_min e.least_x f.least_x;
@@ -24,7 +24,7 @@ joined e f = record {
   greatest_y = int_max e.greatest_y f.greatest_y;
 }
 
--- the envelope of a position and of what may follow it (06-103r4, 6.1.2.2: Envelope)
+-- the envelope of a position and of those in an envelope, if there is one (06-103r4, 6.1.2.2: Envelope)
 abbrev pub with_position : Position → Option Envelope → Envelope
 with_position a None = envelope_at a
 with_position a (Some e) = joined (envelope_at a) e
@@ -38,7 +38,7 @@ envelope_of_positions (a ∷ rest) = Some (with_position a (envelope_of_position
 abbrev pub envelope : Geometry → Option Envelope
 envelope g = envelope_of_positions (positions g)
 
--- the rectangles overlap, their edges counted
+-- the rectangles share a point, be it on their edges
 abbrev pub overlap : Envelope → Envelope → Bool
 overlap e f =
     int_le e.least_x f.greatest_x

@@ -1,4 +1,4 @@
--- The first fault of a geometry, computed in whole numbers.
+-- The first fault of a geometry, computed in whole numbers. `validity_laws` proves that each test agrees with its fact in `Validity`.
 use Rattle.std.specs.Prelude.{ℕ, ◌+◌, ◌-◌, ◌==◌, ℤ, pos, int_lt, Bool, false, not, ◌&&◌, ◌||◌, List, [], ◌∷◌, ◌++◌, length, map, flat_map, find, Option, Some, None, nat_lt, nat_le, slice_get, if◌then◌else◌}
 use Rattle.std.specs.List.{list_any, range_with_len, enumerate_from}
 use Rattle.geometry_model.specs.Points.{Position, point_at}
@@ -10,7 +10,7 @@ use Rattle.geometry_model.specs.Validity.{is_short, inside, inside_element, Elem
 use Rattle.geometry_model.specs.declared.validity_faults.ValidityFault.{ValidityFault}
 use Rattle.geometry_model.specs.declared.validity_faults.ValidityFault.TheVariants.{TooFewPoints, RingNotClosed, RingNotSimple, RingsMeet, HoleOutside, HolesNested, ElementsMeet, ElementInside}
 
--- one number is above 0 and the other below
+-- one number is above 0 and the other below 0
 abbrev pub opposite : ℤ → ℤ → Bool
 opposite x y = (int_lt x (pos 0) && int_lt (pos 0) y) || (int_lt (pos 0) x && int_lt y (pos 0))
 
@@ -23,7 +23,7 @@ cross e f = opposite (side e.start e.end (point_at f.start)) (side e.start e.end
 abbrev pub share_point : Edge → Edge → Bool
 share_point e f = on e (point_at f.start) || on e (point_at f.end) || on f (point_at e.start) || on f (point_at e.end) || cross e f
 
--- an end other than the position is on the edge
+-- q is on the edge and isn't the position
 abbrev pub other_on : Position → Edge → Position → Bool
 other_on shared_end e q = on e (point_at q) && not (same_position q shared_end)
 
@@ -31,7 +31,7 @@ other_on shared_end e q = on e (point_at q) && not (same_position q shared_end)
 abbrev pub share_other : Position → Edge → Edge → Bool
 share_other shared_end e f = other_on shared_end e f.start || other_on shared_end e f.end || other_on shared_end f e.start || other_on shared_end f e.end
 
--- the test of an earlier and a later one of the n edges of a ring, each with its number
+-- two of the n edges of a ring clash: the earlier and the later one, each with its number
 abbrev pub clash : ℕ → ℕ × Edge → ℕ × Edge → Bool
 clash n a b =
     if b.0 == a.0 + 1 then share_other a.1.end a.1 b.1
@@ -43,7 +43,7 @@ abbrev pub any_pair : {A : Type 0} → (A → A → Bool) → List A → Bool
 any_pair test [] = false
 any_pair test (x ∷ xs) = list_any (test x) xs || any_pair test xs
 
--- the ring meets or covers itself (06-103r4, 6.1.7: a LinearRing is simple)
+-- the ring touches, crosses or covers itself (06-103r4, 6.1.7: a LinearRing is simple)
 abbrev pub is_not_simple : List Position → Bool
 is_not_simple ring = any_pair (clash (length (edges_of_line ring))) (enumerate_from 0 (edges_of_line ring))
 
@@ -51,7 +51,7 @@ is_not_simple ring = any_pair (clash (length (edges_of_line ring))) (enumerate_f
 abbrev pub rings_share : List Position → List Position → Bool
 rings_share r s = list_any (λ e. list_any (share_point e) (edges_of_line s)) (edges_of_line r)
 
--- a ring of the one polygon and one of the other share a point (06-103r4, 6.1.14)
+-- a ring of one polygon and one of the other share a point (06-103r4, 6.1.14)
 abbrev pub elements_share : List (List Position) → List (List Position) → Bool
 elements_share d e = list_any (λ r. list_any (rings_share r) e) d
 
@@ -60,16 +60,16 @@ abbrev pub is_not_closed : List Position → Bool
 is_not_closed [] = false
 is_not_closed (p ∷ ps) = not (same_position (last_after p ps) p)
 
--- a list passes the test, where there is one
+-- there is a list and it passes the test
 abbrev pub test_of : (List Position → Bool) → Option (List Position) → Bool
 test_of test None = false
 test_of test (Some ps) = test ps
 
--- the ring of a polygon that has this number, where there is one
+-- the ring of a polygon with this number, or none
 abbrev pub ring_of : Element → ℕ → Option (List Position)
 ring_of e number = if nat_le e.first number then slice_get e.rings (number - e.first) else None
 
--- two things do, where both are there
+-- there are two values and they pass the test
 abbrev pub test_of_both : {A : Type 0} → (A → A → Bool) → Option A → Option A → Bool
 test_of_both test None s = false
 test_of_both test (Some r) None = false
@@ -87,19 +87,19 @@ has_fault g (HolesNested i j) =
 has_fault g (ElementsMeet i j) = nat_lt i j && test_of_both elements_share (slice_get (elements g) i) (slice_get (elements g) j)
 has_fault g (ElementInside i j) = not (i == j) && test_of_both (λ d e. inside_element e d) (slice_get (elements g) i) (slice_get (elements g) j)
 
--- the numbers from the first up to n
+-- the numbers from `first` on that are less than n
 abbrev pub numbers : ℕ → ℕ → List ℕ
 numbers first n = range_with_len first (n - first)
 
--- the faults of pairs i < j of these numbers, by i, then by j
+-- the faults of the pairs i < j of numbers from `first` on that are less than n, by i, then by j
 abbrev pub of_pairs : (ℕ → ℕ → ValidityFault) → ℕ → ℕ → List ValidityFault
 of_pairs fault first n = flat_map (λ i. map (fault i) (numbers (i + 1) n)) (numbers first n)
 
--- the number behind that of a polygon's last ring
+-- one more than the number of a polygon's last ring
 abbrev pub rings_end : Element → ℕ
 rings_end e = e.first + length e.rings
 
--- the faults of every two of n numbers, in either order, by i, then by j
+-- the faults of all pairs i, j of numbers less than n, by i, then by j
 abbrev pub of_every_two : (ℕ → ℕ → ValidityFault) → ℕ → List ValidityFault
 of_every_two fault n = flat_map (λ i. map (fault i) (numbers 0 n)) (numbers 0 n)
 

@@ -6,7 +6,8 @@ use Rattle.geometry_model.specs.declared.shapes.GeometryType.TheVariants as type
 use Rattle.geometry_model.specs.declared.shapes.Kind.{Kind}
 use Rattle.geometry_model.specs.declared.shapes.Kind.TheVariants as kinds
 
--- a geometry (06-103r4, 6.1.4 to 6.1.14): one position or none; listed positions; the positions of a line, from its start to its end; those of each element; those of each ring, the outer one first; the rings of each polygon
+-- a geometry: a Point is a position or none; a MultiPoint positions; a LineString positions from start to end; a
+-- MultiLineString lines; a Polygon rings, the outer one first; a MultiPolygon polygons (06-103r4, 6.1.4 to 6.1.14)
 pub data Geometry : Type 0 where
   Point : Option Position → Geometry
   MultiPoint : List Position → Geometry
@@ -15,7 +16,7 @@ pub data Geometry : Type 0 where
   Polygon : List (List Position) → Geometry
   MultiPolygon : List (List (List Position)) → Geometry
 
--- its type (06-103r4, 6.1.2.2: GeometryType)
+-- the type of a geometry (06-103r4, 6.1.2.2: GeometryType)
 abbrev pub type_of : Geometry → GeometryType
 type_of (Point p) = types.Point
 type_of (MultiPoint ps) = types.MultiPoint
@@ -59,7 +60,7 @@ listed (MultiLineString ls) = []
 listed (Polygon rs) = []
 listed (MultiPolygon es) = []
 
--- its lines or rings; point types have none (06-103r4, 6.1.7, 6.1.9, 6.1.11 and 6.1.14)
+-- the lines or rings of a geometry; point types have none (06-103r4, 6.1.7, 6.1.9, 6.1.11 and 6.1.14)
 abbrev pub lines : Geometry → List (List Position)
 lines (Point p) = []
 lines (MultiPoint ps) = []
@@ -86,7 +87,7 @@ rings (MultiLineString ls) = []
 rings (Polygon rs) = rs
 rings (MultiPolygon es) = joined_rings es
 
--- all its positions, in order (06-103r4, 6.1.4 to 6.1.14)
+-- all positions of a geometry, in order (06-103r4, 6.1.4 to 6.1.14)
 abbrev pub positions : Geometry → List Position
 positions g = listed g ++ flat_map (λ line. line) (lines g)
 

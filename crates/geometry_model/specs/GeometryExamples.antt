@@ -1,4 +1,4 @@
--- Words for worked rows: geometries are given by their well-known text.
+-- Short names for worked examples of geometries, which are given by their well-known text.
 use Rattle.std.specs.Prelude.{ℕ, Bool, List, codes, Result, Ok, Err, Option, Some, None, option_map, ℤ}
 use Rattle.geometry_model.specs.Points.{Point}
 use Rattle.geometry_model.specs.Geometries.{Geometry, kind}
@@ -14,12 +14,12 @@ use Rattle.geometry_model.specs.declared.relations.Predicate.{Predicate}
 use Rattle.geometry_model.specs.declared.relations.Predicate.TheVariants as predicates
 use Rattle.geometry_model.specs.declared.text_faults.TextFault.{TextFault}
 
--- what a text spells, handed on; none where it spells nothing
+-- the function of the geometry that was read; none if the text spells nothing
 abbrev pub with_one : {A : Type 0} → (Geometry → A) → Result Geometry TextFault → Option A
 with_one f (Err e) = None
 with_one f (Ok a) = Some (f a)
 
--- what two texts spell, handed on; none where one spells nothing
+-- the function of the two geometries that were read; none if a text spells nothing
 abbrev pub with_both : {A : Type 0} → (Geometry → Geometry → A) → Result Geometry TextFault → Result Geometry TextFault → Option A
 with_both f (Err e) r = None
 with_both f (Ok a) (Err e) = None
@@ -33,11 +33,11 @@ relate s t = with_both (λ a b. matrix_text (labelled_matrix a b)) (read_text s)
 abbrev pub place : List ℕ → Point → Option Location
 place s p = with_one (λ a. locate a p) (read_text s)
 
--- where what is just below the point (X/W, Y/W) lies in the geometry of a text
+-- where the points just below (X/W, Y/W) lie in the geometry of a text
 abbrev pub just_below : List ℕ → Point → Option Location
 just_below s p = with_one (λ a. below a p) (read_text s)
 
--- where what is just above it lies
+-- where the points just above (X/W, Y/W) lie in the geometry of a text
 abbrev pub just_above : List ℕ → Point → Option Location
 just_above s p = with_one (λ a. above a p) (read_text s)
 
@@ -45,7 +45,7 @@ just_above s p = with_one (λ a. above a p) (read_text s)
 abbrev pub is_held : Predicate → List ℕ → List ℕ → Option Bool
 is_held p s t = with_both (λ a b. holds p (kind a) (kind b) (labelled_matrix a b)) (read_text s) (read_text t)
 
--- whether a pattern's text forces its two geometries' envelopes to meet
+-- whether geometries that match a pattern's text have envelopes that meet
 abbrev pub forces : List ℕ → Option Bool
 forces text = option_map (λ p. forces_meeting (predicates.Relate p)) (pattern_of_text text)
 
@@ -73,7 +73,7 @@ point x y w = record { X = x; Y = y; W = w }
 abbrev pub from_to : Point → Point → Piece
 from_to p q = record { lesser = p; greater = q }
 
--- a level square of side 4
+-- a square of side 4 along the axes
 abbrev pub square : List ℕ
 square = codes "POLYGON((0 0,4 0,4 4,0 4,0 0))"
 

@@ -23,11 +23,11 @@ pub record Label : Type 0 where
 abbrev pub label : Geometry → Geometry → Point → Label
 label a b p = record { first = locate a p; second = locate b p }
 
--- just below a sample an area is where an odd number of its edges are at or above the sample; other kinds are exterior there
+-- where the points just below a sample lie: in the interior of an area exactly if an odd number of its edges are at or above the sample; in the exterior of points and lines
 abbrev pub below : Geometry → Point → Location
 below g p = if odd_at_or_above (rings g) p then Interior else Exterior
 
--- just above a sample an area is where an odd number of its edges are strictly above the sample
+-- where the points just above a sample lie: in the interior of an area exactly if an odd number of its edges are strictly above the sample
 abbrev pub above : Geometry → Point → Location
 above g p = if odd_above (rings g) p then Interior else Exterior
 
@@ -36,11 +36,11 @@ pub record SideLabels : Type 0 where
   pub lower : Label
   pub upper : Label
 
--- the piece is upright: its ends have one x
+-- the piece is vertical: its ends have the same x
 abbrev pub is_upright : Piece → Bool
 is_upright c = int_eq (c.lesser.X *ℤ c.greater.W) (c.greater.X *ℤ c.lesser.W)
 
--- the sides of a piece that isn't upright
+-- the labels just below and just above a piece; a vertical piece has none
 abbrev pub side_labels : Geometry → Geometry → Piece → Option SideLabels
 side_labels a b c =
     if is_upright c then None
@@ -49,7 +49,7 @@ side_labels a b c =
       upper = record { first = above a (sample c); second = above b (sample c) };
     }
 
--- the labels of all cut points, of all pieces at their samples, and of the pieces' sides, in the order of these
+-- the labels of all cut points, of all pieces at their samples, and of the pieces' sides, in the order of points and pieces
 pub record Labels : Type 0 where
   pub of_points : List Label
   pub of_pieces : List Label
@@ -78,7 +78,7 @@ labels a b = labels_at (cuts_of_both a b)
     labels_at : List Point → Labels
     labels_at cuts = labels_of a b cuts (pieces cuts (edges_of_both a b))
 
--- two parts are one
+-- two parts are equal
 abbrev pub same_location : Location → Location → Bool
 same_location Interior Interior = true
 same_location Boundary Boundary = true
@@ -94,7 +94,7 @@ abbrev pub is_side_pair : Location → Location → Option SideLabels → Bool
 is_side_pair l k None = false
 is_side_pair l k (Some s) = is_pair l k s.lower || is_pair l k s.upper
 
--- the greatest dimension of what has this pair: a side, a piece, a point, nothing
+-- the greatest dimension of what has this pair: a side has 2, a piece 1, a point 0
 abbrev pub labelled_cell : Labels → Location → Location → Dimension
 labelled_cell x l k =
     if list_any (is_side_pair l k) x.of_sides then Two
@@ -102,7 +102,7 @@ labelled_cell x l k =
     else if list_any (is_pair l k) x.of_points then Zero
     else Empty
 
--- the matrix that labels show; the two exteriors share an area always
+-- the matrix that labels show; the two exteriors always share an area
 abbrev pub matrix_of_labels : Labels → Matrix
 matrix_of_labels x = record (matrix_of (labelled_cell x)) { exterior_exterior = Two }
 

@@ -1,4 +1,4 @@
--- The interior, the boundary and the exterior of a geometry.
+-- In which part of a geometry a point lies: its interior, its boundary or its exterior.
 use Rattle.std.specs.Prelude.{◌≡◌, Bool, List, [], ◌∷◌, if◌then◌else◌, count_by, flat_map, option_to_list}
 use Rattle.std.specs.List.{list_any}
 use Rattle.geometry_model.specs.Points.{Position, Point, same_point, point_at}
@@ -12,7 +12,7 @@ use Rattle.geometry_model.specs.declared.point_sets.Location.TheVariants.{Interi
 abbrev pub stands_at : Point → Position → Bool
 stands_at p a = same_point (point_at a) p
 
--- the last of a and the positions after it (06-103r4, 6.1.6.1)
+-- the last position of a line that begins with a (06-103r4, 6.1.6.1)
 abbrev pub last_after : Position → List Position → Position
 last_after a [] = a
 last_after a (b ∷ rest) = last_after b rest
@@ -26,7 +26,7 @@ ends (a ∷ rest) = a ∷ last_after a rest ∷ []
 abbrev pub on_some : List (List Position) → Point → Bool
 on_some ls p = list_any (λ e. on e p) (edges_of_lines ls)
 
--- an odd number of element ends are at the point (06-103r4, 6.1.8.1: the mod 2 rule)
+-- an odd number of line ends are at the point (06-103r4, 6.1.8.1: the mod 2 rule)
 abbrev pub is_odd_end : List (List Position) → Point → Bool
 is_odd_end ls p = odd (count_by (stands_at p) (flat_map ends ls))
 
@@ -34,14 +34,14 @@ is_odd_end ls p = odd (count_by (stands_at p) (flat_map ends ls))
 abbrev pub in_points : List Position → Point → Location
 in_points ps p = if list_any (stands_at p) ps then Interior else Exterior
 
--- lines: the boundary is the points at which an odd number of element ends are; the interior is the rest of the lines (06-103r4, 6.1.6.1 and 6.1.8.1: the mod 2 rule)
+-- lines: the boundary is the odd ends; the interior is the rest of the lines (06-103r4, 6.1.6.1 and 6.1.8.1: the mod 2 rule)
 abbrev pub in_lines : List (List Position) → Point → Location
 in_lines ls p =
     if is_odd_end ls p then Boundary
     else if on_some ls p then Interior
     else Exterior
 
--- an area: the boundary is its rings; the interior is what is inside an odd number of them (06-103r4, 6.1.11.1 and 6.1.14)
+-- an area: the boundary is its rings; the interior is what is inside them (06-103r4, 6.1.11.1 and 6.1.14)
 abbrev pub in_rings : List (List Position) → Point → Location
 in_rings rs p =
     if on_some rs p then Boundary

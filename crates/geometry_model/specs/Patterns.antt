@@ -7,7 +7,7 @@ use Rattle.geometry_model.specs.declared.relations.PatternCharacter.{PatternChar
 use Rattle.geometry_model.specs.declared.relations.PatternCharacter.TheVariants as characters
 use Rattle.geometry_model.specs.declared.relations.Pattern.{Pattern}
 
--- a character takes a dimension: T any but F, F itself, * all, 0, 1 and 2 themselves (06-103r4, 6.1.15.2)
+-- a character matches a dimension: T 0, 1 and 2, F only the empty set, * all, 0, 1 and 2 themselves (06-103r4, 6.1.15.2)
 abbrev pub takes : PatternCharacter → Dimension → Bool
 takes characters.Any d = true
 takes characters.True dimensions.Empty = false
@@ -31,7 +31,7 @@ takes characters.Two dimensions.Zero = false
 takes characters.Two dimensions.One = false
 takes characters.Two dimensions.Two = true
 
--- a pattern matches a matrix when each character takes its cell (06-103r4, 6.1.15.2)
+-- a pattern matches a matrix if each character matches its cell (06-103r4, 6.1.15.2)
 abbrev pub matches : Pattern → Matrix → Bool
 matches p m =
     takes p.interior_interior m.interior_interior
@@ -55,12 +55,12 @@ character_of c =
     else if c == 50 then Some characters.Two
     else None
 
--- the characters that the bytes write, if each writes one (06-103r4, 6.1.15.2)
+-- the characters that the bytes write, or none if a byte writes no character (06-103r4, 6.1.15.2)
 abbrev pub characters_of : List ℕ → Option (List PatternCharacter)
 characters_of [] = Some []
 characters_of (c ∷ rest) = option_and_then (λ x. option_and_then (λ xs. Some (x ∷ xs)) (characters_of rest)) (character_of c)
 
--- nine characters, by rows: interior, boundary and exterior of the first with those of the second (06-103r4, 6.1.15.2)
+-- the pattern of nine characters, by rows: a row for the interior, boundary and exterior of the first geometry (06-103r4, 6.1.15.2)
 abbrev pub pattern_of : List PatternCharacter → Option Pattern
 pattern_of (ii ∷ ib ∷ ie ∷ bi ∷ bb ∷ be ∷ ei ∷ eb ∷ ee ∷ []) = Some record {
   interior_interior = ii;

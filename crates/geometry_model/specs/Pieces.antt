@@ -1,4 +1,4 @@
--- The stretches of edges between neighbouring cuts.
+-- Pieces: the stretches of edges between neighbouring cuts.
 use Rattle.std.specs.Prelude.{◌≡◌, true, List, [], ◌∷◌, filter, flat_map, Contains}
 use Rattle.std.specs.declared.cmp.Ordering.{Ordering}
 use Rattle.std.specs.declared.cmp.Ordering.TheVariants.{Less}
@@ -30,7 +30,7 @@ stretches [] = []
 stretches (p ∷ []) = []
 stretches (p ∷ q ∷ rest) = record { lesser = p; greater = q } ∷ stretches (q ∷ rest)
 
--- the pieces of an edge, of ascending cuts
+-- the pieces of an edge, where the cuts ascend
 abbrev pub pieces_of_edge : List Point → Edge → List Piece
 pieces_of_edge cuts e = stretches (filter (on e) cuts)
 
@@ -42,6 +42,6 @@ compare_pieces c d = ordering_then (compare c.lesser d.lesser) (compare c.greate
 abbrev pub pieces : List Point → List Edge → List Piece
 pieces cuts es = ascending compare_pieces (flat_map (pieces_of_edge cuts) es)
 
--- the point of a piece that stands for all points strictly within it
+-- a point strictly within a piece, whose label is that of all such points
 abbrev pub sample : Piece → Point
 sample c = mediant c.lesser c.greater

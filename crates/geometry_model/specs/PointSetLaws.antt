@@ -7,15 +7,15 @@ use Rattle.geometry_model.specs.PointSets.{IsInterior, IsBoundary, IsExterior}
 use Rattle.geometry_model.specs.declared.point_sets.Location.{Location}
 use Rattle.geometry_model.specs.declared.point_sets.Location.TheVariants.{Interior, Boundary, Exterior}
 
--- 'interior' is returned exactly at the points of the interior (06-103r4, 6.1.15.2)
+-- `locate` returns Interior exactly at the points of the interior (06-103r4, 6.1.15.2)
 abbrev pub LocatesInterior : Type 0
 LocatesInterior = (g : Geometry) (p : Point) → (locate g p ≡ Interior) ↔ IsInterior g p
 
--- 'boundary' is returned exactly at the points of the boundary (06-103r4, 6.1.15.2)
+-- `locate` returns Boundary exactly at the points of the boundary (06-103r4, 6.1.15.2)
 abbrev pub LocatesBoundary : Type 0
 LocatesBoundary = (g : Geometry) (p : Point) → (locate g p ≡ Boundary) ↔ IsBoundary g p
 
--- 'exterior' is returned exactly at the points of the exterior (06-103r4, 6.1.15.2)
+-- `locate` returns Exterior exactly at the points of the exterior (06-103r4, 6.1.15.2)
 abbrev pub LocatesExterior : Type 0
 LocatesExterior = (g : Geometry) (p : Point) → (locate g p ≡ Exterior) ↔ IsExterior g p
 

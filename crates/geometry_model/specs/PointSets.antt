@@ -1,4 +1,4 @@
--- Interior, boundary and exterior said as facts about a point, in the standard's words, beside the function that returns which.
+-- Interior, boundary and exterior as facts about a point, near to the standard's words. `Locations` computes the same.
 use Rattle.std.specs.Prelude.{List, [], ◌∷◌, IsTrue, Any, option_to_list}
 use Rattle.geometry_model.specs.Points.{Position, Point}
 use Rattle.geometry_model.specs.Geometries.{Geometry, edges_of_lines, joined_rings}
@@ -14,11 +14,11 @@ IsListed ps p = Any (λ a. IsTrue (stands_at p a)) ps
 abbrev pub LiesOn : List (List Position) → Point → Type 0
 LiesOn ls p = Any (λ e. IsTrue (on e p)) (edges_of_lines ls)
 
--- an odd number of element ends are at the point (06-103r4, 6.1.8.1: the mod 2 rule)
+-- an odd number of line ends are at the point (06-103r4, 6.1.8.1: the mod 2 rule)
 abbrev pub IsOddEnd : List (List Position) → Point → Type 0
 IsOddEnd ls p = IsTrue (is_odd_end ls p)
 
--- the interior: the listed points; the points of the lines that aren't boundary; what is inside the rings and not on them (06-103r4, 6.1.4 to 6.1.14)
+-- the interior: the listed points; the points of lines that aren't boundary; what is inside the rings and not on them (06-103r4, 6.1.4 to 6.1.14)
 abbrev pub IsInterior : Geometry → Point → Type 0
 IsInterior (Geometry.Point o) p = IsListed (option_to_list o) p
 IsInterior (Geometry.MultiPoint ps) p = IsListed ps p

@@ -9,13 +9,13 @@ pub record Position : Type 0 where
   pub x : ℤ
   pub y : ℤ
 
--- a point of the plane, standing for (X/W, Y/W) (06-103r4, 6.1.4; rational coordinates alone: this project's choice)
+-- a point of the plane: (X/W, Y/W) (06-103r4, 6.1.4; rational coordinates alone: this project's choice)
 pub record Point : Type 0 where
   pub X : ℤ
   pub Y : ℤ
   pub W : ℤ
 
--- a triple stands for a point where W is at least 1
+-- a triple is a point if its W is at least 1
 abbrev pub IsPoint : Point → Type 0
 IsPoint p = pos 0 <ℤ p.W
 
@@ -23,7 +23,7 @@ IsPoint p = pos 0 <ℤ p.W
 abbrev pub point_at : Position → Point
 point_at a = record { X = a.x; Y = a.y; W = pos 1 }
 
--- two triples stand for one point: both coordinates agree, multiplied across
+-- two triples are the same point: X/W and Y/W are equal, compared without division
 abbrev pub same_point : Point → Point → Bool
 same_point p q = int_eq (p.X *ℤ q.W) (q.X *ℤ p.W) && int_eq (p.Y *ℤ q.W) (q.Y *ℤ p.W)
 
@@ -39,21 +39,21 @@ compare_y p q = int_cmp (p.Y *ℤ q.W) (q.Y *ℤ p.W)
 abbrev pub compare : Point → Point → Ordering
 compare p q = ordering_then (compare_x p q) (compare_y p q)
 
--- a point between two others: the sums of the numbers of their triples
+-- a point strictly between two different points: the sum of their triples, number by number
 abbrev pub mediant : Point → Point → Point
 mediant p q = record { X = p.X +ℤ q.X; Y = p.Y +ℤ q.Y; W = p.W +ℤ q.W }
 
--- a triple is in least form where no number but 1 divides all three
+-- a triple is in least form: only 1 divides all three numbers
 abbrev pub IsLeast : Point → Type 0
 IsLeast p = (d : ℕ) → d ∣ unsigned_abs p.X → d ∣ unsigned_abs p.Y → d ∣ unsigned_abs p.W → d ≡ 1
 
--- Euclid's remainders, for so many turns at most
+-- Euclid's algorithm, with this many turns at most
 abbrev pub last_divisor : ℕ → ℕ → ℕ → ℕ
 last_divisor zero a b = a
 last_divisor (suc turns) a zero = a
 last_divisor (suc turns) a (suc b) = last_divisor turns (suc b) (a % suc b)
 
--- the greatest common divisor: the remainders fall, so b + 1 turns are enough
+-- the greatest common divisor; each remainder is less than the one before, so b + 1 turns are enough
 abbrev pub gcd : ℕ → ℕ → ℕ
 gcd a b = last_divisor (b + 1) a b
 
@@ -61,6 +61,6 @@ gcd a b = last_divisor (b + 1) a b
 abbrev pub divided : Point → ℕ → Point
 divided p g = record { X = int_div p.X (pos g); Y = int_div p.Y (pos g); W = int_div p.W (pos g) }
 
--- the triple in least form that stands for the same point
+-- the same point in least form
 abbrev pub least_form : Point → Point
 least_form p = divided p (gcd (gcd (unsigned_abs p.X) (unsigned_abs p.Y)) (unsigned_abs p.W))

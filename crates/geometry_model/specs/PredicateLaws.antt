@@ -7,7 +7,7 @@ use Rattle.geometry_model.specs.declared.relations.Pattern.{Pattern}
 use Rattle.geometry_model.specs.declared.relations.Predicate.{Predicate}
 use Rattle.geometry_model.specs.declared.relations.Predicate.TheVariants as predicates
 
--- the pattern of the two geometries the other way round
+-- the pattern that says the same of the two geometries in the other order
 abbrev pub transposed_pattern : Pattern → Pattern
 transposed_pattern p = record {
   interior_interior = p.interior_interior;
@@ -21,7 +21,7 @@ transposed_pattern p = record {
   exterior_exterior = p.exterior_exterior;
 }
 
--- the predicate that says the same of the two geometries the other way round
+-- the predicate that says the same of the two geometries in the other order
 abbrev pub converse : Predicate → Predicate
 converse predicates.Equals = predicates.Equals
 converse predicates.Disjoint = predicates.Disjoint
@@ -33,6 +33,6 @@ converse predicates.Contains = predicates.Within
 converse predicates.Overlaps = predicates.Overlaps
 converse (predicates.Relate p) = predicates.Relate (transposed_pattern p)
 
--- a predicate of (a, b) is its converse of (b, a): Within is Contains, and the other named ones are themselves
+-- a predicate holds of (a, b) exactly if its converse holds of (b, a): the converse of Within is Contains, and each other named predicate is its own
 abbrev pub ConverseOfTransposed : Type 0
 ConverseOfTransposed = (p : Predicate) (k l : Kind) (m : Matrix) → holds p k l m ≡ holds (converse p) l k (transposed m)

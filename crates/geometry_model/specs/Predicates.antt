@@ -1,4 +1,4 @@
--- The spatial predicates: which matrices each takes, by the kinds of the two geometries.
+-- The spatial predicates: for which matrices each holds, by the kinds of the two geometries.
 use Rattle.std.specs.Prelude.{Bool, true, false, not, ◌||◌, List, ℕ, codes}
 use Rattle.std.specs.Option.{option_map_or}
 use Rattle.geometry_model.specs.Dimensions.{Matrix, transposed}
@@ -11,11 +11,11 @@ use Rattle.geometry_model.specs.declared.relations.Pattern.{Pattern}
 use Rattle.geometry_model.specs.declared.relations.Predicate.{Predicate}
 use Rattle.geometry_model.specs.declared.relations.Predicate.TheVariants as predicates
 
--- the matrix matches the pattern of this text (06-103r4, 6.1.15.2)
+-- the text is a pattern and the matrix matches it (06-103r4, 6.1.15.2)
 abbrev pub like : List ℕ → Matrix → Bool
 like text m = option_map_or (λ p. matches p m) (pattern_of_text text) false
 
--- Crosses, by kinds (06-103r4, 6.1.15.3; of the kinds the other way round: this project's choice)
+-- Crosses, by kinds (06-103r4, 6.1.15.3; with the greater dimension first: this project's choice)
 abbrev pub crosses : Kind → Kind → Matrix → Bool
 crosses kinds.Point kinds.Point m = false
 crosses kinds.Point kinds.Line m = like (codes "T*T******") m
@@ -51,7 +51,7 @@ holds predicates.Contains k l m = like (codes "T*F**F***") (transposed m)
 holds predicates.Overlaps k l m = overlaps k l m
 holds (predicates.Relate p) k l m = matches p m
 
--- a character that no empty cell matches
+-- the character doesn't match an empty cell
 abbrev pub wants_point : PatternCharacter → Bool
 wants_point characters.True = true
 wants_point characters.False = false
@@ -60,7 +60,7 @@ wants_point characters.Zero = true
 wants_point characters.One = true
 wants_point characters.Two = true
 
--- a pattern that wants a point in both geometries
+-- the pattern matches only where the two geometries share a point
 abbrev pub wants_common_point : Pattern → Bool
 wants_common_point p =
     wants_point p.interior_interior
@@ -68,7 +68,7 @@ wants_common_point p =
     || wants_point p.boundary_interior
     || wants_point p.boundary_boundary
 
--- where the predicate holds, the envelopes of the two geometries meet
+-- the predicate can hold only where the envelopes of the two geometries meet, so an index of envelopes can be searched for it
 abbrev pub forces_meeting : Predicate → Bool
 forces_meeting predicates.Equals = true
 forces_meeting predicates.Disjoint = false

@@ -8,7 +8,7 @@ use Rattle.geometry_model.specs.Geometries.{Edge}
 abbrev pub side : Position → Position → Point → ℤ
 side a b p = (b.x -ℤ a.x) *ℤ (p.Y -ℤ a.y *ℤ p.W) -ℤ (b.y -ℤ a.y) *ℤ (p.X -ℤ a.x *ℤ p.W)
 
--- the coordinate n/w lies between s and t, ends counted
+-- the coordinate n/w is between s and t, or equal to one of them
 abbrev pub between : ℤ → ℤ → ℤ → ℤ → Bool
 between s t n w = (int_le (s *ℤ w) n && int_le n (t *ℤ w)) || (int_le (t *ℤ w) n && int_le n (s *ℤ w))
 

@@ -20,12 +20,12 @@ pub record Input : Type 0 where
 abbrev pub Reader : Type 0 → Type 0
 Reader A = Input → Result (A × Input) TextFault
 
--- the next step behind what was found; a fault stays
+-- the next step, which knows what was found; or the fault
 abbrev pub and_then : {A B : Type 0} → Result (A × Input) TextFault → (A → Reader B) → Result (B × Input) TextFault
 and_then (Ok found) next = next found.0 found.1
 and_then (Err fault) next = Err fault
 
--- one step, and then one that knows what the first found
+-- one step, and then the step that the second argument makes of what it found
 infixl 10 ◌>>=◌
 abbrev pub ◌>>=◌ : {A B : Type 0} → Reader A → (A → Reader B) → Reader B
 (step >>= next) i = and_then (step i) next
@@ -35,46 +35,46 @@ infixl 10 ◌>>◌
 abbrev pub ◌>>◌ : {A B : Type 0} → Reader A → Reader B → Reader B
 (step >> next) i = and_then (step i) (λ _. next)
 
--- this is found, and nothing is read
+-- finds this value and reads nothing
 abbrev pub pure : {A : Type 0} → A → Reader A
 pure x i = Ok (x, i)
 
--- behind the next n bytes
+-- what is left after the next n bytes
 abbrev pub after : ℕ → Input → Input
 after n i = record { left = drop n i.left; at = i.at + n }
 
--- the next byte passes the test
+-- finds whether the next byte passes the test, and reads nothing
 abbrev pub sees : (ℕ → Bool) → Reader Bool
 sees test i = Ok (begins_with test i.left, i)
 
--- the byte that is read next
+-- finds the place of the next byte, and reads nothing
 abbrev pub place : Reader ℕ
 place i = Ok (i.at, i)
 
--- W1 at a byte
+-- the fault W1, not well-known text, at this byte
 abbrev pub refuse : {A : Type 0} → ℕ → Reader A
 refuse at i = Err (Syntax at)
 
--- W4
+-- the fault W4, too many positions or parts
 abbrev pub too_long : {A : Type 0} → Reader A
 too_long i = Err TooLong
 
--- the bytes from here on that pass the test
+-- reads the bytes up to the first that doesn't pass the test
 abbrev pub run : (ℕ → Bool) → Reader (List ℕ)
 run test i = Ok (take (prefix_len test i.left) i.left, after (prefix_len test i.left) i)
 
--- the byte, where it is the next
+-- reads the byte if it comes next, and finds whether it does
 abbrev pub eat : ℕ → Reader Bool
 eat c i = Ok (begins_with (λ b. b == c) i.left, if begins_with (λ b. b == c) i.left then after 1 i else i)
 
--- the byte, which has to be the next
+-- reads the byte, or refuses if another comes next
 abbrev pub expect : ℕ → Reader Bool
 expect c = do
   at ← place
   found ← eat c
   if found then pure true else refuse at
 
--- white space or none on both sides
+-- the step with white space or none on both sides
 abbrev pub padded : {A : Type 0} → Reader A → Reader A
 padded step = do
   run is_white
@@ -82,7 +82,7 @@ padded step = do
   run is_white
   pure x
 
--- in parentheses
+-- the step in parentheses
 abbrev pub enclosed : {A : Type 0} → Reader A → Reader A
 enclosed step = do
   expect 40
@@ -118,20 +118,20 @@ numeral = do
   digits ← fraction
   if length whole + length digits == 0 then refuse at else pure (record { at = at; minus = minus; whole = whole; fraction = digits })
 
--- what it stands for: first W2, then W3
+-- the whole number that is written: W2 if it isn't whole, else W3 if it is past the limit
 unfoldable pub coordinate : FoundNumber → Reader ℤ
 coordinate n i = if is_whole n.fraction
     then (if nat_lt coordinate_limit (digits_value 10 n.whole) then Err (OutOfRange n.at) else Ok (signed n.minus n.whole, i))
     else Err (OffGrid n.at)
 
--- white space, which has to come here
+-- white space of one byte or more, or W1
 unfoldable pub space : Reader (List ℕ)
 space = do
   at ← place
   white ← run is_white
   if length white == 0 then refuse at else pure white
 
--- a position where so many may still come; at its first number W4 goes before W2 and W3
+-- a position, where `room` is how many may still come; if none may, W4 comes before W2 and W3 of its first number
 unfoldable pub position : ℕ → Reader Position
 position room = do
   first ← numeral
@@ -147,7 +147,7 @@ point room = do
   open_comes ← sees (λ c. c == 40)
   if open_comes then enclosed (padded (position room)) else position room
 
--- one or more with commas between, where so many may still come
+-- one or more with commas between, where `room` is how many may still come
 unfoldable pub separated : {A : Type 0} → (ℕ → Reader A) → ℕ → Reader (List A)
 separated item zero = padded (item zero) >>= λ x. pure (x ∷ [])
 separated item (suc room) = do
@@ -159,7 +159,7 @@ separated item (suc room) = do
 unfoldable pub line : ℕ → Reader (List Position)
 line room = enclosed (separated position room)
 
--- elements or rings, where so many parts and so many positions may still come
+-- elements or rings, where `count` parts and `room` positions may still come
 unfoldable pub parts : ℕ → ℕ → Reader (List (List Position))
 parts zero room = padded (expect 40 >> too_long)
 parts (suc count) room = do
@@ -167,12 +167,12 @@ parts (suc count) room = do
   goes_on ← eat 44
   if goes_on then (parts count (room - length x) >>= λ more. pure (x ∷ more)) else pure (x ∷ [])
 
--- the rings of a polygon, where so many parts and so many positions may still come (06-103r4, 7.2.2: polygon text)
+-- the rings of a polygon, where `count` parts and `room` positions may still come (06-103r4, 7.2.2: polygon text)
 unfoldable pub polygon : ℕ → ℕ → Reader (List (List Position))
 polygon count room = enclosed (parts count room)
 
--- polygons, where so many parts and so many positions may still come: each hands on what is left of both; a polygon has a
--- ring at least, so as many turns as parts are enough
+-- polygons, where `count` parts and `room` positions may still come: each polygon leaves what it doesn't use to the next. It has
+-- a ring at least, so as many turns as parts are enough
 unfoldable pub polygons : ℕ → ℕ → ℕ → Reader (List (List (List Position)))
 polygons zero count room = padded (polygon count room) >>= λ x. pure (x ∷ [])
 polygons (suc turns) count room = do
@@ -188,15 +188,15 @@ body inner = do
   word ← run is_ascii_alphabetic
   if length word == 0 then enclosed inner else (if str_eq_ignore_ascii_case word (codes "EMPTY") then pure [] else refuse at)
 
--- the positions behind a name
+-- the positions after a type's name
 abbrev pub positions : (ℕ → Reader Position) → Reader (List Position)
 positions item = body (separated item position_limit)
 
--- the elements or rings behind a name
+-- the elements or rings after a type's name
 abbrev pub lists : Reader (List (List Position))
 lists = body (parts part_limit position_limit)
 
--- the polygons behind a name
+-- the polygons after a type's name
 abbrev pub nested_lists : Reader (List (List (List Position)))
 nested_lists = body (polygons part_limit part_limit position_limit)
 
@@ -204,12 +204,12 @@ nested_lists = body (polygons part_limit part_limit position_limit)
 abbrev pub lone : Reader (List Position)
 lone = body (padded (position position_limit) >>= λ p. pure (p ∷ []))
 
--- the first of the list
+-- the first of the list, if there is one
 abbrev pub first : List Position → Option Position
 first [] = None
 first (p ∷ ps) = Some p
 
--- what comes after a type's name
+-- what comes after a type's name; W1 at the byte where the name begins if it is no type's
 unfoldable pub typed : ℕ → List ℕ → Reader Geometry
 typed at name =
     if str_eq_ignore_ascii_case name (codes "POINT") then (lone >>= λ ps. pure (Point (first ps)))

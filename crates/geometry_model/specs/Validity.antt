@@ -8,7 +8,7 @@ use Rattle.geometry_model.specs.Locations.{last_after}
 use Rattle.geometry_model.specs.declared.validity_faults.ValidityFault.{ValidityFault}
 use Rattle.geometry_model.specs.declared.validity_faults.ValidityFault.TheVariants.{TooFewPoints, RingNotClosed, RingNotSimple, RingsMeet, HoleOutside, HolesNested, ElementsMeet, ElementInside}
 
--- a part has too few positions: a line that isn't empty, or an element, fewer than 2, a ring fewer than 4 with the closing one
+-- a part has too few positions: one in a LineString, fewer than 2 in an element of a MultiLineString, fewer than 4 in a ring, its last one counted
 -- (06-103r4, 6.1.7 and 6.1.11.1)
 abbrev pub is_short : Geometry → List Position → Bool
 is_short (Geometry.Point p) part = false
@@ -38,7 +38,7 @@ pub record ShareOther (shared_end : Position) (e f : Edge) : Type 0 where
 abbrev pub Clash : ℕ → ℕ → ℕ → Edge → Edge → Type 0
 Clash n i j e f = ((j ≡ i + 1) × ShareOther e.end e f) ⊎ ((i ≡ 0) × (j + 1 ≡ n) × ShareOther e.start e f) ⊎ ((j ≢ i + 1) × (((i ≡ 0) × (j + 1 ≡ n)) → ⊥) × SharePoint e f)
 
--- a ring that meets or covers itself (06-103r4, 6.1.7: a LinearRing is simple)
+-- a ring that touches, crosses or covers itself (06-103r4, 6.1.7: a LinearRing is simple)
 pub record IsNotSimple (ring : List Position) : Type 0 where
   pub i : ℕ
   pub j : ℕ
@@ -59,7 +59,7 @@ pub record RingsShare (r s : List Position) : Type 0 where
   pub second : slice_get (edges_of_line s) j ≡ Some f
   pub share : SharePoint e f
 
--- the first position of the one ring is inside the other (06-103r4, 6.1.11.1)
+-- the first position of the second ring is inside the first one (06-103r4, 6.1.11.1)
 abbrev pub inside : List Position → List Position → Bool
 inside outer [] = false
 inside outer (p ∷ ps) = odd_above (outer ∷ []) (point_at p)
@@ -69,12 +69,12 @@ abbrev pub IsNotClosed : List Position → Type 0
 IsNotClosed [] = ⊥
 IsNotClosed (p ∷ ps) = last_after p ps ≢ p
 
--- a polygon of an area: its rings, and the number of the first of them, rings being numbered through the whole area
+-- a polygon of an area: its rings, and the number of the first of them; rings are numbered through the whole area
 pub record Element : Type 0 where
   pub first : ℕ
   pub rings : List (List Position)
 
--- polygons one behind the other, the first ring having this number
+-- polygons one after another, their rings numbered from this number on
 abbrev pub elements_from : ℕ → List (List (List Position)) → List Element
 elements_from first [] = []
 elements_from first (rings ∷ more) = record { first = first; rings = rings } ∷ elements_from (first + length rings) more
@@ -83,11 +83,11 @@ elements_from first (rings ∷ more) = record { first = first; rings = rings } �
 abbrev pub numbered_elements : Geometry → List Element
 numbered_elements g = elements_from 0 (elements g)
 
--- the ring at this place of a polygon has this number
+-- this ring is at this place in the polygon and has this number
 abbrev pub IsRing : Element → ℕ → ℕ → List Position → Type 0
 IsRing e place number ring = (number ≡ e.first + place) × (slice_get e.rings place ≡ Some ring)
 
--- a ring of the one polygon and one of the other share a point (06-103r4, 6.1.14: the elements of a MultiPolygon don't cross; touching at a point is refused too)
+-- a ring of one polygon and one of the other share a point (06-103r4, 6.1.14: the elements of a MultiPolygon don't cross; touching at a point is refused too)
 pub record ElementsShare (d e : List (List Position)) : Type 0 where
   pub r : List Position
   pub s : List Position
@@ -95,7 +95,7 @@ pub record ElementsShare (d e : List (List Position)) : Type 0 where
   pub second : Contains e s
   pub share : RingsShare r s
 
--- the first position of a polygon's outer ring is inside another polygon: odd over all its rings (06-103r4, 6.1.14: interiors of elements don't intersect)
+-- the first position of the second polygon's outer ring is inside the rings of the first (06-103r4, 6.1.14: interiors of elements don't intersect)
 abbrev pub inside_element : List (List Position) → List (List Position) → Bool
 inside_element other [] = false
 inside_element other ([] ∷ holes) = false
@@ -115,6 +115,6 @@ HasFault g (HolesNested i j) = (e : Element) × (k l : ℕ) × (r s : List Posit
 HasFault g (ElementsMeet i j) = (d e : List (List Position)) × (i < j) × (slice_get (elements g) i ≡ Some d) × (slice_get (elements g) j ≡ Some e) × ElementsShare d e
 HasFault g (ElementInside i j) = (d e : List (List Position)) × (i ≢ j) × (slice_get (elements g) i ≡ Some d) × (slice_get (elements g) j ≡ Some e) × (inside_element e d ≡ true)
 
--- a geometry without fault (06-103r4, 6.1.7, 6.1.11.1 and 6.1.14)
+-- no fault applies to the geometry (06-103r4, 6.1.7, 6.1.11.1 and 6.1.14)
 abbrev pub IsValid : Geometry → Type 0
 IsValid g = (fault : ValidityFault) → HasFault g fault → ⊥

@@ -31,7 +31,7 @@ begins_with test (c ∷ rest) = test c
 abbrev pub Rule : Type 1
 Rule = List ℕ → Type 0
 
--- a text of the one rule, and then a text of the other (06-103r4, 7.2.1)
+-- a text of the first rule, followed by a text of the second (06-103r4, 7.2.1)
 infixr 20 ◌⨾◌
 abbrev pub ◌⨾◌ : Rule → Rule → Rule
 (A ⨾ B) text = (first rest : List ℕ) × (text ≡ first ++ rest) × A first × B rest
@@ -88,7 +88,7 @@ Fraction digits text = ((text ≡ []) × (digits ≡ [])) ⊎ (Byte 46 ⨾ Digit
 abbrev pub Numeral : Bool → List ℕ → List ℕ → Rule
 Numeral minus whole fraction text = (Sign minus ⨾ Digits whole ⨾ Fraction fraction) text × (0 < length whole + length fraction)
 
--- the digits behind a point don't count (coordinates are whole)
+-- the digits behind the point are all 0, so the number is whole
 abbrev pub is_whole : List ℕ → Bool
 is_whole fraction = list_all (λ c. c == 48) fraction
 
@@ -155,15 +155,15 @@ written_parts (MultiLineString lines) = lines
 written_parts (Polygon rings) = rings
 written_parts (MultiPolygon polygons) = joined_rings polygons
 
--- no more positions and parts than a geometry may have
+-- positions and parts are within their limits
 abbrev pub IsWithinCounts : Geometry → Type 0
 IsWithinCounts written = (length (written_positions written) ≤ position_limit) × (length (written_parts written) ≤ part_limit)
 
--- whether two positions are one
+-- whether two positions are equal
 abbrev pub same_position : Position → Position → Bool
 same_position a b = int_eq a.x b.x && int_eq a.y b.y
 
--- the positions of a line or ring, consecutive equal ones being one
+-- the positions of a line or ring, each run of equal ones made one
 abbrev pub without_repeats : List Position → List Position
 without_repeats ps = dedup same_position ps
 
@@ -183,6 +183,6 @@ pub record Spells (text : List ℕ) (g : Geometry) : Type 0 where
   pub counts : IsWithinCounts written
   pub meant : g ≡ geometry_of written
 
--- the text, with some rest behind it, spells some geometry
+-- some text that begins with this one spells a geometry
 abbrev pub Begins : List ℕ → Type 0
 Begins front = (rest : List ℕ) × (g : Geometry) × Spells (front ++ rest) g

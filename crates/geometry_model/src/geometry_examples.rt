@@ -96,7 +96,7 @@ pub fn sides_of_edges()
         ≡ Some Exterior }
 {}
 
-/// Cut points and pieces of two lines that cross, of two that share a stretch, and of an upright one.
+/// Cut points and pieces of two lines that cross, of two that share a stretch, and of a vertical one.
 pub fn cut_points_and_pieces()
     ensures crossing { cuts (codes "LINESTRING(0 0,3 1)") (codes "LINESTRING(0 1,2 0)")
         ≡ Some (point (pos 0) (pos 0) (pos 1) ∷ point (pos 0) (pos 1) (pos 1) ∷ point (pos 6) (pos 2) (pos 5)

@@ -49,7 +49,7 @@ pub fn matrices_of_lines()
         ≡ Some (codes "1010F0102") }
 {}
 
-/// Lines with areas: through corners, along edges, across, level and upright (06-103r4, 6.1.15.2).
+/// Lines with areas: through corners, along edges, across, horizontal and vertical (06-103r4, 6.1.15.2).
 pub fn matrices_of_lines_and_areas()
     ensures through_a_corner { relate (codes "LINESTRING(-2 2,2 -2)") square ≡ Some (codes "F01FF0212") }
     ensures along_a_level_edge { relate (codes "LINESTRING(0 0,4 0)") square ≡ Some (codes "F1FF0F212") }

@@ -1,4 +1,4 @@
--- The laws of what is bound: a query that is bound to definitions has its tables and columns there, and its types fit.
+-- The laws of what is bound: the tables and columns of a query that is bound to definitions are there, and its types fit.
 use Rattle.std.specs.Prelude.{List, IfOk}
 use Rattle.table_model.specs.Binding.{binding}
 use Rattle.table_model.specs.BoundQueries.{IsBound, geometry_fits}

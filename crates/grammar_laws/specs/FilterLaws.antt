@@ -59,7 +59,7 @@ pub record BoundByParts {T A B C D : Type 0} (how : GeometryBinding T A B C D) (
   pub is_empty : (at : ℕ) (a : A) → bound_conjuncts how schema references (written.IsEmpty at a) ≡ only (bound_cond how schema references (written.IsEmpty at a))
   pub relates : (at : ℕ) (predicate : WrittenPredicate) (a b : A) → bound_conjuncts how schema references (written.Relates at predicate a b) ≡ only (bound_cond how schema references (written.Relates at predicate a b))
 
--- so it is with each way to bind geometries
+-- this holds for each way to bind geometries
 abbrev pub ConjunctsBoundByParts : (T A B C D : Type 0) → Type 0
 ConjunctsBoundByParts T A B C D = (how : GeometryBinding T A B C D) (schema : List (TableDef T)) (references : List Reference) → BoundByParts how schema references
 

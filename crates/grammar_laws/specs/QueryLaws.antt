@@ -6,15 +6,15 @@ use Rattle.table_model.specs.QueryRefusals.{StandsInQuery, AnswersFirst}
 use Rattle.table_model.specs.Queries.{SelectQuery}
 use Rattle.table_model.specs.References.{AreOneOrTwo}
 
--- what a text is read as, it is by the grammar
+-- the query that a text is read as is its query by the grammar
 abbrev pub ReadIsQuery : Type 0
 ReadIsQuery = (text : List ℕ) (query : SelectQuery) → query_of text ≡ Ok query → IsQuery text query
 
--- whatever query a text is by the grammar, it is read as that one
+-- a text that is a query by the grammar is read as that query
 abbrev pub QueryIsRead : Type 0
 QueryIsRead = (text : List ℕ) (query : SelectQuery) → IsQuery text query → query_of text ≡ Ok query
 
--- a text is one query at most
+-- a text is at most one query
 abbrev pub OneTree : Type 0
 OneTree = (text : List ℕ) (a b : SelectQuery) → IsQuery text a → IsQuery text b → a ≡ b
 
@@ -22,10 +22,10 @@ OneTree = (text : List ℕ) (a b : SelectQuery) → IsQuery text a → IsQuery t
 abbrev pub ReferencesAreFew : Type 0
 ReferencesAreFew = (text : List ℕ) (query : SelectQuery) → IsQuery text query → AreOneOrTwo query.references
 
--- a fault at a token that a text is refused for applies there
+-- if a text is refused for a fault at a token, the fault applies there
 abbrev pub RefusalStands : Type 0
 RefusalStands = (text : List ℕ) → IfErr (query_of text) (StandsInQuery text)
 
--- where faults at a token apply in a text, the first of them is what it is refused for
+-- where faults apply at tokens of a text, it is refused for the first of them
 abbrev pub FirstIsRead : Type 0
 FirstIsRead = (text : List ℕ) → AnswersFirst text (query_of text)

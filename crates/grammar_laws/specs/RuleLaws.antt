@@ -14,14 +14,14 @@ use Rattle.table_model.specs.declared.queries.WrittenCond.{WrittenCond}
 use Rattle.table_model.specs.declared.queries.WrittenGeometry.{WrittenGeometry}
 use Rattle.table_model.specs.declared.queries.WrittenReference.{WrittenReference}
 
--- a result agrees with rules: what is returned they say, and what they say is returned, so that they say one thing at most
+-- a result agrees with rules: they say what is returned, and nothing else
 pub record Agrees {X : Type 0} (Is : X → Type 0) (Refused : QueryFault → Type 0) (answer : Checked X) : Type 0 where
   pub stands : IfOk answer Is
   pub refused : IfErr answer Refused
   pub answers : (x : X) → Is x → answer ≡ Ok x
   pub refuses : (fault : QueryFault) → Refused fault → answer ≡ Err fault
 
--- how geometry arguments and patterns are bound agrees with rules for them
+-- the functions that bind geometry arguments and patterns agree with the rules for them
 pub record GeometryAgrees {T A B C D : Type 0} (rules : GeometryRules T A B C D) (how : GeometryBinding T A B C D) : Type 0 where
   pub argument : (schema : List (TableDef T)) (references : List Reference) (a : A)
       → Agrees (rules.IsArgument schema references a) (rules.IsRefusedArgument schema references a) (how.argument schema references a)

@@ -1,12 +1,12 @@
--- Laws of the whole numbers on which the geometry rests, each as one statement.
+-- Laws of the whole numbers that the proofs of geometry use, each as one statement.
 use Rattle.std.specs.Prelude.{◌≡◌, ℤ, pos, ◌+ℤ◌, ◌-ℤ◌, ◌*ℤ◌, ◌≤ℤ◌, ◌<ℤ◌, ◌⊎◌}
 use Rattle.std.specs.Ordering.{int_cmp}
 
--- a product goes over a sum
+-- multiplication distributes over addition
 abbrev pub Distributes : Type 0
 Distributes = (a b c : ℤ) → a *ℤ (b +ℤ c) ≡ a *ℤ b +ℤ a *ℤ c
 
--- three factors may be grouped either way
+-- multiplication is associative
 abbrev pub Associates : Type 0
 Associates = (a b c : ℤ) → (a *ℤ b) *ℤ c ≡ a *ℤ (b *ℤ c)
 

@@ -83,7 +83,7 @@ impl SideLabels {
 }
 
 /// The labels of the nodes of two geometries, of the pieces, each at its sample, and of the two sides of each piece that
-/// isn't upright, each in the order of the nodes or pieces.
+/// isn't vertical, each in the order of the nodes or pieces.
 #[derive(Debug, Drop)]
 pub struct Labels {
     points: Vec<Label>,
@@ -101,7 +101,7 @@ impl Model for Labels {
 }
 
 impl Labels {
-    /// The labels with these lists: of the nodes, of the pieces, and of the sides of each piece, none for an upright one.
+    /// The labels with these lists: of the nodes, of the pieces, and of the sides of each piece, none for a vertical one.
     pub fn of_lists(
         points: Vec<Label>,
         pieces: Vec<Label>,
@@ -130,7 +130,7 @@ impl Labels {
         self.pieces.as_slice()
     }
 
-    /// Lends the labels of the sides of the pieces, none for an upright one.
+    /// Lends the labels of the sides of the pieces, none for a vertical one.
     pub fn sides(&self) -> &[Option<SideLabels>]
         ensures { result.now ≡ self.now.of_sides }
     {

@@ -110,7 +110,7 @@ const GAPS: [Row; 8] = [
         ],
         true,
     ),
-    // An upright one that goes down, and one that lies along it past its end.
+    // A vertical one that goes down, and one that lies along it past its end.
     (
         ((1, 5), (1, -4)),
         &[((1, 3), (1, 9))],

@@ -5,7 +5,7 @@ use Rattle.table_parts.specs.GeometryFields.{GeometryValue}
 use Rattle.table_model.specs.declared.values.Value.{Value}
 use Rattle.table_model.specs.declared.values.Value.TheVariants as value
 
--- the value that a field shows: of what is lent, its bytes
+-- the value of a field: of what it borrows, the bytes
 abbrev pub shown : Field → Value GeometryValue
 shown field.Null = value.Null
 shown (field.Int n) = value.Integer n

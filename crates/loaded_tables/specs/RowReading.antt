@@ -8,7 +8,7 @@ use Rattle.table_model.specs.Meanings.{Row}
 use Rattle.table_model.specs.declared.definitions.TableDef.{TableDef}
 use Rattle.table_model.specs.declared.faults.LoadFault.{LoadFault}
 
--- no record was left, or the first of them was taken and is this row, or has this fault
+-- no record was left, or the first of those left was taken and gives this row or this fault
 abbrev pub TakesRow : {R T G : Type 0} → (R → Option (List ℕ)) → Records R → GeometryReader T G → TableDef T → Record → ℕ → List Record
     → Result (Option (Row G)) LoadFault → Type 0
 TakesRow remaining records geometry table header number rest (Ok None) = rest ≡ []

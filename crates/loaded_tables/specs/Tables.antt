@@ -25,28 +25,28 @@ tables_in geometry definitions texts = load_tables geometry definitions (map rec
 abbrev pub EarlierLoad : {T G : Type 0} → GeometryReader T G → List (TableDef T) → List (List Record) → ℕ → Type 0
 EarlierLoad geometry definitions records place = IsOk (each (take place (loaded_tables geometry definitions records)))
 
--- an answer is that of some records: there are records that load as these rows, or that have this fault
+-- there are records that load as these rows, or that have this fault
 abbrev pub IsOfSomeRecords : {T G X : Type 0} → GeometryReader T G → TableDef T → (X → Table G) → Result X LoadFault → Type 0
 IsOfSomeRecords geometry table view answer = (records : List Record) × Loads view answer (load geometry table records)
 
--- records of what a reader gives: where its bytes are known they are those that csv reads from them
+-- these may be the records of a reader: if its bytes are known, they are what csv reads from them
 abbrev pub AreRecordsOf : Option (List ℕ) → List Record → Type 0
 AreRecordsOf None records = ⊤
 AreRecordsOf (Some text) records = records ≡ records_in text
 
--- the same of several readers: one list of records a reader
+-- the same for several readers: one list of records for each
 abbrev pub EachRecordsOf : List (Option (List ℕ)) → List (List Record) → Type 0
 EachRecordsOf [] [] = ⊤
 EachRecordsOf [] (records ∷ more) = ⊥
 EachRecordsOf (known ∷ others) [] = ⊥
 EachRecordsOf (known ∷ others) (records ∷ more) = AreRecordsOf known records × EachRecordsOf others more
 
--- an answer is that of records of a reader: they load as these rows, or have this fault
+-- there are records of the reader that load as these rows, or that have this fault
 abbrev pub IsOfRecords : {T G X : Type 0} → GeometryReader T G → TableDef T → Option (List ℕ) → (X → Table G) → Result X LoadFault → Type 0
 IsOfRecords geometry table known view answer = (records : List Record) × AreRecordsOf known records × Loads view answer (load geometry table records)
 
--- an answer is that of records of the readers: they load as these tables, or have this fault; each table before one that is
--- refused, or whose reading failed, has loaded
+-- there are records of the readers that load as these tables, or that have this fault; each table before one that is refused,
+-- or whose reading failed, has loaded
 pub record AreOfRecords {T G X : Type 0} (geometry : GeometryReader T G) (definitions : List (TableDef T)) (known : List (Option (List ℕ)))
     (view : X → List (Table G)) (answer : Result X TableFault) : Type 0 where
   pub records : List (List Record)

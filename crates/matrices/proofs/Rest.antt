@@ -23,7 +23,7 @@ use Rattle.cover_laws.proofs.Located.{all_at, on_or_off, off_is_shown, Overlaps,
 use Rattle.matrices.specs.Raising.{ShowsGapOff}
 
 -- ---- a point that an edge of the second geometry holds
--- edges of both that hold a point that is no cut are on one line: neither is upright, or both are
+-- edges of both that hold a point that is no cut are on one line: neither is vertical, or both are
 slanted_too : (a b : Geometry) (e f : Edge) → Contains (edges a) e → Contains (edges b) f → e.start ≢ e.end → (x : Point) → IsPoint x → on e x ≡ true → on f x ≡ true → IsNoCut a b x → e.start.x ≢ e.end.x → f.start.x ≢ f.end.x
 slanted_too a b e f c d w x hx k l u n = go (overlaps a b e f c d x hx k l u)
   where

@@ -16,7 +16,7 @@ use Rattle.cover_laws.specs.Gaps.{IsBetween, mostly}
 use Rattle.matrix_laws.specs.Cells.{Shows, raised, IsPartOf, IsSound, CoversPosition}
 use Rattle.cover_laws.specs.Covering.{IsOffEdges, ShowsOff}
 
--- the matrix has grown so far that it shows something, and no further: it is part of each that it was part of and that shows this too
+-- the matrix has grown just far enough to show this: every matrix that it was part of and that shows this, it is still part of
 pub record IsRaisedTo (Shown : Matrix → Type 0) (m n : Matrix) : Type 0 where
   pub grown : IsPartOf m n
   pub shows : Shown n
@@ -64,11 +64,11 @@ off_edges kinds.Area odd = if odd then Interior else Exterior
 abbrev pub with_sides : Sides → Sides → Matrix → Matrix
 with_sides s t m = raised (raised m s.lower t.lower Two) s.upper t.upper Two
 
--- of a gap, by a point within it, the matrix shows what there is off the second geometry's edges
+-- the matrix shows what there is of a gap off the second geometry's edges, by a point within the gap
 abbrev pub ShowsOffAt : Geometry → Geometry → Matrix → Edge → Point → Type 0
 ShowsOffAt a b m e y = IsOffEdges b y → ShowsOff a m e (mostly b y)
 
--- of a gap, by some point within it
+-- the same, by some point within the gap
 pub record ShowsGapOff (a b : Geometry) (m : Matrix) (e : Edge) (p q : Point) : Type 0 where
   pub sample : Point
   pub between : IsBetween e p q sample

@@ -50,7 +50,7 @@ fn off_edges(kind: Kind, is_odd_above: bool) -> Location
 }
 
 /// Shows what a gap of an edge of the first geometry shows that lies in this part of the second one, off its edges: the gap
-/// itself and, where it isn't upright, its sides, of which one is exterior to the first geometry, and of an area's edge the other
+/// itself and, where it isn't vertical, its sides, of which one is exterior to the first geometry, and of an area's edge the other
 /// interior (OGC 06-103r4, 6.1.15.2).
 fn raise_off(first: &Valid, edge: &Segment, part: Location, matrix: &mut MatrixCells)
     ensures { IsRaisedTo (λ m. ShowsOff first.now m edge.now part) matrix.old matrix.new }
@@ -74,7 +74,7 @@ fn raise_sides(first: &Sides, second: &Sides, matrix: &mut MatrixCells)
 }
 
 /// Shows what the point of a gap shows at which the gap is asked for. Off the second geometry's edges `raise_off` says it. A gap
-/// that one of them shares shows itself and, where it isn't upright, its sides as they lie at the point in both geometries
+/// that one of them shares shows itself and, where it isn't vertical, its sides as they lie at the point in both geometries
 /// (OGC 06-103r4, 6.1.15.2).
 fn raise_at(first: &Valid, second: &Valid, edge: &Segment, p: &RatPoint, matrix: &mut MatrixCells)
     ensures { IsRaisedTo (λ m. ShowsAt first.now second.now m edge.now p.now) matrix.old matrix.new }

@@ -12,7 +12,7 @@ point_is_there = there.point_is_there
 pub piece_is_there : PieceIsThere
 piece_is_there = there.piece_is_there
 
--- and beside an edge that isn't upright it shows an area on both sides
+-- and beside an edge that isn't vertical it shows an area on both sides
 pub sides_are_there : SidesAreThere
 sides_are_there = there.sides_are_there
 

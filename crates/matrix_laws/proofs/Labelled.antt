@@ -172,23 +172,23 @@ cut_has_point a b l k e = go (passing_of (label a b) (is_pair l k) (cuts' a b) e
     go p = let q : (l ≡ locate a p.found) × (k ≡ locate b p.found) = pair_is l k (locate a p.found) (locate b p.found) p.passes in
         record { p = p.found; is_point = (listed_is_cut (edges' a b) (listed' a b) p.found p.among).is_point; within = (sym q.0, sym q.1) }
 
--- ---- the lines to be avoided: those of the edges, and the upright ones through cuts
--- the upright line through a position
+-- ---- the lines to be avoided: those of the edges, and the vertical ones through cuts
+-- the vertical line through a position
 pub upright_line : Position → Line
 upright_line p = record { a = pos 1; b = pos 0; c = pos 0 -ℤ p.x }
 
 abbrev edge_line_if : Bool → Edge → Line
 edge_line_if t g = cond t (upright_line g.start) (line_side g.start g.end)
 
--- the line of an edge; of an upright one the upright line through it
+-- the line of an edge; of a vertical one the vertical line through it
 abbrev edge_line : Edge → Line
 edge_line g = edge_line_if (int_eq g.start.x g.end.x) g
 
--- the upright line through a cut
+-- the vertical line through a cut
 abbrev cut_line : Point → Line
 cut_line c = record { a = c.W; b = pos 0; c = pos 0 -ℤ c.X }
 
--- the line of an edge is a line, also where the edge is upright or a single position
+-- the line of an edge is a line, also where the edge is vertical or a single position
 edge_line_is_line : (g : Edge) → IsLine (edge_line g)
 unfolding upright_line
 edge_line_is_line g = go (int_eq g.start.x g.end.x) refl
@@ -203,7 +203,7 @@ edge_line_is_line g = go (int_eq g.start.x g.end.x) refl
     go true e = inl one
     go false e = inr (λ z. not_equal_from g.start.x g.end.x e (same g.start.x g.end.x ((line_side g.start g.end).b) (line_side_slope g.start g.end) z))
 
--- the upright line through a cut is a line, since W is at least 1
+-- the vertical line through a cut is a line, since W is at least 1
 cut_line_is_line : (c : Point) → IsPoint c → IsLine (cut_line c)
 cut_line_is_line c h = inl (nonzero c.W h)
   where
@@ -228,7 +228,7 @@ off_by_edge_line g z hz f = by_contraries (on g z) false (λ h. absurd (f (go (i
     go true e h = along g.start.x z.X z.Y z.W (upright (equal_from g.start.x g.end.x e) (hull_from_on g z hz h))
     go false e h = value_is_side g.start g.end z ∙ (on_parts g z h).on_line
 
--- a point straight above or below a cut is on the cut's upright line
+-- a point straight above or below a cut is on the cut's vertical line
 cut_line_value : (c z : Point) → right c z ≡ pos 0 → value (cut_line c) z ≡ pos 0
 cut_line_value c z e = solve (c.X ∷ c.W ∷ z.X ∷ z.Y ∷ z.W ∷ []) (var 1 ⊗ var 2 ⊕ lit (pos 0) ⊗ var 3 ⊕ (lit (pos 0) ⊖ var 0) ⊗ var 4) (var 2 ⊗ var 1 ⊖ var 0 ⊗ var 4) tt ∙ e
 

@@ -1,4 +1,4 @@
--- At a point strictly within a ring edge of a valid polygon that isn't upright, just that edge goes through the point: so the rings part the interior from the exterior there.
+-- At a point strictly within a ring edge of a valid polygon that isn't vertical, just that edge goes through the point: so the rings part the interior from the exterior there.
 use Rattle.std.proofs.Common.{ℕ, zero, suc, ◌+◌, ◌<◌, ◌≡◌, ◌⊎◌, inl, inr, Bool, true, false, if◌then◌else◌, ℤ, pos, ◌-ℤ◌, ◌<ℤ◌, ◌≤ℤ◌, int_le, refl, sym, ap, ap₂, subst, ◌∙◌, List, [], ◌∷◌, length, Some, None, slice_get, arith}
 use borrow.Author.Differences.{ints}
 use Rattle.std.specs.Ordering.{int_eq}
@@ -64,7 +64,7 @@ flat e p h = go (int_le e.start.x e.end.x)
     go true = h
     go false = turned (side e.start e.end p) (side e.end e.start p) (side_turned e.start e.end p) h
 
--- strictly within an edge that isn't upright, one end is to the left of the point and one to the right: the edge spans it
+-- strictly within an edge that isn't vertical, one end is to the left of the point and one to the right: the edge spans it
 pub goes_through : (e : Edge) (p : Point) → IsPoint p → on e p ≡ true → stands_at p e.start ≡ false → stands_at p e.end ≡ false → (e.start.x ≡ e.end.x → ⊥) → touches e p ≡ true
 goes_through e p hp h s t f = and_from (spans e p) (int_eq (side_rightward e p) (pos 0)) (go (compare (point_at e.start) p) refl (compare (point_at e.end) p) refl) (equal_yes (side_rightward e p) (pos 0) (flat e p ((on_parts e p h).on_line)))
   where
@@ -228,7 +228,7 @@ pub each_ring : (P : Edge → Type 0) (rs : List (List Position)) → ((k : ℕ)
 each_ring P [] f = tt
 each_ring P (r ∷ rs) f = each_append P (edges_of_line r) (edges_of_lines rs) (each_by P (edges_of_line r) (λ m d q. f 0 r refl m d q)) (each_ring P rs (λ k q h m d z. f (suc k) q h m d z))
 
--- every edge through the point is that one, so none of them is upright
+-- every edge through the point is that one, so none of them is vertical
 slant_at : (g : Geometry) → IsValid g → (i : ℕ) (ring : List Position) → slice_get (rings g) i ≡ Some ring → (j : ℕ) (e : Edge) → slice_get (edges_of_line ring) j ≡ Some e
     → (p : Point) → IsPoint p → on e p ≡ true → stands_at p e.start ≡ false → stands_at p e.end ≡ false → (e.start.x ≡ e.end.x → ⊥) → Each (IsSlant p) (edges_of_lines (rings g))
 slant_at g v i ring ri j e ej p hp h s t f = each_ring (IsSlant p) (rings g) (λ k r rk m d dm. at_ring k r rk m d dm (equal_or_not k i))
@@ -257,7 +257,7 @@ slant_area (Geometry.Polygon rs) p i ring e h = record { edges = all_from_each (
 slant_area (Geometry.MultiPolygon es) p i ring e h = record { edges = all_from_each (IsSlant p) (edges_of_lines (joined_rings es)) h; positions = all_from_each (λ a. stands_at p a ≡ false) [] tt }
 
 -- below counts the edges at or above, above those strictly above, and just one of these numbers is odd;
--- no edge through the point is upright, so the points near it lie as these say
+-- no edge through the point is vertical, so the points near it lie as these say
 pub sides_of_a_ring : (g : Geometry) → IsValid g → (i : ℕ) (ring : List Position) → slice_get (rings g) i ≡ Some ring → (j : ℕ) (e : Edge) → slice_get (edges_of_line ring) j ≡ Some e
     → (p : Point) → IsPoint p → on e p ≡ true → stands_at p e.start ≡ false → stands_at p e.end ≡ false → (e.start.x ≡ e.end.x → ⊥) → ArePartedAs (below g p) (above g p) × ((k : ℕ) → NearSides g p k) × AllNearStand g p
 sides_of_a_ring g v i ring ri j e ej p hp h s t f = (

@@ -96,7 +96,7 @@ piece_segment a b ca cb c h d = go (sample_inside (edges_of_both a b) (listed a 
       );
     }
 
--- ---- no upright edge goes through a point within a piece that isn't upright
+-- ---- no vertical edge goes through a point within a piece that isn't vertical
 -- of two positions of one x neither is to the right of the other
 level : (s e : Position) → s.x ≡ e.x → pos 0 <ℤ right (point_at s) (point_at e) → ⊥
 level s e q h = clash s.x e.x q h
@@ -104,7 +104,7 @@ level s e q h = clash s.x e.x q h
     clash : (x y : ℤ) → x ≡ y → pos 0 <ℤ (y *ℤ pos 1 -ℤ x *ℤ pos 1) → ⊥
     clash x y e h = omega (arith, ints)
 
--- an upright edge through a point within the piece isn't on its line, so it would cross it there, and that would be a cut
+-- a vertical edge through a point within the piece isn't on its line, so it would cross it there, and that would be a cut
 slant_within : (es : List Edge) (ps : List Position) (c : Piece) (h : IsPiece es ps c) → Ends c → is_upright c ≡ false → (s : Point) → Inside es ps c h s → (g : Edge) → Among g es → IsSlant s g
 slant_within es ps c h d f s i g m k e = decide (on_one_line h.edge g) refl
   where
@@ -131,7 +131,7 @@ slant_within es ps c h d f s i g m k e = decide (on_one_line h.edge g) refl
     decide true q = collinear (one_line h.edge g q)
     decide false q = let z : true ≡ false = sym k ∙ off_within es ps c h g s m q i in absurd (cc)
 
--- so at the sample of a piece that isn't upright only slanted edges go through it, and no listed position is there
+-- so at the sample of a piece that isn't vertical only slanted edges go through it, and no listed position is there
 slant_all : (a b : Geometry) (c : Piece) (h : IsPieceOf a b c) → Ends c → is_upright c ≡ false → Each (IsSlant (sample c)) (marks a b)
 slant_all a b c h d f = go (sample_inside (edges_of_both a b) (listed a ++ listed b) c h d)
   where

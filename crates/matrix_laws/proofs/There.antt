@@ -1,4 +1,4 @@
--- What is there may be shown: a point's parts share a point, within a piece a stretch, and beside one that isn't upright an area.
+-- What is there may be shown: a point's parts share a point, within a piece a stretch, and beside one that isn't vertical an area.
 use Rattle.std.proofs.Common.{◌≡◌, ◌≢◌, ◌⊎◌, inl, inr, Bool, true, false, ℤ, pos, ◌-ℤ◌, ◌*ℤ◌, ◌<ℤ◌, if◌then◌else◌, refl, ap, ◌∙◌, List, Contains, Some, None, arith}
 use borrow.Author.Differences.{ints}
 use Rattle.geometry_model.specs.Points.{Position, Point, IsPoint, point_at}
@@ -126,7 +126,7 @@ pub piece_is_there : (a b : Geometry) → HasClosedRings a → HasClosedRings b 
 piece_is_there a b ca cb e c x hx h f = shows_by_cell a b (locate a x) (locate b x) One (λ n. of_piece (some_side a b (locate a x) (locate b x)) (some_piece a b (locate a x) (locate b x)) (some_cut a b (locate a x) (locate b x))
     (piece_at a b ca cb x (within_of a b e c x hx h f)))
 
--- ---- the sides of a point within a piece: the piece of an edge that isn't upright isn't upright
+-- ---- the sides of a point within a piece: the piece of an edge that isn't vertical isn't vertical
 nothing_right : (c z : Point) → c.X *ℤ z.W ≡ z.X *ℤ c.W → right c z ≡ pos 0
 nothing_right c z e = nothing (c.X *ℤ z.W) (z.X *ℤ c.W) e
   where
@@ -137,7 +137,7 @@ nothing_right c z e = nothing (c.X *ℤ z.W) (z.X *ℤ c.W) e
 on_its_line : (es : List Edge) (ps : List Position) (e : Edge) (x : Point) (w : Within es ps x) → OneLine w.is_piece.edge e → (z : Point) → on w.is_piece.edge z ≡ true → side e.start e.end z ≡ pos 0
 on_its_line es ps e x w o z h = side_is_area e.start e.end z ∙ area_on_line w.is_piece.edge.start w.is_piece.edge.end (point_at e.start) (point_at e.end) z (edge_is_wide es ps w.piece w.is_piece w.ends) o.start o.end ((on_parts w.is_piece.edge z h).on_line)
 
--- two edges through a point that is no cut are on one line, so an upright piece would make the edge upright
+-- two edges through a point that is no cut are on one line, so a vertical piece would make the edge vertical
 not_upright : (es : List Edge) (ps : List Position) (e : Edge) (x : Point) → Contains es e → e.start.x ≢ e.end.x → on e x ≡ true → (IsCut es ps x → ⊥) → (w : Within es ps x) → is_upright w.piece ≡ false
 not_upright es ps e x c n h f w = by_contraries (is_upright w.piece) false (λ u. absurd (decide u (on_one_line w.is_piece.edge e) refl)) refl
   where

@@ -43,25 +43,25 @@ raised m l k d = matrix_of (λ i j. if same_location i l && same_location j k th
 abbrev pub IsPartOf : Matrix → Matrix → Type 0
 IsPartOf m n = (l k : Location) → Shows n l k (cell m l k)
 
--- the matrix shows nothing of two geometries but what is there
+-- the matrix shows only what is there, of these two geometries
 abbrev pub IsSound : Geometry → Geometry → Matrix → Type 0
 IsSound a b m = IsPartOf m (labelled_matrix a b)
 
--- the point is no cut of two geometries
+-- the point isn't a cut of the two geometries
 abbrev pub IsNoCut : Geometry → Geometry → Point → Type 0
 IsNoCut a b x = IsCut (edges_of_both a b) (listed a ++ listed b) x → ⊥
 
--- of a point the matrix shows a point where it lies; of one that is no cut a piece, and where the edge isn't upright both sides
+-- the matrix shows a point in the two parts where x lies; if x isn't a cut, a piece there, and if the edge isn't vertical, both sides
 pub record ShowsPoint (a b : Geometry) (m : Matrix) (e : Edge) (x : Point) : Type 0 where
   pub point : Shows m (locate a x) (locate b x) Zero
   pub piece : IsNoCut a b x → Shows m (locate a x) (locate b x) One
   pub lower : IsNoCut a b x → e.start.x ≢ e.end.x → Shows m (below a x) (below b x) Two
   pub upper : IsNoCut a b x → e.start.x ≢ e.end.x → Shows m (above a x) (above b x) Two
 
--- it does so of all points of an edge
+-- the matrix shows this of all points of an edge
 abbrev pub Covers : Geometry → Geometry → Matrix → Edge → Type 0
 Covers a b m e = (x : Point) → IsPoint x → on e x ≡ true → ShowsPoint a b m e x
 
--- it shows a listed position
+-- the matrix shows the point at a listed position
 abbrev pub CoversPosition : Geometry → Geometry → Matrix → Position → Type 0
 CoversPosition a b m p = Shows m (locate a (point_at p)) (locate b (point_at p)) Zero

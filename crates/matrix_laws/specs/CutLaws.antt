@@ -12,20 +12,20 @@ use Rattle.geometry_model.specs.Labels.{labelled_matrix}
 abbrev pub CutPointsAreCuts : Type 0
 CutPointsAreCuts = (es : List Edge) (ps : List Position) (p : Point) → IsPoint p → IsCut es ps p ↔ Any (λ q. same_point q p ≡ true) (cut_points es ps)
 
--- its points are in least form
+-- the cut points of the list are in least form
 abbrev pub CutPointsAreLeast : Type 0
 CutPointsAreLeast = (es : List Edge) (ps : List Position) → All (λ p. IsPoint p × IsLeast p) (cut_points es ps)
 
--- it is in ascending order, each point once
+-- the list of cut points ascends, each point once
 abbrev pub CutPointsAscend : Type 0
 CutPointsAscend = (es : List Edge) (ps : List Position) → AllPairs (λ p q. compare p q ≡ Less) (cut_points es ps)
 
--- the list of pieces holds exactly the pieces, their ends being in least form
+-- of stretches whose ends are in least form, the list of pieces holds exactly the pieces
 abbrev pub PiecesArePieces : Type 0
 PiecesArePieces = (es : List Edge) (ps : List Position) (c : Piece) → IsLeast c.lesser → IsLeast c.greater
     → IsPiece es ps c ↔ Contains (pieces (cut_points es ps) es) c
 
--- it is in ascending order, each piece once
+-- the list of pieces ascends, each piece once
 abbrev pub PiecesAscend : Type 0
 PiecesAscend = (es : List Edge) (ps : List Position) → AllPairs (λ c d. compare_pieces c d ≡ Less) (pieces (cut_points es ps) es)
 

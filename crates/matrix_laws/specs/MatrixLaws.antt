@@ -15,10 +15,10 @@ LabelledIsMatrix = (a b : Geometry) → HasClosedRings a → HasClosedRings b �
 abbrev pub LabelsArePointSets : Type 0
 LabelsArePointSets = (a b : Geometry) → IsValid a → IsValid b → IsMatrix a b (labelled_matrix a b)
 
--- the label matrix gives it (06-103r4, 6.1.15.2)
+-- the label matrix gives the matrix of every two valid geometries (06-103r4, 6.1.15.2)
 abbrev pub LabelsGiveMatrix : Type 0
 LabelsGiveMatrix = GivesMatrix labelled_matrix
 
--- any two functions that give it agree on valid geometries (06-103r4, 6.1.15.2)
+-- any two functions that give the matrix agree on valid geometries (06-103r4, 6.1.15.2)
 abbrev pub GivenMatrixIsUnique : Type 0
 GivenMatrixIsUnique = (matrix other : Geometry → Geometry → Matrix) → GivesMatrix matrix → GivesMatrix other → (a b : Geometry) → IsValid a → IsValid b → matrix a b ≡ other a b

@@ -11,11 +11,11 @@ pub record AreSeparate (r s : List Position) : Type 0 where
   pub second_closed : IsClosed s
   pub apart : RingsShare r s → ⊥
 
--- where the second is inside the first, what is odd over the second is odd over the first (06-103r4, 6.1.11.1)
+-- where the second is inside the first, what has an odd number of the second's edges above it has an odd number of the first's (06-103r4, 6.1.11.1)
 abbrev pub InnerIsWithinOuter : Type 0
 InnerIsWithinOuter = (outer inner : List Position) → AreSeparate outer inner → inside outer inner ≡ true → (p : Point) → IsPoint p → odd_above (inner ∷ []) p ≡ true → odd_above (outer ∷ []) p ≡ true
 
--- where neither is inside the other, nothing is odd over both (06-103r4, 6.1.11.1)
+-- where neither is inside the other, no point has an odd number of both rings' edges above it (06-103r4, 6.1.11.1)
 abbrev pub NothingIsOddOverBoth : Type 0
 NothingIsOddOverBoth = (r s : List Position) → AreSeparate r s → inside r s ≡ false → inside s r ≡ false → (p : Point) → IsPoint p → odd_above (r ∷ []) p ≡ true → odd_above (s ∷ []) p ≡ true → ⊥
 

@@ -1,4 +1,4 @@
--- Laws of areas and envelopes: what lies whole on one side of the rings, and what is outside.
+-- Laws of areas and envelopes: what lies entirely on one side of the rings, and what is outside.
 use Rattle.std.specs.Prelude.{◌≡◌, ◌≢◌, ◌⊎◌, ◌↔◌, ℕ, ◌+◌, ◌<◌, true, false, List, [], ◌∷◌, All, Contains, Option, Some, None, ◌*ℤ◌, ◌<ℤ◌}
 use Rattle.geometry_model.specs.Points.{Position, Point, IsPoint}
 use Rattle.geometry_model.specs.Geometries.{Edge, Geometry, Polygon, edges, edges_of_line, edges_of_lines, elements, listed, rings}
@@ -20,7 +20,7 @@ use Rattle.geometry_laws.specs.CoverLaws.{NearSides, AllNearStand}
 abbrev pub PassesBy : Point → Point → Position → Type 0
 PassesBy p q a = (m n : ℕ) → 0 < m + n → stands_at (weighted m p n q) a ≡ false
 
--- a straight stretch that misses a geometry's edges and listed positions lies whole in its interior or whole in its exterior (06-103r4, 6.1.11.1: the interior is a connected point set)
+-- a straight stretch that misses a geometry's edges and listed positions lies entirely in its interior or entirely in its exterior (06-103r4, 6.1.11.1: the interior is a connected point set)
 abbrev pub StretchStays : Type 0
 StretchStays = (g : Geometry) (p q : Point) → HasClosedRings g → IsPoint p → IsPoint q → All (Misses p q) (edges g) → All (PassesBy p q) (listed g)
     → (m n : ℕ) → 0 < m + n → (locate g (weighted m p n q) ≡ locate g p) × (locate g (weighted m p n q) ≢ Boundary)
@@ -42,23 +42,23 @@ CommonPointMeets = (a b : Geometry) → HasClosedRings a → HasClosedRings b �
 abbrev pub ValidRingsAreClosed : Type 0
 ValidRingsAreClosed = (g : Geometry) → IsValid g → HasClosedRings g
 
--- in a valid area every point of an element's hole ring is odd over that element's outer ring (06-103r4, 6.1.11.1)
+-- in a valid area every point of a hole's ring is inside its element's outer ring: it has an odd number of that ring's edges above it (06-103r4, 6.1.11.1)
 abbrev pub HoleRingIsInside : Type 0
 HoleRingIsInside = (g : Geometry) → IsValid g → (outer : List Position) (holes : List (List Position)) → Contains (elements g) (outer ∷ holes) → (hole : List Position) → Contains holes hole
     → (p : Point) → IsPoint p → (e : Edge) → Contains (edges_of_line hole) e → on e p ≡ true → odd_above (outer ∷ []) p ≡ true
 
--- in a valid area a point off the rings of an element is in that element's interior exactly when it is odd over the outer ring and odd over no hole (06-103r4, 6.1.11.1)
+-- in a valid area a point off the rings of an element is in that element's interior exactly if it has an odd number of the outer ring's edges above it and an odd number of no hole's (06-103r4, 6.1.11.1)
 abbrev pub HolesAreCut : Type 0
 HolesAreCut = (g : Geometry) → IsValid g → (outer : List Position) (holes : List (List Position)) → Contains (elements g) (outer ∷ holes) → (p : Point) → IsPoint p → All (λ e. on e p ≡ false) (edges_of_lines (outer ∷ holes))
     → (locate (Polygon (outer ∷ holes)) p ≡ Interior) ↔ ((odd_above (outer ∷ []) p ≡ true) × All (λ hole. odd_above (hole ∷ []) p ≡ false) holes)
 
--- in a valid area, at a point strictly within a ring edge that isn't upright, exactly one of the two numbers of edges, strictly above and at or above, is odd: the rings part the interior from the exterior there (06-103r4, 6.1.11.1 and 6.1.14)
+-- in a valid area, at a point strictly within a ring edge that isn't vertical, exactly one of the two numbers of edges, strictly above and at or above, is odd: the rings part the interior from the exterior there (06-103r4, 6.1.11.1 and 6.1.14)
 abbrev pub RingsPart : Type 0
 RingsPart = (g : Geometry) → IsValid g → (ring : List Position) → Contains (rings g) ring → (e : Edge) → Contains (edges_of_line ring) e
     → (p : Point) → IsPoint p → on e p ≡ true → stands_at p e.start ≡ false → stands_at p e.end ≡ false → e.start.x ≢ e.end.x
     → exactly_one (odd_above (rings g) p) (odd_at_or_above (rings g) p) ≡ true
 
--- the one is interior and the other exterior
+-- one of the two is the interior and the other the exterior
 abbrev pub ArePartedAs : Location → Location → Type 0
 ArePartedAs l k = ((l ≡ Interior) × (k ≡ Exterior)) ⊎ ((l ≡ Exterior) × (k ≡ Interior))
 

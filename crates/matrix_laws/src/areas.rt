@@ -32,12 +32,12 @@ pub fn holes_are_cut()
     ensures { HolesAreCut }
 {}
 
-/// In a valid area, at a point strictly within a ring edge that isn't upright, exactly one of the two numbers of edges, strictly above and at or above, is odd: the rings part the interior from the exterior there (06-103r4, 6.1.11.1).
+/// In a valid area, at a point strictly within a ring edge that isn't vertical, exactly one of the two numbers of edges, strictly above and at or above, is odd: the rings part the interior from the exterior there (06-103r4, 6.1.11.1).
 pub fn rings_part()
     ensures { RingsPart }
 {}
 
-/// In a valid area, at a point strictly within a ring edge that isn't upright, one of `below` and `above` is interior and the other exterior; straight below and straight above it there are, arbitrarily near, points that lie so, and all that are near enough do (06-103r4, 6.1.11.1).
+/// In a valid area, at a point strictly within a ring edge that isn't vertical, one of `below` and `above` is interior and the other exterior; straight below and straight above it there are, arbitrarily near, points that lie so, and all that are near enough do (06-103r4, 6.1.11.1).
 pub fn sides_of_a_ring()
     ensures { SidesOfARing }
 {}

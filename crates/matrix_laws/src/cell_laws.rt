@@ -22,7 +22,7 @@ pub fn piece_is_there()
     ensures { PieceIsThere }
 {}
 
-/// Where that edge isn't upright, the parts below the point share an area, and so do those above it (06-103r4, 6.1.15.2).
+/// Where that edge isn't vertical, the parts below the point share an area, and so do those above it (06-103r4, 6.1.15.2).
 pub fn sides_are_there()
     ensures { SidesAreThere }
 {}

@@ -1,4 +1,4 @@
--- Edges near an edge, each with its place.
+-- Edges near an edge: those whose bounds meet its own, each with its place.
 use Rattle.std.specs.Prelude.{ℕ, suc, Bool, ◌&&◌, nat_le, cond, List, [], ◌∷◌}
 use Rattle.geometry_model.specs.Geometries.{Edge}
 use Rattle.geometry_model.specs.Envelopes.{Envelope, overlap}

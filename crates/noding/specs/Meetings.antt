@@ -30,7 +30,7 @@ IsMeeting e f Apart = (p : Point) → IsPoint p → on_both e f p ≡ false
 IsMeeting e f (At p) = (q : Point) → IsPoint q → on_both e f q ≡ same_point p q
 IsMeeting e f (Along p q) = IsCommonStretch e f (record { lesser = p; greater = q })
 
--- the points that an answer names
+-- the points that a value of `Meet` names
 abbrev pub named : Meet → List Point
 named Apart = []
 named (At p) = p ∷ []
@@ -40,6 +40,6 @@ named (Along p q) = p ∷ q ∷ []
 abbrev pub is_common_cut : Edge → Edge → Point → Bool
 is_common_cut e f p = on_both e f p && (is_end e p || is_end f p || not (on_one_line e f))
 
--- the answer names each such point
+-- each such cut is among the points that the value names
 abbrev pub NamesCommonCuts : Edge → Edge → Meet → Type 0
 NamesCommonCuts e f m = (p : Point) → IsPoint p → is_common_cut e f p ≡ true → Any (λ q. same_point q p ≡ true) (named m)

@@ -20,12 +20,12 @@ ListsPoint ps p = Any (λ q. same_point q p ≡ true) ps
 abbrev pub ListsPiece : List Piece → Piece → Type 0
 ListsPiece cs c = Any (λ d. same_piece d c ≡ true) cs
 
--- the triple of a point is in least form, and its denominator keeps the limit
+-- the triple of a point is in least form, and its denominator is within the limit
 pub record IsNodeTriple (p : Point) : Type 0 where
   pub least : IsLeast p
   pub limit : p.W ≤ℤ pos meeting_limit
 
--- those of both ends
+-- both ends of the piece have such triples
 abbrev pub HasNodeTriples : Piece → Type 0
 HasNodeTriples c = IsNodeTriple c.lesser × IsNodeTriple c.greater
 

@@ -18,15 +18,15 @@ least_x e = lesser e.start.x e.end.x
 abbrev pub greatest_x : Edge → ℤ
 greatest_x e = greater e.start.x e.end.x
 
--- the ranges from a to b and from c to d, whichever is the lesser, overlap, ends counted
+-- the ranges between a and b and between c and d share a number, be it an end; either may be the lesser one
 abbrev pub overlap : ℤ → ℤ → ℤ → ℤ → Bool
 overlap a b c d = int_le (lesser a b) (greater c d) && int_le (lesser c d) (greater a b)
 
--- the ranges of x of two edges overlap, ends counted
+-- the ranges of x of two edges share a number
 abbrev pub x_ranges_overlap : Edge → Edge → Bool
 x_ranges_overlap e f = overlap e.start.x e.end.x f.start.x f.end.x
 
--- the ranges of y of two edges overlap, ends counted
+-- the ranges of y of two edges share a number
 abbrev pub y_ranges_overlap : Edge → Edge → Bool
 y_ranges_overlap e f = overlap e.start.y e.end.y f.start.y f.end.y
 

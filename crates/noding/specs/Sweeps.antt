@@ -53,15 +53,15 @@ pub record SweptTo (es : List Edge) (ps : List Position) (i j : ℕ) (breaks : L
   pub first_found : (a b : ℕ) (d : Edge) → IsTried i j a b → a < b → b < length es → (p : Point) → IsPoint p → is_common_cut (get_or es a d) (get_or es b d) p ≡ true → ListsPoint (get_or breaks a []) p
   pub second_found : (a b : ℕ) (d : Edge) → IsTried i j a b → a < b → b < length es → (p : Point) → IsPoint p → is_common_cut (get_or es a d) (get_or es b d) p ≡ true → ListsPoint (get_or breaks b []) p
 
--- what is swept up to the second of two places goes on past it
+-- lists that were swept up to this pair of places are now swept past it
 abbrev pub SweepsPair : List Edge → ℕ → ℕ → List (List Point) → List (List Point) → Type 0
 SweepsPair es first second before after = (ps : List Position) → SweptTo es ps first second before → SweptTo es ps first (second + 1) after
 
--- what is swept up to a place goes on past it
+-- lists that were swept up to this place are now swept past it
 abbrev pub SweepsOn : List Edge → ℕ → List (List Point) → List (List Point) → Type 0
 SweepsOn es place before after = (ps : List Position) → SweptTo es ps place (place + 1) before → SweptTo es ps (place + 1) (place + 1 + 1) after
 
--- what is swept from the first place on is swept up to the last
+-- lists that were swept up to the first place are now swept up to the last
 abbrev pub SweepsAll : List Edge → List (List Point) → List (List Point) → Type 0
 SweepsAll es before after = (ps : List Position) → SweptTo es ps 0 1 before → SweptTo es ps (length es) (length es + 1) after
 

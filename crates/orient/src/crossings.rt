@@ -11,7 +11,7 @@ use crate::sides::{is_on, signed_side};
 use fraction::{GridPoint, RatPoint};
 
 /// How a point lies to a segment (OGC 06-103r4, 6.1.7 and 6.1.11.1). Of the segment's ends the left one counts and the right
-/// one doesn't; an upright segment lies above no point.
+/// one doesn't; a vertical segment lies above no point.
 #[derive(Clone, Copy, Debug, PartialEq, Eq)]
 pub struct Crossing {
     /// Whether it lies on the segment, ends counted.
@@ -54,7 +54,7 @@ fn signed_side_rightward(segment: &Segment, p: &RatPoint) -> i128
 }
 
 /// Whether the segment lies strictly above the point: an upward ray from it crosses the segment. Of the
-/// segment's ends the left one counts and the right one doesn't; an upright segment is never crossed.
+/// segment's ends the left one counts and the right one doesn't; a vertical segment is never crossed.
 pub fn crosses_up(segment: &Segment, p: &RatPoint) -> bool
     ensures { result ≡ spec.strictly_above segment.now p.now }
 {
@@ -68,7 +68,7 @@ pub fn at_or_above(segment: &Segment, p: &RatPoint) -> bool
     spans(segment, p) && signed_side_rightward(segment, p) <= 0
 }
 
-/// Whether the segment goes from left to right, or is upright.
+/// Whether the segment goes from left to right, or is vertical.
 fn is_rightward(segment: &Segment) -> bool
     ensures { result ≡ int_le segment.now.start.x segment.now.end.x }
 {

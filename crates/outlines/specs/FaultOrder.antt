@@ -1,4 +1,4 @@
--- The order of tests, kind by kind.
+-- The order in which faults are tested, kind by kind.
 use Rattle.std.specs.Prelude.{ℕ, ◌+◌, Bool, List, length, map, find, Option, slice_get}
 use Rattle.geometry_model.specs.Points.{Position}
 use Rattle.geometry_model.specs.Geometries.{Geometry, lines, rings, elements}
@@ -10,11 +10,11 @@ use Rattle.geometry_model.specs.declared.validity_faults.ValidityFault.TheVarian
 abbrev pub first_of : Geometry → List ValidityFault → Option ValidityFault
 first_of g faults = find (has_fault g) faults
 
--- the faults of its lines or rings, one each (06-103r4, 6.1.7 to 6.1.14)
+-- the faults of a geometry's lines or rings, one each (06-103r4, 6.1.7 to 6.1.14)
 abbrev pub of_lines : (ℕ → ValidityFault) → Geometry → List ValidityFault
 of_lines fault g = map fault (numbers 0 (length (lines g)))
 
--- the faults of its rings, one each (06-103r4, 6.1.11.1)
+-- the faults of a geometry's rings, one each (06-103r4, 6.1.11.1)
 abbrev pub of_rings : (ℕ → ValidityFault) → Geometry → List ValidityFault
 of_rings fault g = map fault (numbers 0 (length (rings g)))
 
@@ -38,22 +38,22 @@ holes_outside g = of_elements (λ e. map HoleOutside (numbers (e.first + 1) (rin
 abbrev pub nested_holes : Geometry → List ValidityFault
 nested_holes g = of_elements (λ e. of_pairs HolesNested (e.first + 1) (rings_end e)) g
 
--- the faults of two of its polygons, the first one before the second (06-103r4, 6.1.14)
+-- the faults of two of a geometry's polygons, the first one before the second (06-103r4, 6.1.14)
 abbrev pub of_two_elements : (ℕ → ℕ → ValidityFault) → Geometry → List ValidityFault
 of_two_elements fault g = of_pairs fault 0 (length (elements g))
 
--- the faults of one of its polygons and each of them (06-103r4, 6.1.14)
+-- the faults of one polygon of a geometry with each of them (06-103r4, 6.1.14)
 abbrev pub of_elements_and : (ℕ → ℕ → ValidityFault) → ℕ → Geometry → List ValidityFault
 of_elements_and fault element g = map (fault element) (numbers 0 (length (elements g)))
 
--- the faults of every two of its polygons (06-103r4, 6.1.14)
+-- the faults of every two polygons of a geometry (06-103r4, 6.1.14)
 abbrev pub of_other_elements : (ℕ → ℕ → ValidityFault) → Geometry → List ValidityFault
 of_other_elements fault g = of_every_two fault (length (elements g))
 
--- two of its lines or rings pass a test
+-- the lines or rings with these two numbers pass a test
 abbrev pub two_lines : (List Position → List Position → Bool) → Geometry → ℕ → ℕ → Bool
 two_lines test g i j = test_of_both test (slice_get (lines g) i) (slice_get (lines g) j)
 
--- two of its polygons pass a test
+-- the polygons with these two numbers pass a test
 abbrev pub two_elements : (List (List Position) → List (List Position) → Bool) → Geometry → ℕ → ℕ → Bool
 two_elements test g i j = test_of_both test (slice_get (elements g) i) (slice_get (elements g) j)

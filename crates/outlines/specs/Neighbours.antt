@@ -7,11 +7,11 @@ use Rattle.geometry_model.specs.FirstFaults.{has_fault}
 use Rattle.geometry_model.specs.declared.validity_faults.ValidityFault.{ValidityFault}
 use Rattle.rtree.specs.Found.{meeting_places}
 
--- the numbers of those whose envelopes meet that of the one with this number
+-- the numbers of the envelopes that meet the one with this number
 abbrev pub near_one : List (Option Envelope) → ℕ → List ℕ
 near_one envelopes number = meeting_places envelopes (get_or envelopes number None)
 
--- the envelope of what has these two (06-103r4, 6.1.2.2: Envelope)
+-- the smallest envelope that holds these two, each of which may be absent (06-103r4, 6.1.2.2: Envelope)
 abbrev pub either_envelope : Option Envelope → Option Envelope → Option Envelope
 either_envelope None f = f
 either_envelope (Some e) None = Some e
@@ -29,7 +29,7 @@ element_envelope rings = envelope_of_positions (flat_map (λ ring. ring) rings)
 abbrev pub element_envelopes : Geometry → List (Option Envelope)
 element_envelopes g = map element_envelope (elements g)
 
--- of the faults of these numbers, those from one on and before another, the first that applies
+-- the first that applies of the faults with these numbers, from one number on and before another
 abbrev pub first_near : Geometry → (ℕ → ValidityFault) → ℕ → ℕ → List ℕ → Option ValidityFault
 first_near g fault from end [] = None
 first_near g fault from end (number ∷ rest) = cond (nat_le from number && nat_lt number end && has_fault g (fault number)) (Some (fault number)) (first_near g fault from end rest)

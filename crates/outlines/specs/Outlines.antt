@@ -28,7 +28,7 @@ pub record AreRings (g : Geometry) (first end : ℕ) : Type 0 where
 abbrev pub AreRingsOf : Geometry → ℕ → ℕ → ℕ → Type 0
 AreRingsOf g element first end = (e : Element) × (slice_get (numbered_elements g) element ≡ Some e) × (e.first ≡ first) × (rings_end e ≡ end)
 
--- so many positions are too few for a part of a geometry of this type (06-103r4, 6.1.7 and 6.1.11.1)
+-- this number of positions is too few for a part of a geometry of this type (06-103r4, 6.1.7 and 6.1.11.1)
 abbrev pub too_few : GeometryType → ℕ → Bool
 too_few types.Point count = false
 too_few types.MultiPoint count = false

@@ -1,7 +1,7 @@
 -- Strings as they are written between their quotes.
 use Rattle.std.specs.Prelude.{ℕ, ◌&&◌, if◌then◌else◌, ◌==◌, List, [], ◌∷◌}
 
--- what comes after the first byte that a string holds, two quotes in a row being one
+-- what comes after the first byte of a string's value, where two quotes in a row are one byte of it
 abbrev pub after_first : List ℕ → List ℕ
 after_first [] = []
 after_first (byte ∷ []) = []

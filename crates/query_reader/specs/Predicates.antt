@@ -1,4 +1,5 @@
--- Predicates and operands by the names of their functions, as a reader finds them.
+-- Predicates and operands by the names of their functions, in the parts in which the reader reads them. Each has the meaning of
+-- the reading in `table_model`.
 use Rattle.std.specs.Prelude.{ℕ, Bool, true, false, if◌then◌else◌, List, [], ◌∷◌, Option, Some, None, codes}
 use Rattle.geometry_model.specs.declared.relations.Predicate.{Predicate}
 use Rattle.geometry_model.specs.declared.relations.Predicate.TheVariants as p
@@ -27,12 +28,12 @@ abbrev pub named_in : List (List ℕ × Predicate) → List Token → Option Pre
 named_in [] ts = None
 named_in (n ∷ more) ts = if calls n.0 ts then Some n.1 else named_in more ts
 
--- a condition, or its NOT where it isn't to hold
+-- the condition if the Bool says that it is to hold, else its NOT
 abbrev pub given : {A : Type 0} → Bool → WrittenCond A → WrittenCond A
 given true x = x
 given false x = c.Not x
 
--- a call whose arguments were read, and whether it is to hold
+-- what the arguments of a call were read as, and whether the call is to hold
 abbrev pub tested : {A : Type 0} → A → Reader (A × Bool)
 tested x = do
   call ← closed x

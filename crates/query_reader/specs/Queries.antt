@@ -13,7 +13,7 @@ use Rattle.table_model.specs.declared.queries.WrittenCond.{WrittenCond}
 use Rattle.table_model.specs.declared.queries.WrittenReference.{WrittenReference}
 use Rattle.table_model.specs.declared.tokens.TokenKind.TheVariants as k
 
--- whether the plan is asked for, and what SELECT lists
+-- EXPLAIN, if it is there, and what SELECT lists
 abbrev pub head : Reader (Explain × Selection WrittenColumn)
 head = do
   told ← explained
@@ -21,7 +21,7 @@ head = do
   selection ← selection
   pure (told, selection)
 
--- the references of FROM and the condition of ON, of the first reference and of what was read after it
+-- the references of FROM and the condition of ON, from the first reference and what was read after it
 abbrev pub with_first : WrittenReference → Outcome QueryFault Second → Outcome QueryFault (List WrittenReference × Option Condition)
 with_first first outcome = and_then outcome (λ second. pure (first ∷ second.0, second.1))
 
@@ -33,7 +33,7 @@ sources = do
   second ← second
   pure (first ∷ second.0, second.1)
 
--- what was read before LIMIT with the number of LIMIT, and then the text ends
+-- what was read before LIMIT and the number of LIMIT, and then the text ends
 abbrev pub with_limit : {A : Type 0} → A → Reader (A × Option ℕ)
 with_limit x = do
   limit ← limited

@@ -1,4 +1,4 @@
--- Steps of the readers that pass on a value or put it in a list.
+-- Steps of the readers that pass on a value or add it to a list.
 use Rattle.std.specs.Prelude.{Result, Ok, Err}
 use Rattle.table_model.specs.declared.faults.QueryFault.TheVariants as fault
 use Rattle.table_model.specs.declared.tokens.TokenKind.TheVariants as k
@@ -9,7 +9,7 @@ use Rattle.table_model.specs.QueryReading.{Reader}
 abbrev pub closed : {A : Type 0} → A → Reader A
 closed x = expect fault.Syntax k.RightParenthesis >> pure x
 
--- a call's answer with what it made of it
+-- the result with its value changed by the function
 abbrev pub mapped : {F A B : Type 0} → (A → B) → Result A F → Result B F
 mapped f (Ok x) = Ok (f x)
 mapped f (Err e) = Err e

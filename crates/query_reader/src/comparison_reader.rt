@@ -1,4 +1,4 @@
-//! Reads comparisons.
+//! Reads comparisons, and IS NULL.
 
 ghost use Rattle.std.specs.Prelude.{◌≡◌};
 ghost use Rattle.table_model.specs.QueryReading as spec;
@@ -27,7 +27,7 @@ fn comparison_of(kind: TokenKind) -> Option<Comparison>
     }
 }
 
-/// Reads the rest of a comparison, after its left side, which starts at a place.
+/// Reads the rest of a comparison, after its left side. The comparison starts at this place.
 #[tactic(auto, unfolding(table_model::specs::QueryReading::compared))]
 fn compared<'a>(
     alloc: Global,

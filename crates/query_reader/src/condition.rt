@@ -20,7 +20,7 @@ use table_model::tokens::TokenKind;
 
 pub(crate) type WrittenCond<'a> = CondOf<'a, Argument<'a>>;
 
-/// The condition that all of these hold, where they were read.
+/// The AND of these parts, if they were read; a fault is passed on.
 fn all_of<'a>(
     parts: Result<Items<WrittenCond<'a>>, QueryFault>,
 ) -> Result<WrittenCond<'a>, QueryFault>
@@ -32,7 +32,7 @@ fn all_of<'a>(
     }
 }
 
-/// The condition that one of these holds, where they were read.
+/// The OR of these parts, if they were read; a fault is passed on.
 fn one_of<'a>(
     parts: Result<Items<WrittenCond<'a>>, QueryFault>,
 ) -> Result<WrittenCond<'a>, QueryFault>
@@ -44,7 +44,7 @@ fn one_of<'a>(
     }
 }
 
-/// The condition that one that was read doesn't hold; a fault is passed on.
+/// The NOT of a condition that was read; a fault is passed on.
 pub(crate) fn negated<'a, A: Drop>(
     alloc: Global,
     read: Result<CondOf<'a, A>, QueryFault>,
@@ -59,7 +59,7 @@ pub(crate) fn negated<'a, A: Drop>(
     }
 }
 
-/// A list of a first part that was read, to which more are added; a fault is passed on.
+/// A list that begins with a first part, if it was read; a fault is passed on.
 fn list_of<T: Drop>(alloc: Global, first: Result<T, QueryFault>) -> Result<Items<T>, QueryFault>
     ensures ok { IfOk first (λ part. Gives QueryFault.OutOfMemory (λ parts. parts) result (Ok (part ∷ []))) }
     ensures err { IfErr first (λ fault. result ≡ Err fault) }
@@ -79,7 +79,7 @@ fn keep<T: Drop>(parts: &mut Items<T>, read: Result<T, QueryFault>) -> Result<()
     Ok(())
 }
 
-/// Reads the word between parts where a part was read and the word follows, and returns whether it does.
+/// Whether a part was read and the word between parts comes next; the word is read then.
 fn goes_on<T>(tokens: &mut Cursor<'_, '_>, read: &Result<T, QueryFault>, between: TokenKind) -> bool
     ensures ok { IfOk read.now (λ _.
         (result ≡ steps.sees between tokens.old) × (tokens.new ≡ steps.after between tokens.old)) }
@@ -113,7 +113,7 @@ fn disjuncts<'a>(
     Err(refuse(tokens))
 }
 
-/// Reads a condition, in which NOT and parentheses may nest to so many levels.
+/// Reads a condition, in which NOT and parentheses may nest to this many levels.
 #[cycle(conditions)]
 pub(crate) fn condition<'a>(
     alloc: Global,
@@ -172,7 +172,7 @@ fn conjunction<'a>(
     all_of(conjuncts(alloc, tokens, levels, list_of(alloc, first)))
 }
 
-/// Reads a condition in parentheses, after the left one.
+/// Reads the rest of a condition in parentheses, after the left one.
 #[cycle(conditions)]
 fn group<'a>(
     alloc: Global,
@@ -198,7 +198,7 @@ fn opposite<'a>(
     negated(alloc, negation(alloc, tokens, levels))
 }
 
-/// Reads a predicate where neither NOT nor parentheses may come.
+/// Reads a predicate at the innermost level, where neither NOT nor parentheses may come.
 #[tactic(auto, unfolding(table_model::specs::QueryReading::negation))]
 fn innermost<'a>(alloc: Global, tokens: &mut Cursor<'_, 'a>) -> Result<WrittenCond<'a>, QueryFault>
     ensures { Reads QueryFault.OutOfMemory

@@ -1,5 +1,5 @@
-//! The reader of the whole query language, in the style of OGC 06-104r4 (Simple Features, part 2): the tokens
-//! of a query are read into the tree that the grammar gives.
+//! The reader of queries, in the style of OGC 06-104r4 (Simple Features, part 2): `read_query` reads a text into the
+//! tree that the grammar gives.
 #![tactic(auto)]
 
 mod comparison_reader;
@@ -17,7 +17,7 @@ use sqlite_items::Boxed;
 pub use table_model::faults::QueryFault;
 use table_model::queries::{WrittenColumn, WrittenGeometry};
 
-/// A geometry argument of a condition as it is written, in memory of its own, so that conditions stay small. (06-104r4, 7.2.)
+/// A geometry argument of a condition as it is written, behind a pointer, so that conditions stay small. (06-104r4, 7.2.)
 pub type Argument<'a> = Boxed<WrittenGeometry<'a>>;
 
 /// A query as it is written. Names and strings are parts of the query's text. (SQL, the query.)

@@ -1,15 +1,14 @@
-//! The numbers that digits stand for.
+//! The numbers that digits write.
 
 ghost use Rattle.std.specs.Prelude.{◌≡◌};
 ghost use Rattle.table_model.specs.QueryReading as spec;
 
 use sql_tokens::numbers::magnitude;
 
-/// The least and the greatest magnitude that 64 bits with a sign don't hold are one apart: this one is held
-/// below 0.
+/// The greatest magnitude of a number of 64 bits with a sign: the number with a minus fits, the one without doesn't.
 const GREATEST_MAGNITUDE: u64 = 1 << 63;
 
-/// The number of digits with a sign, where 64 bits hold it.
+/// The number that digits and a sign write, if it fits in 64 bits.
 pub(crate) fn integer_value(negative: bool, digits: &[u8]) -> Option<i64>
     ensures { result ≡ spec.integer_value negative digits.now }
 {
@@ -26,7 +25,7 @@ pub(crate) fn integer_value(negative: bool, digits: &[u8]) -> Option<i64>
     }
 }
 
-/// The number of rows that digits give, where 64 bits with a sign hold it.
+/// The number of rows that digits write, if it fits in 64 bits with a sign.
 pub(crate) fn limit_value(digits: &[u8]) -> Option<u64>
     ensures { result ≡ spec.limit_value digits.now }
 {

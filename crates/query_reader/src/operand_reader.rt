@@ -18,7 +18,7 @@ use table_model::tokens::TokenKind;
 
 pub(crate) type WrittenOperand<'a> = OperandOf<'a, Argument<'a>>;
 
-/// Reads digits, whose number may be negated.
+/// Reads digits, after a minus or not; NumberTooBig if their number doesn't fit in 64 bits.
 #[tactic(auto, unfolding(table_model::specs::QueryReading::integer))]
 fn integer<'a>(
     tokens: &mut Cursor<'_, 'a>,
@@ -54,7 +54,7 @@ fn geometry<'a>(tokens: &mut Cursor<'_, 'a>) -> Result<WrittenGeometry<'a>, Quer
     }
 }
 
-/// Reads a geometry argument, in memory of its own.
+/// Reads a geometry argument, and puts it behind a pointer of its own.
 pub(crate) fn argument<'a>(
     alloc: Global,
     tokens: &mut Cursor<'_, 'a>,

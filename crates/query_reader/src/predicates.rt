@@ -31,8 +31,8 @@ const NAMED_PREDICATES: [(&[u8], Predicate); 8] = [
     (b"ST_Overlaps", Predicate::Overlaps),
 ];
 
-/// Reads the right parenthesis after the arguments of a predicate, and what it is compared with: whether it is
-/// to hold. A fault is passed on.
+/// Reads the right parenthesis after the arguments of a predicate, and what the predicate is compared with. Returns what was
+/// read of the arguments, and whether the predicate is to hold. A fault is passed on.
 fn tested<T: Drop>(
     arguments: Result<T, QueryFault>,
     tokens: &mut Cursor<'_, '_>,
@@ -46,7 +46,7 @@ fn tested<T: Drop>(
     Ok((call, is_to_hold))
 }
 
-/// A condition that was read, or its NOT where it isn't to hold; a fault is passed on.
+/// A condition that was read if it is to hold, else its NOT; a fault is passed on.
 fn given<'a, A: Drop>(
     alloc: Global,
     read: Result<(CondOf<'a, A>, bool), QueryFault>,
@@ -62,7 +62,7 @@ fn given<'a, A: Drop>(
     }
 }
 
-/// Reads the arguments of a predicate of two geometries, which starts at a place.
+/// Reads the arguments of a predicate of two geometries. The predicate starts at this place.
 #[tactic(auto, unfolding(table_model::specs::QueryReading::relates))]
 fn relates<'a>(
     alloc: Global,
@@ -78,7 +78,7 @@ fn relates<'a>(
     Ok(WrittenCond::Relates(at, WrittenPredicate::Named(predicate), a, b))
 }
 
-/// Reads the arguments of ST_Relate, which starts at a place.
+/// Reads the arguments of ST_Relate, which starts at this place.
 #[tactic(auto, unfolding(table_model::specs::QueryReading::relates_by))]
 fn relates_by<'a>(
     alloc: Global,
@@ -95,7 +95,7 @@ fn relates_by<'a>(
     Ok(WrittenCond::Relates(at, WrittenPredicate::Relate(pattern), a, b))
 }
 
-/// Reads the argument of ST_IsEmpty, which starts at a place.
+/// Reads the argument of ST_IsEmpty, which starts at this place.
 fn empty_argument<'a>(
     alloc: Global,
     tokens: &mut Cursor<'_, 'a>,
@@ -109,13 +109,13 @@ fn empty_argument<'a>(
 /// A function that is a predicate.
 #[derive(Clone, Copy)]
 pub enum Function {
-    /// One of two geometries, by its name.
+    /// A predicate of two geometries, by its name.
     Named(Predicate),
     Relate,
     IsEmpty,
 }
 
-/// Reads the arguments of a function, whose name starts at a place.
+/// Reads the arguments of a function, whose name starts at this place.
 fn arguments<'a>(
     alloc: Global,
     tokens: &mut Cursor<'_, 'a>,
@@ -146,7 +146,7 @@ fn call<'a>(
     given(alloc, tested(arguments, tokens))
 }
 
-/// The first predicate of a table that is called next, by its name.
+/// The first predicate of a table whose function is called next.
 fn called_of(table: &[(&[u8], Predicate)], tokens: &Cursor<'_, '_>) -> Option<Predicate>
     ensures { result ≡ named_in (map (λ row. (row.0.now, row.1)) table.now) tokens.now }
 {
@@ -167,7 +167,7 @@ fn named_predicate(tokens: &Cursor<'_, '_>) -> Option<Predicate>
     called_of(&NAMED_PREDICATES, tokens)
 }
 
-/// ST_Relate or ST_IsEmpty, where it is called next.
+/// ST_Relate or ST_IsEmpty, if it is called next.
 fn other_function(tokens: &Cursor<'_, '_>) -> Option<Function>
     ensures { result ≡ names.other_function tokens.now }
 {
@@ -180,7 +180,7 @@ fn other_function(tokens: &Cursor<'_, '_>) -> Option<Function>
     }
 }
 
-/// The function that is called next, where it is a predicate.
+/// The function that is called next, if it is a predicate.
 fn called(tokens: &Cursor<'_, '_>) -> Option<Function>
     ensures { result ≡ names.function_by (named_in named_predicates tokens.now) tokens.now }
 {
@@ -190,7 +190,7 @@ fn called(tokens: &Cursor<'_, '_>) -> Option<Function>
     }
 }
 
-/// Reads a predicate whose name is looked at first.
+/// Reads a predicate, by the function that is called next; a comparison if none is.
 fn predicate_by_name<'a>(
     alloc: Global,
     tokens: &mut Cursor<'_, 'a>,

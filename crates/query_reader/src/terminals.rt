@@ -1,6 +1,5 @@
-//! The small steps of the readers: a token of a kind, a name, a column, a string. Each function ensures the
-//! outcome of the reader of its name in `specs/QueryReading.antt` of `table_model`, which has the grammar,
-//! and so in each file here.
+//! The small steps of the readers: a parenthesis, a name, a column, a string. Here and in the other files of this crate,
+//! each function ensures the outcome of the reader of its name in `specs/QueryReading.antt` of `table_model`.
 
 ghost use Rattle.std.specs.Prelude.{◌≡◌, Some, Ok, Err, IfOk, IfErr};
 ghost use Rattle.table_model.specs.Outcomes.{Gives};
@@ -31,7 +30,7 @@ pub(crate) fn closed<T: Drop>(
     Ok(value)
 }
 
-/// What was read, in memory of its own; a fault is passed on.
+/// What was read, behind a pointer of its own; a fault is passed on.
 pub(crate) fn boxed<T: Drop>(
     alloc: Global,
     read: Result<T, QueryFault>,
@@ -42,14 +41,14 @@ pub(crate) fn boxed<T: Drop>(
     Ok(Boxed::new(alloc, read?)?)
 }
 
-/// A part that may be left out, where it was read; a fault is passed on.
+/// An optional part that was read; a fault is passed on.
 pub(crate) fn present<T: Drop>(read: Result<T, QueryFault>) -> Result<Option<T>, QueryFault>
     ensures { result ≡ passing.mapped Some read }
 {
     Ok(Some(read?))
 }
 
-/// Reads a name: a word that isn't reserved. With `(` after it, it is a function and no name.
+/// Reads a name: a word that isn't reserved. With `(` after it, it is a function.
 #[tactic(auto, unfolding(table_model::specs::QueryReading::name))]
 pub(crate) fn name<'a>(tokens: &mut Cursor<'_, 'a>) -> Result<Name<'a>, QueryFault>
     ensures { Reads QueryFault.OutOfMemory (spec.name tokens.old) result tokens.new }
@@ -107,7 +106,7 @@ pub(crate) fn calls(tokens: &Cursor<'_, '_>, function: &[u8]) -> bool
         && same_name(tokens.spelling(), function)
 }
 
-/// Whether this word comes next, in any ASCII case, and is no function.
+/// Whether this word comes next, in any ASCII case, and isn't a function.
 #[tactic(auto, unfolding(table_model::specs::QueryReading::says))]
 pub(crate) fn says(tokens: &Cursor<'_, '_>, word: &[u8]) -> bool
     ensures { result ≡ spec.says word.now tokens.now }

@@ -1,4 +1,4 @@
--- What a run returns and writes.
+-- What `run` returns and writes: the outcome of a query's text over the records of its tables, or why there is none.
 use Rattle.std.specs.Prelude.{◌≡◌, ◌<◌, ◌⊎◌, ⊤, ℕ, Bool, true, false, IfOk, IsOk, List, ◌∷◌, [], codes, length, map, Option, Result, Ok, Err}
 use Rattle.std.specs.Option.{option_map_or}
 use Rattle.std.specs.Io.KnownBytes.{Appends, Keeps}
@@ -40,11 +40,11 @@ use Rattle.failures.specs.declared.run_fault.Fault.TheVariants as faults
 abbrev pub rows_text : SpatialDatabase → SpatialQuery → List (List (Row Geometry)) → List ℕ
 rows_text database query rows = records_text record_text (answer geometry_writing database.definitions query rows)
 
--- the same by its conjuncts
+-- the text of the answer of a bound query that asks for rows, by its conjuncts
 abbrev pub bound_text : MatrixOf → SpatialDatabase → SpatialQuery → List ℕ
 bound_text matrix database query = rows_text database query (limited query (passing_rows (truth matrix denoted) database.tables query))
 
--- the rows at some choices of places
+-- the rows at choices of places
 abbrev pub rows_of_choices : SpatialDatabase → SpatialQuery → List Choice → List (List (Row Geometry))
 rows_of_choices database query choices = map (query_rows database.tables query) choices
 
@@ -52,19 +52,19 @@ rows_of_choices database query choices = map (query_rows database.tables query) 
 abbrev pub choice_text : SpatialDatabase → SpatialQuery → Choice → List ℕ
 choice_text database query choice = record_text (record_of geometry_writing query (query_rows database.tables query choice))
 
--- the text of COUNT(*) of so many rows
+-- the text of the answer of COUNT(*), where there are this many rows
 abbrev pub count_text : Option ℕ → ℕ → List ℕ
 count_text limit count = records_text record_text ((codes "COUNT(*)" ∷ []) ∷ count_records limit count)
 
 -- ---- plans
 
--- the work of a bound query by a plan: none where the plan alone is printed, and a count of 64 bits
+-- the work of a bound query with a plan, as a count of 64 bits: none under EXPLAIN, which prints the plan alone
 abbrev pub planned_work : Explain → MatrixOf → List SpatialTable → SpatialQuery → Plan → ℕ
 planned_work explains.No matrix tables query plan = kept_count (work matrix denoted tables query plan)
 planned_work explains.Plan matrix tables query plan = 0
 planned_work explains.Analyze matrix tables query plan = kept_count (work matrix denoted tables query plan)
 
--- what a bound query by a plan writes: rows, the plan, or the plan and the work (SQL, the query)
+-- what a bound query with a plan writes: rows, the plan, or the plan and the work (SQL, the query)
 abbrev pub planned_text : Explain → MatrixOf → SpatialDatabase → SpatialQuery → Plan → List ℕ
 planned_text explains.No matrix database query plan = bound_text matrix database query
 planned_text explains.Plan matrix database query plan = explain_text query plan
@@ -72,47 +72,47 @@ planned_text explains.Analyze matrix database query plan = analyze_text query pl
 
 -- ---- work
 
--- the work of a query: that of its chosen plan, and none under EXPLAIN; each query of one or two references has a plan
+-- the work of a query: that of its chosen plan, and none under EXPLAIN; a query of one or two references always has a plan
 abbrev pub answer_work : MatrixOf → List SpatialTable → SpatialStatement → ℕ
 answer_work matrix tables query =
     option_map_or (planned_work query.explain matrix tables (by_conjuncts query)) (chosen tables (by_conjuncts query)) 0
 
--- that of a written query over a database, or the fault of binding it
+-- the work of a written query over a database, or the fault of binding it
 abbrev pub query_work : MatrixOf → SelectQuery → SpatialDatabase → Result ℕ Refusal
 query_work matrix written database =
     after OfQuery (statement geometry_binding database.definitions written) (λ query. Ok (answer_work matrix database.tables query))
 
--- the same over the tables' records, or the first fault among them
+-- the work of a written query over the tables' records, or the first fault: of loading, then of binding
 abbrev pub loaded_work : MatrixOf → SpatialSchema → List (List Record) → SelectQuery → Result ℕ Refusal
 loaded_work matrix definitions records written =
     after OfTable (load_tables read_geometry definitions records)
     (λ tables. query_work matrix written (record { definitions = definitions; tables = tables }))
 
--- the work of a query's text over the tables' records, or the first fault, as the outcome has it
+-- the work of a query's text over the tables' records, or the first fault, in the order of `outcome`
 abbrev pub work_outcome : MatrixOf → SpatialSchema → List (List Record) → List ℕ → Result ℕ Refusal
 work_outcome matrix definitions records text =
     after OfQuery (query_of text) (loaded_work matrix definitions records)
 
 -- ---- runs
 
--- a table of which the reading may fail: the query's text has been accepted, the table is one of the schema, and each table before
--- it has loaded
+-- reading this table may have failed: the query's text is in the grammar, the table is one of the schema, and each table before it
+-- has loaded
 abbrev pub IsReached : SpatialSchema → List (List Record) → List ℕ → ℕ → Type 0
 IsReached definitions records text table =
     IsOk (query_of text) × (table < length definitions) × EarlierLoad read_geometry definitions records table
 
--- a table is refused: where its reading failed it is one that may be reached, otherwise the outcome is its fault
+-- a table is refused: where reading it failed, it may have been reached; otherwise the outcome is its fault
 abbrev pub RefusesTable : Bool → Type 0 → Result (List ℕ) Refusal → TableFault → Type 0
 RefusesTable true reached outcome fault = reached
 RefusesTable false reached outcome fault = outcome ≡ Err (OfTable fault)
 
--- a beginning of the text that is the outcome was written
+-- the outcome is a text, and a beginning of it was written
 abbrev pub PutsFront : Result (List ℕ) Refusal → Option (List ℕ) → Option (List ℕ) → Type 0
 PutsFront outcome old new = (text : List ℕ) × (outcome ≡ Ok text) × AppendsFront old new text
 
--- what a run promises: at Ok the outcome is a text and exactly it was written; where the query or a table is refused the outcome is that
--- fault, or the reading of that table failed, and nothing was written; where the sink failed the outcome is a text and a beginning of it
--- was written; where memory ran out nothing was written, or such a beginning
+-- what a run promises. Ok: the outcome is a text and exactly it was written. A fault of the query or a table: it is the outcome, or
+-- reading the table failed; nothing was written. A fault of the sink: the outcome is a text and a beginning of it was written. Out of
+-- memory: nothing, or such a beginning
 abbrev pub Runs : {A : Type 0} → Result A Fault → Result (List ℕ) Refusal → (ℕ → Type 0) → Option (List ℕ) → Option (List ℕ) → Type 0
 Runs (Ok a) outcome reached old new = (text : List ℕ) × (outcome ≡ Ok text) × Appends old new text
 Runs (Err (faults.Query f)) outcome reached old new = (outcome ≡ Err (OfQuery f)) × Keeps old new
@@ -120,33 +120,33 @@ Runs (Err (faults.Load table f)) outcome reached old new = RefusesTable (is_of_r
 Runs (Err faults.Sink) outcome reached old new = PutsFront outcome old new
 Runs (Err faults.Memory) outcome reached old new = Keeps old new ⊎ PutsFront outcome old new
 
--- a query over a database reads no table
+-- no table: a query over a loaded database reads none
 abbrev pub none_reached : ℕ → Type 0
 none_reached table = ⊥
 
--- the same of a query over a database, by every function that gives the matrix (SQL, the query; 06-103r4, 6.1.15)
+-- what a run over a loaded database promises, for every function that gives the matrix (SQL, the query; 06-103r4, 6.1.15)
 abbrev pub AnswersQuery : {A : Type 0} → Result A Fault → SpatialDatabase → SelectQuery → Option (List ℕ) → Option (List ℕ) → Type 0
 AnswersQuery result database query old new =
     ByEveryMatrix (λ matrix. Runs result (query_outcome record_text matrix query database) none_reached old new)
 
--- what a run over the tables' records promises, by every function that gives the matrix (SQL, the query; 06-103r4, 6.1.15)
+-- what a run over the tables' records promises, for every function that gives the matrix (SQL, the query; 06-103r4, 6.1.15)
 abbrev pub RunsOver : {A : Type 0} → Result A Fault → SpatialSchema → List (List Record) → List ℕ → Option (List ℕ) → Option (List ℕ) → Type 0
 RunsOver result definitions records text old new =
     ByEveryMatrix (λ matrix. Runs result (outcome record_text matrix definitions records text) (IsReached definitions records text) old new)
 
--- a number that a call returns is the outcome
+-- if a call returns a number, it is the outcome
 abbrev pub Counts : Result ℕ Fault → Result ℕ Refusal → Type 0
 Counts result outcome = IfOk result (λ work. outcome ≡ Ok work)
 
--- what a query over a database returns is its work, by every function that gives the matrix (06-103r4, 6.1.15)
+-- if a run over a loaded database returns a number, it is the query's work, for every function that gives the matrix (06-103r4, 6.1.15)
 abbrev pub CountsQuery : Result ℕ Fault → SpatialDatabase → SelectQuery → Type 0
 CountsQuery result database query = ByEveryMatrix (λ matrix. Counts result (query_work matrix query database))
 
--- the work of a run over the tables' records: none under EXPLAIN, else that of the chosen plan (06-103r4, 6.1.15)
+-- if a run over the tables' records returns a number, it is the work of the chosen plan, or 0 under EXPLAIN (06-103r4, 6.1.15)
 abbrev pub CountsOver : Result ℕ Fault → SpatialSchema → List (List Record) → List ℕ → Type 0
 CountsOver result definitions records text = ByEveryMatrix (λ matrix. Counts result (work_outcome matrix definitions records text))
 
--- a fault of loading names one of so many tables
+-- a fault of loading names a table whose place is less than this number
 abbrev pub IsOfTables : ℕ → Fault → Type 0
 IsOfTables count (faults.Load table f) = table < count
 IsOfTables count (faults.Query f) = ⊤

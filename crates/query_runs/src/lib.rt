@@ -1,4 +1,4 @@
-//! Runs of queries: from a schema, the tables' texts and a query's text to the bytes of the answer.
+//! Runs of queries: `run` writes the answer of a query's text over tables that it loads from readers.
 #![tactic(auto)]
 
 pub mod runs;

@@ -1,4 +1,4 @@
-//! A run: from a query's text and the tables' texts to the text of the answer.
+//! A run of a query: it reads the text, loads the tables, binds the names, chooses the plan and writes the answer.
 
 ghost use Rattle.std.specs.Prelude.{◌≡◌, ◌∷◌, [], ℕ, IfErr, IfOk, List, Ok, Some, length, map, OnOk};
 ghost use Rattle.csv.specs.Records.{fields_of};
@@ -41,10 +41,16 @@ use std::io::Read;
 use table_model::plans::Plan;
 use table_model::queries::Explain;
 
-/// Runs a query over the tables that the readers give, one for each table of the schema, in its order: reads
-/// the query, loads all tables, binds, chooses the plan, and writes the header and the rows, or what EXPLAIN prints. Where
-/// the readers' texts are known the answer is that of the records that `csv` reads of them; whatever the readers are,
-/// there are records of which this is the answer. The work returned is that of the chosen plan, and none under EXPLAIN.
+/// Runs a query over tables. There is one reader for each table of the schema, in its order. `run` reads the query, loads all
+/// tables, binds names, chooses the plan, and writes the header and the rows, or what EXPLAIN prints. It returns the work of
+/// the chosen plan: how many matrices were computed, none under EXPLAIN.
+///
+/// If the readers' bytes are known, the answer is that of the records that `csv` reads from them. Whatever the readers are,
+/// there are records whose answer it is.
+///
+/// The error is the first fault: of the query's text, of loading a table, of binding the query, of the sink; `Memory` may
+/// come in place of any result. Nothing is written before the query is bound. If the sink fails or memory runs out later, a
+/// beginning of the answer may have been written.
 pub fn run<I: EnvelopeIndex + Drop, R: Read + Drop, S: Sink>(
     alloc: Global,
     schema: &Schema,
@@ -67,7 +73,7 @@ pub fn run<I: EnvelopeIndex + Drop, R: Read + Drop, S: Sink>(
     run_observed::<I, R, S, Unobserved>(alloc, schema, readers, query, sink, &mut Unobserved)
 }
 
-/// The same as `run`, where each candidate that is looked at, and each row that is found, is reported to an observer.
+/// The same as `run`. It reports each candidate that is looked at, and each row that is found, to an observer.
 pub fn run_observed<I: EnvelopeIndex + Drop, R: Read + Drop, S: Sink, O: RowObserver>(
     alloc: Global,
     schema: &Schema,
@@ -92,7 +98,7 @@ pub fn run_observed<I: EnvelopeIndex + Drop, R: Read + Drop, S: Sink, O: RowObse
     load_and_answer::<I, R, S, O>(alloc, schema, readers, &query, sink, observer)
 }
 
-// Loads all tables and runs a query over them. What is said of the query is said of each text that reads as it does.
+// Loads all tables and runs a query over them. The clauses hold for each text that is read as this query.
 fn load_and_answer<I: EnvelopeIndex + Drop, R: Read + Drop, S: Sink, O: RowObserver>(
     alloc: Global,
     schema: &Schema,
@@ -121,7 +127,7 @@ fn load_and_answer<I: EnvelopeIndex + Drop, R: Read + Drop, S: Sink, O: RowObser
 }
 
 // Runs a query over a database: binds it, chooses its plan, and writes its answer. At Ok all of the answer has been
-// written; nothing where the query isn't bound, and a beginning where the sink failed or memory ran out.
+// written; nothing if the query can't be bound, and perhaps a beginning if the sink failed or memory ran out.
 fn answer_query<I: EnvelopeIndex + Drop, S: Sink, O: RowObserver>(
     alloc: Global,
     query: &Query<'_>,
@@ -141,7 +147,7 @@ fn answer_query<I: EnvelopeIndex + Drop, S: Sink, O: RowObserver>(
     Ok(work)
 }
 
-// Writes what a bound query asks for, by a lawful plan, and returns the work.
+// Writes what a bound query asks for, using a lawful plan, and returns the work.
 fn put_planned<I: EnvelopeIndex + Drop, S: Sink, O: RowObserver>(
     alloc: Global,
     database: &Database<'_, I>,
@@ -166,7 +172,7 @@ fn put_planned<I: EnvelopeIndex + Drop, S: Sink, O: RowObserver>(
     }
 }
 
-// Writes the rows that a bound query means as a lawful plan finds them, and returns the work.
+// Writes the rows of a bound query, as a lawful plan finds them, and returns the work.
 fn put_rows<I: EnvelopeIndex + Drop, S: Sink, O: RowObserver>(
     alloc: Global,
     database: &Database<'_, I>,
@@ -224,8 +230,8 @@ fn put_analysis<I: EnvelopeIndex + Drop, S: Sink, O: RowObserver>(
     Ok(work)
 }
 
-// Writes the answer of a query, of which these rows are still to come: how many there are under COUNT(*), else the header
-// and the record of each row, as it comes.
+// Writes the answer of a query whose rows these are: under COUNT(*) how many there are, else the header and the record of
+// each row, as it comes.
 fn put_answer<I: EnvelopeIndex + Drop, S: Sink, O: RowObserver>(
     alloc: Global,
     database: &Database<'_, I>,
@@ -252,7 +258,7 @@ fn put_answer<I: EnvelopeIndex + Drop, S: Sink, O: RowObserver>(
     put_records(alloc, database, query, rows, &mut writer, sink, observer)
 }
 
-// Takes rows to their end, and returns how many there were. A number past 64 bits counts as running out of memory.
+// Takes rows to their end, and returns how many there were. More than 64 bits hold count as running out of memory.
 fn count_rows<I: EnvelopeIndex + Drop, O: RowObserver>(
     rows: &mut Rows<'_, I>,
     observer: &mut O,
@@ -271,7 +277,7 @@ fn count_rows<I: EnvelopeIndex + Drop, O: RowObserver>(
     Ok(count)
 }
 
-// Writes the header of COUNT(*), and the record of the number; under LIMIT 0 there is none.
+// Writes the header of COUNT(*) and the record of the number, which is left out under LIMIT 0.
 fn put_count<S: Sink>(
     alloc: Global,
     limit: Option<u64>,
@@ -291,7 +297,7 @@ fn put_count<S: Sink>(
     put_field(alloc, digits.format(count).as_bytes(), writer, sink)
 }
 
-// The record of one field.
+// A record of this one field.
 fn one_field(alloc: Global, field: &[u8]) -> Result<ByteRecord, AllocError>
     ensures { IfOk result (λ r. fields_of r ≡ field.now ∷ []) }
 {
@@ -300,7 +306,7 @@ fn one_field(alloc: Global, field: &[u8]) -> Result<ByteRecord, AllocError>
     Ok(fields)
 }
 
-// Writes a record of one field.
+// Writes the record of this one field.
 fn put_field<S: Sink>(
     alloc: Global,
     field: &[u8],
@@ -343,7 +349,7 @@ fn put_records<I: EnvelopeIndex + Drop, S: Sink, O: RowObserver>(
     Ok(())
 }
 
-// Makes a record that of a pair.
+// Replaces the fields of a record by those of a pair of rows.
 fn pair_record<I: EnvelopeIndex + Drop>(
     alloc: Global,
     database: &Database<'_, I>,

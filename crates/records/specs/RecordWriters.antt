@@ -1,4 +1,4 @@
--- What a writer of records holds, and what putting one does to a sink's count of failures.
+-- What a writer of records holds, and what writing one does to a sink's count of failures.
 use Rattle.std.specs.Prelude.{◌≡◌, ℕ, Bool, false, List, [], Result, Ok, Err}
 use Rattle.std.specs.Global.{Vec}
 use Rattle.csv.specs.Writing.{writer_setup, fields_written, has_written, writer_pending, writer_under, default_writer}
@@ -15,7 +15,7 @@ pub record IsFresh (w : Writer (Vec ℕ)) : Type 0 where
   pub wrote : has_written w ≡ false
   pub pending : writer_pending w ≡ []
 
--- the next record can be put
+-- the next record can be written
 abbrev pub IsReady : RecordWriter → Type 0
 IsReady w = IsFresh w.writer
 
@@ -23,7 +23,7 @@ IsReady w = IsFresh w.writer
 abbrev pub text_kept : RecordWriter → List ℕ
 text_kept w = (writer_under w.writer).items
 
--- how many failures of a sink a call adds that may also run out of memory: one where the sink failed
+-- how many failures a call that may also run out of memory adds to a sink's count: one if the sink failed, else none
 abbrev pub CountsPut : {A : Type 0} → ℕ → ℕ → Result A PutFault → Type 0
 CountsPut old new (Ok a) = new ≡ old
 CountsPut old new (Err put.Sink) = new ≡ one_more old

@@ -20,7 +20,7 @@ abbrev pub InsideByEdges : Type 0
 InsideByEdges = (p : Position) (ps outer : List Position) (holes other : List (List Position)) → (inside outer (p ∷ ps) ≡ is_odd_above (edges_of_line outer) p)
     × (inside_element other ((p ∷ ps) ∷ holes) ≡ is_odd_above (edges_of_lines other) p)
 
--- the least upright rectangle round an edge (06-103r4, 6.1.2.2: Envelope)
+-- the smallest rectangle along the axes that holds an edge (06-103r4, 6.1.2.2: Envelope)
 abbrev pub box_of : Edge → Envelope
 box_of e = joined (envelope_at e.start) (envelope_at e.end)
 

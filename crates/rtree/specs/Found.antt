@@ -1,4 +1,4 @@
--- What a search over envelopes finds.
+-- What a search over envelopes finds: the positions in the list of those that meet the one asked for.
 use Rattle.std.specs.Prelude.{ℕ, Bool, List, map, Option, filter}
 use Rattle.std.specs.List.{enumerate_from}
 use Rattle.geometry_model.specs.Envelopes.{Envelope, meets}

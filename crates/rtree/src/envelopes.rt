@@ -1,4 +1,4 @@
-//! Envelopes: the least upright rectangle round a geometry or some positions.
+//! Envelopes: the smallest rectangle along the axes that holds a geometry or some positions.
 
 ghost use Rattle.std.specs.Prelude.{◌≡◌, ◌↔◌, ◌≤ℤ◌, ◌&&◌, ◌++◌, List, true};
 ghost use Rattle.geometry_model.specs.Points.{Position};
@@ -38,7 +38,7 @@ impl Model for Envelope {
     } };
 }
 
-/// What is a valid geometry, and so has an envelope. (OGC 06-103r4, 6.1.2.2: Envelope.)
+/// A value that is a valid geometry, and so has an envelope. (OGC 06-103r4, 6.1.2.2: Envelope.)
 pub trait Enveloped {
     // The geometry that a value is.
     ghost geometry: { Self → Geometry };
@@ -127,7 +127,7 @@ fn bounded(least_x: i32, greatest_x: i32, least_y: i32, greatest_y: i32) -> Enve
     }
 }
 
-/// The envelope of both. (OGC 06-103r4, 6.1.2.2: Envelope.)
+/// The smallest envelope that holds both. (OGC 06-103r4, 6.1.2.2: Envelope.)
 pub fn joined(one: Envelope, other: Envelope) -> Envelope
     ensures { result ≡ joined one other }
 {
@@ -139,7 +139,7 @@ pub fn joined(one: Envelope, other: Envelope) -> Envelope
     )
 }
 
-/// Whether the rectangles overlap, their edges counted.
+/// Whether two rectangles share a point, be it on their edges.
 pub(crate) fn overlap(one: Envelope, other: Envelope) -> bool
     ensures { result ≡ overlap one other }
 {
@@ -150,7 +150,7 @@ pub(crate) fn overlap(one: Envelope, other: Envelope) -> bool
     both(both(both(right, left), above), below)
 }
 
-/// Whether two envelopes meet: both are absent, or both are there and overlap, their edges counted.
+/// Whether two envelopes meet: both are absent, or both are there and share a point, be it on their edges.
 pub fn meets(one: Option<Envelope>, other: Option<Envelope>) -> bool
     ensures { result ≡ meets one other }
 {
@@ -173,7 +173,7 @@ fn envelope_at(a: GridPoint) -> Envelope
     }
 }
 
-// The envelope of a position and of what follows it.
+// The envelope of a position and of those that follow it, whose envelope is given.
 fn with_position(a: GridPoint, rest: Option<Envelope>) -> Envelope
     ensures { result ≡ with_position a rest }
 {
@@ -200,7 +200,7 @@ fn greater(a: i32, b: i32) -> i32
     a.max(b)
 }
 
-// Whether both are so.
+// `a && b` as a call. It makes no branches, so `overlap` has one path to prove.
 fn both(a: bool, b: bool) -> bool
     ensures { result ≡ (a && b) }
 {

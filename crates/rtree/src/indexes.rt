@@ -1,4 +1,4 @@
-//! What an index of envelopes is.
+//! The trait of indexes of envelopes.
 
 ghost use Rattle.std.specs.Prelude.{◌≡◌, List, [], Option, IfOk, OnOk, OnErr};
 ghost use Rattle.geometry_model.specs.Envelopes.{Envelope as Rectangle};
@@ -7,8 +7,8 @@ ghost use Rattle.rtree.specs.Found.{meeting_places};
 use crate::envelopes::Envelope;
 use std::alloc::{AllocError, Global};
 
-/// An index of envelopes: it stands for a list of optional envelopes, and returns the positions of those that
-/// meet one.
+/// An index of envelopes. It is built of a list of optional envelopes, and finds the positions in this list of those that
+/// meet one asked for. Contracts see it as that list.
 pub trait EnvelopeIndex {
     ghost indexed: { Self → List (Option Rectangle) };
 
@@ -16,8 +16,8 @@ pub trait EnvelopeIndex {
     fn build(alloc: Global, envelopes: &[Option<Envelope>]) -> Result<Self, AllocError>
         ensures { IfOk result (λ index. indexed index ≡ envelopes.now) };
 
-    /// Leaves in the vector the positions whose envelopes meet the one asked for, ascending; after a refusal,
-    /// for lack of memory, the vector is empty.
+    /// Replaces what the vector holds by the positions, ascending, of the envelopes that meet the one asked for. It fails
+    /// only when memory runs out, and then leaves the vector empty.
     fn search(&self, asked: Option<Envelope>, found: &mut Vec<usize>) -> Result<(), AllocError>
         ensures exact { OnOk result (found.new.items ≡ meeting_places (indexed self.now) asked) }
         ensures refused { OnErr result (found.new.items ≡ []) };

@@ -1,7 +1,7 @@
-//! Envelopes, and indexes that find the envelopes that meet one asked for.
+//! Envelopes, and indexes that find which envelopes of a list meet one asked for.
 //!
-//! An index stands for a list of optional envelopes by position. An absent envelope is that of an empty
-//! geometry: it meets only an absent one.
+//! The list has optional envelopes. An absent envelope is that of an empty geometry: it meets only another absent
+//! one.
 #![tactic(auto)]
 
 pub mod envelopes;

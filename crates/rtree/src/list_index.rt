@@ -1,4 +1,4 @@
-//! The plain index: the list itself, asked from its start to its end.
+//! The plain index: the list itself. A search looks at each envelope.
 
 ghost use Rattle.std.specs.Prelude.{◌≡◌, ◌++◌, ◌∷◌, [], cond, OnOk, OnErr};
 ghost use Rattle.rtree.specs.Found.{meeting_places};
@@ -7,7 +7,7 @@ use crate::envelopes::{Envelope, meets};
 use crate::indexes::EnvelopeIndex;
 use std::alloc::{AllocError, Global};
 
-/// The list of envelopes as its own index: `search` asks each.
+/// The list of envelopes as its own index: `search` looks at each.
 #[derive(Drop)]
 pub struct ListIndex {
     envelopes: Vec<Option<Envelope>>,
@@ -48,7 +48,7 @@ fn push_meeting(
     Ok(())
 }
 
-// Adds a position where it passes.
+// Adds the position if it passes.
 fn push_if(found: &mut Vec<usize>, passes: bool, place: usize) -> Result<(), AllocError>
     ensures { OnOk result (found.new.items ≡ found.old.items ++ cond passes (place ∷ []) []) }
 {

@@ -12,10 +12,11 @@ ghost use Rattle.rtree.specs.Trees.{KeepPacking};
 use crate::envelopes::{Envelope, joined};
 use std::alloc::{AllocError, Global};
 
-/// How many neighbours make a node.
+/// How many children a node has, but for the last one of a level, which may have fewer.
 pub(crate) const NODE_SIZE: usize = 8;
 
-/// Adds the positions of the absent envelopes of a list, and each that is there with its position.
+/// Parts a list in two: adds the positions of the absent envelopes to `absent`, and the others, with their positions, to
+/// `entries`.
 pub(crate) fn push_apart(
     envelopes: &[Option<Envelope>],
     absent: &mut Vec<usize>,
@@ -30,7 +31,7 @@ pub(crate) fn push_apart(
     Ok(())
 }
 
-// Adds the position of an absent envelope, or that of one that is there with it.
+// Adds one position of the list: to `absent` if the envelope is absent, else with the envelope to `entries`.
 fn push_entry(
     absent: &mut Vec<usize>,
     entries: &mut Vec<(usize, Envelope)>,
@@ -49,7 +50,7 @@ fn push_entry(
     Ok(())
 }
 
-/// Puts entries in the order of the packing.
+/// Sorts entries into the order of the packing.
 pub(crate) fn put_in_order(entries: &mut Vec<(usize, Envelope)>)
     ensures moved { IsPermutation entries.old.items entries.new.items }
     ensures sorted { IsSortedBy comes_before entries.new.items }
@@ -77,7 +78,7 @@ pub(crate) fn envelopes_of(
     entries.iter().map(|entry| entry.1).collect(alloc)
 }
 
-// By what an entry is ordered: by twice the middle of its x, of its y, and by its position.
+// The key by which entries are sorted: twice the middle of the envelope's x, twice that of its y, and the position.
 fn packing_key(entry: &(usize, Envelope)) -> (i64, i64, usize)
     ensures { result ≡ packing_key entry.now }
 {
@@ -94,7 +95,7 @@ fn sum(least: i32, greatest: i32) -> i64
     i64::from(least) + i64::from(greatest)
 }
 
-/// Some envelopes, and level by level those of the nodes over them, from the leaves to the root.
+/// The levels of a tree: these envelopes, then level by level those of the nodes over them, from the leaves to the root.
 pub(crate) fn levels_over(
     alloc: Global,
     lowest: Vec<Envelope>,
@@ -128,7 +129,7 @@ fn level_over(alloc: Global, level: &[Envelope]) -> Result<Vec<Envelope>, AllocE
     Ok(over)
 }
 
-// The envelope of some envelopes, of one at least.
+// The smallest envelope that holds these, of which there is one at least.
 fn around(envelopes: &[Envelope]) -> Envelope
     requires { 0 < length envelopes.now }
     ensures { Some result ≡ joined_all envelopes.now }

@@ -1,4 +1,4 @@
-//! The packed tree: envelopes near one another are together below one node.
+//! The packed tree: envelopes near one another are below one node, so a search skips most of the others.
 
 ghost use Rattle.std.specs.Prelude.{◌≡◌, ◌++◌, ◌≤◌, ◌-◌, [], length, map, count_by, List, Option, Some, OnOk};
 ghost use Rattle.std.specs.Vec.{vec_items};
@@ -105,8 +105,8 @@ impl EnvelopeIndex for RTree {
     }
 }
 
-// Adds the positions of the envelopes that meet the one asked for, of all below eight neighbours of the highest
-// of some levels, the first of which is given. It goes into a node only where its envelope meets.
+// Adds the positions of the envelopes below one node that meet the one asked for. The node's children are up to NODE_SIZE
+// nodes of the highest of these levels, from the place `first` on. It looks below a child only if the child's envelope meets.
 fn push_below(
     levels: &[Vec<Envelope>],
     places: &[usize],

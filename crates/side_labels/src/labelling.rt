@@ -56,7 +56,7 @@ fn is_upright(piece: &Piece) -> bool
     piece.0.cmp_x(&piece.1) == Ordering::Equal
 }
 
-/// The labels of the two sides of a piece, if it isn't upright.
+/// The labels of the two sides of a piece, if it isn't vertical.
 fn side_labels(first: &Valid, second: &Valid, piece: &Piece) -> Option<SideLabels>
     requires { HasSample (piece_of piece.now) }
     ensures { result ≡ spec.side_labels first.now second.now (piece_of piece.now) }
@@ -161,7 +161,7 @@ fn labels_of_sides(
 }
 
 /// The labels of two geometries: of the nodes of their segments and listed positions, of the pieces between them, each at its
-/// sample, and of the two sides of each piece that isn't upright (OGC 06-103r4, 6.1.15.2; labels: this project's choice). It
+/// sample, and of the two sides of each piece that isn't vertical (OGC 06-103r4, 6.1.15.2; labels: this project's choice). It
 /// fails only when memory runs out.
 pub fn labels(alloc: Global, first: &Valid, second: &Valid) -> Result<Labels, AllocError>
     ensures exact { IfOk result (λ labels. labels ≡ spec.labels first.now second.now) }

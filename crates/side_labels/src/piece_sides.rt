@@ -11,7 +11,7 @@ use fraction::RatPoint;
 use geometry_model::{Kind, Location};
 use validity::Valid;
 
-/// Where what is just below a piece that isn't upright lies in a geometry, and what is just above it.
+/// Where what is just below a piece that isn't vertical lies in a geometry, and what is just above it.
 #[derive(Clone, Copy, Debug, PartialEq, Eq)]
 pub struct Sides {
     /// Where what is just below lies.
@@ -26,7 +26,7 @@ const EXTERIOR: Sides = Sides {
     upper: Location::Exterior,
 };
 
-/// Where the two sides of a piece that isn't upright lie in a geometry, by a point within the piece: in the interior of an
+/// Where the two sides of a piece that isn't vertical lie in a geometry, by a point within the piece: in the interior of an
 /// area where an odd number of its edges are, for the lower side, at or above the point, and for the upper one strictly above
 /// it, else in the exterior (OGC 06-103r4, 6.1.15.2; sides: this project's choice). It takes no memory, and looks for the
 /// edges of an area once.

@@ -1,4 +1,4 @@
--- What a sink over memory shows.
+-- What contracts see of a sink over memory.
 use Rattle.std.specs.Prelude.{ℕ, List}
 use Rattle.sinks.specs.declared.memory.MemorySink.{MemorySink}
 

@@ -1,4 +1,4 @@
--- What a sink over a writer shows.
+-- What contracts see of a sink over a writer.
 use Rattle.std.specs.Prelude.{ℕ}
 use Rattle.sinks.specs.declared.standard.StdSink.{StdSink}
 

@@ -1,4 +1,4 @@
--- What a reader that stops shows.
+-- What contracts see of a reader that fails on purpose.
 use Rattle.std.specs.Prelude.{ℕ, List}
 use Rattle.sinks.specs.declared.devices.StopReader.{StopReader}
 

@@ -1,4 +1,4 @@
--- What a sink that stops shows.
+-- What contracts see of a sink that fails on purpose.
 use Rattle.std.specs.Prelude.{ℕ, List}
 use Rattle.sinks.specs.declared.devices.StopSink.{StopSink}
 

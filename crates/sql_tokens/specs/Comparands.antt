@@ -1,4 +1,4 @@
--- What a predicate is compared with.
+-- What a predicate is compared with: `= 1` or `= 0`.
 use Rattle.std.specs.Prelude.{Bool, true, false, ◌&&◌, ◌==◌, if◌then◌else◌, Ok, Err}
 use Rattle.std.specs.Str.Parse.{digits_value}
 use Rattle.table_model.specs.declared.faults.QueryFault.TheVariants as fault
@@ -13,7 +13,7 @@ truth ts =
     else (if sees k.Integer ts && digits_value 10 (spelling ts) == 0 then Ok (false, next ts)
     else Err (fault.Syntax (place ts)))
 
--- what a predicate is compared with, where it is: whether the predicate is to hold
+-- what a predicate is compared with, if it is compared: whether the predicate is to hold
 abbrev pub comparand : Reader Bool
 comparand = do
   compared ← eat k.Equal

@@ -8,7 +8,7 @@ use Rattle.table_model.specs.Loading.{GeometryReader, Record, load}
 use Rattle.table_model.specs.Meanings.{Table}
 use Rattle.table_model.specs.declared.definitions.TableDef.{TableDef}
 
--- what loads for a table with this reader of geometries are the rows of one (06-104r4, feature tables)
+-- what loads for a definition with this reader of geometries are the rows of a table (06-104r4, feature tables)
 abbrev pub LoadsRows : {T G : Type 0} → Takes T G → GeometryReader T G → Type 0
 LoadsRows {T} {G} takes geometry = (table : TableDef T) (records : List Record) (rows : Table G) → load geometry table records ≡ Ok rows → AreRows takes table rows
 
@@ -18,10 +18,10 @@ LoadsDatabase {T} {G} takes geometry = (definitions : List (TableDef T)) (texts 
     → lawful definitions ≡ true → length texts ≡ length definitions → load_tables geometry definitions texts ≡ Ok tables
     → IsDatabase takes (record { definitions = definitions; tables = tables })
 
--- a table with geometry columns that loads: its geometries are valid and of their columns' types (06-104r4, 7.2)
+-- the law for tables with geometry columns: their geometries are valid and of their columns' types (06-104r4, 7.2)
 abbrev pub LoadedAreRows : Type 0
 LoadedAreRows = LoadsRows TakesValid read_geometry
 
--- tables with geometry columns that load (06-104r4)
+-- the law for databases with geometry columns (06-104r4)
 abbrev pub LoadedIsDatabase : Type 0
 LoadedIsDatabase = LoadsDatabase TakesValid read_geometry

@@ -13,10 +13,10 @@ pub record IsFirstDouble (keys : List ℤ) (number : ℕ) : Type 0 where
   pub is_double : Contains before key
   pub none_is_before : AllPairs (λ a b. a ≢ b) before
 
--- the number that is returned is that of the first double key
+-- a number that `double_key` returns is that of the first double key
 abbrev pub DoubleIsFirst : Type 0
 DoubleIsFirst = (keys : List ℤ) (number : ℕ) → (double_key keys ≡ Some number) ↔ IsFirstDouble keys number
 
--- none is returned exactly where no two keys are equal
+-- `double_key` returns none exactly if no two keys are equal
 abbrev pub NoneIsDouble : Type 0
 NoneIsDouble = (keys : List ℤ) → (double_key keys ≡ None) ↔ AllPairs (λ a b. a ≢ b) keys

@@ -21,7 +21,7 @@ abbrev pub RowsAscend : (T G : Type 0) → Type 0
 RowsAscend T G = (geometry : GeometryReader T G) (table : TableDef T) (records : List Record) (rows : Table G)
     → load geometry table records ≡ Ok rows → Ascends table.key rows
 
--- they are the typed rows of its records in another order: none is lost, none is added
+-- the rows of a table that loads are the typed rows of its records in another order: none is lost, none is added
 abbrev pub RowsArePermuted : (T G : Type 0) → Type 0
 RowsArePermuted T G = (geometry : GeometryReader T G) (table : TableDef T) (records : List Record) (rows : Table G)
     → load geometry table records ≡ Ok rows → (typed : List (Row G)) × AreTyped geometry table records typed × IsPermutation typed rows

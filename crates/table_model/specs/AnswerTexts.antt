@@ -31,7 +31,7 @@ name_of None = []
 abbrev pub column_name : {T : Type 0} → List (TableDef T) → ℕ → ℕ → List ℕ
 column_name tables table column = name_of (slice_get (table_columns (slice_get tables table)) column)
 
--- the header of a column of a reference: its name, for two tables after the reference's name and a point
+-- the header of a column of a reference: its name, after the reference's name and a point if there are two references
 abbrev pub reference_header : {T : Type 0} → List (TableDef T) → Bool → Option Reference → ℕ → List ℕ
 reference_header tables alone (Some r) column = cond alone [] (r.name ++ codes ".") ++ column_name tables r.table column
 reference_header tables alone None column = []
@@ -48,8 +48,8 @@ item_header writing tables references (i.AsText c) = codes "ST_AsText(" ++ colum
 item_header writing tables references (i.Dimension c) = codes "ST_Dimension(" ++ column_header tables references (writing.place c) ++ codes ")"
 item_header writing tables references (i.IsEmpty c) = codes "ST_IsEmpty(" ++ column_header tables references (writing.place c) ++ codes ")"
 
--- the text of a field: nothing for NULL, the shortest decimal text of an integer, the bytes of a text, and
--- the canonical text of a geometry
+-- the text of a field: nothing for NULL, the shortest decimal of an integer, the bytes of a text, the canonical text of
+-- a geometry
 abbrev pub field_text : {G C : Type 0} → Writing G C → Value G → List ℕ
 field_text writing v.Null = []
 field_text writing (v.Integer n) = signed_decimal n
@@ -74,21 +74,21 @@ item_text writing rows (i.IsEmpty c) = function_text (λ g. cond (writing.is_emp
 abbrev pub header : {T G A C : Type 0} → Writing G C → List (TableDef T) → Bound A C → List (List ℕ)
 header writing tables query = map (item_header writing tables query.references) query.items
 
--- the record of some rows
+-- the record of a choice of rows: the text of each item
 abbrev pub record_of : {G A C : Type 0} → Writing G C → Bound A C → List (Row G) → List (List ℕ)
 record_of writing query rows = map (item_text writing rows) query.items
 
--- the records of an answer without COUNT(*): the header, then one for each member of the meaning
+-- the records of an answer without COUNT(*): the header, then one for each choice of rows in the meaning
 abbrev pub answer_records : {T G A C : Type 0} → Writing G C → List (TableDef T) → Bound A C → List (List (Row G)) → List (List (List ℕ))
 answer_records writing tables query rows = header writing tables query ∷ map (record_of writing query) rows
 
--- the record of a number of rows; under LIMIT 0 there is none (SQL, COUNT and LIMIT)
+-- the record with this number of rows; under LIMIT 0 there is none (SQL, COUNT and LIMIT)
 abbrev pub count_records : Option ℕ → ℕ → List (List (List ℕ))
 count_records None n = (decimal n ∷ []) ∷ []
 count_records (Some zero) n = []
 count_records (Some (suc limit)) n = (decimal n ∷ []) ∷ []
 
--- the records of an answer: under COUNT(*) its header, then how many members the meaning has (SQL, COUNT)
+-- the records of an answer; under COUNT(*) its header, then how many choices of rows the meaning has (SQL, COUNT)
 abbrev pub answer : {T G A C : Type 0} → Writing G C → List (TableDef T) → Bound A C → List (List (Row G)) → List (List (List ℕ))
 answer writing tables query rows =
     if query.counts then (codes "COUNT(*)" ∷ []) ∷ count_records query.limit (length rows) else answer_records writing tables query rows

@@ -1,4 +1,4 @@
--- The binding of a written query to the tables of a schema: names become places, or the first fault.
+-- The binding of a written query to the tables of a schema, computed: names become places, or there is a first fault.
 use Rattle.std.specs.Prelude.{ℕ, ◌+◌, Bool, true, false, ◌&&◌, ◌||◌, if◌then◌else◌, ◌==◌, List, [], ◌∷◌, ◌++◌, map, slice_get, Option, Some, None, Result, Ok, Err}
 use Rattle.std.specs.List.{position, enumerate_from, filter_map, flat_map, list_any}
 use Rattle.geometry_model.specs.declared.relations.Pattern.{Pattern}

@@ -1,6 +1,5 @@
--- What each column and condition of a query is bound to, and where they are refused, apart from the functions that
--- compute it. Of several faults the first from left to right is the one: within a predicate or a call first each argument,
--- then the whole.
+-- What each column and condition of a query is bound to, and where it is refused. `Binding` has the functions that compute
+-- this. Of several faults the first from left to right counts; in a predicate or a call each argument comes before the whole.
 use Rattle.std.specs.Prelude.{◌≡◌, ◌⊎◌, ℕ, zero, suc, true, false, List, [], ◌∷◌, Option, Some, None, Ok, Err}
 use Rattle.geometry_model.specs.declared.relations.Pattern.{Pattern}
 use Rattle.geometry_model.specs.declared.relations.Predicate.{Predicate}
@@ -39,48 +38,48 @@ use Rattle.table_model.specs.declared.typing.Found.{Found}
 use Rattle.table_model.specs.declared.typing.OperandType.TheVariants as types
 use Rattle.table_model.specs.declared.typing.Typed.{Typed}
 
--- ---- things in a list
+-- ---- elements of a list
 
--- none of some things has a property
+-- no element has the property
 abbrev pub IsNowhere : {X : Type 0} → (X → Type 0) → List X → Type 0
 IsNowhere P [] = Unit {0}
 IsNowhere P (x ∷ xs) = (P x → ⊥) × IsNowhere P xs
 
--- some thing has it
+-- an element has the property
 abbrev pub IsSomewhere : {X : Type 0} → (X → Type 0) → List X → Type 0
 IsSomewhere P [] = ⊥
 IsSomewhere P (x ∷ xs) = P x ⊎ IsSomewhere P xs
 
--- two things have it
+-- two elements have the property
 abbrev pub IsTwice : {X : Type 0} → (X → Type 0) → List X → Type 0
 IsTwice P [] = ⊥
 IsTwice P (x ∷ xs) = (P x × IsSomewhere P xs) ⊎ IsTwice P xs
 
--- the first thing that has it, at its place from 0
+-- x is the first element that has the property, and its place from 0
 abbrev pub IsFirst : {X : Type 0} → (X → Type 0) → List X → ℕ → X → Type 0
 IsFirst P [] place x = ⊥
 IsFirst P (y ∷ ys) zero x = (y ≡ x) × P y
 IsFirst P (y ∷ ys) (suc place) x = (P y → ⊥) × IsFirst P ys place x
 
--- the only thing that has it, at its place from 0
+-- x is the only element that has the property, and its place from 0
 abbrev pub IsOnly : {X : Type 0} → (X → Type 0) → List X → ℕ → X → Type 0
 IsOnly P [] place x = ⊥
 IsOnly P (y ∷ ys) zero x = (y ≡ x) × P y × IsNowhere P ys
 IsOnly P (y ∷ ys) (suc place) x = (P y → ⊥) × IsOnly P ys place x
 
--- ---- one thing after another
+-- ---- one step after another
 
--- what comes of a first thing and then of another that is asked for with it
+-- what two steps find, where the second knows what the first found
 abbrev pub Then : {X Y : Type 0} → (X → Type 0) → (X → Y → Type 0) → Y → Type 0
 Then {X} First Second y = (x : X) × First x × Second x y
 
--- the first fault: that of the first thing, or where there is none that of the second
+-- the fault of two steps: that of the first, or if it finds something, that of the second
 abbrev pub FirstFault : {X : Type 0} → (X → Type 0) → (QueryFault → Type 0) → (X → QueryFault → Type 0) → QueryFault → Type 0
 FirstFault {X} First Refused then_refused fault = Refused fault ⊎ ((x : X) × First x × then_refused x fault)
 
 -- ---- names
 
--- two names are one, without regard to ASCII case (SQL, names)
+-- two names are equal, without regard to ASCII case (SQL, names)
 abbrev pub AreOneName : List ℕ → List ℕ → Type 0
 AreOneName a b = same_name a b ≡ true
 
@@ -90,16 +89,16 @@ IsColumnNamed name column = AreOneName column.name name
 
 -- ---- columns
 
--- a column without a reference may be one of each; with one, one of that reference: an alias hides the table's name (SQL, qualified names)
+-- a column written with a reference is of that one, one without may be of any; an alias hides the table's name (SQL, qualified names)
 abbrev pub MayBeOf : Option Name → Reference → Type 0
 MayBeOf (Some written) reference = AreOneName written.text reference.name
 MayBeOf None reference = Unit {0}
 
--- a reference has a column that is written (SQL, column names)
+-- the reference has the column that is written (SQL, column names)
 abbrev pub HasColumn : {T : Type 0} → List (TableDef T) → WrittenColumn → Reference → Type 0
 HasColumn schema written reference = MayBeOf written.reference reference × IsSomewhere (IsColumnNamed written.name.text) (columns_of schema reference)
 
--- a column is the first of its name of the only reference that has it (SQL, column names)
+-- a column is bound to the first of its name in the only reference that has it (SQL, column names)
 abbrev pub IsBoundColumn : {T : Type 0} → List (TableDef T) → List Reference → WrittenColumn → Found → Type 0
 IsBoundColumn {T} schema references written found =
     (reference : Reference) × (column : ColumnDef T)
@@ -124,15 +123,15 @@ pub record GeometryRules (T A B C D : Type 0) : Type 1 where
   pub IsPattern : Name → Pattern → Type 0
   pub IsRefusedPattern : Name → QueryFault → Type 0
 
--- an argument, where it is a geometry
+-- the argument is a geometry, and x is what it is bound to
 abbrev pub IsGeometryPart : {X : Type 0} → Typed X → X → Type 0
 IsGeometryPart typed x = (typed.part_type ≡ types.Geometry) × (x ≡ typed.part)
 
--- Q7 where it is none, at the first byte of the predicate or call
+-- Q7 where an argument isn't a geometry, at the first byte of the predicate or call
 abbrev pub IsNoGeometry : {X : Type 0} → ℕ → Typed X → QueryFault → Type 0
 IsNoGeometry at typed fault = (typed.part_type ≡ types.Geometry → ⊥) × (fault ≡ faults.TypeMismatch at)
 
--- a side of a comparison, with its type (SQL, comparison)
+-- what a side of a comparison is bound to, and its type (SQL, comparison)
 abbrev pub IsBoundOperand : {T A B C D : Type 0} → GeometryRules T A B C D → List (TableDef T) → List Reference → WrittenOperand A → Typed (Operand B) → Type 0
 IsBoundOperand rules schema references (written_operand.Column written) =
     Then (IsBoundColumn schema references written) (λ found typed. typed ≡ record { part = operands.Column found.place; part_type = found.column_type })
@@ -144,7 +143,7 @@ IsBoundOperand rules schema references (written_operand.AsText at a) =
 IsBoundOperand rules schema references (written_operand.Dimension at a) =
     Then (rules.IsArgument schema references a) (λ argument. Then (IsGeometryPart argument) (λ x typed. typed ≡ record { part = operands.Dimension x; part_type = types.Integer }))
 
--- where a side is refused: at its column, at its argument, or as a call of what is no geometry
+-- where a side is refused: at its column, at its argument, or as a call whose argument isn't a geometry
 abbrev pub IsRefusedOperand : {T A B C D : Type 0} → GeometryRules T A B C D → List (TableDef T) → List Reference → WrittenOperand A → QueryFault → Type 0
 IsRefusedOperand rules schema references (written_operand.Column written) =
     FirstFault (IsBoundColumn schema references written) (IsRefusedColumn schema references written) (λ found fault. ⊥)
@@ -158,7 +157,7 @@ IsRefusedOperand rules schema references (written_operand.Dimension at a) =
     FirstFault (rules.IsArgument schema references a) (rules.IsRefusedArgument schema references a)
     (λ argument. FirstFault (IsGeometryPart argument) (IsNoGeometry at argument) (λ x fault. ⊥))
 
--- a comparison, its sides being both integers or both texts, NULL being either (SQL, comparison)
+-- what a comparison is bound to: both sides are integers or both are texts, and NULL is either (SQL, comparison)
 abbrev pub IsCompared : {T A B C D : Type 0} → GeometryRules T A B C D → List (TableDef T) → List Reference → Comparison → WrittenOperand A → WrittenOperand A → Cond B → Type 0
 IsCompared rules schema references sign a b =
     Then (IsBoundOperand rules schema references a) (λ left. Then (IsBoundOperand rules schema references b)
@@ -171,7 +170,7 @@ IsRefusedComparison rules schema references at a b =
     (λ left. FirstFault (IsBoundOperand rules schema references b) (IsRefusedOperand rules schema references b)
     (λ right fault. (comparable left.part_type right.part_type ≡ false) × (fault ≡ faults.TypeMismatch at)))
 
--- the predicate that is written, its pattern read
+-- what a predicate is bound to: itself, with its pattern read
 abbrev pub IsBoundPredicate : {T A B C D : Type 0} → GeometryRules T A B C D → WrittenPredicate → Predicate → Type 0
 IsBoundPredicate rules (written_predicate.Named predicate) = λ bound. bound ≡ predicate
 IsBoundPredicate rules (written_predicate.Relate string) = Then (rules.IsPattern string) (λ pattern bound. bound ≡ predicates.Relate pattern)
@@ -181,13 +180,13 @@ abbrev pub IsRefusedPredicate : {T A B C D : Type 0} → GeometryRules T A B C D
 IsRefusedPredicate rules (written_predicate.Named predicate) = λ fault. ⊥
 IsRefusedPredicate rules (written_predicate.Relate string) = FirstFault (rules.IsPattern string) (rules.IsRefusedPattern string) (λ pattern fault. ⊥)
 
--- a predicate of two geometries: its arguments, its pattern, then whether the arguments are geometries (06-103r4, 6.1.15.3)
+-- what a predicate of two geometries is bound to: its arguments, its pattern, then whether the arguments are geometries (06-103r4, 6.1.15.3)
 abbrev pub IsRelated : {T A B C D : Type 0} → GeometryRules T A B C D → List (TableDef T) → List Reference → WrittenPredicate → A → A → Cond B → Type 0
 IsRelated rules schema references written a b =
     Then (rules.IsArgument schema references a) (λ left. Then (rules.IsArgument schema references b) (λ right. Then (IsBoundPredicate rules written)
     (λ predicate. Then (IsGeometryPart left) (λ x. Then (IsGeometryPart right) (λ y cond. cond ≡ conds.Relates predicate x y)))))
 
--- where it is refused, in the same order
+-- where a predicate of two geometries is refused, in the same order
 abbrev pub IsRefusedRelation : {T A B C D : Type 0} → GeometryRules T A B C D → List (TableDef T) → List Reference → ℕ → WrittenPredicate → A → A → QueryFault → Type 0
 IsRefusedRelation rules schema references at written a b =
     FirstFault (rules.IsArgument schema references a) (rules.IsRefusedArgument schema references a)
@@ -233,20 +232,20 @@ mutual
 
 -- ---- what a geometry is
 
--- an argument of a condition: a column of any type, whose type is tested afterwards, or ST_GeomFromText of a string that spells a valid geometry (06-104r4, 7.2)
+-- what an argument in a condition is bound to: a column of any type, tested afterwards, or the valid geometry that ST_GeomFromText reads (06-104r4, 7.2)
 abbrev pub IsGeometryArgument : List (TableDef ColumnShape) → List Reference → WrittenGeometry → Typed (GeometryArgument Geometry) → Type 0
 IsGeometryArgument schema references (written_geometry.Column written) =
     Then (IsBoundColumn schema references written) (λ found typed. typed ≡ record { part = arguments.Column found.place; part_type = found.column_type })
 IsGeometryArgument schema references (written_geometry.FromText string) =
     λ typed. (g : Geometry) × (geometry_in_text (unquoted string.text) ≡ Ok g) × (typed ≡ record { part = arguments.Literal g; part_type = types.Geometry })
 
--- Q8 at a string that spells no valid geometry, its bytes being those of the string's value (06-104r4, 7.2)
+-- Q8 at a string that spells no valid geometry, with the geometry's fault, its byte counted in the string's value (06-104r4, 7.2)
 abbrev pub IsRefusedGeometryArgument : List (TableDef ColumnShape) → List Reference → WrittenGeometry → QueryFault → Type 0
 IsRefusedGeometryArgument schema references (written_geometry.Column written) = FirstFault (IsBoundColumn schema references written) (IsRefusedColumn schema references written) (λ found fault. ⊥)
 IsRefusedGeometryArgument schema references (written_geometry.FromText string) =
     λ fault. (reason : GeometryFault) × (geometry_in_text (unquoted string.text) ≡ Err reason) × (fault ≡ faults.BadGeometry string.at reason)
 
--- geometries of a query: arguments, columns of the select list, and patterns, Q9 at the string of a bad one (06-104r4, 7.2; 06-103r4, 6.1.15.2)
+-- what geometry arguments, columns of the select list and patterns are bound to; Q9 at the string of a bad pattern (06-104r4, 7.2; 06-103r4, 6.1.15.2)
 abbrev pub geometry_rules : GeometryRules ColumnShape WrittenGeometry (GeometryArgument Geometry) WrittenColumn ColumnPlace
 geometry_rules = record {
   IsArgument = IsGeometryArgument;

@@ -1,4 +1,4 @@
--- When a bound query is bound to these definitions: its tables and columns are there, and each type fits.
+-- When a bound query fits the definitions of a database: its tables and columns are there, and each type fits.
 use Rattle.std.specs.Prelude.{◌≡◌, ◌<◌, Bool, true, false, ◌&&◌, All, List, [], map, length, slice_get, Option, Some, None, is_some, is_none}
 use Rattle.std.specs.List.{list_all}
 use Rattle.geometry_model.specs.Geometries.{Geometry}
@@ -26,12 +26,12 @@ use Rattle.table_model.specs.declared.typing.OperandType.TheVariants as types
 
 -- ---- columns
 
--- the columns of a reference, where there is one
+-- the columns of a reference, if there is one
 abbrev pub reference_columns : {T : Type 0} → List (TableDef T) → Option Reference → List (ColumnDef T)
 reference_columns definitions (Some reference) = columns_of definitions reference
 reference_columns definitions None = []
 
--- the type of a column, where there is one
+-- the type of a column, if there is one
 abbrev pub column_type : {T : Type 0} → Option (ColumnDef T) → Option OperandType
 column_type (Some column) = Some (type_of column.column_type)
 column_type None = None
@@ -50,17 +50,17 @@ is_geometry (Some types.Null) = false
 
 -- ---- types that fit
 
--- whether a geometry argument of a condition, and one of the select list, is a geometry
+-- two tests: whether an argument in a condition is a geometry, and whether one in the select list is
 pub record GeometryFits (T A C : Type 0) : Type 0 where
   pub argument : List (TableDef T) → List Reference → A → Bool
   pub item_argument : List (TableDef T) → List Reference → C → Bool
 
--- the type of a function of a geometry; of anything else there is none
+-- the type of a function of a geometry; none if its argument is no geometry
 abbrev pub type_if : Bool → OperandType → Option OperandType
 type_if true type = Some type
 type_if false type = None
 
--- the type of a side of a comparison, where it has one
+-- the type of a side of a comparison, if it has one
 abbrev pub operand_type : {T A C : Type 0} → GeometryFits T A C → List (TableDef T) → List Reference → Operand A → Option OperandType
 operand_type fits definitions references (operands.Column place) = place_type definitions references place
 operand_type fits definitions references (operands.Integer n) = Some types.Integer
@@ -69,13 +69,13 @@ operand_type fits definitions references operands.Null = Some types.Null
 operand_type fits definitions references (operands.AsText a) = type_if (fits.argument definitions references a) types.Text
 operand_type fits definitions references (operands.Dimension a) = type_if (fits.argument definitions references a) types.Integer
 
--- whether two sides have types that can be compared: both are integers or both are texts, NULL being either (SQL, comparison)
+-- whether two sides have types that can be compared: both are integers or both are texts, and NULL is either (SQL, comparison)
 abbrev pub can_compare : Option OperandType → Option OperandType → Bool
 can_compare None b = false
 can_compare (Some a) None = false
 can_compare (Some a) (Some b) = comparable a b
 
--- whether the types fit in a condition, where they do in its parts or don't
+-- whether the types of a condition fit, from whether those of its parts do
 abbrev pub fits_by_parts : {T A C : Type 0} → GeometryFits T A C → List (TableDef T) → List Reference → Cond-F A Bool → Bool
 fits_by_parts fits definitions references (Cond-F.Or parts) = list_all (λ part. part) parts
 fits_by_parts fits definitions references (Cond-F.And parts) = list_all (λ part. part) parts
@@ -104,7 +104,7 @@ pub record AreReferences {T : Type 0} (definitions : List (TableDef T)) (referen
   pub there : All (λ (r : Reference). r.table < length definitions) references
   pub differ : names_differ (map (λ r. r.name) references) ≡ true
 
--- a query is bound to these definitions: its references are, and each item and each conjunct fits; under COUNT(*) there is no item
+-- a query is bound to these definitions: its references are, each item and each conjunct fits, and under COUNT(*) there is no item
 pub record IsBound {T A C : Type 0} (fits : GeometryFits T A C) (definitions : List (TableDef T)) (query : Bound A C) : Type 0 where
   pub references : AreReferences definitions query.references
   pub items : list_all (item_fits fits definitions query.references) query.items ≡ true
@@ -113,12 +113,12 @@ pub record IsBound {T A C : Type 0} (fits : GeometryFits T A C) (definitions : L
 
 -- ---- what a geometry is
 
--- an argument is a geometry where it is a column of geometries or a valid geometry (06-104r4, 7.2)
+-- an argument is a geometry: a column of geometries or a valid literal (06-104r4, 7.2)
 abbrev pub argument_fits : List (TableDef ColumnShape) → List Reference → GeometryArgument Geometry → Bool
 argument_fits definitions references (arguments.Column place) = is_geometry (place_type definitions references place)
 argument_fits definitions references (arguments.Literal g) = is_none (validity_fault g)
 
--- in the select list it is a column of geometries (06-104r4, 7.2)
+-- the two tests; in the select list an argument is a column of geometries (06-104r4, 7.2)
 abbrev pub geometry_fits : GeometryFits ColumnShape (GeometryArgument Geometry) ColumnPlace
 geometry_fits = record {
   argument = argument_fits;

@@ -42,10 +42,10 @@ abbrev pub at_table : {X : Type 0} → ℕ → Result X LoadFault → Result X T
 at_table place (Ok x) = Ok x
 at_table place (Err f) = Err (record { table = place; fault = f })
 
--- the table that each of these lists of records gives, one for each definition, or its fault
+-- what each list of records gives: a table, or its fault; there is one for each definition
 abbrev pub loaded_tables : {T G : Type 0} → GeometryReader T G → List (TableDef T) → List (List Record) → List (Result (Table G) TableFault)
 loaded_tables geometry definitions texts = map (λ t. at_table t.0 (load geometry t.1.0 t.1.1)) (enumerate_from 0 (zip definitions texts))
 
--- the tables of a database, or the first fault with its table (in the order of the schema)
+-- the tables of a database, or the first fault with its table, in the order of the schema
 unfoldable pub load_tables : {T G : Type 0} → GeometryReader T G → List (TableDef T) → List (List Record) → Result (List (Table G)) TableFault
 load_tables geometry definitions texts = each (loaded_tables geometry definitions texts)

@@ -26,7 +26,7 @@ is_integer column.Integer = true
 is_integer column.Text = false
 is_integer (column.Geometry kind) = false
 
--- whether a column, where there is one, may be a feature key: a key is a whole number
+-- whether there is a column and it may be a key: keys are whole numbers
 abbrev pub may_be_key : {T : Type 0} → Option (ColumnDef T) → Bool
 may_be_key None = false
 may_be_key (Some c) = is_integer c.column_type

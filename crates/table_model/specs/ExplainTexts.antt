@@ -17,7 +17,7 @@ abbrev pub method_text : AccessMethod → List ℕ
 method_text methods.Scan = codes "scan"
 method_text (methods.Probe k) = codes "probe " ++ conjunct_number k
 
--- the line of an access: whether it is the outer or the inner one, its reference's name, and how its rows are found
+-- the line of an access: outer or inner, its reference's name, and how its rows are found
 abbrev pub access_line : List Reference → List ℕ → Access → List ℕ
 access_line references role access =
     role ++ codes " " ++ slice_index_or (map (λ r. r.name) references) access.reference [] ++ codes " " ++ method_text access.method ++ codes "\n"

@@ -1,4 +1,4 @@
--- The line and the status of each fault.
+-- The line that the program prints for each fault, and the status with which it ends.
 use Rattle.std.specs.Prelude.{ℕ, List, ◌++◌, decimal, codes}
 use Rattle.geometry_model.specs.declared.text_faults.TextFault.TheVariants as w
 use Rattle.geometry_model.specs.declared.validity_faults.ValidityFault.TheVariants as v
@@ -11,11 +11,11 @@ use Rattle.table_model.specs.declared.faults.LoadFault.TheVariants as l
 use Rattle.table_model.specs.declared.faults.QueryFault.{QueryFault}
 use Rattle.table_model.specs.declared.faults.QueryFault.TheVariants as q
 
--- running out of memory, in words
+-- what is printed when memory ran out
 abbrev pub memory_text : List ℕ
 memory_text = codes "out of memory"
 
--- a schema fault: its code, and its byte but for a text that is too long
+-- a schema fault: its code and, except for S6, its byte
 abbrev pub schema_text : SchemaFault → List ℕ
 schema_text (s.Syntax at) = codes "S1 at " ++ decimal at
 schema_text (s.DoubleName at) = codes "S2 at " ++ decimal at
@@ -25,7 +25,7 @@ schema_text (s.TooMany at) = codes "S5 at " ++ decimal at
 schema_text s.TooLong = codes "S6"
 schema_text s.OutOfMemory = memory_text
 
--- a fault of a geometry: its code, and its byte, or its part or parts; W4 has no place
+-- a fault of a geometry: its code and, except for W4, its byte, part or parts
 abbrev pub geometry_text : GeometryFault → List ℕ
 geometry_text (g.Text (w.Syntax at)) = codes "W1 at " ++ decimal at
 geometry_text (g.Text (w.OffGrid at)) = codes "W2 at " ++ decimal at
@@ -55,7 +55,7 @@ load_text table l.TooManyRows = table ++ codes " L10"
 load_text table l.ReadFailed = table ++ codes " L11"
 load_text table l.OutOfMemory = memory_text
 
--- a query fault: its code, and its byte but for a text that is too long
+-- a query fault: its code and, except for Q11, its byte
 abbrev pub query_text : QueryFault → List ℕ
 query_text (q.Lex at) = codes "Q1 at " ++ decimal at
 query_text (q.Syntax at) = codes "Q2 at " ++ decimal at
@@ -75,7 +75,7 @@ query_text q.OutOfMemory = memory_text
 abbrev pub line_of : List ℕ → List ℕ
 line_of text = codes "sfq: " ++ text ++ codes "\n"
 
--- the status of a schema fault: 3, and 7 when memory ran out
+-- the status of a schema fault: 3, or 7 if memory ran out
 abbrev pub schema_status : SchemaFault → ℕ
 schema_status (s.Syntax at) = 3
 schema_status (s.DoubleName at) = 3
@@ -85,7 +85,7 @@ schema_status (s.TooMany at) = 3
 schema_status s.TooLong = 3
 schema_status s.OutOfMemory = 7
 
--- the status of a fault of loading: 4, 6 where reading failed, and 7 when memory ran out
+-- the status of a fault of loading: 4, or 6 if reading failed, or 7 if memory ran out
 abbrev pub load_status : LoadFault → ℕ
 load_status l.MissingColumn = 4
 load_status l.DoubleHeader = 4
@@ -100,7 +100,7 @@ load_status l.TooManyRows = 4
 load_status l.ReadFailed = 6
 load_status l.OutOfMemory = 7
 
--- the status of a query fault: 5, and 7 when memory ran out
+-- the status of a query fault: 5, or 7 if memory ran out
 abbrev pub query_status : QueryFault → ℕ
 query_status (q.Lex at) = 5
 query_status (q.Syntax at) = 5

@@ -35,15 +35,15 @@ IsValueFor takes (column.Geometry t) (value.Integer n) = ⊥
 IsValueFor takes (column.Geometry t) (value.Text bytes) = ⊥
 IsValueFor takes (column.Geometry t) (value.Geometry g) = takes t g
 
--- a row of a table: for each column a value of its type, which isn't null where NOT NULL is written or where the column
--- is the key (SQL; 06-104r4, feature tables)
+-- a row of a table: for each column a value of its type, not null if NOT NULL is written or the column is the key
+-- (SQL; 06-104r4, feature tables)
 pub record IsRow {T G : Type 0} (takes : Takes T G) (table : TableDef T) (row : Row G) : Type 0 where
   pub width : length row ≡ length table.columns
   pub typed : (place : ℕ) (c : ColumnDef T) (v : Value G) → slice_get table.columns place ≡ Some c → slice_get row place ≡ Some v
       → IsValueFor takes c.column_type v × (is_required table (place, c) ≡ true → v ≢ value.Null)
 
--- the rows of a table: at most 100,000, the key of each below those of all later ones (06-104r4, feature tables;
--- the limit)
+-- the rows of a table: at most 100,000, the key of each below those of all later ones
+-- (06-104r4, feature tables; the limit: this project's choice)
 pub record AreRows {T G : Type 0} (takes : Takes T G) (table : TableDef T) (rows : Table G) : Type 0 where
   pub few : length rows ≤ row_limit
   pub each : All (IsRow takes table) rows

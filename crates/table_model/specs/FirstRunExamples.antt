@@ -1,4 +1,4 @@
--- Words for the worked run over a table of numbers and texts: its records, its queries, its rows.
+-- Short names for the worked example of a run over a table of numbers and texts: its records, its queries, its rows.
 use Rattle.std.specs.Prelude.{ℕ, pos, false, List, [], ◌∷◌, codes, Some, None}
 use Rattle.geometry_model.specs.Geometries.{Geometry}
 use Rattle.geometry_model.specs.Labels.{labelled_matrix}
@@ -33,7 +33,7 @@ use Rattle.table_model.specs.declared.queries.WrittenOperand.TheVariants as writ
 use Rattle.table_model.specs.declared.values.Value.{Value}
 use Rattle.table_model.specs.declared.values.Value.TheVariants as values
 
--- what the table's rows are, as records: the header first
+-- the records of the table, the header first
 abbrev pub town_records : List Record
 town_records =
     (codes "id" ∷ codes "pop" ∷ codes "name" ∷ [])
@@ -47,19 +47,19 @@ town_records =
 abbrev pub town : ℕ → Value Geometry → Value Geometry → Row Geometry
 town id pop name = values.Integer (pos id) ∷ pop ∷ name ∷ []
 
--- the rows
+-- the first row
 abbrev pub first_town : Row Geometry
 first_town = town 1 (values.Integer (pos 8)) (values.Text (codes "a"))
 
--- the second, third and fourth
+-- the second row
 abbrev pub second_town : Row Geometry
 second_town = town 2 (values.Integer (pos 9)) (values.Text (codes "b"))
 
--- the one whose number isn't known
+-- the third row, whose number is null
 abbrev pub third_town : Row Geometry
 third_town = town 3 values.Null (values.Text (codes "c"))
 
--- the one without a name
+-- the fourth row, whose name is null
 abbrev pub fourth_town : Row Geometry
 fourth_town = town 4 (values.Integer (pos 7)) values.Null
 

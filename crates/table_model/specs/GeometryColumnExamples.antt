@@ -1,4 +1,4 @@
--- Words for worked rows of tables and queries with geometries.
+-- Short names for worked examples of tables and queries with geometries.
 use Rattle.std.specs.Prelude.{ℕ, ℤ, pos, false, List, [], ◌∷◌, map, codes, Option, Some, None, Result}
 use Rattle.geometry_model.specs.Geometries.{Geometry, Point}
 use Rattle.geometry_model.specs.TextExamples.{at}

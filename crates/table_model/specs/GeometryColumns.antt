@@ -61,7 +61,7 @@ abbrev pub of_shape : ℕ → ColumnShape → Result Geometry GeometryFault → 
 of_shape number shape (Err fault) = Err (load_fault.BadGeometry number fault)
 of_shape number shape (Ok g) = if takes_type shape (type_of g) then Ok g else Err (load_fault.WrongType number)
 
--- how a field is read as a geometry: its text first, then its validity, then its type (06-103r4, 7.2; the order: this project's choice)
+-- how a field is read as a geometry; its text is tested first, then its validity, then its type (06-103r4, 7.2; the order: this project's choice)
 abbrev pub read_geometry : GeometryReader ColumnShape Geometry
 read_geometry number shape bytes = of_shape number shape (geometry_in_text bytes)
 
@@ -76,7 +76,7 @@ geometry_writing = record {
 
 -- ---- queries
 
--- the geometry of a string, a literal, or the fault at the string; its bytes are those of the string's value
+-- the geometry of a string as a literal, or the fault at the string, whose byte is counted in the string's value
 abbrev pub literal : ℕ → Result Geometry GeometryFault → Checked (Typed (GeometryArgument Geometry))
 literal at (Ok g) = Ok (record { part = arguments.Literal g; part_type = types.Geometry })
 literal at (Err fault) = Err (query_fault.BadGeometry at fault)

@@ -1,4 +1,4 @@
--- Words for a worked row of two tables joined by ON: points and squares, from the written query to the records of its answer.
+-- Short names for a worked example of two tables joined by ON: points and squares, from the written query to the records of its answer.
 use Rattle.std.specs.Prelude.{ℕ, pos, false, List, [], ◌∷◌, codes, Some, None}
 use Rattle.geometry_model.specs.Geometries.{Geometry}
 use Rattle.geometry_model.specs.Labels.{labelled_matrix}

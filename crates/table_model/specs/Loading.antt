@@ -21,21 +21,21 @@ use Rattle.table_model.specs.declared.values.Value.TheVariants as value
 abbrev pub Record : Type 0
 Record = List (List ℕ)
 
--- what reads a geometry: a record's number, a type of geometry and a field's bytes give it or the fault
+-- what reads a geometry: from a record's number, a type of geometry and a field's bytes it gives the geometry or the fault
 abbrev pub GeometryReader : Type 0 → Type 0 → Type 0
 GeometryReader T G = ℕ → T → List ℕ → Result G LoadFault
 
--- a value goes on to the next step, a fault stays
+-- the next step with the value of the first; or the fault of the first
 abbrev pub and_then : {A B F : Type 0} → Result A F → (A → Result B F) → Result B F
 and_then (Ok x) next = next x
 and_then (Err f) next = Err f
 
--- a fault, where there is one, goes before an answer
+-- the fault if there is one, else the answer
 abbrev pub unless : {A F : Type 0} → Option F → Result A F → Result A F
 unless None answer = answer
 unless (Some f) answer = Err f
 
--- all the answers, or the first fault among them
+-- all values, or the first fault
 abbrev pub each : {A F : Type 0} → List (Result A F) → Result (List A) F
 each [] = Ok []
 each (answer ∷ answers) = and_then answer (λ x. and_then (each answers) (λ xs. Ok (x ∷ xs)))
@@ -77,7 +77,7 @@ unfoldable pub value_of : {T G : Type 0} → GeometryReader T G → ℕ → Bool
 value_of geometry number required kind [] = if required then Err (fault.NullNotAllowed number) else Ok value.Null
 value_of geometry number required kind (byte ∷ bytes) = filled_value geometry number kind (byte ∷ bytes)
 
--- whether a column, the one at this place, takes no null: NOT NULL is written, or it is the key (SQL)
+-- whether the column at this place takes no null: NOT NULL is written, or it is the key (SQL)
 abbrev pub is_required : {T : Type 0} → TableDef T → ℕ × ColumnDef T → Bool
 is_required table (place, c) = c.not_null || (place == table.key)
 
@@ -89,7 +89,7 @@ place_in header name = unwrap_or (position (same_name name) header) 0
 abbrev pub field_under : Record → Record → List ℕ → List ℕ
 field_under header fields name = slice_index_or fields (place_in header name) []
 
--- the value of each column's field in a record, or its fault
+-- for each column the value of its field in a record, or the fault
 abbrev pub values_of : {T G : Type 0} → GeometryReader T G → TableDef T → Record → ℕ → Record → List (Result (Value G) LoadFault)
 values_of geometry table header number fields =
     map (λ c. value_of geometry number (is_required table c) c.1.column_type (field_under header fields c.1.name)) (enumerate_from 0 table.columns)
@@ -102,8 +102,7 @@ row_of geometry table header number fields = each (values_of geometry table head
 abbrev pub row_limit : ℕ
 row_limit = 100000
 
--- the typed row of the record of this number: the length is tested first, then the number of rows, then the
--- fields
+-- the typed row of the record of this number; the number of its fields is tested first, then that of rows, then the fields
 unfoldable pub checked_row : {T G : Type 0} → GeometryReader T G → TableDef T → Record → ℕ × Record → Result (Row G) LoadFault
 checked_row geometry table header (number, fields) =
     if not (length fields == length header) then Err (fault.UnequalRecord number)
@@ -146,35 +145,34 @@ whole_number (Some (value.Geometry g)) = pos 0
 abbrev pub key_of : {G : Type 0} → ℕ → Row G → ℤ
 key_of key row = whole_number (slice_get row key)
 
--- the number of the first of these keys that an earlier one equals, where this many come before them
+-- the number of the first of these keys that equals an earlier one; the first of these has the number that is given
 abbrev pub double_from : List ℤ → ℕ → List ℤ → Option ℕ
 double_from earlier number [] = None
 double_from earlier number (key ∷ keys) =
     if list_any (int_eq key) earlier then Some number else double_from (key ∷ earlier) (number + 1) keys
 
--- the number of the first record whose key an earlier one has, the first record having the number 1. In plain
--- words: the laws `double_is_first` and `none_is_double` of `table_laws`.
+-- the number, from 1, of the first record whose key an earlier one has, as the laws `double_is_first` and
+-- `none_is_double` of `table_laws` say
 unfoldable pub double_key : List ℤ → Option ℕ
 double_key keys = double_from [] 1 keys
 
--- a row put before the first row of a greater key
+-- the rows with one more, which comes before the first row of a greater key
 abbrev pub insert_by_key : {G : Type 0} → ℕ → Row G → List (Row G) → List (Row G)
 insert_by_key key row [] = row ∷ []
 insert_by_key key row (other ∷ rows) =
     if int_lt (key_of key row) (key_of key other) then row ∷ other ∷ rows else other ∷ insert_by_key key row rows
 
--- the rows by ascending key. In plain words: the laws `rows_ascend` and `rows_are_permuted` of `table_laws`, by
--- which the rows of a table are the typed rows of its records, each key below those of all later rows.
+-- the rows by ascending key, which the laws `rows_ascend` and `rows_are_permuted` of `table_laws` say as facts
 unfoldable pub by_key : {G : Type 0} → ℕ → List (Row G) → List (Row G)
 by_key key [] = []
 by_key key (row ∷ rows) = insert_by_key key row (by_key key rows)
 
--- the rows by ascending key, where no two have one key
+-- the rows by ascending key, or the fault of two equal keys
 abbrev pub keyed_rows : {G : Type 0} → ℕ → List (Row G) → Result (List (Row G)) LoadFault
 keyed_rows key rows = unless (option_map fault.DoubleKey (double_key (map (key_of key) rows))) (Ok (by_key key rows))
 
--- the table that records give, or the first fault: columns are looked up in the header, then the records are
--- taken in order, then keys are compared. No header record is a header without fields.
+-- the table that records give, or the first fault: of the columns in the header, then of the records in order, then of
+-- keys. Without records the header has no fields.
 unfoldable pub load : {T G : Type 0} → GeometryReader T G → TableDef T → List Record → Result (List (Row G)) LoadFault
 load geometry table records =
     let header = unwrap_or (slice_get records 0) [] in

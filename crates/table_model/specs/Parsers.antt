@@ -7,43 +7,43 @@ use Rattle.table_model.specs.declared.tokens.TokenKind.{TokenKind}
 use Rattle.table_model.specs.declared.tokens.TokenKind.TheVariants as k
 use Rattle.table_model.specs.Tokens.{same_kind}
 
--- ---- the next token, of those that are left; past the last one nothing can be read
+-- ---- the next of the tokens that are left
 
--- its kind, Bad where no token is left
+-- the kind of the next token; Bad if no token is left
 unfoldable pub kind : List Token → TokenKind
 kind [] = k.Bad
 kind (t ∷ ts) = t.kind
 
--- its place in the text
+-- the place of the next token in the text
 unfoldable pub place : List Token → ℕ
 place [] = 0
 place (t ∷ ts) = t.at
 
--- its text
+-- the text of the next token
 unfoldable pub spelling : List Token → List ℕ
 spelling [] = []
 spelling (t ∷ ts) = t.text
 
--- those after it
+-- the tokens after the next one
 unfoldable pub next : List Token → List Token
 next [] = []
 next (t ∷ ts) = ts
 
--- its text and its place, as a tree has them
+-- the text and the place of the next token, as a tree has them
 abbrev pub written : List Token → Name
 written ts = record { text = spelling ts; at = place ts }
 
--- whether it is of a kind
+-- whether the next token is of this kind
 unfoldable pub sees : TokenKind → List Token → Bool
 sees wanted ts = same_kind (kind ts) wanted
 
--- the tokens left after it, where it is of a kind
+-- the tokens after the next one if it is of this kind, else all
 unfoldable pub after : TokenKind → List Token → List Token
 after wanted ts = if sees wanted ts then next ts else ts
 
 -- ---- readers, with faults of a type F
 
--- what was read with the tokens that are left then, or a fault
+-- what was read and the tokens that are left then, or a fault
 abbrev pub Outcome : Type 0 → Type 0 → Type 0
 Outcome F A = Result (A × List Token) F
 
@@ -51,7 +51,7 @@ Outcome F A = Result (A × List Token) F
 abbrev pub Parser : Type 0 → Type 0 → Type 0
 Parser F A = List Token → Outcome F A
 
--- goes on from what was read; a fault stays
+-- the next reader, which gets what was read; or the fault
 abbrev pub and_then : {F A B : Type 0} → Outcome F A → (A → Parser F B) → Outcome F B
 and_then (Ok p) f = f p.0 p.1
 and_then (Err e) f = Err e
@@ -66,7 +66,7 @@ infixl 10 ◌>>◌
 abbrev pub ◌>>◌ : {F A B : Type 0} → Parser F A → Parser F B → Parser F B
 p >> q = p >>= (λ _. q)
 
--- reads nothing
+-- reads nothing and returns this
 abbrev pub pure : {F A : Type 0} → A → Parser F A
 pure a = λ ts. Ok (a, ts)
 
@@ -75,19 +75,19 @@ infixr 11 ◌<$>◌
 abbrev pub ◌<$>◌ : {F A B : Type 0} → (A → B) → Parser F A → Parser F B
 f <$> p = p >>= (λ x. pure (f x))
 
--- no rule goes on with the next token: the fault of its place
+-- refuses the next token: the fault at its place
 abbrev pub refuse : {F A : Type 0} → (ℕ → F) → Parser F A
 refuse syntax = λ ts. Err (syntax (place ts))
 
--- reads the next token where it is of a kind, and returns whether it is
+-- reads the next token if it is of this kind, and returns whether it is
 abbrev pub eat : {F : Type 0} → TokenKind → Parser F Bool
 eat wanted = λ ts. Ok (sees wanted ts, after wanted ts)
 
--- reads a token of a kind
+-- reads a token of this kind, or refuses the next token
 unfoldable pub expect : {F : Type 0} → (ℕ → F) → TokenKind → Parser F (Unit {0})
 expect syntax wanted = λ ts. if sees wanted ts then Ok (tt, next ts) else Err (syntax (place ts))
 
--- Further parts with a token of a kind between them, after those that were found; the number bounds the parts.
+-- Further parts with a token of this kind between them, after those that were found; at most this many parts.
 unfoldable pub parts_from : {F A : Type 0} → (ℕ → F) → TokenKind → Parser F A → ℕ → List A → Parser F (List A)
 parts_from syntax between part zero found = refuse syntax
 parts_from syntax between part (suc n) found = do
@@ -104,9 +104,9 @@ abbrev pub value_of : {F A : Type 0} → Outcome F A → Result A F
 value_of (Ok p) = Ok p.0
 value_of (Err e) = Err e
 
--- ---- what a function that reads ensures: the reader's outcome, unless memory ran out
+-- ---- what a function of the code that reads ensures
 
--- the call's answer and the tokens left after it are the reader's outcome, unless memory ran out
+-- what the call returns and the tokens left after it are the reader's outcome, unless memory ran out
 abbrev pub Reads : {F A : Type 0} → F → Outcome F A → Result A F → List Token → Type 0
 Reads memory outcome (Ok a) new = outcome ≡ Ok (a, new)
 Reads memory outcome (Err e) new = e ≢ memory → outcome ≡ Err e

@@ -1,15 +1,15 @@
--- What the rules of the grammars of schemas and queries are made of: phrases, which say what tokens are written for.
+-- Phrases, of which the grammars of schemas and queries are made: a phrase says which lists of tokens a rule takes.
 use Rattle.std.specs.Prelude.{◌≡◌, ◌⊎◌, ℕ, true, List, [], ◌∷◌, ◌++◌}
 use Rattle.table_model.specs.declared.tokens.Token.{Token}
 use Rattle.table_model.specs.declared.tokens.TokenKind.{TokenKind}
 use Rattle.table_model.specs.declared.tokens.TokenKind.TheVariants as k
 use Rattle.table_model.specs.Texts.{same_name}
 
--- what may be said of tokens
+-- a rule of a grammar: the lists of tokens that it takes
 abbrev pub Phrase : Type 1
 Phrase = List Token → Type 0
 
--- one token, of which a fact holds
+-- exactly one token, of which the fact holds
 abbrev pub IsOne : (Token → Type 0) → Phrase
 IsOne P [] = ⊥
 IsOne P (t ∷ []) = P t
@@ -19,7 +19,7 @@ IsOne P (t ∷ u ∷ ts) = ⊥
 abbrev pub IsToken : TokenKind → Phrase
 IsToken kind = IsOne (λ t. t.kind ≡ kind)
 
--- tokens for one thing, and then tokens for another
+-- tokens of the first phrase, followed by tokens of the second
 infixr 11 ◌▸◌
 abbrev pub ◌▸◌ : Phrase → Phrase → Phrase
 P ▸ Q = λ ts. (before after : List Token) × (ts ≡ before ++ after) × P before × Q after
@@ -28,12 +28,12 @@ P ▸ Q = λ ts. (before after : List Token) × (ts ≡ before ++ after) × P be
 abbrev pub IsOptional : TokenKind → Phrase
 IsOptional kind ts = (ts ≡ []) ⊎ IsToken kind ts
 
--- one thing and those that follow it, with a token of a kind before each of these
+-- one part or more, with a token of this kind between neighbours
 abbrev pub IsParts : {A : Type 0} → TokenKind → (A → Phrase) → A → List A → Phrase
 IsParts between P x [] = P x
 IsParts between P x (y ∷ ys) = P x ▸ IsToken between ▸ IsParts between P y ys
 
--- things with another behind each
+-- parts, perhaps none, each followed by the phrase `end`
 abbrev pub AreEnded : {A : Type 0} → Phrase → (A → Phrase) → List A → Phrase
 AreEnded end P [] = λ ts. ts ≡ []
 AreEnded end P (x ∷ xs) = P x ▸ end ▸ AreEnded end P xs

@@ -1,4 +1,4 @@
--- Words for worked rows of plans.
+-- Short names for worked examples of plans.
 use Rattle.std.specs.Prelude.{ℕ, suc, zero, ◌+◌, pos, true, false, List, [], ◌∷◌, map, codes, Option, Some, None, option_map}
 use Rattle.geometry_model.specs.Geometries.{Geometry, Point, MultiPoint, LineString, Polygon}
 use Rattle.geometry_model.specs.Labels.{labelled_matrix}
@@ -43,7 +43,7 @@ Query = Bound (GeometryArgument Geometry) ColumnPlace
 abbrev pub Condition : Type 0
 Condition = Cond (GeometryArgument Geometry)
 
--- a level square of side 4, by its least corner
+-- a square of side 4 along the axes, by its lower left corner
 abbrev pub square : ℕ → ℕ → Geometry
 square x y = Polygon ((at (pos x) (pos y) ∷ at (pos (x + 4)) (pos y) ∷ at (pos (x + 4)) (pos (y + 4)) ∷ at (pos x) (pos (y + 4)) ∷ at (pos x) (pos y) ∷ []) ∷ [])
 
@@ -51,7 +51,7 @@ square x y = Polygon ((at (pos x) (pos y) ∷ at (pos (x + 4)) (pos y) ∷ at (p
 abbrev pub row : ℕ → Value Geometry → Row Geometry
 row key value = values.Integer (pos key) ∷ value ∷ []
 
--- so many rows of points at height 1, the key of each being its x, from one on
+-- this many rows of points at height 1, the key of each being its x, from `key` on
 abbrev pub point_rows : ℕ → ℕ → Table Geometry
 point_rows key zero = []
 point_rows key (suc n) = row key (values.Geometry (Point (Some (at (pos key) (pos 1))))) ∷ point_rows (key + 1) n

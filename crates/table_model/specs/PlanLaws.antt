@@ -13,7 +13,7 @@ use Rattle.table_model.specs.declared.conditions.Bound.{Bound}
 use Rattle.table_model.specs.declared.plans.AccessMethod.TheVariants as methods
 use Rattle.table_model.specs.declared.plans.Plan.{Plan}
 
--- an element is the first of some whose number none of them undercuts
+-- x is the first element of the list whose number is least
 pub record IsFirstOfLeast {X : Type 0} (number : X → ℕ) (xs : List X) (x : X) : Type 0 where
   pub before : List X
   pub after : List X
@@ -50,13 +50,13 @@ abbrev pub ScansGiveChoices : Type 0
 ScansGiveChoices = (denotes : Rows Geometry → GeometryArgument Geometry → Option Geometry) (tables : List (Table Geometry)) (query : GeometryQuery) → length query.references ≡ 2
     → candidates denotes tables query (record { reference = 0; method = methods.Scan } ∷ record { reference = 1; method = methods.Scan } ∷ []) ≡ choices (referenced tables query.references)
 
--- those of the scan of the only reference are its places
+-- the candidates of a scan of the only reference are its places
 abbrev pub ScanGivesPlaces : Type 0
 ScanGivesPlaces = (denotes : Rows Geometry → GeometryArgument Geometry → Option Geometry) (tables : List (Table Geometry)) (query : GeometryQuery) → length query.references ≡ 1
     → candidates denotes tables query (record { reference = 0; method = methods.Scan } ∷ []) ≡ choices (referenced tables query.references)
 
--- the filters of every plan are all conjuncts, each once: the place of a conjunct is once among them, and no other
--- number does
+-- the filters of every plan are all conjuncts, each once: the place of each conjunct is among them once, and no other
+-- number is
 abbrev pub FiltersAreConjuncts : Type 0
 FiltersAreConjuncts = (conjuncts : List (Cond (GeometryArgument Geometry))) (place : ℕ)
     → count_by (λ k. k == place) (filters conjuncts) ≡ (if nat_lt place (length conjuncts) then 1 else 0)

@@ -1,4 +1,4 @@
--- Words for worked texts of queries.
+-- Short names for worked examples of texts of queries.
 use Rattle.std.specs.Prelude.{ℕ, List, [], ◌∷◌, ◌++◌, codes, Option, Some, None, Result, Ok}
 use Rattle.table_model.specs.GeometryColumnExamples.{table}
 use Rattle.table_model.specs.Queries.{Condition, SelectQuery}

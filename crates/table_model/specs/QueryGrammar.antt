@@ -42,7 +42,7 @@ IsColumn column ts =
     ((name : Name) × (column ≡ record { reference = None; name = name }) × IsName name ts)
     ⊎ ((reference name : Name) × (column ≡ record { reference = Some reference; name = name }) × (IsName reference ▸ IsToken k.Point ▸ IsName name) ts)
 
--- digits whose number, negated or not, is within 64 bits
+-- digits whose number, negated or not, has 64 bits with its sign
 abbrev pub IsDigits : Bool → ℤ → Phrase
 IsDigits negative n = IsOne (λ t. (t.kind ≡ k.Integer) × (integer_value negative t.text ≡ Some n))
 
@@ -56,7 +56,7 @@ IsString text = IsOne (λ t. (t.kind ≡ k.Text) × (text ≡ record { text = t.
 
 -- ---- functions
 
--- a function with what is between its parentheses
+-- a call of a function: its name, and the phrase in parentheses
 abbrev pub IsCall : List ℕ → Phrase → Phrase
 IsCall function P = IsWord function ▸ IsToken k.LeftParenthesis ▸ P ▸ IsToken k.RightParenthesis
 
@@ -113,7 +113,7 @@ IsBool x ts =
     × IsCall (codes "ST_Relate") (IsGeometry a ▸ IsToken k.Comma ▸ IsGeometry b ▸ IsToken k.Comma ▸ IsString pattern) ts)
     ⊎ ((a : WrittenGeometry) × (x ≡ c.IsEmpty (place ts) a) × IsCall (codes "ST_IsEmpty") (IsGeometry a) ts)
 
--- an integer without a sign, of a value
+-- an integer without a sign, whose value is n
 abbrev pub IsNumber : ℕ → Phrase
 IsNumber n = IsOne (λ t. (t.kind ≡ k.Integer) × (digits_value 10 t.text ≡ n))
 
@@ -133,7 +133,7 @@ IsPredicateOf P x ts =
     ⊎ ((operand : ConditionOperand) × (x ≡ c.Not (c.IsNull operand)) × (P operand ▸ IsToken k.Is ▸ IsToken k.Not ▸ IsToken k.Null) ts)
     ⊎ ((bool : Condition) × (IsBool bool ▸ IsTest bool x) ts)
 
--- pred, of operands
+-- pred, for the rule of operands above
 abbrev pub IsPredicate : Condition → Phrase
 IsPredicate = IsPredicateOf IsOperand
 
@@ -152,7 +152,7 @@ IsConjunction = IsChain k.And c.And
 abbrev pub IsConditionOf : {A : Type 0} → (WrittenCond A → Phrase) → WrittenCond A → Phrase
 IsConditionOf P = IsChain k.Or c.Or (IsConjunction P)
 
--- neg = 'NOT' neg | '(' cond ')' | pred, where so many NOT and parentheses may nest, for a rule of predicates
+-- neg = 'NOT' neg | '(' cond ')' | pred, where NOT and parentheses nest to this many levels at most, for a rule of predicates
 unfoldable pub IsNegationOf : {A : Type 0} → (WrittenCond A → Phrase) → ℕ → WrittenCond A → Phrase
 IsNegationOf P zero x ts = P x ts
 IsNegationOf {A} P (suc levels) x ts =
@@ -160,11 +160,11 @@ IsNegationOf {A} P (suc levels) x ts =
     ⊎ (IsToken k.LeftParenthesis ▸ IsConditionOf (IsNegationOf P levels) x ▸ IsToken k.RightParenthesis) ts
     ⊎ P x ts
 
--- neg, of predicates
+-- neg, for the rule of predicates above
 abbrev pub IsNegation : ℕ → Condition → Phrase
 IsNegation = IsNegationOf IsPredicate
 
--- a condition in which NOT and parentheses nest to so many levels at most
+-- a condition in which NOT and parentheses nest to 64 levels at most
 abbrev pub IsCondition : Condition → Phrase
 IsCondition = IsConditionOf (IsNegation most_levels)
 
@@ -227,7 +227,7 @@ IsWhere condition ts =
     ((condition ≡ None) × (ts ≡ []))
     ⊎ ((x : Condition) × (condition ≡ Some x) × (IsToken k.Where ▸ IsCondition x) ts)
 
--- an integer without a sign, within 64 bits with a sign
+-- an integer without a sign, at most the greatest number of 64 bits with a sign
 abbrev pub IsRowCount : ℕ → Phrase
 IsRowCount n = IsOne (λ t. (t.kind ≡ k.Integer) × (limit_value t.text ≡ Some n))
 
@@ -256,6 +256,6 @@ IsSelect query =
 unfoldable pub IsQuery : List ℕ → SelectQuery → Type 0
 IsQuery text query = (length text ≤ most_bytes) × (bad_place (tokens true text) ≡ None) × IsSelect query (tokens true text)
 
--- a reader of a text returns the query that it is, whichever that is, unless memory ran out
+-- if the text is a query, a reader returns its tree, or memory ran out
 abbrev pub AnswersQuery : List ℕ → Result SelectQuery QueryFault → Type 0
 AnswersQuery text result = (query : SelectQuery) → IsQuery text query → Gives fault.OutOfMemory (λ q. q) result (Ok query)

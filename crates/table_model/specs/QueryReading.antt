@@ -37,7 +37,7 @@ Reader = Parser QueryFault
 
 -- ---- names and columns
 
--- A word that isn't reserved. With `(` after it, it is a function and no name.
+-- A name: a word that isn't reserved. With `(` after it, it is a function.
 unfoldable pub name : Reader Name
 name ts = if sees k.Word ts && not (sees k.LeftParenthesis (next ts)) then Ok (written ts, next ts) else Err (fault.Syntax (place ts))
 
@@ -58,7 +58,7 @@ calls function ts = sees k.Word ts && sees k.LeftParenthesis (next ts) && same_n
 abbrev pub Functions : Type 0 → Type 0
 Functions A = List (List ℕ × Reader A)
 
--- the rest of a call of the first of some functions that is called next; where none is, what another reader reads
+-- the rest of a call of the first of these functions that is called next; if none is, what the other reader reads
 abbrev pub called_or : {A : Type 0} → Functions A → Reader A → Reader A
 called_or [] other ts = other ts
 called_or (f ∷ more) other ts = if calls f.0 ts then f.1 (next ts) else called_or more other ts
@@ -125,7 +125,7 @@ comparison_of k.Greater = Some m.Greater
 comparison_of k.GreaterOrEqual = Some m.GreaterOrEqual
 comparison_of _ = None
 
--- the rest of a comparison by its sign; where there is none the token can't be there
+-- the rest of a comparison, from its sign on; refuses a token that is no sign
 abbrev pub compared_by : ℕ → ConditionOperand → Option Comparison → Reader Condition
 compared_by at left None = refuse fault.Syntax
 compared_by at left (Some comparison) = λ ts. (c.Compare at comparison left <$> operand) (next ts)
@@ -161,7 +161,7 @@ truth_test x = do
   compared ← eat k.Equal
   if compared then truth_value x else pure x
 
--- the arguments of a predicate, and what it is compared with
+-- the arguments of a predicate in parentheses, and what it is compared with
 abbrev pub truth_tested : {A : Type 0} → Reader (WrittenCond A) → Reader (WrittenCond A)
 truth_tested arguments = enclosed arguments >>= truth_test
 
@@ -205,7 +205,7 @@ predicate ts = called_or (predicate_functions (place ts)) comparison ts
 
 -- ---- conditions
 
--- the tree of a first part, read with the word after it, and of those that follow
+-- the tree of the first part, which is read with the word after it, and of the parts that follow
 abbrev pub joined : {A : Type 0} → TokenKind → (List (WrittenCond A) → WrittenCond A) → Reader (WrittenCond A) → WrittenCond A → Reader (WrittenCond A)
 joined between join part first = join <$> parts fault.Syntax between part (first ∷ [])
 
@@ -231,7 +231,7 @@ group part = do
   expect fault.Syntax k.RightParenthesis
   pure inner
 
--- neg = 'NOT' neg | '(' cond ')' | pred, where so many NOT and parentheses may still nest
+-- neg = 'NOT' neg | '(' cond ')' | pred, where NOT and parentheses may nest to this many further levels
 unfoldable pub negation : ℕ → Reader Condition
 negation zero ts = if sees k.Not ts || sees k.LeftParenthesis ts then Err (fault.TooDeep (place ts)) else predicate ts
 negation (suc levels) ts =
@@ -242,7 +242,7 @@ negation (suc levels) ts =
 abbrev pub most_levels : ℕ
 most_levels = 64
 
--- cond, of so many levels at most
+-- cond, of 64 levels at most
 abbrev pub condition : Reader Condition
 condition = condition_of (negation most_levels)
 
@@ -297,7 +297,7 @@ reference = do
 abbrev pub Second : Type 0
 Second = List WrittenReference × Option Condition
 
--- ref, which has no condition
+-- ref, as a second reference without a condition
 unfoldable pub crossed : Reader Second
 crossed = (λ reference. (reference ∷ [], None)) <$> reference
 
@@ -326,11 +326,11 @@ where_condition = do
   filters ← eat k.Where
   if filters then Some <$> condition else pure None
 
--- the number of rows that digits give, within 64 bits with a sign
+-- the number that digits give, at most the greatest number of 64 bits with a sign
 abbrev pub limit_value : List ℕ → Option ℕ
 limit_value digits = if nat_lt (digits_value 10 digits) (2 ^ 63) then Some (digits_value 10 digits) else None
 
--- that number, or Q12 at its first digit
+-- the number of rows, or Q12 at its first digit
 abbrev pub limit_or : Option ℕ → ℕ → List Token → Outcome QueryFault (Option ℕ)
 limit_or None at rest = Err (fault.NumberTooBig at)
 limit_or (Some n) at rest = Ok (Some n, rest)
@@ -371,12 +371,12 @@ query = do
   expect fault.Syntax k.End
   pure (record { explain = told; selection = selection; references = first ∷ second.0; on = second.1; condition = condition; limit = limit })
 
--- the place of the bad token, where there is one
+-- the place of the bad token, if there is one
 abbrev pub bad_place : List Token → Option ℕ
 bad_place [] = None
 bad_place (t ∷ ts) = if same_kind t.kind k.Bad then Some t.at else bad_place ts
 
--- Q1 at a bad token, and else the query that the tokens are
+-- Q1 at a bad token, else the query of the tokens
 abbrev pub query_by : Option ℕ → List Token → Result SelectQuery QueryFault
 query_by (Some at) ts = Err (fault.Lex at)
 query_by None ts = value_of (query ts)

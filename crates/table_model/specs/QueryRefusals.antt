@@ -1,6 +1,6 @@
--- The refusals of a query at a token, apart from how a query is read: the tokens up to it, itself among them, are a
--- front of the grammar in which the rules on the size of an operand's integer and on how deep conditions nest are set
--- aside.
+-- At which tokens a query is refused, said without a reader: two rules are left out of the grammar, those on the size of
+-- integers and on how deep conditions nest. A token is refused if with the tokens before it it begins a text of that
+-- grammar, and breaks one of the two.
 use Rattle.std.specs.Prelude.{◌≡◌, ◌≤◌, ◌⊎◌, ℕ, zero, suc, Bool, true, false, List, [], ◌∷◌, ◌++◌, length, None, Result, Err}
 use Rattle.table_model.specs.Outcomes.{Gives}
 use Rattle.table_model.specs.QueryGrammar.{IsOperand, IsComparison, IsPredicateOf, IsConjunction, IsConditionOf, IsNegationOf, IsSelection, IsReference, IsCrossed, IsExplain}
@@ -18,7 +18,7 @@ use Rattle.table_model.specs.declared.tokens.Token.{Token}
 use Rattle.table_model.specs.declared.tokens.TokenKind.TheVariants as k
 use Rattle.table_model.specs.Phrases.{Phrase, IsToken, ◌▸◌, IsOptional, AreEnded}
 
--- ---- the grammar with those rules set aside
+-- ---- the grammar without those rules
 
 -- ('+' | '-')? integer, of any size
 abbrev pub IsAnyInteger : Phrase
@@ -36,7 +36,7 @@ IsAnyNegation x ts = (levels : ℕ) × IsNegationOf (IsPredicateOf IsAnyOperand)
 abbrev pub IsAnyCondition : Condition → Phrase
 IsAnyCondition = IsConditionOf IsAnyNegation
 
--- ---- fronts of it
+-- ---- what can come before a token
 
 -- what comes up to the first table reference
 abbrev pub BeforeSecond : Phrase
@@ -73,7 +73,7 @@ AreParts ts =
     (ors ands : List Condition)
     × (AreEnded (IsToken k.Or) (IsConjunction IsAnyNegation) ors ▸ AreEnded (IsToken k.And) IsAnyNegation ands) ts
 
--- what comes before a neg at which so many NOT and parentheses are open
+-- what comes before a neg inside this many NOT and parentheses
 unfoldable pub BeforeNegation : ℕ → Phrase
 BeforeNegation zero ts = ((BeforeOn ▸ AreParts) ts) ⊎ ((BeforeWhere ▸ AreParts) ts)
 BeforeNegation (suc opened) ts =
@@ -101,7 +101,7 @@ IsTooBig before t =
     ⊎ ((integer_value true t.text ≡ None) × (BeforeOperand ▸ IsToken k.Minus) before)
     ⊎ ((limit_value t.text ≡ None) × BeforeLimit before))
 
--- a fault applies at a token, after these tokens; none of the others is one at a token
+-- a fault applies at a token, which comes after these tokens; all other faults aren't of this sort
 abbrev pub StandsAt : List Token → Token → QueryFault → Type 0
 StandsAt before t (fault.TooDeep at) = (at ≡ t.at) × IsTooDeep before t
 StandsAt before t (fault.NumberTooBig at) = (at ≡ t.at) × IsTooBig before t
@@ -117,14 +117,13 @@ is_at_token (fault.TooDeep at) = true
 is_at_token (fault.NumberTooBig at) = true
 is_at_token _ = false
 
--- a fault that is one of those at a token applies in the text, which isn't too long and is made of tokens
+-- if the fault is of the sort that applies at a token, it does so in the text, which isn't too long and is made of tokens
 abbrev pub StandsInQuery : List ℕ → QueryFault → Type 0
 StandsInQuery text f =
     is_at_token f ≡ true → (length text ≤ most_bytes) × (bad_place (tokens true text) ≡ None) × StandsIn (tokens true text) f
 
--- Where a fault applies at a token of a text that isn't too long and is made of tokens, a reader returns one that applies
--- at that token or before it: so the first that applies is returned, and a query or another fault only where none
--- applies. Running out of memory may come instead.
+-- Where such faults apply at tokens of a text that isn't too long and is made of tokens, a reader returns one at the first
+-- of these tokens, or memory ran out.
 abbrev pub AnswersFirst : List ℕ → Result SelectQuery QueryFault → Type 0
 AnswersFirst text result = (before after : List Token) (t : Token) (g : QueryFault)
     → length text ≤ most_bytes → bad_place (tokens true text) ≡ None → tokens true text ≡ before ++ t ∷ after → StandsAt before t g

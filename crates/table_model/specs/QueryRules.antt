@@ -1,5 +1,5 @@
--- What the tables of FROM, the select list and a whole query are bound to, and where they are refused, apart from the
--- functions that compute it. Of several faults the first is the one: FROM goes first, then the select list, ON and WHERE.
+-- What the tables of FROM, the select list and a whole query are bound to, and where they are refused. `Binding` has the
+-- functions that compute this. Of several faults the first counts: FROM comes first, then the select list, ON and WHERE.
 use Rattle.std.specs.Prelude.{◌≡◌, ◌⊎◌, ◌<◌, ℕ, List, [], ◌∷◌, ◌++◌, map, slice_get, Option, Some, None}
 use Rattle.std.specs.List.{AllZip}
 use Rattle.table_model.specs.Binding.{columns_of, counts, name_start}
@@ -48,24 +48,24 @@ IsRefusedReference schema written fault = IsNowhere (IsTableNamed written.table.
 abbrev pub IsTaken : List Reference → List ℕ → Type 0
 IsTaken references name = IsSomewhere (λ other. AreOneName other.name name) references
 
--- a reference behind others, none of which has its name (SQL, FROM and correlation names)
+-- what a reference after others is bound to, if none of them has its name (SQL, FROM and correlation names)
 abbrev pub IsNextReference : {T : Type 0} → List (TableDef T) → List Reference → WrittenReference → Reference → Type 0
 IsNextReference schema before written =
     Then (IsBoundReference schema written) (λ reference next. (IsTaken before reference.name → ⊥) × (next ≡ reference))
 
--- its table is refused, or then Q4 where one of the others has its name: at its alias where it has one, else at its table's name
+-- where a reference after others is refused: at its table, else Q4 if one has its name: at its alias, or at its table's name if it has none
 abbrev pub IsRefusedNext : {T : Type 0} → List (TableDef T) → List Reference → WrittenReference → QueryFault → Type 0
 IsRefusedNext schema before written =
     FirstFault (IsBoundReference schema written) (IsRefusedReference schema written)
     (λ reference fault. IsTaken before reference.name × (fault ≡ faults.SameName (name_start written.table written.alias)))
 
--- references behind others, which are listed first
+-- what references after others are bound to; the others are listed first
 abbrev pub IsFromAfter : {T : Type 0} → List (TableDef T) → List Reference → List WrittenReference → List Reference → Type 0
 IsFromAfter schema before [] = λ references. references ≡ before
 IsFromAfter schema before (written ∷ more) =
     Then (IsNextReference schema before written) (λ reference. IsFromAfter schema (before ++ reference ∷ []) more)
 
--- where references behind others are refused
+-- where references after others are refused
 abbrev pub IsRefusedAfter : {T : Type 0} → List (TableDef T) → List Reference → List WrittenReference → QueryFault → Type 0
 IsRefusedAfter schema before [] = λ fault. ⊥
 IsRefusedAfter schema before (written ∷ more) =
@@ -82,7 +82,7 @@ IsRefusedFrom schema = IsRefusedAfter schema []
 
 -- ---- the select list
 
--- an item that is written: a column, or a function of a geometry (SQL, the select list; 06-103r4, 6.1.2.2)
+-- what an item is bound to: a column, or a function of a geometry (SQL, the select list; 06-103r4, 6.1.2.2)
 abbrev pub IsBoundItem : {T A B C D : Type 0} → GeometryRules T A B C D → List (TableDef T) → List Reference → WrittenItem C → Item D → Type 0
 IsBoundItem rules schema references (written_item.Column written) = Then (IsBoundColumn schema references written) (λ found item. item ≡ items.Column found.place)
 IsBoundItem rules schema references (written_item.AsText at a) =
@@ -92,7 +92,7 @@ IsBoundItem rules schema references (written_item.Dimension at a) =
 IsBoundItem rules schema references (written_item.IsEmpty at a) =
     Then (rules.IsItemArgument schema references a) (λ argument. Then (IsGeometryPart argument) (λ x item. item ≡ items.IsEmpty x))
 
--- a function's argument is refused, or is no geometry: Q7 at the function's first byte
+-- a function's argument is refused, or isn't a geometry: Q7 at the function's first byte
 abbrev pub IsRefusedFunction : {T A B C D : Type 0} → GeometryRules T A B C D → List (TableDef T) → List Reference → ℕ → C → QueryFault → Type 0
 IsRefusedFunction rules schema references at a =
     FirstFault (rules.IsItemArgument schema references a) (rules.IsRefusedItemArgument schema references a)
@@ -151,7 +151,7 @@ abbrev pub IsWhole : {T A B C D : Type 0} → GeometryRules T A B C D → List (
 IsWhole rules schema references (Some written) = Then (IsCond rules schema references written) (λ cond whole. whole ≡ Some cond)
 IsWhole rules schema references None = λ whole. whole ≡ None
 
--- where it is refused
+-- where the condition of ON or of WHERE is refused
 abbrev pub IsRefusedWhole : {T A B C D : Type 0} → GeometryRules T A B C D → List (TableDef T) → List Reference → Option (WrittenCond A) → QueryFault → Type 0
 IsRefusedWhole rules schema references (Some written) = FirstFault (IsCond rules schema references written) (IsRefusedCond rules schema references written) (λ cond fault. ⊥)
 IsRefusedWhole rules schema references None = λ fault. ⊥

@@ -28,15 +28,15 @@ use Rattle.table_model.specs.declared.queries.Explain.TheVariants as explains
 
 -- ---- answers
 
--- a function that gives the matrix of every two geometries
+-- a function from two geometries to a matrix, theirs or not
 abbrev pub MatrixOf : Type 0
 MatrixOf = Geometry → Geometry → Matrix
 
--- a fact by every function that gives the matrix of valid geometries (06-103r4, 6.1.15)
+-- the fact holds for every function that gives the matrix of any two valid geometries (06-103r4, 6.1.15)
 abbrev pub ByEveryMatrix : (MatrixOf → Type 0) → Type 0
 ByEveryMatrix Fact = (matrix : MatrixOf) → GivesMatrix matrix → Fact matrix
 
--- how a record is written
+-- how a record is written: a function from records to bytes
 abbrev pub RecordText : Type 0
 RecordText = Record → List ℕ
 
@@ -44,22 +44,22 @@ RecordText = Record → List ℕ
 abbrev pub records_text : RecordText → List Record → List ℕ
 records_text record_text records = concat (map record_text records)
 
--- the records that answer a SELECT: the header, then a record for each row of its meaning; under COUNT(*) how many there are
+-- the records that answer a SELECT: the header and a record for each choice of rows in its meaning, or under COUNT(*) how many
 -- (SQL, the query)
 abbrev pub select_records : MatrixOf → SpatialDatabase → SpatialStatement → List Record
 select_records matrix database query =
     answer geometry_writing database.definitions (by_conjuncts query) (meaning (truth matrix denoted) database.tables query)
 
--- a count of 64 bits: it stays at the greatest number
+-- a count that stays at the greatest number of 64 bits
 abbrev pub kept_count : ℕ → ℕ
 kept_count n = min n (2 ^ 64 - 1)
 
--- the text of EXPLAIN ANALYZE, where the work of the plan is counted
+-- the text of EXPLAIN ANALYZE, with the work of the plan
 abbrev pub counted_text : MatrixOf → List SpatialTable → SpatialStatement → Plan → List ℕ
 counted_text matrix tables query plan =
     analyze_text (by_conjuncts query) plan (kept_count (work matrix denoted tables (by_conjuncts query) plan))
 
--- a text of the chosen plan; each query of one or two references has one
+-- a text of the chosen plan; a query of one or two references always has one
 abbrev pub plan_text : List SpatialTable → SpatialStatement → (Plan → List ℕ) → List ℕ
 plan_text tables query text = option_map_or text (chosen tables (by_conjuncts query)) []
 
@@ -81,7 +81,7 @@ pub data Refusal : Type 0 where
   OfQuery : QueryFault → Refusal
   OfTable : TableFault → Refusal
 
--- a step after an answer; where there is none, the refusal that its fault is
+-- the next step, which gets the result of the first; or the fault of the first, as a refusal
 abbrev pub after : {X Y E : Type 0} → (E → Refusal) → Result X E → (X → Result Y Refusal) → Result Y Refusal
 after of (Ok x) next = next x
 after of (Err e) next = Err (of e)
@@ -91,14 +91,14 @@ abbrev pub query_outcome : RecordText → MatrixOf → SelectQuery → SpatialDa
 query_outcome record_text matrix written database =
     after OfQuery (statement geometry_binding database.definitions written) (λ query. Ok (answer_text record_text matrix database query))
 
--- the same over the tables' records, or the first fault among them
+-- the text of the answer of a written query over the tables' records, or the first fault of loading or binding
 abbrev pub loaded_outcome : RecordText → MatrixOf → SpatialSchema → List (List Record) → SelectQuery → Result (List ℕ) Refusal
 loaded_outcome record_text matrix definitions records written =
     after OfTable (load_tables read_geometry definitions records)
     (λ tables. query_outcome record_text matrix written (record { definitions = definitions; tables = tables }))
 
--- the text of the answer of a query's text over the tables' records, or the first fault: the query is read first, then all tables
--- are loaded, then the query is bound (SQL, the query; the order: this project's choice)
+-- the text of the answer of a query's text over the tables' records, or the first fault: of reading the query, then of loading
+-- the tables, then of binding the query (SQL, the query; the order: this project's choice)
 abbrev pub outcome : RecordText → MatrixOf → SpatialSchema → List (List Record) → List ℕ → Result (List ℕ) Refusal
 outcome record_text matrix definitions records text =
     after OfQuery (query_of text) (loaded_outcome record_text matrix definitions records)

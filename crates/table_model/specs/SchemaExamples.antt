@@ -1,4 +1,4 @@
--- Words for worked texts of schemas with geometry columns.
+-- Short names for worked examples of texts of schemas with geometry columns.
 use Rattle.std.specs.Prelude.{ℕ, List, [], ◌∷◌, codes, Result}
 use Rattle.table_model.specs.GeometryColumnExamples.{column}
 use Rattle.table_model.specs.GeometryColumns.{ColumnShape, shape_named}

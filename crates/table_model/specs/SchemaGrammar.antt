@@ -28,7 +28,7 @@ IsNotNull = IsToken k.Not ▸ IsToken k.Null
 abbrev pub IsPrimaryKey : Phrase
 IsPrimaryKey = IsWord (codes "PRIMARY") ▸ IsWord (codes "KEY")
 
--- a phrase, or nothing
+-- the phrase where the Bool says so, else nothing
 abbrev pub IsMark : Bool → Phrase → Phrase
 IsMark true P = P
 IsMark false P = λ ts. ts ≡ []
@@ -51,7 +51,7 @@ abbrev pub key_places : {T : Type 0} → ℕ → List (Marked T) → List ℕ
 key_places place [] = []
 key_places place (column ∷ more) = if column.1 then place ∷ key_places (place + 1) more else key_places (place + 1) more
 
--- table = 'CREATE' 'TABLE' name '(' column (',' column)* ')', one column being the key
+-- table = 'CREATE' 'TABLE' name '(' column (',' column)* ')', where exactly one column has PRIMARY KEY
 abbrev pub IsTable : {T : Type 0} → (List ℕ → Option T) → TableDef T → Phrase
 IsTable {T} geometry table ts =
     (first : Marked T) × (more : List (Marked T))
@@ -70,6 +70,6 @@ AreTables {T} geometry tables ts =
 unfoldable pub IsSchema : {T : Type 0} → (List ℕ → Option T) → List ℕ → List (TableDef T) → Type 0
 IsSchema geometry text tables = (length text ≤ most_bytes) × (lawful tables ≡ true) × AreTables geometry tables (tokens false text)
 
--- a reader of a text returns the tables whose schema it is, whichever those are, unless memory ran out
+-- if the text is the schema of some tables, a reader returns these tables, or memory ran out
 abbrev pub AnswersSchema : {T : Type 0} → (List ℕ → Option T) → List ℕ → Result (List (TableDef T)) SchemaFault → Type 0
 AnswersSchema {T} geometry text result = (tables : List (TableDef T)) → IsSchema geometry text tables → Gives fault.OutOfMemory (λ t. t) result (Ok tables)

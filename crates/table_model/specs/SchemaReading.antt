@@ -38,7 +38,7 @@ is_ascii bytes = list_all (λ b. nat_lt b 128) bytes
 abbrev pub sees_name : List Token → Bool
 sees_name ts = sees k.Word ts && is_ascii (spelling ts)
 
--- a new name, where there is room for one more and where it isn't taken
+-- a new name: S1 if no name comes next, else S5 if there is no room for one more, else S2 if it is taken
 unfoldable pub new_name : Bool → Bool → Reader (List ℕ)
 new_name full taken ts =
     if not (sees_name ts) then Err (fault.Syntax (place ts))
@@ -55,7 +55,7 @@ type_named geometry word =
     else (if same_name word (codes "TEXT") then Some types.Text
     else option_map types.Geometry (geometry word))
 
--- a type, where the word names one
+-- the type, or S1 if the word names none
 abbrev pub type_or : {T : Type 0} → Option (ColumnType T) → ℕ → List Token → Outcome SchemaFault (ColumnType T)
 type_or (Some t) at rest = Ok (t, rest)
 type_or None at rest = Err (fault.Syntax at)
@@ -119,18 +119,18 @@ columns_from geometry (suc n) found key = do
       then columns_from geometry n (found ++ read.0 ∷ []) (key_after key (length found) read.1)
       else pure (found ++ read.0 ∷ [], key_after key (length found) read.1)
 
--- There are no more columns than tokens
+-- all columns of a table; there are no more of them than tokens
 abbrev pub columns : {T : Type 0} → (List ℕ → Option T) → Reader (List (ColumnDef T) × Option ℕ)
 columns geometry = λ ts. columns_from geometry (length ts) [] None ts
 
 -- ---- tables
 
--- the parenthesis that closes a table, which needs a key
+-- the table that a parenthesis closes, or S3 if it has no key
 abbrev pub closed : {T : Type 0} → List ℕ → List (ColumnDef T) → Option ℕ → ℕ → Reader (TableDef T)
 closed name columns (Some key) at = pure (record { name = name; columns = columns; key = key })
 closed name columns None at = λ ts. Err (fault.NoKey at)
 
--- the parenthesis, after the columns and the place of the key
+-- the table, by its parenthesis after the columns and the place of the key
 abbrev pub close : {T : Type 0} → List ℕ → List (ColumnDef T) × Option ℕ → Reader (TableDef T)
 close name read = λ ts. (do
   expect fault.Syntax k.RightParenthesis
@@ -168,7 +168,7 @@ tables_from geometry (suc n) found = do
   more ← goes_on
   if more then tables_from geometry n (found ++ read ∷ []) else pure (found ++ read ∷ [])
 
--- There are no more tables than tokens
+-- all tables of a schema, perhaps none; there are no more of them than tokens
 abbrev pub all_tables : {T : Type 0} → (List ℕ → Option T) → Reader (List (TableDef T))
 all_tables geometry = λ ts. if sees k.End ts then Ok ([], ts) else tables_from geometry (length ts) [] ts
 

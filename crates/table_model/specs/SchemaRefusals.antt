@@ -1,6 +1,6 @@
--- The refusals of a schema at a token, apart from how a schema is read: the tokens up to it, itself among them, are a
--- front of the grammar in which the rules on the number of tables and columns, on equal names and on the number of keys
--- are set aside (after SQL's CREATE TABLE). Generic in what names a type of geometry.
+-- At which tokens a schema is refused, said without a reader: four rules are left out of the grammar, those on the number
+-- of tables and columns, on equal names and on the number of keys. A token is refused if with the tokens before it it
+-- begins a text of that grammar, and breaks one of the four (after SQL's CREATE TABLE). Generic in what names a type of geometry.
 use Rattle.std.specs.Prelude.{◌≡◌, ◌≤◌, ◌<◌, ◌⊎◌, ℕ, Bool, true, false, List, [], ◌∷◌, ◌++◌, codes, length, map, Option, Result, Err}
 use Rattle.std.specs.List.{list_any}
 use Rattle.table_model.specs.Definitions.{most_tables, most_columns, is_integer}
@@ -16,13 +16,13 @@ use Rattle.table_model.specs.declared.tokens.Token.{Token}
 use Rattle.table_model.specs.declared.tokens.TokenKind.TheVariants as k
 use Rattle.table_model.specs.Phrases.{Phrase, IsToken, ◌▸◌, IsParts, AreEnded, IsWord}
 
--- ---- the grammar with those rules set aside
+-- ---- the grammar without those rules
 
 -- a table as it is written: its name, and its columns with whether PRIMARY KEY is on each
 abbrev pub Written : Type 0 → Type 0
 Written T = List ℕ × List (Marked T)
 
--- column = name type mark*, PRIMARY KEY being on INTEGER columns alone
+-- column = name type mark*, where only an INTEGER column has PRIMARY KEY
 abbrev pub IsColumn : {T : Type 0} → (List ℕ → Option T) → Marked T → Phrase
 IsColumn geometry column ts = (column.1 ≡ true → is_integer column.0.column_type ≡ true) × IsMarked geometry column ts
 
@@ -36,7 +36,7 @@ IsWritten {T} geometry table ts =
     (first : Marked T) × (more : List (Marked T)) × (table.1 ≡ first ∷ more)
     × (IsCreateTable ▸ IsNamed table.0 ▸ IsToken k.LeftParenthesis ▸ IsParts k.Comma (IsColumn geometry) first more ▸ IsToken k.RightParenthesis) ts
 
--- ---- fronts of it
+-- ---- what can come before a token
 
 -- what comes before the name of a table, after these tables
 abbrev pub BeforeTable : {T : Type 0} → (List ℕ → Option T) → List (Written T) → Phrase
@@ -84,8 +84,7 @@ IsTooMany {T} geometry before t =
     × (((length tables ≡ most_tables) × BeforeTable geometry tables before)
     ⊎ ((name : List ℕ) × (columns : List (Marked T)) × (length columns ≡ most_columns) × BeforeColumn geometry tables name columns before))
 
--- a double name: the second of two equal names of tables, or of two equal names of columns of a table, where there is
--- room for one more
+-- a double name: the second of two equal names of tables, or of columns of a table, where there is room for one more
 abbrev pub IsDoubleName : {T : Type 0} → (List ℕ → Option T) → List Token → Token → Type 0
 IsDoubleName {T} geometry before t =
     IsName t × (tables : List (Written T))
@@ -108,7 +107,7 @@ IsCloseWithoutKey {T} geometry before t =
     × (tables : List (Written T)) × (name : List ℕ) × (first : Marked T) × (more : List (Marked T)) × (has_key (first ∷ more) ≡ false)
     × BeforeClose geometry tables name first more before
 
--- a fault applies at a token, after these tokens; none of the others is one at a token
+-- a fault applies at a token, which comes after these tokens; faults of syntax, length and memory aren't of this sort
 abbrev pub StandsAt : {T : Type 0} → (List ℕ → Option T) → List Token → Token → SchemaFault → Type 0
 StandsAt geometry before t (fault.TooMany at) = (at ≡ t.at) × IsTooMany geometry before t
 StandsAt geometry before t (fault.DoubleName at) = (at ≡ t.at) × IsDoubleName geometry before t
@@ -132,13 +131,12 @@ is_at_token (fault.Syntax at) = false
 is_at_token fault.TooLong = false
 is_at_token fault.OutOfMemory = false
 
--- a fault that is one of those at a token applies in the text
+-- if the fault is of the sort that applies at a token, it does so in the text
 abbrev pub StandsInSchema : {T : Type 0} → (List ℕ → Option T) → List ℕ → SchemaFault → Type 0
 StandsInSchema geometry text f = is_at_token f ≡ true → StandsIn geometry (tokens false text) f
 
--- Where a fault applies at a token of a text that isn't too long, a reader returns one that applies at that token or
--- before it: so the first that applies is returned, and tables or another fault only where none applies. Running out of memory
--- may come instead.
+-- Where such faults apply at tokens of a text that isn't too long, a reader returns one at the first of these tokens, or
+-- memory ran out.
 abbrev pub AnswersFirst : {T : Type 0} → (List ℕ → Option T) → List ℕ → Result (List (TableDef T)) SchemaFault → Type 0
 AnswersFirst geometry text result = (before after : List Token) (t : Token) (g : SchemaFault)
     → length text ≤ most_bytes → tokens false text ≡ before ++ t ∷ after → StandsAt geometry before t g

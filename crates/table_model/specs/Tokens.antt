@@ -1,4 +1,4 @@
--- Tokens of schema and query texts, by longest match.
+-- Tokens of schema and query texts. At each place the longest token is taken.
 use Rattle.std.specs.Prelude.{◌≡◌, ℕ, zero, suc, ◌+◌, ◌-◌, Bool, true, false, not, ◌&&◌, ◌||◌, if◌then◌else◌, ◌==◌, List, [], ◌∷◌, length, take, drop, slice_index, Option, Some, None, codes}
 use Rattle.std.specs.Char.{is_ascii_alphabetic, is_ascii_digit}
 use Rattle.std.specs.List.{prefix_len}
@@ -58,7 +58,7 @@ symbol_of_one b =
     else (if b == 59 then k.Semicolon else (if b == 42 then k.Star else (if b == 43 then k.Plus else (if b == 45 then k.Minus
     else (if b == 61 then k.Equal else (if b == 60 then k.Less else (if b == 62 then k.Greater else k.Bad))))))))))
 
--- the kind and the length of the longest symbol
+-- the kind and the length of the longest symbol that begins with these two bytes
 unfoldable pub symbol : ℕ → ℕ → TokenKind × ℕ
 symbol b next =
     if b == 60 && next == 61 then (k.LessOrEqual, 2) else (if b == 60 && next == 62 then (k.NotEqual, 2)
@@ -68,14 +68,14 @@ symbol b next =
 -- ---- strings
 
 -- The place after the quote that closes a string, for its bytes from a place on; none where it isn't closed. A
--- doubled quote doesn't close. The Bool says that the byte before is a quote that isn't the second of two.
+-- doubled quote doesn't close it. The Bool says that the byte before is a quote that closes it unless another follows.
 abbrev pub closing : ℕ → Bool → List ℕ → Option ℕ
 closing at true [] = Some at
 closing at false [] = None
 closing at true (b ∷ z) = if b == 39 then closing (at + 1) false z else Some at
 closing at false (b ∷ z) = closing (at + 1) (b == 39) z
 
--- a string up to a place, Bad where it isn't closed
+-- a string that ends before this place; Bad, of one byte, where it isn't closed
 abbrev pub string_to : Option ℕ → TokenKind × ℕ
 string_to None = (k.Bad, 1)
 string_to (Some end) = (k.Text, end)
@@ -103,20 +103,20 @@ front strings z =
 abbrev pub text_of : TokenKind → ℕ → List ℕ → List ℕ
 text_of kind len z = if same_kind kind k.Text then take (len - 2) (drop 1 z) else take len z
 
--- a token at a place, before those that follow it; none follow a bad one
+-- a token at a place, followed by the others; none follow a bad one
 abbrev pub at_front : Option TokenKind → ℕ → ℕ → List ℕ → List Token → List Token
 at_front None len at z more = more
 at_front (Some kind) len at z more = record { kind = kind; text = text_of kind len z; at = at } ∷ (if same_kind kind k.Bad then [] else more)
 
--- the tokens of the bytes from a place on, where the first number counts the bytes that are left of what began before
+-- the tokens of the bytes from a place on, where the first number says how many of them belong to what began before
 abbrev pub tokens_from : Bool → ℕ → ℕ → List ℕ → List Token
 tokens_from strings left at [] = record { kind = k.End; text = []; at = at } ∷ []
 tokens_from strings (suc left) at (b ∷ z) = tokens_from strings left (at + 1) z
 tokens_from strings zero at (b ∷ z) =
     let f = front strings (b ∷ z) in at_front f.0 f.1 at (b ∷ z) (tokens_from strings (f.1 - 1) (at + 1) z)
 
--- The tokens of a text in their order, with their places. The last one is Bad, a byte that begins no token or the
--- first quote of a string that isn't closed, or else End, at the text's length.
+-- the tokens of a text in order, with their places; strings are tokens of queries alone. The last is End, at the text's
+-- length, or Bad: a byte that begins no token, or the first quote of a string that isn't closed
 unfoldable pub tokens : Bool → List ℕ → List Token
 tokens strings text = tokens_from strings 0 0 text
 

@@ -29,7 +29,7 @@ not_of True = False
 not_of False = True
 not_of Unknown = Unknown
 
--- AND of two: false where one is, else unknown where one is (SQL's three-valued logic)
+-- AND of two: False if one is, else Unknown if one is (SQL's three-valued logic)
 abbrev pub and_of : Truth → Truth → Truth
 and_of True b = b
 and_of False b = False
@@ -37,7 +37,7 @@ and_of Unknown True = Unknown
 and_of Unknown False = False
 and_of Unknown Unknown = Unknown
 
--- OR of two: true where one is, else unknown where one is (SQL's three-valued logic)
+-- OR of two: True if one is, else Unknown if one is (SQL's three-valued logic)
 abbrev pub or_of : Truth → Truth → Truth
 or_of True b = True
 or_of False b = b
@@ -53,16 +53,16 @@ all_of parts = fold and_of True parts
 abbrev pub any_of : List Truth → Truth
 any_of parts = fold or_of False parts
 
--- a test that is never unknown
+-- the truth of a test, which is never Unknown
 abbrev pub truth_of : Bool → Truth
 truth_of true = True
 truth_of false = False
 
--- the rows at which a condition is asked: one for each reference, in the query's order
+-- the rows at which a condition is evaluated: one for each reference, in the query's order
 abbrev pub Rows : Type 0 → Type 0
 Rows G = List (List (Value G))
 
--- the field at a place; what isn't there is null
+-- the field at a place; null if there is none
 abbrev pub field_at : {G : Type 0} → Rows G → ColumnPlace → Value G
 field_at rows place = unwrap_or (slice_get (unwrap_or (slice_get rows place.reference) []) place.column) values.Null
 
@@ -77,12 +77,12 @@ abbrev pub text_value : {G : Type 0} → Option Geometry → Value G
 text_value (Some g) = values.Text (canonical_text g)
 text_value None = values.Null
 
--- ST_Dimension as a field; null of null
+-- ST_Dimension as a field; null of null (06-103r4, 6.1.2.2: Dimension)
 abbrev pub dimension_value : {G : Type 0} → Option Geometry → Value G
 dimension_value (Some g) = values.Integer (dimension (kind g))
 dimension_value None = values.Null
 
--- what a side of a comparison is at the rows, where geometry arguments denote what they do
+-- the value of a side of a comparison at rows; `denotes` gives the geometry of an argument
 abbrev pub operand_value : {A G : Type 0} → (Rows G → A → Option Geometry) → Rows G → Operand A → Value G
 operand_value denotes rows (operands.Column place) = field_at rows place
 operand_value denotes rows (operands.Integer n) = values.Integer n
@@ -91,13 +91,13 @@ operand_value denotes rows operands.Null = values.Null
 operand_value denotes rows (operands.AsText a) = text_value (denotes rows a)
 operand_value denotes rows (operands.Dimension a) = dimension_value (denotes rows a)
 
--- the order of two fields: integers as numbers, texts by bytes; of a null, or of two types, there is none
+-- the order of two fields: integers as numbers, texts by bytes; a null or two types have none
 abbrev pub order_of : {G : Type 0} → Value G → Value G → Option Ordering
 order_of (values.Integer a) (values.Integer b) = Some (int_cmp a b)
 order_of (values.Text a) (values.Text b) = Some (slice_cmp nat_cmp a b)
 order_of a b = None
 
--- the sign of comparison takes the order
+-- the comparison is true of two values in this order
 abbrev pub takes : Comparison → Ordering → Bool
 takes signs.Equal order = is_eq order
 takes signs.NotEqual order = is_ne order
@@ -106,24 +106,24 @@ takes signs.LessOrEqual order = is_le order
 takes signs.Greater order = is_gt order
 takes signs.GreaterOrEqual order = is_ge order
 
--- a comparison; without an order it is unknown (SQL's three-valued logic)
+-- the truth of a comparison; without an order it is Unknown (SQL's three-valued logic)
 abbrev pub compared : Comparison → Option Ordering → Truth
 compared sign (Some order) = truth_of (takes sign order)
 compared sign None = Unknown
 
--- IS NULL
+-- whether a value IS NULL
 abbrev pub is_null : {G : Type 0} → Value G → Bool
 is_null values.Null = true
 is_null (values.Integer n) = false
 is_null (values.Text bytes) = false
 is_null (values.Geometry g) = false
 
--- ST_IsEmpty; of null it is unknown (06-103r4, 6.1.2.2: IsEmpty)
+-- the truth of ST_IsEmpty; of null it is Unknown (06-103r4, 6.1.2.2: IsEmpty)
 abbrev pub emptiness : Option Geometry → Truth
 emptiness (Some g) = truth_of (is_empty g)
 emptiness None = Unknown
 
--- a spatial predicate; with a null argument it is unknown (06-103r4, 6.1.15.3)
+-- the truth of a spatial predicate; with a null argument it is Unknown (06-103r4, 6.1.15.3)
 abbrev pub related : (Geometry → Geometry → Matrix) → Predicate → Option Geometry → Option Geometry → Truth
 related matrix predicate (Some a) (Some b) = truth_of (holds predicate (kind a) (kind b) (matrix a b))
 related matrix predicate a b = Unknown

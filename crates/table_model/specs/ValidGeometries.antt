@@ -1,4 +1,4 @@
--- Where the geometries of rows and the literals of conditions are valid.
+-- When the geometries of rows and the literals of conditions are valid.
 use Rattle.std.specs.Prelude.{List, [], ◌∷◌, ◌++◌, flat_map, All, ⊤}
 use Rattle.geometry_model.specs.Geometries.{Geometry}
 use Rattle.geometry_model.specs.Validity.{IsValid}
@@ -24,12 +24,12 @@ IsValidField (values.Geometry g) = IsValid g
 abbrev pub HasValidGeometries : List (Table Geometry) → Type 0
 HasValidGeometries tables = All (λ table. All (λ row. All IsValidField row) table) tables
 
--- the literal that an argument is, where it is one
+-- the literal of an argument, if it is one
 abbrev pub literals_of_argument : {G : Type 0} → GeometryArgument G → List G
 literals_of_argument (arguments.Column place) = []
 literals_of_argument (arguments.Literal g) = g ∷ []
 
--- those of a side of a comparison
+-- the literals of a side of a comparison
 abbrev pub literals_of_operand : {G : Type 0} → Operand (GeometryArgument G) → List G
 literals_of_operand (operands.Column place) = []
 literals_of_operand (operands.Integer n) = []
@@ -38,7 +38,7 @@ literals_of_operand operands.Null = []
 literals_of_operand (operands.AsText a) = literals_of_argument a
 literals_of_operand (operands.Dimension a) = literals_of_argument a
 
--- those of a condition whose parts have these
+-- the literals of a condition, from those of its parts
 abbrev pub literals_by_parts : {G : Type 0} → Cond-F (GeometryArgument G) (List G) → List G
 literals_by_parts (Cond-F.Or parts) = flat_map (λ part. part) parts
 literals_by_parts (Cond-F.And parts) = flat_map (λ part. part) parts

@@ -1,4 +1,4 @@
--- What is in a geometry column: the one place that says what names the type of such a column, what a geometry is, how a
+-- What is in a geometry column. This is the one place that says which type a type of such a column has, which a geometry, how a
 -- field is read as one, and which geometries a column takes.
 use Rattle.geometry_model.specs.Geometries.{Geometry}
 use Rattle.table_model.specs.FeatureTables.{Takes, TakesValid}

@@ -11,11 +11,11 @@ use Rattle.table_model.specs.declared.values.Value.{Value}
 use Rattle.table_model.specs.declared.values.Value.TheVariants as values
 use Rattle.table_parts.specs.declared.indexes.Indexes.{Indexes}
 
--- the envelope of what a field holds; that of null, as that of an empty geometry, is absent (06-103r4, 6.1.2.2: Envelope)
+-- the envelope of the geometry in a field; absent for null and for an empty geometry (06-103r4, 6.1.2.2: Envelope)
 abbrev pub field_envelope : Value Geometry → Option Envelope
 field_envelope v = option_and_then envelope (geometry_in v)
 
--- the field of a row in a column; what isn't there is null
+-- the field of a row in a column; null if there is none
 abbrev pub field_in : ℕ → Row Geometry → Value Geometry
 field_in column row = unwrap_or (slice_get row column) values.Null
 
@@ -27,12 +27,12 @@ column_envelopes column rows = map (λ row. field_envelope (field_in column row)
 abbrev pub absent : Row Geometry → Option Envelope
 absent row = None
 
--- of each column an index is kept that lists its envelopes: its own, or the one of columns without geometries
+-- each column has an index that lists its envelopes: its own, or the one that all columns without geometries share
 pub record AreIndexes {I : Type 0} (indexed : I → List (Option Envelope)) (rows : Table Geometry) (own : List (Option I)) (bare : I) : Type 0 where
   pub of_own : (column : ℕ) (index : I) → slice_get own column ≡ Some (Some index) → indexed index ≡ column_envelopes column rows
   pub of_others : (column : ℕ) → unwrap_or (slice_get own column) None ≡ None → indexed bare ≡ column_envelopes column rows
 
--- of each column of these rows the indexes list the envelopes
+-- the indexes list the envelopes of each column of these rows
 abbrev pub ListColumns : {I : Type 0} → (I → List (Option Envelope)) → Table Geometry → Indexes I → Type 0
 ListColumns indexed rows indexes = AreIndexes indexed rows indexes.own.items indexes.bare
 

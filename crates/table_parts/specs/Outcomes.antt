@@ -23,7 +23,7 @@ is_of_reading fault.TooManyRows = false
 is_of_reading fault.ReadFailed = true
 is_of_reading fault.OutOfMemory = false
 
--- a call's answer, seen by view, is the one that the definitions give, unless reading failed or memory ran out
+-- a call returns what the definitions give, its value seen through `view`, unless reading failed or memory ran out
 abbrev pub Loads : {X Y : Type 0} → (X → Y) → Result X LoadFault → Result Y LoadFault → Type 0
 Loads view (Ok x) answer = answer ≡ Ok (view x)
 Loads view (Err f) answer = ¬ (IsFailure f) → answer ≡ Err f

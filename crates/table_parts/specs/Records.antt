@@ -1,4 +1,4 @@
--- What a contract reads of the records of a table's text.
+-- What contracts see of the records of a table's text.
 use Rattle.std.specs.Prelude.{◌+◌, ℕ, Bool, false, List, Option, Result, Ok, Err}
 use Rattle.csv.specs.Reading.{default_config, error_kind, is_io, records, strip_bom}
 use Rattle.csv.specs.declared.error.Error.{Error}
@@ -18,7 +18,7 @@ record_limit = 1 + row_limit + 1
 abbrev pub asked : {R : Type 0} → Records R → ℕ
 asked r = r.asked
 
--- whether csv returned the last time that reading failed
+-- whether the last that csv returned was that reading failed
 abbrev pub read_failed : {R : Type 0} → Records R → Bool
 read_failed r = r.read_failed
 

@@ -7,23 +7,23 @@ use Rattle.geometry_model.specs.TextReading.{read_text}
 use Rattle.geometry_model.specs.TextRefusals.{IsOffGrid, IsOutOfRange, HasTooManyPositions, HasTooManyParts}
 use Rattle.geometry_model.specs.declared.text_faults.TextFault.TheVariants.{OffGrid, OutOfRange, TooLong}
 
--- what is read is spelled
+-- if a text is read as a geometry, it spells that geometry
 abbrev pub ReadIsSpelled : Type 0
 ReadIsSpelled = (text : List ℕ) (g : Geometry) → read_text text ≡ Ok g → Spells text g
 
--- what is spelled is read
+-- if a text spells a geometry, it is read as that geometry
 abbrev pub SpelledIsRead : Type 0
 SpelledIsRead = (text : List ℕ) (g : Geometry) → Spells text g → read_text text ≡ Ok g
 
--- one text spells at most one geometry
+-- a text spells at most one geometry
 abbrev pub SpellsOne : Type 0
 SpellsOne = (text : List ℕ) (g h : Geometry) → Spells text g → Spells text h → g ≡ h
 
--- the canonical text of what a text spells spells it again
+-- the canonical text of a geometry that some text spells spells that geometry
 abbrev pub CanonicalTextSpells : Type 0
 CanonicalTextSpells = (text : List ℕ) (g : Geometry) → Spells text g → Spells (canonical_text g) g
 
--- the canonical text of what is read is read as the same
+-- the canonical text of a geometry that was read is read as the same geometry
 abbrev pub CanonicalTextIsRead : Type 0
 CanonicalTextIsRead = (text : List ℕ) (g : Geometry) → read_text text ≡ Ok g → read_text (canonical_text g) ≡ Ok g
 

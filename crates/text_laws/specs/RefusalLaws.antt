@@ -1,4 +1,4 @@
--- Laws of the refusals of well-known text: what reading returns is what applies.
+-- Laws of the refusals of well-known text: reading returns exactly the fault that applies.
 use Rattle.std.specs.Prelude.{◌≡◌, ℕ, List, Err}
 use Rattle.geometry_model.specs.Geometries.{Geometry}
 use Rattle.geometry_model.specs.WellKnownText.{Writes, IsWithinCounts}

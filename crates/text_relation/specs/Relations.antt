@@ -12,7 +12,7 @@ use Rattle.failures.specs.declared.failure.Failure.TheVariants as f
 use Rattle.failures.specs.declared.failure.GeometryWord.{GeometryWord}
 use Rattle.failures.specs.declared.failure.GeometryWord.TheVariants.{First, Second}
 
--- a geometry, or the refusal of the text in its place
+-- the geometry, or its fault as the failure of the first or the second text
 abbrev pub or_refused : GeometryWord → Result Geometry GeometryFault → Result Geometry Failure
 or_refused word (Ok g) = Ok g
 or_refused word (Err fault) = Err (f.Refused word fault)
@@ -21,7 +21,7 @@ or_refused word (Err fault) = Err (f.Refused word fault)
 abbrev pub geometry_in_word : GeometryWord → List ℕ → Result Geometry Failure
 geometry_in_word word text = or_refused word (tested (read_text text))
 
--- a step after another; a failure stays
+-- the next step with the value of the first; or the failure of the first
 abbrev pub and_then : {A B : Type 0} → Result A Failure → (A → Result B Failure) → Result B Failure
 and_then (Ok a) step = step a
 and_then (Err failure) step = Err failure
@@ -37,11 +37,11 @@ relation matrix first second =
 abbrev pub RelatesTexts : List ℕ → List ℕ → Matrix → Type 0
 RelatesTexts first second m = (a b : Geometry) × Spells first a × Spells second b × IsMatrix a b m
 
--- the failure is that of the outcome, or of running out of memory
+-- the failure is that of the outcome, or running out of memory
 abbrev pub IsFailureOf : {A : Type 0} → Result A Failure → Failure → Type 0
 IsFailureOf outcome failure = (failure ≡ f.OutOfMemory) ⊎ (outcome ≡ Err failure)
 
--- the failure that a geometry's fault is, and running out of memory where there is none
+-- the failure of a geometry's fault, or running out of memory if there is no fault
 abbrev pub refused_or_memory : GeometryWord → Option GeometryFault → Failure
 refused_or_memory word (Some fault) = f.Refused word fault
 refused_or_memory word None = f.OutOfMemory

@@ -1,4 +1,4 @@
--- The sides of a comparison, as the fields that they are.
+-- The sides of a comparison, as values of fields.
 use Rattle.std.specs.Prelude.{ℕ, List, Option, Some, None}
 use Rattle.std.specs.Cmp.Lexicographic.{slice_cmp}
 use Rattle.std.specs.Ordering.{nat_cmp}
@@ -10,7 +10,7 @@ use Rattle.table_model.specs.declared.values.Value.TheVariants as values
 use Rattle.truth.specs.declared.sides.Side.{Side}
 use Rattle.truth.specs.declared.sides.Side.TheVariants as sides
 
--- the field that a side is
+-- the value of a side
 abbrev pub side_value : Side → Value Geometry
 side_value sides.Null = values.Null
 side_value (sides.Integer n) = values.Integer n

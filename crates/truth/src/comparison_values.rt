@@ -1,4 +1,4 @@
-//! Comparisons at rows.
+//! The truth of comparisons, IS NULL and ST_IsEmpty at rows.
 
 ghost use Rattle.std.specs.Prelude.{◌≡◌, ◌||◌, IfOk, IsOk, false};
 ghost use Rattle.table_model.specs.Arguments.{denoted};
@@ -15,7 +15,7 @@ use std::cmp::Ordering;
 use table_model::conditions::{Comparison, Operand};
 use table_model::values::Truth;
 
-/// Whether a sign of comparison takes an order.
+/// Whether a comparison is true of two sides in this order.
 fn takes(sign: Comparison, order: Ordering) -> bool
     ensures { result ≡ spec.takes sign order }
 {
@@ -29,14 +29,14 @@ fn takes(sign: Comparison, order: Ordering) -> bool
     }
 }
 
-/// A comparison by the order of its sides: without one it is unknown.
+/// The truth of a comparison by the order of its sides; without an order it is unknown.
 fn compared(sign: Comparison, order: Option<Ordering>) -> Truth
     ensures { result ≡ spec.compared sign order }
 {
     order.map_or(Truth::Unknown, |order| truth_of(takes(sign, order)))
 }
 
-/// A comparison of two sides at the rows. It takes memory for ST_AsText alone. (SQL, comparison.)
+/// The truth of a comparison of two sides at the rows. Only ST_AsText takes memory. (SQL, comparison.)
 pub(crate) fn comparison(
     alloc: Global,
     sign: Comparison,
@@ -54,7 +54,7 @@ pub(crate) fn comparison(
     Ok(compared(sign, order_of(&left, &right)))
 }
 
-/// IS NULL of a side at the rows. It takes memory for ST_AsText alone. (SQL, the null predicate.)
+/// The truth of IS NULL of a side at the rows. Only ST_AsText takes memory. (SQL, the null predicate.)
 pub(crate) fn null_test(
     alloc: Global,
     operand: &Operand<Argument>,
@@ -68,7 +68,7 @@ pub(crate) fn null_test(
     Ok(truth_of(side.is_null()))
 }
 
-/// ST_IsEmpty of what an argument denotes at the rows: of NULL it is unknown. (06-103r4, 6.1.2.2.)
+/// The truth of ST_IsEmpty of an argument's geometry at the rows; of NULL it is unknown. (06-103r4, 6.1.2.2.)
 pub(crate) fn emptiness(argument: &Argument, rows: &[Row<'_>]) -> Truth
     ensures { result ≡ spec.emptiness (denoted rows.now argument.now) }
 {

@@ -1,4 +1,4 @@
-//! The value of a condition at rows.
+//! The truth of a condition at rows.
 
 ghost use Rattle.std.specs.Prelude.{◌≡◌, ◌≤◌, ◌+◌, IfOk, IsOk, OnOk, false, fold, map, sum};
 ghost use Rattle.std.specs.List.{list_any};
@@ -18,12 +18,12 @@ use query_binder::Cond;
 use std::alloc::{AllocError, Global};
 use table_model::values::Truth;
 
-/// The truth of a condition at rows, one for each reference in the query's order: TEXT is compared by bytes, a
+/// The truth of a condition at rows, one row for each reference in the query's order. TEXT is compared by bytes. A
 /// comparison or a spatial predicate with NULL is unknown, and so is NOT of what is unknown. Each predicate is
-/// evaluated, from left to right, without short cut; one of two geometries computes their matrix once, which the work
-/// counts. A place that the rows don't have is NULL. It fails only when memory runs out, and takes none where no matrix
-/// is computed and the condition has no ST_AsText; after a refusal the work is not less than before. (SQL's
-/// three-valued logic; 06-103r4, 6.1.15.3; order of texts: this project's choice.)
+/// evaluated, from left to right, without short cut. A predicate of two geometries computes their matrix once, and the
+/// work counts it. A place that the rows don't have is NULL. It fails only when memory runs out; the work is then not
+/// less than before. It takes no memory if no matrix is computed and the condition has no ST_AsText. (SQL's three-valued
+/// logic; 06-103r4, 6.1.15.3; order of texts: this project's choice.)
 pub fn value(
     alloc: Global,
     cond: &Cond,
@@ -36,14 +36,14 @@ pub fn value(
     ensures kept { work.old ≤ work.new }
     ensures no_memory { computed denoted rows.now cond.now ≡ 0 → has_as_text cond.now ≡ false → IsOk result }
 {
-    // What a count shows has 64 bits, and so the clauses speak of the work itself.
+    // `count` returns 64 bits. So the work itself fits in them, which the clauses of `evaluated` don't say.
     let before = work.count();
     let truth = evaluated(alloc, cond, rows, work);
     prove!(before <= work.count());
     truth
 }
 
-/// The truth of a condition at rows. Its clauses take the work as it is kept in 64 bits; `value` sees that it is.
+/// The truth of a condition at rows. Its clauses speak of the work cut to 64 bits; `value` shows that it always fits.
 #[cycle(value)]
 fn evaluated(
     alloc: Global,
@@ -73,7 +73,7 @@ fn evaluated(
     }
 }
 
-/// The truth of joined parts at rows. Each of them is evaluated, from left to right.
+/// The truth at rows of parts joined by AND or OR. Each of them is evaluated, from left to right.
 #[cycle(value)]
 fn joined_parts(
     alloc: Global,

@@ -1,4 +1,4 @@
-//! Spatial predicates.
+//! The truth of spatial predicates.
 
 ghost use Rattle.std.specs.Prelude.{◌≡◌, ◌≤◌, ◌+◌, IfOk, IsOk, OnErr, OnOk};
 ghost use Rattle.std.specs.Option.{option_copied};
@@ -34,8 +34,8 @@ fn related(
     Ok(truth_of(holds(predicate, first_kind, second_kind, &matrix)))
 }
 
-/// A predicate of what two arguments denote: with a NULL it is unknown, and no matrix is computed. It takes memory for
-/// the matrix alone. After a refusal the work is not less than before. (06-103r4, 6.1.15.3.)
+/// The truth of a predicate of two arguments' geometries. With a NULL it is unknown, and no matrix is computed. Only the
+/// matrix takes memory. After a refusal the work is not less than before. (06-103r4, 6.1.15.3.)
 pub(crate) fn relation(
     alloc: Global,
     predicate: Predicate,

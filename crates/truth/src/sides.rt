@@ -20,7 +20,7 @@ use table_model::conditions::Operand;
 use validity::Valid;
 use wkt::{MemorySink, print};
 
-/// What a side of a comparison is at the rows.
+/// The value of a side of a comparison at the rows.
 #[derive(Drop)]
 pub(crate) enum Side<'a> {
     Null,
@@ -31,7 +31,7 @@ pub(crate) enum Side<'a> {
     Geometry(&'a Valid),
 }
 
-/// What a field is as a side.
+/// The value of a field as a side.
 fn field_side(field: Field<'_>) -> Side<'_>
     ensures { side_value result ≡ shown field.entry }
 {
@@ -50,12 +50,12 @@ fn printed(alloc: Global, geometry: &Valid) -> Result<MemorySink, AllocError>
     let mut sink = MemorySink::new(alloc);
     match print(geometry.geometry(), &mut sink) {
         Ok(()) => Ok(sink),
-        // A sink over memory fails only where a growth is refused.
+        // A sink over memory fails only when memory runs out.
         Err(_) => Err(AllocError),
     }
 }
 
-/// ST_AsText of what an argument denotes: NULL of NULL. (06-103r4, 6.1.2.2.)
+/// ST_AsText of an argument's geometry; NULL of NULL. (06-103r4, 6.1.2.2.)
 fn text_side<'a>(alloc: Global, geometry: Option<&Valid>) -> Result<Side<'a>, AllocError>
     ensures { IfOk result (λ side. side_value side ≡ spec.text_value (option_copied geometry.entry)) }
 {
@@ -65,7 +65,7 @@ fn text_side<'a>(alloc: Global, geometry: Option<&Valid>) -> Result<Side<'a>, Al
     }
 }
 
-/// The number that is the dimension of geometries of a kind. (06-103r4, 6.1.2.2.)
+/// The dimension of geometries of a kind: 0 of points, 1 of lines, 2 of areas. (06-103r4, 6.1.2.2.)
 fn dimension(kind: Kind) -> i64
     ensures { result ≡ spec.dimension kind }
 {
@@ -76,7 +76,7 @@ fn dimension(kind: Kind) -> i64
     }
 }
 
-/// ST_Dimension of what an argument denotes: NULL of NULL. (06-103r4, 6.1.2.2.)
+/// ST_Dimension of an argument's geometry; NULL of NULL. (06-103r4, 6.1.2.2.)
 fn dimension_side<'a>(geometry: Option<&Valid>) -> Side<'a>
     ensures { side_value result ≡ spec.dimension_value (option_copied geometry.entry) }
 {
@@ -86,7 +86,7 @@ fn dimension_side<'a>(geometry: Option<&Valid>) -> Side<'a>
     }
 }
 
-/// What a side of a comparison is at the rows. It takes memory for ST_AsText alone.
+/// The value of a side of a comparison at the rows. Only ST_AsText takes memory.
 pub(crate) fn operand_side<'a>(
     alloc: Global,
     rows: &[Row<'a>],
@@ -107,7 +107,7 @@ pub(crate) fn operand_side<'a>(
 }
 
 impl Side<'_> {
-    /// The bytes of a text.
+    /// The bytes of a text; none of another value.
     fn text(&self) -> Option<&[u8]>
         ensures { option_copied result ≡ text_in (side_value self.now) }
     {
@@ -118,7 +118,7 @@ impl Side<'_> {
         }
     }
 
-    /// Whether it is NULL.
+    /// Whether the side is NULL.
     pub(crate) fn is_null(&self) -> bool
         ensures { result ≡ spec.is_null (side_value self.now) }
     {
@@ -129,7 +129,7 @@ impl Side<'_> {
     }
 }
 
-/// The order of two texts, by bytes: of what is no text there is none.
+/// The order of two texts, by bytes; none if one is missing.
 fn order_of_texts(a: Option<&[u8]>, b: Option<&[u8]>) -> Option<Ordering>
     ensures { result ≡ order_of_texts (option_copied a.entry) (option_copied b.entry) }
 {
@@ -139,7 +139,7 @@ fn order_of_texts(a: Option<&[u8]>, b: Option<&[u8]>) -> Option<Ordering>
     }
 }
 
-/// The order of two sides: of NULL, or of two types, there is none.
+/// The order of two sides: numbers by value, texts by bytes; NULL, a geometry or two types have none.
 pub(crate) fn order_of(a: &Side<'_>, b: &Side<'_>) -> Option<Ordering>
     ensures { result ≡ spec.order_of (side_value a.now) (side_value b.now) }
 {

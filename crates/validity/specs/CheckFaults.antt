@@ -1,4 +1,4 @@
--- The fault of a geometry that a refusal names.
+-- What the fault says with which `check` refuses a geometry.
 use Rattle.std.specs.Prelude.{◌≡◌, Option, Some, None, MatchOption}
 use Rattle.geometry_model.specs.Geometries.{Geometry}
 use Rattle.geometry_model.specs.Validity.{HasFault}

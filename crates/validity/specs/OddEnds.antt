@@ -1,4 +1,4 @@
--- The positions at which an odd number of ends of lines are.
+-- Odd ends: the positions at which an odd number of line ends meet.
 use Rattle.std.specs.Prelude.{◌≡◌, ℕ, ◌+◌, ◌-◌, ◌<◌, ◌≤◌, Bool, false, ◌&&◌, nat_lt, cond, List, [], ◌∷◌, ◌++◌, length, take, get_or, count_by}
 use Rattle.std.specs.List.{All, list_any}
 use Rattle.std.specs.List.Sorted.{IsStrictlySortedBy}
@@ -25,18 +25,18 @@ pub record AreOddEnds (positions : List Position) (ls : List (List Position)) : 
   pub ascend : IsStrictlySortedBy position_order positions
   pub exact : (p : Point) → IsPoint p → list_any (stands_at p) positions ≡ is_odd_end ls p
 
--- the last one is this position
+-- the last position of the list is this one
 abbrev pub ends_in : List Position → Position → Bool
 ends_in positions a = nat_lt 0 (length positions) && same_position (get_or positions (length positions - 1) a) a
 
--- the same position at the end is taken away, or else it is added
+-- the list without its last position if that is this one, else with this one added
 abbrev pub toggled : List Position → Position → List Position
 toggled positions a = cond (ends_in positions a) (take (length positions - 1) positions) (positions ++ a ∷ [])
 
--- an odd number of either list are at the same points
+-- at each point, the numbers of positions of both lists are both odd or both even
 abbrev pub HasParityOf : List Position → List Position → Type 0
 HasParityOf positions given = (p : Point) → odd (count_by (stands_at p) positions) ≡ odd (count_by (stands_at p) given)
 
--- none of those from a place on is less than this position
+-- no position from this place on is less than this one
 abbrev pub IsBeforeRest : List Position → ℕ → Position → Type 0
 IsBeforeRest given from a = (j : ℕ) (d : Position) → from ≤ j → j < length given → is_lt (position_order (get_or given j d) a) ≡ false

@@ -19,16 +19,16 @@ use Rattle.matrix_laws.specs.PolygonLaws.{ArePartedAs, IsOutside, PassesBy}
 abbrev pub IsOffRings : List (List Position) → Point → Type 0
 IsOffRings rings p = All (λ e. on e p ≡ false) (edges_of_lines rings)
 
--- the point is odd over the outer ring and odd over no hole (06-103r4, 6.1.11.1)
+-- an odd number of the outer ring's edges are above the point, and of no hole's (06-103r4, 6.1.11.1)
 abbrev pub IsWithinButInNoHole : List Position → List (List Position) → Point → Type 0
 IsWithinButInNoHole outer holes p = (odd_above (outer ∷ []) p ≡ true) × All (λ hole. odd_above (hole ∷ []) p ≡ false) holes
 
--- a point off an element's rings is in its interior exactly when it is odd over the outer ring and odd over no hole; a POLYGON is its own element (06-103r4, 6.1.11.1)
+-- a point off an element's rings is in its interior exactly if it is within the outer ring and in no hole; a POLYGON is its own element (06-103r4, 6.1.11.1)
 abbrev pub HolesAreCutOut : Geometry → Type 0
 HolesAreCutOut g = (outer : List Position) (holes : List (List Position)) → Contains (elements g) (outer ∷ holes) → (p : Point) → IsPoint p → IsOffRings (outer ∷ holes) p
     → (locate (Polygon (outer ∷ holes)) p ≡ Interior) ↔ IsWithinButInNoHole outer holes p
 
--- every point of a hole's ring is odd over its element's outer ring (06-103r4, 6.1.11.1)
+-- every point of a hole's ring is inside its element's outer ring (06-103r4, 6.1.11.1)
 abbrev pub HolesAreInside : Geometry → Type 0
 HolesAreInside g = (outer hole : List Position) (holes : List (List Position)) → Contains (elements g) (outer ∷ holes) → Contains holes hole
     → (e : Edge) → Contains (edges_of_line hole) e → (p : Point) → IsPoint p → on e p ≡ true → odd_above (outer ∷ []) p ≡ true
@@ -47,7 +47,7 @@ ElementsAreApart g = (i j : ℕ) (one other : List (List Position)) → i ≢ j 
 abbrev pub LiesIn : Geometry → Location → Point → Point → Type 0
 LiesIn g l p q = (m n : ℕ) → 0 < m + n → locate g (weighted m p n q) ≡ l
 
--- a straight stretch that misses all edges (and, in point types, the listed positions) lies whole in the interior or whole in the exterior (06-103r4, 6.1.11.1)
+-- a straight stretch that misses all edges (and, in point types, the listed positions) lies entirely in the interior or entirely in the exterior (06-103r4, 6.1.11.1)
 abbrev pub StretchesStay : Geometry → Type 0
 StretchesStay g = (p q : Point) → IsPoint p → IsPoint q → All (Misses p q) (edges g) → All (PassesBy p q) (listed g)
     → LiesIn g Interior p q ⊎ LiesIn g Exterior p q
@@ -56,7 +56,7 @@ StretchesStay g = (p q : Point) → IsPoint p → IsPoint q → All (Misses p q)
 abbrev pub OutsideIsExterior : Geometry → Type 0
 OutsideIsExterior g = (p : Point) → IsPoint p → IsOutside (envelope g) p → locate g p ≡ Exterior
 
--- the point is strictly within an edge of a ring, and the edge isn't upright (06-103r4, 6.1.11.1)
+-- the point is strictly within an edge of a ring, and the edge isn't vertical (06-103r4, 6.1.11.1)
 pub record IsWithinSlantOfRing (g : Geometry) (p : Point) : Type 0 where
   pub is_point : IsPoint p
   pub ring : List Position

@@ -1,4 +1,4 @@
--- What is kept of a valid geometry, and what is true of each of its edges.
+-- What is kept of a valid geometry.
 use Rattle.std.specs.Prelude.{List}
 use Rattle.geometry_model.specs.Geometries.{Geometry, edges}
 use Rattle.geometry_model.specs.Points.{Position}

@@ -1,4 +1,4 @@
-//! Why a geometry isn't taken as valid.
+//! Why a geometry isn't valid.
 
 ghost use Rattle.std.specs.Prelude.{◌≡◌, Some};
 ghost use Rattle.validity.specs.CheckFaults.{fault_in};
@@ -7,18 +7,18 @@ use geometry_model::ValidityFault;
 use std::alloc::AllocError;
 use thiserror::Error;
 
-/// Why a geometry isn't taken as valid: its first fault (06-103r4, 6.1.7, 6.1.11.1 and 6.1.14; the order is this
-/// project's), or running out of memory. Elements are numbered from 0, and so are rings, through all elements; the first ring
-/// of an element is its outer one.
+/// Why `check` doesn't return a geometry as valid: its first fault (06-103r4, 6.1.7, 6.1.11.1 and 6.1.14; the order is this
+/// project's), or running out of memory. Lines and elements are numbered from 0. So are rings, through all elements; the first
+/// ring of an element is its outer one.
 #[derive(Clone, Copy, Debug, PartialEq, Eq, Error)]
 pub enum CheckFault {
-    /// V1: the line with this number has a single position, or the ring fewer than 4 with the closing one.
+    /// V1: the line with this number has a single position, or the ring has fewer than 4, its closing one counted.
     #[error("part {0} has too few points")]
     TooFewPoints(usize),
     /// V2: the ring's first position isn't its last.
     #[error("ring {0} isn't closed")]
     RingNotClosed(usize),
-    /// V3: the ring meets or covers itself.
+    /// V3: the ring touches, crosses or covers itself.
     #[error("ring {0} isn't simple")]
     RingNotSimple(usize),
     /// V4: the two rings of one element share a point; the lesser number comes first.
@@ -27,7 +27,7 @@ pub enum CheckFault {
     /// V5: the hole isn't inside the outer ring of its element.
     #[error("hole {0} is outside")]
     HoleOutside(usize),
-    /// V6: of the two holes of one element one is inside the other; the lesser number comes first.
+    /// V6: one of the two holes of an element is inside the other; the lesser number comes first.
     #[error("holes {0} and {1} are nested")]
     HolesNested(usize, usize),
     /// V7: rings of the two elements share a point; the lesser number comes first.
@@ -42,7 +42,7 @@ pub enum CheckFault {
 }
 
 impl CheckFault {
-    /// The refusal that names a fault.
+    /// The refusal for a fault of the geometry.
     pub(crate) fn of(fault: ValidityFault) -> CheckFault
         ensures { fault_in result ≡ Some fault }
     {

@@ -1,4 +1,4 @@
-//! Valid geometries (06-103r4, 6.1): a geometry is tested once, and its type says so from then on.
+//! Valid geometries (06-103r4, 6.1). `check` tests a geometry once; from then on its type `Valid` says that it has no fault.
 #![tactic(auto)]
 
 pub mod check_fault;

@@ -14,7 +14,7 @@ use std::alloc::{AllocError, Global};
 use std::cmp::Ordering;
 use wkt::{Geometry, LineString};
 
-/// Those of a geometry: of an area and of points none. It may run out of memory.
+/// The odd ends of a geometry, ascending, each once; areas and points have none. It fails only when memory runs out.
 pub(crate) fn odd_ends(alloc: Global, geometry: &Geometry) -> Result<Vec<GridPoint>, AllocError>
     ensures { IfOk result (λ found. AreOddEnds found.items (spec_ended_lines geometry.now)) }
 {
@@ -23,7 +23,7 @@ pub(crate) fn odd_ends(alloc: Global, geometry: &Geometry) -> Result<Vec<GridPoi
     odd_ones(alloc, ends.as_slice())
 }
 
-/// The lines whose ends may be a boundary.
+/// The lines whose ends may be boundary: those of a LINESTRING or MULTILINESTRING.
 fn ended_lines(geometry: &Geometry) -> &[LineString]
     ensures { result.now ≡ spec_ended_lines geometry.now }
 {
@@ -55,14 +55,14 @@ fn push_ends(ends: &mut Vec<GridPoint>, line: &[GridPoint]) -> Result<(), AllocE
     Ok(())
 }
 
-/// Whether the last one is this position.
+/// Whether the last of the positions is this one.
 fn is_last(positions: &[GridPoint], position: GridPoint) -> bool
     ensures { result ≡ ends_in positions.now position }
 {
     !positions.is_empty() && positions[positions.len() - 1] == position
 }
 
-/// Takes the position at the end away where it is this one, and else adds this one.
+/// Removes the last position if it is this one, else adds this one.
 fn toggle(found: &mut Vec<GridPoint>, position: GridPoint) -> Result<(), AllocError>
     ensures { OnOk result (found.new.items ≡ toggled found.old.items position) }
 {
@@ -74,8 +74,8 @@ fn toggle(found: &mut Vec<GridPoint>, position: GridPoint) -> Result<(), AllocEr
     Ok(())
 }
 
-/// Of ascending positions those that are listed an odd number of times, each once: each takes the same one before it away,
-/// or else is added.
+/// The positions that are listed an odd number of times, each once, where the given ones ascend: each removes an equal one
+/// that was added before it, or else is added.
 fn odd_ones(alloc: Global, given: &[GridPoint]) -> Result<Vec<GridPoint>, AllocError>
     requires { IsSorted position_order given.now }
     ensures ascend { IfOk result (λ found. IsStrictlySortedBy position_order found.items) }
@@ -88,7 +88,7 @@ fn odd_ones(alloc: Global, given: &[GridPoint]) -> Result<Vec<GridPoint>, AllocE
     Ok(found)
 }
 
-/// Whether the point is at one of ascending positions: each look halves those that are left.
+/// Whether the point is at one of these ascending positions, by a binary search.
 pub(crate) fn stands_at_one(positions: &[GridPoint], p: &RatPoint) -> bool
     requires { IsStrictlySortedBy position_order positions.now }
     ensures stands { result ≡ list_any (spec.stands_at p.now) positions.now }

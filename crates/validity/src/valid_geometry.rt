@@ -1,4 +1,4 @@
-//! Valid geometries, and the test that makes them.
+//! The type of valid geometries, and the test that makes them.
 
 ghost use Rattle.std.specs.Prelude.{◌≡◌, IfOk, OnOk, IfErr, None};
 ghost use Rattle.geometry_model.specs.Geometries as spec;
@@ -30,21 +30,21 @@ pub struct Valid {
     content: Content,
 }
 
-/// What is kept of a geometry: of points, which have no edges, nothing else but a list without boxes, and of others all
-/// behind one pointer, so that a list of points is small.
+/// What is kept of a geometry. Points have no edges, so only an empty list of boxes is kept beside them. For the other types
+/// all is behind one pointer, so that a list of points is small.
 #[derive(Drop)]
 pub(crate) enum Content {
     Points(Geometry, EdgeBoxes),
     Edged(Box<Edged>),
 }
 
-/// A geometry of lines or areas, with what its edges are asked by.
+/// A geometry of lines or areas, with the boxes by which its edges are searched and with its odd ends.
 #[derive(Drop)]
 pub(crate) struct Edged {
     outline: Outline,
     /// The boxes over its edges.
     boxes: EdgeBoxes,
-    /// The positions at which an odd number of ends of its lines are.
+    /// The positions at which an odd number of ends of its lines meet.
     odd_ends: Vec<GridPoint>,
 }
 
@@ -124,10 +124,10 @@ impl Valid {
     }
 }
 
-/// Takes a geometry as valid where it has no fault, and otherwise returns its first fault: the faults are tested in
-/// their order, V1 to V8, and within one the least numbers first (06-103r4, 6.1.7, 6.1.11.1 and 6.1.14; the order is
-/// this project's). Points need no test. It may run out of memory too. Of a geometry that is taken the interior
-/// is what its elements' outer rings hold less the holes, and the rings part it from the exterior (06-103r4, 6.1.11.1).
+/// Returns the geometry as valid if it has no fault, else its first fault. The faults are tested in their order, V1 to V8,
+/// and each for the least numbers first (06-103r4, 6.1.7, 6.1.11.1 and 6.1.14; the order is this project's). Points have no
+/// fault. `OutOfMemory` may come in place of any result. The interior of a valid area is what is inside an element's outer
+/// ring and in none of its holes, and the rings separate it from the exterior (06-103r4, 6.1.11.1).
 #[tactic(auto, using(crate::proofs::Faults::no_fault_valid))]
 pub fn check(alloc: Global, geometry: Geometry) -> Result<Valid, CheckFault>
     ensures same { IfOk result (λ valid. valid ≡ geometry) }
@@ -151,7 +151,7 @@ pub fn check(alloc: Global, geometry: Geometry) -> Result<Valid, CheckFault>
     }
 }
 
-/// Takes points as valid: they have no edges, and no fault (06-103r4, 6.1.4 and 6.1.5).
+/// Points as a valid geometry: they have no edges, and no fault (06-103r4, 6.1.4 and 6.1.5).
 fn of_points(alloc: Global, geometry: Geometry) -> Result<Valid, AllocError>
     requires { spec.kind geometry ≡ kinds.Point }
     ensures same { IfOk result (λ valid. valid ≡ geometry) }
@@ -163,7 +163,7 @@ fn of_points(alloc: Global, geometry: Geometry) -> Result<Valid, AllocError>
     })
 }
 
-/// Takes a geometry as valid where it has no fault, and otherwise returns its first one.
+/// A geometry of lines or areas as a valid one, or its first fault.
 fn of_edges(alloc: Global, geometry: Geometry) -> Result<Valid, CheckFault>
     ensures same { IfOk result (λ valid. valid ≡ geometry) }
     ensures faultless { OnOk result (validity_fault geometry ≡ None) }
@@ -178,7 +178,7 @@ fn of_edges(alloc: Global, geometry: Geometry) -> Result<Valid, CheckFault>
     }
 }
 
-/// Writes what is kept of a geometry of edges behind one pointer.
+/// A geometry of edges without fault as a valid one, all that is kept of it being behind one pointer.
 fn kept(alloc: Global, outline: Outline) -> Result<Valid, AllocError>
     requires { validity_fault outline ≡ None }
     ensures { IfOk result (λ valid. valid ≡ outline) }
@@ -196,7 +196,7 @@ fn boxes_over(alloc: Global, outline: &Outline) -> Result<EdgeBoxes, AllocError>
     EdgeBoxes::build(alloc, outline.segments())
 }
 
-/// A geometry of edges with what these are asked by.
+/// A geometry of edges with the boxes over them and its odd ends.
 fn with_boxes(alloc: Global, outline: Outline) -> Result<Edged, AllocError>
     requires { validity_fault outline ≡ None }
     ensures same { IfOk result (λ edged. edged.outline ≡ outline) }

@@ -10,7 +10,7 @@ use Rattle.geometry_model.specs.declared.validity_faults.ValidityFault.TheVarian
 abbrev pub AreClosed : Geometry → Type 0
 AreClosed g = (i : ℕ) → HasFault g (RingNotClosed i) → ⊥
 
--- where each ring is closed, the tests of faults say exactly what the faults say of rational points
+-- where each ring is closed, each test in whole numbers agrees with its fault, a fact about rational points
 abbrev pub FaultIsDecided : Type 0
 FaultIsDecided = (g : Geometry) (fault : ValidityFault) → AreClosed g → (has_fault g fault ≡ true) ↔ HasFault g fault
 
@@ -18,7 +18,7 @@ FaultIsDecided = (g : Geometry) (fault : ValidityFault) → AreClosed g → (has
 abbrev pub FirstFaultStands : Type 0
 FirstFaultStands = (g : Geometry) (fault : ValidityFault) → validity_fault g ≡ Some fault → HasFault g fault
 
--- none is found exactly where the geometry is valid
+-- no fault is found exactly if the geometry is valid
 abbrev pub NoneIsFoundWhereValid : Type 0
 NoneIsFoundWhereValid = (g : Geometry) → (validity_fault g ≡ None) ↔ IsValid g
 

@@ -5,7 +5,7 @@ use Rattle.geometry_model.specs.Geometries.{Edge}
 use Rattle.geometry_model.specs.Validity.{SharePoint, ShareOther}
 use Rattle.geometry_model.specs.FirstFaults.{share_point, share_other}
 
--- the test of two edges says whether some rational point is on both
+-- `share_point` says whether some rational point is on both edges
 abbrev pub SharedPointIsDecided : Type 0
 SharedPointIsDecided = (e f : Edge) → (share_point e f ≡ true) ↔ SharePoint e f
 
@@ -13,6 +13,6 @@ SharedPointIsDecided = (e f : Edge) → (share_point e f ≡ true) ↔ SharePoin
 abbrev pub IsEnd : Position → Edge → Type 0
 IsEnd p e = (e.start ≡ p) ⊎ (e.end ≡ p)
 
--- of two edges with a common end the other test says whether some other rational point is on both
+-- `share_other` says of two edges with a common end whether some other rational point is on both
 abbrev pub OtherPointIsDecided : Type 0
 OtherPointIsDecided = (shared_end : Position) (e f : Edge) → IsEnd shared_end e → IsEnd shared_end f → (share_other shared_end e f ≡ true) ↔ ShareOther shared_end e f

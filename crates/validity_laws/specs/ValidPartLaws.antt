@@ -28,7 +28,7 @@ abbrev pub MultiPolygonIsValid : Type 0
 MultiPolygonIsValid = (polygons : List (List (List Position))) → IsValid (Geometry.MultiPolygon polygons)
     ↔ (((rings : List (List Position)) → Contains polygons rings → IsValid (Geometry.Polygon rings)) × LieApart polygons)
 
--- a line is valid exactly where it has not a single position (06-103r4, 6.1.7)
+-- a LineString is valid exactly if its number of positions isn't 1 (06-103r4, 6.1.7)
 abbrev pub LineStringIsValid : Type 0
 LineStringIsValid = (line : List Position) → IsValid (Geometry.LineString line) ↔ (length line ≢ 1)
 

@@ -1,4 +1,4 @@
--- What a printed text is of a geometry.
+-- What printing writes: a text that spells the geometry.
 use Rattle.std.specs.Prelude.{◌≡◌, ℕ, zero, suc, List, [], Option, Some, codes}
 use Rattle.geometry_model.specs.Geometries.{Geometry}
 use Rattle.geometry_model.specs.WellKnownText.{Spells}

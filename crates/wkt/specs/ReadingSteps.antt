@@ -1,4 +1,5 @@
--- What a function returns that reads well-known text with a cursor.
+-- What the functions return that read well-known text with a cursor. The readers here follow the steps of the code; they return
+-- what the readers of `TextReading` do.
 use Rattle.std.specs.Prelude.{◌≡◌, ℕ, ◌-◌, ◌==◌, Bool, true, false, if◌then◌else◌, length, codes, List, [], ◌∷◌, map, Option, Some, None, Result, Ok, Err}
 use Rattle.std.specs.Char.{is_ascii_alphabetic, is_ascii_digit}
 use Rattle.std.specs.List.{flat_map}
@@ -23,17 +24,17 @@ of_class classes.White = is_white
 of_class classes.Digit = is_ascii_digit
 of_class classes.Letter = is_ascii_alphabetic
 
--- what was read, seen by view, and the input behind it are a reader's; so is the fault
+-- the function returns what the reader does: its value, seen through `view`, and the input that is left, or the fault
 abbrev pub ReadsAs : {X A : Type 0} → (X → A) → Result (A × Input) TextFault → Result X TextFault → Input → Type 0
 ReadsAs view outcome (Ok x) after = outcome ≡ Ok (view x, after)
 ReadsAs view outcome (Err fault) after = outcome ≡ Err fault
 
--- the same where memory may run out, which may come in place of any result
+-- the same for a function that may run out of memory instead
 abbrev pub ReadsInMemory : {X A : Type 0} → (X → A) → Result (A × Input) TextFault → Result X WktFault → Input → Type 0
 ReadsInMemory view outcome (Ok x) after = outcome ≡ Ok (view x, after)
 ReadsInMemory view outcome (Err e) after = (fault : TextFault) → text_fault e ≡ Some fault → outcome ≡ Err fault
 
--- whether the word EMPTY comes here, and no other word may (06-103r4, 7.2.2: empty set)
+-- whether the word EMPTY comes here; another word is W1 (06-103r4, 7.2.2: empty set)
 unfoldable pub empty_word : Reader Bool
 empty_word = do
   run is_white
@@ -45,7 +46,7 @@ empty_word = do
 abbrev pub body : {A : Type 0} → Reader (List A) → Reader (List A)
 body inner = empty_word >>= λ empty. if empty then pure [] else enclosed inner
 
--- a position, and whether it is the one before it, where one is before it
+-- whether a position equals the one before it, if there is one
 abbrev pub repeats : Option Position → Position → Bool
 repeats None p = false
 repeats (Some last) p = same_position p last
@@ -55,7 +56,7 @@ abbrev pub last_of : List Position → Option Position
 last_of [] = None
 last_of (p ∷ more) = Some (last_after p more)
 
--- the positions of a line or ring without repeats, where so many may still come; and how many may come behind it
+-- the positions of a line or ring without repeats, where this many may still come; and how many may come after it
 abbrev pub line_positions : ℕ → Reader (List Position × ℕ)
 line_positions room = separated position room >>= λ ps. pure (without_repeats ps, room - length ps)
 
@@ -63,7 +64,7 @@ line_positions room = separated position room >>= λ ps. pure (without_repeats p
 abbrev pub left_of : List (List Position) → Room → Room
 left_of rings room = record { parts = room.parts - length rings; positions = room.positions - length (flat_map (λ ring. ring) rings) }
 
--- a ring or element, and the room that it leaves; one too many is refused behind its parenthesis
+-- a ring or element, and the room that it leaves; one too many is refused after its parenthesis
 unfoldable pub ring : Room → Reader (List Position × Room)
 ring room = do
   expect 40
@@ -83,11 +84,11 @@ polygons room = spec.polygons room.parts room.parts room.positions >>= λ es. pu
 abbrev pub whole_room : Room
 whole_room = record { parts = part_limit; positions = position_limit }
 
--- what was found, without the room that is left
+-- the reader without the room that is left
 abbrev pub without_room : {A B : Type 0} → Reader (A × B) → Reader A
 without_room step = step >>= λ found. pure found.0
 
--- what comes after the name of each type, with the geometry that is meant (06-103r4, 7.2.2: the tagged texts)
+-- what comes after the name of each type, lines and rings without repeats (06-103r4, 7.2.2: the tagged texts)
 abbrev pub point_text : Reader Geometry
 point_text = body (padded (position position_limit) >>= λ p. pure (p ∷ [])) >>= λ ps. pure (Point (first ps))
 
@@ -106,7 +107,7 @@ polygon_text = body (without_room (rings whole_room)) >>= λ ls. pure (Polygon l
 abbrev pub multi_polygon_text : Reader Geometry
 multi_polygon_text = body (without_room (polygons whole_room)) >>= λ es. pure (MultiPolygon es)
 
--- the geometry of what is written
+-- the reader with the geometry of what is written: lines and rings without repeats
 abbrev pub meant : Reader Geometry → Reader Geometry
 meant step = step >>= λ written. pure (geometry_of written)
 

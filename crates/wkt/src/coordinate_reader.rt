@@ -17,7 +17,7 @@ use std::marker::Model;
 /// The greatest size of a coordinate.
 const GREATEST_MAGNITUDE: u32 = COORDINATE_LIMIT as u32;
 
-/// A number as it is written: where it begins, whether its sign is a minus, and its digits before and behind the
+/// A number as it is written: where it begins, whether its sign is a minus, and its digits before and after the
 /// point.
 #[derive(Drop)]
 pub struct Number<'a> {
@@ -63,7 +63,7 @@ fn fraction<'a>(cursor: &mut Cursor<'a>) -> &'a [u8]
     }
 }
 
-/// Reads the longest number that begins here.
+/// Reads the longest number that begins here; `Syntax` at this place if none does.
 #[tactic(auto, unfolding(geometry_model::specs::TextReading::numeral))]
 pub fn numeral<'a>(cursor: &mut Cursor<'a>) -> Result<Number<'a>, TextFault>
     ensures { ReadsAs (λ n. n) (spec.numeral cursor.old) result cursor.new }
@@ -83,7 +83,7 @@ pub fn numeral<'a>(cursor: &mut Cursor<'a>) -> Result<Number<'a>, TextFault>
     })
 }
 
-/// Whether digits behind a point are zeros.
+/// Whether all digits after a point are zeros.
 fn are_zeros(digits: &[u8]) -> bool
     ensures { result ≡ is_whole digits.now }
 {
@@ -95,7 +95,8 @@ fn are_zeros(digits: &[u8]) -> bool
     true
 }
 
-/// The number of decimal digits, where it isn't past the limit of coordinates. Leading zeros don't count.
+/// The number that decimal digits write; none if it is past the limit of coordinates. There may be any number of leading
+/// zeros.
 fn magnitude(digits: &[u8]) -> Option<u32>
     requires { list_all is_ascii_digit digits.now ≡ true }
     ensures { MatchOption result (coordinate_limit < digits_value 10 digits.now)
@@ -112,7 +113,8 @@ fn magnitude(digits: &[u8]) -> Option<u32>
 }
 
 impl<'a> Number<'a> {
-    /// The coordinate that the number stands for.
+    /// The coordinate that the number writes: `OffGrid` at the number's first byte if it isn't whole, else `OutOfRange` there if
+    /// it is past the limit.
     #[tactic(auto, unfolding(geometry_model::specs::TextReading::coordinate))]
     pub fn coordinate(&self) -> Result<i32, TextFault>
         ensures value { (i : spec.Input) → ReadsAs (λ x. x) (spec.coordinate self.now i) result i }

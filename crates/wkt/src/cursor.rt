@@ -10,7 +10,7 @@ ghost use Rattle.wkt.specs.ReadingSteps.{of_class, ReadsAs};
 use geometry_model::text_faults::TextFault;
 use std::marker::Model;
 
-/// The bytes that one run is made of.
+/// A class of bytes, for runs of bytes of one class.
 #[derive(Clone, Copy)]
 pub enum ByteClass {
     /// Space, tab, line feed and carriage return.
@@ -38,7 +38,7 @@ fn is_of(class: ByteClass, byte: u8) -> bool
     }
 }
 
-/// How many bytes at the front of a text are of a class.
+/// How many bytes at the beginning of a text are of a class.
 fn run_length(class: ByteClass, text: &[u8]) -> usize
     ensures value { result ≡ prefix_len (of_class class) text.now }
     ensures within { result ≤ length text.now }
@@ -77,7 +77,7 @@ impl<'a> Cursor<'a> {
         Cursor { left: text, at: 0 }
     }
 
-    /// The byte, from 0, that is read next.
+    /// The place, in bytes from 0, of the byte that is read next.
     pub fn place(&self) -> usize
         ensures { result ≡ self.now.at }
     {
@@ -91,7 +91,7 @@ impl<'a> Cursor<'a> {
         self.left.is_empty()
     }
 
-    /// Whether this byte is the next.
+    /// Whether this byte comes next.
     pub fn sees(&self, byte: u8) -> bool
         ensures { result ≡ begins_with (λ b. b == byte) self.now.left }
     {
@@ -101,7 +101,7 @@ impl<'a> Cursor<'a> {
         }
     }
 
-    /// Goes past the next byte where it is this one, and returns whether it is.
+    /// Reads the next byte if it is this one, and returns whether it is.
     pub fn eat(&mut self, byte: u8) -> bool
         ensures { steps.eat byte self.old ≡ Ok (result, self.new) }
     {
@@ -115,7 +115,7 @@ impl<'a> Cursor<'a> {
         false
     }
 
-    /// Goes past the next byte, which has to be this one.
+    /// Reads the next byte, which has to be this one; `Syntax` at its place if it isn't.
     pub fn expect(&mut self, byte: u8) -> Result<(), TextFault>
         ensures { ReadsAs (λ _. true) (steps.expect byte self.old) result self.new }
     {
@@ -126,7 +126,7 @@ impl<'a> Cursor<'a> {
         }
     }
 
-    /// Goes past the next bytes that are of a class, and returns them.
+    /// Reads the next bytes up to the first that isn't of the class, and returns them, perhaps none.
     pub fn run(&mut self, class: ByteClass) -> &'a [u8]
         ensures value { steps.run (of_class class) self.old ≡ Ok (result.now, self.new) }
         ensures all { list_all (of_class class) result.now ≡ true }

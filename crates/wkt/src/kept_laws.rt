@@ -1,8 +1,9 @@
-//! The facts that are in the type of geometries leave no geometry out that a text spells.
+//! The law that every geometry that a text spells is a value of the type `Geometry`: the facts that the type keeps leave
+//! none out.
 
 ghost use Rattle.geometries.specs.KeptGeometries.{SpelledIsKept};
 
-/// Each geometry that a text spells is kept, of any type (06-103r4, 7.2).
+/// Each geometry that a text spells is a value of the type `Geometry` (06-103r4, 7.2).
 pub fn spelled_is_kept()
     ensures { SpelledIsKept }
 {}

@@ -38,7 +38,7 @@ impl Room {
     }
 }
 
-/// Reads positions of a MULTIPOINT, one or more with commas between, where so many may still come.
+/// Reads positions of a MULTIPOINT, one or more with commas between, of which `most` may still come.
 pub fn points(
     alloc: Global,
     cursor: &mut Cursor<'_>,
@@ -58,7 +58,7 @@ pub fn points(
     }
 }
 
-/// Whether a position is the one before it, where one is before it.
+/// Whether a position equals the one before it, if there is one.
 fn is_repeat(last: Option<GridPoint>, position: GridPoint) -> bool
     ensures { result ≡ repeats last position }
 {
@@ -85,8 +85,8 @@ fn push_new(
     Ok(())
 }
 
-/// Reads positions of a line or ring, one or more with commas between, where so many may still come, and returns how many may
-/// come behind it. One that repeats the one before it is left out.
+/// Reads positions of a line or ring, one or more with commas between, of which `most` may still come. Returns how many may
+/// come after it. A position that repeats the one before it is left out.
 pub fn line_positions(
     alloc: Global,
     cursor: &mut Cursor<'_>,
@@ -110,7 +110,7 @@ pub fn line_positions(
     }
 }
 
-/// Reads a ring or element, and returns the room that it leaves. One too many is refused behind its parenthesis.
+/// Reads a ring or element, and returns the room that it leaves. One too many is refused after its parenthesis.
 #[tactic(auto, unfolding(crate::specs::ReadingSteps::ring))]
 fn ring(alloc: Global, cursor: &mut Cursor<'_>, room: Room) -> Result<(LineString, Room), WktFault>
     requires { room.positions ≤ position_limit }

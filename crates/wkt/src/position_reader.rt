@@ -10,7 +10,7 @@ use crate::cursor::{ByteClass, Cursor};
 use fraction::GridPoint;
 use geometry_model::text_faults::TextFault;
 
-/// Reads white space, which has to come here.
+/// Reads white space, one byte or more; `Syntax` if none comes here.
 #[tactic(auto, unfolding(geometry_model::specs::TextReading::space))]
 fn space<'a>(cursor: &mut Cursor<'a>) -> Result<&'a [u8], TextFault>
     ensures { ReadsAs (λ white. white.now) (spec.space cursor.old) result cursor.new }
@@ -23,8 +23,8 @@ fn space<'a>(cursor: &mut Cursor<'a>) -> Result<&'a [u8], TextFault>
     Ok(white)
 }
 
-/// Reads a position where so many may still come. At its first number, one too many goes before the faults of the
-/// number itself.
+/// Reads a position, where `room` says how many may still come. If none may, the fault is `TooLong` once the first number
+/// is read, before the faults of that number's value.
 #[tactic(auto, unfolding(geometry_model::specs::TextReading::position))]
 fn position(cursor: &mut Cursor<'_>, room: usize) -> Result<GridPoint, TextFault>
     ensures read { ReadsAs (λ p. p) (spec.position room cursor.old) result cursor.new }

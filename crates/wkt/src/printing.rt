@@ -1,4 +1,4 @@
-//! The canonical text of a geometry, put into a sink.
+//! Writes the canonical text of a geometry to a sink.
 
 ghost use Rattle.std.specs.Prelude.{◌≡◌, ◌++◌, codes, map, OnOk, OnErr};
 ghost use Rattle.std.specs.List.{concat, join_with_byte};
@@ -42,7 +42,7 @@ fn put_shape<S: Sink>(sink: &mut S, shape: &Shape) -> Result<(), SinkFault>
     }
 }
 
-// Writes the text of a content that is no POINT.
+// Writes the text of a content that isn't a POINT.
 fn put_larger<S: Sink>(sink: &mut S, content: &Larger) -> Result<(), SinkFault>
     ensures ok { OnOk result
         (Appends (S.taken sink.old) (S.taken sink.new) (canonical_text (larger_in content.now))) }
@@ -213,7 +213,7 @@ fn put_joined_lines<S: Sink>(sink: &mut S, lines: &[LineString]) -> Result<(), S
     Ok(())
 }
 
-// What comes before a list in parentheses of this number.
+// What opens the list with this number, from 0: a parenthesis, with a comma before it unless it is the first.
 fn opening(index: usize) -> &'static [u8]
     ensures { result.now ≡ opening_text index }
 {
@@ -254,7 +254,7 @@ fn put_joined_positions<S: Sink>(sink: &mut S, line: &[GridPoint]) -> Result<(),
     }
 }
 
-// Writes the texts of these positions, with these texts before and behind each.
+// Writes the texts of these positions, with these texts before and after each.
 fn put_more<'p, S: Sink>(
     sink: &mut S,
     before: &'p [u8],
@@ -273,7 +273,7 @@ fn put_more<'p, S: Sink>(
     Ok(())
 }
 
-// Writes the numbers of a position, with these texts before and behind.
+// Writes the numbers of a position, with these texts before and after them.
 fn put_position<'p, S: Sink>(
     sink: &mut S,
     before: &'p [u8],
@@ -293,7 +293,7 @@ fn put_position<'p, S: Sink>(
     put_numbers(sink, before, x, y, behind)
 }
 
-// Writes two numbers with a space between, and these texts before and behind.
+// Writes two numbers with a space between, and these texts before and after them.
 fn put_numbers<'p, S: Sink>(
     sink: &mut S,
     before: &'p [u8],
