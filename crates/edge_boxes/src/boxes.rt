@@ -1,4 +1,4 @@
-//! The list of boxes over consecutive edges, and the questions that it answers.
+//! The list of boxes over consecutive edges, and what can be found with it.
 
 ghost use Rattle.std.specs.Prelude.{◌≡◌, ◌≤◌, ◌<◌, length, List, [], IfOk, OnErr, OnOk, slice_range};
 ghost use Rattle.std.specs.List.{list_any};

@@ -86,8 +86,8 @@ fn bound_predicate(alloc: Global, written: &WrittenPredicate<'_>) -> Result<Pred
     }
 }
 
-/// A predicate of two geometries that starts at a byte. Its arguments are bound first, then its pattern, and then it is
-/// asked whether the arguments are geometries. (06-103r4, 6.1.15.3.)
+/// A predicate of two geometries that starts at a byte. Its arguments are bound first, then its pattern; then the arguments
+/// have to be geometries. (06-103r4, 6.1.15.3.)
 fn relation(
     alloc: Global,
     scope: Scope<'_>,
