@@ -73,7 +73,7 @@ fn spans(ends: &Ends, floor: i32) -> bool
     (ends.first_x <= floor) != (ends.last_x <= floor)
 }
 
-/// Whether the bounds are wholly left or right of the point, or below it.
+/// Whether the bounds are entirely left or right of the point, or below it.
 fn is_apart(bounds: &Bounds, cell: &Cell) -> bool
     ensures { result ≡ lie_apart bounds.now cell.now }
 {
@@ -82,7 +82,7 @@ fn is_apart(bounds: &Bounds, cell: &Cell) -> bool
         | (bounds.greatest_y < cell.ceiling_y)
 }
 
-/// Whether the bounds are wholly above the point.
+/// Whether the bounds are entirely above the point.
 fn is_over(bounds: &Bounds, cell: &Cell) -> bool
     ensures { result ≡ int_lt cell.now.floor_y bounds.now.least_y }
 {

@@ -113,7 +113,7 @@ fn negated(alloc: Global, part: Cond) -> Result<Cond, QueryFault>
     Ok(Cond::Not(Boxed::new(alloc, part)?))
 }
 
-/// A written condition, bound as it is written. (SQL, the search condition.)
+/// A written condition, bound as it is written, or its first fault from left to right. (SQL, the search condition.)
 #[cycle(conditions)]
 pub fn bound_cond(
     alloc: Global,

@@ -64,7 +64,8 @@ fn bound_reference(
     Ok(Reference { table, name })
 }
 
-/// The references of FROM.
+/// The references of FROM, from left to right; `UnknownTable` at a table's name, or `SameName` at the name of a reference that
+/// an earlier one has.
 pub fn bound_references(
     alloc: Global,
     definitions: &[TableDef],
