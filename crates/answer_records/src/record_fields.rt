@@ -35,8 +35,8 @@ pub fn header_record(
     Ok(fields)
 }
 
-/// Makes a record that of some rows, one for each reference of the query; what was in it is gone. It fails only when
-/// memory runs out, and then leaves the record empty.
+/// Replaces the fields of a record by those of the query's items at these rows, one for each reference of the query. It
+/// fails only when memory runs out, and then leaves the record empty.
 pub fn row_record(
     alloc: Global,
     fields: &mut ByteRecord,
@@ -53,7 +53,7 @@ pub fn row_record(
     filled
 }
 
-// Makes a record that of some rows. Where memory runs out, some of it may be there.
+// Replaces the fields of a record by those of the query's items at these rows. If memory runs out, it has some of them.
 fn fill(
     alloc: Global,
     fields: &mut ByteRecord,
@@ -183,7 +183,7 @@ fn push_item(
     }
 }
 
-// The field at a place of some rows; what isn't there is null.
+// The field at a place of some rows; null if there is none.
 fn field_at<'a>(rows: &'a [Row<'_>], place: ColumnPlace) -> Field<'a>
     ensures { shown result ≡ field_at rows.entry.now place }
 {
@@ -249,7 +249,7 @@ fn push_emptiness(fields: &mut ByteRecord, field: Field<'_>) -> Result<(), Alloc
     }
 }
 
-// The number that ST_Dimension gives of a kind.
+// ST_Dimension of geometries of a kind: 0 of points, 1 of lines, 2 of areas.
 fn dimension(kind: Kind) -> i64
     ensures { result ≡ dimension kind }
 {

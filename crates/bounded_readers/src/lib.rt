@@ -1,4 +1,5 @@
-//! Readers of CSV texts with a bound: one that never ends a field or a record, or whose lines are all blank, is refused.
+//! Readers of CSV texts with a bound. A text with too long a field or record is refused, and so is one that never ends a
+//! field or record, or has blank lines without end.
 #![tactic(auto)]
 
 pub mod readers;

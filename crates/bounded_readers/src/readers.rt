@@ -4,7 +4,7 @@ use crate::tallies::Tally;
 use std::io::{self, Error, ErrorKind, Read};
 
 /// A reader that gives the bytes of the reader beneath until one of their fields or records is longer than its limit.
-/// From then on each read is an error of the kind `InvalidData`, and the reader beneath isn't asked.
+/// From then on each read is an error of the kind `InvalidData`, and nothing is read from the reader beneath.
 #[derive(Drop)]
 pub struct BoundedReader<R: Read> {
     reader: R,

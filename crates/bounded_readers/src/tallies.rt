@@ -1,9 +1,9 @@
-//! How long the field and the record are that a CSV text is in, and whether one was longer than its limit.
+//! How long the current field and record of a CSV text are so far, and whether one was longer than its limit.
 
 ghost use Rattle.std.specs.Prelude.{◌≡◌};
 ghost use Rattle.bounded_readers.specs.Bounds as spec;
 
-/// The greatest length of a field, in bytes, its quotes among them.
+/// The greatest length of a field, in bytes, its quotes counted.
 pub const FIELD_BYTES: u64 = 1 << 20;
 
 /// How many fields a record has at most.
@@ -28,13 +28,13 @@ pub enum Place {
     SecondMark,
     /// Where a record begins, or a blank line.
     RecordStart,
-    /// Where a field begins, behind a comma.
+    /// Where a field begins, after a comma.
     FieldStart,
     /// In a field, outside quotes.
     Unquoted,
     /// In a field, in quotes.
     Quoted,
-    /// Behind a quote in quotes: it ends them, or is the first of two that mean one.
+    /// After a quote in quotes: it ends them, or is the first of two that mean one.
     QuoteInQuotes,
 }
 
@@ -56,7 +56,7 @@ impl Tally {
     ghost use Rattle.std.specs.Prelude.{IsTrue, ◌↔◌};
     ghost use Rattle.std.specs.List.{fold};
 
-    /// Of a text of which no byte has come.
+    /// The tally before the first byte of a text.
     pub fn new() -> Tally
         ensures { result ≡ spec.first_tally }
     {

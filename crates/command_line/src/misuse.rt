@@ -1,4 +1,4 @@
-//! Why the words of the command line are no order.
+//! Why the words of the command line aren't an order.
 
 use clap::Error;
 use clap::error::ErrorKind;

@@ -14,9 +14,9 @@ use clap::error::ErrorKind;
 use command_words::sfq_command;
 use std::alloc::{AllocError, Global};
 
-/// Reads the words of a command line, the program's name first, by `clap`. At Ok they are the
-/// command and its words, and no step of `clap` refuses them. A misuse is memory that ran out or of a kind
-/// that the step which refuses the words names, so it is memory that ran out where `clap` takes them.
+/// Reads the words of a command line, the program's name first, with `clap`. Ok has the command and its words, which no step
+/// of `clap` refuses. Err says that memory ran out, or has the kind of misuse that the step of `clap` names which refuses the
+/// words. So if no step refuses them, an error can only be that memory ran out.
 pub fn order<'a>(alloc: Global, words: &'a [&'a str]) -> Result<Order, Misuse>
     ensures ok { IfOk result (Orders (texts words.entry.now)) }
     ensures accepted { OnOk result (fault_of sfq (texts words.entry.now) ≡ []) }
@@ -29,7 +29,7 @@ pub fn order<'a>(alloc: Global, words: &'a [&'a str]) -> Result<Order, Misuse>
     Ok(given_order(alloc, &matches)?)
 }
 
-// The order of matches in which none of its words is missing: `clap` takes no others.
+// The order of these matches. None of its words is missing in them, as `clap` refuses a line without one.
 fn given_order(alloc: Global, matches: &ArgMatches<'_>) -> Result<Order, AllocError>
     requires { HasWords (subcommand_rows_of matches.now) }
     ensures { IfOk result (OrdersBy (subcommand_rows_of matches.now)) }

@@ -1,5 +1,5 @@
-//! The commands of `sfq` with their words, as `clap` reads them. The crate `command_line` reads the words of a command line by
-//! them.
+//! The commands of `sfq` with their words and help texts, for `clap`. The crate `command_line` reads the words of a command
+//! line with them.
 #![tactic(auto)]
 
 ghost use Rattle.std.specs.Prelude.{◌≡◌, false, codes, IfOk, IsOkAnd};
@@ -12,7 +12,7 @@ use std::alloc::{AllocError, Global};
 /// What `--version` prints.
 const VERSION: &str = "0.1.0";
 
-/// The whole command line of `sfq`, in which a subcommand has to be there. It fails only if memory runs out.
+/// The command line of `sfq`, which needs a subcommand. It fails only if memory runs out.
 pub fn sfq_command<'a>(alloc: Global) -> Result<Command<'a>, AllocError>
     ensures { IfOk result (λ c. app_of c ≡ sfq) }
 {
@@ -21,7 +21,7 @@ pub fn sfq_command<'a>(alloc: Global) -> Result<Command<'a>, AllocError>
     with_command(with_check, relate_command(alloc))
 }
 
-// The command with one more subcommand, where there was memory for that.
+// The command with one more subcommand, if memory didn't run out.
 fn with_command<'a>(
     command: Command<'a>,
     subcommand: Result<Command<'a>, AllocError>,

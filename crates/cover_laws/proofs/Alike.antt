@@ -1,4 +1,4 @@
--- All points strictly between the ends of a gap lie alike, and an end that no edge holds lies so too.
+-- All points strictly between the ends of a gap lie in the same part, and so does an end that is on no edge.
 use Rattle.std.proofs.Common.{ℕ, zero, suc, ◌+◌, ◌<◌, ℤ, pos, ◌+ℤ◌, ◌-ℤ◌, ◌*ℤ◌, ◌<ℤ◌, ◌≡◌, ◌⊎◌, inl, inr, Bool, true, false, refl, sym, ap, ◌∙◌, List, [], ◌∷◌, All, arith}
 use borrow.Author.Differences.{ints}
 use Rattle.std.specs.List.{list_any}

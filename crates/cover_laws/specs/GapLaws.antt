@@ -64,7 +64,7 @@ abbrev pub SidesWithinOwnEdge : Type 0
 SidesWithinOwnEdge = (a : Geometry) → IsValid a → kind a ≡ kinds.Area → (e : Edge) → Contains (edges a) e → e.start.x ≢ e.end.x → (p q x : Point) → IsPoint p → IsPoint q → on e p ≡ true → on e q ≡ true → IsBetween e p q x
     → ArePartedAs (below a x) (above a x)
 
--- all along an edge of a valid area that isn't vertical, strictly between two of its points, each side lies alike (06-103r4, 6.1.11.1)
+-- all along an edge of a valid area that isn't vertical, strictly between two of its points, each side lies in one part (06-103r4, 6.1.11.1)
 abbrev pub SidesAlongOwnEdge : Type 0
 SidesAlongOwnEdge = (a : Geometry) → IsValid a → (e : Edge) → Contains (edges a) e → e.start.x ≢ e.end.x → (p q x y : Point) → IsPoint p → IsPoint q → on e p ≡ true → on e q ≡ true → IsBetween e p q x → IsBetween e p q y
     → (below a x ≡ below a y) × (above a x ≡ above a y)

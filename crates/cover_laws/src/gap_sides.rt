@@ -2,12 +2,12 @@
 
 ghost use Rattle.cover_laws.specs.GapLaws.{SidesOffEdges, SidesOfNoArea, SidesOfOwnEdge, SidesWithinOwnEdge, SidesAlongOwnEdge};
 
-/// Off the edges of a geometry both sides of a point are where the point mostly is.
+/// Off the edges of a geometry both sides of a point lie where `mostly` says of it.
 pub fn sides_off_edges()
     ensures { SidesOffEdges }
 {}
 
-/// The sides of what is no area are in the exterior.
+/// The sides in a geometry of points or lines are in the exterior.
 pub fn sides_of_no_area()
     ensures { SidesOfNoArea }
 {}
@@ -23,7 +23,7 @@ pub fn sides_within_own_edge()
     ensures { SidesWithinOwnEdge }
 {}
 
-/// All along an edge of a valid geometry that isn't vertical, strictly between two of its points, each side lies alike
+/// All along an edge of a valid geometry that isn't vertical, strictly between two of its points, each side lies in one part
 /// (06-103r4, 6.1.11.1).
 pub fn sides_along_own_edge()
     ensures { SidesAlongOwnEdge }

@@ -22,7 +22,7 @@ pub fn shared_gap_holds_ends()
     ensures { SharedGapHoldsEnds }
 {}
 
-/// All points strictly between the ends of a gap lie alike, but for listed positions and odd ends (06-103r4, 6.1.15.2).
+/// All points strictly between the ends of a gap lie in the same part, except listed positions and odd ends (06-103r4, 6.1.15.2).
 pub fn gap_is_alike()
     ensures { GapIsAlike }
 {}

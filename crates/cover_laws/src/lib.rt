@@ -24,7 +24,7 @@ pub fn full_covers()
     ensures { FullCovers }
 {}
 
-/// Where no edge shares a stretch with an edge, it is enough that the matrix shows all that gaps can show off the other geometry's edges, and that the own edges share a point (06-103r4, 6.1.15.2).
+/// If no edge of the other geometry shares a stretch with an edge, it is enough that the matrix shows all that gaps can show off the other geometry's edges, and that both geometries' edges share a point (06-103r4, 6.1.15.2).
 pub fn full_off_covers()
     ensures { FullOffCovers }
 {}

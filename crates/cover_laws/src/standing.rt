@@ -2,12 +2,12 @@
 
 ghost use Rattle.cover_laws.specs.GapLaws.{MostlyIsLocated, NoCutIsMostly, OwnEdgesAreMostly, OffEdgesIsNoBoundary};
 
-/// A point lies where almost all do, unless an odd number of ends are there or it is a listed position (06-103r4, 6.1.8.1).
+/// A point lies where `mostly` says, unless it is an odd end or a listed position (06-103r4, 6.1.8.1).
 pub fn mostly_is_located()
     ensures { MostlyIsLocated }
 {}
 
-/// A point that is no cut lies where almost all do, in both geometries (06-103r4, 6.1.8.1).
+/// A point that isn't a cut lies where `mostly` says, in both geometries (06-103r4, 6.1.8.1).
 pub fn no_cut_is_mostly()
     ensures { NoCutIsMostly }
 {}

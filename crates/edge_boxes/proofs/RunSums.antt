@@ -1,4 +1,4 @@
--- What is kept of a run holds of two runs, one behind the other.
+-- What is kept of a run holds of two runs, one after the other.
 use Rattle.std.proofs.Common.{ℤ, ◌*ℤ◌, int_le, ◌≡◌, Bool, true, false, refl, sym, ap, ap₂, ◌∙◌, List, [], ◌∷◌, ◌++◌, count_by, arith}
 use Rattle.std.proofs.lemmas.Int.{ints, clamps}
 use Rattle.std.specs.List.{AllByRecursion}

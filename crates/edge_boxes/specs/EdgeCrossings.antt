@@ -33,7 +33,7 @@ pub record AreCrossings (c : Crossings) (edges : List Edge) (p : Point) : Type 0
   pub above : c.odd_above ≡ is_odd_above edges p
   pub at_or_above : c.odd_at_or_above ≡ is_odd_at_or_above edges p
 
--- the bounds are wholly left or right of the point in the cell, or below it
+-- the bounds are entirely left or right of the point in the cell, or below it
 abbrev pub lie_apart : Envelope → Cell → Bool
 lie_apart b c = int_lt b.greatest_x c.ceiling_x || int_lt c.floor_x b.least_x || int_lt b.greatest_y c.ceiling_y
 

@@ -31,15 +31,15 @@ pub record IsWider (s wider : Strip) : Type 0 where
   pub same : wider.direction.dx ≡ s.direction.dx
   pub holds : (a : Position) → IsInStrip s a → IsInStrip wider a
 
--- the strip is wholly below the lower side of the cell
+-- the strip is entirely below the lower side of the cell
 abbrev pub lies_under : Strip → Cell → Bool
 lies_under s c = int_lt s.greatest (rise s.direction c.floor_x c.floor_y) && int_lt s.greatest (rise s.direction c.ceiling_x c.floor_y)
 
--- the strip is wholly above the upper side of the cell
+-- the strip is entirely above the upper side of the cell
 abbrev pub lies_over : Strip → Cell → Bool
 lies_over s c = int_lt (rise s.direction c.floor_x c.ceiling_y) s.least && int_lt (rise s.direction c.ceiling_x c.ceiling_y) s.least
 
--- the edge is wholly below the strip, or wholly above it
+-- the edge is entirely below the strip, or entirely above it
 abbrev pub lies_beside : Strip → Edge → Bool
 lies_beside s e =
     int_lt (rise s.direction e.start.x e.start.y) s.least && int_lt (rise s.direction e.end.x e.end.y) s.least

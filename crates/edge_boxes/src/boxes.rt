@@ -1,4 +1,4 @@
-//! The list of boxes over consecutive edges, and what is asked of it.
+//! The list of boxes over consecutive edges, and what can be found with it.
 
 ghost use Rattle.std.specs.Prelude.{◌≡◌, ◌≤◌, ◌<◌, length, List, [], IfOk, OnErr, OnOk, slice_range};
 ghost use Rattle.std.specs.List.{list_any};
@@ -39,8 +39,8 @@ pub struct EdgeBoxes {
 }
 
 impl EdgeBoxes {
-    /// The boxes over some edges, in one pass: leaves of up to 8 edges, other boxes over up to 4 subtrees, none where
-    /// there are 16 edges or fewer. It may run out of memory.
+    /// The boxes over some edges, built in one pass: leaves are over up to 8 edges, other boxes over up to 4 subtrees. Up to
+    /// 16 edges have no boxes. It fails only when memory runs out.
     pub fn build(alloc: Global, edges: &[Segment]) -> Result<EdgeBoxes, AllocError>
         ensures { IfOk result (λ boxes. BoxesOf boxes edges.now) }
     {
@@ -64,8 +64,8 @@ impl EdgeBoxes {
         is_held_among(self.boxes.as_slice(), edges, point)
     }
 
-    /// Whether one of the edges is on one line with another edge and shares a point with it: where none is, none shares a
-    /// stretch with it (OGC 06-103r4, 6.1.15.2: intersection). It takes no memory.
+    /// Whether one of the edges is on one line with another edge and shares a point with it. If it returns false, none of them
+    /// shares a stretch with it (OGC 06-103r4, 6.1.15.2: intersection). It takes no memory.
     pub fn meets_on_line(&self, edges: &[Segment], edge: &Segment) -> bool
         requires { BoxesOf self.now edges.now }
         ensures { result ≡ list_any (meet_on_one_line edge.now) edges.now }
@@ -73,8 +73,8 @@ impl EdgeBoxes {
         is_one_on_line_among(self.boxes.as_slice(), edges, edge)
     }
 
-    /// Leaves in the vector the places, from one on, of the edges whose bounds meet these, ascending. It may run out
-    /// of memory, and then leaves the vector empty.
+    /// Replaces what the vector holds by the places, from this one on, of the edges whose bounds meet these, ascending. It
+    /// fails only when memory runs out, and then leaves the vector empty.
     pub fn meeting(
         &self,
         edges: &[Segment],
@@ -100,7 +100,7 @@ impl EdgeBoxes {
     }
 }
 
-/// Up to which edge the boxes before a place go.
+/// The place of the first edge that no box before this place is over.
 pub(crate) fn covered(boxes: &[EdgeBox], place: usize) -> usize
     requires { place ≤ length boxes.now }
     ensures { result ≡ covered boxes.now place }
@@ -112,7 +112,7 @@ pub(crate) fn covered(boxes: &[EdgeBox], place: usize) -> usize
     }
 }
 
-/// The edges from one place up to another.
+/// The edges from one place to before another.
 pub(crate) fn run_of(edges: &[Segment], first: usize, end: usize) -> &[Segment]
     requires ordered { first ≤ end }
     requires within { end ≤ length edges.now }

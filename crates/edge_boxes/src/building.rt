@@ -1,5 +1,5 @@
-//! How a list of boxes is built: leaf by leaf, and four subtrees joined to one as soon as they are there. The boxes of a
-//! ring or element are joined before those of the next come.
+//! How a list of boxes is built: leaf by leaf; four subtrees are joined to one as soon as they are there. The boxes of a
+//! ring or element are joined before those of the next are added.
 
 ghost use Rattle.std.specs.Prelude.{◌≡◌, ◌≤◌, ◌<◌, ◌-◌, length, List, [], Some, slice_get, IfOk, OnOk, IfSome};
 ghost use Rattle.edge_boxes.specs.BoxLists.{AreBoxes, IsRun, covered};
@@ -11,10 +11,10 @@ use crate::strips::Strip;
 use orient::Segment;
 use std::alloc::{AllocError, Global};
 
-/// As many edges, and fewer, need no boxes.
+/// Up to this many edges need no boxes.
 const FEW_EDGES: usize = 16;
 
-/// The least number of edges of a leaf, where a ring isn't cut, and the greatest.
+/// The least number of edges of a leaf, unless its ring ends sooner, and the greatest.
 const LEAST_LEAF: usize = 4;
 
 const GREATEST_LEAF: usize = 8;
@@ -38,7 +38,7 @@ pub(crate) fn boxes_over(alloc: Global, edges: &[Segment]) -> Result<Vec<EdgeBox
     Ok(boxes)
 }
 
-/// Keeps with the boxes over few edges their strips.
+/// Adds their strips to the boxes that are over few edges.
 fn take_strips(boxes: &mut Vec<EdgeBox>, edges: &[Segment])
     requires { AreBoxes boxes.old.items edges.now }
     ensures { AreBoxes boxes.new.items edges.now }
@@ -49,7 +49,7 @@ fn take_strips(boxes: &mut Vec<EdgeBox>, edges: &[Segment])
     }
 }
 
-/// The strip of the box at a place, where it has few edges.
+/// The strip of the box at a place, if the box is over few edges.
 fn strip_at(boxes: &[EdgeBox], edges: &[Segment], place: usize) -> Option<Strip>
     requires boxes { AreBoxes boxes.now edges.now }
     requires place { place < length boxes.now }
@@ -68,7 +68,7 @@ fn strip_at(boxes: &[EdgeBox], edges: &[Segment], place: usize) -> Option<Strip>
     }
 }
 
-/// Adds the boxes over the edges to none.
+/// Adds the boxes over the edges to an empty list.
 fn push_boxes(boxes: &mut Vec<EdgeBox>, edges: &[Segment]) -> Result<(), AllocError>
     requires { boxes.old.items ≡ [] }
     ensures { OnOk result (AreBoxes boxes.new.items edges.now) }
@@ -153,7 +153,7 @@ fn push_leaf(
     }
 }
 
-/// Joins full groups of subtrees at the end of the list, of which this one is the count-th.
+/// Joins full groups of subtrees at the end of the list, where `count` subtrees have been added.
 fn join_full(boxes: &mut Vec<EdgeBox>, count: usize) -> Result<(), AllocError>
     ensures { OnOk result (KeepsBoxes boxes.old.items boxes.new.items) }
 {
@@ -180,7 +180,7 @@ fn join_rest(boxes: &mut Vec<EdgeBox>, count: usize) -> Result<(), AllocError>
     Ok(())
 }
 
-/// Joins the last so many subtrees to one, where there is more than one.
+/// Joins the last `count` subtrees to one, if there is more than one.
 fn join_last(boxes: &mut Vec<EdgeBox>, count: usize) -> Result<(), AllocError>
     ensures { OnOk result (KeepsBoxes boxes.old.items boxes.new.items) }
 {
@@ -192,7 +192,7 @@ fn join_last(boxes: &mut Vec<EdgeBox>, count: usize) -> Result<(), AllocError>
     Ok(())
 }
 
-/// The box over the last so many subtrees; none where there are no boxes, or too many for 32 bits.
+/// The box over the last `count` subtrees; none if there are no boxes, or too many for 32 bits.
 fn box_over_last(boxes: &[EdgeBox], count: usize) -> Option<EdgeBox>
     ensures { IfSome result (IsNextBox boxes.now) }
 {
@@ -206,7 +206,7 @@ fn box_over_last(boxes: &[EdgeBox], count: usize) -> Option<EdgeBox>
     })
 }
 
-/// The run of the last so many subtrees, and the place of their first box.
+/// The run of the last `count` subtrees, and the place of their first box.
 fn run_of_last(boxes: &[EdgeBox], last: &EdgeBox, count: usize) -> (Run, usize)
     requires { slice_get boxes.now (length boxes.now - 1) ≡ Some last.now }
     ensures before { result.1 ≤ length boxes.now }
@@ -224,7 +224,7 @@ fn run_of_last(boxes: &[EdgeBox], last: &EdgeBox, count: usize) -> (Run, usize)
     (run, place)
 }
 
-/// The place of the first box of a subtree whose last one is before a place.
+/// The place of the first box of a subtree whose root is just before this place.
 fn before(place: usize, root: &EdgeBox) -> usize
     ensures value { result ≡ place - 1 - root.now.size }
 {

@@ -1,4 +1,4 @@
-//! The cell of the grid round a point: the whole numbers next to its coordinates.
+//! The cell of the grid in which a point lies: the whole numbers next to its coordinates.
 
 ghost use Rattle.std.specs.Prelude.{◌≡◌, ◌≤◌, ◌*◌, ◌<ℤ◌, ◌*ℤ◌, ℤ, pos, int_le, unsigned_abs};
 ghost use Rattle.geometry_model.specs.WellKnownText.{coordinate_limit};
@@ -6,8 +6,8 @@ ghost use Rattle.edge_boxes.specs.Cells.{IsCellOf, IsFloor, IsCeiling};
 
 use fraction::RatPoint;
 
-/// The floors and ceilings of a point's coordinates. By them positions and bounds are compared with the point without
-/// a product.
+/// The floors and ceilings of a point's coordinates. With them positions and bounds are compared with the point without a
+/// multiplication.
 #[derive(Clone, Copy)]
 pub(crate) struct Cell {
     pub(crate) floor_x: i32,
@@ -17,7 +17,7 @@ pub(crate) struct Cell {
 }
 
 impl Cell {
-    /// That of a point.
+    /// The cell of a point.
     pub(crate) fn of(point: &RatPoint) -> Cell
         ensures { IsCellOf result point.now }
     {

@@ -8,7 +8,7 @@ use crate::bounds::Bounds;
 use crate::strips::Strip;
 use orient::Segment;
 
-/// The first and the last x of a chain of edges, where the run is one as far as they show.
+/// The first and the last x of a run of edges, and whether the run is known to be a chain, or chains that close.
 #[derive(Clone, Copy)]
 pub(crate) struct Ends {
     pub(crate) first_x: i32,
@@ -35,7 +35,7 @@ fn ends_of(edge: &Segment) -> Ends
     }
 }
 
-/// The ends of two runs, one behind the other: a chain where the one goes on from the other, or is closed.
+/// The ends of two runs, one after the other: a chain if the second goes on where the first ends, or if one of them is closed.
 fn join_ends(first: Ends, second: Ends) -> Ends
     ensures { (xs ys : List Edge) → SumsUpEnds first xs → SumsUpEnds second ys
         → SumsUpEnds result (xs ++ ys) }
@@ -61,7 +61,7 @@ fn join_ends(first: Ends, second: Ends) -> Ends
 }
 
 impl Run {
-    /// That of one edge, without a strip.
+    /// The run of one edge, without a strip.
     pub(crate) fn of(edge: &Segment) -> Run
         ensures { SumsUp result (edge.now ∷ []) }
     {
@@ -72,7 +72,7 @@ impl Run {
         }
     }
 
-    /// That of two runs, one behind the other, without a strip.
+    /// The run of the edges of two runs, one after the other, without a strip.
     pub(crate) fn join(self, later: Run) -> Run
         ensures { (xs ys : List Edge) → SumsUp self xs → SumsUp later ys → SumsUp result (xs ++ ys) }
     {

@@ -1,5 +1,5 @@
-//! Lists of boxes over consecutive edges: where a point lies to the edges, and which of them are near, without a look at
-//! each. A list of boxes is built in one pass and asked without memory.
+//! Lists of boxes over consecutive edges. With them, how a point lies relative to the edges, and which edges are near
+//! another, is found without a look at each edge. A list of boxes is built in one pass.
 #![tactic(auto)]
 
 pub mod bounds;

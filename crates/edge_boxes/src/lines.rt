@@ -69,7 +69,7 @@ pub(crate) fn is_one_on_line_among(boxes: &[EdgeBox], edges: &[Segment], edge: &
     false
 }
 
-/// Whether there is one between the place before this one that is looked at next and this one. The bounds are the edge's.
+/// Whether there is such an edge between the place that is looked at next, which is before this one, and this one. The bounds are the edge's.
 fn line_step(
     boxes: &[EdgeBox],
     edges: &[Segment],

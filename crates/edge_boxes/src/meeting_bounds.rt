@@ -1,4 +1,4 @@
-//! Which edges have bounds that meet others.
+//! Which edges have bounds that meet given ones.
 
 ghost use Rattle.std.specs.Prelude.{◌≡◌, ◌≤◌, ◌<◌, ◌++◌, ◌∷◌, [], cond, length, reverse, slice_range, OnOk, IfOk};
 ghost use Rattle.edge_boxes.specs.BoxLists.{AreBoxes, covered};
@@ -35,7 +35,7 @@ pub(crate) fn push_asked(
     Ok(())
 }
 
-/// Adds those between the place before this one that is looked at next and this one.
+/// Adds the places asked for between the place that is looked at next, which is before this one, and this one.
 fn push_step(
     boxes: &[EdgeBox],
     edges: &[Segment],
@@ -66,7 +66,7 @@ fn push_step(
     Ok(place - 1)
 }
 
-/// Adds those of the edges from one place up to another.
+/// Adds the places asked for of the edges from one place to before another.
 fn push_run(
     edges: &[Segment],
     first: usize,
@@ -94,7 +94,7 @@ fn is_asked(asked: &Asked, place: usize, edge: &Segment) -> bool
     (asked.from <= place) & Bounds::of(edge).overlap(&asked.bounds)
 }
 
-/// Adds a place where it passes.
+/// Adds a place if it passes.
 fn push_if(found: &mut Vec<usize>, passes: bool, place: usize) -> Result<(), AllocError>
     ensures { OnOk result (found.new.items ≡ found.old.items ++ cond passes (place ∷ []) []) }
 {

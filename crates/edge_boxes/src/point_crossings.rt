@@ -1,4 +1,4 @@
-//! How a point lies to edges: on one of them, and below how many.
+//! How a point lies relative to edges: on one of them, and below an odd number of them.
 
 ghost use Rattle.std.specs.Prelude.{◌≡◌, List, [], ◌∷◌, ◌++◌, IfSome, false, int_le, int_lt};
 ghost use Rattle.geometry_model.specs.Crossings.{exactly_one};
@@ -15,8 +15,8 @@ use crate::strips::Strip;
 use fraction::RatPoint;
 use orient::{Segment, crossing_at};
 
-/// How a point lies to edges (OGC 06-103r4, 6.1.11.1: inside). Of an edge's ends the left one counts and the right one
-/// doesn't; a vertical edge lies above no point.
+/// How a point lies relative to edges (OGC 06-103r4, 6.1.11.1: inside). Of an edge's ends the left one counts and the right
+/// one doesn't; a vertical edge lies above no point.
 #[derive(Clone, Copy, Debug, PartialEq)]
 pub struct Crossings {
     /// Whether it lies on one of them.
@@ -35,7 +35,7 @@ const NONE: Crossings = Crossings {
 };
 
 impl Crossings {
-    /// How a point lies to two lists of edges, one behind the other.
+    /// How a point lies relative to the edges of two lists together.
     pub(crate) fn join(self, later: Crossings) -> Crossings
         ensures { (p : Point) (xs ys : List Edge) → AreCrossings self xs p → AreCrossings later ys p
             → AreCrossings result (xs ++ ys) p }
@@ -48,7 +48,7 @@ impl Crossings {
     }
 }
 
-/// How a point lies to no edges.
+/// How a point lies relative to no edges.
 pub(crate) fn none() -> Crossings
     ensures { result ≡ record { on = false; odd_above = false; odd_at_or_above = false } }
 {
@@ -66,14 +66,14 @@ fn above(is_odd: bool) -> Crossings
     }
 }
 
-/// Whether exactly one of the ends isn't to the right of a coordinate.
+/// Whether the x of exactly one of the ends is at most this number.
 fn spans(ends: &Ends, floor: i32) -> bool
     ensures { result ≡ exactly_one (int_le ends.now.first_x floor) (int_le ends.now.last_x floor) }
 {
     (ends.first_x <= floor) != (ends.last_x <= floor)
 }
 
-/// Whether the bounds are wholly left or right of the point, or below it.
+/// Whether the bounds are entirely left or right of the point, or below it.
 fn is_apart(bounds: &Bounds, cell: &Cell) -> bool
     ensures { result ≡ lie_apart bounds.now cell.now }
 {
@@ -82,14 +82,14 @@ fn is_apart(bounds: &Bounds, cell: &Cell) -> bool
         | (bounds.greatest_y < cell.ceiling_y)
 }
 
-/// Whether the bounds are wholly above the point.
+/// Whether the bounds are entirely above the point.
 fn is_over(bounds: &Bounds, cell: &Cell) -> bool
     ensures { result ≡ int_lt cell.now.floor_y bounds.now.least_y }
 {
     cell.floor_y < bounds.least_y
 }
 
-/// How the point lies to a run of edges that doesn't hold it, where the run's strip and ends show.
+/// How the point lies relative to a run of edges that it isn't on; none if the run's strip and ends don't show it.
 fn told_by_strip(strip: &Strip, ends: &Ends, cell: &Cell) -> Option<Crossings>
     ensures { IfSome result (IsToldByStrip strip.now ends.now cell.now) }
 {
@@ -102,7 +102,8 @@ fn told_by_strip(strip: &Strip, ends: &Ends, cell: &Cell) -> Option<Crossings>
     }
 }
 
-/// How the point lies to a run of edges that doesn't hold it, where the run's bounds and ends show it, or its strip and ends.
+/// How the point lies relative to a run of edges that it isn't on; none if neither the run's bounds nor its strip, with its
+/// ends, show it.
 pub(crate) fn told(run: &Run, cell: &Cell) -> Option<Crossings>
     ensures { IfSome result (IsTold run.now cell.now) }
 {
@@ -118,7 +119,7 @@ pub(crate) fn told(run: &Run, cell: &Cell) -> Option<Crossings>
     }
 }
 
-/// How the point lies to one edge, by the side of it.
+/// How the point lies relative to one edge, by the side of the edge on which it is.
 fn by_side(edge: &Segment, point: &RatPoint) -> Crossings
     ensures { AreCrossings result (edge.now ∷ []) point.now }
 {
@@ -130,8 +131,8 @@ fn by_side(edge: &Segment, point: &RatPoint) -> Crossings
     }
 }
 
-/// How the point lies to one edge. At a position of the grid a side costs no more than a look at the edge's bounds; elsewhere
-/// it takes long products.
+/// How the point lies relative to one edge. At a position of the grid, a side is as quick to compute as a look at the edge's
+/// bounds; elsewhere it takes multiplications of long numbers.
 fn of_edge(edge: &Segment, point: &RatPoint, cell: &Cell) -> Crossings
     requires { IsCellOf cell.now point.now }
     ensures { AreCrossings result (edge.now ∷ []) point.now }
@@ -145,7 +146,7 @@ fn of_edge(edge: &Segment, point: &RatPoint, cell: &Cell) -> Crossings
     }
 }
 
-/// How the point lies to some edges.
+/// How the point lies relative to some edges.
 pub(crate) fn of_edges(edges: &[Segment], point: &RatPoint, cell: &Cell) -> Crossings
     requires { IsCellOf cell.now point.now }
     ensures { AreCrossings result edges.now point.now }

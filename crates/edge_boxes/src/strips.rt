@@ -1,4 +1,4 @@
-//! Strips: what lies between two lines of one direction. A long thin run that goes askew has wide bounds and a narrow strip.
+//! Strips: the part of the plane between two parallel lines. A long thin run in a slanted direction has wide bounds and a narrow strip.
 
 ghost use Rattle.std.specs.Prelude.{◌≡◌, ◌&&◌, ◌||◌, ◌<ℤ◌, ◌*ℤ◌, pos, int_lt, IfSome};
 ghost use Rattle.edge_boxes.specs.Strips as spec;
@@ -15,8 +15,8 @@ pub(crate) struct Direction {
     pub(crate) dy: i32,
 }
 
-/// The strip between two lines of a direction, by what is least and greatest of how far a place in it lies above the line
-/// through the origin, times the direction's way to the right.
+/// The strip between two lines of a direction. It is kept by the least and the greatest of a number that says how far a
+/// position lies above the line through the origin: that height times the x of the direction.
 #[derive(Clone, Copy)]
 pub(crate) struct Strip {
     pub(crate) direction: Direction,
@@ -31,7 +31,7 @@ fn product(a: i32, b: i32) -> i64
     a as i64 * b as i64
 }
 
-/// How far a place lies above the line through the origin, times the direction's way to the right.
+/// How far a position lies above the line through the origin in this direction, times the x of the direction.
 fn rise(direction: Direction, x: i32, y: i32) -> i64
     ensures { result ≡ spec.rise direction x y }
 {
@@ -61,7 +61,7 @@ fn direction_between(one: GridPoint, other: GridPoint) -> Option<Direction>
     }
 }
 
-/// How far two positions are apart, by the sum of the ways across and up.
+/// How far two positions are apart: the sum of the distances in x and in y.
 fn distance(one: GridPoint, other: GridPoint) -> u32 {
     let across = one.x().abs_diff(other.x());
     let up = one.y().abs_diff(other.y());
@@ -80,8 +80,8 @@ fn farthest(from: GridPoint, edges: &[Segment]) -> GridPoint {
 }
 
 impl Strip {
-    /// A strip of some edges, in the direction from the first position to the one farthest from it. None where there are no
-    /// edges, or where that is straight up.
+    /// A strip of some edges, in the direction from the first position to the one farthest from it. None if there are no
+    /// edges, or if that direction is vertical.
     pub(crate) fn of(edges: &[Segment]) -> Option<Strip>
         ensures { IfSome result (λ strip. IsStripOf strip edges.now) }
     {
@@ -119,7 +119,7 @@ impl Strip {
         }
     }
 
-    /// Whether it is wholly below the lower side of a point's cell.
+    /// Whether the strip is entirely below the lower side of a point's cell.
     pub(crate) fn is_under(&self, cell: &Cell) -> bool
         ensures { result ≡ spec.lies_under self.now cell.now }
     {
@@ -127,7 +127,7 @@ impl Strip {
             & (self.greatest < rise(self.direction, cell.ceiling_x, cell.floor_y))
     }
 
-    /// Whether it is wholly above the upper side of a point's cell.
+    /// Whether the strip is entirely above the upper side of a point's cell.
     pub(crate) fn is_over(&self, cell: &Cell) -> bool
         ensures { result ≡ spec.lies_over self.now cell.now }
     {
@@ -135,7 +135,7 @@ impl Strip {
             & (rise(self.direction, cell.ceiling_x, cell.ceiling_y) < self.least)
     }
 
-    /// Whether an edge is wholly below it, or wholly above it: then it shares no point with what lies in it.
+    /// Whether an edge is entirely below the strip, or entirely above it. Then it shares no point with what lies in the strip.
     pub(crate) fn is_beside(&self, edge: &Segment) -> bool
         ensures { result ≡ spec.lies_beside self.now edge.now }
     {

@@ -13,10 +13,10 @@ use smallvec::SmallVec;
 use std::alloc::{AllocError, Global};
 use std::marker::Model;
 
-/// Where other edges meet an edge: the points that it shares with them, and its stops, in ascending order, from its lesser end
-/// to its greater one, between neighbours of which each of the others holds all points or none (OGC 06-103r4, 6.1.15.2:
-/// intersection; gaps: this project's choice). It is filled for one edge after another, and keeps its memory; it takes none where
-/// up to 16 others meet an edge in few points.
+/// Where other edges meet an edge: the points that it shares with them, and its stops. The stops ascend from the edge's lesser
+/// end to its greater one; each of the other edges holds all points between two neighbouring stops or none (OGC 06-103r4,
+/// 6.1.15.2: intersection; gaps: this project's choice). It is filled for one edge after another, and keeps its memory. It takes
+/// none if up to 16 others meet an edge in few points.
 #[derive(Debug, Drop)]
 pub struct Gaps {
     near: Vec<usize>,
@@ -33,7 +33,7 @@ impl Model for Gaps {
 }
 
 impl Gaps {
-    /// Those of no edge. It takes no memory.
+    /// The gaps of no edge yet; `find` fills them. It takes no memory.
     pub fn new(alloc: Global) -> Gaps
         ensures { result ≡ record { shared = []; stops = [] } }
     {
@@ -44,7 +44,8 @@ impl Gaps {
         }
     }
 
-    /// Fills it for an edge among others, whose boxes come along. It may run out of memory, and then is that of no edge.
+    /// Fills the gaps of an edge among others, whose boxes are given. It fails only when memory runs out, and then these are the
+    /// gaps of no edge.
     pub fn find(
         &mut self,
         edge: &Segment,
@@ -63,7 +64,7 @@ impl Gaps {
         filled
     }
 
-    /// Fills it for an edge among others. Where memory runs out, some of it may be filled.
+    /// Fills the gaps of an edge among others. If memory runs out, some of them may be there.
     fn fill(
         &mut self,
         edge: &Segment,
@@ -78,8 +79,8 @@ impl Gaps {
         set_stops(&mut self.stops, edge, self.shared.as_slice())
     }
 
-    /// Whether one of the others, whose boxes come along, may share a stretch with the edge: where it returns false, none does.
-    /// It takes no memory.
+    /// Whether one of the others, whose boxes are given, may share a stretch with the edge. If it returns false, none does. It
+    /// takes no memory.
     pub fn may_share_stretch(edge: &Segment, others: &[Segment], boxes: &EdgeBoxes) -> bool
         requires { BoxesOf boxes.now others.now }
         ensures { result ≡ false → SharesNoStretch edge.now others.now }

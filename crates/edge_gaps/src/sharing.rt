@@ -17,10 +17,10 @@ use orient::Segment;
 use smallvec::SmallVec;
 use std::alloc::AllocError;
 
-/// Of as many edges, and fewer, each is asked: they have no boxes, and no list of those near is kept.
+/// Up to this many edges are all looked at: they have no boxes, and no list of those near is made.
 const FEW_EDGES: usize = 16;
 
-/// Appends the points that an answer names.
+/// Appends the points that a value of `Meet` names.
 fn push_named(points: &mut SmallVec<RatPoint, 8>, answer: &Meet) -> Result<(), AllocError>
     ensures { OnOk result (points.new.items ≡ points.old.items ++ named answer.now) }
 {
@@ -35,7 +35,8 @@ fn push_named(points: &mut SmallVec<RatPoint, 8>, answer: &Meet) -> Result<(), A
     Ok(())
 }
 
-/// Leaves in the vector the points that the edge shares with others, of which each is asked whose bounds meet its own.
+/// Replaces what the vector holds by the points that the edge shares with others. It looks at each of them whose bounds meet
+/// the edge's.
 fn find_among_all(
     edge: &Segment,
     others: &[Segment],
@@ -53,7 +54,7 @@ fn find_among_all(
     Ok(())
 }
 
-/// Leaves in the vector the points that the edge shares with others, of which these are near it.
+/// Replaces what the vector holds by the points that the edge shares with others, of which these are near it.
 fn find_among_near(
     edge: &Segment,
     others: &[Segment],
@@ -70,8 +71,8 @@ fn find_among_near(
     Ok(())
 }
 
-/// Leaves in the vector the points that the edge shares with others, whose boxes come along: of few others it asks each, else
-/// those whose places near it the first vector takes.
+/// Replaces what the second vector holds by the points that the edge shares with others, whose boxes are given. If there are
+/// few others, it looks at each; else at those near it, whose places the first vector takes.
 pub(crate) fn find_shared(
     edge: &Segment,
     others: &[Segment],

@@ -16,8 +16,8 @@ fn is_end(edge: &Segment, point: &RatPoint) -> bool
     RatPoint::of_grid(edge.start()) == *point || RatPoint::of_grid(edge.end()) == *point
 }
 
-/// Leaves in the vector the stops of an edge that shares these points with others: its lesser end, those of the points that
-/// don't end it, and its greater end.
+/// Replaces what the vector holds by the stops of an edge that shares these points with others: its lesser end, those of the
+/// points that aren't its ends, and its greater end.
 pub(crate) fn set_stops(
     stops: &mut SmallVec<RatPoint, 8>,
     edge: &Segment,

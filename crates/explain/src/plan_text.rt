@@ -1,4 +1,4 @@
-//! The texts of EXPLAIN and of EXPLAIN ANALYZE, put into a sink.
+//! Writes the texts of EXPLAIN and of EXPLAIN ANALYZE to a sink.
 
 ghost use Rattle.std.specs.Prelude.{◌≡◌, ◌++◌, decimal, codes, OnOk, OnErr};
 ghost use Rattle.std.specs.Io.KnownBytes.{Appends};

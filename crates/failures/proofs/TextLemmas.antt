@@ -1,4 +1,4 @@
--- How a text of several parts is put.
+-- How a text of several parts is written.
 use Rattle.table_model.specs.FaultLines.{line_of}
 use Rattle.std.proofs.Common.{Result, Ok, Err, OnOk, OnErr, codes, ◌≡◌, ℕ, List, [], ◌∷◌, ◌++◌, Option, subst, append_assoc, append-nil}
 use Rattle.std.specs.List.{concat}

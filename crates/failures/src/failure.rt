@@ -22,17 +22,17 @@ pub enum GeometryWord {
 /// Why the program ends without its answer. Names of tables are lent, as the schema spells them.
 #[derive(Clone, Copy, Debug)]
 pub enum Failure<'a> {
-    /// The schema isn't taken.
+    /// The schema's text is refused.
     Schema(SchemaFault),
     /// The schema's file can't be opened or read.
     SchemaUnreadable,
-    /// The table of this name isn't loaded.
+    /// The table of this name can't be loaded.
     Load(&'a str, LoadFault),
     /// The file of the table of this name can't be opened.
     TableUnreadable(&'a str),
-    /// The query isn't taken.
+    /// The query is refused.
     Query(QueryFault),
-    /// The text of this geometry spells none, or one that isn't valid.
+    /// The text of this geometry isn't well-known text, or its geometry isn't valid.
     Refused(GeometryWord, GeometryFault),
     /// The answer can't be written.
     WriteFailed,
@@ -149,7 +149,7 @@ impl<'a> FaultWords<'a> {
         }
     }
 
-    // A code with words behind it, and a number.
+    // A code with words after it, and a number.
     fn numbered(words: &'a str, first: usize) -> FaultWords<'a>
         ensures { fault_text result ≡ words.entry.now ++ decimal first }
     {

@@ -5,13 +5,13 @@ use std::alloc::AllocError;
 use table_model::faults::{LoadFault, QueryFault, TableFault};
 use thiserror::Error;
 
-/// Why a run ends without an answer, in the order of its steps but for running out of memory, which may come at each.
+/// Why a run ends without an answer, in the order of its steps. Running out of memory may come at each step.
 #[derive(Clone, Copy, Debug, PartialEq, Eq, Error)]
 pub enum Fault {
-    /// The query isn't taken.
+    /// The query is refused.
     #[error("{0}")]
     Query(QueryFault),
-    /// The table at this place of the schema isn't loaded.
+    /// The table at this place of the schema can't be loaded.
     #[error("table {0}: {1}")]
     Load(usize, LoadFault),
     /// The sink failed.

@@ -1,4 +1,4 @@
-//! Geometries, whose facts are in the type.
+//! The type of geometries, which keeps that counts are within the limits, that neighbours differ, and that no part is empty.
 
 ghost use Rattle.std.specs.Prelude.{◌≡◌, ◌<◌, IfOk, IfErr, Some, length, slice_get};
 ghost use Rattle.geometry_model.specs.Geometries as spec;
@@ -61,7 +61,7 @@ impl Model for Geometry {
 }
 
 impl Geometry {
-    /// The geometry of this content, which is within the counts and has no repeats and no empty parts. It takes no memory.
+    /// The geometry of this content, which has to be within the limits, without repeats and without empty parts. It takes no memory.
     pub fn kept(shape: Shape) -> Geometry
         requires { IsKept (geometry_in shape) }
         ensures { result ≡ geometry_in shape }

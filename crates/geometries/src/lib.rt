@@ -1,5 +1,5 @@
-//! Geometries as values, and why a text is none (06-103r4, 6.1 and 7.2). The crate `wkt` reads them from texts and prints
-//! them.
+//! The type of geometries, and the faults of their texts (06-103r4, 6.1 and 7.2). The crate `wkt` reads geometries from
+//! texts and prints them.
 #![tactic(auto)]
 
 pub mod geometry;

@@ -1,4 +1,4 @@
-//! Lines and rings, whose facts are in the type.
+//! The type of lines and rings, which keeps that there are at most 10,000 positions and that neighbours differ.
 
 ghost use Rattle.std.specs.Prelude.{◌≡◌, ◌≤◌, vec_len};
 ghost use Rattle.geometry_model.specs.WellKnownText.{position_limit, without_repeats};
@@ -27,7 +27,7 @@ impl Model for LineString {
 }
 
 impl LineString {
-    /// The line through these positions, in their order, of which no two neighbours are one. It takes no memory.
+    /// The line through these positions, in their order; no two neighbours may be equal. It takes no memory.
     #[tactic(auto, using(crate::proofs::KeptLines::line_is_kept))]
     pub fn new(positions: Vec<GridPoint>) -> LineString
         requires counted { vec_len positions ≤ position_limit }

@@ -1,4 +1,4 @@
-//! Why a text is read as no geometry.
+//! Why a text isn't read as a geometry.
 
 ghost use Rattle.std.specs.Prelude.{◌≡◌};
 ghost use Rattle.geometries.specs.TextFaults.{text_fault};
@@ -7,11 +7,11 @@ use geometry_model::TextFault;
 use std::alloc::{AllocError, AllocFailed};
 use thiserror::Error;
 
-/// Why a text is read as no geometry. Places are bytes from 0. The fault of the text is the first from left to
+/// Why a text isn't read as a geometry. Places are bytes from 0. The fault of the text is the first from left to
 /// right (06-103r4, 7.2; the cases are this project's).
 #[derive(Clone, Copy, Debug, PartialEq, Eq, Error)]
 pub enum WktFault {
-    /// W1: no geometry text can have at this byte what is there, or the text ends here too soon.
+    /// W1: no text of a geometry can have at this byte what is there, or the text ends here too soon.
     #[error("syntax at {0}")]
     Syntax(usize),
     /// W2: the number that begins at this byte isn't whole.

@@ -1,4 +1,4 @@
--- What finitely many points and lines leave free, the first edge above a point, and the triangles beside it.
+-- What finitely many points and lines don't cover, the first edge above a point, and the triangles beside it.
 use Rattle.std.proofs.Common.{ℕ, ◌+◌, ◌*◌, ◌<◌, ◌≡◌, ◌≢◌, ◌⊎◌, inl, inr, true, false, ℤ, pos, ◌-ℤ◌, ◌*ℤ◌, ◌<ℤ◌, sym, ap₂, ◌∙◌, List, [], ◌∷◌, ◌++◌, All, arith}
 use borrow.Author.Differences.{ints}
 use Rattle.std.proofs.lemmas.List.Elements.{All-nil, All-cons}

@@ -1,4 +1,4 @@
--- All points straight below a point, near enough, lie as below says, and all straight above it as above says.
+-- All points straight below a point, near enough, lie where `below` says, and all straight above it where `above` says.
 use Rattle.std.proofs.Common.{ℕ, ◌+◌, ◌<◌, ℤ, pos, negsuc, ◌+ℤ◌, ◌-ℤ◌, ◌*ℤ◌, ◌≤ℤ◌, ◌<ℤ◌, int_lt, int_le, ◌≡◌, ◌⊎◌, inl, inr, Bool, true, false, ◌&&◌, refl, sym, ap, ap₂, subst, ◌∙◌, List, [], ◌∷◌, arith}
 use borrow.Author.Differences.{ints}
 use Rattle.geometry_model.specs.Points.{Point, IsPoint, same_point}

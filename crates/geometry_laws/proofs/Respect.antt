@@ -1,4 +1,4 @@
--- Each definition that takes a point answers alike at a triple and its multiples.
+-- Each definition that takes a point gives the same at a triple and at its multiples.
 use Rattle.std.proofs.Common.{ℤ, pos, ◌*ℤ◌, ◌<ℤ◌, int_lt, int_le, ◌≡◌, List, Bool, true, false, ◌&&◌, ◌||◌, if◌then◌else◌, ap, ap₂, ◌∙◌, [], ◌∷◌, count_by, flat_map, option_to_list}
 use mathlib.Core.Path.{fun_ext}
 use Rattle.std.specs.List.{list_any}

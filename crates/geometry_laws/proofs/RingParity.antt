@@ -1,4 +1,4 @@
--- Two points joined by a straight stretch that misses closed rings, or runs along their edges, have equal parity over the rings.
+-- Two points joined by a straight stretch that misses closed rings, or runs along their edges, are both inside the rings or both outside.
 use Rattle.std.proofs.Common.{ℕ, ◌+◌, ◌<◌, ℤ, pos, ◌+ℤ◌, ◌-ℤ◌, ◌*ℤ◌, ◌≤ℤ◌, ◌<ℤ◌, int_lt, int_le, ◌≡◌, Bool, true, false, cond, not, ◌&&◌, if◌then◌else◌, refl, sym, ap, ap₂, ◌∙◌, List, [], ◌∷◌, negsuc, All, arith}
 use borrow.Author.Differences.{ints}
 use Rattle.geometry_model.specs.Points.{Position, Point, IsPoint, point_at}

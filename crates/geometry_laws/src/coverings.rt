@@ -1,4 +1,4 @@
-//! Laws of what finitely many points and lines leave free, and of the first edge above a point.
+//! Laws of what finitely many points and lines don't cover, and of the first edge above a point.
 
 ghost use Rattle.geometry_laws.specs.CoverLaws.{PointsDontCover, LinesDontCover, FirstIsAbove, SidesHaveTriangles, SidesAreNear, NearPointsStandSo};
 
@@ -17,17 +17,17 @@ pub fn first_is_above()
     ensures { FirstIsAbove }
 {}
 
-/// Just below and just above a point through which no vertical edge goes there are triangles of points that lie as the sides say.
+/// Just below and just above a point through which no vertical edge goes there are triangles of points that lie where `below` and `above` say.
 pub fn sides_have_triangles()
     ensures { SidesHaveTriangles }
 {}
 
-/// Straight below and straight above a point through which no vertical edge goes there are, arbitrarily near, points that lie as `below` and `above` say.
+/// Straight below and straight above a point through which no vertical edge goes there are, arbitrarily near, points that lie where `below` and `above` say.
 pub fn sides_are_near()
     ensures { SidesAreNear }
 {}
 
-/// Straight below and straight above such a point, all points near enough lie as `below` and `above` say.
+/// Straight below and straight above such a point, all points near enough lie where `below` and `above` say.
 pub fn near_points_stand_so()
     ensures { NearPointsStandSo }
 {}

@@ -2,7 +2,7 @@
 
 ghost use Rattle.geometry_laws.specs.SideLaws.{SideIsAntisymmetric, SideIsZeroOnTheLine};
 
-/// From b to a a point lies on the other side than from a to b.
+/// Exchanging the two positions of a line changes the sign of a point's side.
 pub fn side_is_antisymmetric()
     ensures { SideIsAntisymmetric }
 {}

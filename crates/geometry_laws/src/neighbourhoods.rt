@@ -1,8 +1,8 @@
-//! Laws of pieces and neighbourhoods: on what stretches and around which points labels stay as they are.
+//! Laws of pieces and neighbourhoods: on which stretches and around which points labels are constant.
 
 ghost use Rattle.geometry_laws.specs.PieceLaws.{LabelsAreConstant, SidesAreConstant, OffHasTriangle};
 
-/// All points strictly within a piece of two geometries lie alike in both.
+/// All points strictly within a piece of two geometries have one label.
 pub fn labels_are_constant()
     ensures { LabelsAreConstant }
 {}

@@ -1,4 +1,4 @@
-//! Laws of rational points: their equality, their order, the point between two, and that what is said of a point is said of all triples that stand for it.
+//! Laws of rational points: their equality, their order, the point between two, and that what is said of a point doesn't depend on the triple that is taken for it.
 
 ghost use Rattle.geometry_laws.specs.PointLaws.{SameIsReflexive, SameIsSymmetric, SameIsTransitive, CompareIsReversed, EqualIsSame, LessIsTransitive, MediantIsBetween, CompareRespects, SideRespects, OnRespects, SpansRespects, StrictlyAboveRespects, AtOrAboveRespects, OddAboveRespects, OddAtOrAboveRespects, LocateRespects};
 
@@ -17,12 +17,12 @@ pub fn same_is_transitive()
     ensures { SameIsTransitive }
 {}
 
-/// Two points compared the other way round: the reversed answer. So the order is total.
+/// Comparing two points the other way round gives the reversed order. So the order is total.
 pub fn compare_is_reversed()
     ensures { CompareIsReversed }
 {}
 
-/// Two points are equal in the order exactly where they are one point.
+/// Two points compare as equal exactly if they are the same point.
 pub fn equal_is_same()
     ensures { EqualIsSame }
 {}
@@ -67,12 +67,12 @@ pub fn at_or_above_respects()
     ensures { AtOrAboveRespects }
 {}
 
-/// The parity of the edges strictly above a point doesn't depend on its triple.
+/// Whether an odd number of edges are strictly above a point doesn't depend on its triple.
 pub fn odd_above_respects()
     ensures { OddAboveRespects }
 {}
 
-/// The parity of the edges at or above a point doesn't depend on its triple.
+/// Whether an odd number of edges are at or above a point doesn't depend on its triple.
 pub fn odd_at_or_above_respects()
     ensures { OddAtOrAboveRespects }
 {}

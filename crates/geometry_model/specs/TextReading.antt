@@ -96,7 +96,7 @@ sign = do
   minus ← eat 45
   if minus then pure true else (eat 43 >> pure false)
 
--- the digits behind a point, or none
+-- the digits after a point, or none
 unfoldable pub fraction : Reader (List ℕ)
 fraction = do
   has_point ← eat 46

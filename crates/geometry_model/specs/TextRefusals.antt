@@ -31,7 +31,7 @@ pub record HasNumber (text : List ℕ) (at : ℕ) (minus : Bool) (whole fraction
   pub begins : TakesNumber front
   pub number : IsFirstNumber tail minus whole fraction
 
--- W2: a digit behind the number's point isn't 0
+-- W2: a digit after the number's point isn't 0
 pub record IsOffGrid (text : List ℕ) (at : ℕ) : Type 0 where
   pub minus : Bool
   pub whole : List ℕ

@@ -79,16 +79,16 @@ Sign true text = text ≡ codes "-"
 abbrev pub Digits : List ℕ → Rule
 Digits digits text = (text ≡ digits) × (list_all is_ascii_digit digits ≡ true)
 
--- a point with these digits behind it, or nothing (06-103r4, 7.2.2: decimal point)
+-- a point with these digits after it, or nothing (06-103r4, 7.2.2: decimal point)
 abbrev pub Fraction : List ℕ → Rule
 Fraction digits text = ((text ≡ []) × (digits ≡ [])) ⊎ (Byte 46 ⨾ Digits digits) text
 
--- a number as it is written: its sign, and the digits before and behind the point, one at least
+-- a number as it is written: its sign, and the digits before and after the point, one at least
 -- (06-103r4, 7.2.2: signed numeric literal; without exponents: this project's choice)
 abbrev pub Numeral : Bool → List ℕ → List ℕ → Rule
 Numeral minus whole fraction text = (Sign minus ⨾ Digits whole ⨾ Fraction fraction) text × (0 < length whole + length fraction)
 
--- the digits behind the point are all 0, so the number is whole
+-- the digits after the point are all 0, so the number is whole
 abbrev pub is_whole : List ℕ → Bool
 is_whole fraction = list_all (λ c. c == 48) fraction
 

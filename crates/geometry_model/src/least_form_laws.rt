@@ -3,7 +3,7 @@
 
 ghost use Rattle.geometry_model.specs.LeastFormLaws.{GcdIsGcd, LeastFormIsLeast, LeastFormIsUnique};
 
-/// What Euclid's remainders end with is the greatest common divisor.
+/// `gcd` of the definitions is the greatest common divisor.
 pub fn gcd_is_greatest()
     ensures { GcdIsGcd }
 {}
@@ -13,7 +13,7 @@ pub fn least_form_is_least()
     ensures { LeastFormIsLeast }
 {}
 
-/// Two triples in least form that stand for one point are one triple.
+/// Two triples in least form that are the same point are equal.
 pub fn least_form_is_unique()
     ensures { LeastFormIsUnique }
 {}

@@ -1,13 +1,13 @@
-//! Where a point lies in a geometry, and how large a set of points is.
+//! Where a point lies in a geometry, and the dimension of a set of points.
 
-/// Which of the three point sets of a geometry a point belongs to (06-103r4, 6.1.15.2).
+/// One of the three parts of the plane that a geometry makes (06-103r4, 6.1.15.2).
 #[derive(Clone, Copy, Debug, PartialEq, Eq)]
 pub enum Location {
-    /// In the geometry, off its boundary.
+    /// The points of the geometry that aren't on its boundary.
     Interior,
-    /// On its boundary.
+    /// The boundary.
     Boundary,
-    /// Off the geometry.
+    /// The points that aren't in the geometry.
     Exterior,
 }
 

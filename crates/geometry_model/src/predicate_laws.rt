@@ -3,8 +3,8 @@
 
 ghost use Rattle.geometry_model.specs.PredicateLaws.{ConverseOfTransposed};
 
-/// A predicate of two geometries is its converse of the two the other way round: Within is Contains, each other named
-/// predicate is itself, and a pattern is the transposed one.
+/// A predicate holds of two geometries exactly if its converse holds of them in the other order. The converse of Within
+/// is Contains, that of a pattern is the transposed one, and each other named predicate is its own.
 pub fn converse_is_transposed()
     ensures { ConverseOfTransposed }
 {}

@@ -17,8 +17,8 @@ pub enum PatternCharacter {
     Two,
 }
 
-/// A pattern of nine characters, one for each cell of the matrix: the first word of a field is the part of the
-/// first geometry, the second that of the other (06-103r4, 6.1.15.2).
+/// A pattern of nine characters, one for each cell of the matrix. The first word of a field's name is the part of the first
+/// geometry, the second word that of the second (06-103r4, 6.1.15.2).
 #[derive(Clone, Copy, Debug, PartialEq, Eq)]
 pub struct Pattern {
     pub interior_interior: PatternCharacter,
@@ -32,7 +32,7 @@ pub struct Pattern {
     pub exterior_exterior: PatternCharacter,
 }
 
-/// The spatial predicates of two geometries (06-103r4, 6.1.15.3; which matrices each takes is this project's).
+/// The spatial predicates of two geometries (06-103r4, 6.1.15.3; their patterns are this project's).
 #[derive(Clone, Copy, Debug, PartialEq, Eq)]
 pub enum Predicate {
     Equals,
@@ -43,6 +43,6 @@ pub enum Predicate {
     Within,
     Contains,
     Overlaps,
-    /// True where the matrix matches the pattern.
+    /// Holds if the matrix matches the pattern.
     Relate(Pattern),
 }

@@ -1,6 +1,6 @@
 //! The types of geometry, and the kind of each.
 
-/// The instantiable types of geometry that are served (06-103r4, 6.1.4 to 6.1.11).
+/// The types of geometry that sfq has (06-103r4, 6.1.4 to 6.1.14).
 #[derive(Clone, Copy, Debug, PartialEq, Eq)]
 pub enum GeometryType {
     Point,
@@ -11,8 +11,8 @@ pub enum GeometryType {
     MultiPolygon,
 }
 
-/// What a geometry is by its type, also where it is empty: the `P`, `L` and `A` of the predicates
-/// (06-103r4, 6.1.15.3).
+/// The kind of a geometry: points, lines or areas, which are `P`, `L` and `A` in the standard's predicates. It depends
+/// on the type alone, so an empty geometry has one too (06-103r4, 6.1.15.3).
 #[derive(Clone, Copy, Debug, PartialEq, Eq)]
 pub enum Kind {
     /// Point and MultiPoint.

@@ -1,10 +1,10 @@
-//! Why a text is no geometry.
+//! Why a text isn't a geometry.
 
 /// The first fault of a well-known text, from left to right (06-103r4, 7.2; the cases are this project's). Places are
 /// bytes from 0.
 #[derive(Clone, Copy, Debug, PartialEq, Eq)]
 pub enum TextFault {
-    /// W1: no geometry text can have at this byte what is there, or the text ends here too soon.
+    /// W1: no text of a geometry can have at this byte what is there, or the text ends here too soon.
     Syntax(usize),
     /// W2: the number that begins at this byte isn't whole.
     OffGrid(usize),

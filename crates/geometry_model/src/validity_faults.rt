@@ -1,20 +1,20 @@
 //! Why a geometry isn't valid.
 
-/// The first fault of a geometry that isn't valid (06-103r4, 6.1.7, 6.1.11 and 6.1.14; the order is this project's). Elements
-/// are numbered from 0, and so are rings, through all elements; the first ring of an element is its outer one.
+/// The first fault of a geometry that isn't valid (06-103r4, 6.1.7, 6.1.11 and 6.1.14; the order is this project's). Lines
+/// and elements are numbered from 0. So are rings, through all elements; the first ring of an element is its outer one.
 #[derive(Clone, Copy, Debug, PartialEq, Eq)]
 pub enum ValidityFault {
-    /// V1: the line with this number has a single position, or the ring fewer than 4 with the closing one.
+    /// V1: the line with this number has a single position, or the ring has fewer than 4, its closing one counted.
     TooFewPoints(usize),
     /// V2: the ring's first position isn't its last.
     RingNotClosed(usize),
-    /// V3: the ring meets or covers itself.
+    /// V3: the ring touches, crosses or covers itself.
     RingNotSimple(usize),
     /// V4: the two rings of one element share a point; the lesser number comes first.
     RingsMeet(usize, usize),
     /// V5: the hole isn't inside the outer ring of its element.
     HoleOutside(usize),
-    /// V6: of the two holes of one element one is inside the other; the lesser number comes first.
+    /// V6: one of the two holes of an element is inside the other; the lesser number comes first.
     HolesNested(usize, usize),
     /// V7: rings of the two elements share a point; the lesser number comes first.
     ElementsMeet(usize, usize),

@@ -3,7 +3,7 @@
 
 ghost use Rattle.grammar_laws.specs.BoundLaws.{GeometryQueriesAreBound};
 
-/// What a query with geometries is bound to has its tables and columns in the definitions, and its types fit.
+/// The tables and columns of what a query with geometries is bound to are in the definitions, and its types fit.
 pub fn geometry_queries_are_bound()
     ensures { GeometryQueriesAreBound }
 {}

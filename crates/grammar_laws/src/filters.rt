@@ -15,7 +15,7 @@ pub fn conjuncts_by_parts<A>()
     ensures { ConjunctsByParts A }
 {}
 
-/// A query is bound to the conjuncts of its ON and its WHERE as they are written, and both bindings have one fault.
+/// A query is bound to the conjuncts of its ON and its WHERE as they are written. The two ways to bind it have the same fault.
 pub fn bound_of_statement<T, A, B, C, D>()
     ensures { BoundOfStatement T A B C D }
 {}
@@ -25,17 +25,17 @@ pub fn conjuncts_bound_by_parts<T, A, B, C, D>()
     ensures { ConjunctsBoundByParts T A B C D }
 {}
 
-/// A choice of rows passes all conjuncts of a condition exactly where it is true.
+/// A choice of rows passes all conjuncts of a condition exactly if the condition is true there.
 pub fn conjuncts_are_true<G, A>()
     ensures { ConjunctsAreTrue G A }
 {}
 
-/// A choice of rows passes all conjuncts of a query exactly where its ON and its WHERE, joined by AND, are true.
+/// A choice of rows passes all conjuncts of a query exactly if its ON and its WHERE, joined by AND, are true there.
 pub fn conjuncts_are_filtered<G, A, C>()
     ensures { ConjunctsAreFiltered G A C }
 {}
 
-/// What a query means is what its conjuncts filter.
+/// The meaning of a query is the rows that pass its conjuncts.
 pub fn meaning_by_conjuncts<G, A, C>()
     ensures { MeaningByConjuncts G A C }
 {}

@@ -3,32 +3,32 @@
 
 ghost use Rattle.grammar_laws.specs.QueryLaws.{ReadIsQuery, QueryIsRead, OneTree, ReferencesAreFew, RefusalStands, FirstIsRead};
 
-/// What a text is read as, it is by the grammar.
+/// The query that a text is read as is its query by the grammar.
 pub fn read_is_query()
     ensures { ReadIsQuery }
 {}
 
-/// Whatever query a text is by the grammar, it is read as that one.
+/// A text that is a query by the grammar is read as that query.
 pub fn query_is_read()
     ensures { QueryIsRead }
 {}
 
-/// A text is one query at most.
+/// A text is at most one query.
 pub fn one_tree()
     ensures { OneTree }
 {}
 
-/// A query has one reference or two: a tree with none or with three is none of any text.
+/// A query has one reference or two: no text has a tree with none or with three.
 pub fn references_are_few()
     ensures { ReferencesAreFew }
 {}
 
-/// A condition nested too deep, or a number too big, that a text is refused for applies there by the grammar.
+/// If a text is refused for a condition nested too deep or a number too big, the fault applies there by the grammar.
 pub fn refusal_stands()
     ensures { RefusalStands }
 {}
 
-/// Where conditions are nested too deep or a number is too big, the first such fault is what a text is refused for.
+/// If conditions are nested too deep or numbers are too big in a text, it is refused for the first such fault.
 pub fn first_is_read()
     ensures { FirstIsRead }
 {}

@@ -23,7 +23,7 @@ pub fn statements_agree()
     ensures { StatementsAgree }
 {}
 
-/// What it is bound to with its conjuncts, and the fault that it is refused for, is what the rules say.
+/// What a query with geometries is bound to with its conjuncts, and the fault that it is refused for, is what the rules say.
 pub fn bindings_agree()
     ensures { BindingsAgree }
 {}

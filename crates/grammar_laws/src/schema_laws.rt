@@ -9,27 +9,27 @@ ghost use Rattle.grammar_laws.specs.SchemaLaws.{
   FirstSchemaFaultIsRead,
 };
 
-/// The tables that a text is read as, it is the schema of by the grammar.
+/// The tables that a text is read as are those of its schema by the grammar.
 pub fn read_is_schema<T>()
     ensures { ReadIsSchema T }
 {}
 
-/// Whatever tables a text is the schema of by the grammar, it is read as those.
+/// A text that is a schema by the grammar is read as the tables of that schema.
 pub fn schema_is_read<T>()
     ensures { SchemaIsRead T }
 {}
 
-/// A text is one schema at most.
+/// A text is at most one schema.
 pub fn one_schema<T>()
     ensures { OneSchema T }
 {}
 
-/// A refusal at a token that a text is refused for applies there by the grammar.
+/// If a text is refused for a fault at a token, the fault applies there by the grammar.
 pub fn schema_refusal_stands<T>()
     ensures { SchemaRefusalStands T }
 {}
 
-/// Where refusals at a token apply, the first of them is what a text is refused for.
+/// If faults apply at tokens of a text, it is refused for the first of them.
 pub fn first_schema_fault_is_read<T>()
     ensures { FirstSchemaFaultIsRead T }
 {}

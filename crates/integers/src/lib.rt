@@ -1,14 +1,14 @@
-//! Whole numbers without limit, for proofs: the laws of sums, products and orders on which the geometry rests. Nothing here runs: each function has an empty body, and its contract is a law.
+//! Laws of sums, products and orders of whole numbers, which the proofs of geometry use. Nothing here runs: each function has an empty body, and its contract is a law.
 #![tactic(auto)]
 
 ghost use Rattle.integers.specs.Laws.{Distributes, Associates, ProductOfDifferences, LessIsTransitive, AtMostIsTransitive, ZeroProduct, SignIsKept};
 
-/// A product goes over a sum: `a (b + c) = a b + a c`.
+/// Multiplication distributes over addition: `a (b + c) = a b + a c`.
 pub fn product_distributes()
     ensures { Distributes }
 {}
 
-/// Three factors may be grouped either way: `(a b) c = a (b c)`.
+/// Multiplication is associative: `(a b) c = a (b c)`.
 pub fn product_associates()
     ensures { Associates }
 {}

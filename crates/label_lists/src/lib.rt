@@ -1,5 +1,5 @@
-//! Labels: where the nodes, the pieces and their sides of two geometries lie in both (OGC 06-103r4, 6.1.15.2; labels:
-//! this project's choice). They are values; the crate `side_labels` finds them.
+//! Labels: where the nodes, the pieces and the pieces' sides of two geometries lie in both (OGC 06-103r4, 6.1.15.2; labels:
+//! this project's choice). Here are their types; the crate `side_labels` finds them.
 #![tactic(auto)]
 
 ghost use Rattle.std.specs.Prelude.{◌≡◌};
@@ -39,7 +39,7 @@ impl Label {
     }
 }
 
-/// Whether two parts are one.
+/// Whether two parts are equal.
 fn same_location(a: Location, b: Location) -> bool
     ensures { result ≡ same_location a b }
 {

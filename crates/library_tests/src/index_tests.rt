@@ -69,7 +69,7 @@ fn the_tree_finds(rt: HostRuntime) -> Result<(), Fail> {
     finds::<RTree>(&rt)
 }
 
-// The envelopes of 100 positions on a line, the last one first, and an absent one behind them.
+// The envelopes of 100 positions on a line, the last one first, and an absent one after them.
 fn on_a_line(alloc: Global) -> Result<Vec<Option<Envelope>>, Fail> {
     let mut envelopes = Vec::new(alloc);
     for k in 0..100u8 {

@@ -39,7 +39,7 @@ fn push_position(draws: &mut Draws, text: &mut String, alloc: Global) -> Result<
     text.push_str(draws.below(SIDE).to_string(alloc)?.as_str())
 }
 
-// Adds further positions to a list of one, until it has so many.
+// Adds further positions to a list of one, until it has this many.
 fn push_others(
     draws: &mut Draws,
     text: &mut String,
@@ -53,7 +53,7 @@ fn push_others(
     Ok(())
 }
 
-// Adds a beginning, a list of so many positions and its end.
+// Adds a beginning, a list of this many positions and its end.
 fn push_line(
     draws: &mut Draws,
     text: &mut String,
@@ -67,7 +67,7 @@ fn push_line(
     text.push_str(")")
 }
 
-// Adds a beginning, a ring of so many positions, the closing one not counted, and the end of it and of its polygon.
+// Adds a beginning, a ring of this many positions, the closing one not counted, and the end of it and of its polygon.
 fn push_ring(
     draws: &mut Draws,
     text: &mut String,

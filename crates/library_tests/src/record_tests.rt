@@ -1,4 +1,4 @@
-//! Records put into a sink.
+//! Tests of records that are written to a sink.
 
 use csv::ByteRecord;
 use records::RecordWriter;

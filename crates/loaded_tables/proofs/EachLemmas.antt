@@ -1,4 +1,4 @@
--- Answers taken in turn, up to the first fault.
+-- Results taken in turn, up to the first fault.
 use Rattle.std.proofs.Common.{◌≡◌, ◌∙◌, ◌+◌, ◌++◌, ◌<◌, ◌≤◌, ℕ, zero, suc, List, [], ◌∷◌, Result, Ok, Err, ap, arith, get_or, length, map, refl, sym, take}
 use Rattle.std.specs.Prelude.{IsOk}
 use Rattle.std.proofs.lemmas.List.{map-append, take_all, take_more}

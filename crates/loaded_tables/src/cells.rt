@@ -1,4 +1,4 @@
-//! What a row shows of a field.
+//! The fields of a row, as a row lends them.
 
 ghost use Rattle.std.specs.Prelude.{◌≡◌};
 ghost use Rattle.loaded_tables.specs.Cells.{shown};
@@ -6,7 +6,7 @@ ghost use Rattle.loaded_tables.specs.Cells.{shown};
 use crate::geometry_fields::Geometry;
 use table_model::values::Value;
 
-/// A field of a row, its text or geometry lent by the table. (06-104r4, feature tables.)
+/// A field of a row. Its text or geometry is borrowed from the table. (06-104r4, feature tables.)
 #[derive(Clone, Copy)]
 pub enum Field<'a> {
     /// No value.
@@ -19,7 +19,7 @@ pub enum Field<'a> {
     Geom(&'a Geometry),
 }
 
-/// What a value shows.
+/// The field of a value.
 pub(crate) fn field_of(value: &Value<Geometry>) -> Field<'_>
     ensures { shown result ≡ value.now }
 {

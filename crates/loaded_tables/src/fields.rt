@@ -16,7 +16,7 @@ use table_model::faults::LoadFault;
 use table_model::texts::OwnedText;
 use table_model::values::Value;
 
-/// Whether a byte is passed over around a number.
+/// Whether a byte is a blank, which may be around a number: a space or a tab.
 fn is_blank(byte: u8) -> bool
     ensures { result ≡ spec.is_space_or_tab byte }
 {
@@ -58,7 +58,7 @@ fn trimmed(field: &[u8]) -> &[u8]
     &rest[..rest.len() - blanks_at_end(rest)]
 }
 
-/// The whole number that a text is.
+/// The whole number that a text writes, if it writes one of 64 bits.
 fn number_in(text: &[u8]) -> Option<i64>
     ensures { result ≡ spec.number_in text.now }
 {
@@ -68,7 +68,7 @@ fn number_in(text: &[u8]) -> Option<i64>
     }
 }
 
-/// The whole number that a field spells, blanks around it passed over.
+/// The whole number that a field writes, perhaps with blanks around it.
 #[tactic(auto, unfolding(table_model::specs::Loading::integer_of))]
 fn integer_of(field: &[u8]) -> Option<i64>
     ensures { result ≡ spec.integer_of field.now }

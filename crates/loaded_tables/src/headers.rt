@@ -14,7 +14,7 @@ use std::alloc::Global;
 use table_model::faults::LoadFault;
 use table_model::texts::same_name;
 
-/// A header as a table sees it.
+/// Where a table finds its columns in a header.
 #[derive(Drop)]
 pub(crate) struct Layout {
     /// The place in the header of each column, in the order of the columns.
@@ -23,14 +23,14 @@ pub(crate) struct Layout {
     pub(crate) width: usize,
 }
 
-/// The field of a record at a place, empty where there is none.
+/// The field of a record at a place; empty if there is none.
 pub(crate) fn field_at(record: &ByteRecord, place: usize) -> &[u8]
     ensures { result.now ≡ slice_index_or (fields_of record.now) place [] }
 {
     record.get(place).unwrap_or(&[])
 }
 
-/// The place of the one field of a header that has this name.
+/// The place of the one field of a header that has this name; MissingColumn if none has it, DoubleHeader if several have.
 fn place_of(header: &ByteRecord, name: &[u8]) -> Result<usize, LoadFault>
     ensures not_reading { IfErr result (λ f. is_of_reading f ≡ false) }
     ensures place { MatchResult result

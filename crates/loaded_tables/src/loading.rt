@@ -21,7 +21,7 @@ use table_model::faults::LoadFault;
 use table_model::values::Value;
 use table_parts::{Records, next_record};
 
-/// Reads the next record, and returns its row where there is one.
+/// Reads the next record, and returns its row; none after the last record.
 fn next_row<R: Read + Drop>(
     alloc: Global,
     table: &TableDef,
@@ -50,8 +50,8 @@ fn next_row<R: Read + Drop>(
     Ok(Some(row))
 }
 
-/// Reads the records after the header, each of which is a row. The record after the last that is allowed has
-/// a fault.
+/// Reads the records after the header, and returns their rows or the first fault. TooManyRows is the fault of the first
+/// record that is too many.
 pub(crate) fn read_rows<R: Read + Drop>(
     alloc: Global,
     table: &TableDef,

@@ -53,7 +53,7 @@ impl Schema {
         self.tables.as_slice()
     }
 
-    /// Lends the definition at a place, which is lawful by itself.
+    /// Lends the definition at a place, which is a lawful one.
     pub fn table(&self, place: usize) -> &TableDef
         requires { place < length self.now }
         ensures value { slice_get self.now place ≡ Some result.now }
@@ -125,7 +125,7 @@ fn has_key(columns: &[ColumnDef], key: usize) -> bool
     }
 }
 
-/// Whether a table is lawful by itself.
+/// Whether the definition of a table is lawful.
 fn is_lawful_table(table: &TableDef) -> bool
     ensures { result ≡ lawful_table table.now }
 {
@@ -133,16 +133,16 @@ fn is_lawful_table(table: &TableDef) -> bool
     columns.len() <= COLUMN_LIMIT && columns_differ(columns) && has_key(columns, table.key)
 }
 
-/// Whether each of these tables is lawful by itself.
+/// Whether the definition of each of these tables is lawful.
 fn are_lawful(tables: &[TableDef]) -> bool
     ensures { result ≡ list_all lawful_table tables.now }
 {
     tables.iter().all(is_lawful_table)
 }
 
-/// Whether a list of table definitions is lawful: at most 16 tables of at most 32 columns, names of tables
-/// and names of columns that differ without regard to ASCII case, and of each table a key, which is an
-/// INTEGER column. The empty list is lawful. It takes no memory. (06-104r4, feature tables, of the key)
+/// Whether a list of table definitions is lawful: there are at most 16 tables of at most 32 columns; the names of tables
+/// differ, and so do the names of a table's columns, without regard to ASCII case; the key of each table is an INTEGER
+/// column. The empty list is lawful. It takes no memory. (06-104r4, feature tables, of the key)
 #[tactic(auto, unfolding(table_model::specs::Definitions::lawful))]
 pub fn lawful(tables: &[TableDef]) -> bool
     ensures { result ≡ lawful tables.now }

@@ -42,7 +42,7 @@ impl<'a> Model for Row<'a> {
 }
 
 impl<'a> Row<'a> {
-    /// How many fields the row has. Of a table that was loaded they are as many as its columns.
+    /// How many fields the row has: as many as its table has columns.
     pub fn len(&self) -> usize
         ensures { result ≡ length self.now }
     {
@@ -82,12 +82,11 @@ impl<I: EnvelopeIndex> Model for Table<I> {
 }
 
 impl<I: EnvelopeIndex + Drop> Table<I> {
-    /// Loads the table of a definition, which is lawful by itself, from the CSV text that a reader gives. The
-    /// answer is the first fault where there is one: of the header, then of the records in order, then a
-    /// repeated key. A fault of reading is returned where it comes. Whatever the reader is, there are records
-    /// of which this is the answer, and at Ok the rows are those of a table of this definition. It is
-    /// `Table::load_from` over the records of the reader, so at most 100,002 of them are read, the header
-    /// among them. (06-104r4, feature tables.)
+    /// Loads the table of a lawful definition from the CSV text that a reader gives. The error is the first fault: of the
+    /// header, then of the records in order, then a repeated key; `ReadFailed` comes where reading failed, and `OutOfMemory` may
+    /// come in place of any result. Whatever the reader is, there are records whose table or fault this is. It is
+    /// `Table::load_from` over the records of the reader, so at most 100,002 of them are read, with the header.
+    /// (06-104r4, feature tables.)
     pub fn load<R: Read + Drop>(
         alloc: Global,
         table: &TableDef,
@@ -103,10 +102,9 @@ impl<I: EnvelopeIndex + Drop> Table<I> {
         Table::load_from(alloc, table, &mut records)
     }
 
-    /// Loads the table of a definition, which is lawful by itself, from records of which none was asked for
-    /// yet. The answer is that of `Table::load`. It asks for at most 100,002 records, the header among them,
-    /// and returns that reading failed only where `csv` returned an error of reading, and where no record
-    /// before that one has a fault.
+    /// Loads the table of a lawful definition from records of which none was read yet. The result is that of `Table::load`. It
+    /// asks for at most 100,002 records, with the header. It returns `ReadFailed` only if `csv` returned an error of reading and
+    /// no record before has a fault.
     pub fn load_from<R: Read + Drop>(
         alloc: Global,
         table: &TableDef,
@@ -127,7 +125,7 @@ impl<I: EnvelopeIndex + Drop> Table<I> {
     {
         let mut header = ByteRecord::new(alloc);
         let found = next_record(records, &mut header)?;
-        // No header record is a header without fields, so it lacks the first column.
+        // Without a header record, the header has no fields, so it lacks the first column.
         if !found {
             return Err(LoadFault::MissingColumn);
         }
@@ -138,8 +136,8 @@ impl<I: EnvelopeIndex + Drop> Table<I> {
         Ok(Table { rows, indexes })
     }
 
-    /// How many rows there are. They are the rows of a table: at most 100,000, strictly ascending by key,
-    /// each value one for its column. (06-104r4, feature tables.)
+    /// How many rows there are: at most 100,000. They strictly ascend by key, and each value fits its column. (06-104r4,
+    /// feature tables.)
     pub fn rows(&self) -> usize
         ensures count { result ≡ length self.now }
         ensures table { IsTable takes self.now }
@@ -157,8 +155,8 @@ impl<I: EnvelopeIndex + Drop> Table<I> {
         }
     }
 
-    /// Lends the index of a column: it lists the envelope of the column's geometry in each row. That of NULL, as that of
-    /// an empty geometry, is absent, and so is each in a column that holds no geometries. (06-103r4, 6.1.2.2: Envelope.)
+    /// Lends the index of a column: it lists the envelope of the column's geometry in each row. NULL and an empty geometry have
+    /// none, and in a column that isn't one of geometries no row has one. (06-103r4, 6.1.2.2: Envelope.)
     pub fn index(&self, column: usize) -> &I
         ensures { I.indexed result.now ≡ column_envelopes column self.now }
     {

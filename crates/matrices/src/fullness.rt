@@ -1,4 +1,4 @@
-//! When a matrix shows all that the edges of its first geometry can show.
+//! Tests whether a matrix shows all that the edges of its first geometry can show, so that the search can stop.
 
 ghost use Rattle.std.specs.Prelude.{◌≡◌, true};
 ghost use Rattle.cover_laws.specs.CoveringLaws.{IsFullOff, IsFullOn};

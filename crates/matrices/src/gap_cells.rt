@@ -1,4 +1,4 @@
-//! What a gap of an edge shows of a matrix.
+//! Raises the cells of a matrix by the gaps of an edge.
 
 ghost use Rattle.std.specs.Prelude.{◌≡◌, ◌↔◌, IsTrue, All, Contains, pos, ◌≤ℤ◌};
 ghost use Rattle.geometry_model.specs.Geometries.{edges};
@@ -19,14 +19,14 @@ use orient::Segment;
 use side_labels::{Sides, sides_at, sides_by};
 use validity::Valid;
 
-/// Whether both ends of an edge have one x.
+/// Whether both ends of an edge have the same x.
 fn is_upright(edge: &Segment) -> bool
     ensures { IsTrue result ↔ (edge.now.start.x ≡ edge.now.end.x) }
 {
     edge.start().x() == edge.end().x()
 }
 
-/// How a point lies to the edges of a geometry.
+/// How a point lies relative to the edges of a geometry.
 fn crossings(valid: &Valid, p: &RatPoint) -> Crossings
     ensures { AreCrossings result (edges valid.now) p.now }
 {
@@ -49,8 +49,8 @@ fn off_edges(kind: Kind, is_odd_above: bool) -> Location
     }
 }
 
-/// Shows what a gap of an edge of the first geometry shows that lies in this part of the second one, off its edges: the gap
-/// itself and, where it isn't vertical, its sides, of which one is exterior to the first geometry, and of an area's edge the other
+/// Raises cells by a gap of an edge of the first geometry that lies in this part of the second one, off its edges: by the gap
+/// itself and, if it isn't vertical, by its sides. One side is exterior to the first geometry, and at an area's edge the other is
 /// interior (OGC 06-103r4, 6.1.15.2).
 fn raise_off(first: &Valid, edge: &Segment, part: Location, matrix: &mut MatrixCells)
     ensures { IsRaisedTo (λ m. ShowsOff first.now m edge.now part) matrix.old matrix.new }
@@ -65,7 +65,7 @@ fn raise_off(first: &Valid, edge: &Segment, part: Location, matrix: &mut MatrixC
     }
 }
 
-/// Shows that the lower sides of both geometries share an area, and the upper ones (OGC 06-103r4, 6.1.15.2).
+/// Raises the cells of both geometries' lower sides and of their upper ones to an area (OGC 06-103r4, 6.1.15.2).
 fn raise_sides(first: &Sides, second: &Sides, matrix: &mut MatrixCells)
     ensures { matrix.new ≡ with_sides first.now second.now matrix.old }
 {
@@ -73,9 +73,9 @@ fn raise_sides(first: &Sides, second: &Sides, matrix: &mut MatrixCells)
     matrix.raise(first.upper, second.upper, Dimension::Two);
 }
 
-/// Shows what the point of a gap shows at which the gap is asked for. Off the second geometry's edges `raise_off` says it. A gap
-/// that one of them shares shows itself and, where it isn't vertical, its sides as they lie at the point in both geometries
-/// (OGC 06-103r4, 6.1.15.2).
+/// Raises cells by a gap, of which a point is given. Off the second geometry's edges this is `raise_off`. If one of these edges
+/// shares the gap, cells are raised by the gap itself and, if it isn't vertical, by its sides as they lie at the point in both
+/// geometries (OGC 06-103r4, 6.1.15.2).
 fn raise_at(first: &Valid, second: &Valid, edge: &Segment, p: &RatPoint, matrix: &mut MatrixCells)
     ensures { IsRaisedTo (λ m. ShowsAt first.now second.now m edge.now p.now) matrix.old matrix.new }
 {
@@ -99,7 +99,7 @@ fn raise_at(first: &Valid, second: &Valid, edge: &Segment, p: &RatPoint, matrix:
     }
 }
 
-/// Shows what the point of a gap shows, unless an edge of the second geometry holds it.
+/// Raises cells by a gap, of which a point is given, unless an edge of the second geometry shares it.
 fn raise_off_at(
     first: &Valid,
     second: &Valid,
@@ -121,7 +121,7 @@ fn raise_off_at(
     );
 }
 
-/// Shows what the gaps between neighbouring stops of an edge of the first geometry show.
+/// Raises cells by the gaps between neighbouring stops of an edge of the first geometry.
 pub(crate) fn raise_gaps(
     first: &Valid,
     second: &Valid,
@@ -143,7 +143,7 @@ pub(crate) fn raise_gaps(
     }
 }
 
-/// Shows what those of the gaps between neighbouring stops of an edge of the first geometry show that lie off the second's edges.
+/// Raises cells by those gaps between neighbouring stops of an edge of the first geometry that lie off the second's edges.
 pub(crate) fn raise_gaps_off(
     first: &Valid,
     second: &Valid,

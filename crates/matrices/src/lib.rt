@@ -1,5 +1,5 @@
-//! The cells of the DE-9IM matrix of two valid geometries, found by asking each edge of one where it lies to the other, and
-//! nothing that can't change a cell any more (OGC 06-103r4, 6.1.15.2).
+//! Finds the cells of the DE-9IM matrix of two valid geometries. It goes through the edges of each, and locates them in the
+//! other, but skips what can't change a cell any more (OGC 06-103r4, 6.1.15.2).
 #![tactic(auto)]
 
 mod fullness;

@@ -1,4 +1,4 @@
-//! What the edges of a geometry show of a matrix.
+//! Raises the cells of a matrix by the edges of a geometry.
 
 ghost use Rattle.std.specs.Prelude.{◌≡◌, All, Contains, OnOk};
 ghost use Rattle.geometry_model.specs.Geometries.{kind, edges};
@@ -23,7 +23,7 @@ use orient::Segment;
 use std::alloc::AllocError;
 use validity::Valid;
 
-/// Whether it is shown that almost all parts of both geometries' own edges share a point.
+/// Whether the matrix shows a common point of the two parts in which almost all points of each geometry's own edges lie.
 fn shows_meeting(first: &Valid, second: &Valid, matrix: &MatrixCells) -> bool
     ensures { result ≡ at_most Zero
         (cell matrix.now (of_own_edges (kind first.now)) (of_own_edges (kind second.now))) }
@@ -35,7 +35,8 @@ fn shows_meeting(first: &Valid, second: &Valid, matrix: &MatrixCells) -> bool
     )
 }
 
-/// Shows points that edges of both geometries share, until nothing more can come: the odd ends of lines are shown already.
+/// Raises cells by points that edges of both geometries share, until no further one can raise a cell. The matrix shows the odd
+/// ends of lines already.
 fn raise_shared(first: &Valid, second: &Valid, shared: &[RatPoint], matrix: &mut MatrixCells)
     requires ends { ShowsEnds first.now second.now matrix.old }
     requires shared { All (IsOnBoth first.now second.now) shared.now }
@@ -50,7 +51,7 @@ fn raise_shared(first: &Valid, second: &Valid, shared: &[RatPoint], matrix: &mut
     }
 }
 
-/// Shows what an edge of the first geometry shows. It may run out of memory.
+/// Raises cells by an edge of the first geometry. It fails only when memory runs out.
 fn raise_edge(
     first: &Valid,
     second: &Valid,
@@ -78,7 +79,7 @@ fn raise_edge(
     Ok(())
 }
 
-/// Shows what the edges of the first geometry show, until nothing more can come. It may run out of memory.
+/// Raises cells by the edges of the first geometry, until no further one can raise a cell. It fails only when memory runs out.
 pub(crate) fn raise_edges(
     first: &Valid,
     second: &Valid,
@@ -101,7 +102,7 @@ pub(crate) fn raise_edges(
     Ok(())
 }
 
-/// Shows what an edge of the first geometry shows off the second's edges. It may run out of memory.
+/// Raises cells by what of an edge of the first geometry lies off the second's edges. It fails only when memory runs out.
 fn raise_edge_off(
     first: &Valid,
     second: &Valid,
@@ -123,8 +124,8 @@ fn raise_edge_off(
     Ok(())
 }
 
-/// Shows what the edges of the first geometry show where the matrix covers those of the second: what they share is shown then,
-/// and only gaps off the second's edges can show more. It ends where nothing more can come, and may run out of memory.
+/// Raises cells by the edges of the first geometry once the matrix covers those of the second. It then shows what both share, so
+/// only gaps off the second's edges can raise a cell. It stops when none can any more, and fails only when memory runs out.
 pub(crate) fn raise_edges_off(
     first: &Valid,
     second: &Valid,

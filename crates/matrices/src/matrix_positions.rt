@@ -1,4 +1,4 @@
-//! What listed positions and the ends of lines show of a matrix.
+//! Raises the cells of a matrix by listed positions and the ends of lines.
 
 ghost use Rattle.std.specs.Prelude.{◌≡◌, true, All, Contains};
 ghost use Rattle.geometry_model.specs.Points.{IsPoint};
@@ -17,7 +17,7 @@ use side_labels::locate;
 use validity::Valid;
 use wkt::LineString;
 
-/// Shows that the parts in which a point lies share it (OGC 06-103r4, 6.1.15.2).
+/// Raises the cell of the two parts in which a point lies to a point (OGC 06-103r4, 6.1.15.2).
 pub(crate) fn raise_point(first: &Valid, second: &Valid, p: &RatPoint, matrix: &mut MatrixCells)
     requires { IsPoint p.now }
     ensures grows { Grows first.now second.now matrix.old matrix.new }
@@ -26,7 +26,7 @@ pub(crate) fn raise_point(first: &Valid, second: &Valid, p: &RatPoint, matrix: &
     matrix.raise(locate(first, p), locate(second, p), Dimension::Zero);
 }
 
-/// The same of a position.
+/// The same for a position.
 fn raise_position(first: &Valid, second: &Valid, at: GridPoint, matrix: &mut MatrixCells)
     ensures grows { Grows first.now second.now matrix.old matrix.new }
     ensures shows { CoversPosition first.now second.now matrix.new at }
@@ -34,8 +34,8 @@ fn raise_position(first: &Valid, second: &Valid, at: GridPoint, matrix: &mut Mat
     raise_point(first, second, &RatPoint::of_grid(at), matrix);
 }
 
-/// The same of a listed position of a geometry, which is in its interior (OGC 06-103r4, 6.1.4 and 6.1.5): it is located in the
-/// second geometry alone.
+/// The same for a listed position of the first geometry, which is in its interior (OGC 06-103r4, 6.1.4 and 6.1.5). It is located
+/// in the second geometry alone.
 fn raise_listed_at(second: &Valid, at: GridPoint, matrix: &mut MatrixCells)
     ensures grows { (a : Geometry) → Contains (listed a) at → Grows a second.now matrix.old matrix.new }
     ensures shows { (a : Geometry) → Contains (listed a) at → CoversPosition a second.now matrix.new at }
@@ -44,8 +44,8 @@ fn raise_listed_at(second: &Valid, at: GridPoint, matrix: &mut MatrixCells)
     matrix.raise(Location::Interior, part, Dimension::Zero);
 }
 
-/// Whether it is shown that a part of the first geometry shares a point with each part that a geometry of this kind has: points
-/// have no boundary (OGC 06-103r4, 6.1.4).
+/// Whether the matrix shows that a part of the first geometry shares a point with each part that a geometry of this kind has;
+/// points have no boundary (OGC 06-103r4, 6.1.4).
 fn shows_row(matrix: &MatrixCells, part: Location, kind: Kind) -> bool
     ensures { result ≡ true → ShowsRow part kind matrix.now }
 {
@@ -54,7 +54,7 @@ fn shows_row(matrix: &MatrixCells, part: Location, kind: Kind) -> bool
         && (kind == Kind::Point || matrix.shows(part, Location::Boundary, Dimension::Zero))
 }
 
-/// Shows where the listed positions of the first geometry lie in the second, until nothing more can come.
+/// Raises cells by the listed positions of the first geometry, until no further one can raise a cell.
 fn raise_listed(first: &Valid, second: &Valid, matrix: &mut MatrixCells)
     ensures grows { Grows first.now second.now matrix.old matrix.new }
     ensures shows { All (CoversPosition first.now second.now matrix.new) (listed first.now) }
@@ -67,7 +67,7 @@ fn raise_listed(first: &Valid, second: &Valid, matrix: &mut MatrixCells)
     }
 }
 
-/// Shows where the two ends of a line lie.
+/// Raises cells by the two ends of a line.
 fn raise_ends_of(first: &Valid, second: &Valid, line: &[GridPoint], matrix: &mut MatrixCells)
     ensures grows { Grows first.now second.now matrix.old matrix.new }
     ensures shows { All (CoversPosition first.now second.now matrix.new) (ends line.now) }
@@ -79,7 +79,7 @@ fn raise_ends_of(first: &Valid, second: &Valid, line: &[GridPoint], matrix: &mut
     raise_position(first, second, line[line.len() - 1], matrix);
 }
 
-/// Shows where those ends of the first geometry's lines lie that are on its boundary, until nothing more can come
+/// Raises cells by the ends of the first geometry's lines that are on its boundary, until no further one can raise a cell
 /// (OGC 06-103r4, 6.1.8.1: the mod 2 rule).
 fn raise_line_ends(first: &Valid, second: &Valid, lines: &[LineString], matrix: &mut MatrixCells)
     ensures grows { Grows first.now second.now matrix.old matrix.new }
@@ -93,7 +93,7 @@ fn raise_line_ends(first: &Valid, second: &Valid, lines: &[LineString], matrix: 
     }
 }
 
-/// Shows where the listed positions of the first geometry and the boundary of its lines lie in the second.
+/// Raises cells by the listed positions of the first geometry and by the boundary of its lines.
 pub(crate) fn raise_own_ends(first: &Valid, second: &Valid, matrix: &mut MatrixCells)
     ensures grows { Grows first.now second.now matrix.old matrix.new }
     ensures shows { ShowsOwnEnds first.now second.now matrix.new }

@@ -9,8 +9,8 @@ ghost use Rattle.matrix_laws.specs.Cells.{at_most, greater};
 pub use geometry_model::{Dimension, Location};
 use std::marker::Model;
 
-/// The cells of a DE-9IM matrix of two geometries: how large the set is that each part of the first has in common with
-/// each part of the second. The first word of a field is the part of the first geometry, the second that of the other
+/// The cells of a DE-9IM matrix of two geometries: the dimension of what each part of the first has in common with each part
+/// of the second. The first word of a field's name is the part of the first geometry, the second word that of the second
 /// (06-103r4, 6.1.15.2). Contracts see them as that matrix; only `relate` of `de9im` makes a matrix of them.
 #[derive(Clone, Copy, Debug, PartialEq, Eq)]
 pub struct MatrixCells {
@@ -71,7 +71,7 @@ impl MatrixCells {
     ghost use Rattle.matrix_laws.specs.Cells.{at_most, raised};
     ghost use Rattle.matrix_cells.specs.Cells as spec;
 
-    /// The cells that show no more than that the exteriors share an area (06-103r4, 6.1.15.2).
+    /// The cells that show only that the exteriors share an area (06-103r4, 6.1.15.2).
     pub fn of_exteriors() -> MatrixCells
         ensures { result ≡ spec.of_exteriors }
     {
@@ -113,7 +113,7 @@ impl MatrixCells {
         at_most(dimension, self.cell(first, second))
     }
 
-    /// Raises the cell of two parts to this dimension, where it is less (06-103r4, 6.1.15.2).
+    /// Raises the cell of two parts to this dimension, if it is less (06-103r4, 6.1.15.2).
     pub fn raise(&mut self, first: Location, second: Location, dimension: Dimension)
         ensures { self.new ≡ raised self.old first second dimension }
     {
@@ -131,7 +131,7 @@ impl MatrixCells {
         }
     }
 
-    /// The cells of the two geometries the other way round.
+    /// The cells for the two geometries in the other order.
     pub fn transposed(&self) -> MatrixCells
         ensures { result ≡ transposed self.now }
     {

@@ -1,4 +1,4 @@
--- A straight stretch that misses a geometry lies whole in its interior or whole in its exterior.
+-- A straight stretch that misses a geometry lies entirely in its interior or entirely in its exterior.
 use Rattle.std.proofs.Common.{ℕ, zero, suc, ◌+◌, ◌*◌, ◌<◌, ◌≡◌, ◌≢◌, Bool, true, false, if◌then◌else◌, ℤ, pos, ◌+ℤ◌, ◌*ℤ◌, sym, subst, ◌∙◌, [], ◌∷◌, arith}
 use Rattle.geometry_model.specs.Points.{Point, IsPoint}
 use Rattle.geometry_model.specs.Geometries.{Edge, Geometry, edges, listed, rings}

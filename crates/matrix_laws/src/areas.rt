@@ -1,8 +1,8 @@
-//! Laws of areas and envelopes: what lies whole on one side of the rings, and what is outside.
+//! Laws of areas and envelopes: what lies entirely on one side of the rings, and what is outside.
 
 ghost use Rattle.matrix_laws.specs.PolygonLaws.{StretchStays, OutsideIsExterior, CommonPointMeets, ValidRingsAreClosed, HoleRingIsInside, HolesAreCut, RingsPart, SidesOfARing, NothingCommon};
 
-/// A straight stretch that misses a geometry lies whole in its interior or whole in its exterior (06-103r4, 6.1.11.1).
+/// A straight stretch that misses a geometry's edges and listed positions lies entirely in its interior or entirely in its exterior (06-103r4, 6.1.11.1).
 pub fn stretch_stays()
     ensures { StretchStays }
 {}
@@ -22,12 +22,12 @@ pub fn valid_rings_are_closed()
     ensures { ValidRingsAreClosed }
 {}
 
-/// In a valid area every point of an element's hole ring is odd over that element's outer ring (06-103r4, 6.1.11.1).
+/// In a valid area every point of a hole's ring is inside its element's outer ring (06-103r4, 6.1.11.1).
 pub fn hole_ring_is_inside()
     ensures { HoleRingIsInside }
 {}
 
-/// In a valid area a point off the rings of an element is in that element's interior exactly when it is odd over the outer ring and odd over no hole (06-103r4, 6.1.11.1).
+/// In a valid area a point off the rings of an element is in that element's interior exactly if it is inside the outer ring and in no hole (06-103r4, 6.1.11.1).
 pub fn holes_are_cut()
     ensures { HolesAreCut }
 {}

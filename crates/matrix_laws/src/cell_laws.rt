@@ -17,7 +17,7 @@ pub fn point_is_there()
     ensures { PointIsThere }
 {}
 
-/// The parts in which a point of an edge lies that is no cut share at least a stretch (06-103r4, 6.1.15.2).
+/// The parts in which a point of an edge lies share at least a stretch, if the point isn't a cut (06-103r4, 6.1.15.2).
 pub fn piece_is_there()
     ensures { PieceIsThere }
 {}
@@ -32,7 +32,7 @@ pub fn covering_is_whole()
     ensures { CoveringIsWhole }
 {}
 
-/// What a matrix covers stays covered where it grows.
+/// What a matrix covers stays covered when the matrix grows.
 pub fn growing_keeps()
     ensures { GrowingKeeps }
 {}
@@ -42,12 +42,12 @@ pub fn raised_grows()
     ensures { RaisedGrows }
 {}
 
-/// To be part of another matrix is an order: each is part of itself, and of what a part of it is part of.
+/// Being part of a matrix is reflexive and transitive.
 pub fn parts_are_ordered()
     ensures { PartsAreOrdered }
 {}
 
-/// The transposed matrix covers the same of two geometries the other way round, and is as sound (06-103r4, 6.1.15.2).
+/// Of two geometries in the other order, the transposed matrix covers the same and shows nothing else (06-103r4, 6.1.15.2).
 pub fn covers_turned()
     ensures { CoversTurned }
 {}

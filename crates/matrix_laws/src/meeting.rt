@@ -8,7 +8,7 @@ pub fn predicate_forces_meeting()
     ensures { PredicateForcesMeeting }
 {}
 
-/// The same by their label matrix (06-103r4, 6.1.2.2 and 6.1.15.3).
+/// The same law for their label matrix (06-103r4, 6.1.2.2 and 6.1.15.3).
 pub fn labels_force_meeting()
     ensures { LabelsForceMeeting }
 {}

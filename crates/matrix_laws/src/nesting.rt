@@ -2,17 +2,17 @@
 
 ghost use Rattle.matrix_laws.specs.NestingLaws.{InnerIsWithinOuter, NothingIsOddOverBoth, NotEachIsInside};
 
-/// Of two closed rings that share no point, what is odd over the inner is odd over the outer (06-103r4, 6.1.11.1).
+/// Of two closed rings that share no point, what is inside the inner one is inside the outer one (06-103r4, 6.1.11.1).
 pub fn inner_is_within_outer()
     ensures { InnerIsWithinOuter }
 {}
 
-/// Where neither of two closed rings that share no point is inside the other, nothing is odd over both (06-103r4, 6.1.11.1).
+/// If neither of two closed rings that share no point is inside the other, no point is inside both (06-103r4, 6.1.11.1).
 pub fn nothing_is_odd_over_both()
     ensures { NothingIsOddOverBoth }
 {}
 
-/// Of two closed rings that share no point, not each is inside the other (06-103r4, 6.1.11.1).
+/// Two closed rings that share no point aren't each inside the other (06-103r4, 6.1.11.1).
 pub fn not_each_is_inside()
     ensures { NotEachIsInside }
 {}

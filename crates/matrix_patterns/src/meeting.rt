@@ -6,14 +6,14 @@ ghost use Rattle.geometry_model.specs.declared.relations.Predicate.{Predicate};
 
 use geometry_model::{Pattern, PatternCharacter, Predicate};
 
-/// What a spatial predicate says of itself. [`Predicate`] alone has it.
+/// A spatial predicate, by what is known of it without a matrix. Only [`Predicate`] implements it.
 pub trait SpatialPredicate {
     // The predicate that a value is.
     ghost predicate: { Self → Predicate };
 
-    /// Whether the envelopes of two geometries meet wherever the predicate holds of them: of Equals,
-    /// Intersects, Touches, Crosses, Within, Contains and Overlaps, and of a pattern with T, 0, 1 or 2 in a cell of
-    /// interiors and boundaries alone. It takes no memory.
+    /// Whether the predicate can hold only of geometries whose envelopes meet: true of Equals, Intersects, Touches, Crosses,
+    /// Within, Contains and Overlaps, and of a pattern with T, 0, 1 or 2 in a cell of interiors and boundaries alone. It takes
+    /// no memory.
     fn forces_meeting(&self) -> bool
         ensures { result ≡ forces_meeting (predicate self.now) };
 }
@@ -36,7 +36,7 @@ impl SpatialPredicate for Predicate {
     }
 }
 
-// Whether the pattern wants a point that both geometries have.
+// Whether the pattern matches only where the two geometries share a point.
 fn wants_common_point(pattern: &Pattern) -> bool
     ensures { result ≡ wants_common_point pattern.now }
 {

@@ -6,13 +6,13 @@ ghost use Rattle.geometry_model.specs.declared.relations.Pattern.{Pattern};
 
 use geometry_model::{Pattern, PatternCharacter};
 
-/// How a pattern of the DE-9IM matrix is written (06-103r4, 6.1.15.2). [`Pattern`] alone has it.
+/// A pattern of the DE-9IM matrix, by its text (06-103r4, 6.1.15.2). Only [`Pattern`] implements it.
 pub trait PatternText: Sized {
     // The pattern that a value is.
     ghost pattern: { Self → Pattern };
 
-    /// The pattern that a text of nine characters `T F * 0 1 2` writes, by rows, `t` and `f` being taken too; of any
-    /// other text None. It takes no memory. (06-103r4, 6.1.15.2; small letters: this project's choice.)
+    /// The pattern that a text of nine characters `T F * 0 1 2` writes, by rows; `t` and `f` are taken too. None for any other
+    /// text. It takes no memory. (06-103r4, 6.1.15.2; small letters: this project's choice.)
     fn read(text: &str) -> Option<Self>
         ensures { option_map pattern result ≡ pattern_of_text text.now };
 }

@@ -1,4 +1,4 @@
-//! Tests of the rings of areas that ask only edges near one another: those of `ring_tests`, by the boxes over the edges.
+//! Tests of the rings of areas that look only at edges near one another: those of `ring_tests`, by the boxes over the edges.
 #![tactic(auto)]
 
 pub mod near_edges;

@@ -1,4 +1,4 @@
-//! Tests of rings that ask only those edges that are near one another: edges that share a point have bounds that meet.
+//! Tests of rings that look only at edges near one another: edges that share a point have bounds that meet.
 
 ghost use Rattle.std.specs.Prelude.{◌≡◌, ◌+◌, ◌<◌, length, slice_get, Some, IfOk};
 ghost use Rattle.std.specs.List.{list_any};
@@ -69,8 +69,8 @@ fn clash_at_all(
     Ok(false)
 }
 
-/// Whether a ring of these edges meets or covers itself (06-103r4, 6.1.7: a LinearRing is simple). It fails only when memory
-/// runs out.
+/// Whether a ring of these edges touches, crosses or covers itself (06-103r4, 6.1.7: a LinearRing is simple). It fails only when
+/// memory runs out.
 pub fn is_not_simple(alloc: Global, edges: &[Segment]) -> Result<bool, AllocError>
     ensures { IfOk result (λ clash. clash ≡ edges_clash edges.now) }
 {
@@ -106,8 +106,8 @@ fn shares_any(
     Ok(shares_with(edges, f, near.as_slice()))
 }
 
-/// Whether an edge of the one list and one of the other share a point (06-103r4, 6.1.11.1 and 6.1.14). The boxes are those
-/// of the one list. It fails only when memory runs out.
+/// Whether an edge of one list and one of the other share a point (06-103r4, 6.1.11.1 and 6.1.14). The boxes are those of the
+/// first list. It fails only when memory runs out.
 pub fn share(
     edges: &[Segment],
     boxes: &EdgeBoxes,
@@ -125,8 +125,8 @@ pub fn share(
     Ok(false)
 }
 
-/// Whether an odd number of the edges lie strictly above a position: of a ring's edges, whether it is inside (06-103r4,
-/// 6.1.11.1). The boxes are those of the edges.
+/// Whether an odd number of the edges lie strictly above a position: for the edges of a ring that it isn't on, whether it is
+/// inside (06-103r4, 6.1.11.1). The boxes are those of the edges.
 pub fn is_inside(edges: &[Segment], boxes: &EdgeBoxes, at: GridPoint) -> bool
     requires { BoxesOf boxes.now edges.now }
     ensures { result ≡ is_odd_above edges.now at }

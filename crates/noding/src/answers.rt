@@ -1,4 +1,4 @@
-//! The values that say what two segments have in common.
+//! The type that says what two segments have in common.
 
 use fraction::RatPoint;
 

@@ -10,7 +10,7 @@ use smallvec::SmallVec;
 use std::alloc::{AllocError, Global};
 use std::marker::Model;
 
-/// A break point. It has a default, which the places of a small vector want before they are taken.
+/// A break point. It has a default, which a small vector has in its places that aren't used yet.
 #[derive(Clone, Copy, PartialEq, Eq, PartialOrd, Ord)]
 pub(crate) struct Break {
     point: RatPoint,
@@ -66,7 +66,7 @@ impl Model for Breaks {
 }
 
 impl Breaks {
-    /// None.
+    /// No break points.
     pub(crate) fn new(alloc: Global) -> Breaks
         ensures { result ≡ [] }
     {
@@ -75,7 +75,7 @@ impl Breaks {
         }
     }
 
-    /// Appends one.
+    /// Appends a break point.
     pub(crate) fn push(&mut self, point: RatPoint) -> Result<(), AllocError>
         ensures { OnOk result (self.new ≡ self.old ++ point ∷ []) }
     {
@@ -83,7 +83,7 @@ impl Breaks {
         Ok(())
     }
 
-    /// Puts them in ascending order, each once.
+    /// Sorts them into ascending order, each once.
     pub(crate) fn put_in_order(&mut self)
         requires { All IsPoint self.old }
         ensures { PutsPointsInOrder self.old self.new }
@@ -91,7 +91,7 @@ impl Breaks {
         put_in_order(&mut self.points);
     }
 
-    /// Lends them.
+    /// Lends the break points.
     pub(crate) fn as_slice(&self) -> &[Break]
         ensures { result.now ≡ self.now }
     {

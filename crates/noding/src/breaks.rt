@@ -26,7 +26,7 @@ fn push_if_on(breaks: &mut Breaks, segment: &Segment, position: GridPoint) -> Re
     Ok(())
 }
 
-/// Appends the listed positions on a segment. Only those are asked whose x lies in its range.
+/// Appends the listed positions on a segment. It looks only at those whose x lies in its range.
 fn push_listed(
     breaks: &mut Breaks,
     segment: &Segment,
@@ -47,7 +47,7 @@ fn push_listed(
     Ok(())
 }
 
-/// Appends the points that an answer names.
+/// Appends the points that a value of `Meet` names.
 pub(crate) fn push_named(breaks: &mut Breaks, shared: &Meet) -> Result<(), AllocError>
     ensures { OnOk result (breaks.new ≡ breaks.old ++ named shared.now) }
 {

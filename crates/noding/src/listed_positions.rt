@@ -1,4 +1,4 @@
-//! Listed positions by x, so that a segment asks those alone whose x it reaches.
+//! Listed positions in order of x, so that only those in a segment's range of x are looked at.
 
 ghost use Rattle.std.specs.Prelude.{◌≤◌, length, IfOk, ◌<ℤ◌, ◌≤ℤ◌};
 ghost use Rattle.std.specs.List.Sorted.{IsPartitionPoint};
@@ -7,7 +7,7 @@ ghost use Rattle.noding.specs.Sweeps.{IsListedOrder, AscendPositions};
 use fraction::GridPoint;
 use std::alloc::{AllocError, Global};
 
-/// The listed positions by x.
+/// The listed positions in order of x.
 pub(crate) fn listed_order(
     alloc: Global,
     listed: &[GridPoint],
@@ -19,7 +19,7 @@ pub(crate) fn listed_order(
     Ok(order)
 }
 
-/// The place of the first position that isn't to the left of an x, or the end where all are.
+/// The place of the first position whose x is at least this one; the end of the list if there is none.
 pub(crate) fn first_from(listed: &[GridPoint], x: i32) -> usize
     requires { AscendPositions listed.now }
     ensures within { result ≤ length listed.now }

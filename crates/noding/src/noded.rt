@@ -57,8 +57,8 @@ impl Noded {
         self.stretches.as_slice()
     }
 
-    /// The number of pairs of segments whose ranges of x overlap, ends counted; it stays at the greatest u64. Other pairs
-    /// aren't tried.
+    /// The number of pairs of segments whose ranges of x share a number; it stays at the greatest u64. Other pairs aren't
+    /// tried.
     pub fn tests(&self) -> u64
         ensures { result ≡ self.now.tests }
     {

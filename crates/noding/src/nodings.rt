@@ -51,13 +51,14 @@ fn push_stretches(
     Ok(())
 }
 
-/// The nodes of some segments and listed positions, which are the ends of all segments, all listed positions, the points
-/// that two segments not on one line share and both ends of each stretch that two segments share; and the pieces, which
-/// are the stretches of segments between neighbouring nodes on them (OGC 06-103r4, 6.1.15.2: intersection; nodes, pieces
-/// and their order: this project's choice). Both are exact and ascend, each once, and the denominators are at most 8 L L, L being the
-/// limit of coordinates. The segments are swept from left
-/// to right, and only those pairs are tried whose ranges of x overlap; a segment asks the listed positions by x, those in its
-/// range alone. It fails only when memory runs out.
+/// The nodes and the pieces of some segments and listed positions. Nodes are the ends of all segments, all listed positions,
+/// the points that two segments not on one line share, and both ends of each stretch that two segments share. Pieces are the
+/// stretches of segments between neighbouring nodes on them (OGC 06-103r4, 6.1.15.2: intersection; nodes, pieces and their
+/// order: this project's choice). Both lists are exact and ascend, each element once. The denominators are at most 8 L L, where
+/// L is the limit of coordinates. It fails only when memory runs out.
+///
+/// The segments are swept from left to right, so only pairs whose ranges of x overlap are tried, and for each segment only
+/// the listed positions in its range of x.
 pub fn node(alloc: Global, segments: &[Segment], listed: &[GridPoint]) -> Result<Noded, AllocError>
     ensures tests { IfOk result (λ noded. noded.tests ≡ min (overlapping_pairs segments.now) (2 ^ 64 - 1)) }
     ensures exact_nodes { IfOk result (λ noded. noded.nodes ≡ cut_points segments.now listed.now) }

@@ -1,4 +1,4 @@
-//! Points and stretches put in ascending order, each once.
+//! Sorts points and stretches into ascending order, each once.
 
 ghost use Rattle.std.specs.Prelude.{All, map};
 ghost use Rattle.geometry_model.specs.Points.{IsPoint};
@@ -8,7 +8,7 @@ use crate::break_points::Break;
 use fraction::RatPoint;
 use smallvec::SmallVec;
 
-/// Puts break points in ascending order, each once.
+/// Sorts break points into ascending order, each once.
 pub(crate) fn put_in_order(points: &mut SmallVec<Break, 8>)
     requires { All IsPoint points.old.items }
     ensures { PutsPointsInOrder points.old.items points.new.items }

@@ -35,7 +35,7 @@ pub(crate) fn greatest_x(segment: &Segment) -> i32
     greater(segment.start().x(), segment.end().x())
 }
 
-/// Whether the range of the first two coordinates and that of the other two overlap, ends counted.
+/// Whether the range of the first two coordinates and that of the other two share a number.
 fn overlap(a: i32, b: i32, c: i32, d: i32) -> bool
     ensures { result ≡ spec.overlap a b c d }
 {
@@ -44,7 +44,7 @@ fn overlap(a: i32, b: i32, c: i32, d: i32) -> bool
     begins_in_time && ends_in_time
 }
 
-/// Whether the ranges of y of two segments overlap, ends counted.
+/// Whether the ranges of y of two segments share a number.
 pub(crate) fn y_ranges_overlap(first: &Segment, second: &Segment) -> bool
     ensures { result ≡ spec.y_ranges_overlap first.now second.now }
 {

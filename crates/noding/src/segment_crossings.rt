@@ -12,14 +12,14 @@ use crate::crossing_products::point_between;
 use fraction::{GridPoint, RatPoint};
 use orient::{Segment, on};
 
-/// Whether of two numbers the first isn't above 0 and the second not below.
+/// Whether the first of two numbers is at most 0 and the second at least 0.
 fn are_opposite(below: i64, above: i64) -> bool
     ensures { result ≡ (int_le below (pos 0) && int_le (pos 0) above) }
 {
     below <= 0 && 0 <= above
 }
 
-/// The point where the segment goes through it, else none.
+/// The point if it is on the segment, else none.
 fn at_if_on(segment: &Segment, p: RatPoint) -> Meet
     requires positive { pos 0 <ℤ p.W }
     requires limit { p.W ≤ℤ pos meeting_limit }
@@ -36,8 +36,8 @@ fn at_if_on(segment: &Segment, p: RatPoint) -> Meet
     }
 }
 
-/// What a segment has in common with the one between two positions, whose sides of it differ: the numbers of these sides
-/// come along, the lesser one first.
+/// What a segment has in common with the one between two positions, whose sides of it differ; the numbers of these sides are
+/// given, the lesser one first.
 pub(crate) fn crossing(
     first: &Segment,
     lower: GridPoint,

@@ -17,7 +17,7 @@ use fraction::GridPoint;
 use orient::Segment;
 use std::alloc::{AllocError, Global};
 
-/// The segments by their least x.
+/// The segments in order of their least x.
 pub(crate) fn sweep_order(alloc: Global, segments: &[Segment]) -> Result<Vec<Segment>, AllocError>
     ensures { IfOk result (λ order. IsSweepOrder segments.now order.items) }
 {
@@ -43,7 +43,7 @@ pub(crate) fn all_own_breaks(
     Ok(breaks)
 }
 
-/// What two segments have in common whose ranges of x overlap; this is counted.
+/// What two segments have in common whose ranges of x overlap; the pair is counted.
 fn tried(first: &Segment, second: &Segment, tests: &mut u64) -> Meet
     ensures counted { tests.new ≡ min (tests.old + 1) (2 ^ 64 - 1) }
     ensures exact { IsMeeting first.now second.now result }
@@ -60,7 +60,7 @@ fn tried(first: &Segment, second: &Segment, tests: &mut u64) -> Meet
     }
 }
 
-/// Appends the points that an answer names to the break points at a place.
+/// Appends the points that a value of `Meet` names to the break points at a place.
 fn push_at(breaks: &mut [Breaks], place: usize, shared: &Meet) -> Result<(), AllocError>
     requires { place < length breaks.old }
     ensures { OnOk result (GrowsAt place (named shared.now) breaks.old breaks.new) }
@@ -131,7 +131,7 @@ fn sweep(order: &[Segment], breaks: &mut [Breaks]) -> Result<u64, AllocError>
     Ok(tests)
 }
 
-/// Puts the break points at a place in ascending order, each once.
+/// Sorts the break points at a place into ascending order, each once.
 fn put_in_order_at(breaks: &mut [Breaks], place: usize)
     requires place { place < length breaks.old }
     requires points { All IsPoint (get_or breaks.old place []) }
@@ -140,7 +140,7 @@ fn put_in_order_at(breaks: &mut [Breaks], place: usize)
     breaks[place].put_in_order();
 }
 
-/// Puts the break points of each segment in ascending order, each once.
+/// Sorts the break points of each segment into ascending order, each once.
 fn put_each_in_order(breaks: &mut [Breaks])
     requires { HavePoints breaks.old }
     ensures { OrdersEach breaks.old breaks.new }

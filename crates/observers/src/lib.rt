@@ -1,5 +1,5 @@
-//! Observers, to which a run reports how far it is: how many bytes a reader gave, how many candidates were looked at and
-//! how many rows were found. They can't change what is read or found.
+//! Observers, to which a run reports its progress: how many bytes a reader gave, how many candidates were looked at and how
+//! many rows were found. They can't change what is read or found.
 #![tactic(auto)]
 
 pub mod readers;

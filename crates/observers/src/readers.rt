@@ -2,14 +2,14 @@
 
 use std::io::{self, Read};
 
-/// What a reader reports to how far it is.
+/// What a reader reports its progress to.
 pub trait ReadObserver {
-    /// So many bytes came.
+    /// The reader gave this many bytes.
     fn came(&mut self, bytes: usize);
 }
 
 /// A reader that gives what the reader beneath gives, the same bytes and the same errors, and reports to its observer how
-/// many bytes came.
+/// many bytes each read gave.
 #[derive(Drop)]
 pub struct Followed<R: Read, O: ReadObserver> {
     reader: R,
@@ -20,7 +20,7 @@ impl<R: Read, O: ReadObserver> Followed<R, O> {
     ghost use Rattle.std.specs.Prelude.{◌≡◌};
     ghost use Rattle.observers.specs.Readers.{reader_under};
 
-    /// Follows a reader. It takes no memory.
+    /// A reader over this one, which reports to this observer. It takes no memory.
     pub fn new(reader: R, observer: O) -> Followed<R, O>
         ensures { reader_under result ≡ reader }
     {

@@ -1,11 +1,11 @@
 //! Observers of the search for rows.
 
-/// What the search for the rows of a query reports to how far it is.
+/// What the search for the rows of a query reports its progress to.
 pub trait RowObserver {
-    /// A candidate is looked at, and so many rows of the table that is walked over are still to come after its row.
+    /// A candidate is looked at. After its row this many rows of the outer table, or of the only one, are still to come.
     fn looked(&mut self, left: usize);
 
-    /// The candidate is a row that is wanted.
+    /// The candidate passes all conditions: it is a row of the query.
     fn found(&mut self);
 }
 

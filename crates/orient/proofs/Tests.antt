@@ -1,4 +1,4 @@
--- What tests that are asked in turn say together.
+-- What several tests say together, where each is evaluated only if the ones before it don't decide.
 use Rattle.std.specs.Prelude.{◌≡◌, ◌&&◌, ◌||◌, Bool, true, false}
 use Rattle.std.proofs.Common.{sym, ap, ◌∙◌}
 

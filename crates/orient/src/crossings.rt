@@ -10,8 +10,8 @@ use crate::segments::Segment;
 use crate::sides::{is_on, signed_side};
 use fraction::{GridPoint, RatPoint};
 
-/// How a point lies to a segment (OGC 06-103r4, 6.1.7 and 6.1.11.1). Of the segment's ends the left one counts and the right
-/// one doesn't; a vertical segment lies above no point.
+/// How a point lies relative to a segment (OGC 06-103r4, 6.1.7 and 6.1.11.1). Of the segment's ends the left one counts and the
+/// right one doesn't; a vertical segment lies above no point.
 #[derive(Clone, Copy, Debug, PartialEq, Eq)]
 pub struct Crossing {
     /// Whether it lies on the segment, ends counted.
@@ -22,7 +22,7 @@ pub struct Crossing {
     pub at_or_above: bool,
 }
 
-/// Whether a position isn't to the right of the point. At a position of the grid no product is needed.
+/// Whether the position's x is at most the point's. At a position of the grid no multiplication is needed.
 fn reaches(a: GridPoint, p: &RatPoint) -> bool
     ensures { result ≡ spec.reaches a p.now }
 {
@@ -33,7 +33,7 @@ fn reaches(a: GridPoint, p: &RatPoint) -> bool
     }
 }
 
-/// Whether exactly one end of the segment isn't to the right of the point.
+/// Whether the x of exactly one end of the segment is at most the point's.
 fn spans(segment: &Segment, p: &RatPoint) -> bool
     ensures { result ≡ spec.spans segment.now p.now }
 {
@@ -61,7 +61,7 @@ pub fn crosses_up(segment: &Segment, p: &RatPoint) -> bool
     spans(segment, p) && signed_side_rightward(segment, p) < 0
 }
 
-/// Whether the segment lies above the point or goes through it, the same of its ends counting.
+/// Whether the segment lies above the point or goes through it. Its ends count as for `crosses_up`.
 pub fn at_or_above(segment: &Segment, p: &RatPoint) -> bool
     ensures { result ≡ spec.at_or_above segment.now p.now }
 {
@@ -75,21 +75,21 @@ fn is_rightward(segment: &Segment) -> bool
     segment.start().x() <= segment.end().x()
 }
 
-/// Whether a side is below 0, where it is turned if it isn't seen rightward.
+/// Whether a side is below 0, seen from left to right: its sign is changed if the segment goes to the left.
 fn is_below(side: i128, is_rightward: bool) -> bool
     ensures { result ≡ int_lt (if is_rightward then side else pos 0 -ℤ side) (pos 0) }
 {
     (side != 0) & ((side < 0) == is_rightward)
 }
 
-/// Whether a side is at most 0, where it is turned if it isn't seen rightward.
+/// Whether a side is at most 0, seen from left to right: its sign is changed if the segment goes to the left.
 fn is_at_most(side: i128, is_rightward: bool) -> bool
     ensures { result ≡ int_le (if is_rightward then side else pos 0 -ℤ side) (pos 0) }
 {
     (side == 0) | ((side < 0) == is_rightward)
 }
 
-/// How the point lies to the segment, all decided by one side.
+/// How the point lies relative to the segment. The side is computed once.
 pub fn crossing_at(segment: &Segment, p: &RatPoint) -> Crossing
     ensures on { result.on ≡ on segment.now p.now }
     ensures strictly_above { result.strictly_above ≡ spec.strictly_above segment.now p.now }

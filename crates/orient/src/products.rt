@@ -1,5 +1,5 @@
-//! The products that a side is made of. Each number is bounded: at points with denominator 1 none passes 64
-//! bits, at others none passes 128.
+//! The products that a side is computed from. At points with denominator 1 all numbers fit in 64 bits, at others in
+//! 128.
 
 ghost use Rattle.std.specs.Prelude.{◌≡◌, ◌*◌, ◌≤◌, ◌-ℤ◌, ◌*ℤ◌, unsigned_abs};
 ghost use Rattle.geometry_model.specs.WellKnownText.{coordinate_limit};

@@ -36,8 +36,8 @@ fn side_of_point(from: GridPoint, to: GridPoint, p: &RatPoint) -> i128
     vector_product(dx, dy, ex, ey)
 }
 
-/// The number whose sign is the side of p, seen from `from` to `to`. At a position of the grid short numbers
-/// do.
+/// The number whose sign is the side of p, seen from `from` to `to`. At a position of the grid it is computed in 64
+/// bits.
 pub(crate) fn signed_side(from: GridPoint, to: GridPoint, p: &RatPoint) -> i128
     ensures { result ≡ spec.side from to p.now }
 {

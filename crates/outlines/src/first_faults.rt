@@ -38,7 +38,7 @@ fn open_ring(outline: &Outline) -> Option<ValidityFault>
     None
 }
 
-/// The first ring that meets or covers itself.
+/// The first ring that touches, crosses or covers itself.
 fn ring_not_simple(alloc: Global, outline: &Outline) -> Result<Option<ValidityFault>, AllocError>
     ensures { IfOk result
         (λ fault. fault ≡ first_of outline.now (of_rings ValidityFault.RingNotSimple outline.now)) }
@@ -156,7 +156,7 @@ fn hole_outside(alloc: Global, outline: &Outline) -> Result<Option<ValidityFault
     Ok(None)
 }
 
-/// The first of the later holes of its polygon that is inside a hole, or round it; all such are among those near it.
+/// The first of the later holes of its polygon that is inside a hole or has it inside; all such are among those near it.
 fn hole_nested_near(
     outline: &Outline,
     hole: usize,

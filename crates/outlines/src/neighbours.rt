@@ -11,7 +11,7 @@ use rtree::{Envelope, EnvelopeIndex, RTree};
 use std::alloc::{AllocError, Global};
 use std::marker::Model;
 
-/// The envelopes of rings or polygons by their numbers, and an index of them. Contracts see it as those envelopes.
+/// The envelopes of rings or polygons, by their numbers, and an index of them. Contracts see it as the list of envelopes.
 #[derive(Drop)]
 pub(crate) struct Neighbours {
     envelopes: Vec<Option<Envelope>>,
@@ -30,7 +30,7 @@ impl Model for Neighbours {
 }
 
 impl Neighbours {
-    /// Those of the rings of an area.
+    /// The envelopes of the rings of an area. It fails only when memory runs out.
     pub(crate) fn of_rings(alloc: Global, outline: &Outline) -> Result<Neighbours, AllocError>
         ensures { IfOk result (λ neighbours. neighbours ≡ ring_envelopes outline.now) }
     {
@@ -41,7 +41,7 @@ impl Neighbours {
         Neighbours::of(alloc, envelopes)
     }
 
-    /// Those of the polygons of an area.
+    /// The envelopes of the polygons of an area. It fails only when memory runs out.
     pub(crate) fn of_elements(alloc: Global, outline: &Outline) -> Result<Neighbours, AllocError>
         ensures { IfOk result (λ neighbours. neighbours ≡ element_envelopes outline.now) }
     {
@@ -52,7 +52,7 @@ impl Neighbours {
         Neighbours::of(alloc, envelopes)
     }
 
-    /// Those that have these envelopes.
+    /// These envelopes, with an index of them.
     fn of(alloc: Global, envelopes: Vec<Option<Envelope>>) -> Result<Neighbours, AllocError>
         ensures { IfOk result (λ neighbours. neighbours ≡ envelopes.items) }
     {
@@ -60,7 +60,7 @@ impl Neighbours {
         Ok(Neighbours { envelopes, index })
     }
 
-    /// The numbers of those whose envelopes meet that of one, ascending; its own is among them.
+    /// The numbers of those whose envelopes meet that of the one with this number, ascending, its own among them.
     pub(crate) fn near(&self, alloc: Global, number: usize) -> Result<Vec<usize>, AllocError>
         requires { number < length self.now }
         ensures { IfOk result (λ near. near.items ≡ near_one self.now number) }
@@ -71,7 +71,7 @@ impl Neighbours {
     }
 }
 
-/// The envelope of what has these two.
+/// The smallest envelope that holds these two, each of which may be absent.
 fn either(one: Option<Envelope>, other: Option<Envelope>) -> Option<Envelope>
     ensures { result ≡ either_envelope one other }
 {

@@ -14,7 +14,7 @@ use near_edges::{is_inside as is_inside_by, is_not_simple, share};
 use ring_tests::{is_inside, is_not_closed};
 use std::alloc::{AllocError, Global};
 
-/// Whether so many positions are too few for a part of a geometry of a type.
+/// Whether this number of positions is too few for a part of a geometry of a type.
 fn are_too_few(geometry_type: GeometryType, count: usize) -> bool
     ensures { result ≡ too_few geometry_type count }
 {
@@ -26,7 +26,7 @@ fn are_too_few(geometry_type: GeometryType, count: usize) -> bool
     }
 }
 
-/// Whether one of two is so.
+/// `a || b` as a call, which makes no branches.
 fn either(a: bool, b: bool) -> bool
     ensures { result ≡ (a || b) }
 {
@@ -53,7 +53,7 @@ impl Outline {
         is_not_closed(self.line(ring).positions())
     }
 
-    /// Whether a ring meets or covers itself.
+    /// Whether a ring touches, crosses or covers itself.
     pub(crate) fn meets_itself(&self, alloc: Global, ring: usize) -> Result<bool, AllocError>
         requires { ring < length (spec.rings self.now) }
         ensures { IfOk result (λ meets. meets ≡ has_fault self.now (ValidityFault.RingNotSimple ring)) }
@@ -123,8 +123,8 @@ impl Outline {
         either(inward, outward)
     }
 
-    /// Whether a ring of the one polygon and one of the other share a point.
-    /// The boxes are those of the one's edges.
+    /// Whether a ring of one polygon and one of the other share a point. The boxes are those of the first polygon's
+    /// edges.
     pub(crate) fn elements_share(
         &self,
         i: usize,

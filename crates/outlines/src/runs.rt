@@ -34,7 +34,7 @@ impl Model for Runs {
 }
 
 impl Runs {
-    /// Those of no lines. It takes no memory.
+    /// The edges of no lines. It takes no memory.
     pub(crate) fn new(alloc: Global) -> Runs
         ensures { result ≡ [] }
     {
@@ -44,7 +44,7 @@ impl Runs {
         }
     }
 
-    /// These and those of one line more.
+    /// These edges and those of one line more.
     pub(crate) fn with(self, line: &LineString) -> Result<Runs, AllocError>
         ensures { IfOk result (λ runs. runs ≡ self ++ edges_of_line line.now ∷ []) }
     {
@@ -57,7 +57,7 @@ impl Runs {
         Ok(Runs { segments, ends })
     }
 
-    /// These and those of some lines more.
+    /// These edges and those of some lines more.
     pub(crate) fn with_all(self, lines: &[LineString]) -> Result<Runs, AllocError>
         ensures { IfOk result (λ runs. runs ≡ self ++ map edges_of_line lines.now) }
     {

@@ -1,15 +1,15 @@
-//! Whichever lawful plan is taken, its rows are the meaning of the query.
+//! The law that whichever lawful plan is taken, its rows are the meaning of the query.
 
 ghost use Rattle.plan_laws.specs.MeaningLaws.{MeantIsMeaning, PlansGiveMeaning, DatabaseHasValid, BoundHasValid};
 
-/// What is at the places of a meaning is the meaning of the query as it is written, whatever a geometry is. (SQL, the
+/// The rows at the places of `meant` are the meaning of the query as it is written, whatever a geometry is. (SQL, the
 /// query.)
 pub fn meant_is_meaning<G, A, C>()
     ensures { MeantIsMeaning G A C }
 {}
 
-/// Whichever lawful plan is taken, the candidates that pass its filters, brought into order and under LIMIT, stand for
-/// the meaning of the query. (SQL, the query; 06-103r4, 6.1.15.3.)
+/// Whichever lawful plan is taken, the candidates that pass its filters, sorted and under LIMIT, give the meaning of the
+/// query. (SQL, the query; 06-103r4, 6.1.15.3.)
 pub fn plans_give_meaning()
     ensures { PlansGiveMeaning }
 {}

@@ -1,4 +1,4 @@
--- The first of least number among one element more.
+-- The first element of least number, when one element more is looked at.
 use Rattle.std.specs.Prelude.{◌≡◌, refl, ℕ, ◌<◌, ◌≤◌, Bool, true, false, cond, nat_le, List, [], ◌∷◌, ◌++◌, ◌+◌, length, take, get_or, All, Option, Some, None, IsSome}
 use Rattle.std.proofs.Common.{arith, ap, ◌∙◌, sym}
 use Rattle.std.proofs.lemmas.List.{append_assoc, take_more}

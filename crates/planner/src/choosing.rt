@@ -46,8 +46,8 @@ fn plan_of<A>(
     })
 }
 
-/// The chosen plan of a bound query, where `rows` holds the number of rows of each reference's table, in the query's
-/// order: the first lawful plan whose cost no lawful plan undercuts. It fails only when memory runs out.
+/// The chosen plan of a bound query, where `rows` has the number of rows of each reference's table, in the query's order:
+/// the first lawful plan of least cost. It fails only when memory runs out.
 pub fn choose_by_counts<G, C>(
     alloc: Global,
     query: &Bound<GeometryArgument<G>, C>,

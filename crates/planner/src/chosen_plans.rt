@@ -39,8 +39,8 @@ fn row_counts<I: EnvelopeIndex + Drop>(
     Ok(counts)
 }
 
-/// The chosen plan of a query that was bound to a database: the first lawful plan whose cost no lawful plan undercuts. It
-/// fails only when memory runs out.
+/// The chosen plan of a query that was bound to a database: the first lawful plan of least cost. It fails only when memory
+/// runs out.
 pub fn choose<I: EnvelopeIndex + Drop>(
     alloc: Global,
     database: &Database<'_, I>,

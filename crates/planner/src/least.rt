@@ -1,4 +1,4 @@
-//! The first of the cheapest.
+//! Finds the first access, or pair of accesses, of least cost.
 
 ghost use Rattle.std.specs.Prelude.{◌≡◌, ◌<◌, length, Some};
 ghost use Rattle.planner.specs.Nestings.{accesses_in, cheaper};

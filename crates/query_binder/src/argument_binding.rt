@@ -19,7 +19,7 @@ use table_model::queries::{Name, WrittenColumn, WrittenGeometry};
 use table_model::typing::{OperandType, Typed};
 use validity::read_valid;
 
-/// A part, where it is a geometry; else `TypeMismatch` at the first byte of its predicate or call.
+/// The part if it is a geometry, else `TypeMismatch` at the first byte of its predicate or call.
 pub fn geometry_only<P: Drop>(at: usize, typed: Typed<P>) -> Result<P, QueryFault>
     ensures { result ≡ spec.geometry_only at typed }
 {
@@ -31,8 +31,8 @@ pub fn geometry_only<P: Drop>(at: usize, typed: Typed<P>) -> Result<P, QueryFaul
     }
 }
 
-/// ST_GeomFromText of a string: the geometry is read and tested here, once. `BadGeometry` at the string; the bytes of
-/// its fault are those of the string's value. (06-104r4, 7.2.)
+/// ST_GeomFromText of a string. The geometry is read and tested here, once; `BadGeometry` at the string if it has a fault,
+/// whose byte is counted in the string's value. (06-104r4, 7.2.)
 fn literal(alloc: Global, string: &Name<'_>) -> Result<Typed<Argument>, QueryFault>
     ensures { Binds result
         (geometries.literal string.now.at (geometry_in_text (spec.unquoted string.now.text))) }

@@ -79,7 +79,7 @@ fn column_meant(
     Some(Found { place, column_type })
 }
 
-/// A column, found by its names.
+/// A column, found by its names; at its first byte `UnknownColumn` if no reference has it, `AmbiguousColumn` if two have.
 pub fn bound_column(scope: Scope<'_>, written: &WrittenColumn<'_>) -> Result<Found, QueryFault>
     ensures { result ≡ spec.bound_column scope.entry.definitions.now scope.entry.references.now written.now }
 {

@@ -86,8 +86,8 @@ fn bound_predicate(alloc: Global, written: &WrittenPredicate<'_>) -> Result<Pred
     }
 }
 
-/// A predicate of two geometries that starts at a byte. Its arguments are bound first, then its pattern, and then it is
-/// asked whether the arguments are geometries. (06-103r4, 6.1.15.3.)
+/// A predicate of two geometries that starts at a byte. Its arguments are bound first, then its pattern; then the arguments
+/// have to be geometries. (06-103r4, 6.1.15.3.)
 fn relation(
     alloc: Global,
     scope: Scope<'_>,
@@ -113,7 +113,7 @@ fn negated(alloc: Global, part: Cond) -> Result<Cond, QueryFault>
     Ok(Cond::Not(Boxed::new(alloc, part)?))
 }
 
-/// A written condition, bound as it is written. (SQL, the search condition.)
+/// A written condition, bound as it is written, or its first fault from left to right. (SQL, the search condition.)
 #[cycle(conditions)]
 pub fn bound_cond(
     alloc: Global,

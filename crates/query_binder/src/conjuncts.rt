@@ -33,8 +33,8 @@ fn alone(
     Ok(only(alloc, cond)?)
 }
 
-/// The conjuncts of a written condition: those of the parts of an AND, in order; any other condition is one. (SQL, the
-/// search condition.)
+/// The conjuncts of a written condition, bound, or its first fault. The conjuncts of an AND are those of its parts, in order;
+/// any other condition is one. (SQL, the search condition.)
 #[cycle(conjuncts)]
 pub fn bound_conjuncts(
     alloc: Global,

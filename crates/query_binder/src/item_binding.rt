@@ -84,7 +84,7 @@ fn listed_items(
     Ok(items)
 }
 
-/// What SELECT lists. (SQL, the select list.)
+/// What SELECT lists, bound, or the first fault from left to right. (SQL, the select list.)
 pub fn bound_items(
     alloc: Global,
     scope: Scope<'_>,

@@ -1,5 +1,5 @@
-//! Queries in the style of OGC 06-104r4 (Simple Features, part 2), bound to the tables of a schema: names become
-//! places, strings the bytes that they hold, and texts of geometries valid geometries.
+//! Binds queries in the style of OGC 06-104r4 (Simple Features, part 2) to the tables of a schema: names become places,
+//! strings become their values, and texts of geometries become valid geometries.
 #![tactic(auto)]
 
 mod argument_binding;
@@ -27,8 +27,8 @@ pub type ColumnShape = Option<GeometryType>;
 /// A table of a schema. (06-104r4, feature tables.)
 pub type TableDef = table_model::definitions::TableDef<ColumnShape>;
 
-/// A geometry argument of a condition: the place of a column, or a valid geometry that was read once, in memory of its own,
-/// so that conditions stay small. (06-104r4, 7.2.)
+/// A geometry argument of a condition: the place of a column, or a valid geometry that was read once and is behind a
+/// pointer, so that conditions stay small. (06-104r4, 7.2.)
 pub type Argument = GeometryArgument<Boxed<Valid>>;
 
 /// A condition over the rows of a bound query. (SQL, the search condition.)

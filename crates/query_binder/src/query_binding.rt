@@ -18,7 +18,7 @@ use sqlite_items::Items;
 use std::alloc::Global;
 use table_model::faults::QueryFault;
 
-/// The conjuncts of ON or of WHERE; what is absent has none.
+/// The conjuncts of ON or of WHERE; none if it isn't written.
 fn bound_condition(
     alloc: Global,
     scope: Scope<'_>,
@@ -60,17 +60,17 @@ fn bound_query(
     })
 }
 
-/// Binds a query to the tables of a schema: names of tables and columns become their places, without regard to ASCII
-/// case, strings the bytes that they hold, and each text of ST_GeomFromText a valid geometry, read and tested once. It
-/// first looks for the tables of FROM, then binds the select list, ON and WHERE, and returns the first fault from left
-/// to right with its byte; within a predicate or a call come first its arguments, then the whole:
-/// `UnknownTable` at a table's name, `SameName` at the name of a second reference that has the first's name,
-/// `UnknownColumn` and `AmbiguousColumn` at a column's first byte, `BadGeometry` at the string of ST_GeomFromText with
-/// the fault of its text or of its geometry, whose bytes count in the string's value, `BadPattern` at the string of
-/// ST_Relate, `TypeMismatch` at the first byte of a predicate or call of what is no geometry, or of a comparison whose
-/// sides are not both INTEGER or both TEXT, NULL being either; or `OutOfMemory`. What it returns is bound to these
-/// definitions: its tables and columns are there, and its types fit. (SQL; 06-104r4, 7.2; the order: this project's
-/// choice.)
+/// Binds a query to the tables of a schema. Names of tables and columns become their places, without regard to ASCII
+/// case; strings become their values; each text of ST_GeomFromText becomes a valid geometry, read and tested once. The
+/// tables and columns of what it returns are there, and its types fit. (SQL; 06-104r4, 7.2.)
+///
+/// FROM is bound first, then the select list, ON and WHERE. The error is the first fault from left to right, with its
+/// byte; in a predicate or a call the arguments come before the whole (the order: this project's choice):
+/// `UnknownTable` at a table's name; `SameName` at the name of a second reference that has the first's name;
+/// `UnknownColumn` or `AmbiguousColumn` at a column's first byte; `BadGeometry` at the string of ST_GeomFromText, with the
+/// fault of its text or geometry, whose byte is counted in the string's value; `BadPattern` at the string of ST_Relate;
+/// `TypeMismatch` at the first byte of a predicate or call whose argument isn't a geometry, or of a comparison whose sides
+/// aren't both INTEGER or both TEXT (NULL is either); or `OutOfMemory`.
 pub fn bind(alloc: Global, query: &Query<'_>, definitions: &[TableDef]) -> Result<Bound, QueryFault>
     ensures answer { Binds result (spec.binding geometry_binding definitions.now query.now) }
     ensures bound { IfOk result (IsBound geometry_fits definitions.now) }

@@ -23,7 +23,7 @@ fn table_place(definitions: &[TableDef], name: &[u8]) -> Option<usize>
         .position(|table| same_name(table.name.bytes(), name))
 }
 
-/// The name of a reference: its alias, else its table's name as the definitions spells it.
+/// The name of a reference: its alias, else its table's name as the schema spells it.
 fn reference_name<'n>(
     definitions: &'n [TableDef],
     place: usize,
@@ -64,7 +64,8 @@ fn bound_reference(
     Ok(Reference { table, name })
 }
 
-/// The references of FROM.
+/// The references of FROM, from left to right; `UnknownTable` at a table's name, or `SameName` at the name of a reference that
+/// an earlier one has.
 pub fn bound_references(
     alloc: Global,
     definitions: &[TableDef],

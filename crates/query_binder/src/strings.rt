@@ -7,7 +7,7 @@ ghost use Rattle.table_model.specs.Binding as spec;
 use sqlite_items::Items;
 use std::alloc::{AllocError, Global};
 
-/// What comes after the first byte that a string holds, two quotes in a row being one.
+/// What comes after the first byte of a string's value, where two quotes in a row are one byte of it.
 fn after_first(text: &[u8]) -> &[u8]
     ensures { result.now ≡ after_first text.entry.now }
 {
@@ -22,7 +22,7 @@ fn after_first(text: &[u8]) -> &[u8]
     more
 }
 
-/// What a string holds. (SQL, character strings.)
+/// The value of a string: two quotes in a row are one. It fails only when memory runs out. (SQL, character strings.)
 pub fn unquoted(alloc: Global, text: &[u8]) -> Result<Items<u8>, AllocError>
     ensures { IfOk result (λ bytes. bytes ≡ spec.unquoted text.now) }
 {

@@ -54,7 +54,7 @@ fn geometry<'a>(tokens: &mut Cursor<'_, 'a>) -> Result<WrittenGeometry<'a>, Quer
     }
 }
 
-/// Reads a geometry argument, and puts it behind a pointer of its own.
+/// Reads a geometry argument, and returns it behind a pointer of its own.
 pub(crate) fn argument<'a>(
     alloc: Global,
     tokens: &mut Cursor<'_, 'a>,

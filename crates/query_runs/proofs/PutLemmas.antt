@@ -1,4 +1,4 @@
--- How a text of two parts is put by calls that make texts in memory.
+-- How a text of two parts is written by calls that make texts in memory.
 use Rattle.std.proofs.Common.{◌≡◌, ℕ, List, ◌++◌, Option, Result, Ok, Err, refl, sym, ◌∙◌, subst}
 use Rattle.std.specs.Prelude.{IsErrAnd}
 use Rattle.std.specs.Io.KnownBytes.{Appends}

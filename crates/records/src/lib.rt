@@ -1,4 +1,4 @@
-//! Records as the text that a default `csv` writer makes of them, put into a sink one after another.
+//! Writes records to a sink, each as the line that a `csv` writer with default settings makes of it.
 #![tactic(auto)]
 
 pub mod put_fault;

@@ -1,9 +1,9 @@
-//! Why a record isn't written.
+//! The fault of writing a record.
 
 use sinks::SinkFault;
 use std::alloc::AllocError;
 
-/// Why a record isn't written.
+/// Why a record wasn't written to its end.
 #[derive(Clone, Copy, Debug, PartialEq, Eq)]
 pub enum PutFault {
     /// The sink failed.

@@ -1,4 +1,4 @@
-//! A writer of records that is kept from record to record.
+//! A writer of records: it makes the CSV line of each and writes it to a sink.
 
 ghost use Rattle.std.specs.Prelude.{◌≡◌, ◌≤◌, ◌++◌, OnOk, OnErr, drop, length};
 ghost use Rattle.std.specs.Io.KnownBytes.{Appends};
@@ -12,12 +12,12 @@ use csv::{ByteRecord, Writer, WriterBuilder};
 use sinks::{Sink, put_all};
 use std::alloc::{AllocError, Global};
 
-/// How many bytes of records that were written are kept at most, before they are let go.
+/// Once the lines of written records have this many bytes, they are freed.
 const KEPT_BYTES: usize = 65_536;
 
-/// Makes the text of each record in memory and writes it. A `csv` writer has a buffer of its own, which costs
-/// more to set up than a record to write, so one is kept from record to record, and with it the last records'
-/// text, up to 64 KiB.
+/// Makes the line of each record in memory, and writes it to a sink. A `csv` writer has a buffer that takes longer to set
+/// up than a record takes to write, so one `csv` writer makes the lines of many records. It adds each to the lines before
+/// it, in memory; once these have 64 KiB, a new writer takes its place and they are freed.
 #[derive(Drop)]
 pub struct RecordWriter {
     pub(crate) writer: Writer<Vec<u8>>,
@@ -33,8 +33,8 @@ impl RecordWriter {
         }
     }
 
-    /// Writes the text of a record, ended by a line feed: all of it at Ok, and a beginning of it where the sink
-    /// fails or memory runs out. In each case it is ready for the next record.
+    /// Writes the line of a record, ended by a line feed: all of it at Ok, and perhaps a beginning of it if the sink fails or
+    /// memory runs out. In each case the writer is ready for the next record.
     pub fn put<S: Sink>(
         &mut self,
         alloc: Global,
@@ -56,7 +56,7 @@ impl RecordWriter {
         Ok(())
     }
 
-    // Lets the text of earlier records go, where it has grown long.
+    // Frees the lines of earlier records if they have grown long: a new writer takes this one's place.
     fn let_go(&mut self, alloc: Global)
         requires { IsReady self.old }
         ensures { IsReady self.new }
@@ -66,14 +66,14 @@ impl RecordWriter {
         }
     }
 
-    // The text that is kept of earlier records.
+    // The lines of earlier records that are still in memory.
     fn kept(&self) -> &[u8]
         ensures { result.now ≡ text_kept self.now }
     {
         self.writer.get_ref().as_slice()
     }
 
-    // Adds the text of a record to the text that is kept. Where memory runs out, no text is kept.
+    // Adds the line of a record to the lines in memory. If memory runs out, all of them are freed.
     fn write(&mut self, alloc: Global, fields: &ByteRecord) -> Result<(), AllocError>
         requires { IsReady self.old }
         ensures ready { IsReady self.new }
@@ -88,14 +88,14 @@ impl RecordWriter {
     }
 }
 
-// A writer over an empty text.
+// A writer with no lines in memory.
 fn fresh_writer(alloc: Global) -> Writer<Vec<u8>>
     ensures { IsFresh result }
 {
     WriterBuilder::new().from_writer(Vec::new(alloc))
 }
 
-// The bytes of a text from this one on.
+// The bytes of a text from this place on.
 fn behind(text: &[u8], begin: usize) -> &[u8]
     requires { begin ≤ length text.now }
     ensures { result.now ≡ drop begin text.now }

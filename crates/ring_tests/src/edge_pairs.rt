@@ -8,14 +8,14 @@ ghost use Rattle.geometry_model.specs.FirstFaults as spec;
 use fraction::GridPoint;
 use orient::{Segment, side_number};
 
-/// Whether a coordinate lies between two others, ends counted.
+/// Whether a coordinate lies between two others or is equal to one.
 fn is_between(from: i32, to: i32, at: i32) -> bool
     ensures { result ≡ between from to at (pos 1) }
 {
     from <= at && at <= to || to <= at && at <= from
 }
 
-/// Whether a position lies in the box of two others, sides counted.
+/// Whether a position lies in the box of two others, or on its sides.
 fn is_in_box(from: GridPoint, to: GridPoint, at: GridPoint) -> bool
     ensures { result ≡ (between from.x to.x at.x (pos 1) && between from.y to.y at.y (pos 1)) }
 {
@@ -38,7 +38,7 @@ fn is_on(segment: &Segment, at: GridPoint, side: i64) -> bool
     side == 0 && is_within_ends(segment, at)
 }
 
-/// Whether of two numbers one is above 0 and the other below.
+/// Whether one of two numbers is above 0 and the other below 0.
 fn are_opposite(a: i64, b: i64) -> bool
     ensures { result ≡ spec.opposite a b }
 {

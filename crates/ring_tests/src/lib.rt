@@ -1,5 +1,5 @@
 //! Tests of the rings of areas: whether two edges share a point or clash, whether a ring is closed, whether a position is
-//! inside. They go over slices, so one polygon, one ring or a part of it is tested alike. Nothing here takes memory.
+//! inside. They take slices of edges: of a polygon, of a ring or of a part of it. Nothing here takes memory.
 #![tactic(auto)]
 
 mod edge_pairs;

@@ -8,8 +8,8 @@ use crate::edge_pairs::{share_other, share_point};
 use fraction::{GridPoint, RatPoint};
 use orient::{Segment, crosses_up};
 
-/// Whether an odd number of the edges lie strictly above a position: of a ring's edges, whether it is inside (06-103r4,
-/// 6.1.11.1).
+/// Whether an odd number of the edges lie strictly above a position: for the edges of a ring that it isn't on, whether it is
+/// inside (06-103r4, 6.1.11.1).
 pub fn is_inside(edges: &[Segment], at: GridPoint) -> bool
     ensures { result ≡ is_odd_above edges.now at }
 {
@@ -27,8 +27,8 @@ pub fn is_not_closed(ring: &[GridPoint]) -> bool
     }
 }
 
-/// Whether the i-th and the j-th of the edges of a ring clash, j being later: neighbours share more than
-/// their common position, others a point.
+/// Whether the i-th and a later j-th of the edges of a ring clash: neighbours share more than their common position, others
+/// share a point. The first and the last edge are neighbours.
 pub fn clash(count: usize, i: usize, e: &Segment, j: usize, f: &Segment) -> bool
     requires earlier { i < j }
     requires later { j < count }

@@ -1,4 +1,4 @@
--- A tree stands for the list that it was packed from, and finds what meets in it.
+-- The list of envelopes that a tree was packed from can be read back from it, and a search finds what meets in this list.
 use Rattle.std.proofs.Common.{◌≡◌, ◌∙◌, ◌<◌, ◌+◌, ◌==◌, ℕ, zero, suc, Bool, true, false, cond, List, [], ◌∷◌, map, length, get_or, Option, Some, None, ap, refl, sym, subst, arith, IsPermutation}
 use borrow.Author.Tests.{eqb-true, eqb-false}
 use Rattle.std.specs.Prelude.{IsSortedBy, filter, filter_map, slice_get, sum_by}

@@ -19,7 +19,7 @@ use table_model::faults::SchemaFault;
 use table_model::texts::{OwnedText, same_name};
 use table_model::tokens::TokenKind;
 
-/// The fault at the next token: no rule goes on with it.
+/// The fault of a next token that can't be there.
 pub(crate) fn refuse(tokens: &Cursor<'_, '_>) -> SchemaFault
     ensures { result ≡ SchemaFault.Syntax (steps.place tokens.now) }
 {
@@ -90,7 +90,7 @@ fn sees_name(tokens: &Cursor<'_, '_>) -> bool
     tokens.sees(TokenKind::Word) && is_ascii(tokens.spelling())
 }
 
-/// Reads a new name, where there is room for one more and where it isn't taken.
+/// Reads a new name: TooMany if there is no room for one more, DoubleName if it is taken.
 #[tactic(auto, unfolding(table_model::specs::SchemaReading::new_name))]
 fn new_name(
     alloc: Global,
@@ -272,7 +272,7 @@ fn key_after(key: Option<usize>, place: usize, is_key: bool) -> Option<usize>
     if is_key { Some(place) } else { key }
 }
 
-/// Reads columns with commas between them, and the place of the key where there is one.
+/// Reads columns with commas between them, and returns them with the place of the key, if there is one.
 #[tactic(auto, unfolding(table_model::specs::SchemaReading::columns_from))]
 fn columns(
     alloc: Global,
@@ -293,7 +293,7 @@ fn columns(
     Err(refuse(tokens))
 }
 
-/// Reads the parenthesis that closes a table, which needs a key.
+/// Reads the parenthesis that closes a table; NoKey there if the table has no key.
 fn close(
     tokens: &mut Cursor<'_, '_>,
     name: OwnedText,

@@ -1,5 +1,5 @@
-//! The reader of schemas in the style of OGC 06-104r4 (Simple Features, part 2): the tokens of a schema are read into
-//! the tables that the grammar gives.
+//! The reader of schemas in the style of OGC 06-104r4 (Simple Features, part 2): `read_schema` reads a text into the
+//! definitions of tables that the grammar gives.
 #![tactic(auto)]
 
 mod definition;

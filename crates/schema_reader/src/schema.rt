@@ -1,4 +1,4 @@
-//! Reads schemas.
+//! Reads a whole schema.
 
 ghost use Rattle.schema_reader.specs.Outcomes.{ReadsAs};
 ghost use Rattle.std.specs.Prelude.{◌≡◌, IfErr, IfOk, Ok};
@@ -26,7 +26,7 @@ fn goes_on(tokens: &mut Cursor<'_, '_>) -> bool
     separated && !tokens.sees(TokenKind::End)
 }
 
-/// Reads tables with semicolons between them, and one behind the last or none.
+/// Reads tables with semicolons between them, and perhaps one after the last.
 #[tactic(auto, unfolding(table_model::specs::SchemaReading::tables_from))]
 fn all_tables(alloc: Global, tokens: &mut Cursor<'_, '_>) -> Result<Vec<TableDef>, SchemaFault>
     ensures { ReadsAs SchemaFault.OutOfMemory (λ v. v.items)
@@ -57,7 +57,7 @@ fn schema(alloc: Global, tokens: &mut Cursor<'_, '_>) -> Result<Vec<TableDef>, S
     Ok(tables)
 }
 
-/// Reads the text of a schema: its length is looked at first, then its grammar.
+/// Reads the text of a schema: its length is tested first, then its grammar.
 #[tactic(auto, unfolding(table_model::specs::SchemaReading::schema_of))]
 fn read(alloc: Global, text: &[u8]) -> Result<Schema, SchemaFault>
     ensures { Gives SchemaFault.OutOfMemory (λ schema. schema) result

@@ -1,4 +1,4 @@
-//! Calls of the system that a signal interrupted are made again.
+//! Makes calls of the system again that a signal interrupted.
 
 ghost use Rattle.std.specs.Io.{WritesAtMost};
 

@@ -1,5 +1,5 @@
-//! The program `sfq`: it reads a schema, one CSV file a table and one SELECT, and writes the rows that the
-//! SELECT means; and it relates two geometries by their DE-9IM matrix.
+//! The program `sfq`: it reads a schema, one CSV file for each table and one SELECT, and writes the rows that the
+//! SELECT gives; and it relates two geometries by their DE-9IM matrix.
 #![tactic(auto)]
 
 mod interruptions;
@@ -15,7 +15,7 @@ use std::io::{self, BufWriter, ErrorKind};
 use std::process::ExitCode;
 use std::{env, fs};
 
-/// The status for words of the command line that are no order.
+/// The status for words of the command line that aren't an order.
 const MISUSE: u8 = 2;
 
 /// What is printed of words that aren't UTF-8, which `clap` never sees.
@@ -79,7 +79,7 @@ fn failed_order<E: Sink>(rt: &HostRuntime, misuse: &Misuse, err: &mut E) -> u8 {
     status
 }
 
-// What the words of the command line order.
+// The order that the words of the command line give.
 fn read_order(alloc: Global, texts: &[String]) -> Result<Order, Misuse> {
     let mut words = Vec::with_capacity(alloc, texts.len())?;
     for text in texts {

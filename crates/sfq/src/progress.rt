@@ -1,5 +1,5 @@
-//! How far a command is: a line on standard error, where that is a terminal and the command takes longer than half a second.
-//! It is removed before anything else is written, and doesn't come back once the output is on a terminal.
+//! Shows how far a command is: a line on standard error, if that is a terminal and the command takes longer than half a second.
+//! The line is removed before anything else is written. Once output has been written to a terminal, no line is shown any more.
 
 use crate::interruptions::{PatientFile, write_again};
 use observers::{Followed, ReadObserver, RowObserver};
@@ -9,13 +9,13 @@ use std::io::{self, IsTerminal, Write};
 use std::path::Path;
 use std::time::{Duration, Instant};
 
-/// How many milliseconds pass before anything is printed.
+/// How many milliseconds pass before a line is shown.
 const PATIENCE_MILLISECONDS: u64 = 500;
 
 /// How many milliseconds a line stays before it is written anew.
 const PAUSE_MILLISECONDS: u64 = 100;
 
-/// What takes a line away: back to its first column, and all from there on is erased.
+/// What removes a line: the cursor goes back to its first column, and all from there on is erased.
 const CLEAR: &[u8] = b"\r\x1b[K";
 
 /// How many candidates are looked at from one look at the clock to the next.
@@ -24,7 +24,7 @@ const STRIDE: u64 = 64;
 /// How many bytes are a megabyte.
 const MEGABYTE: u64 = 1_000_000;
 
-/// How far a command is. It prints nothing where standard error is no terminal.
+/// How far a command is. It prints nothing if standard error isn't a terminal.
 #[derive(Drop)]
 pub struct Progress<'r> {
     rt: &'r HostRuntime,
@@ -72,7 +72,7 @@ impl<'r> Progress<'r> {
         Followed::new(PatientFile::new(file), reading)
     }
 
-    /// What reports the search for rows.
+    /// The observer that reports the search for rows.
     pub fn search(&self) -> Search<'_> {
         Search {
             candidates: 0,

@@ -1,4 +1,4 @@
-//! The labels of two geometries.
+//! Finds the labels of two geometries.
 
 ghost use Rattle.std.specs.Prelude.{◌≡◌, ◌++◌, IfOk, OnOk, All, map, true};
 ghost use Rattle.geometry_model.specs.Points.{IsPoint, same_point};
@@ -49,7 +49,7 @@ fn piece_label(first: &Valid, second: &Valid, piece: &Piece) -> Label
     label(first, second, &sample_of(piece))
 }
 
-/// Whether both ends of a piece have one x.
+/// Whether both ends of a piece have the same x.
 fn is_upright(piece: &Piece) -> bool
     ensures { result ≡ spec.is_upright (piece_of piece.now) }
 {

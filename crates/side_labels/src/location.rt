@@ -14,10 +14,10 @@ use orient::Segment;
 use validity::Valid;
 use wkt::LineString;
 
-/// Where a point lies in a geometry (06-103r4, 6.1.15.2). Of points the listed ones are the interior, and the boundary
-/// is empty (6.1.4 and 6.1.5). Of lines the boundary is the points at which an odd number of element ends are, and the
-/// interior is the rest of them (6.1.8.1: the mod 2 rule). Of an area the boundary is its rings, and the interior what is
-/// inside an odd number of them (6.1.11.1 and 6.1.14). It takes no memory.
+/// Where a point lies in a geometry (06-103r4, 6.1.15.2). Points: the listed ones are the interior, and the boundary is empty
+/// (6.1.4 and 6.1.5). Lines: the boundary is the points at which an odd number of line ends meet, and the interior is the rest
+/// of the lines (6.1.8.1: the mod 2 rule). An area: the boundary is its rings, and the interior is what has an odd number of
+/// their edges above it (6.1.11.1 and 6.1.14). It takes no memory.
 pub fn locate(valid: &Valid, p: &RatPoint) -> Location
     ensures { result ≡ spec.locate valid.now p.now }
 {
@@ -40,7 +40,7 @@ fn locate_in_points(listed: &[GridPoint], p: &RatPoint) -> Location
     }
 }
 
-/// Where a point lies in a geometry of lines, which come along. The odd ends are searched first: they are kept.
+/// Where a point lies in a geometry of these lines. Its odd ends, which are kept, are searched first.
 fn locate_in_lines(valid: &Valid, lines: &[LineString], p: &RatPoint) -> Location
     requires ended { ended_lines valid.now ≡ lines.now }
     requires edges { edges valid.now ≡ edges_of_lines lines.now }
@@ -55,7 +55,7 @@ fn locate_in_lines(valid: &Valid, lines: &[LineString], p: &RatPoint) -> Locatio
     }
 }
 
-/// Where a point lies in the area of these rings, whose edges and the boxes over those come along.
+/// Where a point lies in the area of these rings, whose edges and the boxes over them are given.
 fn locate_in_rings(
     rings: &[LineString],
     segments: &[Segment],

@@ -1,4 +1,4 @@
-//! Where the two sides of a piece lie in a geometry, asked at a point within it.
+//! Where the two sides of a piece lie in a geometry, found at a point within the piece.
 
 ghost use Rattle.std.specs.Prelude.{◌≡◌, if◌then◌else◌};
 ghost use Rattle.geometry_model.specs.Points.{Point};
@@ -11,25 +11,25 @@ use fraction::RatPoint;
 use geometry_model::{Kind, Location};
 use validity::Valid;
 
-/// Where what is just below a piece that isn't vertical lies in a geometry, and what is just above it.
+/// Where the points just below a piece that isn't vertical lie in a geometry, and where those just above it.
 #[derive(Clone, Copy, Debug, PartialEq, Eq)]
 pub struct Sides {
-    /// Where what is just below lies.
+    /// Where the points just below lie.
     pub lower: Location,
-    /// Where what is just above lies.
+    /// Where the points just above lie.
     pub upper: Location,
 }
 
-/// The sides of what is no area.
+/// The sides in a geometry of points or lines.
 const EXTERIOR: Sides = Sides {
     lower: Location::Exterior,
     upper: Location::Exterior,
 };
 
-/// Where the two sides of a piece that isn't vertical lie in a geometry, by a point within the piece: in the interior of an
-/// area where an odd number of its edges are, for the lower side, at or above the point, and for the upper one strictly above
-/// it, else in the exterior (OGC 06-103r4, 6.1.15.2; sides: this project's choice). It takes no memory, and looks for the
-/// edges of an area once.
+/// Where the two sides of a piece that isn't vertical lie in a geometry, by a point within the piece. The lower side is in the
+/// interior of an area if an odd number of its edges are at or above the point, the upper side if an odd number are strictly
+/// above it; else they are in the exterior (OGC 06-103r4, 6.1.15.2; sides: this project's choice). It takes no memory, and
+/// looks through the edges of an area once.
 pub fn sides_at(valid: &Valid, p: &RatPoint) -> Sides
     ensures lower { result.lower ≡ spec.below valid.now p.now }
     ensures upper { result.upper ≡ spec.above valid.now p.now }
@@ -40,7 +40,7 @@ pub fn sides_at(valid: &Valid, p: &RatPoint) -> Sides
     }
 }
 
-/// The same, where it is known how the point lies to the geometry's edges.
+/// The same as `sides_at`, if it is known how the point lies relative to the geometry's edges.
 pub fn sides_by(valid: &Valid, found: &Crossings) -> Sides
     ensures lower { (p : Point) → AreCrossings found.now (edges valid.now) p
         → result.lower ≡ spec.below valid.now p }
@@ -56,7 +56,7 @@ pub fn sides_by(valid: &Valid, found: &Crossings) -> Sides
     }
 }
 
-/// How the point lies to the edges of a geometry.
+/// How the point lies relative to the edges of a geometry.
 fn crossings(valid: &Valid, p: &RatPoint) -> Crossings
     ensures { AreCrossings result (edges valid.now) p.now }
 {

@@ -84,7 +84,7 @@ impl<'t, 'a> Cursor<'t, 'a> {
         self.left.len()
     }
 
-    /// Goes past the next token.
+    /// Reads the next token, whichever it is.
     #[tactic(auto, unfolding(table_model::specs::Parsers::next))]
     pub fn advance(&mut self)
         ensures { self.new ≡ spec.next self.old }
@@ -121,7 +121,7 @@ impl<'t, 'a> Cursor<'t, 'a> {
         same_kind(self.second_kind(), wanted)
     }
 
-    /// Goes past the next token where it is of a kind, and returns whether it is.
+    /// Reads the next token if it is of this kind, and returns whether it is.
     #[tactic(auto, unfolding(table_model::specs::Parsers::after))]
     pub fn eat(&mut self, wanted: TokenKind) -> bool
         ensures found { result ≡ spec.sees wanted self.old }

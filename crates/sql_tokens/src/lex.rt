@@ -250,10 +250,9 @@ fn cut<'a>(alloc: Global, text: &'a [u8], strings: bool) -> Result<Items<Token<'
     Ok(tokens)
 }
 
-/// The tokens of a text in their order. The last one is Bad, which is the first byte that begins no token or the
-/// first quote of a string that isn't closed, or else End, at the text's length. Strings are tokens where `strings`
-/// says so. Each token's text is the part of the text at its place, a string's after its first quote. It fails only
-/// for lack of memory.
+/// The tokens of a text in their order. The last one is End, at the text's length, or Bad: the first byte that begins no
+/// token, or the first quote of a string that isn't closed. Strings are tokens if `strings` says so. Each token's text is
+/// the part of the text at its place; a string's is what is between its quotes. It fails only when memory runs out.
 pub fn lex<'a>(alloc: Global, text: &'a [u8], strings: bool) -> Result<Items<Token<'a>>, AllocError>
     ensures tokens { IfOk result (λ tokens. tokens ≡ spec.tokens strings text.now) }
     ensures slices { IfOk result (λ tokens. AllByRecursion (spec.IsSlice text.now) tokens) }

@@ -1,4 +1,4 @@
-//! The numbers that digits stand for.
+//! The numbers that digits write.
 
 ghost use Rattle.std.specs.Prelude.{◌≡◌, ◌≤◌, ◌<◌, ◌^◌, ◌==◌, if◌then◌else◌, MatchOption, Some, None, false, true};
 ghost use Rattle.std.specs.Char as chars;
@@ -15,7 +15,7 @@ fn digit_value(byte: u8) -> u64
     }
 }
 
-/// The number of decimal digits, where it isn't past a limit.
+/// The number that decimal digits write; none if it is past the limit.
 pub fn magnitude(digits: &[u8], limit: u64) -> Option<u64>
     requires { (36 ≤ limit) × (limit ≤ 2 ^ 63) }
     ensures { MatchOption result (limit < digits_value 10 digits.now)
@@ -32,7 +32,7 @@ pub fn magnitude(digits: &[u8], limit: u64) -> Option<u64>
     Some(value)
 }
 
-/// Which truth the digits after a predicate and `=` stand for, where their number is 1 or 0.
+/// The truth that the digits after a predicate and `=` write: true for 1, false for 0, else none.
 pub(crate) fn truth_digit(digits: &[u8]) -> Option<bool>
     ensures { result ≡ (if digits_value 10 digits.now == 1 then Some true
         else (if digits_value 10 digits.now == 0 then Some false else None)) }

@@ -10,7 +10,7 @@ use crate::numbers::truth_digit;
 use table_model::faults::QueryFault;
 use table_model::tokens::TokenKind;
 
-/// The fault at the next token: no rule goes on with it.
+/// The fault of a next token that can't be there.
 pub fn refuse(tokens: &Cursor<'_, '_>) -> QueryFault
     ensures { result ≡ QueryFault.Syntax (steps.place tokens.now) }
 {
@@ -49,8 +49,8 @@ fn truth(tokens: &mut Cursor<'_, '_>) -> Result<bool, QueryFault>
     }
 }
 
-/// Reads what a predicate is compared with, where it is compared: whether it is to hold. What is refused comes after an
-/// equal sign, which alone was taken.
+/// Reads what a predicate is compared with, if it is compared: whether it is to hold. A refusal comes after the equal sign,
+/// which was read.
 #[tactic(auto, unfolding(table_model::specs::Parsers::after))]
 pub fn comparand(tokens: &mut Cursor<'_, '_>) -> Result<bool, QueryFault>
     ensures reads { Reads QueryFault.OutOfMemory (spec.comparand tokens.old) result tokens.new }

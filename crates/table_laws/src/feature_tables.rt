@@ -1,4 +1,4 @@
-//! Laws of feature tables and databases: what loads has the facts of one.
+//! Laws of feature tables and databases: what loads is a table or database as the facts of `FeatureTables` say.
 
 ghost use Rattle.table_laws.specs.FeatureTableLaws.{LoadedAreRows, LoadedIsDatabase};
 

@@ -1,4 +1,4 @@
--- The first element of a list whose number none undercuts.
+-- The first element of a list whose number is least.
 use Rattle.std.specs.Prelude.{◌≡◌, refl, ℕ, ◌<◌, ◌≤◌, Bool, true, false, cond, nat_le, List, [], ◌∷◌, ◌++◌, length, All, Contains, find, Option, Some, None, unwrap_or, IsSome, ◌⊎◌}
 use Rattle.std.specs.List.{list_all}
 use Rattle.std.proofs.Common.{arith, ap, ◌∙◌, sym, inl, inr}

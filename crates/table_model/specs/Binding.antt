@@ -44,7 +44,7 @@ use Rattle.table_model.specs.declared.conditions.Bound.{Bound}
 
 -- ---- faults: of several the first from left to right is returned
 
--- an answer, or the fault of a query
+-- a value, or the fault of a query
 abbrev pub Checked : Type 0 → Type 0
 Checked X = Result X QueryFault
 
@@ -56,7 +56,7 @@ Err e >>= f = Err e
 
 -- ---- the tables of FROM
 
--- the place of a table by its name (SQL, names of tables)
+-- the place of the first table of this name (SQL, names of tables)
 abbrev pub table_place : {T : Type 0} → List (TableDef T) → List ℕ → Option ℕ
 table_place schema name = position (λ table. same_name table.name name) schema
 
@@ -75,7 +75,7 @@ abbrev pub reference_at : {T : Type 0} → List (TableDef T) → WrittenReferenc
 reference_at schema written (Some place) = Ok (record { table = place; name = reference_name schema place written.alias })
 reference_at schema written None = Err (UnknownTable written.table.at)
 
--- a reference of FROM; a table that the schema lacks is a fault at its name (SQL, FROM)
+-- a reference of FROM; Q3 at the name of a table that the schema lacks (SQL, FROM)
 abbrev pub bound_reference : {T : Type 0} → List (TableDef T) → WrittenReference → Checked Reference
 bound_reference schema written = reference_at schema written (table_place schema written.table.text)
 
@@ -84,17 +84,17 @@ abbrev pub name_start : Name → Option Name → ℕ
 name_start table (Some alias) = alias.at
 name_start table None = table.at
 
--- a reference behind others needs a name that none of them has, else there is a fault at its name (SQL, correlation names)
+-- a reference after others needs a name that none of them has, else Q4 at its name (SQL, correlation names)
 abbrev pub named_apart : List Reference → ℕ → Reference → Checked Reference
 named_apart before at reference = if list_any (λ other. same_name other.name reference.name) before then Err (SameName at) else Ok reference
 
--- a reference behind others: its table first, then its name (SQL, FROM)
+-- a reference after others: its table is bound first, then its name is tested (SQL, FROM)
 abbrev pub next_reference : {T : Type 0} → List (TableDef T) → List Reference → WrittenReference → Checked Reference
 next_reference schema before written = do
   reference ← bound_reference schema written
   named_apart before (name_start written.table written.alias) reference
 
--- references behind others, which are listed first (SQL, FROM)
+-- references after others, which are listed first (SQL, FROM)
 abbrev pub references_after : {T : Type 0} → List (TableDef T) → List Reference → List WrittenReference → Checked (List Reference)
 references_after schema before [] = Ok before
 references_after schema before (written ∷ more) = do
@@ -149,7 +149,7 @@ column_meant schema written place reference =
 abbrev pub columns_meant : {T : Type 0} → List (TableDef T) → WrittenColumn → ℕ → List Reference → List Found
 columns_meant schema written place references = filter_map (λ r. column_meant schema written r.0 r.1) (enumerate_from place references)
 
--- the one that it can be: none is a fault, and so are two (SQL, column names)
+-- the only column that it can be; Q5 if there is none, Q6 if there are two (SQL, column names)
 abbrev pub the_one : ℕ → List Found → Checked Found
 the_one at [] = Err (UnknownColumn at)
 the_one at (found ∷ []) = Ok found
@@ -168,18 +168,18 @@ pub record GeometryBinding (T A B C D : Type 0) : Type 0 where
   pub item_argument : List (TableDef T) → List Reference → C → Checked (Typed D)
   pub pattern : Name → Checked Pattern
 
--- a part of this type, where it is a geometry
+-- the part if this type is that of geometries, else Q7 at this byte
 abbrev pub geometry_of_type : {X : Type 0} → ℕ → X → OperandType → Checked X
 geometry_of_type at part types.Geometry = Ok part
 geometry_of_type at part types.Integer = Err (TypeMismatch at)
 geometry_of_type at part types.Text = Err (TypeMismatch at)
 geometry_of_type at part types.Null = Err (TypeMismatch at)
 
--- a part that is a geometry; else there is a fault, at the first byte of its predicate or call
+-- a part that is a geometry, else Q7 at the first byte of its predicate or call
 abbrev pub geometry_only : {X : Type 0} → ℕ → Typed X → Checked X
 geometry_only at typed = geometry_of_type at typed.part typed.part_type
 
--- what a string holds: two quotes in a row are one (SQL, character strings; 39 is the quote)
+-- the value of a string: two quotes in a row are one (SQL, character strings; 39 is the quote)
 abbrev pub unquoted : List ℕ → List ℕ
 unquoted [] = []
 unquoted (byte ∷ []) = byte ∷ []
@@ -216,11 +216,11 @@ fits_text types.Text = true
 fits_text types.Geometry = false
 fits_text types.Null = true
 
--- whether two sides can be compared: both are integers or both are texts, NULL being either (SQL, comparison)
+-- whether two sides can be compared: both are integers or both are texts, and NULL is either (SQL, comparison)
 abbrev pub comparable : OperandType → OperandType → Bool
 comparable a b = fits_integer a && fits_integer b || fits_text a && fits_text b
 
--- a test of types: where it fails there is a fault at this byte
+-- a test of types: Q7 at this byte if it fails
 abbrev pub checked_types : {X : Type 0} → Bool → ℕ → X → Checked X
 checked_types true at x = Ok x
 checked_types false at x = Err (TypeMismatch at)
@@ -295,7 +295,7 @@ bound_conjuncts how schema references written = do
   cond ← bound_cond how schema references written
   Ok (conjuncts_of cond)
 
--- those of ON or of WHERE; what is absent has none
+-- the conjuncts of ON or of WHERE, bound; none if it isn't written
 abbrev pub bound_condition : {T A B C D : Type 0} → GeometryBinding T A B C D → List (TableDef T) → List Reference → Option (WrittenCond A) → Checked (List (Cond B))
 bound_condition how schema references (Some written) = bound_conjuncts how schema references written
 bound_condition how schema references None = Ok []

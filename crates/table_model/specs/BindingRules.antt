@@ -55,13 +55,13 @@ abbrev pub IsTwice : {X : Type 0} → (X → Type 0) → List X → Type 0
 IsTwice P [] = ⊥
 IsTwice P (x ∷ xs) = (P x × IsSomewhere P xs) ⊎ IsTwice P xs
 
--- x is the first element that has the property, and its place from 0
+-- x, at this place from 0, is the first element that has the property
 abbrev pub IsFirst : {X : Type 0} → (X → Type 0) → List X → ℕ → X → Type 0
 IsFirst P [] place x = ⊥
 IsFirst P (y ∷ ys) zero x = (y ≡ x) × P y
 IsFirst P (y ∷ ys) (suc place) x = (P y → ⊥) × IsFirst P ys place x
 
--- x is the only element that has the property, and its place from 0
+-- x, at this place from 0, is the only element that has the property
 abbrev pub IsOnly : {X : Type 0} → (X → Type 0) → List X → ℕ → X → Type 0
 IsOnly P [] place x = ⊥
 IsOnly P (y ∷ ys) zero x = (y ≡ x) × P y × IsNowhere P ys

@@ -174,7 +174,7 @@ wanted tables q = map (query_rows tables q) (meant (truth labelled_matrix denote
 abbrev pub answered : List (TableDef ColumnShape) → List (Table Geometry) → Query → List Record
 answered definitions tables q = answer geometry_writing definitions q (wanted tables q)
 
--- the work of the chosen plan after so many rows
+-- the work of the chosen plan after this many rows
 abbrev pub worked_to : List (Table Geometry) → Query → ℕ → Option ℕ
 worked_to tables q n = option_map (λ plan. work_to_row labelled_matrix denoted tables q plan n) (chosen tables q)
 

@@ -1,6 +1,6 @@
--- At which tokens a query is refused, said without a reader: two rules are left out of the grammar, those on the size of
--- integers and on how deep conditions nest. A token is refused if with the tokens before it it begins a text of that
--- grammar, and breaks one of the two.
+-- At which tokens a query is refused, said without a reader. Two rules are left out of the grammar: those on the size of
+-- integers and on how deep conditions nest. A token is refused if the tokens up to it begin a text of this grammar and the
+-- token breaks one of the two rules.
 use Rattle.std.specs.Prelude.{◌≡◌, ◌≤◌, ◌⊎◌, ℕ, zero, suc, Bool, true, false, List, [], ◌∷◌, ◌++◌, length, None, Result, Err}
 use Rattle.table_model.specs.Outcomes.{Gives}
 use Rattle.table_model.specs.QueryGrammar.{IsOperand, IsComparison, IsPredicateOf, IsConjunction, IsConditionOf, IsNegationOf, IsSelection, IsReference, IsCrossed, IsExplain}

@@ -1,6 +1,6 @@
--- At which tokens a schema is refused, said without a reader: four rules are left out of the grammar, those on the number
--- of tables and columns, on equal names and on the number of keys. A token is refused if with the tokens before it it
--- begins a text of that grammar, and breaks one of the four (after SQL's CREATE TABLE). Generic in what names a type of geometry.
+-- At which tokens a schema is refused, said without a reader. Four rules are left out of the grammar: not too many tables or
+-- columns, no two equal names, no second key, no table without a key. A token is refused if the tokens up to it begin a text
+-- of this grammar and the token breaks one of the four rules (after SQL's CREATE TABLE). Generic in what names a type of geometry.
 use Rattle.std.specs.Prelude.{◌≡◌, ◌≤◌, ◌<◌, ◌⊎◌, ℕ, Bool, true, false, List, [], ◌∷◌, ◌++◌, codes, length, map, Option, Result, Err}
 use Rattle.std.specs.List.{list_any}
 use Rattle.table_model.specs.Definitions.{most_tables, most_columns, is_integer}

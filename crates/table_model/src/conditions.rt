@@ -1,4 +1,4 @@
-//! Queries bound to a database: names have become places, and literals values.
+//! Bound queries: names have become places, and texts of geometries have become geometries.
 
 use crate::queries::Explain;
 use crate::references::References;
@@ -42,7 +42,7 @@ pub enum Operand<A> {
     Dimension(A),
 }
 
-/// A condition, generic in what a geometry argument is. `= 0` after a predicate is a NOT, `= 1` leaves no trace.
+/// A condition, generic in what a geometry argument is. `= 0` after a predicate has become a NOT, and `= 1` is left out.
 /// (SQL, the search condition; of geometries: 06-103r4, 6.1.15.)
 #[derive(Drop)]
 pub enum Cond<A> {
@@ -73,16 +73,16 @@ pub struct Reference {
     pub name: Items<u8>,
 }
 
-/// A bound query: its one or two references, its items, none under COUNT(*), its conjuncts, those of ON before
-/// those of WHERE, and its limit, where there is one. (SQL, the query.)
+/// A bound query: one or two references; its items, none under COUNT(*); its conjuncts, those of ON before those of
+/// WHERE; its limit, if there is one. (SQL, the query.)
 #[derive(Drop)]
 pub struct Bound<A, C> {
     pub explain: Explain,
     pub references: References<Reference>,
     pub items: Items<Item<C>>,
     pub conjuncts: Items<Cond<A>>,
-    /// Whether COUNT(*) is listed: the number of rows is wanted.
+    /// Whether COUNT(*) is listed: the answer is the number of rows.
     pub counts: bool,
-    /// LIMIT: so many rows at most are wanted.
+    /// LIMIT: the answer has at most this many rows.
     pub limit: Option<u64>,
 }

@@ -8,23 +8,23 @@ ghost use Rattle.table_model.specs.PlaceLaws.{
   UpToPassingIsFront,
 };
 
-/// What is at all choices of places is the product of the tables. (SQL, FROM.)
+/// The rows at all choices of places are the product of the tables. (SQL, FROM.)
 pub fn choices_give_product<G>()
     ensures { ChoicesGiveProduct G }
 {}
 
-/// What is at the choices of places that ON and WHERE select are the rows at which every conjunct is true.
+/// The rows at the choices of places that ON and WHERE select are those at which every conjunct is true.
 /// (SQL, WHERE.)
 pub fn selected_gives_passing<G, A, C>()
     ensures { SelectedGivesPassing G A C }
 {}
 
-/// What is at the places of a meaning are the rows that LIMIT leaves. (SQL, LIMIT.)
+/// The rows at the places of a meaning are those that LIMIT leaves. (SQL, LIMIT.)
 pub fn meant_gives_limited<G, A, C>()
     ensures { MeantGivesLimited G A C }
 {}
 
-/// The elements up to the n-th that passes a test are the least front with the first n that pass.
+/// The elements up to the n-th that passes a test are the shortest beginning of the list with the first n that pass.
 pub fn up_to_passing_is_front<X>()
     ensures { UpToPassingIsFront X }
 {}

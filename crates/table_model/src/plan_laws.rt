@@ -27,7 +27,7 @@ pub fn chosen_is_first()
     ensures { ChosenIsFirst }
 {}
 
-/// The first lawful plan of least cost is the chosen one, so there is one alone.
+/// The first lawful plan of least cost is the chosen one.
 pub fn first_is_chosen()
     ensures { FirstIsChosen }
 {}

@@ -1,4 +1,4 @@
-//! Queries as they are written. Parentheses leave no trace, and names and strings are parts of the query's text.
+//! Queries as they are written. Parentheses are left out, and names and strings are parts of the query's text.
 
 use crate::conditions::Comparison;
 use crate::references::References;
@@ -16,7 +16,7 @@ pub struct Name<'a> {
     pub at: usize,
 }
 
-/// A column as it is written, with the name of its reference where one is written. (SQL, column names.)
+/// A column as it is written, with the name of its reference if one is written. (SQL, column names.)
 #[derive(Drop)]
 pub struct WrittenColumn<'a> {
     pub reference: Option<Name<'a>>,
@@ -95,7 +95,7 @@ pub struct WrittenReference<'a> {
 /// Whether a query is to be run, or its plan to be printed.
 #[derive(Clone, Copy, PartialEq, Eq)]
 pub enum Explain {
-    /// Rows are wanted.
+    /// Neither word: the query is run, and its answer is printed.
     No,
     /// EXPLAIN: the plan.
     Plan,

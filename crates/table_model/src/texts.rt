@@ -24,7 +24,7 @@ impl<'a> Model for Slice<'a> {
 }
 
 impl<'a> Slice<'a> {
-    /// The part that these bytes are.
+    /// The part with these bytes.
     pub fn new(bytes: &'a [u8]) -> Slice<'a>
         ensures { result ≡ bytes.entry.now }
     {
@@ -38,7 +38,7 @@ impl<'a> Slice<'a> {
         self.bytes
     }
 
-    /// A second handle of the same part.
+    /// The same part once more. Nothing is copied.
     pub fn again(&self) -> Slice<'a>
         ensures { result ≡ self.now }
     {

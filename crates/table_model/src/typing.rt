@@ -12,7 +12,7 @@ pub enum OperandType {
     Null,
 }
 
-/// What the name of a column stands for.
+/// What the name of a column is bound to: its place, and the column's type.
 #[derive(Clone, Copy, PartialEq, Eq)]
 pub struct Found {
     pub place: ColumnPlace,

@@ -12,7 +12,7 @@ use sqlite_items::{self as items, Items};
 use std::alloc::{AllocError, Global};
 use table_model::values::Value;
 
-/// An index for each geometry column, and one that lists as many absent envelopes, for all others.
+/// An index for each geometry column, and one that all other columns share, which lists an absent envelope for each row.
 #[derive(Drop)]
 pub struct Indexes<I> {
     /// For each column its own index, where there is one.

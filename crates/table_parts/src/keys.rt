@@ -1,4 +1,4 @@
-//! Feature keys: two rows of one key, and the order of rows.
+//! Feature keys: finds two rows with equal keys, and sorts rows by key.
 
 ghost use Rattle.std.specs.Prelude.{◌≡◌, ◌≢◌, IfErr, IfOk, Ok, Err, OnOk, false, int_lt, map};
 ghost use Rattle.std.specs.List.{IsAllAdjacentAnswer};
@@ -50,7 +50,7 @@ fn ascend(rows: &[Items<Value<Geometry>>], key: usize) -> bool
     rows.is_sorted_by(|row, next| key_of(row.as_slice(), key) < key_of(next.as_slice(), key))
 }
 
-/// The number, from 1, of the first of some keys that an earlier one equals.
+/// The number, from 1, of the first key that equals an earlier one; none if no two are equal.
 fn double_key(alloc: Global, keys: &[i64]) -> Result<Option<usize>, AllocError>
     ensures { IfOk result (λ number. number ≡ spec.double_key keys.now) }
 {
@@ -101,7 +101,7 @@ fn without_keys(
     Ok(rows)
 }
 
-/// Puts rows that are beside their keys into the order of the keys.
+/// Sorts rows that are beside their keys into the order of the keys.
 fn sort_keyed(keyed: &mut Vec<KeyedRow>)
     ensures moved { IsPermutation keyed.old.items keyed.new.items }
     ensures sorted { IsSortedByKey (λ k. k.number) int_cmp keyed.new.items }
@@ -116,8 +116,8 @@ fn keyed_ascend(keyed: &[KeyedRow]) -> bool
     keyed.is_sorted_by(|row, next| row.number < next.number)
 }
 
-/// The number, from 1, of the first of some keys that an earlier one equals, where rows are beside the same
-/// keys in an order of their own. Where these ascend there is none, and no set is made.
+/// The number, from 1, of the first key that equals an earlier one. The rows are beside the same keys, sorted: if these strictly
+/// ascend, there is none, and no set of keys is made.
 fn double_among(
     alloc: Global,
     keys: &[i64],
@@ -132,7 +132,7 @@ fn double_among(
     double_key(alloc, keys)
 }
 
-/// Puts rows into the order of their keys. The fault says that two rows have one key, or that memory ran out.
+/// Sorts rows into the order of their keys. The fault is DoubleKey, with the record's number, or OutOfMemory.
 pub fn order_by_key(
     alloc: Global,
     rows: &mut Vec<Items<Value<Geometry>>>,

@@ -1,5 +1,5 @@
-//! What a table is loaded from and what is kept of it: the records of its CSV text, the order of rows by their keys, and the
-//! indexes of its geometry columns.
+//! Parts of loading a table: the records of its CSV text, the order of its rows by key, and the indexes of its geometry
+//! columns.
 #![tactic(auto)]
 
 pub mod indexes;

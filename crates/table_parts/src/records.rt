@@ -14,8 +14,8 @@ use std::alloc::Global;
 use std::io::Read;
 use table_model::faults::LoadFault;
 
-/// The records of a table's CSV text, the header among them, taken one by one. No more than 100,002 are asked
-/// for: the header, as many as a table may have rows, and one that shows that there are more.
+/// The records of a table's CSV text, with the header, read one by one. At most 100,002 are asked for: the header, as many
+/// as a table may have rows, and one that shows that there are more.
 #[derive(Drop)]
 pub struct Records<R> {
     reader: Reader<R>,
@@ -67,8 +67,8 @@ impl<R: Read + Drop> Records<R> {
         self.read_failed
     }
 
-    /// Asks `csv` for the next record, and says whether there is one. An error is that of `csv`; it is one of
-    /// reading or reports that memory ran out, it leaves the record empty, and no record is asked for after it.
+    /// Asks `csv` for the next record, and returns whether there is one. An error is that of `csv`: reading failed or memory ran
+    /// out. It leaves the record empty, and no record is asked for after it.
     pub fn read(&mut self, record: &mut ByteRecord) -> Result<bool, Error>
         requires ready { IsReady self.old }
         requires limit { asked self.old < record_limit }
@@ -105,7 +105,7 @@ fn fault_of(error: &Error) -> LoadFault
     }
 }
 
-/// Takes the next record, and says whether there is one. The fault says that reading failed or that memory ran out.
+/// Reads the next record, and returns whether there is one. The fault is ReadFailed or OutOfMemory.
 pub fn next_record<R: Read + Drop>(
     records: &mut Records<R>,
     record: &mut ByteRecord,

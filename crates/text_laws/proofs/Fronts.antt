@@ -1,4 +1,4 @@
--- Reading two texts that share a front: behind it a plus is in the one, and in the other a number that is refused.
+-- Reading two texts that share a front: after it, one has a plus sign, and the other a number that is refused.
 use Rattle.std.proofs.Common.{◌≡◌, refl, sym, ap, ap₂, ◌∙◌, subst, ℕ, ◌+◌, ◌-◌, ◌≤◌, ◌<◌, ◌==◌, ◌⊎◌, inl, inr, Bool, true, false, List, [], ◌∷◌, ◌++◌, length, take, drop, Result, Ok, Err, cond, if◌then◌else◌, length-drop, arith}
 use Rattle.std.specs.List.{prefix_len}
 use Rattle.std.specs.Char.{is_ascii_alphabetic}

@@ -1,4 +1,4 @@
-//! Laws of well-known text: its reading takes what the grammar takes, and the canonical text is a text of it.
+//! Laws of well-known text: reading takes exactly the texts of the grammar, and the canonical text of a geometry is one of them.
 ghost use Rattle.text_laws.specs.ReadingLaws.{
   ReadIsSpelled,
   SpelledIsRead,
@@ -8,27 +8,27 @@ ghost use Rattle.text_laws.specs.ReadingLaws.{
   RefusalsStand,
 };
 
-/// What is read is spelled (06-103r4, 7.2).
+/// If a text is read as a geometry, it spells that geometry (06-103r4, 7.2).
 pub fn read_is_spelled()
     ensures { ReadIsSpelled }
 {}
 
-/// What is spelled is read (06-103r4, 7.2).
+/// If a text spells a geometry, it is read as that geometry (06-103r4, 7.2).
 pub fn spelled_is_read()
     ensures { SpelledIsRead }
 {}
 
-/// One text spells at most one geometry (06-103r4, 7.2).
+/// A text spells at most one geometry (06-103r4, 7.2).
 pub fn spells_one()
     ensures { SpellsOne }
 {}
 
-/// The canonical text of what a text spells spells it again (06-103r4, 7.2).
+/// The canonical text of a geometry that some text spells spells that geometry (06-103r4, 7.2).
 pub fn canonical_text_spells()
     ensures { CanonicalTextSpells }
 {}
 
-/// The canonical text of what is read is read as the same (06-103r4, 7.2).
+/// The canonical text of a geometry that was read is read as the same geometry (06-103r4, 7.2).
 pub fn canonical_text_is_read()
     ensures { CanonicalTextIsRead }
 {}

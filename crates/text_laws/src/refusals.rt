@@ -1,4 +1,4 @@
-//! What reading returns, and which refusal applies.
+//! Laws of the refusals of well-known text: reading returns exactly the fault that applies.
 ghost use Rattle.text_laws.specs.RefusalLaws.{RefusalIsAnswered, SyntaxIsAnswered, AnswerStands, TooManyIsTooLong};
 
 /// Where W2, W3 or W4 applies, reading returns it.
@@ -16,7 +16,7 @@ pub fn answer_stands()
     ensures { AnswerStands }
 {}
 
-/// A text of the grammar with more positions or parts than the counts allow is W4.
+/// A text of the grammar with more positions or parts than the limits allow is refused as W4.
 pub fn too_many_is_too_long()
     ensures { TooManyIsTooLong }
 {}

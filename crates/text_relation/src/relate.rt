@@ -21,9 +21,9 @@ use std::alloc::Global;
 use validity::{CheckFault, Valid, check};
 use wkt::{WktFault, read};
 
-/// The DE-9IM matrix of the valid geometries that two texts spell, of any types. Where a text spells none, or one that
-/// isn't valid, it is refused: the first text is read and checked before the second. It fails when memory runs out too.
-/// (06-103r4, 6.1.15.2; the order is this project's.)
+/// The DE-9IM matrix of the valid geometries that two texts spell, of any types. `Refused` is the failure if a text spells no
+/// geometry, or one that isn't valid; the first text is read and checked before the second. `OutOfMemory` may come in place of
+/// any result. (06-103r4, 6.1.15.2; the order is this project's.)
 pub fn relate_texts(alloc: Global, first: &[u8], second: &[u8]) -> Result<Matrix, Failure<'static>>
     ensures ok { ByEveryMatrix (λ matrix. IfOk result (λ m. relation matrix first.now second.now ≡ Ok m)) }
     ensures point_sets { IfOk result (RelatesTexts first.now second.now) }
@@ -52,7 +52,7 @@ fn geometry_of(alloc: Global, word: GeometryWord, text: &[u8]) -> Result<Valid, 
     }
 }
 
-// The failure that a fault of a geometry's text is.
+// The failure for a fault of a geometry's text.
 fn text_failure(word: GeometryWord, fault: WktFault) -> Failure<'static>
     ensures failure { (read : Result Geometry TextFault)
         → IfSome (text_fault fault) (λ found. read ≡ Err found)
@@ -65,7 +65,7 @@ fn text_failure(word: GeometryWord, fault: WktFault) -> Failure<'static>
     }
 }
 
-// The failure that a fault of a geometry is.
+// The failure for a fault of a geometry.
 fn validity_failure(word: GeometryWord, fault: CheckFault) -> Failure<'static>
     ensures failure { (g : Geometry) → IsFaultOf g fault
         → IsFailureOf (or_refused word (tested (Ok g))) result }

@@ -1,4 +1,4 @@
-//! Faults of geometries.
+//! Laws of the faults of geometries: the tests in whole numbers agree with the faults, and the first one is found.
 
 ghost use Rattle.validity_laws.specs.FaultLaws.{
   FaultIsDecided,
@@ -8,7 +8,7 @@ ghost use Rattle.validity_laws.specs.FaultLaws.{
   NoneIsFoundWhereValid,
 };
 
-/// Where each ring is closed, the tests of faults say exactly what the faults say of rational points.
+/// If each ring is closed, each test in whole numbers agrees with its fault, a fact about rational points.
 pub fn fault_is_decided()
     ensures { FaultIsDecided }
 {}
@@ -28,7 +28,7 @@ pub fn no_earlier_fault_stands()
     ensures { NoEarlierFaultStands }
 {}
 
-/// None is found exactly where the geometry is valid.
+/// No fault is found exactly if the geometry is valid.
 pub fn none_is_found_where_valid()
     ensures { NoneIsFoundWhereValid }
 {}

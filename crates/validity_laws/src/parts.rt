@@ -1,4 +1,4 @@
-//! The parts of valid geometries, in the words of the standard.
+//! Laws that say in the standard's words when geometries of each type are valid.
 
 ghost use Rattle.validity_laws.specs.ValidPartLaws.{
   PolygonIsValid,
@@ -19,7 +19,7 @@ pub fn multi_polygon_is_valid()
     ensures { MultiPolygonIsValid }
 {}
 
-/// A line is valid exactly where it has not a single position (06-103r4, 6.1.7).
+/// A LineString is valid exactly if its number of positions isn't 1 (06-103r4, 6.1.7).
 pub fn line_string_is_valid()
     ensures { LineStringIsValid }
 {}
@@ -29,7 +29,7 @@ pub fn multi_line_string_is_valid()
     ensures { MultiLineStringIsValid }
 {}
 
-/// Of a valid geometry the envelope is absent exactly where it is empty (06-103r4, 6.1.2.2: Envelope).
+/// The envelope of a valid geometry is absent exactly if the geometry is empty (06-103r4, 6.1.2.2: Envelope).
 pub fn envelope_is_absent_where_empty()
     ensures { EnvelopeIsAbsentWhereEmpty }
 {}

@@ -1,4 +1,4 @@
-//! Points that two edges share.
+//! Laws of the points that two edges share.
 
 ghost use Rattle.validity_laws.specs.SharedPointLaws.{SharedPointIsDecided, OtherPointIsDecided};
 

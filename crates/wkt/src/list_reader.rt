@@ -190,7 +190,7 @@ fn padded_polygon(
     Ok(found)
 }
 
-/// Reads polygons, one or more with commas between.
+/// Reads polygons, one or more with commas between, which use up the room.
 pub fn polygons(alloc: Global, cursor: &mut Cursor<'_>, most: Room) -> Result<Polygons, WktFault>
     requires { most.positions ≤ position_limit }
     ensures { ReadsInMemory (λ found. found)
