@@ -46,15 +46,15 @@ OwnEdgesAreMostly = (g : Geometry) (e : Edge) → Contains (edges g) e → (x : 
 abbrev pub OffEdgesIsNoBoundary : Type 0
 OffEdgesIsNoBoundary = (g : Geometry) (x : Point) → All (λ f. on f x ≡ false) (edges g) → (mostly g x ≡ Exterior) ⊎ ((kind g ≡ kinds.Area) × (mostly g x ≡ Interior))
 
--- off its edges both sides of a point are where the point mostly is
+-- off its edges both sides of a point lie where `mostly` says
 abbrev pub SidesOffEdges : Type 0
 SidesOffEdges = (g : Geometry) (x : Point) → IsPoint x → All (λ f. on f x ≡ false) (edges g) → (below g x ≡ mostly g x) × (above g x ≡ mostly g x)
 
--- the sides of what is no area are in the exterior
+-- the sides in a geometry of points or lines are in the exterior
 abbrev pub SidesOfNoArea : Type 0
 SidesOfNoArea = (g : Geometry) (x : Point) → kind g ≢ kinds.Area → (below g x ≡ Exterior) × (above g x ≡ Exterior)
 
--- at a point of an edge of a valid area that isn't vertical and that is no cut, one side is interior and the other exterior (06-103r4, 6.1.11.1)
+-- at a point of an edge of a valid area, if the edge isn't vertical and the point isn't a cut, one side is interior and the other exterior (06-103r4, 6.1.11.1)
 abbrev pub SidesOfOwnEdge : Type 0
 SidesOfOwnEdge = (a b : Geometry) → IsValid a → kind a ≡ kinds.Area → (e : Edge) → Contains (edges a) e → e.start.x ≢ e.end.x → (x : Point) → IsPoint x → on e x ≡ true
     → (IsCut (edges_of_both a b) (listed a ++ listed b) x → ⊥) → ArePartedAs (below a x) (above a x)

@@ -2,7 +2,7 @@
 
 ghost use Rattle.cover_laws.specs.GapLaws.{SidesOffEdges, SidesOfNoArea, SidesOfOwnEdge, SidesWithinOwnEdge, SidesAlongOwnEdge};
 
-/// Off the edges of a geometry both sides of a point lie where `mostly` says of it.
+/// Off the edges of a geometry both sides of a point lie where `mostly` says.
 pub fn sides_off_edges()
     ensures { SidesOffEdges }
 {}
@@ -12,8 +12,8 @@ pub fn sides_of_no_area()
     ensures { SidesOfNoArea }
 {}
 
-/// At a point of an edge of a valid area that isn't vertical and that is no cut, one side is interior and the other exterior
-/// (06-103r4, 6.1.11.1).
+/// At a point of an edge of a valid area, if the edge isn't vertical and the point isn't a cut, one side is interior and the
+/// other exterior (06-103r4, 6.1.11.1).
 pub fn sides_of_own_edge()
     ensures { SidesOfOwnEdge }
 {}

@@ -7,7 +7,7 @@ pub fn gap_has_mediant()
     ensures { GapHasMediant }
 {}
 
-/// Strictly between the ends of a gap there is a point that is no cut, whatever edges and listed positions may cut.
+/// Strictly between the ends of a gap there is a point that isn't a cut of these edges and listed positions.
 pub fn gap_has_no_cut()
     ensures { GapHasNoCut }
 {}

@@ -14,7 +14,7 @@ use std::alloc::{AllocError, Global};
 /// Up to this many edges need no boxes.
 const FEW_EDGES: usize = 16;
 
-/// The least number of edges of a leaf, unless its ring ends sooner, and the greatest.
+/// The least number of edges of a leaf, unless its line or ring or all edges end sooner, and the greatest.
 const LEAST_LEAF: usize = 4;
 
 const GREATEST_LEAF: usize = 8;
@@ -113,8 +113,8 @@ fn leaf(edges: &[Segment], first: usize, is_within: bool) -> (Run, usize)
     (run, end)
 }
 
-/// Whether a leaf takes one edge more: of a ring begun before it none of the next, else only whole rings and the next one's
-/// start while it has few edges.
+/// Whether a leaf takes one edge more, up to 8. It takes an edge that goes on from the one before. It takes the first edge of
+/// a further line or ring only if it has fewer than 4 edges and didn't begin within a line or ring.
 fn takes_more(edges: &[Segment], first: usize, end: usize, is_within: bool) -> bool {
     let count = end.saturating_sub(first);
     count < GREATEST_LEAF && (goes_on(edges, end) || count < LEAST_LEAF && !is_within)

@@ -225,6 +225,7 @@ impl<'a> Words<'a> {
     }
 }
 
+// The parts of the text of a failure.
 fn failure_words<'a>(failure: &Failure<'a>) -> Words<'a>
     ensures { words_text result ≡ failure_text failure.now }
 {
@@ -240,6 +241,7 @@ fn failure_words<'a>(failure: &Failure<'a>) -> Words<'a>
     }
 }
 
+// The parts of the text for a geometry of `relate` that is refused.
 fn refused_words<'a>(word: GeometryWord, fault: GeometryFault) -> Words<'a>
     ensures { words_text result ≡ word_text word ++ (codes " " ++ geometry_text fault) }
 {
@@ -249,6 +251,7 @@ fn refused_words<'a>(word: GeometryWord, fault: GeometryFault) -> Words<'a>
     }
 }
 
+// The parts of the text of a schema fault.
 fn schema_words<'a>(fault: SchemaFault) -> Words<'a>
     ensures { words_text result ≡ schema_text fault }
 {
@@ -263,6 +266,7 @@ fn schema_words<'a>(fault: SchemaFault) -> Words<'a>
     }
 }
 
+// The parts of the text of a fault of loading the table of this name.
 fn load_words<'a>(table: &'a str, fault: LoadFault) -> Words<'a>
     ensures { words_text result ≡ load_text table.entry.now fault }
 {
@@ -287,6 +291,7 @@ fn load_words<'a>(table: &'a str, fault: LoadFault) -> Words<'a>
     }
 }
 
+// The parts of the text of a query fault.
 fn query_words<'a>(fault: QueryFault) -> Words<'a>
     ensures { words_text result ≡ query_text fault }
 {
@@ -307,6 +312,7 @@ fn query_words<'a>(fault: QueryFault) -> Words<'a>
     }
 }
 
+// The parts of the text of a geometry's fault.
 fn fault_words<'a>(fault: GeometryFault) -> FaultWords<'a>
     ensures { fault_text result ≡ codes " " ++ geometry_text fault }
 {
@@ -316,6 +322,7 @@ fn fault_words<'a>(fault: GeometryFault) -> FaultWords<'a>
     }
 }
 
+// The parts of the text of a fault of well-known text.
 fn text_words<'a>(fault: TextFault) -> FaultWords<'a>
     ensures { fault_text result ≡ codes " " ++ geometry_text (g.Text fault) }
 {
@@ -327,6 +334,7 @@ fn text_words<'a>(fault: TextFault) -> FaultWords<'a>
     }
 }
 
+// The parts of the text of a fault of validity.
 fn validity_words<'a>(fault: ValidityFault) -> FaultWords<'a>
     ensures { fault_text result ≡ codes " " ++ geometry_text (g.Invalid fault) }
 {

@@ -51,8 +51,8 @@ impl RatPoint {
         }
     }
 
-    /// The point (x/w, y/w): its triple in least form. It asks that w is from 1 to 16 L L and that x and y
-    /// are within L w either way, L being the limit of coordinates.
+    /// The point (x/w, y/w), as its triple in least form. w has to be from 1 to 16 L L, and x and y at most L w
+    /// either way, where L is the limit of coordinates.
     pub fn reduced(x: i128, y: i128, w: i64) -> RatPoint
         requires in_range { IsInRange (record { X = x; Y = y; W = w }) }
         ensures exact { result ≡ least_form (record { X = x; Y = y; W = w }) }
@@ -67,8 +67,8 @@ impl RatPoint {
         }
     }
 
-    /// A point strictly between two points that differ: the sums of the numbers of their triples, in least
-    /// form. It asks that both denominators are at most 8 L L, L being the limit of coordinates.
+    /// A point strictly between two points that differ: the sum of their triples, number by number, in least form.
+    /// Both denominators have to be at most 8 L L, where L is the limit of coordinates.
     pub fn mediant(a: &RatPoint, b: &RatPoint) -> RatPoint
         requires first { a.now.W ≤ℤ pos meeting_limit }
         requires second { b.now.W ≤ℤ pos meeting_limit }

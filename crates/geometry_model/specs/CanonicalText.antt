@@ -31,7 +31,7 @@ abbrev pub tagged_text : List ℕ → List (List ℕ) → List ℕ
 tagged_text name [] = name ++ codes " EMPTY"
 tagged_text name (part ∷ more) = name ++ listed_text (part ∷ more)
 
--- the canonical text of a geometry
+-- the canonical text of a geometry; white space is only between x and y and before EMPTY
 abbrev pub canonical_text : Geometry → List ℕ
 canonical_text (Point p) = tagged_text (codes "POINT") (map position_text (option_to_list p))
 canonical_text (MultiPoint ps) = tagged_text (codes "MULTIPOINT") (map point_text ps)

@@ -67,7 +67,7 @@ pub record HasTooManyPositions (text : List ℕ) : Type 0 where
   pub spelled : Writes written (front ++ codes "+0 0" ++ closing)
   pub counted : length (written_positions written) ≡ position_limit + 1
 
--- W4 for a part: its parenthesis opens the first part past the limit, shown in the same way
+-- W4 for a part: the first part past the limit begins here, shown in the same way
 pub record HasTooManyParts (text : List ℕ) : Type 0 where
   pub front : List ℕ
   pub tail : List ℕ

@@ -87,7 +87,7 @@ numbered_elements g = elements_from 0 (elements g)
 abbrev pub IsRing : Element → ℕ → ℕ → List Position → Type 0
 IsRing e place number ring = (number ≡ e.first + place) × (slice_get e.rings place ≡ Some ring)
 
--- a ring of one polygon and one of the other share a point (06-103r4, 6.1.14: the elements of a MultiPolygon don't cross; touching at a point is refused too)
+-- a ring of one polygon and one of the other share a point (06-103r4, 6.1.14: elements don't cross; touching is refused too: this project's choice)
 pub record ElementsShare (d e : List (List Position)) : Type 0 where
   pub r : List Position
   pub s : List Position

@@ -155,7 +155,7 @@ pub fn predicates_of_rows()
     ensures points_do_not_touch { is_held Touches (codes "POINT(1 1)") (codes "POINT(1 1)") ≡ Some false }
 {}
 
-/// Predicates and patterns that want a common point, so that envelopes meet where they hold.
+/// Predicates and patterns that hold only where geometries share a point, so that their envelopes meet.
 pub fn meeting_is_forced()
     ensures disjoint { forces_meeting Disjoint ≡ false }
     ensures equals { forces_meeting Equals ≡ true }

@@ -20,7 +20,7 @@ use Rattle.table_model.specs.declared.queries.WrittenCond.TheVariants as written
 use Rattle.table_model.specs.declared.queries.WrittenOperand.{WrittenOperand}
 use Rattle.table_model.specs.declared.queries.WrittenPredicate.{WrittenPredicate}
 
--- the conjuncts of an AND are those of its parts, in order; any other condition is its own only one
+-- the conjuncts of an AND are those of its parts, in order; any other condition is its only conjunct itself
 pub record ConjunctsByParts (A : Type 0) : Type 0 where
   pub and : (parts : List (Cond A)) → conjuncts_of (conds.And parts) ≡ flat_map conjuncts_of parts
   pub or : (parts : List (Cond A)) → conjuncts_of (conds.Or parts) ≡ conds.Or parts ∷ []
@@ -30,7 +30,7 @@ pub record ConjunctsByParts (A : Type 0) : Type 0 where
   pub is_empty : (a : A) → conjuncts_of (conds.IsEmpty a) ≡ conds.IsEmpty a ∷ []
   pub relates : (predicate : Predicate) (a b : A) → conjuncts_of (conds.Relates predicate a b) ≡ conds.Relates predicate a b ∷ []
 
--- a query is bound to the conjuncts of its ON and its WHERE as they are written, and both bindings have one fault
+-- a query is bound to the conjuncts of its ON and its WHERE as they are written, and the two ways to bind it have the same fault
 abbrev pub BoundOfStatement : (T A B C D : Type 0) → Type 0
 BoundOfStatement T A B C D = (how : GeometryBinding T A B C D) (schema : List (TableDef T)) (query : Query A C)
     → binding how schema query ≡ (statement how schema query >>= (λ stated. Ok (by_conjuncts stated)))
@@ -43,7 +43,7 @@ joined_in_order (r ∷ more) = do
   ys ← joined_in_order more
   Ok (xs ++ ys)
 
--- a condition as its own only conjunct
+-- the list of conjuncts that has only this condition
 abbrev pub only : {B : Type 0} → Checked (Cond B) → Checked (List (Cond B))
 only bound = do
   cond ← bound

@@ -10,7 +10,7 @@ ghost use Rattle.grammar_laws.specs.FilterLaws.{
   MeaningByConjuncts,
 };
 
-/// The conjuncts of an AND are those of its parts, in order; any other condition is its own only one.
+/// The conjuncts of an AND are those of its parts, in order; any other condition is its only conjunct itself.
 pub fn conjuncts_by_parts<A>()
     ensures { ConjunctsByParts A }
 {}

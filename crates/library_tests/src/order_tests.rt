@@ -1,4 +1,4 @@
-//! What is shown for command lines that are no orders, and their status where memory ran out.
+//! What is shown for command lines that aren't orders, and their status when memory ran out.
 
 use command_line::{Misuse, order};
 use std::alloc::AllocError;
@@ -9,7 +9,7 @@ fn running_out_of_memory_has_its_status(rt: HostRuntime) {
     assert!(rt; Misuse::from(AllocError).status() == 7);
 }
 
-// The text that is shown for a command line that is no order.
+// The text that is shown for a command line that isn't an order.
 fn shown(rt: &HostRuntime, words: &[&str]) -> Result<String, Fail> {
     let misuse = order(rt.alloc(), words).err().ok_or("no order")?;
     misuse.print(rt).ok().ok_or("not printed")?;

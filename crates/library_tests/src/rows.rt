@@ -1,4 +1,4 @@
-//! Tables of tests, a row a line, and what their parts say.
+//! Tables of tests, one row in each line, and the values that their parts write.
 
 use crate::shapes;
 use fraction::GridPoint;

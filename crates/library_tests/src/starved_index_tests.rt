@@ -76,9 +76,9 @@ fn run_starved(
     run_over(alloc, &schema, query, sink)
 }
 
-/// A probe is refused with its search, which is made once the header was written; rows are written as they are found, those before
-/// a search that is refused among them; a number is written once all rows were counted; a scan asks no index. The work
-/// returned is the number of matrices.
+/// A probe fails with its search, which comes after the header was written. Rows are written as they are found, also those before
+/// a search that fails. A number is written once all rows were counted. A scan doesn't search an index. The work returned is the
+/// number of matrices.
 #[test]
 fn plans_meet_their_index(rt: HostRuntime) -> Result<(), Fail> {
     for (query, wanted, text) in &[

@@ -31,7 +31,7 @@ pub record Grows (a b : Geometry) (m n : Matrix) : Type 0 where
 abbrev pub CoversEnd : Geometry → Geometry → Matrix → Position → Type 0
 CoversEnd a b m p = locate a (point_at p) ≡ Boundary → CoversPosition a b m p
 
--- it does so of both ends of a line
+-- the matrix shows this of both ends of a line
 abbrev pub CoversEndsOf : Geometry → Geometry → Matrix → List Position → Type 0
 CoversEndsOf a b m line = All (CoversEnd a b m) (ends line)
 

@@ -26,6 +26,7 @@ pub fn columns_of<'s>(
     }
 }
 
+/// The type of a column as that of a part of a query.
 fn type_of(column_type: &ColumnType<ColumnShape>) -> OperandType
     ensures { result ≡ spec.type_of column_type.now }
 {

@@ -21,7 +21,7 @@ fn only(alloc: Global, cond: Cond) -> Result<Items<Cond>, AllocError>
     Ok(conjuncts)
 }
 
-/// A written condition as its own only conjunct.
+/// The list of conjuncts that has only this written condition, bound.
 fn alone(
     alloc: Global,
     scope: Scope<'_>,

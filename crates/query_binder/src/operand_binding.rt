@@ -53,12 +53,14 @@ pub fn bound_operand(
     Ok(Typed { part, part_type })
 }
 
+/// Whether a side of this type can be compared with an INTEGER: INTEGER and NULL can.
 fn fits_integer(a: OperandType) -> bool
     ensures { result ≡ spec.fits_integer a }
 {
     matches!(a, OperandType::Integer | OperandType::Null)
 }
 
+/// Whether a side of this type can be compared with a TEXT: TEXT and NULL can.
 fn fits_text(a: OperandType) -> bool
     ensures { result ≡ spec.fits_text a }
 {

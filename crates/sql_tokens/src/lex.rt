@@ -37,18 +37,21 @@ pub fn same_kind(a: TokenKind, b: TokenKind) -> bool
     a == b
 }
 
+/// Whether a byte is white space: space, tab, line feed or carriage return.
 fn is_blank(byte: u8) -> bool
     ensures { result ≡ spec.is_blank byte }
 {
     byte == b' ' || byte == b'\t' || byte == b'\n' || byte == b'\r'
 }
 
+/// Whether a byte begins a word: an ASCII letter or `_`.
 fn begins_word(byte: u8) -> bool
     ensures { result ≡ spec.begins_word byte }
 {
     byte.is_ascii_alphabetic() || byte == b'_'
 }
 
+/// Whether a byte continues a word: an ASCII letter, `_` or a digit.
 fn continues_word(byte: u8) -> bool
     ensures { result ≡ spec.continues_word byte }
 {
@@ -63,6 +66,7 @@ fn byte_at(text: &[u8], at: usize) -> u8
     if at < text.len() { text[at] } else { 0 }
 }
 
+/// How many bytes at the beginning of a text continue a word.
 fn word_length(text: &[u8]) -> usize
     ensures value { result ≡ prefix_len spec.continues_word text.now }
     ensures within { result ≤ length text.now }
@@ -75,6 +79,7 @@ fn word_length(text: &[u8]) -> usize
     text.len()
 }
 
+/// How many bytes at the beginning of a text are digits.
 fn digits_length(text: &[u8]) -> usize
     ensures value { result ≡ prefix_len is_ascii_digit text.now }
     ensures within { result ≤ length text.now }
@@ -87,6 +92,7 @@ fn digits_length(text: &[u8]) -> usize
     text.len()
 }
 
+/// How many bytes a text has before its first line feed.
 fn line_length(text: &[u8]) -> usize
     ensures value { result ≡ prefix_len spec.is_in_line text.now }
     ensures within { result ≤ length text.now }
@@ -113,6 +119,7 @@ fn word_kind(word: &[u8]) -> TokenKind
     TokenKind::Word
 }
 
+/// The kind of a symbol of one byte, Bad if the byte is none.
 fn symbol_of_one(byte: u8) -> TokenKind
     ensures { result ≡ spec.symbol_of_one byte }
 {
@@ -173,6 +180,7 @@ fn closing(rest: &[u8]) -> Option<usize>
     }
 }
 
+/// The string whose first quote begins a text, and its length; Bad, of one byte, if it isn't closed.
 fn string(text: &[u8]) -> (TokenKind, usize)
     requires { 0 < length text.now }
     ensures value { result ≡ spec.string text.now }

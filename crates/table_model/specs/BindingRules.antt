@@ -163,7 +163,7 @@ IsCompared rules schema references sign a b =
     Then (IsBoundOperand rules schema references a) (λ left. Then (IsBoundOperand rules schema references b)
     (λ right cond. (comparable left.part_type right.part_type ≡ true) × (cond ≡ conds.Compare sign left.part right.part)))
 
--- Q7 at a comparison of other types, after the faults of its sides
+-- Q7 at a comparison of two types, after the faults of its sides
 abbrev pub IsRefusedComparison : {T A B C D : Type 0} → GeometryRules T A B C D → List (TableDef T) → List Reference → ℕ → WrittenOperand A → WrittenOperand A → QueryFault → Type 0
 IsRefusedComparison rules schema references at a b =
     FirstFault (IsBoundOperand rules schema references a) (IsRefusedOperand rules schema references a)
@@ -232,7 +232,7 @@ mutual
 
 -- ---- what a geometry is
 
--- what an argument in a condition is bound to: a column of any type, tested afterwards, or the valid geometry that ST_GeomFromText reads (06-104r4, 7.2)
+-- what an argument in a condition is bound to: a column of any type, tested later, or the valid geometry that ST_GeomFromText reads (06-104r4, 7.2)
 abbrev pub IsGeometryArgument : List (TableDef ColumnShape) → List Reference → WrittenGeometry → Typed (GeometryArgument Geometry) → Type 0
 IsGeometryArgument schema references (written_geometry.Column written) =
     Then (IsBoundColumn schema references written) (λ found typed. typed ≡ record { part = arguments.Column found.place; part_type = found.column_type })

@@ -21,8 +21,8 @@ use Rattle.table_model.specs.declared.values.Value.TheVariants as value
 abbrev pub Takes : Type 0 → Type 0 → Type 1
 Takes T G = T → G → Type 0
 
--- a value for a column of this type: null is one for each; a number has 64 bits, a text is UTF-8 and not empty, a
--- geometry is one that the column takes (SQL; 06-104r4, 7.2)
+-- a value for a column of this type: null fits each; a number has 64 bits, a text is UTF-8 and not empty, a geometry is one
+-- that the column takes (SQL; 06-104r4, 7.2)
 abbrev pub IsValueFor : {T G : Type 0} → Takes T G → ColumnType T → Value G → Type 0
 IsValueFor takes kind value.Null = ⊤
 IsValueFor takes column.Integer (value.Integer n) = fits_64_bits n ≡ true

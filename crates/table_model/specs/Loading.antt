@@ -62,7 +62,7 @@ is_number text =
 abbrev pub number_in : List ℕ → Option ℤ
 number_in text = if is_number text then Some (signed_digits_value 10 text) else None
 
--- the whole number that a field spells, blanks around it passed over
+-- the whole number that a field writes, perhaps with blanks around it
 unfoldable pub integer_of : List ℕ → Option ℤ
 integer_of bytes = number_in (trimmed bytes)
 

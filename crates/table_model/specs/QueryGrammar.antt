@@ -152,7 +152,7 @@ IsConjunction = IsChain k.And c.And
 abbrev pub IsConditionOf : {A : Type 0} → (WrittenCond A → Phrase) → WrittenCond A → Phrase
 IsConditionOf P = IsChain k.Or c.Or (IsConjunction P)
 
--- neg = 'NOT' neg | '(' cond ')' | pred, where NOT and parentheses nest to this many levels at most, for a rule of predicates
+-- neg = 'NOT' neg | '(' cond ')' | pred, with this many levels of NOT and parentheses at most, for a rule of predicates
 unfoldable pub IsNegationOf : {A : Type 0} → (WrittenCond A → Phrase) → ℕ → WrittenCond A → Phrase
 IsNegationOf P zero x ts = P x ts
 IsNegationOf {A} P (suc levels) x ts =

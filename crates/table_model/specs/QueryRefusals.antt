@@ -92,7 +92,7 @@ BeforeOperand ts =
 abbrev pub IsTooDeep : List Token → Token → Type 0
 IsTooDeep before t = ((t.kind ≡ k.Not) ⊎ (t.kind ≡ k.LeftParenthesis)) × BeforeNegation most_levels before
 
--- too big: the digits of an operand's integer that with its sign isn't within 64 bits, or of LIMIT's, which has no sign
+-- too big: the digits of an integer, of an operand or of LIMIT, that doesn't fit in 64 bits with its sign
 abbrev pub IsTooBig : List Token → Token → Type 0
 IsTooBig before t =
     (t.kind ≡ k.Integer)

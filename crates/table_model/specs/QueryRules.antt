@@ -53,7 +53,7 @@ abbrev pub IsNextReference : {T : Type 0} → List (TableDef T) → List Referen
 IsNextReference schema before written =
     Then (IsBoundReference schema written) (λ reference next. (IsTaken before reference.name → ⊥) × (next ≡ reference))
 
--- where a reference after others is refused: at its table, else Q4 if one has its name: at its alias, or at its table's name if it has none
+-- where a reference after others is refused: at its table, else Q4 if one has its name: at its alias, or without one at its table's name
 abbrev pub IsRefusedNext : {T : Type 0} → List (TableDef T) → List Reference → WrittenReference → QueryFault → Type 0
 IsRefusedNext schema before written =
     FirstFault (IsBoundReference schema written) (IsRefusedReference schema written)

@@ -44,8 +44,7 @@ RecordText = Record → List ℕ
 abbrev pub records_text : RecordText → List Record → List ℕ
 records_text record_text records = concat (map record_text records)
 
--- the records that answer a SELECT: the header and a record for each choice of rows in its meaning, or under COUNT(*) how many
--- (SQL, the query)
+-- the records that answer a SELECT: those of its meaning (SQL, the query)
 abbrev pub select_records : MatrixOf → SpatialDatabase → SpatialStatement → List Record
 select_records matrix database query =
     answer geometry_writing database.definitions (by_conjuncts query) (meaning (truth matrix denoted) database.tables query)

@@ -19,7 +19,9 @@ pub enum Comparison {
 /// Where a column is: the place of its reference in the query and its own in the table, both from 0.
 #[derive(Clone, Copy, PartialEq, Eq)]
 pub struct ColumnPlace {
+    /// The place of the reference in the query.
     pub reference: usize,
+    /// The place of the column in the reference's table.
     pub column: usize,
 }
 
@@ -69,7 +71,9 @@ pub enum Item<C> {
 /// an answer over two tables. (SQL, FROM.)
 #[derive(Drop)]
 pub struct Reference {
+    /// The place of the table in the schema, from 0.
     pub table: usize,
+    /// The alias, or without one the table's name as the schema spells it.
     pub name: Items<u8>,
 }
 
@@ -77,9 +81,13 @@ pub struct Reference {
 /// WHERE; its limit, if there is one. (SQL, the query.)
 #[derive(Drop)]
 pub struct Bound<A, C> {
+    /// Whether EXPLAIN or EXPLAIN ANALYZE is asked for.
     pub explain: Explain,
+    /// The references of FROM, one or two.
     pub references: References<Reference>,
+    /// What SELECT lists, in order; none under COUNT(*).
     pub items: Items<Item<C>>,
+    /// The parts of ON, then those of WHERE, between ANDs at the top. All of them have to be true.
     pub conjuncts: Items<Cond<A>>,
     /// Whether COUNT(*) is listed: the answer is the number of rows.
     pub counts: bool,

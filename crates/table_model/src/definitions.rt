@@ -28,6 +28,7 @@ pub enum ColumnType<T> {
 pub struct ColumnDef<T> {
     /// The name as the schema spells it.
     pub name: OwnedText,
+    /// What its fields are.
     pub column_type: ColumnType<T>,
     /// Whether NOT NULL is written. The key is never null, written or not.
     pub not_null: bool,
@@ -38,6 +39,7 @@ pub struct ColumnDef<T> {
 pub struct TableDef<T> {
     /// The name as the schema spells it.
     pub name: OwnedText,
+    /// The columns, in the order of the schema.
     pub columns: Items<ColumnDef<T>>,
     /// The place of the key among the columns, from 0.
     pub key: usize,

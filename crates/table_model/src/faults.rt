@@ -75,7 +75,9 @@ pub enum LoadFault {
 /// Why a database isn't loaded: the place of the table in the schema, from 0, and the table's fault.
 #[derive(Clone, Copy, Debug, PartialEq, Eq)]
 pub struct TableFault {
+    /// The place of the table in the schema, from 0.
     pub table: usize,
+    /// The table's fault.
     pub fault: LoadFault,
 }
 

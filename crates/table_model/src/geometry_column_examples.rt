@@ -58,7 +58,7 @@ pub fn loaded_geometries()
         ≡ Err (load.BadGeometry 1 (Invalid (TooFewPoints 0))) }
 {}
 
-/// Names that aren't there, or stand for two things.
+/// Names that nothing has, or two things have.
 pub fn refused_names()
     ensures no_table { bound selections.All (table (codes "t") 14 ∷ table (codes "v") 17 ∷ []) None
         ≡ Err (query.UnknownTable 17) }

@@ -16,6 +16,7 @@ pub enum AccessMethod {
 pub struct Access {
     /// The place of the reference in the query, from 0.
     pub reference: usize,
+    /// How its rows are found.
     pub method: AccessMethod,
 }
 

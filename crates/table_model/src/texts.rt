@@ -46,7 +46,7 @@ impl<'a> Slice<'a> {
     }
 }
 
-/// A text of its own, which contracts see as its bytes in UTF-8.
+/// A text that owns its memory, which contracts see as its bytes in UTF-8.
 #[derive(Drop)]
 pub struct OwnedText {
     text: String,

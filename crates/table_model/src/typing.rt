@@ -15,7 +15,9 @@ pub enum OperandType {
 /// What the name of a column is bound to: its place, and the column's type.
 #[derive(Clone, Copy, PartialEq, Eq)]
 pub struct Found {
+    /// Where the column is.
     pub place: ColumnPlace,
+    /// The type of the column.
     pub column_type: OperandType,
 }
 

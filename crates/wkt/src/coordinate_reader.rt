@@ -41,6 +41,7 @@ impl<'a> Model for Number<'a> {
     ghost invariant = { λ n. list_all is_ascii_digit n.whole.now ≡ true };
 }
 
+/// Reads a plus or a minus, if one comes next, and returns whether it is a minus.
 #[tactic(auto, unfolding(geometry_model::specs::TextReading::sign))]
 fn sign(cursor: &mut Cursor<'_>) -> bool
     ensures { spec.sign cursor.old ≡ Ok (result, cursor.new) }
@@ -52,6 +53,7 @@ fn sign(cursor: &mut Cursor<'_>) -> bool
     false
 }
 
+/// Reads a point and the digits after it, if a point comes next, and returns these digits.
 #[tactic(auto, unfolding(geometry_model::specs::TextReading::fraction))]
 fn fraction<'a>(cursor: &mut Cursor<'a>) -> &'a [u8]
     ensures { spec.fraction cursor.old ≡ Ok (result.now, cursor.new) }

@@ -21,6 +21,7 @@ pub enum ByteClass {
     Letter,
 }
 
+/// Whether a byte is white space.
 fn is_white(byte: u8) -> bool
     ensures { result ≡ of_class ByteClass.White byte }
 {

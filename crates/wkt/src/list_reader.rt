@@ -22,7 +22,9 @@ const PART_LIMIT: usize = 1_000;
 /// How many rings or elements and how many positions may still come.
 #[derive(Clone, Copy)]
 pub struct Room {
+    /// How many rings or elements.
     pub parts: usize,
+    /// How many positions.
     pub positions: usize,
 }
 
