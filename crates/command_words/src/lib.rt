@@ -110,7 +110,7 @@ fn query_word<'a>(alloc: Global) -> Arg<'a>
         alloc,
         "query",
         "QUERY",
-        "The SELECT (after -- where it begins with a -)",
+        "The SELECT; write -- before it if it begins with -",
     )
 }
 
@@ -118,7 +118,7 @@ fn query_word<'a>(alloc: Global) -> Arg<'a>
 fn run_command<'a>(alloc: Global) -> Result<Command<'a>, AllocError>
     ensures { IfOk result (λ c. app_of c ≡ run) }
 {
-    let about = "Writes the rows that a SELECT means, as CSV";
+    let about = "Runs a SELECT and writes its rows as CSV";
     let run = Command::new(alloc, "run").about(about).after_help(EXAMPLES);
     with_places(alloc, run)?.arg(query_word(alloc))
 }
