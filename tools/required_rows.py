@@ -11,7 +11,7 @@ import sys
 import repository
 
 SCRIPTS = f"{repository.ROOT}/crates/scripts"
-LIBRARY_TESTS = f"{repository.ROOT}/crates/library_tests/src"
+TEST_CRATES = ["library_tests", "query_tests", "command_tests", "fault_tests"]
 LIST = f"{repository.ROOT}/tests/required_rows.txt"
 # What `$S` means in a script.
 SQUARE = "ST_GeomFromText('POLYGON((0 0,4 0,4 4,0 4,0 0))')"
@@ -74,7 +74,8 @@ def rows_of(script):
 def all_tests():
     names = read(f"{SCRIPTS}/args").splitlines()
     rows = [row for it in names for row in rows_of(read(f"{SCRIPTS}/data/{it}"))]
-    library = {os.path.basename(it): read(it) for it in glob.glob(f"{LIBRARY_TESTS}/*.rt")}
+    sources = [it for name in TEST_CRATES for it in glob.glob(f"{repository.ROOT}/crates/{name}/src/*.rt")]
+    library = {os.path.basename(it): read(it) for it in sources}
     return Tests(rows, library)
 
 

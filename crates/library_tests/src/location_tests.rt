@@ -3,14 +3,20 @@
 use crate::rows::{number, parts_of, position};
 use crate::shapes::valid;
 use fraction::RatPoint;
-use side_labels::{Labels, Location, labels, locate};
-use std::alloc::Global;
+use side_labels::{Label, Labels, Location, SideLabels, labels, locate};
+use std::alloc::{AllocError, Global};
 use std::test::Fail;
 
-// A geometry, a point between the positions of the grid by both numerators and the denominator, and where it lies.
+// A geometry, a point by both numerators and the denominator, and where it lies: between the positions of the grid, at ends of
+// lines, right below a corner of a ring, in a hole and on its ring.
 const LOCATED: &str = "POINT(3 1) | 3 1 over 2 | exterior
 POINT(3 1) | 6 2 over 2 | interior
-LINESTRING(0 0,2 1,4 0) | 2 1 over 2 | interior";
+LINESTRING(0 0,2 1,4 0) | 2 1 over 2 | interior
+MULTILINESTRING((0 0,2 0),(2 0,4 0)) | 2 0 over 1 | interior
+MULTILINESTRING((0 0,2 0),(2 0,4 0),(2 0,2 2)) | 2 0 over 1 | boundary
+POLYGON((0 2,2 0,4 2,2 4,0 2)) | 2 1 over 1 | interior
+POLYGON((0 0,10 0,10 10,0 10,0 0),(4 4,6 4,6 6,4 6,4 4)) | 5 5 over 1 | exterior
+POLYGON((0 0,10 0,10 10,0 10,0 0),(4 4,6 4,6 6,4 6,4 4)) | 4 5 over 1 | boundary";
 
 // The point of two numerators over a denominator.
 fn point(text: &str) -> Result<RatPoint, Fail> {
@@ -60,5 +66,62 @@ fn labels_of_two_lines(rt: HostRuntime) -> Result<(), Fail> {
         ));
         assert!(rt; outside);
     }
+    Ok(())
+}
+
+// The first letter of a part.
+fn letter(location: Location) -> char {
+    match location {
+        Location::Interior => 'I',
+        Location::Boundary => 'B',
+        Location::Exterior => 'E',
+    }
+}
+
+// Adds a label to a text: the first letter of the part of each geometry.
+fn write_label(text: &mut String, label: &Label) -> Result<(), AllocError> {
+    text.push(letter(label.first))?;
+    text.push(letter(label.second))?;
+    text.push(' ')
+}
+
+// The text of labels.
+fn label_text(alloc: Global, labels: &[Label]) -> Result<String, AllocError> {
+    let mut text = String::new(alloc);
+    for label in labels {
+        write_label(&mut text, label)?;
+    }
+    Ok(text)
+}
+
+// The text of the labels just below and just above edges, with a stroke for one that is upright.
+fn side_text(alloc: Global, sides: &[Option<SideLabels>]) -> Result<String, AllocError> {
+    let mut text = String::new(alloc);
+    for both in sides {
+        match both {
+            Some(both) => {
+                write_label(&mut text, &both.lower)?;
+                write_label(&mut text, &both.upper)?;
+            }
+            None => text.push_str("| ")?,
+        }
+    }
+    Ok(text)
+}
+
+/// Two squares with a common edge: six corners, seven edges, and the sides of those that aren't upright.
+#[test]
+fn labels_of_two_squares(rt: HostRuntime) -> Result<(), Fail> {
+    let labels = labelled(
+        rt.alloc(),
+        "POLYGON((0 0,4 0,4 4,0 4,0 0))",
+        "POLYGON((4 0,8 0,8 4,4 4,4 0))",
+    )?;
+    let corners = label_text(rt.alloc(), labels.nodes())?;
+    assert!(rt; corners.as_str() == "BE BE BB BB EB EB ");
+    let edges = label_text(rt.alloc(), labels.pieces())?;
+    assert!(rt; edges.as_str() == "BE BE BE BB EB EB EB ");
+    let sides = side_text(rt.alloc(), labels.sides())?;
+    assert!(rt; sides.as_str() == "| EE IE IE EE | EE EI EI EE | ");
     Ok(())
 }

@@ -15,6 +15,7 @@ const MEETINGS: &str = "0 0 to 3 1 | 0 1 to 2 0 | 6 2 5,
 0 0 to 2 0 | 2 0 to 4 0 | 2 0 1,
 0 0 to 2 2 | 1 0 to 3 2 | apart
 0 0 to 2 2 | 2 2 to 0 0 | 0 0 1,2 2 1,
+-100000 -100000 to 100000 99999 | -100000 100000 to 99999 -100000 | -100000 -39999900000 79999600001,
 -10000000 -10000000 to 10000000 9999999 | -10000000 10000000 to 9999999 -10000000 | -10000000 -399999990000000 799999960000001,
 0 0 to 4 0 | 2 0 to 3 5 | 2 0 1,
 0 0 to 1 0 | 2 0 to 3 5 | apart
@@ -24,15 +25,15 @@ const MEETINGS: &str = "0 0 to 3 1 | 0 1 to 2 0 | 6 2 5,
 1 -4 to 1 5 | 1 3 to 1 0 | 1 0 1,1 3 1,
 2 0 to 4 1 | 2 0 to 4 2 | 2 0 1,";
 
-// Segments, listed positions, and the nodes, the ends of the pieces and the number of pairs tried: two segments that cross; one
+// Segments, listed positions or none, and the nodes, the ends of the pieces and the number of pairs tried: two segments that cross; one
 // that ends on another; two with a stretch in common, and positions on it and off it; three through one point, which no end is,
 // and one of them twice; one that begins at the x at which the other ends; the finest crossing; a square.
 const NODED: &str =
-    "0 0 to 3 1; 0 1 to 2 0 | 0 0 | 0 0 1,0 1 1,6 2 5,2 0 1,3 1 1,/0 0 1,6 2 5,0 1 1,6 2 5,6 2 5,2 0 1,6 2 5,3 1 1,/1
+    "0 0 to 3 1; 0 1 to 2 0 | none | 0 0 1,0 1 1,6 2 5,2 0 1,3 1 1,/0 0 1,6 2 5,0 1 1,6 2 5,6 2 5,2 0 1,6 2 5,3 1 1,/1
 4 0 to 0 0; 2 3 to 2 0 | 0 0 | 0 0 1,2 0 1,2 3 1,4 0 1,/0 0 1,2 0 1,2 0 1,2 3 1,2 0 1,4 0 1,/1
 0 0 to 4 0; 6 0 to 2 0 | 3 0; 9 9; 4 0 | 0 0 1,2 0 1,3 0 1,4 0 1,6 0 1,9 9 1,/0 0 1,2 0 1,2 0 1,3 0 1,3 0 1,4 0 1,4 0 1,6 0 1,/1
 0 0 to 1 1; 0 1 to 1 0; 1 0 to 0 1; 2 -1 to -1 2 | 0 0 | -1 2 1,0 0 1,0 1 1,1 1 2,1 0 1,1 1 1,2 -1 1,/-1 2 1,0 1 1,0 0 1,1 1 2,0 1 1,1 1 2,1 1 2,1 0 1,1 1 2,1 1 1,1 0 1,2 -1 1,/6
-0 0 to 2 0; 2 -1 to 2 1 | 0 0 | 0 0 1,2 -1 1,2 0 1,2 1 1,/0 0 1,2 0 1,2 -1 1,2 0 1,2 0 1,2 1 1,/1
+0 0 to 2 0; 2 -1 to 2 1 | none | 0 0 1,2 -1 1,2 0 1,2 1 1,/0 0 1,2 0 1,2 -1 1,2 0 1,2 0 1,2 1 1,/1
 -10000000 -10000000 to 10000000 9999999; -10000000 10000000 to 9999999 -10000000 | -10000000 10000000 | -10000000 -10000000 1,-10000000 10000000 1,-10000000 -399999990000000 799999960000001,9999999 -10000000 1,10000000 9999999 1,/-10000000 -10000000 1,-10000000 -399999990000000 799999960000001,-10000000 10000000 1,-10000000 -399999990000000 799999960000001,-10000000 -399999990000000 799999960000001,9999999 -10000000 1,-10000000 -399999990000000 799999960000001,10000000 9999999 1,/1
 0 0 to 4 0; 4 0 to 4 4; 4 4 to 0 4; 0 4 to 0 0 | 3 1 | 0 0 1,0 4 1,3 1 1,4 0 1,4 4 1,/0 0 1,0 4 1,0 0 1,4 0 1,0 4 1,4 4 1,4 0 1,4 4 1,/5";
 
@@ -114,9 +115,12 @@ fn segments_of(alloc: Global, lines: &str) -> Result<Vec<Segment>, Fail> {
     Ok(segments)
 }
 
-// The positions of a list.
+// The positions of a list, which may be `none`.
 fn positions_of(alloc: Global, places: &str) -> Result<Vec<GridPoint>, Fail> {
     let mut positions = Vec::new(alloc);
+    if places == "none" {
+        return Ok(positions);
+    }
     for place in places.split("; ") {
         positions.push(position(place)?)?;
     }

@@ -1,9 +1,9 @@
 //! Geometries of points and lines, and the faults that a refusal names.
 
 use crate::shapes::valid;
-use geometry_model::{Kind, ValidityFault};
+use geometry_model::{GeometryFault, Kind, TextFault, ValidityFault};
 use std::test::Fail;
-use validity::CheckFault;
+use validity::{CheckFault, read_valid};
 
 #[test]
 fn points_and_lines_are_kept(rt: HostRuntime) -> Result<(), Fail> {
@@ -63,4 +63,20 @@ fn refusals_tell_the_fault(rt: HostRuntime) {
     ] {
         assert!(rt; refusal.validity_fault() == *fault);
     }
+}
+
+#[test]
+fn texts_are_read_and_checked(rt: HostRuntime) -> Result<(), Fail> {
+    let one = read_valid(rt.alloc(), b"LINESTRING(0 0,4 4)")?;
+    assert!(rt; one.is_ok_and(|line| line.segments().len() == 1));
+    for (text, fault) in &[
+        ("POINT(1", GeometryFault::Text(TextFault::Syntax(7))),
+        (
+            "LINESTRING(3 3)",
+            GeometryFault::Invalid(ValidityFault::TooFewPoints(0)),
+        ),
+    ] {
+        assert!(rt; read_valid(rt.alloc(), text.as_bytes())?.err() == Some(*fault));
+    }
+    Ok(())
 }

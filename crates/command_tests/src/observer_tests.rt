@@ -1,0 +1,114 @@
+//! Observers: what is reported to them, and that it changes nothing.
+
+use command_line::Order;
+use engine::{serve, serve_observed};
+use observers::{Followed, ReadObserver, RowObserver};
+use sinks::MemorySink;
+use sinks::devices::StopReader;
+use std::alloc::{AllocError, Global};
+use std::cell::Cell;
+use std::io::{ErrorKind, Read};
+use std::test::Fail;
+
+// How many bytes came.
+#[derive(Drop)]
+struct ByteCount<'c>(&'c Cell<usize>);
+
+impl ReadObserver for ByteCount<'_> {
+    fn came(&mut self, bytes: usize) {
+        self.0.set(self.0.get().saturating_add(bytes));
+    }
+}
+
+#[test]
+fn a_followed_reader_gives_what_the_reader_beneath_gives(rt: HostRuntime) -> Result<(), Fail> {
+    let count = Cell::new(0);
+    let mut reader = Followed::new(StopReader::new(b"abcdef", 3), ByteCount(&count));
+    let mut buffer = [0; 4];
+    let first = reader.read(&mut buffer)?;
+    assert!(rt; first == 4 && buffer == *b"abcd" && count.get() == 4);
+    let second = reader.read(&mut buffer)?;
+    assert!(rt; second == 2 && buffer == *b"efcd" && count.get() == 6);
+    let third = reader.read(&mut buffer);
+    let failed = matches!(third, Err(error) if error.kind() == ErrorKind::Other);
+    assert!(rt; failed && count.get() == 6);
+    assert!(rt; reader.read(&mut buffer)? == 0 && count.get() == 6);
+    Ok(())
+}
+
+// How many candidates were looked at, how many rows of the outer table were still to come after the first and after the last
+// of them, and how many rows were found.
+#[derive(Drop, Default)]
+struct RowCount {
+    candidates: u64,
+    first_left: usize,
+    last_left: usize,
+    rows: u64,
+}
+
+impl RowObserver for RowCount {
+    fn looked(&mut self, left: usize) {
+        if self.candidates == 0 {
+            self.first_left = left;
+        }
+        self.candidates = self.candidates.saturating_add(1);
+        self.last_left = left;
+    }
+
+    fn found(&mut self) {
+        self.rows = self.rows.saturating_add(1);
+    }
+}
+
+const SCHEMA: &[u8] = b"CREATE TABLE t (id INTEGER PRIMARY KEY, n INTEGER)";
+
+const TABLE: &[u8] = b"id,n\n1,7\n2,8\n3,7\n4,9\n";
+
+// The bytes of the file at a path.
+fn file_at(path: &str) -> Option<&'static [u8]> {
+    if path == "s" {
+        Some(SCHEMA)
+    } else {
+        Some(TABLE)
+    }
+}
+
+fn run_order(alloc: Global, query: &str) -> Result<Order, AllocError> {
+    Ok(Order::Run {
+        schema: String::from_str(alloc, "s")?,
+        directory: String::from_str(alloc, "d")?,
+        query: String::from_str(alloc, query)?,
+    })
+}
+
+// What is reported of a query, where its output is that of the same query that nothing observes.
+fn observed(rt: &HostRuntime, query: &str) -> Result<RowCount, Fail> {
+    let order = run_order(rt.alloc(), query)?;
+    let mut count = RowCount::default();
+    let mut out = MemorySink::new(rt.alloc());
+    let mut same = MemorySink::new(rt.alloc());
+    let mut err = MemorySink::new(rt.alloc());
+    let opener = |path: &str| file_at(path);
+    let status = serve_observed(rt.alloc(), &order, opener, &mut out, &mut err, &mut count);
+    let opener = |path: &str| file_at(path);
+    let other = serve(rt.alloc(), &order, opener, &mut same, &mut err);
+    let is_well = status == 0 && other == 0 && err.bytes().is_empty();
+    if is_well && !out.bytes().is_empty() && out.bytes() == same.bytes() {
+        Ok(count)
+    } else {
+        Err(Fail::from("another output where it is observed"))
+    }
+}
+
+#[test]
+fn each_candidate_and_each_row_is_reported(rt: HostRuntime) -> Result<(), Fail> {
+    let one = observed(&rt, "SELECT id FROM t WHERE n = 7")?;
+    assert!(rt; one.candidates == 4 && one.rows == 2);
+    assert!(rt; one.first_left == 3 && one.last_left == 0);
+    let pairs = observed(&rt, "SELECT a.id, b.id FROM t a, t b WHERE a.n = b.n")?;
+    assert!(rt; pairs.candidates == 16 && pairs.rows == 6);
+    assert!(rt; pairs.first_left == 3 && pairs.last_left == 0);
+    let plan = observed(&rt, "EXPLAIN SELECT id FROM t")?;
+    assert!(rt; plan.candidates == 0 && plan.rows == 0);
+    Ok(())
+}

@@ -1,0 +1,85 @@
+//! Runs over an index of which each search lacks memory: only a probe meets it.
+
+use engine::{Fault, run};
+use feature_table::Schema;
+use rtree::{Envelope, EnvelopeIndex, ListIndex};
+use sinks::MemorySink;
+use spatial_sql::read_schema;
+use std::alloc::{AllocError, Global};
+use std::test::Fail;
+
+const SCHEMA: &[u8] = b"CREATE TABLE big (id INTEGER PRIMARY KEY, geom POINT);";
+
+/// An index of which each search lacks memory.
+#[derive(Drop)]
+struct Unsearchable {
+    list: ListIndex,
+}
+
+impl EnvelopeIndex for Unsearchable {
+    ghost use Rattle.rtree.specs.ListIndexes.{listed};
+
+    ghost indexed = { λ index. listed index.list };
+
+    fn build(alloc: Global, envelopes: &[Option<Envelope>]) -> Result<Unsearchable, AllocError> {
+        Ok(Unsearchable {
+            list: ListIndex::build(alloc, envelopes)?,
+        })
+    }
+
+    fn search(&self, asked: Option<Envelope>, found: &mut Vec<usize>) -> Result<(), AllocError> {
+        let _ = asked;
+        found.clear();
+        Err(AllocError)
+    }
+}
+
+// A hundred points at height 1, the one with the key k at k, as CSV.
+fn hundred_points(alloc: Global) -> Result<String, AllocError> {
+    let mut text = String::from_str(alloc, "id,geom\n")?;
+    for k in 1..=100u8 {
+        write!(text, "{k},POINT({k} 1)\n")?;
+    }
+    Ok(text)
+}
+
+// Runs a query over points, by their schema; what it writes is left in the sink. Returns the work.
+fn run_over(
+    alloc: Global,
+    schema: &Schema,
+    points: &str,
+    query: &str,
+    sink: &mut MemorySink,
+) -> Result<Result<u64, Fault>, Fail> {
+    let readers = Vec::from_slice(alloc, &[points.as_bytes()])?;
+    if readers.len() != schema.tables().len() {
+        return Err(Fail::from("not one table"));
+    }
+    let ended = run::<Unsearchable, &[u8], MemorySink>(alloc, schema, readers, query, sink);
+    Ok(ended.map(|work| work.count()))
+}
+
+/// Over a hundred points, a query that is probed is refused, and one that is scanned gives its rows and its work.
+#[test]
+fn an_index_without_memory_is_met_by_a_probe_alone(rt: HostRuntime) -> Result<(), Fail> {
+    let points = hundred_points(rt.alloc())?;
+    let schema = read_schema(rt.alloc(), SCHEMA)?;
+    for (query, wanted, text) in &[
+        (
+            "SELECT id FROM big WHERE ST_Intersects(geom, ST_GeomFromText('POLYGON((0 0,4 0,4 4,0 4,0 0))'))",
+            Err(Fault::Memory),
+            "id\n",
+        ),
+        (
+            "SELECT id FROM big \
+             WHERE id > 99 OR ST_Intersects(geom, ST_GeomFromText('POLYGON((0 0,4 0,4 4,0 4,0 0))'))",
+            Ok(100),
+            "id\n1\n2\n3\n4\n100\n",
+        ),
+    ] {
+        let mut sink = MemorySink::new(rt.alloc());
+        let ended = run_over(rt.alloc(), &schema, &points, query, &mut sink)?;
+        assert!(rt; ended == *wanted && sink.bytes() == text.as_bytes());
+    }
+    Ok(())
+}

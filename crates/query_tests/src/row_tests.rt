@@ -1,0 +1,221 @@
+//! Rows of plans over memory: all of each shape of plan, and the work after the first of them and after the last.
+
+ghost use Rattle.table_model.specs.BoundQueries.{IsBound, geometry_fits};
+ghost use Rattle.table_model.specs.Plans.{IsLawful};
+
+use crate::tables::{POINTS_SCHEMA, database_of, points_up_to};
+use de9im::Work;
+use executor::{RowPair, Rows, execute};
+use feature_table::Database;
+use planner::choose;
+use query_binder::Bound;
+use rtree::RTree;
+use spatial_sql::{Query, bind, read_query, read_schema};
+use std::alloc::{AllocError, Global};
+use std::test::Fail;
+use table_model::plans::{Access, AccessMethod, Plan};
+
+const TWO_SCHEMA: &str = "CREATE TABLE big (id INTEGER PRIMARY KEY, geom POINT);
+CREATE TABLE sq (id INTEGER PRIMARY KEY, geom POLYGON);";
+
+const SQUARES: &[u8] = b"id,geom
+1,\"POLYGON((0 0,4 0,4 4,0 4,0 0))\"
+2,\"POLYGON((4 0,8 0,8 4,4 4,4 0))\"
+";
+
+const SQUARES_EXCHANGED: &[u8] = b"id,geom
+2,\"POLYGON((0 0,4 0,4 4,0 4,0 0))\"
+1,\"POLYGON((4 0,8 0,8 4,4 4,4 0))\"
+";
+
+const SCANNED: &str = "SELECT id FROM big WHERE id > 99 \
+    OR ST_Intersects(geom, ST_GeomFromText('POLYGON((0 0,4 0,4 4,0 4,0 0))'))";
+
+const PROBED: &str = "SELECT id FROM big \
+    WHERE ST_Intersects(geom, ST_GeomFromText('POLYGON((0 0,4 0,4 4,0 4,0 0))'))";
+
+const SCANNED_TWICE: &str =
+    "SELECT s.id, t.id FROM sq s JOIN sq t ON ST_Touches(s.geom, t.geom) WHERE s.id < 2";
+
+const PROBED_WITHIN: &str =
+    "SELECT a.id, b.id FROM big a JOIN big b ON ST_Equals(a.geom, b.geom) WHERE a.id > 7";
+
+const JOINED: &str =
+    "SELECT b.id, s.id FROM big b JOIN sq s ON ST_Intersects(b.geom, s.geom) WHERE b.id <> 2";
+
+// Adds how the rows of a reference are found to a text.
+fn write_access(text: &mut String, access: &Access) -> Result<(), AllocError> {
+    let reference = access.reference;
+    match access.method {
+        AccessMethod::Scan => write!(text, "{reference} scan, "),
+        AccessMethod::Probe(conjunct) => write!(text, "{reference} probe {conjunct}, "),
+    }
+}
+
+// Adds the places of a row to a text.
+fn write_row(text: &mut String, row: &RowPair) -> Result<(), AllocError> {
+    let first = row.first;
+    match row.second {
+        Some(second) => write!(text, "{first} {second}, "),
+        None => write!(text, "{first}, "),
+    }
+}
+
+// The text of accesses and of rows.
+fn text_of(alloc: Global, accesses: &[Access], rows: &[RowPair]) -> Result<String, AllocError> {
+    let mut text = String::new(alloc);
+    for access in accesses {
+        write_access(&mut text, access)?;
+    }
+    text.push_str("| ")?;
+    for row in rows {
+        write_row(&mut text, row)?;
+    }
+    Ok(text)
+}
+
+// The rows of a stream, one after another, and the work after the first.
+fn one_by_one(alloc: Global, mut rows: Rows<'_, RTree>) -> Result<(Vec<RowPair>, u64), AllocError> {
+    let mut pairs = Vec::new(alloc);
+    if let Some(row) = rows.next() {
+        pairs.push(row?)?;
+    }
+    let work = rows.work().count();
+    for row in rows {
+        pairs.push(row?)?;
+    }
+    Ok((pairs, work))
+}
+
+// The rows of a plan, one after another, and the work after the first.
+fn streamed(
+    alloc: Global,
+    database: &Database<'_, RTree>,
+    bound: &Bound,
+    plan: &Plan,
+) -> Result<(Vec<RowPair>, u64), AllocError>
+    requires bound { IsBound geometry_fits database.now.definitions bound.now }
+    requires lawful { IsLawful database.now.tables bound.now plan.now }
+{
+    one_by_one(alloc, Rows::new(alloc, database, bound, plan, Work::new()))
+}
+
+// The rows of a plan, all at once, and the work of the plan.
+fn executed(
+    alloc: Global,
+    database: &Database<'_, RTree>,
+    bound: &Bound,
+    plan: &Plan,
+) -> Result<(Vec<RowPair>, u64), AllocError>
+    requires bound { IsBound geometry_fits database.now.definitions bound.now }
+    requires lawful { IsLawful database.now.tables bound.now plan.now }
+{
+    let mut work = Work::new();
+    let rows = execute(alloc, database, bound, plan, &mut work)?;
+    Ok((rows, work.count()))
+}
+
+// The text of a plan: its accesses, its rows, and the work after the first of them and of all. The rows are those that come
+// one after another.
+fn plan_text(
+    alloc: Global,
+    database: &Database<'_, RTree>,
+    bound: &Bound,
+    plan: &Plan,
+) -> Result<String, Fail>
+    requires bound { IsBound geometry_fits database.now.definitions bound.now }
+    requires lawful { IsLawful database.now.tables bound.now plan.now }
+{
+    let (rows, all) = executed(alloc, database, bound, plan)?;
+    let (others, after_first) = streamed(alloc, database, bound, plan)?;
+    if rows != others {
+        return Err(Fail::from("other rows one by one"));
+    }
+    let mut text = text_of(alloc, plan.accesses.as_slice(), rows.as_slice())?;
+    write!(text, "| {after_first} of {all}")?;
+    Ok(text)
+}
+
+// The same of the plan that is chosen for a bound query.
+fn bound_text(alloc: Global, database: &Database<'_, RTree>, bound: &Bound) -> Result<String, Fail>
+    requires bound { IsBound geometry_fits database.now.definitions bound.now }
+{
+    let plan = choose(alloc, database, bound)?;
+    plan_text(alloc, database, bound, &plan)
+}
+
+// The same of a query that was read.
+fn query_text(
+    alloc: Global,
+    database: &Database<'_, RTree>,
+    query: &Query<'_>,
+) -> Result<String, Fail> {
+    let bound = bind(alloc, query, database)?;
+    bound_text(alloc, database, &bound)
+}
+
+// The same of the text of a query.
+fn text_over(alloc: Global, database: &Database<'_, RTree>, query: &str) -> Result<String, Fail> {
+    let query = read_query(alloc, query)?;
+    query_text(alloc, database, &query)
+}
+
+// The same over tables of these texts.
+fn found(alloc: Global, schema: &str, texts: &[&[u8]], query: &str) -> Result<String, Fail> {
+    let schema = read_schema(alloc, schema.as_bytes())?;
+    let database = database_of(alloc, &schema, texts)?;
+    text_over(alloc, &database, query)
+}
+
+/// Where rows come as they are found, the first takes the work of the candidates up to it.
+#[test]
+fn work_after_a_row_that_is_found(rt: HostRuntime) -> Result<(), Fail> {
+    let points = points_up_to(rt.alloc(), 100)?;
+    let text = found(rt.alloc(), POINTS_SCHEMA, &[points.as_bytes()], SCANNED)?;
+    assert!(rt; text.as_str() == "0 scan, | 0, 1, 2, 3, 99, | 1 of 100");
+    Ok(())
+}
+
+// The same of a join over so many points and two squares.
+fn joined(alloc: Global, count: u8, squares: &[u8]) -> Result<String, Fail> {
+    let points = points_up_to(alloc, count)?;
+    found(alloc, TWO_SCHEMA, &[points.as_bytes(), squares], JOINED)
+}
+
+/// Where rows are put in order first, the first takes all the work, whichever square has the lesser key.
+#[test]
+fn work_after_a_row_in_order(rt: HostRuntime) -> Result<(), Fail> {
+    let text = joined(rt.alloc(), 100, SQUARES)?;
+    assert!(rt;
+        text.as_str() == "1 scan, 0 probe 0, | 0 0, 2 0, 3 0, 3 1, 4 1, 5 1, 6 1, 7 1, | 8 of 8"
+    );
+    let text = joined(rt.alloc(), 100, SQUARES_EXCHANGED)?;
+    assert!(rt;
+        text.as_str() == "1 scan, 0 probe 0, | 0 1, 2 1, 3 0, 3 1, 4 0, 5 0, 6 0, 7 0, | 8 of 8"
+    );
+    Ok(())
+}
+
+/// All rows of a plan of each shape, over ten points and two squares: a scan, a probe, two scans, a probe within a scan, and
+/// the same where the second reference is the outer one.
+#[test]
+fn all_rows_of_each_shape(rt: HostRuntime) -> Result<(), Fail> {
+    let points = points_up_to(rt.alloc(), 10)?;
+    for (query, wanted) in &[
+        (SCANNED, "0 scan, | 0, 1, 2, 3, | 1 of 10"),
+        (PROBED, "0 probe 0, | 0, 1, 2, 3, | 1 of 4"),
+        (SCANNED_TWICE, "0 scan, 1 scan, | 0 1, | 2 of 2"),
+        (
+            PROBED_WITHIN,
+            "0 scan, 1 probe 0, | 7 7, 8 8, 9 9, | 1 of 3",
+        ),
+        (
+            JOINED,
+            "1 scan, 0 probe 0, | 0 0, 2 0, 3 0, 3 1, 4 1, 5 1, 6 1, 7 1, | 8 of 8",
+        ),
+    ] {
+        let text = found(rt.alloc(), TWO_SCHEMA, &[points.as_bytes(), SQUARES], query)?;
+        assert!(rt; text.as_str() == *wanted, "{query}");
+    }
+    Ok(())
+}
