@@ -122,7 +122,7 @@ def commands(geos, predicate, second):
     made = [f"UPDATE {table} SET geom = ST_GeomFromText(geom);" for table in tables]
     made.append("CREATE VIRTUAL TABLE tree USING rtree(id, left, right, bottom, top);")
     bounds = ", ".join(f"Mbr{end}(geom)" for end in ("MinX", "MaxX", "MinY", "MaxY"))
-    made.append(f"INSERT INTO tree SELECT id, {bounds} FROM {second};")
+    made.append(f"INSERT INTO tree SELECT id, {bounds} FROM {second} WHERE MbrMinX(geom) IS NOT NULL;")
     meet = (
         "t.right >= MbrMinX(a.geom) AND t.left <= MbrMaxX(a.geom) "
         "AND t.top >= MbrMinY(a.geom) AND t.bottom <= MbrMaxY(a.geom)"

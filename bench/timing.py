@@ -14,27 +14,39 @@ PROGRAM = ROOT / "crates" / "sfq" / "out" / "sfq"
 # Runs a command and prints its wall seconds, processor seconds, peak kilobytes and status. It is a process of its own,
 # since a process starts with its parent's peak: so a peak below that of this small one can't be shown.
 PROBE = """
-import os, sys, time
+import os, resource, sys, time
+resource.setrlimit(resource.RLIMIT_CPU, (int(sys.argv[1]), int(sys.argv[1]) + 1))
 begun = time.perf_counter()
-child = os.posix_spawnp(sys.argv[3], sys.argv[3:], os.environ, file_actions=[
-    (os.POSIX_SPAWN_OPEN, 0, sys.argv[1], os.O_RDONLY, 0),
-    (os.POSIX_SPAWN_OPEN, 1, sys.argv[2], os.O_WRONLY | os.O_CREAT | os.O_TRUNC, 0o600)])
+child = os.posix_spawnp(sys.argv[4], sys.argv[4:], os.environ, file_actions=[
+    (os.POSIX_SPAWN_OPEN, 0, sys.argv[2], os.O_RDONLY, 0),
+    (os.POSIX_SPAWN_OPEN, 1, sys.argv[3], os.O_WRONLY | os.O_CREAT | os.O_TRUNC, 0o600)])
 _, status, usage = os.wait4(child, 0)
 wall = time.perf_counter() - begun
 print(wall, usage.ru_utime + usage.ru_stime, usage.ru_maxrss, os.waitstatus_to_exitcode(status))
 """
 
 
+# The processor seconds that a measure without a limit of its own may take: a day.
+A_DAY = 86_400
+
+
+def probe(command, folder, given, seconds):
+    """Runs a command on a file within a limit of processor seconds; returns wall seconds, processor seconds, peak kilobytes
+    and the status, which is negative where a signal ended it. Its output goes to a file."""
+    words = [str(seconds), str(given), str(folder / "output"), *map(str, command)]
+    ran = subprocess.run(
+        [sys.executable, "-S", "-E", "-c", PROBE, *words], cwd=folder, stdout=subprocess.PIPE, check=True
+    )
+    wall, processor, peak, status = ran.stdout.split()
+    return float(wall), float(processor), int(peak), int(status)
+
+
 def measure(command, folder, given=os.devnull):
     """Runs a command on a file; answers wall seconds, processor seconds and peak kilobytes. Its output goes to a file."""
-    files = [str(given), str(folder / "output")]
-    probe = subprocess.run(
-        [sys.executable, "-S", "-E", "-c", PROBE, *files, *command], cwd=folder, stdout=subprocess.PIPE, check=True
-    )
-    wall, processor, peak, status = probe.stdout.split()
-    if int(status) != 0:
-        sys.exit(f"{command[0]} ended with status {int(status)}")
-    return float(wall), float(processor), int(peak)
+    *measured, status = probe(command, folder, given, A_DAY)
+    if status != 0:
+        sys.exit(f"{command[0]} ended with status {status}")
+    return tuple(measured)
 
 
 def best(command, folder, repeats):
@@ -45,14 +57,14 @@ def best(command, folder, repeats):
     return min(r[0] for r in runs), min(r[1] for r in runs), max(r[2] for r in runs), lines
 
 
-def instructions(command, folder):
-    """How many instructions a command takes, as valgrind counts them: the same whatever else runs on the machine."""
+def instructions(command, folder, given=os.devnull):
+    """How many instructions a command takes on a file, as valgrind counts them: the same whatever else runs on the machine."""
     if shutil.which("valgrind") is None:
         sys.exit("valgrind isn't installed: apt-get install valgrind")
     counting = ["valgrind", "--tool=cachegrind", "--cache-sim=no", f"--cachegrind-out-file={os.devnull}"]
-    with open(os.devnull) as given, open(folder / "output", "wb") as output:
+    with open(given) as source, open(folder / "output", "wb") as output:
         ran = subprocess.run(
-            [*counting, *map(str, command)], cwd=folder, stdin=given, stdout=output, stderr=subprocess.PIPE, text=True, check=True
+            [*counting, *map(str, command)], cwd=folder, stdin=source, stdout=output, stderr=subprocess.PIPE, text=True, check=True
         )
     return int(re.search(r"I +refs: +([\d,]+)", ran.stderr)[1].replace(",", ""))
 

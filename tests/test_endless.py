@@ -20,7 +20,7 @@ SLACK = 3 * PIPE_BYTES
 ROOM = 128 << 20
 
 # The greatest memory of a run, as the README says it: these bytes, and so many for each byte of the tables and for each
-# pair of rows that a join finds before it sorts them.
+# pair of rows that a join finds before it sorts them; under LIMIT n for at most 2n pairs.
 BASE, EACH_BYTE, EACH_PAIR = 8 << 20, 64, 48
 
 SCHEMA = b"CREATE TABLE t (id INTEGER PRIMARY KEY, name TEXT, geom MULTIPOINT);"
@@ -214,20 +214,37 @@ class Memory(Endless):
             with self.subTest(kind=kind, rows=rows):
                 self.assertEqual(self.loading(text.encode(), BASE + EACH_BYTE * len(text)), loaded(rows))
 
-    @needs_build
-    def test_a_join_that_sorts(self):
+    def two_tables(self, first, second):
+        """Writes two tables of equal points. Returns the bytes of both, and how many pairs of rows they have."""
         self.write(self.schema, b"CREATE TABLE t (id INTEGER PRIMARY KEY, p POINT); CREATE TABLE u (id INTEGER PRIMARY KEY, p POINT);")
-        size, rows = 0, {"t": 1000, "u": 525}
-        for name, number in rows.items():
+        size = 0
+        for name, number in (("t", first), ("u", second)):
             text = b"id,p\n" + b"".join(b"%d,POINT(1 1)\n" % at for at in range(number))
             self.write(f"{self.folder}/{name}.csv", text)
             size += len(text)
+        return size, first * second
+
+    @needs_build
+    def test_a_join_that_sorts(self):
+        size, pairs = self.two_tables(1000, 525)
         query = "SELECT b.id FROM t a JOIN u b ON ST_Equals(a.p, b.p)"
         out, err, status = self.ask(query=f"EXPLAIN {query}")
         self.assertIn(b"outer b scan", out)
-        pairs = rows["t"] * rows["u"]
         out, err, status = self.ask(BASE + EACH_BYTE * size + EACH_PAIR * pairs, query)
         self.assertEqual((out.count(b"\n"), err, status), (pairs + 1, b"", 0))
+
+    @needs_build
+    def test_a_join_that_sorts_under_limit(self):
+        # All points are equal, so each pair is found; the list of them all doesn't fit.
+        size, _ = self.two_tables(2000, 1050)
+        query = "SELECT a.id, b.id FROM t a JOIN u b ON ST_Equals(a.p, b.p)"
+        out, err, status = self.ask(query=f"EXPLAIN {query}")
+        self.assertIn(b"outer b scan", out)
+        for most in (1, 100):
+            room = BASE + EACH_BYTE * size + EACH_PAIR * 2 * most
+            first = b"a.id,b.id\n" + b"".join(b"0,%d\n" % at for at in range(most))
+            with self.subTest(limit=most):
+                self.assertEqual(self.ask(room, f"{query} LIMIT {most}"), (first, b"", 0))
 
 
 if __name__ == "__main__":

@@ -24,7 +24,7 @@ CLEAN = {
 # A stand-in for `rt`, whose layout is that no line ends with a space.
 LAYS_OUT = f"""#!{sys.executable}
 import pathlib
-for path in pathlib.Path("src").glob("**/*.rt"):
+for path in [it for kind in ("rt", "antt") for it in pathlib.Path().glob("*/**/*." + kind)]:
     path.write_text("".join(line.rstrip() + "\\n" for line in path.read_text().splitlines()))
 """
 # A stand-in for the script that writes the definitions: the page is the name of the file that they are in.
@@ -67,6 +67,7 @@ class Refused(unittest.TestCase):
         code = CLEAN["crates/one/src/lib.rt"].replace("The number one.", "It tells one.")
         self.refused("crates/one/src/lib.rt", code, 4, "tells")
         self.refused("crates/one/specs/Ones.antt", "-- Want of memory.\n", 1, "memory")
+        self.refused("crates/one/specs/Ones.antt", "-- It fails for want\n-- of memory.\n", 2, "memory")
 
     def test_a_word_in_code_is_not(self):
         page = "# Page\n\n## The part\n\nThe name `stands_at`.\n\n```text\nit stands\n```\n"
@@ -104,6 +105,9 @@ class Refused(unittest.TestCase):
         self.assertEqual(self.found(more=more), (0, []))
         code = CLEAN["crates/one/src/lib.rt"].replace("    1\n", "    1 \n")
         self.refused("crates/one/src/lib.rt", code, 1, "rt fmt", more)
+        for part in ("specs", "proofs"):
+            file = f"crates/one/{part}/Ones.antt"
+            self.refused(file, "-- What one is. \n", 1, "rt fmt", more)
 
     def test_a_document_past_its_size(self):
         page = CLEAN["README.md"]

@@ -15,6 +15,7 @@ SWEEPS = {
     "growth_tests::equal_empties": 50,
     "growth_tests::points_joined_with_squares": 500,
     "relate_tests::texts_to_a_matrix": 30,
+    "schema_tests::schemas_and_their_faults": 25,
 }
 
 

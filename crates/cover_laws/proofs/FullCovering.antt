@@ -16,14 +16,14 @@ use Rattle.matrix_laws.specs.Cells.{Shows, ShowsPoint, IsNoCut, Covers}
 use Rattle.matrix_laws.proofs.Growing.{shows_at, shows_less}
 use Rattle.cover_laws.specs.Gaps.{SharesNoStretch, mostly, of_own_edges}
 use Rattle.cover_laws.specs.Covering.{IsOffEdges, ShowsOff, ShowsEnds}
-use Rattle.cover_laws.specs.CoveringLaws.{IsFullOff, IsFullOn}
+use Rattle.cover_laws.specs.CoveringLaws.{IsFullOff, IsFullOn, IsFullAlong}
 use Rattle.cover_laws.proofs.GapTheorems.{off_edges_is_no_boundary}
 use Rattle.cover_laws.proofs.Stretching.{SharesFurther, shares_further, spread}
 use Rattle.cover_laws.proofs.Located.{Side, lower_side, upper_side, on_or_off, off_is_shown, ShowsShared, shared_is_shown, Overlaps, overlaps}
 
 -- ---- off b's edges
 -- off b's edges a point is in b's exterior, or in the interior of an area, and the matrix shows what either wants
-full_off_at : (a b : Geometry) (m : Matrix) → IsFullOff a b m → (e : Edge) (x : Point) → IsOffEdges b x → ShowsOff a m e (mostly b x)
+pub full_off_at : (a b : Geometry) (m : Matrix) → IsFullOff a b m → (e : Edge) (x : Point) → IsOffEdges b x → ShowsOff a m e (mostly b x)
 full_off_at a b m h e x o = go (off_edges_is_no_boundary b x o)
   where
     go : (mostly b x ≡ Exterior) ⊎ ((kind b ≡ kinds.Area) × (mostly b x ≡ Interior)) → ShowsOff a m e (mostly b x)
@@ -31,20 +31,23 @@ full_off_at a b m h e x o = go (off_edges_is_no_boundary b x o)
     go (inr q) = subst (ShowsOff a m e) (sym q.1) (h.in_interior q.0 e)
 
 -- ---- on an edge of b: each two parts that sides can be in
-full_on_sides : (a b : Geometry) (m : Matrix) → IsFullOn a b m → (l k : Location) → Side a l → Side b k → Shows m l k Two
+pub full_on_sides : (a b : Geometry) (m : Matrix) → IsFullOn a b m → (l k : Location) → Side a l → Side b k → Shows m l k Two
 full_on_sides a b m h l k (inl s) (inl t) = shows_at m Two Exterior l Exterior k (sym s) (sym t) h.outer
 full_on_sides a b m h l k (inl s) (inr t) = shows_at m Two Exterior l Interior k (sym s) (sym t.1) (h.second t.0)
 full_on_sides a b m h l k (inr s) (inl t) = shows_at m Two Interior l Exterior k (sym s.1) (sym t) (h.first s.0)
 full_on_sides a b m h l k (inr s) (inr t) = shows_at m Two Interior l Interior k (sym s.1) (sym t.1) (h.inner s.0 t.0)
 
 -- so the matrix shows what a point on an edge of b wants
-full_on_at : (a b : Geometry) (m : Matrix) → IsFullOn a b m → (e : Edge) (x : Point) → ShowsShared a b m e x
-full_on_at a b m h e x = record {
+pub full_along_at : (a b : Geometry) (m : Matrix) (e : Edge) → IsFullAlong a b m e → (x : Point) → ShowsShared a b m e x
+full_along_at a b m e h x = record {
   point = inr (shows_less m (of_own_edges (kind a)) (of_own_edges (kind b)) One Zero refl h.piece);
   piece = λ u. h.piece;
-  lower = λ u n. full_on_sides a b m h (below a x) (below b x) (lower_side a x) (lower_side b x);
-  upper = λ u n. full_on_sides a b m h (above a x) (above b x) (upper_side a x) (upper_side b x);
+  lower = λ u n. full_on_sides a b m (h.sides n) (below a x) (below b x) (lower_side a x) (lower_side b x);
+  upper = λ u n. full_on_sides a b m (h.sides n) (above a x) (above b x) (upper_side a x) (upper_side b x);
 }
+
+full_on_at : (a b : Geometry) (m : Matrix) → IsFullOn a b m → (e : Edge) (x : Point) → ShowsShared a b m e x
+full_on_at a b m h e x = full_along_at a b m e (record { piece = h.piece; sides = λ _. h }) x
 
 -- each point of the edge is on an edge of b or off all of them
 pub full_covers : (a b : Geometry) → IsValid a → IsValid b → (e : Edge) → Contains (edges a) e → e.start ≢ e.end → (m : Matrix) → ShowsEnds a b m → IsFullOff a b m → IsFullOn a b m → Covers a b m e

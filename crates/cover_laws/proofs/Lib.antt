@@ -9,4 +9,5 @@ pub mod Located
 pub mod GapThere
 pub mod GapsCovering
 pub mod FullCovering
+pub mod HeldCovering
 pub mod CoveringTheorems

@@ -45,15 +45,15 @@ shared_point_shares_gap e fs p q x f g c i h = point_shares e fs p q x f g (amon
 
 -- ---- an edge that holds all points between two holds the two
 -- an edge holds its start
-start_on : (f : Edge) → on f (point_at f.start) ≡ true
+pub start_on : (f : Edge) → on f (point_at f.start) ≡ true
 start_on f = on_from_hull f (point_at f.start) (hull_of_start f)
 
 -- and its end
-end_on : (f : Edge) → on f (point_at f.end) ≡ true
+pub end_on : (f : Edge) → on f (point_at f.end) ≡ true
 end_on f = on_from_hull f (point_at f.end) (hull_of_end f)
 
 -- an edge's start and end, in order where the start is less ..
-span_forth : (f : Edge) → compare (point_at f.start) (point_at f.end) ≡ Less → Span f (point_at f.start) (point_at f.end)
+pub span_forth : (f : Edge) → compare (point_at f.start) (point_at f.end) ≡ Less → Span f (point_at f.start) (point_at f.end)
 span_forth f k = record { lesser = position_is_point f.start; greater = position_is_point f.end; lesser_on = start_on f; greater_on = end_on f; in_order = k }
 
 -- .. and its end and start where the end is
@@ -61,7 +61,7 @@ span_back : (f : Edge) → compare (point_at f.end) (point_at f.start) ≡ Less 
 span_back f k = record { lesser = position_is_point f.end; greater = position_is_point f.start; lesser_on = end_on f; greater_on = start_on f; in_order = k }
 
 -- a point of the line between the ends of the edge, which are in whatever order
-on_forth : (f : Edge) (x : Point) → IsPoint x → side f.start f.end x ≡ pos 0 → compare (point_at f.start) x ≡ Less → compare x (point_at f.end) ≡ Less → on f x ≡ true
+pub on_forth : (f : Edge) (x : Point) → IsPoint x → side f.start f.end x ≡ pos 0 → compare (point_at f.start) x ≡ Less → compare x (point_at f.end) ≡ Less → on f x ≡ true
 on_forth f x hx l k m = on_within f (point_at f.start) (point_at f.end) (span_forth f (less_transitive (point_at f.start) x (point_at f.end) (position_is_point f.start) hx (position_is_point f.end) k m)) x hx l k m
 
 -- the same where its end is the lesser one

@@ -1,5 +1,5 @@
 -- What a matrix has to show of the gaps of an edge, so that it shows all of the edge's points.
-use Rattle.std.specs.Prelude.{◌≡◌, ◌≢◌, true, false, All}
+use Rattle.std.specs.Prelude.{◌≡◌, ◌≢◌, true, false, List, All, Any}
 use Rattle.geometry_model.specs.Points.{Point, IsPoint}
 use Rattle.geometry_model.specs.Geometries.{Edge, Geometry, kind, edges, lines, listed}
 use Rattle.geometry_model.specs.Sides.{on}
@@ -16,6 +16,10 @@ use Rattle.matrix_laws.specs.Cells.{Shows, CoversPosition}
 -- the point is on none of the second geometry's edges
 abbrev pub IsOffEdges : Geometry → Point → Type 0
 IsOffEdges b y = All (λ f. on f y ≡ false) (edges b)
+
+-- each point of the edge is on some of these edges
+abbrev pub IsHeld : List Edge → Edge → Type 0
+IsHeld es e = (x : Point) → IsPoint x → on e x ≡ true → Any (λ f. on f x ≡ true) es
 
 -- the matrix shows a gap of an edge of a that lies in this part of b, off b's edges: the gap itself, and if the edge isn't vertical its sides; one side is exterior to a, and at an area's edge the other is interior
 pub record ShowsOff (a : Geometry) (m : Matrix) (e : Edge) (l : Location) : Type 0 where

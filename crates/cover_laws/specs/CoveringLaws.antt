@@ -12,7 +12,7 @@ use Rattle.geometry_model.specs.declared.point_sets.Location.TheVariants.{Interi
 use Rattle.geometry_model.specs.declared.point_sets.Dimension.TheVariants.{Zero, One, Two}
 use Rattle.cover_laws.specs.Gaps.{EdgeGaps, AreGaps, IsBetween, IsGap, SharesNoStretch, of_own_edges}
 use Rattle.matrix_laws.specs.Cells.{Shows, Covers}
-use Rattle.cover_laws.specs.Covering.{ShowsAt, ShowsGap, ShowsOff, ShowsEnds}
+use Rattle.cover_laws.specs.Covering.{IsHeld, ShowsAt, ShowsGap, ShowsOff, ShowsEnds}
 
 -- what a gap of an edge of a shows of two valid geometries is in their matrix (06-103r4, 6.1.15.2)
 abbrev pub GapIsThere : Type 0
@@ -44,3 +44,16 @@ FullCovers = (a b : Geometry) → IsValid a → IsValid b → (e : Edge) → Con
 abbrev pub FullOffCovers : Type 0
 FullOffCovers = (a b : Geometry) → IsValid a → IsValid b → (e : Edge) → Contains (edges a) e → e.start ≢ e.end → (m : Matrix) → ShowsEnds a b m → IsFullOff a b m → Shows m (of_own_edges (kind a)) (of_own_edges (kind b)) Zero
     → SharesNoStretch e (edges b) → Covers a b m e
+
+-- the matrix shows all that gaps of this edge can show that an edge of b shares: an upright edge has no sides to show
+pub record IsFullAlong (a b : Geometry) (m : Matrix) (e : Edge) : Type 0 where
+  pub piece : Shows m (of_own_edges (kind a)) (of_own_edges (kind b)) One
+  pub sides : e.start.x ≢ e.end.x → IsFullOn a b m
+
+-- where edges of b hold all of an edge of a, it is enough that the matrix shows all that its gaps can show there
+abbrev pub HeldCovers : Type 0
+HeldCovers = (a b : Geometry) (e : Edge) → Contains (edges a) e → (m : Matrix) → ShowsEnds a b m → IsHeld (edges b) e → IsFullAlong a b m e → Covers a b m e
+
+-- or that it covers the edges of b
+abbrev pub HeldByCovered : Type 0
+HeldByCovered = (a b : Geometry) (e : Edge) → Contains (edges a) e → e.start ≢ e.end → (m : Matrix) → All (Covers a b m) (edges b) → IsHeld (edges b) e → Covers a b m e

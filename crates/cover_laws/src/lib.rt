@@ -7,7 +7,7 @@ pub mod gap_sides;
 pub mod gaps;
 pub mod standing;
 
-ghost use Rattle.cover_laws.specs.CoveringLaws.{GapIsThere, GapsCover, FullCovers, FullOffCovers};
+ghost use Rattle.cover_laws.specs.CoveringLaws.{GapIsThere, GapsCover, FullCovers, FullOffCovers, HeldCovers, HeldByCovered};
 
 /// What a gap of an edge shows of two valid geometries is there: the gap itself, and its sides where the edge isn't vertical (06-103r4, 6.1.15.2).
 pub fn gap_is_there()
@@ -27,4 +27,14 @@ pub fn full_covers()
 /// If no edge of the other geometry shares a stretch with an edge, it is enough that the matrix shows all that gaps can show off the other geometry's edges, and that both geometries' edges share a point (06-103r4, 6.1.15.2).
 pub fn full_off_covers()
     ensures { FullOffCovers }
+{}
+
+/// If edges of the other geometry hold all of an edge, it is enough that the matrix shows all that the edge's gaps can show there (06-103r4, 6.1.15.2).
+pub fn held_covers()
+    ensures { HeldCovers }
+{}
+
+/// Or that the matrix covers the other geometry's edges (06-103r4, 6.1.15.2).
+pub fn held_by_covered()
+    ensures { HeldByCovered }
 {}

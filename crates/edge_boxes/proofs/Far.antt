@@ -1,6 +1,8 @@
 -- An edge far from a run, by the run's bounds or its strip, shares no point with the run's edges.
-use Rattle.std.proofs.Common.{ℤ, pos, ◌+ℤ◌, ◌-ℤ◌, ◌*ℤ◌, ◌≤ℤ◌, ◌<ℤ◌, int_lt, ◌≡◌, ◌⊎◌, inl, inr, Bool, true, false, ◌&&◌, ◌||◌, refl, sym, ap, ◌∙◌, subst, List, [], ◌∷◌, Option, Some, IfSome, arith}
+use Rattle.std.proofs.Common.{ℤ, pos, int_le, ◌+ℤ◌, ◌-ℤ◌, ◌*ℤ◌, ◌≤ℤ◌, ◌<ℤ◌, int_lt, ◌≡◌, ◌⊎◌, inl, inr, Bool, true, false, ◌&&◌, ◌||◌, refl, sym, ap, ◌∙◌, subst, List, [], ◌∷◌, Option, Some, IfSome, arith}
 use borrow.Author.Differences.{ints}
+use Rattle.std.specs.Int.{int_min, int_max}
+use Rattle.std.proofs.lemmas.Int.{clamps}
 use Rattle.std.specs.List.{AllByRecursion, list_any}
 use Rattle.geometry_model.specs.Points.{Position, Point, IsPoint}
 use Rattle.geometry_model.specs.Geometries.{Edge}
@@ -9,8 +11,8 @@ use Rattle.geometry_model.specs.Validity.{SharePoint}
 use Rattle.geometry_model.specs.FirstFaults.{share_point}
 use Rattle.geometry_model.specs.Envelopes.{Envelope, overlap}
 use Rattle.integers.proofs.Ring.{solve, var, ◌⊖◌, ◌⊗◌}
-use Rattle.integers.proofs.Signs.{plus_minus, strict_plus_plus, at_most_or_less, less_from}
-use Rattle.geometry_laws.proofs.Scaling.{and_parts}
+use Rattle.integers.proofs.Signs.{plus_minus, strict_plus_plus, at_most_or_less, less_from, at_most_yes, at_most_from}
+use Rattle.geometry_laws.proofs.Scaling.{and_parts, and_from}
 use Rattle.validity_laws.proofs.ElementFacts.{or_from}
 use Rattle.validity_laws.proofs.SharedPoints.{shared_point_is_decided}
 use Rattle.ring_tests.specs.RunLaws.{box_of}
@@ -22,7 +24,6 @@ use Rattle.edge_boxes.specs.declared.kept_runs.Run.{Run}
 use Rattle.edge_boxes.specs.declared.strips.Direction.{Direction}
 use Rattle.edge_boxes.specs.declared.strips.Strip.{Strip}
 use Rattle.edge_boxes.proofs.EdgeSides.{beyond, on_off_beyond, on_off_short}
-use Rattle.edge_boxes.proofs.Meeting.{edge_apart}
 
 -- ---- a level between the rises of two edges' ends parts the edges
 -- how far a point lies above a position in a direction is the difference of their rises
@@ -101,6 +102,32 @@ beside_parts s e f right l beside w =
         let above = and_parts (int_lt s.greatest (rise s.direction e.start.x e.start.y)) (int_lt s.greatest (rise s.direction e.end.x e.end.y)) h in
         parted s.direction (s.greatest +ℤ pos 1) f e w.at w.is_point right (at_most (rise s.direction f.start.x f.start.y) s.greatest l.start.greatest) (at_most (rise s.direction f.end.x f.end.y) s.greatest l.end.greatest)
         (more (rise s.direction e.start.x e.start.y) s.greatest above.0) (more (rise s.direction e.end.x e.end.y) s.greatest above.1) w.on_second w.on_first
+
+-- an edge within bounds that don't meet the others has a rectangle that doesn't meet them either
+edge_apart : (b c : Envelope) (e : Edge) → LiesIn b e → overlap b c ≡ false → overlap (box_of e) c ≡ false
+edge_apart b c e l far = go (overlap (box_of e) c) refl
+  where
+    least : (m s t g : ℤ) → m ≤ℤ s → m ≤ℤ t → int_le (int_min s t) g ≡ true → int_le m g ≡ true
+    least m s t g h k f = let r = at_most_from (int_min s t) g f in at_most_yes m g (omega (arith, ints, clamps, h, k, r))
+
+    greatest : (m s t g : ℤ) → s ≤ℤ m → t ≤ℤ m → int_le g (int_max s t) ≡ true → int_le g m ≡ true
+    greatest m s t g h k f = let r = at_most_from g (int_max s t) f in at_most_yes g m (omega (arith, ints, clamps, h, k, r))
+
+    four : (p q r s : Bool) → p ≡ true → q ≡ true → r ≡ true → s ≡ true → p && q && r && s ≡ true
+    four p q r s a b c d = and_from (p && q && r) s (and_from (p && q) r (and_from p q a b) c) d
+
+    meet : overlap (box_of e) c ≡ true → overlap b c ≡ true
+    meet h =
+        let x = box_of e in
+        let last = and_parts (int_le x.least_x c.greatest_x && int_le c.least_x x.greatest_x && int_le x.least_y c.greatest_y) (int_le c.least_y x.greatest_y) h in
+        let third = and_parts (int_le x.least_x c.greatest_x && int_le c.least_x x.greatest_x) (int_le x.least_y c.greatest_y) last.0 in
+        let first = and_parts (int_le x.least_x c.greatest_x) (int_le c.least_x x.greatest_x) third.0 in
+        four _ _ _ _ (least b.least_x e.start.x e.end.x c.greatest_x l.start.left l.end.left first.0) (greatest b.greatest_x e.start.x e.end.x c.least_x l.start.right l.end.right first.1)
+        (least b.least_y e.start.y e.end.y c.greatest_y l.start.low l.end.low third.1) (greatest b.greatest_y e.start.y e.end.y c.least_y l.start.high l.end.high last.1)
+
+    go : (t : Bool) → overlap (box_of e) c ≡ t → overlap (box_of e) c ≡ false
+    go true h = absurd (let y : true ≡ false = sym (meet h) ∙ far in cc)
+    go false h = h
 
 -- ---- by bounds
 -- an edge whose rectangle doesn't meet the bounds shares no point with an edge within them,

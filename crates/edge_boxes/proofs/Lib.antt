@@ -8,6 +8,6 @@ pub mod BoxFacts
 pub mod Steps
 pub mod Growing
 pub mod StripTaking
-pub mod Meeting
+pub mod Sharing
 pub mod Far
 pub mod OneLine

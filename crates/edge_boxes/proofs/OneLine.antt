@@ -12,7 +12,7 @@ use Rattle.edge_boxes.specs.OneLine.{meet_on_one_line, SharesNone, IsLineStep}
 use Rattle.edge_boxes.specs.declared.boxes.EdgeBox.{EdgeBox}
 use Rattle.edge_boxes.proofs.BoxFacts.{run_then_rest, rest_is, found_before, covered_before}
 use Rattle.edge_boxes.proofs.Steps.{box_before, leaf_ordered, inner_covered}
-use Rattle.edge_boxes.proofs.Meeting.{and_none}
+use Rattle.edge_boxes.proofs.Sharing.{and_none, neither}
 
 -- edges that share no point aren't on one line with the edge and share one
 none_on_line : (e : Edge) (es : List Edge) → list_any (share_point e) es ≡ false → list_any (meet_on_one_line e) es ≡ false
@@ -20,10 +20,6 @@ none_on_line e [] h = refl
 none_on_line e (f ∷ fs) h =
     let parts = neither (share_point e f) (list_any (share_point e) fs) h in
     ap₂ (λ (x y : Bool). x || y) (and_none (on_one_line e f) (share_point e f) parts.0) (none_on_line e fs parts.1)
-  where
-    neither : (a b : Bool) → a || b ≡ false → (a ≡ false) × (b ≡ false)
-    neither true b h = absurd (let y : true ≡ false = h in cc)
-    neither false b h = (refl, h)
 
 -- ---- steps
 -- a box none of whose edges shares a point with the edge is passed over with its subtree, as none of them meets it on one line

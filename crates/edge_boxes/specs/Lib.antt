@@ -5,6 +5,6 @@ pub mod Cells
 pub mod BoxLists
 pub mod Walks
 pub mod Builds
-pub mod Meetings
+pub mod Sharings
 pub mod LineCrossings
 pub mod OneLine

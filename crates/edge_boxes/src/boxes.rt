@@ -6,7 +6,7 @@ ghost use Rattle.geometry_model.specs.Geometries.{Edge};
 ghost use Rattle.edge_boxes.specs.Cells.{IsCellOf};
 ghost use Rattle.edge_boxes.specs.EdgeCrossings.{AreCrossings, on_any};
 ghost use Rattle.edge_boxes.specs.BoxLists.{AreBoxes, BoxesOf, covered};
-ghost use Rattle.edge_boxes.specs.Meetings.{places_meeting};
+ghost use Rattle.edge_boxes.specs.Sharings.{places_sharing};
 ghost use Rattle.edge_boxes.specs.OneLine.{meet_on_one_line};
 ghost use Rattle.edge_boxes.specs.Walks.{IsStep};
 
@@ -15,8 +15,8 @@ use crate::building::boxes_over;
 use crate::cells::Cell;
 use crate::kept_runs::Run;
 use crate::lines::is_one_on_line_among;
-use crate::meeting_bounds::{Asked, push_asked};
 use crate::point_crossings::{Crossings, none, of_edges, told};
+use crate::sharing_edges::{Asked, push_asked};
 use fraction::RatPoint;
 use orient::Segment;
 use std::alloc::{AllocError, Global};
@@ -73,21 +73,22 @@ impl EdgeBoxes {
         is_one_on_line_among(self.boxes.as_slice(), edges, edge)
     }
 
-    /// Replaces what the vector holds by the places, from this one on, of the edges whose bounds meet these, ascending. It
-    /// fails only when memory runs out, and then leaves the vector empty.
-    pub fn meeting(
+    /// Replaces what the vector holds by the places, from this one on, of the edges that share a point with an edge, ascending.
+    /// It passes over boxes that are far from the edge. It fails only when memory runs out, and then leaves the vector empty.
+    pub fn sharing(
         &self,
         edges: &[Segment],
-        bounds: &Bounds,
+        edge: &Segment,
         from: usize,
         found: &mut Vec<usize>,
     ) -> Result<(), AllocError>
         requires { BoxesOf self.now edges.now }
-        ensures exact { OnOk result (found.new.items ≡ places_meeting bounds.now from edges.now) }
+        ensures exact { OnOk result (found.new.items ≡ places_sharing edge.now from edges.now) }
         ensures refused { OnErr result (found.new.items ≡ []) }
     {
         let asked = Asked {
-            bounds: *bounds,
+            edge: *edge,
+            bounds: Bounds::of(edge),
             from,
         };
         found.clear();

@@ -9,8 +9,8 @@ mod building;
 mod cells;
 mod kept_runs;
 mod lines;
-mod meeting_bounds;
 pub mod point_crossings;
+mod sharing_edges;
 mod strips;
 
 pub use bounds::Bounds;

@@ -14,7 +14,8 @@ use Rattle.validity_laws.proofs.SharedPoints.{shared_point_is_decided}
 use Rattle.fraction.specs.Ranges.{meeting_limit}
 use Rattle.matrix_laws.proofs.Lists.{among_from_contains, any_from_some}
 use Rattle.ring_tests.specs.RunLaws.{box_of}
-use Rattle.edge_boxes.specs.Meetings.{places_meeting}
+use Rattle.ring_tests.proofs.Boxes.{sharing_boxes_overlap}
+use Rattle.edge_boxes.specs.Sharings.{places_sharing}
 use Rattle.edge_boxes.specs.OneLine.{meet_on_one_line}
 use Rattle.noding.specs.Meetings.{on_both, named, is_common_cut}
 use Rattle.noding.specs.Nodings.{ListsPoint, PutsPointsInOrder}
@@ -24,7 +25,7 @@ use Rattle.noding.proofs.NodeCuts.{cut_is_point, cut_of_both, named_on_both}
 use Rattle.noding.proofs.BreakPoints.{Shares, all_of, any_left, any_right, earlier_or_last, point_kept}
 use Rattle.cover_laws.specs.Gaps.{SharesNoStretch}
 use Rattle.edge_gaps.specs.Steps.{IsSharedPoint, ListsCommonCuts, AreSharedSoFar, IsAt, IsAtPlace, AreShared}
-use Rattle.edge_gaps.proofs.Near.{IsNearAt, sharing_near, sharing_is_near}
+use Rattle.edge_gaps.proofs.Near.{IsNearAt, sharing, sharing_is_near}
 
 -- ---- one more edge
 element_stands : {X : Type 0} (xs : List X) (j : ℕ) (x d : X) → j < length xs → x ≡ get_or xs j x → get_or xs j d ≡ x
@@ -76,7 +77,7 @@ shared_more e others IsAsked n f m xs ys own same s grown h = record { from = fr
 no_common_cut : (e f : Edge) (p : Point) → overlap (box_of f) (box_of e) ≡ false → IsPoint p → is_common_cut e f p ≡ true → ⊥
 no_common_cut e f p off hp k =
     let both : (on e p ≡ true) × (on f p ≡ true) = and_parts (on e p) (on f p) (and_parts (on_both e f p) _ k).0 in
-    absurd (let clash : true ≡ false = sym (sharing_near e f p hp both.0 both.1) ∙ off in cc)
+    absurd (let clash : true ≡ false = sym (sharing_boxes_overlap f e (sharing f e p hp both.1 both.0)) ∙ off in cc)
 
 pub shared_no_more : (e : Edge) (others : List Edge) (IsAsked : ℕ → Edge → Type 0) (n : ℕ) (f : Edge) (points : List Point) → overlap (box_of f) (box_of e) ≡ false → ((g : Edge) → IsAsked n g → f ≡ g)
     → AreSharedSoFar e others IsAsked n points → AreSharedSoFar e others IsAsked (n + 1) points
@@ -100,7 +101,7 @@ one_at_place others near n j f g hn hj lj hf at = one_at others j f g lj hf (sub
 pub all_shared : (e : Edge) (others : List Edge) (n : ℕ) (points : List Point) → length others ≤ n → AreSharedSoFar e others (IsAt others) n points → AreShared e others points
 all_shared e others n points past h = record { from = h.from; found = λ f c. h.found c.0 f (omega (arith, c.1, past)) c.2 }
 
-pub all_near_shared : (e : Edge) (others : List Edge) (near : List ℕ) (n : ℕ) (points : List Point) → near ≡ places_meeting (box_of e) 0 others → length near ≤ n
+pub all_near_shared : (e : Edge) (others : List Edge) (near : List ℕ) (n : ℕ) (points : List Point) → near ≡ places_sharing e 0 others → length near ≤ n
     → AreSharedSoFar e others (IsAtPlace others near) n points → AreShared e others points
 all_near_shared e others near n points is past h = record { from = h.from; found = found }
   where

@@ -19,7 +19,8 @@ use std::marker::Model;
 /// none if up to 16 others meet an edge in few points.
 #[derive(Debug, Drop)]
 pub struct Gaps {
-    near: Vec<usize>,
+    places: Vec<usize>,
+    named: usize,
     shared: SmallVec<RatPoint, 8>,
     stops: SmallVec<RatPoint, 8>,
 }
@@ -38,7 +39,8 @@ impl Gaps {
         ensures { result ≡ record { shared = []; stops = [] } }
     {
         Gaps {
-            near: Vec::new(alloc),
+            places: Vec::new(alloc),
+            named: 0,
             shared: SmallVec::new(alloc),
             stops: SmallVec::new(alloc),
         }
@@ -74,7 +76,8 @@ impl Gaps {
         requires { BoxesOf boxes.now others.now }
         ensures { OnOk result (AreGaps edge.now others.now self.new) }
     {
-        find_shared(edge, others, boxes, &mut self.near, &mut self.shared)?;
+        find_shared(edge, others, boxes, &mut self.places, &mut self.shared)?;
+        self.named = self.shared.len();
         put_in_order(&mut self.shared);
         set_stops(&mut self.stops, edge, self.shared.as_slice())
     }
@@ -86,6 +89,12 @@ impl Gaps {
         ensures { result ≡ false → SharesNoStretch edge.now others.now }
     {
         boxes.meets_on_line(others, edge)
+    }
+
+    /// How often points that the edge shares with others were found, a point as often as others share it: a measure of the work
+    /// that the edge is, of which no contract speaks.
+    pub fn named(&self) -> usize {
+        self.named
     }
 
     /// Lends the points that the edge shares with others.

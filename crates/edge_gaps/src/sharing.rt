@@ -1,10 +1,9 @@
-//! The points that an edge shares with others near it.
+//! The points that an edge shares with others.
 
 ghost use Rattle.std.specs.Prelude.{◌≡◌, ◌++◌, All, OnOk};
 ghost use Rattle.geometry_model.specs.Points.{IsPoint};
-ghost use Rattle.ring_tests.specs.RunLaws.{box_of};
 ghost use Rattle.edge_boxes.specs.BoxLists.{BoxesOf};
-ghost use Rattle.edge_boxes.specs.Meetings.{places_meeting};
+ghost use Rattle.edge_boxes.specs.Sharings.{places_sharing};
 ghost use Rattle.noding.specs.Meetings.{named};
 ghost use Rattle.noding.specs.Nodings.{PutsPointsInOrder};
 ghost use Rattle.edge_gaps.specs.Steps.{AreShared};
@@ -17,7 +16,7 @@ use orient::Segment;
 use smallvec::SmallVec;
 use std::alloc::AllocError;
 
-/// Up to this many edges are all looked at: they have no boxes, and no list of those near is made.
+/// Up to this many edges are all looked at: they have no boxes, and no list of places is made.
 const FEW_EDGES: usize = 16;
 
 /// Appends the points that a value of `Meet` names.
@@ -54,30 +53,30 @@ fn find_among_all(
     Ok(())
 }
 
-/// Replaces what the vector holds by the points that the edge shares with others, of which these are near it.
-fn find_among_near(
+/// Replaces what the vector holds by the points that the edge shares with others, of which those at these places share one.
+fn find_at(
     edge: &Segment,
     others: &[Segment],
-    near: &[usize],
+    places: &[usize],
     points: &mut SmallVec<RatPoint, 8>,
 ) -> Result<(), AllocError>
-    requires { near.now ≡ places_meeting (box_of edge.now) 0 others.now }
+    requires { places.now ≡ places_sharing edge.now 0 others.now }
     ensures { OnOk result (AreShared edge.now others.now points.new.items) }
 {
     points.clear();
-    for place in near {
+    for place in places {
         push_named(points, &meet(edge, edge_at(others, *place)))?;
     }
     Ok(())
 }
 
 /// Replaces what the second vector holds by the points that the edge shares with others, whose boxes are given. If there are
-/// few others, it looks at each; else at those near it, whose places the first vector takes.
+/// few others, it looks at each; else at those that share a point with it, whose places the first vector takes.
 pub(crate) fn find_shared(
     edge: &Segment,
     others: &[Segment],
     boxes: &EdgeBoxes,
-    near: &mut Vec<usize>,
+    places: &mut Vec<usize>,
     points: &mut SmallVec<RatPoint, 8>,
 ) -> Result<(), AllocError>
     requires { BoxesOf boxes.now others.now }
@@ -86,8 +85,8 @@ pub(crate) fn find_shared(
     if others.len() <= FEW_EDGES {
         return find_among_all(edge, others, points);
     }
-    boxes.meeting(others, &Bounds::of(edge), 0, near)?;
-    find_among_near(edge, others, near.as_slice(), points)
+    boxes.sharing(others, edge, 0, places)?;
+    find_at(edge, others, places.as_slice(), points)
 }
 
 /// Puts points in ascending order, each once.

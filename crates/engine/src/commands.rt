@@ -16,7 +16,7 @@ use feature_table::{Database, Schema};
 use itoa::Buffer;
 use observers::{RowObserver, Unobserved};
 use query_runs::run_observed;
-use rtree::{EnvelopeIndex, RTree};
+use rtree::{CurveTree, EnvelopeIndex};
 use schema_reader::read_schema;
 use sinks::{Sink, SinkFault, put_parts};
 use std::alloc::{AllocError, Global};
@@ -26,7 +26,7 @@ use table_model::tokens::TEXT_LIMIT;
 use text_relation::relate_texts;
 
 /// The type of the index of each geometry column.
-type ColumnIndex = RTree;
+type ColumnIndex = CurveTree;
 
 /// How many bytes of a schema's file are read: one more than a schema may have.
 const SCHEMA_BYTES: u64 = TEXT_LIMIT as u64 + 1;

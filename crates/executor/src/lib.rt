@@ -2,10 +2,11 @@
 #![tactic(auto)]
 
 pub mod execution;
+mod found_pairs;
 mod orders;
 mod stages;
 pub mod streams;
 
-pub use candidates::RowPair;
+pub use candidates::{RowPair, Work};
 pub use execution::execute;
 pub use streams::Rows;

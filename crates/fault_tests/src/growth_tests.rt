@@ -8,7 +8,7 @@ use crate::growths::{MOST, refuse, were_at_least};
 use de9im::Work;
 use engine::{Fault, run};
 use feature_table::Schema;
-use rtree::RTree;
+use rtree::CurveTree;
 use spatial_sql::read_schema;
 use std::alloc::Global;
 use std::test::Fail;
@@ -43,7 +43,7 @@ fn run_refused(
     }
     let mut sink = MemorySink::new(alloc);
     refuse(alloc, number);
-    let ended = run::<RTree, &[u8], MemorySink>(alloc, schema, readers, case.query, &mut sink);
+    let ended = run::<CurveTree, &[u8], MemorySink>(alloc, schema, readers, case.query, &mut sink);
     let refused = number > 0 && were_at_least(alloc, number);
     refuse(alloc, 0);
     let allowed = is_allowed(&ended, &sink, case.answer.as_bytes(), refused);

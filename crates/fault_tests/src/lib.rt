@@ -15,6 +15,8 @@ mod read_tests;
 #[cfg(test)]
 mod relate_tests;
 #[cfg(test)]
+mod schema_tests;
+#[cfg(test)]
 mod stream_tests;
 #[cfg(test)]
 mod write_tests;

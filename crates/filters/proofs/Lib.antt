@@ -1,1 +1,3 @@
 pub mod FilterLemmas
+mod IdleRowLemmas
+mod SoughtNumberLemmas

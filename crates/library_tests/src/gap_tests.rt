@@ -1,22 +1,12 @@
 //! Edges that cross, touch, overlap and miss an edge, with the points and stops worked out by hand.
 
-use crate::shapes::{self, Numbers, Place, segment};
+use crate::shapes::{self, Line, Numbers, segment, segments};
 use edge_boxes::EdgeBoxes;
 use edge_gaps::Gaps;
 use fraction::RatPoint;
 use orient::Segment;
 use std::alloc::Global;
 use std::test::Fail;
-
-type Line = (Place, Place);
-
-fn segments(alloc: Global, lines: &[Line]) -> Result<Vec<Segment>, Fail> {
-    let mut segments = Vec::new(alloc);
-    for (a, b) in lines {
-        segments.push(segment(*a, *b)?)?;
-    }
-    Ok(segments)
-}
 
 fn numbers(alloc: Global, points: &[RatPoint]) -> Result<Vec<Numbers>, Fail> {
     let mut numbers = Vec::new(alloc);

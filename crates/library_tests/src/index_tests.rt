@@ -1,7 +1,8 @@
-//! Envelopes and what an index finds, with values worked out by hand.
+//! Envelopes and what an index finds: values worked out by hand, and drawn envelopes, of which all indexes find the same.
 
+use crate::draws::Draws;
 use crate::shapes::{Place, position};
-use rtree::{Envelope, EnvelopeIndex, ListIndex, RTree, meets};
+use rtree::{CurveTree, Envelope, EnvelopeIndex, ListIndex, RTree, meets};
 use std::alloc::{AllocError, Global};
 use std::process::Abort;
 use std::test::Fail;
@@ -59,14 +60,65 @@ fn finds<I: EnvelopeIndex + Drop>(rt: &(impl Abort + AllocGlobal)) -> Result<(),
     Ok(())
 }
 
+// A search finds the only envelope, all absent ones, and each of many equal ones, by a corner in common too.
+fn finds_alike<I: EnvelopeIndex + Drop>(rt: &(impl Abort + AllocGlobal)) -> Result<(), Fail> {
+    let square = framed((0, 0), (4, 4))?;
+    let corner = framed((4, 4), (5, 5))?;
+    let apart = framed((5, 5), (6, 6))?;
+    let one = [square];
+    let of_corner = found::<I>(rt.alloc(), &one, corner)?;
+    let of_apart = found::<I>(rt.alloc(), &one, apart)?;
+    assert!(rt; of_corner.as_slice() == [0].as_slice() && of_apart.is_empty());
+    let absent = [None, None];
+    let of_none = found::<I>(rt.alloc(), &absent, None)?;
+    let of_square = found::<I>(rt.alloc(), &absent, square)?;
+    assert!(rt; of_none.as_slice() == [0, 1].as_slice() && of_square.is_empty());
+    let mut equal = Vec::new(rt.alloc());
+    for _ in 0..10u8 {
+        equal.push(square)?;
+    }
+    let of_equal = found::<I>(rt.alloc(), equal.as_slice(), corner)?;
+    assert!(rt; of_equal.as_slice() == [0, 1, 2, 3, 4, 5, 6, 7, 8, 9].as_slice());
+    Ok(())
+}
+
+// Of 100 positions on a line, in nodes of three heights, a search finds those that it meets, and the absent one after them.
+fn finds_on_a_line<I: EnvelopeIndex + Drop>(rt: &(impl Abort + AllocGlobal)) -> Result<(), Fail> {
+    let envelopes = on_a_line(rt.alloc())?;
+    for (asked, wanted) in &[
+        (framed((0, 0), (4, 4))?, [96, 97, 98, 99].as_slice()),
+        (framed((8, 1), (9, 1))?, [91, 92].as_slice()),
+        (framed((100, 1), (200, 1))?, [0].as_slice()),
+        (framed((0, 2), (100, 9))?, [].as_slice()),
+        (None, [100].as_slice()),
+    ] {
+        let places = found::<I>(rt.alloc(), envelopes.as_slice(), *asked)?;
+        assert!(rt; places.as_slice() == *wanted);
+    }
+    let all = found::<I>(rt.alloc(), envelopes.as_slice(), framed((1, 0), (100, 1))?)?;
+    assert!(rt; all.len() == 100 && all.as_slice().is_sorted());
+    Ok(())
+}
+
 #[test]
 fn the_list_finds(rt: HostRuntime) -> Result<(), Fail> {
-    finds::<ListIndex>(&rt)
+    finds::<ListIndex>(&rt)?;
+    finds_alike::<ListIndex>(&rt)?;
+    finds_on_a_line::<ListIndex>(&rt)
 }
 
 #[test]
 fn the_tree_finds(rt: HostRuntime) -> Result<(), Fail> {
-    finds::<RTree>(&rt)
+    finds::<RTree>(&rt)?;
+    finds_alike::<RTree>(&rt)?;
+    finds_on_a_line::<RTree>(&rt)
+}
+
+#[test]
+fn the_tree_along_the_curve_finds(rt: HostRuntime) -> Result<(), Fail> {
+    finds::<CurveTree>(&rt)?;
+    finds_alike::<CurveTree>(&rt)?;
+    finds_on_a_line::<CurveTree>(&rt)
 }
 
 // The envelopes of 100 positions on a line, the last one first, and an absent one after them.
@@ -96,5 +148,87 @@ fn opened_nodes(rt: HostRuntime) -> Result<(), Fail> {
     let mut places = Vec::new(rt.alloc());
     tree.search(framed((0, 0), (4, 4))?, &mut places)?;
     assert!(rt; places.as_slice() == [96, 97, 98, 99].as_slice());
+    Ok(())
+}
+
+// The bounds of what is drawn: of coordinates, and of what an envelope has across and up.
+struct Extent {
+    right: u64,
+    top: u64,
+    width: u64,
+    height: u64,
+}
+
+// Squares all over, small ones in a band from south to north, and long lines from west to east.
+const EXTENTS: &[Extent] = &[
+    Extent {
+        right: 500,
+        top: 500,
+        width: 30,
+        height: 30,
+    },
+    Extent {
+        right: 20,
+        top: 9000,
+        width: 40,
+        height: 40,
+    },
+    Extent {
+        right: 9000,
+        top: 9000,
+        width: 9000,
+        height: 1,
+    },
+];
+
+// A drawn number below a bound, which is past 10000 nowhere.
+fn drawn_number(draws: &mut Draws, bound: u64) -> Result<i32, Fail> {
+    let number = draws.below(bound.clamp(1, 10_000));
+    Ok(i32::try_from(number)?)
+}
+
+// A drawn envelope; one in eight is absent.
+fn drawn_envelope(draws: &mut Draws, extent: &Extent) -> Result<Option<Envelope>, Fail> {
+    if draws.below(8) == 0 {
+        return Ok(None);
+    }
+    let left = drawn_number(draws, extent.right)?;
+    let low = drawn_number(draws, extent.top)?;
+    let width = drawn_number(draws, extent.width)?;
+    let height = drawn_number(draws, extent.height)?;
+    framed(
+        (left, low),
+        (left.saturating_add(width), low.saturating_add(height)),
+    )
+}
+
+// Drawn envelopes.
+fn drawn_envelopes(
+    alloc: Global,
+    draws: &mut Draws,
+    extent: &Extent,
+    count: u16,
+) -> Result<Vec<Option<Envelope>>, Fail> {
+    let mut envelopes = Vec::new(alloc);
+    for _ in 0..count {
+        envelopes.push(drawn_envelope(draws, extent)?)?;
+    }
+    Ok(envelopes)
+}
+
+/// Of 300 drawn envelopes all indexes find the same, asked for 100 others.
+#[test]
+fn indexes_find_the_same(rt: HostRuntime) -> Result<(), Fail> {
+    let mut draws = Draws::from_seed(1);
+    for extent in EXTENTS {
+        let envelopes = drawn_envelopes(rt.alloc(), &mut draws, extent, 300)?;
+        for _ in 0..100 {
+            let asked = drawn_envelope(&mut draws, extent)?;
+            let wanted = found::<ListIndex>(rt.alloc(), envelopes.as_slice(), asked)?;
+            let by_centres = found::<RTree>(rt.alloc(), envelopes.as_slice(), asked)?;
+            let by_curve = found::<CurveTree>(rt.alloc(), envelopes.as_slice(), asked)?;
+            assert!(rt; by_centres == wanted && by_curve == wanted);
+        }
+    }
     Ok(())
 }

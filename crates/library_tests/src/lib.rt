@@ -9,6 +9,8 @@ mod box_tests;
 #[cfg(test)]
 mod device_tests;
 #[cfg(test)]
+mod draws;
+#[cfg(test)]
 mod edge_tests;
 #[cfg(test)]
 mod envelope_tests;
@@ -26,6 +28,8 @@ mod loading_tests;
 mod location_tests;
 #[cfg(test)]
 mod matrix_tests;
+#[cfg(test)]
+mod merging_tests;
 #[cfg(test)]
 mod noding_tests;
 #[cfg(test)]

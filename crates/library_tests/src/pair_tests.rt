@@ -1,33 +1,12 @@
 //! Matrices of drawn pairs of geometries: found by their edges they are those that their labels show.
 
-ghost use Rattle.std.specs.Prelude.{◌<◌};
-
+use crate::draws::Draws;
 use de9im::{Work, matrix_of_labels, relate};
 use side_labels::labels;
 use std::alloc::{AllocError, Global};
 use std::test::Fail;
 use validity::{Valid, check};
 use wkt::read;
-
-// Numbers drawn one after another, by a linear congruential generator.
-#[derive(Drop)]
-struct Draws {
-    state: u64,
-}
-
-impl Draws {
-    // A number below the bound.
-    fn below(&mut self, bound: u64) -> u64
-        requires { 0 < bound }
-        ensures { result < bound }
-    {
-        self.state = self
-            .state
-            .wrapping_mul(6_364_136_223_846_793_005)
-            .wrapping_add(1_442_695_040_888_963_407);
-        (self.state >> 33) % bound
-    }
-}
 
 // The side of the square of the grid in which positions are drawn.
 const SIDE: u64 = 5;
@@ -153,7 +132,7 @@ fn by_labels(alloc: Global, first: &Valid, second: &Valid) -> Result<[u8; 9], Fa
 
 // Whether the matrix of two geometries that are drawn from a seed is that which their labels show.
 fn agree(alloc: Global, seed: u64) -> Result<bool, Fail> {
-    let mut draws = Draws { state: seed };
+    let mut draws = Draws::from_seed(seed);
     let first = drawn(&mut draws, alloc)?;
     let second = drawn(&mut draws, alloc)?;
     let matrix = relate(alloc, &first, &second, &mut Work::new())?;

@@ -20,6 +20,18 @@ pub(crate) fn segment(a: Place, b: Place) -> Result<Segment, Fail> {
     Ok(Segment::new(position(a)?, position(b)?).ok_or("equal ends")?)
 }
 
+/// Both ends of a segment.
+pub(crate) type Line = (Place, Place);
+
+/// The segments between the ends of these.
+pub(crate) fn segments(alloc: Global, lines: &[Line]) -> Result<Vec<Segment>, Fail> {
+    let mut segments = Vec::new(alloc);
+    for (a, b) in lines {
+        segments.push(segment(*a, *b)?)?;
+    }
+    Ok(segments)
+}
+
 /// Both numerators and the denominator of a point.
 pub(crate) type Numbers = (i128, i128, i64);
 

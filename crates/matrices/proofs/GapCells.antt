@@ -19,7 +19,7 @@ use Rattle.matrix_laws.specs.Cells.{Shows, raised, IsPartOf}
 use Rattle.matrix_laws.proofs.Growing.{still_shown}
 use Rattle.cover_laws.specs.Covering.{IsOffEdges, ShowsOff, ShowsOn, ShowsAt, ShowsGap}
 use Rattle.side_labels.specs.declared.piece_sides.Sides.{Sides}
-use Rattle.matrices.specs.Raising.{IsRaisedTo, Grows, ShowsOffAt, ShowsGapOff, with_sides}
+use Rattle.matrices.specs.Raising.{IsRaisedTo, Grows, ShowsAllAlong, ShowsOffAt, ShowsGapOff, with_sides}
 use Rattle.matrices.proofs.Growth.{part_of_itself, raised_one, raised_two, raised_so, shown_kept, grows_raised}
 use Rattle.cover_laws.proofs.CoveringTheorems.{gap_is_there}
 
@@ -178,3 +178,13 @@ gaps_off_more a b e stops j i p q y m n ei l ep eq gaps ey r all = All-same (λ 
 pub gap_off_grows : (a b : Geometry) (e : Edge) (p q y : Point) (m n : Matrix) → Contains (edges a) e → HasLength e → IsGap e (edges b) p q → y ≡ least_form (mediant p q) → IsRaisedTo (λ o. ShowsOffAt a b o e y) m n → Grows a b m n
 gap_off_grows a b e p q y m n own long gap ey r = grows_raised a b (λ o. ShowsOffAt a b o e y) m n r
     (λ va vb. (gap_is_there a b va vb e own long p q y gap (subst (IsBetween e p q) (sym ey) (gap_has_mediant e (edges b) p q gap))).off)
+
+-- ---- where nothing more can be shown of an edge, each of its gaps is shown
+pub gaps_full : (a b : Geometry) (e : Edge) (stops : List Point) (m : Matrix) → ShowsAllAlong a b m e → All (λ c. IsGap e (edges b) c.lesser c.greater) (stretches stops) → All (λ c. ShowsGap a b m e c.lesser c.greater) (stretches stops)
+gaps_full a b e stops m h all = All-weaker (λ c. IsGap e (edges b) c.lesser c.greater) (λ c. ShowsGap a b m e c.lesser c.greater) shown (stretches stops) all
+  where
+    by : (p q : Point) → IsBetween e p q (least_form (mediant p q)) → ShowsGap a b m e p q
+    by p q i = record { sample = least_form (mediant p q); between = i; shows = h (least_form (mediant p q)) i.is_point i.is_on }
+
+    shown : (c : Piece) → IsGap e (edges b) c.lesser c.greater → ShowsGap a b m e c.lesser c.greater
+    shown c g = by c.lesser c.greater (gap_has_mediant e (edges b) c.lesser c.greater g)

@@ -7,3 +7,4 @@ pub mod Passes
 pub mod OffEdges
 pub mod ListedPositions
 pub mod Rest
+pub mod Apart

@@ -1,49 +1,24 @@
 -- What is left to show of the first geometry's edges where the matrix covers the second's: what lies off these.
 use Rattle.std.proofs.Common.{◌≡◌, ◌≢◌, ◌⊎◌, inl, inr, true, sym, subst, All, Contains}
 use Rattle.geometry_model.specs.Points.{Point, IsPoint}
-use Rattle.geometry_model.specs.Geometries.{Edge, Geometry, kind, edges}
+use Rattle.geometry_model.specs.Geometries.{Edge, Geometry, edges}
 use Rattle.geometry_model.specs.Sides.{on}
 use Rattle.geometry_model.specs.Pieces.{stretches}
 use Rattle.geometry_model.specs.Dimensions.{Matrix}
 use Rattle.geometry_model.specs.Validity.{IsValid}
-use Rattle.geometry_model.specs.declared.shapes.Kind.TheVariants as kinds
-use Rattle.geometry_model.specs.declared.point_sets.Location.TheVariants.{Interior, Exterior}
 use Rattle.geometry_laws.proofs.Each.{Passing, each_at}
 use Rattle.geometry_laws.proofs.RingParity.{each_from_all}
-use Rattle.geometry_laws.proofs.Cuts.{contains_of_among, one_line}
 use Rattle.matrix_laws.proofs.Closing.{valid_rings_are_closed}
 use Rattle.matrix_laws.proofs.Lists.{Some_of, some_from_any}
-use Rattle.matrix_laws.specs.Cells.{ShowsPoint, IsNoCut, Covers}
+use Rattle.matrix_laws.specs.Cells.{ShowsPoint, Covers}
 use Rattle.cover_laws.specs.Gaps.{EdgeGaps, AreGaps, IsGap, IsWithin, mostly}
-use Rattle.cover_laws.proofs.GapTheorems.{gap_end_is_alike, off_edges_is_no_boundary}
+use Rattle.cover_laws.proofs.GapTheorems.{gap_end_is_alike}
 use Rattle.cover_laws.specs.Covering.{IsOffEdges, ShowsOff, ShowsEnds}
 use Rattle.cover_laws.specs.CoveringLaws.{IsFullOff}
-use Rattle.cover_laws.proofs.Stretching.{SharesFurther, shares_further, spread, not_upright_either}
-use Rattle.cover_laws.proofs.Located.{all_at, on_or_off, off_is_shown, Overlaps, overlaps}
+use Rattle.cover_laws.proofs.Located.{on_or_off, off_is_shown}
+use Rattle.cover_laws.proofs.FullCovering.{full_off_at}
+use Rattle.cover_laws.proofs.HeldCovering.{shown_by_covered}
 use Rattle.matrices.specs.Raising.{ShowsGapOff}
-
--- ---- a point that an edge of the second geometry holds
--- edges of both that hold a point that is no cut are on one line: neither is vertical, or both are
-slanted_too : (a b : Geometry) (e f : Edge) → Contains (edges a) e → Contains (edges b) f → e.start ≢ e.end → (x : Point) → IsPoint x → on e x ≡ true → on f x ≡ true → IsNoCut a b x → e.start.x ≢ e.end.x → f.start.x ≢ f.end.x
-slanted_too a b e f c d w x hx k l u n = go (overlaps a b e f c d x hx k l u)
-  where
-    further : SharesFurther e f x → f.start.x ≢ f.end.x
-    further s = not_upright_either e f x s.point n (record { lesser = hx; greater = s.is_point; lesser_on = k; greater_on = s.on_first; in_order = s.further }) l s.on_second
-
-    go : Overlaps e f x → f.start.x ≢ f.end.x
-    go o = further (shares_further e f w (one_line e f o.one_line) x hx (spread e x hx k o.no_end) (spread f x hx l o.no_other_end))
-
-shown_by_other : (a b : Geometry) (m : Matrix) (e f : Edge) → Contains (edges a) e → Contains (edges b) f → e.start ≢ e.end → (x : Point) → IsPoint x → on e x ≡ true → on f x ≡ true → ShowsPoint a b m f x → ShowsPoint a b m e x
-shown_by_other a b m e f c d w x hx k l s = record {
-  point = s.point;
-  piece = s.piece;
-  lower = λ u n. s.lower u (slanted_too a b e f c d w x hx k l u n);
-  upper = λ u n. s.upper u (slanted_too a b e f c d w x hx k l u n);
-}
-
-shown_by_covered : (a b : Geometry) (m : Matrix) → All (Covers a b m) (edges b) → (e : Edge) → Contains (edges a) e → e.start ≢ e.end → (x : Point) → IsPoint x → on e x ≡ true → Passing (λ f. on f x) (edges b) → ShowsPoint a b m e x
-shown_by_covered a b m covered e c w x hx k p = let d : Contains (edges b) p.found = contains_of_among p.found (edges b) p.among in
-    shown_by_other a b m e p.found c d w x hx k p.passes (all_at (Covers a b m) (edges b) p.found covered d x hx p.passes)
 
 -- ---- a point off the second geometry's edges lies as the sample of the gap that holds it
 record Held (a b : Geometry) (m : Matrix) (e : Edge) (x : Point) : Type 0 where
@@ -81,13 +56,6 @@ gaps_off_cover a b vb e c w g r m t covered s x hx k = go (on_or_off b x)
     go (inr o) = off_shown a b vb m t e c x hx k (held a b e g r m s x hx k) o
 
 -- and where it shows all that gaps off them can show
-full_off_at : (a b : Geometry) (m : Matrix) → IsFullOff a b m → (e : Edge) (x : Point) → IsOffEdges b x → ShowsOff a m e (mostly b x)
-full_off_at a b m h e x o = go (off_edges_is_no_boundary b x o)
-  where
-    go : (mostly b x ≡ Exterior) ⊎ ((kind b ≡ kinds.Area) × (mostly b x ≡ Interior)) → ShowsOff a m e (mostly b x)
-    go (inl q) = subst (ShowsOff a m e) (sym q) (h.in_exterior e)
-    go (inr q) = subst (ShowsOff a m e) (sym q.1) (h.in_interior q.0 e)
-
 pub full_off_is_enough : (a b : Geometry) → (e : Edge) → Contains (edges a) e → e.start ≢ e.end → (m : Matrix) → ShowsEnds a b m → All (Covers a b m) (edges b) → IsFullOff a b m → Covers a b m e
 full_off_is_enough a b e c w m t covered h x hx k = go (on_or_off b x)
   where

@@ -14,7 +14,7 @@ use Rattle.geometry_model.specs.declared.point_sets.Dimension.TheVariants.{Zero,
 use Rattle.side_labels.specs.declared.piece_sides.Sides.{Sides}
 use Rattle.cover_laws.specs.Gaps.{IsBetween, mostly}
 use Rattle.matrix_laws.specs.Cells.{Shows, raised, IsPartOf, IsSound, CoversPosition}
-use Rattle.cover_laws.specs.Covering.{IsOffEdges, ShowsOff}
+use Rattle.cover_laws.specs.Covering.{IsOffEdges, ShowsOff, ShowsAt}
 
 -- the matrix has grown just far enough to show this: every matrix that it was part of and that shows this, it is still part of
 pub record IsRaisedTo (Shown : Matrix → Type 0) (m n : Matrix) : Type 0 where
@@ -47,6 +47,10 @@ ShowsRow l k m = (b : Geometry) → kind b ≡ k → (p : Point) → Shows m l (
 -- the matrix shows all that gaps of the edges of a geometry of this kind can show in this part of another, off the other's edges
 abbrev pub ShowsAllOff : Kind → Location → Matrix → Type 0
 ShowsAllOff k l m = (a : Geometry) → kind a ≡ k → (e : Edge) → ShowsOff a m e l
+
+-- the matrix shows each gap of the edge, whichever point of the edge is within it
+abbrev pub ShowsAllAlong : Geometry → Geometry → Matrix → Edge → Type 0
+ShowsAllAlong a b m e = (y : Point) → IsPoint y → on e y ≡ true → ShowsAt a b m e y
 
 -- the point is on edges of both geometries
 pub record IsOnBoth (a b : Geometry) (p : Point) : Type 0 where

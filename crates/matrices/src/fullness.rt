@@ -1,12 +1,13 @@
 //! Tests whether a matrix shows all that the edges of its first geometry can show, so that the search can stop.
 
-ghost use Rattle.std.specs.Prelude.{◌≡◌, true};
-ghost use Rattle.cover_laws.specs.CoveringLaws.{IsFullOff, IsFullOn};
+ghost use Rattle.std.specs.Prelude.{◌≡◌, ◌↔◌, true, IsTrue};
+ghost use Rattle.cover_laws.specs.CoveringLaws.{IsFullOff, IsFullOn, IsFullAlong};
 ghost use Rattle.cover_laws.specs.Gaps.{of_own_edges};
 ghost use Rattle.matrices.specs.Raising.{ShowsAllOff};
 
 use geometry_model::{Dimension, Kind, Location};
 use matrix_cells::MatrixCells;
+use orient::Segment;
 use validity::Valid;
 
 /// Where almost all points of its own edges lie in a geometry of this kind: in the interior of lines, on the boundary of an
@@ -19,6 +20,13 @@ pub(crate) fn of_own_edges(kind: Kind) -> Location
         Kind::Line => Location::Interior,
         Kind::Area => Location::Boundary,
     }
+}
+
+/// Whether both ends of an edge have the same x.
+pub(crate) fn is_upright(edge: &Segment) -> bool
+    ensures { IsTrue result ↔ (edge.now.start.x ≡ edge.now.end.x) }
+{
+    edge.start().x() == edge.end().x()
 }
 
 /// Whether the matrix shows all that edges of a geometry of the first kind can show in this part of the other, off the other's
@@ -56,4 +64,21 @@ pub(crate) fn is_full_on(first: &Valid, second: &Valid, matrix: &MatrixCells) ->
         && (!is_first_area
             || !is_second_area
             || matrix.shows(Location::Interior, Location::Interior, Dimension::Two))
+}
+
+/// The same of the gaps of one edge: an upright one has no sides to show.
+pub(crate) fn is_full_along(
+    first: &Valid,
+    second: &Valid,
+    edge: &Segment,
+    matrix: &MatrixCells,
+) -> bool
+    ensures { result ≡ true → IsFullAlong first.now second.now matrix.now edge.now }
+{
+    let shows_gap = matrix.shows(
+        of_own_edges(first.kind()),
+        of_own_edges(second.kind()),
+        Dimension::One,
+    );
+    shows_gap && (is_upright(edge) || is_full_on(first, second, matrix))
 }

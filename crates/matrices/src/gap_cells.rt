@@ -1,16 +1,16 @@
 //! Raises the cells of a matrix by the gaps of an edge.
 
-ghost use Rattle.std.specs.Prelude.{◌≡◌, ◌↔◌, IsTrue, All, Contains, pos, ◌≤ℤ◌};
+ghost use Rattle.std.specs.Prelude.{◌≡◌, true, All, Contains, pos, ◌≤ℤ◌};
 ghost use Rattle.geometry_model.specs.Geometries.{edges};
 ghost use Rattle.geometry_model.specs.Pieces.{stretches};
 ghost use Rattle.edge_boxes.specs.EdgeCrossings.{AreCrossings};
 ghost use Rattle.cover_laws.specs.Gaps.{IsGap};
-ghost use Rattle.cover_laws.specs.Covering.{ShowsOff, ShowsAt, ShowsGap};
+ghost use Rattle.cover_laws.specs.Covering.{IsHeld, ShowsOff, ShowsAt, ShowsGap};
 ghost use Rattle.validity.specs.ValidGeometries.{HasLength};
 ghost use Rattle.fraction.specs.Ranges.{meeting_limit};
-ghost use Rattle.matrices.specs.Raising.{Grows, IsRaisedTo, ShowsOffAt, ShowsGapOff, with_sides, off_edges};
+ghost use Rattle.matrices.specs.Raising.{Grows, IsRaisedTo, ShowsAllAlong, ShowsOffAt, ShowsGapOff, with_sides, off_edges};
 
-use crate::fullness::of_own_edges;
+use crate::fullness::{is_full_along, is_full_off, is_upright, of_own_edges};
 use edge_boxes::Crossings;
 use fraction::RatPoint;
 use geometry_model::{Dimension, Kind, Location};
@@ -18,13 +18,6 @@ use matrix_cells::MatrixCells;
 use orient::Segment;
 use side_labels::{Sides, sides_at, sides_by};
 use validity::Valid;
-
-/// Whether both ends of an edge have the same x.
-fn is_upright(edge: &Segment) -> bool
-    ensures { IsTrue result ↔ (edge.now.start.x ≡ edge.now.end.x) }
-{
-    edge.start().x() == edge.end().x()
-}
 
 /// How a point lies relative to the edges of a geometry.
 fn crossings(valid: &Valid, p: &RatPoint) -> Crossings
@@ -52,7 +45,7 @@ fn off_edges(kind: Kind, is_odd_above: bool) -> Location
 /// Raises cells by a gap of an edge of the first geometry that lies in this part of the second one, off its edges: by the gap
 /// itself and, if it isn't vertical, by its sides. One side is exterior to the first geometry, and at an area's edge the other is
 /// interior (OGC 06-103r4, 6.1.15.2).
-fn raise_off(first: &Valid, edge: &Segment, part: Location, matrix: &mut MatrixCells)
+pub(crate) fn raise_off(first: &Valid, edge: &Segment, part: Location, matrix: &mut MatrixCells)
     ensures { IsRaisedTo (λ m. ShowsOff first.now m edge.now part) matrix.old matrix.new }
 {
     matrix.raise(of_own_edges(first.kind()), part, Dimension::One);
@@ -121,23 +114,43 @@ fn raise_off_at(
     );
 }
 
-/// Raises cells by the gaps between neighbouring stops of an edge of the first geometry.
+/// Whether no gap of an edge of the first geometry can raise a cell any more.
+fn is_done(
+    first: &Valid,
+    second: &Valid,
+    edge: &Segment,
+    is_held: bool,
+    matrix: &MatrixCells,
+) -> bool
+    requires { is_held ≡ true → IsHeld (edges second.now) edge.now }
+    ensures { result ≡ true → ShowsAllAlong first.now second.now matrix.now edge.now }
+{
+    is_full_along(first, second, edge, matrix) && (is_held || is_full_off(first, second, matrix))
+}
+
+/// Raises cells by the gaps between neighbouring stops of an edge of the first geometry, until no further one can raise a cell. An
+/// edge that is held has all its points on edges of the second geometry.
 pub(crate) fn raise_gaps(
     first: &Valid,
     second: &Valid,
     edge: &Segment,
     stops: &[RatPoint],
+    is_held: bool,
     matrix: &mut MatrixCells,
 )
     requires own { Contains (edges first.now) edge.now }
     requires length { HasLength edge.now }
     requires gaps { All (λ c. IsGap edge.now (edges second.now) c.lesser c.greater) (stretches stops.now) }
     requires limits { All (λ p. p.W ≤ℤ pos meeting_limit) stops.now }
+    requires held { is_held ≡ true → IsHeld (edges second.now) edge.now }
     ensures grows { Grows first.now second.now matrix.old matrix.new }
     ensures shows { All (λ c. ShowsGap first.now second.now matrix.new edge.now c.lesser c.greater)
         (stretches stops.now) }
 {
     for place in 1..stops.len() {
+        if is_done(first, second, edge, is_held, matrix) {
+            return;
+        }
         let sample = RatPoint::mediant(&stops[place - 1], &stops[place]);
         raise_at(first, second, edge, &sample, matrix);
     }

@@ -21,8 +21,8 @@ pub fn find_matrix(alloc: Global, first: &Valid, second: &Valid) -> Result<Matri
     let mut turned = matrix.transposed();
     raise_own_ends(second, first, &mut turned);
     let mut gaps = Gaps::new(alloc);
-    raise_edges(second, first, &mut gaps, &mut turned)?;
+    raise_edges(alloc, second, first, &mut gaps, &mut turned)?;
     matrix = turned.transposed();
-    raise_edges_off(first, second, &mut gaps, &mut matrix)?;
+    raise_edges_off(alloc, first, second, &mut gaps, &mut matrix)?;
     Ok(matrix)
 }

@@ -1,17 +1,16 @@
-//! Tests of rings that look only at edges near one another: edges that share a point have bounds that meet.
+//! Tests of rings that look only at edges near one another: a search of the boxes gives those that share a point with one.
 
-ghost use Rattle.std.specs.Prelude.{◌≡◌, ◌+◌, ◌<◌, length, slice_get, Some, IfOk};
+ghost use Rattle.std.specs.Prelude.{◌≡◌, ◌+◌, ◌<◌, [], length, slice_get, Some, IfOk, OnErr};
 ghost use Rattle.std.specs.List.{list_any};
 ghost use Rattle.geometry_model.specs.FirstFaults as spec;
 ghost use Rattle.ring_tests.specs.EdgeRuns.{edges_share, edges_clash, clashes_after, is_odd_above};
-ghost use Rattle.ring_tests.specs.RunLaws.{box_of};
 ghost use Rattle.edge_boxes.specs.BoxLists.{BoxesOf};
-ghost use Rattle.edge_boxes.specs.Meetings.{places_meeting};
+ghost use Rattle.edge_boxes.specs.Sharings.{places_sharing};
 
-use edge_boxes::{Bounds, EdgeBoxes};
+use edge_boxes::EdgeBoxes;
 use fraction::{GridPoint, RatPoint};
 use orient::Segment;
-use ring_tests::{clash, share_point};
+use ring_tests::clash;
 use std::alloc::{AllocError, Global};
 
 /// Lends the edge at a place.
@@ -22,11 +21,12 @@ fn edge_at(edges: &[Segment], place: usize) -> &Segment
     &edges[place]
 }
 
-/// Whether the i-th of the edges of a ring clashes with one of the later ones near it.
-fn clashes_with(edges: &[Segment], i: usize, e: &Segment, near: &[usize]) -> bool
+/// Whether the i-th of the edges of a ring clashes with one of the edges from a later place on that share a point with it.
+fn clashes_with(edges: &[Segment], i: usize, e: &Segment, from: usize, near: &[usize]) -> bool
     requires within { i < length edges.now }
-    requires near { near.now ≡ places_meeting (box_of e.now) (i + 1) edges.now }
-    ensures { result ≡ clashes_after edges.now i e.now (i + 1) }
+    requires later { i < from }
+    requires near { near.now ≡ places_sharing e.now from edges.now }
+    ensures { result ≡ clashes_after edges.now i e.now from }
 {
     for j in near {
         if clash(edges.len(), i, e, *j, edge_at(edges, *j)) {
@@ -36,7 +36,7 @@ fn clashes_with(edges: &[Segment], i: usize, e: &Segment, near: &[usize]) -> boo
     false
 }
 
-/// Whether the i-th of the edges of a ring clashes with a later one.
+/// Whether the i-th of the edges of a ring clashes with a later one. The next one shares a point with it, so it isn't searched.
 fn clashes_later(
     edges: &[Segment],
     boxes: &EdgeBoxes,
@@ -48,8 +48,15 @@ fn clashes_later(
     requires boxes { BoxesOf boxes.now edges.now }
     ensures { IfOk result (λ clashes. clashes ≡ clashes_after edges.now i e.now (i + 1)) }
 {
-    boxes.meeting(edges, &Bounds::of(e), i + 1, near)?;
-    Ok(clashes_with(edges, i, e, near.as_slice()))
+    let next = i + 1;
+    if next == edges.len() {
+        return Ok(false);
+    }
+    if clash(edges.len(), i, e, next, edge_at(edges, next)) {
+        return Ok(true);
+    }
+    boxes.sharing(edges, e, next + 1, near)?;
+    Ok(clashes_with(edges, i, e, next + 1, near.as_slice()))
 }
 
 /// Whether two of the edges of a ring clash.
@@ -79,19 +86,6 @@ pub fn is_not_simple(alloc: Global, edges: &[Segment]) -> Result<bool, AllocErro
     clash_at_all(edges, &boxes, &mut near)
 }
 
-/// Whether one of the edges, of which these are near another, shares a point with it.
-fn shares_with(edges: &[Segment], f: &Segment, near: &[usize]) -> bool
-    requires { near.now ≡ places_meeting (box_of f.now) 0 edges.now }
-    ensures { result ≡ list_any (λ e. spec.share_point e f.now) edges.now }
-{
-    for i in near {
-        if share_point(edge_at(edges, *i), f) {
-            return true;
-        }
-    }
-    false
-}
-
 /// Whether one of the edges shares a point with another.
 fn shares_any(
     edges: &[Segment],
@@ -100,14 +94,15 @@ fn shares_any(
     near: &mut Vec<usize>,
 ) -> Result<bool, AllocError>
     requires { BoxesOf boxes.now edges.now }
-    ensures { IfOk result (λ shares. shares ≡ list_any (λ e. spec.share_point e f.now) edges.now) }
+    ensures shares { IfOk result (λ shares. shares ≡ list_any (λ e. spec.share_point e f.now) edges.now) }
+    ensures refused { OnErr result (near.new.items ≡ []) }
 {
-    boxes.meeting(edges, &Bounds::of(f), 0, near)?;
-    Ok(shares_with(edges, f, near.as_slice()))
+    boxes.sharing(edges, f, 0, near)?;
+    Ok(!near.is_empty())
 }
 
 /// Whether an edge of one list and one of the other share a point (06-103r4, 6.1.11.1 and 6.1.14). The boxes are those of the
-/// first list. It fails only when memory runs out.
+/// first list. It fails only when memory runs out, and then leaves the vector empty.
 pub fn share(
     edges: &[Segment],
     boxes: &EdgeBoxes,
@@ -115,7 +110,8 @@ pub fn share(
     near: &mut Vec<usize>,
 ) -> Result<bool, AllocError>
     requires { BoxesOf boxes.now edges.now }
-    ensures { IfOk result (λ share. share ≡ edges_share edges.now others.now) }
+    ensures exact { IfOk result (λ share. share ≡ edges_share edges.now others.now) }
+    ensures refused { OnErr result (near.new.items ≡ []) }
 {
     for f in others {
         if shares_any(edges, boxes, f, near)? {

@@ -10,7 +10,7 @@ use smallvec::SmallVec;
 use std::alloc::{AllocError, Global};
 use std::marker::Model;
 
-/// A break point. It has a default, which a small vector has in its places that aren't used yet.
+/// A break point. It has a default, which fills the places of a small vector that aren't used yet.
 #[derive(Clone, Copy, PartialEq, Eq, PartialOrd, Ord)]
 pub(crate) struct Break {
     point: RatPoint,

@@ -22,7 +22,8 @@ fn weighted_sum(a: i32, m: i64, b: i32, n: i64) -> i128
     i128::from(m) * i128::from(a) + i128::from(n) * i128::from(b)
 }
 
-/// The point between two positions that has these distances to them: the first weighs m and the second n.
+/// The point between two positions by their weights m and n: (m a + n b) / (m + n). Where one weight is 0, it is a position,
+/// and nothing is divided.
 pub(crate) fn point_between(a: GridPoint, m: i64, b: GridPoint, n: i64) -> RatPoint
     requires first_weight { pos 0 ≤ℤ m }
     requires second_weight { pos 0 ≤ℤ n }
@@ -34,6 +35,12 @@ pub(crate) fn point_between(a: GridPoint, m: i64, b: GridPoint, n: i64) -> RatPo
     ensures limit { result.W ≤ℤ pos meeting_limit }
     ensures least { IsLeast result }
 {
+    if n == 0 {
+        return RatPoint::of_grid(a);
+    }
+    if m == 0 {
+        return RatPoint::of_grid(b);
+    }
     RatPoint::reduced(
         weighted_sum(a.x(), m, b.x(), n),
         weighted_sum(a.y(), m, b.y(), n),

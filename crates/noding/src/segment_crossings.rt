@@ -36,8 +36,8 @@ fn at_if_on(segment: &Segment, p: RatPoint) -> Meet
     }
 }
 
-/// What a segment has in common with the one between two positions, whose sides of it differ; the numbers of these sides are
-/// given, the lesser one first.
+/// What a segment has in common with the one from `lower` to `upper`. `below` and `above` are the numbers of the sides of the
+/// first segment on which these two positions are.
 pub(crate) fn crossing(
     first: &Segment,
     lower: GridPoint,

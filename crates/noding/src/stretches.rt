@@ -12,8 +12,8 @@ use fraction::RatPoint;
 use orient::Segment;
 use std::cmp::Ordering;
 
-/// What two segments on one line have in common: what is past the greater of their lesser ends, and not past the lesser of
-/// their greater ends.
+/// What two segments on one line have in common: what is between the greater of their lesser ends and the lesser of their
+/// greater ends.
 pub(crate) fn common_stretch(first: &Segment, second: &Segment) -> Meet
     requires one_line { on_one_line first.now second.now ≡ true }
     ensures exact { IsMeeting first.now second.now result }

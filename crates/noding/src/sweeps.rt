@@ -26,7 +26,7 @@ pub(crate) fn sweep_order(alloc: Global, segments: &[Segment]) -> Result<Vec<Seg
     Ok(order)
 }
 
-/// The break points of each segment that it has by itself: its ends and the listed positions on it.
+/// The break points that each segment has by itself: its ends and the listed positions on it.
 pub(crate) fn all_own_breaks(
     alloc: Global,
     segments: &[Segment],

@@ -1,12 +1,12 @@
 -- The first fault that applies is among those of near numbers.
-use Rattle.std.proofs.Common.{◌≡◌, refl, sym, ap, ap₂, ◌∙◌, subst, ℕ, zero, suc, ◌+◌, ◌-◌, ◌<◌, ◌≤◌, ◌==◌, ◌⊎◌, inl, inr, not, Bool, true, false, ◌&&◌, ◌||◌, cond, nat_le, nat_lt, List, [], ◌∷◌, map, drop, length, get_or, Option, Some, None, slice_get, arith, All}
+use Rattle.std.proofs.Common.{◌≡◌, refl, sym, ap, ap₂, ◌∙◌, subst, ℕ, zero, suc, ◌+◌, ◌-◌, ◌<◌, ◌≤◌, ◌==◌, ◌⊎◌, inl, inr, not, Bool, true, false, ◌&&◌, ◌||◌, cond, int_le, nat_le, nat_lt, List, [], ◌∷◌, map, drop, length, get_or, Option, Some, None, slice_get, arith, All}
 use Rattle.std.specs.Prelude.{filter}
 use Rattle.std.specs.List.{find, enumerate_from}
 use Rattle.std.proofs.lemmas.List.{length-map}
 use Rattle.std.proofs.lemmas.Option.{get_or_from_slice_get, slice_get_within}
 use Rattle.geometry_model.specs.Points.{Position}
 use Rattle.geometry_model.specs.Geometries.{Geometry, lines, rings, elements, joined_rings}
-use Rattle.geometry_model.specs.Envelopes.{Envelope, envelope_of_positions, meets}
+use Rattle.geometry_model.specs.Envelopes.{Envelope, envelope_of_positions, meets, overlap}
 use Rattle.geometry_model.specs.Validity.{Element, numbered_elements, inside, inside_element}
 use Rattle.geometry_model.specs.FirstFaults.{has_fault, numbers, rings_share, elements_share, test_of_both}
 use Rattle.geometry_model.specs.declared.validity_faults.ValidityFault.{ValidityFault}
@@ -22,7 +22,6 @@ use Rattle.outlines.specs.Neighbours.{first_near, ring_envelopes, element_envelo
 use Rattle.outlines.specs.Outlines.{AreRings}
 use Rattle.outlines.proofs.Envelopes.{rings_are_lines, sharing_meet, inside_meet, sharing_rings_meet, inside_rings_meet}
 use Rattle.outlines.proofs.Finding.{none_left, found_here, passed_here}
-use Rattle.near_edges.proofs.Near.{turned}
 use Rattle.near_edges.proofs.Rests.{at_index, past_all}
 use Rattle.outlines.proofs.PartFacts.{mapped_at}
 use Rattle.outlines.proofs.RingNumbers.{rings_meet_at, holes_nested_at, elements_meet_at, lines_cover}
@@ -186,11 +185,21 @@ asked_envelope f (y ∷ ys) zero x h = let same : y ≡ x = cc in ap f same
 asked_envelope f (y ∷ ys) (suc i) x h = asked_envelope f ys i x h
 
 -- envelopes that meet meet the other way round
+overlap_turned : (a b : Envelope) → overlap a b ≡ true → overlap b a ≡ true
+overlap_turned a b h = go (int_le a.least_x b.greatest_x) (int_le b.least_x a.greatest_x) (int_le a.least_y b.greatest_y) (int_le b.least_y a.greatest_y) h
+  where
+    go : (p q r s : Bool) → p && q && r && s ≡ true → q && p && s && r ≡ true
+    go true true true true h = refl
+    go true true true false h = h
+    go true true false s h = absurd cc
+    go true false r s h = absurd cc
+    go false q r s h = absurd cc
+
 meets_turned : (o p : Option Envelope) → meets o p ≡ true → meets p o ≡ true
 meets_turned None None h = refl
 meets_turned None (Some f) h = absurd cc
 meets_turned (Some e) None h = absurd cc
-meets_turned (Some e) (Some f) h = turned e f h
+meets_turned (Some e) (Some f) h = overlap_turned e f h
 
 no_zero : (j : ℕ) → j - 0 ≡ j
 no_zero j = omega arith

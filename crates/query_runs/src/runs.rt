@@ -24,8 +24,7 @@ ghost use Rattle.table_model.specs.Work as spec;
 
 use answer_records::{header_record, row_record};
 use csv::ByteRecord;
-use de9im::Work;
-use executor::{RowPair, Rows};
+use executor::{RowPair, Rows, Work};
 use explain::{analyze, explain};
 use failures::Fault;
 use feature_table::{Database, Schema};

@@ -1,6 +1,6 @@
 //! What two edges have in common.
 
-ghost use Rattle.std.specs.Prelude.{◌≡◌, ◌&&◌, ◌||◌, pos, not};
+ghost use Rattle.std.specs.Prelude.{◌≡◌, ◌&&◌, ◌||◌, pos, not, int_lt};
 ghost use Rattle.geometry_model.specs.Points.{point_at};
 ghost use Rattle.geometry_model.specs.Sides.{on, between, side as spec_side};
 ghost use Rattle.geometry_model.specs.FirstFaults as spec;
@@ -61,18 +61,35 @@ fn cross(start: i64, end: i64, back_start: i64, back_end: i64) -> bool
     are_opposite(start, end) && are_opposite(back_start, back_end)
 }
 
-/// Whether two edges share a point (06-103r4, 6.1.15: intersection of point sets). An end of one is on the
-/// other, or they cross.
-pub fn share_point(e: &Segment, f: &Segment) -> bool
+/// Whether two numbers are both above 0 or both below 0.
+fn are_beside(a: i64, b: i64) -> bool
+    ensures { result ≡ ((int_lt (pos 0) a && int_lt (pos 0) b) || (int_lt a (pos 0) && int_lt b (pos 0))) }
+{
+    0 < a && 0 < b || a < 0 && b < 0
+}
+
+/// Whether two edges share a point, where the sides of the first are known on which the ends of the second lie. An end of one
+/// is on the other, or they cross.
+fn share_by_sides(e: &Segment, f: &Segment, start: i64, end: i64) -> bool
+    requires start { start ≡ spec_side e.now.start e.now.end (point_at f.now.start) }
+    requires end { end ≡ spec_side e.now.start e.now.end (point_at f.now.end) }
     ensures { result ≡ spec.share_point e.now f.now }
 {
-    let start = side_number(e, f.start());
-    let end = side_number(e, f.end());
     let back_start = side_number(f, e.start());
     let back_end = side_number(f, e.end());
     meets_end(e, f, start, end)
         || meets_end(f, e, back_start, back_end)
         || cross(start, end, back_start, back_end)
+}
+
+/// Whether two edges share a point (06-103r4, 6.1.15: intersection of point sets). They don't if both ends of the second lie
+/// beside the first, on one side of it.
+pub fn share_point(e: &Segment, f: &Segment) -> bool
+    ensures { result ≡ spec.share_point e.now f.now }
+{
+    let start = side_number(e, f.start());
+    let end = side_number(e, f.end());
+    !are_beside(start, end) && share_by_sides(e, f, start, end)
 }
 
 /// Whether a position other than the common one is on the edge.

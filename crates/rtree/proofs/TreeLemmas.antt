@@ -13,9 +13,9 @@ use Rattle.std.proofs.lemmas.Simd.{map-map}
 use mathlib.Core.Path.{fun_ext}
 use Rattle.geometry_model.specs.Envelopes.{Envelope, meets}
 use Rattle.rtree.specs.Packing.{Entry, around, eights, in_order, levels_of, levels_up, nodes_over, opened, present}
-use Rattle.rtree.specs.Trees.{AreLevels, IsPacked, KeepPacking, found_below, groups_at, level_at, places_found, singles}
+use Rattle.rtree.specs.Trees.{AreLevels, IsPacked, KeepPacking, entries_of, found_below, groups_at, level_at, places_found, singles}
 use Rattle.rtree.proofs.GroupLemmas.{length-eights}
-use Rattle.rtree.proofs.UnpackLemmas.{entries_are, lowest_is}
+use Rattle.rtree.proofs.UnpackLemmas.{lowest_is}
 
 -- ---- all groups of a level together are the entries
 
@@ -117,20 +117,19 @@ level_count entries levels h = sym (length-map levels (map Some)) ∙ ap length 
 -- a packed tree keeps at each height the envelopes of the groups of that height
 pub are_levels : (absent places : List ℕ) (levels : List (List Envelope)) (es : List (Option Envelope)) → IsPacked absent places levels es → AreLevels places levels
 are_levels absent places levels es p =
-    let entries = in_order (present es) in
+    let entries = entries_of places levels in
     let count = level_count entries levels p.packing in
     record {
       some = omega (arith, count);
-      paired = ap length (lowest_is entries levels p.packing) ∙ length-map entries (λ e. e.1) ∙ sym (length-map entries (λ e. e.0)) ∙ ap length (sym p.other_places);
-      keep = λ l within. kept levels (singles entries ∷ levels_of entries) p.packing l within ∙ ap (map around) (listed entries l (omega (arith, count, within)))
-          ∙ ap (λ e. map around (groups_at e l)) (sym (entries_are absent places levels es p));
+      paired = ap length (lowest_is entries levels p.packing) ∙ length-map entries (λ e. e.1) ∙ sym (length-map entries (λ e. e.0)) ∙ ap length (sym p.paired);
+      keep = λ l within. kept levels (singles entries ∷ levels_of entries) p.packing l within ∙ ap (map around) (listed entries l (omega (arith, count, within)));
     }
 
 -- all is found below the root
 pub found_all : (absent places : List ℕ) (levels : List (List Envelope)) (es : List (Option Envelope)) (asked : Envelope) → IsPacked absent places levels es
-    → found_below places levels 0 asked ≡ places_found asked (in_order (present es))
+    → found_below places levels 0 asked ≡ places_found asked (entries_of places levels)
 found_all absent places levels es asked p =
-    let entries = in_order (present es) in
+    let entries = entries_of places levels in
     let count = level_count entries levels p.packing in
     let size = length-eights entries in
     let top = up_top (length entries) (eights entries) (omega (arith, size)) in
@@ -138,8 +137,7 @@ found_all absent places levels es asked p =
     let root : get_or (levels_of entries) (length (levels_of entries) - 1) [] ≡ groups_at entries (length levels - 1) =
     ap (λ l. get_or (singles entries ∷ levels_of entries) l []) (sym last) ∙ listed entries (length levels - 1) (omega (arith, count)) in
     let few : length (groups_at entries (length levels - 1)) ≤ 8 = let same = ap length root in omega (arith, same, top.1) in
-    ap (λ e. places_found asked (flat_map (λ g. g) (take 8 (groups_at e (length levels - 1))))) (entries_are absent places levels es p)
-    ∙ ap (λ gs. places_found asked (flat_map (λ g. g) gs)) (take_all 8 (groups_at entries (length levels - 1)) few)
+    ap (λ gs. places_found asked (flat_map (λ g. g) gs)) (take_all 8 (groups_at entries (length levels - 1)) few)
     ∙ ap (places_found asked) (flat_level entries (length levels - 1))
 
 -- ---- the count of nodes
@@ -184,11 +182,12 @@ upper entries (level ∷ levels) h = cc
 
 -- counted up to the root, the nodes that meet are those that a search opens
 pub all_met : (absent places : List ℕ) (levels : List (List Envelope)) (es : List (Option Envelope)) (asked : Option Envelope) (height : ℕ) → IsPacked absent places levels es
-    → length levels ≤ height → met_up_to asked levels height ≡ opened es asked
-all_met absent places levels es asked height p end =
-    let entries = in_order (present es) in
+    → entries_of places levels ≡ in_order (present es) → length levels ≤ height → met_up_to asked levels height ≡ opened es asked
+all_met absent places levels es asked height p ordered end =
     let rest = length-drop 1 levels in
-    ap (sum_by (level_met asked)) (take_all (height - 1) (drop 1 levels) (omega (arith, rest))) ∙ met_in_levels asked (drop 1 levels) (levels_of entries) (upper entries levels p.packing)
+    ap (sum_by (level_met asked)) (take_all (height - 1) (drop 1 levels) (omega (arith, rest)))
+    ∙ met_in_levels asked (drop 1 levels) (levels_of (entries_of places levels)) (upper (entries_of places levels) levels p.packing)
+    ∙ ap (λ entries. count_by (λ node. meets (around node) asked) (flat_map (λ level. level) (levels_of entries))) ordered
 
 -- one level more
 pub met_more : (asked : Option Envelope) (levels : List (List Envelope)) (height : ℕ) → 1 ≤ height → height < length levels
@@ -222,11 +221,11 @@ up_size {X = X} (suc n) nodes = go (leb (length nodes) 1) refl (up_size n (nodes
 pub met_bound : (absent places : List ℕ) (levels : List (List Envelope)) (es : List (Option Envelope)) (asked : Option Envelope) (height : ℕ) → IsPacked absent places levels es
     → met_up_to asked levels height ≤ length places + 2
 met_bound absent places levels es asked height p =
-    let entries = in_order (present es) in
+    let entries = entries_of places levels in
     let part = sum_by-take-le (level_met asked) (drop 1 levels) (height - 1) in
     let whole = met_in_levels asked (drop 1 levels) (levels_of entries) (upper entries levels p.packing) in
     let counted = count_by-le-length (λ node. meets (around node) asked) (flat_map (λ level. level) (levels_of entries)) in
     let size = up_size (length entries) (eights entries) in
     let leaves = length-eights entries in
-    let same = ap length p.other_places ∙ length-map entries (λ e. e.0) in
+    let same = ap length p.paired ∙ length-map entries (λ e. e.0) in
     omega (arith, part, whole, counted, size, leaves, same)

@@ -1,17 +1,17 @@
 -- The list of envelopes that a tree was packed from can be read back from it, and a search finds what meets in this list.
 use Rattle.std.proofs.Common.{◌≡◌, ◌∙◌, ◌<◌, ◌+◌, ◌==◌, ℕ, zero, suc, Bool, true, false, cond, List, [], ◌∷◌, map, length, get_or, Option, Some, None, ap, refl, sym, subst, arith, IsPermutation}
-use borrow.Author.Tests.{eqb-true, eqb-false}
+use borrow.Author.Tests.{eqb-true}
 use Rattle.std.specs.Prelude.{IsSortedBy, filter, filter_map, slice_get, sum_by}
 use Rattle.std.specs.List.{AllByRecursion, enumerate_from, range_with_len, zip}
 use Rattle.std.specs.Ordering.{is_lt, nat_cmp}
 use Rattle.std.proofs.lemmas.List.{length-map}
 use Rattle.std.proofs.lemmas.List.Elements.{All-from_recursion, recursion_from_All}
 use Rattle.std.proofs.lemmas.List.FromFn.{fill_by_all}
-use Rattle.std.proofs.lemmas.List.Sorted.{All-permutation, sum_by-IsPermutation}
+use Rattle.std.proofs.lemmas.List.Sorted.{All-permutation, IsPermutation-sym, length_permutation, sum_by-IsPermutation}
 use Rattle.std.proofs.lemmas.List.Sums.{sum_by-cons}
 use Rattle.geometry_model.specs.Envelopes.{Envelope, overlap}
 use Rattle.rtree.specs.Found.{meeting_places, placed_meets}
-use Rattle.rtree.specs.Packing.{Entry, around, comes_before, entry_at, in_order, present, with_entry}
+use Rattle.rtree.specs.Packing.{Entry, around, comes_before, entry_at, in_order, present}
 use Rattle.rtree.specs.Trees.{IsPacked, KeepPacking, entries_of, envelope_at, level_at, places_found, singles, unpacked}
 use Rattle.rtree.proofs.OrderLemmas.{Ascends, all-in_order, ascends-in_order, ascends-sorted, entry_order, number_order, numbers_apart, only-order, same_place, sum-in_order}
 
@@ -111,38 +111,52 @@ all_numbers : (ns : List ℕ) → AllByRecursion (λ n. Unit {0}) ns
 all_numbers [] = tt
 all_numbers (n ∷ ns) = (tt, all_numbers ns)
 
--- the positions found among the entries in order, ascending, are those that meet
-pub found_is : (es : List (Option Envelope)) (asked : Envelope) (found : List ℕ) → IsPermutation (places_found asked (in_order (present es))) found
-    → IsSortedBy (λ (a b : ℕ). is_lt (nat_cmp a b)) found → found ≡ meeting_places es (Some asked)
-found_is es asked found moved up =
+-- the positions found among the entries in any order, once they ascend, are those that meet
+pub found_is : (es : List (Option Envelope)) (entries : List Entry) (asked : Envelope) (found : List ℕ) → IsPermutation (present es) entries
+    → IsPermutation (places_found asked entries) found → IsSortedBy (λ (a b : ℕ). is_lt (nat_cmp a b)) found → found ≡ meeting_places es (Some asked)
+found_is es entries asked found same moved up =
     only-order (λ (a b : ℕ). is_lt (nat_cmp a b)) number_order (λ n. Unit {0}) (λ a b p q h k. numbers_apart a b h k) found (meeting_places es (Some asked))
     (ascends-sorted (λ (a b : ℕ). is_lt (nat_cmp a b)) number_order found up) (ascends-found (placed_meets (Some asked)) 0 es) (all_numbers found) (all_numbers (meeting_places es (Some asked)))
-    (λ f. sum_by-IsPermutation f (places_found asked (in_order (present es))) found moved ∙ sum-found asked f (in_order (present es))
-    ∙ sum-in_order (λ e. cond (overlap e.1 asked) (f e.0) 0) (present es) ∙ sym (sum-found asked f (present es)) ∙ ap (sum_by f) (found-present asked (enumerate_from 0 es)))
+    (λ f. sum_by-IsPermutation f (places_found asked entries) found moved ∙ sum-found asked f entries
+    ∙ sum_by-IsPermutation (λ e. cond (overlap e.1 asked) (f e.0) 0) (present es) entries same ∙ sym (sum-found asked f (present es))
+    ∙ ap (sum_by f) (found-present asked (enumerate_from 0 es)))
 
 -- ---- the list that is kept
 
--- where an entry is put makes no difference to what envelope a position has, when no other entry has its position
-envelope-with_entry : (e : Entry) (zs : List Entry) (place : ℕ) → envelope_at zs e.0 ≡ None → envelope_at (with_entry e zs) place ≡ envelope_at (e ∷ zs) place
-envelope-with_entry e [] place none = refl
-envelope-with_entry e (z ∷ zs) place none = go (comes_before e z) (z.0 == e.0) refl none (envelope-with_entry e zs place)
-  where
-    swapped : (p q : Bool) → z.0 == place ≡ p → e.0 == place ≡ q → z.0 == e.0 ≡ false
-        → ◌≡◌ {A = Option Envelope} (cond p (Some z.1) (cond q (Some e.1) (envelope_at zs place))) (cond q (Some e.1) (cond p (Some z.1) (envelope_at zs place)))
-    swapped true true a b far =
-        let one = eqb-true z.0 place a in let other = eqb-true e.0 place b in let apart = eqb-false z.0 e.0 far in
-        absurd (apart (one ∙ sym other))
-    swapped true false a b far = refl
-    swapped false true a b far = refl
-    swapped false false a b far = refl
+-- an element that is there, by its position
+from_get : (es : List (Option Envelope)) (i : ℕ) (x : Envelope) → slice_get es i ≡ Some (Some x) → get_or es i None ≡ Some x
+from_get [] i x h = cc
+from_get (e ∷ es) zero x h = cc
+from_get (e ∷ es) (suc i) x h = from_get es i x h
 
-    go : (b d : Bool) → z.0 == e.0 ≡ d → ◌≡◌ {A = Option Envelope} (cond d (Some z.1) (envelope_at zs e.0)) None
-        → (envelope_at zs e.0 ≡ None → envelope_at (with_entry e zs) place ≡ envelope_at (e ∷ zs) place)
-        → envelope_at (cond b (e ∷ z ∷ zs) (z ∷ with_entry e zs)) place ≡ envelope_at (e ∷ z ∷ zs) place
-    go true d same gone more = refl
-    go false true same gone more = cc
-    go false false same gone more =
-        ap (λ r. cond (z.0 == place) (Some z.1) r) (more gone) ∙ swapped (z.0 == place) (e.0 == place) refl refl same
+-- where each entry is in its place, the envelope of a position is the list's
+envelope_stands : (es : List (Option Envelope)) (zs : List Entry) (place : ℕ) (x : Envelope) → AllByRecursion (Stands es) zs → envelope_at zs place ≡ Some x
+    → slice_get es place ≡ Some (Some x)
+envelope_stands es [] place x all h = cc
+envelope_stands es (z ∷ zs) place x all h = go (z.0 == place) refl h (envelope_stands es zs place x all.1)
+  where
+    go : (b : Bool) → z.0 == place ≡ b → ◌≡◌ {A = Option Envelope} (cond b (Some z.1) (envelope_at zs place)) (Some x)
+        → (envelope_at zs place ≡ Some x → slice_get es place ≡ Some (Some x)) → slice_get es place ≡ Some (Some x)
+    go true same is more =
+        let at = eqb-true z.0 place same in
+        let whole : z.1 ≡ x = cc in
+        ap (slice_get es) (sym at) ∙ all.0 ∙ ap (λ e. Some (Some e)) whole
+    go false apart is more = more is
+
+-- where a position has no envelope, no entry has this position
+none_there : (zs : List Entry) (place : ℕ) → envelope_at zs place ≡ None → AllByRecursion (λ z. z.0 == place ≡ false) zs
+none_there [] place h = tt
+none_there (z ∷ zs) place h = go (z.0 == place) refl h (none_there zs place)
+  where
+    go : (b : Bool) → z.0 == place ≡ b → ◌≡◌ {A = Option Envelope} (cond b (Some z.1) (envelope_at zs place)) None
+        → (envelope_at zs place ≡ None → AllByRecursion (λ (w : Entry). w.0 == place ≡ false) zs) → AllByRecursion (λ (w : Entry). w.0 == place ≡ false) (z ∷ zs)
+    go true same is more = cc
+    go false apart is more = (apart, more is)
+
+-- and the other way round
+there_none : (zs : List Entry) (place : ℕ) → AllByRecursion (λ z. z.0 == place ≡ false) zs → envelope_at zs place ≡ None
+there_none [] place all = refl
+there_none (z ∷ zs) place all = ap (λ b. cond b (Some z.1) (envelope_at zs place)) all.0 ∙ there_none zs place all.1
 
 -- no envelope comes before the first
 none_before : (n place : ℕ) (es : List (Option Envelope)) → place < n → envelope_at (filter_map entry_at (enumerate_from n es)) place ≡ None
@@ -152,16 +166,6 @@ none_before n place (Some e ∷ es) less = ap (λ b. cond b (Some e) (envelope_a
   where
     apart : n == place ≡ false
     apart = grind (arith, less)
-
--- putting entries in order changes no envelope at any position
-envelope-in_order : (n : ℕ) (es : List (Option Envelope)) (place : ℕ)
-    → envelope_at (in_order (filter_map entry_at (enumerate_from n es))) place ≡ envelope_at (filter_map entry_at (enumerate_from n es)) place
-envelope-in_order n [] place = refl
-envelope-in_order n (None ∷ es) place = envelope-in_order (n + 1) es place
-envelope-in_order n (Some e ∷ es) place =
-    envelope-with_entry (n, e) (in_order (filter_map entry_at (enumerate_from (n + 1) es))) place
-    (envelope-in_order (n + 1) es n ∙ none_before (n + 1) n es (omega arith))
-    ∙ ap (λ r. cond (n == place) (Some e) r) (envelope-in_order (n + 1) es place)
 
 -- the entries of a list have at each position the list's envelope
 envelope-present : (n : ℕ) (es : List (Option Envelope)) (i place : ℕ) → n + i ≡ place → i < length es → envelope_at (filter_map entry_at (enumerate_from n es)) place ≡ get_or es i None
@@ -178,24 +182,26 @@ envelope-present n (Some e ∷ es) (suc i) place at within =
     apart : n == place ≡ false
     apart = let m : n < place = omega arith in grind (arith, m)
 
+-- so do these entries in any order
+envelope_moved : (es : List (Option Envelope)) (entries : List Entry) (place : ℕ) → IsPermutation (present es) entries → place < length es
+    → get_or es place None ≡ envelope_at entries place
+envelope_moved es entries place moved within = go (envelope_at entries place) refl
+  where
+    go : (o : Option Envelope) → envelope_at entries place ≡ o → get_or es place None ≡ o
+    go None h =
+        let apart = All-permutation (λ z. z.0 == place ≡ false) entries (present es) (IsPermutation-sym (present es) entries moved)
+        (All-from_recursion (λ z. z.0 == place ≡ false) entries (none_there entries place h)) in
+        sym (envelope-present 0 es place place (omega arith) within) ∙ there_none (present es) place (recursion_from_All (λ z. z.0 == place ≡ false) (present es) apart)
+    go (Some x) h =
+        let all = recursion_from_All (Stands es) entries (All-permutation (Stands es) (present es) entries moved (All-from_recursion (Stands es) (present es) (all_stand es))) in
+        from_get es place x (envelope_stands es entries place x all h)
+
 -- each position is that of an absent envelope or of one that is there
 both_counted : (n : ℕ) (es : List (Option Envelope))
     → length (map (λ p. p.0) (filter (placed_meets None) (enumerate_from n es))) + length (filter_map entry_at (enumerate_from n es)) ≡ length es
 both_counted n [] = refl
 both_counted n (None ∷ es) = let more = both_counted (n + 1) es in omega (arith, more)
 both_counted n (Some e ∷ es) = let more = both_counted (n + 1) es in omega (arith, more)
-
-length-with_entry : (e : Entry) (zs : List Entry) → length (with_entry e zs) ≡ suc (length zs)
-length-with_entry e [] = refl
-length-with_entry e (z ∷ zs) = go (comes_before e z) (length-with_entry e zs)
-  where
-    go : (b : Bool) → length (with_entry e zs) ≡ suc (length zs) → length (cond b (e ∷ z ∷ zs) (z ∷ with_entry e zs)) ≡ suc (suc (length zs))
-    go true more = refl
-    go false more = ap suc more
-
-length-in_order : (es : List Entry) → length (in_order es) ≡ length es
-length-in_order [] = refl
-length-in_order (e ∷ es) = length-with_entry e (in_order es) ∙ ap suc (length-in_order es)
 
 zipped : (es : List Entry) → zip (map (λ e. e.0) es) (map (λ e. e.1) es) ≡ es
 zipped [] = refl
@@ -215,32 +221,33 @@ lowest_is entries (level ∷ levels) h = let first : map Some level ≡ map arou
         let rest : map Some l ≡ map around (singles es) = cc in
         ap (λ z. z ∷ l) head ∙ ap (λ z. e.1 ∷ z) (each es l rest)
 
--- the tree's two lists, side by side, are the entries in order
-pub entries_are : (absent places : List ℕ) (levels : List (List Envelope)) (es : List (Option Envelope)) → IsPacked absent places levels es
-    → entries_of places levels ≡ in_order (present es)
-entries_are absent places levels es p =
-    ap (λ l. zip places l) (lowest_is (in_order (present es)) levels p.packing) ∙ ap (λ l. zip l (map (λ e. e.1) (in_order (present es)))) p.other_places ∙ zipped (in_order (present es))
+-- two lists that keep entries are them, side by side
+pub entries_are : (places : List ℕ) (levels : List (List Envelope)) (entries : List Entry) → places ≡ map (λ e. e.0) entries → KeepPacking entries levels
+    → entries_of places levels ≡ entries
+entries_are places levels entries others packing =
+    ap (λ l. zip places l) (lowest_is entries levels packing) ∙ ap (λ l. zip l (map (λ e. e.1) entries)) others ∙ zipped entries
 
--- so the list that the tree stands for is the one that it was packed from
+-- the list that a tree stands for is the one that it was packed from
 pub unpacked_is : (absent places : List ℕ) (levels : List (List Envelope)) (es : List (Option Envelope)) → IsPacked absent places levels es → unpacked absent places levels ≡ es
 unpacked_is absent places levels es p =
-    let entries = in_order (present es) in
+    let entries = entries_of places levels in
     let count : length absent + length places ≡ length es =
     let a = ap length p.absent_places in
-    let b = ap length p.other_places ∙ length-map entries (λ e. e.0) ∙ length-in_order (present es) in
+    let b = ap length p.paired ∙ length-map entries (λ e. e.0) in
+    let c = length_permutation (present es) entries p.moved in
     let both = both_counted 0 es in
-    omega (arith, a, b, both) in
-    let each : (k : ℕ) → k < length es → get_or es k None ≡ envelope_at entries k = λ k within.
-    sym (envelope-in_order 0 es k ∙ envelope-present 0 es k k (omega arith) within) in
-    ap (λ e. map (envelope_at e) (range_with_len 0 (length absent + length places))) (entries_are absent places levels es p)
-    ∙ ap (λ n. map (envelope_at entries) (range_with_len 0 n)) count
-    ∙ sym (fill_by_all (envelope_at entries) es (length es) None refl each)
+    omega (arith, a, b, c, both) in
+    ap (λ n. map (envelope_at entries) (range_with_len 0 n)) count
+    ∙ sym (fill_by_all (envelope_at entries) es (length es) None refl (λ k within. envelope_moved es entries k p.moved within))
 
 -- what was packed from a list keeps it
-pub is_packed : (absent places : List ℕ) (levels : List (List Envelope)) (ordered : List Entry) (es : List (Option Envelope)) → absent ≡ meeting_places es None
-    → ordered ≡ in_order (present es) → places ≡ map (λ e. e.0) ordered → KeepPacking ordered levels → IsPacked absent places levels es
-is_packed absent places levels ordered es none is others packing = record {
-  absent_places = none;
-  other_places = others ∙ ap (map (λ e. e.0)) is;
-  packing = subst (λ entries. KeepPacking entries levels) is packing;
-}
+pub is_packed : (absent places : List ℕ) (levels : List (List Envelope)) (entries : List Entry) (es : List (Option Envelope)) → absent ≡ meeting_places es None
+    → IsPermutation (present es) entries → places ≡ map (λ e. e.0) entries → KeepPacking entries levels → IsPacked absent places levels es
+is_packed absent places levels entries es none moved others packing =
+    let are = sym (entries_are places levels entries others packing) in
+    record {
+      absent_places = none;
+      moved = subst (IsPermutation (present es)) are moved;
+      paired = others ∙ ap (map (λ e. e.0)) are;
+      packing = subst (λ l. KeepPacking l levels) are packing;
+    }

@@ -1,9 +1,9 @@
 -- How a packed tree keeps a list of envelopes, and what a search finds in a part of it.
-use Rattle.std.specs.Prelude.{◌≡◌, ◌==◌, ◌<◌, ℕ, zero, suc, ◌+◌, ◌-◌, cond, List, [], ◌∷◌, map, filter, take, drop, length, slice_index_or, Option, Some, None, flat_map}
+use Rattle.std.specs.Prelude.{◌≡◌, ◌==◌, ◌<◌, ℕ, zero, suc, ◌+◌, ◌-◌, cond, List, [], ◌∷◌, map, filter, take, drop, length, IsPermutation, slice_index_or, Option, Some, None, flat_map}
 use Rattle.std.specs.List.{range_with_len, zip}
 use Rattle.geometry_model.specs.Envelopes.{Envelope, overlap}
 use Rattle.rtree.specs.Found.{meeting_places}
-use Rattle.rtree.specs.Packing.{Entry, present, in_order, levels_of, nodes_over, around}
+use Rattle.rtree.specs.Packing.{Entry, present, levels_of, nodes_over, around}
 
 -- the envelopes of a level; level 0 has those of the entries
 abbrev pub level_at : List (List Envelope) → ℕ → List Envelope
@@ -30,11 +30,12 @@ singles entries = map (λ e. e ∷ []) entries
 abbrev pub KeepPacking : List Entry → List (List Envelope) → Type 0
 KeepPacking entries levels = map (map Some) levels ≡ map (map around) (singles entries ∷ levels_of entries)
 
--- a tree with these parts is the packing of this list of envelopes
+-- a tree with these parts is a packing of this list of envelopes, whose entries it has in some order
 pub record IsPacked (absent places : List ℕ) (levels : List (List Envelope)) (envelopes : List (Option Envelope)) : Type 0 where
   pub absent_places : absent ≡ meeting_places envelopes None
-  pub other_places : places ≡ map (λ e. e.0) (in_order (present envelopes))
-  pub packing : KeepPacking (in_order (present envelopes)) levels
+  pub moved : IsPermutation (present envelopes) (entries_of places levels)
+  pub paired : places ≡ map (λ e. e.0) (entries_of places levels)
+  pub packing : KeepPacking (entries_of places levels) levels
 
 -- ---- the search
 

@@ -4,12 +4,16 @@
 //! one.
 #![tactic(auto)]
 
+mod curve;
+pub mod curve_trees;
 pub mod envelopes;
 pub mod indexes;
 pub mod list_index;
+mod packed_trees;
 mod packing;
 pub mod trees;
 
+pub use curve_trees::CurveTree;
 pub use envelopes::{Envelope, Enveloped, meets};
 pub use indexes::EnvelopeIndex;
 pub use list_index::ListIndex;

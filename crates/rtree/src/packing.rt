@@ -15,20 +15,20 @@ use std::alloc::{AllocError, Global};
 /// How many children a node has, but for the last one of a level, which may have fewer.
 pub(crate) const NODE_SIZE: usize = 8;
 
-/// Parts a list in two: adds the positions of the absent envelopes to `absent`, and the others, with their positions, to
-/// `entries`.
-pub(crate) fn push_apart(
+/// The two parts of a list: the positions of the absent envelopes, and the others with their positions.
+pub(crate) fn parted(
+    alloc: Global,
     envelopes: &[Option<Envelope>],
-    absent: &mut Vec<usize>,
-    entries: &mut Vec<(usize, Envelope)>,
-) -> Result<(), AllocError>
-    ensures absent { OnOk result (absent.new.items ≡ absent.old.items ++ meeting_places envelopes.now None) }
-    ensures others { OnOk result (entries.new.items ≡ entries.old.items ++ present envelopes.now) }
+) -> Result<(Vec<usize>, Vec<(usize, Envelope)>), AllocError>
+    ensures absent { IfOk result (λ parts. parts.0.items ≡ meeting_places envelopes.now None) }
+    ensures others { IfOk result (λ parts. parts.1.items ≡ present envelopes.now) }
 {
+    let mut absent = Vec::new(alloc);
+    let mut entries = Vec::new(alloc);
     for place in 0..envelopes.len() {
-        push_entry(absent, entries, place, envelopes[place])?;
+        push_entry(&mut absent, &mut entries, place, envelopes[place])?;
     }
-    Ok(())
+    Ok((absent, entries))
 }
 
 // Adds one position of the list: to `absent` if the envelope is absent, else with the envelope to `entries`.

@@ -1,14 +1,13 @@
 //! Where a point lies in a geometry: in its interior, on its boundary or in its exterior.
 
 ghost use Rattle.std.specs.Prelude.{◌≡◌};
-ghost use Rattle.std.specs.List.{list_any};
-ghost use Rattle.geometry_model.specs.Geometries.{edges, edges_of_lines};
+ghost use Rattle.geometry_model.specs.Geometries.{edges, edges_of_lines, listed};
 ghost use Rattle.geometry_model.specs.Locations as spec;
 ghost use Rattle.edge_boxes.specs.BoxLists.{BoxesOf};
 ghost use Rattle.validity.specs.OddEnds.{ended_lines};
 
 use edge_boxes::EdgeBoxes;
-use fraction::{GridPoint, RatPoint};
+use fraction::RatPoint;
 use geometry_model::{Kind, Location};
 use orient::Segment;
 use validity::Valid;
@@ -23,17 +22,17 @@ pub fn locate(valid: &Valid, p: &RatPoint) -> Location
 {
     let geometry = valid.geometry();
     match valid.kind() {
-        Kind::Point => locate_in_points(geometry.listed(), p),
+        Kind::Point => locate_in_points(valid, p),
         Kind::Line => locate_in_lines(valid, geometry.lines(), p),
         Kind::Area => locate_in_rings(geometry.lines(), valid.segments(), valid.boxes(), p),
     }
 }
 
-/// Where a point lies in the geometry of these listed positions.
-fn locate_in_points(listed: &[GridPoint], p: &RatPoint) -> Location
-    ensures { result ≡ spec.in_points listed.now p.now }
+/// Where a point lies in a geometry of points, whose listed positions are kept in order and searched.
+fn locate_in_points(valid: &Valid, p: &RatPoint) -> Location
+    ensures { result ≡ spec.in_points (listed valid.now) p.now }
 {
-    if is_listed(listed, p) {
+    if valid.is_listed(p) {
         Location::Interior
     } else {
         Location::Exterior
@@ -74,13 +73,4 @@ fn locate_in_rings(
     } else {
         Location::Exterior
     }
-}
-
-/// Whether the point is at one of these positions.
-fn is_listed(listed: &[GridPoint], p: &RatPoint) -> bool
-    ensures { result ≡ list_any (spec.stands_at p.now) listed.now }
-{
-    listed
-        .iter()
-        .any(|position| RatPoint::of_grid(*position) == *p)
 }

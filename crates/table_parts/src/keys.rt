@@ -1,6 +1,6 @@
 //! Feature keys: finds two rows with equal keys, and sorts rows by key.
 
-ghost use Rattle.std.specs.Prelude.{◌≡◌, ◌≢◌, IfErr, IfOk, Ok, Err, OnOk, false, int_lt, map};
+ghost use Rattle.std.specs.Prelude.{◌≡◌, ◌≢◌, [], IfErr, IfOk, Ok, Err, OnErr, OnOk, false, int_lt, map};
 ghost use Rattle.std.specs.List.{IsAllAdjacentAnswer};
 ghost use Rattle.std.specs.List.Sorted.{IsPermutation, IsSortedByKey};
 ghost use Rattle.std.specs.Ordering.{int_cmp};
@@ -132,7 +132,7 @@ fn double_among(
     double_key(alloc, keys)
 }
 
-/// Sorts rows into the order of their keys. The fault is DoubleKey, with the record's number, or OutOfMemory.
+/// Sorts rows into the order of their keys. The fault is DoubleKey, with the record's number, or OutOfMemory; it leaves no rows.
 pub fn order_by_key(
     alloc: Global,
     rows: &mut Vec<Items<Value<Geometry>>>,
@@ -141,14 +141,15 @@ pub fn order_by_key(
     ensures ok { OnOk result (spec.keyed_rows key rows.old.items ≡ Ok rows.new.items) }
     ensures not_reading { IfErr result (λ f. is_of_reading f ≡ false) }
     ensures fault { IfErr result (λ f. f ≢ fault.OutOfMemory → spec.keyed_rows key rows.old.items ≡ Err f) }
+    ensures refused { OnErr result (rows.new.items ≡ []) }
 {
     // Rows mostly come in the order of their keys, and stay as they are.
     if ascend(rows.as_slice(), key) {
         return Ok(());
     }
-    // A fault names a record, so the keys are kept in the order of records.
-    let keys = keys_of(alloc, rows.as_slice(), key)?;
     let given = mem::replace(rows, Vec::new(alloc));
+    // A fault names a record, so the keys are kept in the order of records.
+    let keys = keys_of(alloc, given.as_slice(), key)?;
     let mut keyed = with_keys(alloc, given, key)?;
     sort_keyed(&mut keyed);
     match double_among(alloc, keys.as_slice(), keyed.as_slice())? {

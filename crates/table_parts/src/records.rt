@@ -105,7 +105,7 @@ fn fault_of(error: &Error) -> LoadFault
     }
 }
 
-/// Reads the next record, and returns whether there is one. The fault is ReadFailed or OutOfMemory.
+/// Reads the next record, and returns whether there is one. The fault is ReadFailed or OutOfMemory; it leaves the record empty.
 pub fn next_record<R: Read + Drop>(
     records: &mut Records<R>,
     record: &mut ByteRecord,
@@ -115,6 +115,7 @@ pub fn next_record<R: Read + Drop>(
     ensures asked { asked records.new ≡ asked records.old + 1 }
     ensures read_failed { IfErr result (λ f. is_of_reading f ≡ true → read_failed records.new ≡ true) }
     ensures ready { OnOk result (IsReady records.new) }
+    ensures refused { OnErr result (fields_of record.new ≡ []) }
     ensures takes { (rest : List Record) → Gives R.remaining records.old rest
         → IfOk result (λ found. GivesFirst R.remaining records.new rest found (fields_of record.new)) }
     ensures fails { IfErr result IsFailure }

@@ -10,4 +10,5 @@ mod relation_values;
 mod sides;
 
 pub use condition_values::value;
+pub use de9im::Work;
 pub use table_model::values::Truth;

@@ -1,16 +1,19 @@
--- A geometry without fault, with the boxes over its edges.
-use Rattle.std.proofs.Common.{◌≡◌, ◌∙◌, refl, sym, ap, subst, List, [], None, Result, Ok, Err}
+-- A geometry without fault, with the boxes over its edges and the positions that are searched.
+use Rattle.std.proofs.Common.{◌≡◌, ◌≢◌, ◌⊎◌, inl, inr, ◌∙◌, refl, sym, ap, subst, Bool, true, false, ◌||◌, List, [], None, Some, Result, Ok, Err}
 use Rattle.std.specs.Prelude.{OnOk}
 use Rattle.std.specs.List.Sorted.{IsStrictlySortedBy}
 use Rattle.geometry_model.specs.Geometries as g
+use Rattle.geometry_model.specs.declared.shapes.GeometryType.TheVariants as types
+use Rattle.geometry_model.specs.declared.shapes.Kind.{Kind}
 use Rattle.geometry_model.specs.declared.shapes.Kind.TheVariants as kinds
 use Rattle.geometry_model.specs.Points.{Position}
+use Rattle.geometry_model.specs.Locations.{stands_at}
 use Rattle.validity.specs.OddEnds.{AreOddEnds, ended_lines}
-use Rattle.geometry_model.specs.Geometries.{Geometry, Edge, edges, kind}
+use Rattle.geometry_model.specs.Geometries.{Geometry, Edge, edges, listed, kind, type_of}
 use Rattle.geometry_model.specs.FirstFaults.{validity_fault}
 use Rattle.edge_boxes.specs.BoxLists.{BoxesOf}
 use Rattle.edge_boxes.specs.declared.boxes.EdgeBoxes.{EdgeBoxes}
-use Rattle.validity.specs.ValidGeometries.{IsKept}
+use Rattle.validity.specs.ValidGeometries.{IsKept, AreSearched}
 use Rattle.validity.specs.Contents.{geometry_of, IsKeptIn}
 use Rattle.validity.specs.declared.valid_geometry.Content.{Content}
 use Rattle.validity.specs.declared.valid_geometry.Content.TheVariants as content
@@ -20,53 +23,74 @@ use Rattle.validity.proofs.Faults.{no_fault_valid}
 pub boxes_of_same : (g h : Geometry) (boxes : EdgeBoxes) → g ≡ h → BoxesOf boxes (edges g) → BoxesOf boxes (edges h)
 boxes_of_same g h boxes e are = subst (λ (k : Geometry). BoxesOf boxes (edges k)) e are
 
--- where no fault is found the geometry is kept with its boxes and its odd ends
-pub is_kept : (g : Geometry) (boxes : EdgeBoxes) (odd_ends : List Position) → BoxesOf boxes (edges g) → AreOddEnds odd_ends (ended_lines g) → validity_fault g ≡ None → IsKept g boxes odd_ends
-is_kept g boxes odd_ends are odd none = record { valid = no_fault_valid g none; over_edges = are; odd = odd }
+-- where no fault is found the geometry is kept with its boxes
+pub is_kept : (g : Geometry) (boxes : EdgeBoxes) → BoxesOf boxes (edges g) → validity_fault g ≡ None → IsKept g boxes
+is_kept g boxes are none = record { valid = no_fault_valid g none; over_edges = are }
 
 -- the boxes that are kept are those of the geometry's edges
-pub boxes_of_points : (k : Content) (now g : Geometry) (boxes : EdgeBoxes) → geometry_of k ≡ now → IsKeptIn k → k ≡ content.Points g boxes → BoxesOf boxes (edges now)
-boxes_of_points k now g boxes view kept is = boxes_of_same g now boxes (ap geometry_of (sym is) ∙ view) (subst IsKeptIn is kept).1.over_edges
+pub boxes_of_point : (k : Content) (now g : Geometry) (boxes : EdgeBoxes) → geometry_of k ≡ now → IsKeptIn k → k ≡ content.Point g boxes → BoxesOf boxes (edges now)
+boxes_of_point k now g boxes view kept is = boxes_of_same g now boxes (ap geometry_of (sym is) ∙ view) (subst IsKeptIn is kept).1.over_edges
 
--- points have no edges, no ends and no fault
-pub points_have_no_edges : (g : Geometry) → kind g ≡ kinds.Point → edges g ≡ []
-points_have_no_edges (g.Point p) e = refl
-points_have_no_edges (g.MultiPoint ps) e = refl
-points_have_no_edges (g.LineString ps) e = absurd cc
-points_have_no_edges (g.MultiLineString ls) e = absurd cc
-points_have_no_edges (g.Polygon rs) e = absurd cc
-points_have_no_edges (g.MultiPolygon es) e = absurd cc
+-- a POINT has no edges and no fault
+pub point_has_no_edges : (g : Geometry) → type_of g ≡ types.Point → edges g ≡ []
+point_has_no_edges (g.Point p) e = refl
+point_has_no_edges (g.MultiPoint ps) e = absurd cc
+point_has_no_edges (g.LineString ps) e = absurd cc
+point_has_no_edges (g.MultiLineString ls) e = absurd cc
+point_has_no_edges (g.Polygon rs) e = absurd cc
+point_has_no_edges (g.MultiPolygon es) e = absurd cc
 
--- nor lines whose ends could be a boundary
-pub points_have_no_ends : (g : Geometry) → kind g ≡ kinds.Point → ended_lines g ≡ []
-points_have_no_ends (g.Point p) e = refl
-points_have_no_ends (g.MultiPoint ps) e = refl
-points_have_no_ends (g.LineString ps) e = absurd cc
-points_have_no_ends (g.MultiLineString ls) e = absurd cc
-points_have_no_ends (g.Polygon rs) e = absurd cc
-points_have_no_ends (g.MultiPolygon es) e = absurd cc
+-- every fault is one of lines, rings or polygons, so none is tested
+pub point_has_no_fault : (g : Geometry) → type_of g ≡ types.Point → validity_fault g ≡ None
+point_has_no_fault (g.Point p) e = refl
+point_has_no_fault (g.MultiPoint ps) e = absurd cc
+point_has_no_fault (g.LineString ps) e = absurd cc
+point_has_no_fault (g.MultiLineString ls) e = absurd cc
+point_has_no_fault (g.Polygon rs) e = absurd cc
+point_has_no_fault (g.MultiPolygon es) e = absurd cc
 
--- and every fault is one of lines, rings or polygons, so none is tested
-pub points_have_no_fault : (g : Geometry) → kind g ≡ kinds.Point → validity_fault g ≡ None
-points_have_no_fault (g.Point p) e = refl
-points_have_no_fault (g.MultiPoint ps) e = refl
-points_have_no_fault (g.LineString ps) e = absurd cc
-points_have_no_fault (g.MultiLineString ls) e = absurd cc
-points_have_no_fault (g.Polygon rs) e = absurd cc
-points_have_no_fault (g.MultiPolygon es) e = absurd cc
+-- a POINT is kept with boxes of no edges
+pub point_is_kept : (g : Geometry) (edges : List Edge) (boxes : EdgeBoxes) → type_of g ≡ types.Point → edges ≡ [] → BoxesOf boxes edges → IsKept g boxes
+point_is_kept g none boxes point e are = is_kept g boxes (subst (BoxesOf boxes) (e ∙ sym (point_has_no_edges g point)) are) (point_has_no_fault g point)
+
+or_false : (b : Bool) → (b || false) ≡ b
+or_false true = refl
+or_false false = refl
+
+-- the one position of a POINT ascends
+pub point_is_searched : (g : Geometry) → type_of g ≡ types.Point → AreSearched (listed g) g
+unfolding IsStrictlySortedBy
+point_is_searched (g.Point None) e = record { ascend = tt; exact = λ p is. refl }
+point_is_searched (g.Point (Some a)) e = record { ascend = (tt, tt); exact = λ p is. sym (or_false (stands_at p a || false)) }
+point_is_searched (g.MultiPoint ps) e = absurd cc
+point_is_searched (g.LineString ps) e = absurd cc
+point_is_searched (g.MultiLineString ls) e = absurd cc
+point_is_searched (g.Polygon rs) e = absurd cc
+point_is_searched (g.MultiPolygon es) e = absurd cc
+
+-- so what is searched of a POINT that is kept is what it lists
+pub searched_of_point : (k : Content) (now g : Geometry) (boxes : EdgeBoxes) (positions : List Position) → geometry_of k ≡ now → IsKeptIn k → k ≡ content.Point g boxes → positions ≡ listed g → AreSearched positions now
+searched_of_point k now g boxes positions view kept is e =
+    subst (λ l. AreSearched l now) (sym e) (subst (AreSearched (listed g)) (ap geometry_of (sym is) ∙ view) (point_is_searched g (subst IsKeptIn is kept).0))
+
+-- only lines have ends
+only_lines_end : (g : Geometry) → kind g ≢ kinds.Line → ended_lines g ≡ []
+only_lines_end (g.Point p) n = refl
+only_lines_end (g.MultiPoint ps) n = refl
+only_lines_end (g.LineString ps) n = absurd (n refl)
+only_lines_end (g.MultiLineString ls) n = absurd (n refl)
+only_lines_end (g.Polygon rs) n = refl
+only_lines_end (g.MultiPolygon es) n = refl
+
+-- so points and areas have none
+pub no_lines_end : (g : Geometry) (k : Kind) → k ≡ kind g → (k ≡ kinds.Point) ⊎ (k ≡ kinds.Area) → ended_lines g ≡ []
+no_lines_end g k e (inl point) = only_lines_end g (λ line. let n : kinds.Point ≡ kinds.Line = sym point ∙ e ∙ line in cc)
+no_lines_end g k e (inr area) = only_lines_end g (λ line. let n : kinds.Area ≡ kinds.Line = sym area ∙ e ∙ line in cc)
 
 -- no odd ends are at no lines
-none_odd : AreOddEnds [] []
+pub none_odd : (ls : List (List Position)) → ls ≡ [] → AreOddEnds [] ls
 unfolding IsStrictlySortedBy
-none_odd = record { ascend = tt; exact = λ p is. refl }
-
--- points are kept with boxes of no edges
-pub points_are_kept : (g : Geometry) (edges : List Edge) (boxes : EdgeBoxes) → kind g ≡ kinds.Point → edges ≡ [] → BoxesOf boxes edges → IsKept g boxes []
-points_are_kept g none boxes point e are = record {
-  valid = no_fault_valid g (points_have_no_fault g point);
-  over_edges = subst (BoxesOf boxes) (e ∙ sym (points_have_no_edges g point)) are;
-  odd = subst (AreOddEnds []) (sym (points_have_no_ends g point)) none_odd;
-}
+none_odd ls e = subst (AreOddEnds []) (sym e) (record { ascend = tt; exact = λ p is. refl })
 
 -- what an answer without fault brings
 pub brings : {V E A B : Type 0} (r : Result V E) → OnOk r A → (A → B) → OnOk r B

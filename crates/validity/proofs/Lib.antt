@@ -1,3 +1,4 @@
+pub mod Ascending
 pub mod CheckedTexts
 pub mod Faults
 pub mod Kept

@@ -1,10 +1,10 @@
 -- The positions on which an odd number of ends lie.
-use Rattle.std.proofs.Common.{◌≡◌, ◌≢◌, ◌⊎◌, inl, inr, ℕ, zero, suc, ◌+◌, ◌-◌, ◌/◌, ◌<◌, ◌≤◌, Bool, true, false, not, ◌&&◌, ◌||◌, refl, sym, ap, ap₂, ◌∙◌, subst, List, [], ◌∷◌, ◌++◌, length, get_or, take, drop, count_by, flat_map, cond, append_assoc, Result, Ok, Err, IfOk, arith, IsPermutation, pos, ◌<ℤ◌}
+use Rattle.std.proofs.Common.{◌≡◌, ◌⊎◌, inl, inr, ℕ, zero, suc, ◌+◌, ◌-◌, ◌/◌, ◌<◌, ◌≤◌, Bool, true, false, not, ◌&&◌, ◌||◌, refl, sym, ap, ap₂, ◌∙◌, subst, List, [], ◌∷◌, ◌++◌, length, get_or, take, count_by, flat_map, cond, append_assoc, Result, Ok, Err, IfOk, arith, IsPermutation}
 use Rattle.std.specs.Prelude.{nat_lt}
 use Rattle.std.specs.List.{AllByRecursion, list_any}
 use Rattle.std.specs.List.Sorted.{IsSorted, IsStrictlySortedBy}
 use Rattle.std.specs.Cmp.{IsTotalOrder}
-use Rattle.std.specs.Ordering.{is_lt, int_cmp, on, ordering_reverse}
+use Rattle.std.specs.Ordering.{is_lt, ordering_reverse}
 use Rattle.std.specs.declared.cmp.Ordering.{Ordering}
 use Rattle.std.specs.declared.cmp.Ordering.TheVariants.{Less, Equal, Greater}
 use Rattle.std.proofs.lemmas.Bool.Decides.{nat_tests}
@@ -15,11 +15,11 @@ use Rattle.std.proofs.lemmas.List.{take_more, append-nil, take_all}
 use Rattle.std.proofs.lemmas.List.Sorted.{sorted_far, ranks_by, sum_by-IsPermutation}
 use Rattle.geometry_model.specs.Points.{Position, Point, IsPoint, same_point, point_at, compare}
 use Rattle.geometry_model.specs.Crossings.{odd, exactly_one as xor}
-use Rattle.geometry_model.specs.Locations.{stands_at, last_after, ends, is_odd_end}
+use Rattle.geometry_model.specs.Locations.{stands_at, last_after, ends}
 use Rattle.geometry_model.specs.WellKnownText.{same_position}
 use Rattle.fraction.specs.Orders.{position_order}
 use Rattle.fraction.proofs.OrderLemmas.{position_order_is, same_position_is}
-use Rattle.geometry_laws.proofs.Each.{odd_count, parity, parity_none}
+use Rattle.geometry_laws.proofs.Each.{odd_count}
 use Rattle.geometry_laws.specs.PointLaws.{reversed}
 use Rattle.geometry_laws.proofs.PointOrder.{same_symmetric, same_transitive, equal_is_same, compare_reversed, less_transitive}
 use Rattle.geometry_laws.proofs.Scaling.{and_parts}
@@ -166,7 +166,8 @@ odd_added found given i x up l is n k = record {
     more : (p : Point) → take (i + 1) given ≡ take i given ++ x ∷ []
     more p = take_more given i x l ∙ ap (λ b. take i given ++ b ∷ []) (sym is)
 
-same_is : (a b : Position) → same_position a b ≡ true → a ≡ b
+-- equal positions have equal coordinates
+pub same_is : (a b : Position) → same_position a b ≡ true → a ≡ b
 same_is a b e = grind arith
 
 -- the next end is the last one kept: taking that away turns the parity at its point as the end itself does

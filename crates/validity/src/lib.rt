@@ -4,6 +4,7 @@
 pub mod check_fault;
 pub mod checked_texts;
 mod odd_ends;
+mod searched_positions;
 mod valid_envelopes;
 pub mod valid_geometry;
 

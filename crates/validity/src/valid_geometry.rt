@@ -1,23 +1,25 @@
 //! The type of valid geometries, and the test that makes them.
 
 ghost use Rattle.std.specs.Prelude.{◌≡◌, IfOk, OnOk, IfErr, None};
+ghost use Rattle.std.specs.List.{list_any};
 ghost use Rattle.geometry_model.specs.Geometries as spec;
-ghost use Rattle.geometry_model.specs.declared.shapes.Kind.TheVariants as kinds;
-ghost use Rattle.geometry_model.specs.Locations.{is_odd_end};
+ghost use Rattle.geometry_model.specs.declared.shapes.GeometryType.TheVariants as types;
+ghost use Rattle.geometry_model.specs.Locations.{is_odd_end, stands_at};
 ghost use Rattle.geometry_model.specs.Validity.{IsValid};
 ghost use Rattle.geometry_model.specs.FirstFaults.{validity_fault};
 ghost use Rattle.edge_boxes.specs.BoxLists.{BoxesOf};
-ghost use Rattle.validity.specs.ValidGeometries.{IsKept};
+ghost use Rattle.validity.specs.ValidGeometries.{IsKept, AreSearched};
 ghost use Rattle.validity.specs.OddEnds.{AreOddEnds, ended_lines};
 ghost use Rattle.validity.specs.CheckFaults.{IsFaultOf, IsStandingFaultOf, IsFirstFaultOf};
 ghost use Rattle.validity.specs.PolygonPromises.{HolesAreCutOut, HolesAreInside, InteriorByElements, ElementsAreApart};
 ghost use Rattle.validity.specs.PolygonPromises.{StretchesStay, OutsideIsExterior, RingsPart, RingsHaveSides};
 
 use crate::check_fault::CheckFault;
-use crate::odd_ends::{odd_ends, stands_at_one};
+use crate::odd_ends::stands_at_one;
+use crate::searched_positions::searched_positions;
 use edge_boxes::EdgeBoxes;
 use fraction::{GridPoint, RatPoint};
-use geometry_model::Kind;
+use geometry_model::{GeometryType, Kind};
 use orient::Segment;
 use outlines::{Outline, first_fault};
 use std::alloc::{AllocError, Global};
@@ -30,22 +32,22 @@ pub struct Valid {
     content: Content,
 }
 
-/// What is kept of a geometry. Points have no edges, so only an empty list of boxes is kept beside them. For the other types
-/// all is behind one pointer, so that a list of points is small.
+/// What is kept of a geometry. A POINT has no edges, so only an empty list of boxes is kept beside it. For the other types all
+/// is behind one pointer, so that a list of points is small.
 #[derive(Drop)]
 pub(crate) enum Content {
-    Points(Geometry, EdgeBoxes),
-    Edged(Box<Edged>),
+    Point(Geometry, EdgeBoxes),
+    Larger(Box<Searched>),
 }
 
-/// A geometry of lines or areas, with the boxes by which its edges are searched and with its odd ends.
+/// A geometry of another type, with what it is searched by.
 #[derive(Drop)]
-pub(crate) struct Edged {
+pub(crate) struct Searched {
     outline: Outline,
     /// The boxes over its edges.
     boxes: EdgeBoxes,
-    /// The positions at which an odd number of ends of its lines meet.
-    odd_ends: Vec<GridPoint>,
+    /// Of points the listed positions, of lines the odd ends: ascending, each once.
+    positions: Vec<GridPoint>,
 }
 
 impl Model for Valid {
@@ -66,8 +68,8 @@ impl Valid {
         ensures valid { IsValid self.now }
     {
         match &self.content {
-            Content::Points(geometry, _) => geometry,
-            Content::Edged(edged) => edged.outline.geometry(),
+            Content::Point(geometry, _) => geometry,
+            Content::Larger(searched) => searched.outline.geometry(),
         }
     }
 
@@ -90,8 +92,8 @@ impl Valid {
         ensures { result.now ≡ spec.edges self.now }
     {
         match &self.content {
-            Content::Points(_, _) => &[],
-            Content::Edged(edged) => edged.outline.segments(),
+            Content::Point(_, _) => &[],
+            Content::Larger(searched) => searched.outline.segments(),
         }
     }
 
@@ -100,9 +102,27 @@ impl Valid {
         ensures { BoxesOf result.now (spec.edges self.now) }
     {
         match &self.content {
-            Content::Points(_, boxes) => boxes,
-            Content::Edged(edged) => &edged.boxes,
+            Content::Point(_, boxes) => boxes,
+            Content::Larger(searched) => &searched.boxes,
         }
+    }
+
+    /// Lends the positions that are searched for a point: of points the listed ones, of lines the odd ends.
+    fn searched(&self) -> &[GridPoint]
+        ensures { AreSearched result.now self.now }
+    {
+        match &self.content {
+            Content::Point(geometry, _) => geometry.listed(),
+            Content::Larger(searched) => searched.positions.as_slice(),
+        }
+    }
+
+    /// Whether the point is at one of its listed positions; lines and areas have none (06-103r4, 6.1.4 and 6.1.5). It takes no
+    /// memory.
+    pub fn is_listed(&self, p: &RatPoint) -> bool
+        ensures { result ≡ list_any (stands_at p.now) (spec.listed self.now) }
+    {
+        self.kind() == Kind::Point && stands_at_one(self.searched(), p)
     }
 
     /// Lends the positions at which an odd number of ends of its lines are, ascending, each once: the boundary of lines
@@ -110,9 +130,9 @@ impl Valid {
     pub fn odd_ends(&self) -> &[GridPoint]
         ensures { AreOddEnds result.now (ended_lines self.now) }
     {
-        match &self.content {
-            Content::Points(_, _) => &[],
-            Content::Edged(edged) => edged.odd_ends.as_slice(),
+        match self.kind() {
+            Kind::Line => self.searched(),
+            Kind::Point | Kind::Area => &[],
         }
     }
 
@@ -145,26 +165,26 @@ pub fn check(alloc: Global, geometry: Geometry) -> Result<Valid, CheckFault>
     ensures stands { IfErr result (IsStandingFaultOf geometry) }
     ensures first { IfErr result (IsFirstFaultOf geometry) }
 {
-    match geometry.kind() {
-        Kind::Point => Ok(of_points(alloc, geometry)?),
-        Kind::Line | Kind::Area => of_edges(alloc, geometry),
+    match geometry.geometry_type() {
+        GeometryType::Point => Ok(of_point(alloc, geometry)?),
+        _ => of_larger(alloc, geometry),
     }
 }
 
-/// Points as a valid geometry: they have no edges, and no fault (06-103r4, 6.1.4 and 6.1.5).
-fn of_points(alloc: Global, geometry: Geometry) -> Result<Valid, AllocError>
-    requires { spec.kind geometry ≡ kinds.Point }
+/// A POINT as a valid geometry: it has no edges, and no fault (06-103r4, 6.1.4).
+fn of_point(alloc: Global, geometry: Geometry) -> Result<Valid, AllocError>
+    requires { spec.type_of geometry ≡ types.Point }
     ensures same { IfOk result (λ valid. valid ≡ geometry) }
     ensures faultless { OnOk result (validity_fault geometry ≡ None) }
 {
     let boxes = EdgeBoxes::build(alloc, &[])?;
     Ok(Valid {
-        content: Content::Points(geometry, boxes),
+        content: Content::Point(geometry, boxes),
     })
 }
 
-/// A geometry of lines or areas as a valid one, or its first fault.
-fn of_edges(alloc: Global, geometry: Geometry) -> Result<Valid, CheckFault>
+/// A geometry of any type as a valid one, or its first fault.
+fn of_larger(alloc: Global, geometry: Geometry) -> Result<Valid, CheckFault>
     ensures same { IfOk result (λ valid. valid ≡ geometry) }
     ensures faultless { OnOk result (validity_fault geometry ≡ None) }
     ensures fault { IfErr result (IsFaultOf geometry) }
@@ -178,14 +198,14 @@ fn of_edges(alloc: Global, geometry: Geometry) -> Result<Valid, CheckFault>
     }
 }
 
-/// A geometry of edges without fault as a valid one, all that is kept of it being behind one pointer.
+/// A geometry without fault as a valid one, all that is kept of it being behind one pointer.
 fn kept(alloc: Global, outline: Outline) -> Result<Valid, AllocError>
     requires { validity_fault outline ≡ None }
     ensures { IfOk result (λ valid. valid ≡ outline) }
 {
-    let edged = with_boxes(alloc, outline)?;
+    let searched = with_boxes(alloc, outline)?;
     Ok(Valid {
-        content: Content::Edged(Box::new(alloc, edged)?),
+        content: Content::Larger(Box::new(alloc, searched)?),
     })
 }
 
@@ -196,17 +216,18 @@ fn boxes_over(alloc: Global, outline: &Outline) -> Result<EdgeBoxes, AllocError>
     EdgeBoxes::build(alloc, outline.segments())
 }
 
-/// A geometry of edges with the boxes over them and its odd ends.
-fn with_boxes(alloc: Global, outline: Outline) -> Result<Edged, AllocError>
+/// A geometry with the boxes over its edges and the positions that are searched.
+fn with_boxes(alloc: Global, outline: Outline) -> Result<Searched, AllocError>
     requires { validity_fault outline ≡ None }
-    ensures same { IfOk result (λ edged. edged.outline ≡ outline) }
-    ensures kept { IfOk result (λ edged. IsKept edged.outline edged.boxes edged.odd_ends.items) }
+    ensures same { IfOk result (λ kept. kept.outline ≡ outline) }
+    ensures kept { IfOk result (λ kept. IsKept kept.outline kept.boxes) }
+    ensures searched { IfOk result (λ kept. AreSearched kept.positions.items kept.outline) }
 {
     let boxes = boxes_over(alloc, &outline)?;
-    let odd_ends = odd_ends(alloc, outline.geometry())?;
-    Ok(Edged {
+    let positions = searched_positions(alloc, outline.geometry())?;
+    Ok(Searched {
         outline,
         boxes,
-        odd_ends,
+        positions,
     })
 }

@@ -1,2 +1,3 @@
+pub mod PlainText
 pub mod Printing
 pub mod ReadingSteps

@@ -1,7 +1,7 @@
 //! A cursor over the bytes of a text. Contracts see it as the `Input` of the readers in `specs/TextReading.antt` of
 //! `geometry_model`, and its methods as their steps.
 
-ghost use Rattle.std.specs.Prelude.{◌≡◌, ◌≤◌, ◌==◌, Ok, length, true};
+ghost use Rattle.std.specs.Prelude.{◌≡◌, ◌≤◌, ◌==◌, ◌+◌, ◌-◌, Ok, length, true};
 ghost use Rattle.std.specs.List.{list_all, prefix_len};
 ghost use Rattle.geometry_model.specs.TextReading as steps;
 ghost use Rattle.geometry_model.specs.TextReading.{begins_with};
@@ -90,6 +90,23 @@ impl<'a> Cursor<'a> {
         ensures { result ≡ (length self.now.left == 0) }
     {
         self.left.is_empty()
+    }
+
+    /// The bytes that are left.
+    pub fn left(&self) -> &'a [u8]
+        ensures { result.now ≡ self.now.left }
+    {
+        self.left
+    }
+
+    /// Goes on where this is left.
+    pub fn leave(&mut self, rest: &'a [u8])
+        requires { length rest.now ≤ length self.now.left }
+        ensures { self.new ≡
+            record { left = rest.now; at = self.old.at + (length self.old.left - length rest.now) } }
+    {
+        self.at += self.left.len() - rest.len();
+        self.left = rest;
     }
 
     /// Whether this byte comes next.

@@ -6,6 +6,7 @@ mod coordinate_reader;
 mod cursor;
 pub mod kept_laws;
 mod list_reader;
+mod plain_positions;
 mod position_reader;
 pub mod printing;
 mod reading;

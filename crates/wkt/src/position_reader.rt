@@ -7,6 +7,7 @@ ghost use Rattle.wkt.specs.ReadingSteps.{ReadsAs};
 
 use crate::coordinate_reader::numeral;
 use crate::cursor::{ByteClass, Cursor};
+use crate::plain_positions::plain_position;
 use fraction::GridPoint;
 use geometry_model::text_faults::TextFault;
 
@@ -25,8 +26,22 @@ fn space<'a>(cursor: &mut Cursor<'a>) -> Result<&'a [u8], TextFault>
 
 /// Reads a position, where `room` says how many may still come. If none may, the fault is `TooLong` once the first number
 /// is read, before the faults of that number's value.
-#[tactic(auto, unfolding(geometry_model::specs::TextReading::position))]
 fn position(cursor: &mut Cursor<'_>, room: usize) -> Result<GridPoint, TextFault>
+    ensures read { ReadsAs (λ p. p) (spec.position room cursor.old) result cursor.new }
+    ensures has_room { IfOk result (λ _. 0 < room) }
+{
+    if room > 0 {
+        if let Some((position, rest)) = plain_position(cursor.left()) {
+            cursor.leave(rest);
+            return Ok(position);
+        }
+    }
+    any_position(cursor, room)
+}
+
+/// Reads a position, however it is spelled.
+#[tactic(auto, unfolding(geometry_model::specs::TextReading::position))]
+fn any_position(cursor: &mut Cursor<'_>, room: usize) -> Result<GridPoint, TextFault>
     ensures read { ReadsAs (λ p. p) (spec.position room cursor.old) result cursor.new }
     ensures has_room { IfOk result (λ _. 0 < room) }
 {

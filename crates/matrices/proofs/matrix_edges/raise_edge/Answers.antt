@@ -9,7 +9,7 @@ use Rattle.edge_boxes.specs.BoxLists.{BoxesOf}
 use Rattle.cover_laws.specs.Gaps.{AreGaps, SharesNoStretch}
 use Rattle.matrix_laws.specs.Cells.{Shows}
 use Rattle.cover_laws.specs.Covering.{ShowsGap}
-use Rattle.cover_laws.proofs.CoveringTheorems.{full_off_covers, gaps_cover}
+use Rattle.cover_laws.proofs.CoveringTheorems.{full_off_covers, gaps_cover, held_covers}
 use Rattle.matrices.specs.Raising.{IsOnBoth}
 use Rattle.matrices.proofs.Growth.{grows_through}
 use Rattle.matrices.proofs.EdgePoints.{ends_kept, points_kept, shared_on_both}
@@ -25,6 +25,15 @@ returns-then-not-may_share_stretch-clause-covers c =
     full_off_covers a b c.requires.first_valid c.requires.second_valid c.args.edge.now c.requires.own c.requires.length c.args.matrix.now c.requires.ends
     (c.is_full_off.ensures c.if-is_full_off.true) (sym c.shows_meeting.ensures ∙ c.if-shows_meeting.true)
     (subst (SharesNoStretch c.args.edge.now) c.segments.ensures (c.may_share_stretch.ensures c.if-not-may_share_stretch.true))
+
+pub returns-then-holds-clause-covers : goal.returns-then-holds-clause-covers
+returns-then-holds-clause-covers c =
+    let a = c.args.first.now in
+    let b = c.args.second.now in
+    held_covers a b c.args.edge.now c.requires.own c.args.matrix.now c.requires.ends (c.holds.ensures (edges b) c.requires.merged c.if-holds.true) (c.is_full_along.ensures c.if-is_full_along.true)
+
+pub raise_gaps-requires-clause-held : goal.raise_gaps-requires-clause-held
+raise_gaps-requires-clause-held c = c.holds-is_held.ensures (edges c.args.second.now) c.in_ok-merge_if_many.ensures
 
 pub find-requires : goal.find-requires
 find-requires c = subst (BoxesOf c.boxes-2.result.now) (sym c.segments-2.ensures) c.boxes-2.ensures

@@ -7,8 +7,15 @@ use Rattle.edge_boxes.specs.BoxLists.{BoxesOf}
 use Rattle.cover_laws.specs.Gaps.{AreGaps}
 use Rattle.matrices.specs.Raising.{ShowsGapOff}
 use Rattle.matrices.proofs.EdgePoints.{ends_kept, covers_kept}
+use Rattle.cover_laws.proofs.CoveringTheorems.{held_by_covered}
 use Rattle.matrices.proofs.Rest.{gaps_off_cover}
 use Rattle.matrices.proofs.matrix_edges.raise_edge_off.Goals as goal
+
+pub returns-then-holds-clause-covers : goal.returns-then-holds-clause-covers
+returns-then-holds-clause-covers c = held_by_covered c.args.first.now c.args.second.now c.args.edge.now c.requires.own c.requires.length c.args.matrix.now c.requires.covered (c.holds.ensures (edges c.args.second.now) c.requires.merged c.if-holds.true)
+
+pub returns-then-holds-2-clause-covers : goal.returns-then-holds-2-clause-covers
+returns-then-holds-2-clause-covers c = held_by_covered c.args.first.now c.args.second.now c.args.edge.now c.requires.own c.requires.length c.args.matrix.now c.requires.covered (c.holds-2.ensures (edges c.args.second.now) c.in_ok-merge_if_many.ensures c.if-holds-2.true)
 
 pub find-requires : goal.find-requires
 find-requires c = subst (BoxesOf c.boxes.result.now) (sym c.segments.ensures) c.boxes.ensures

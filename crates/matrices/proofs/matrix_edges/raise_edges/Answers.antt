@@ -23,6 +23,7 @@ loop-edge-preserved c = record {
   grows = grows_through c.args.first.now c.args.second.now c.args.matrix.now c.loop-edge.matrix c.raise_edge.new.matrix c.loop-edge.invariant.grows c.in_ok-raise_edge.ensures.grows;
   covers = edges_more c.args.first.now c.args.second.now c.segments-edge-items.result.now c.loop-edge.edge-index c.edge-item.result c.loop-edge.matrix c.raise_edge.new.matrix c.loop-edge-test.true c.edge-item.is
       c.in_ok-raise_edge.ensures.grows.grown c.loop-edge.invariant.covers c.in_ok-raise_edge.ensures.covers;
+  merged = c.in_ok-raise_edge.ensures.merged;
 }
 
 pub returns-clause-covers : goal.returns-clause-covers

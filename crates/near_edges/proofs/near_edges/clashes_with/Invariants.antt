@@ -1,11 +1,10 @@
 -- None near it before this one clashes.
-use Rattle.std.proofs.Common.{◌≡◌, ◌+◌, length, drop}
+use Rattle.std.proofs.Common.{◌≡◌, length, drop}
 use Rattle.std.specs.List.{list_any}
 use Rattle.geometry_model.specs.FirstFaults.{clash}
 use Rattle.ring_tests.specs.EdgeRuns.{clashes_after}
-use Rattle.ring_tests.specs.RunLaws.{box_of}
-use Rattle.near_edges.specs.NearEdges.{numbered_meeting}
+use Rattle.near_edges.specs.NearEdges.{numbered_sharing}
 use Rattle.near_edges.proofs.near_edges.clashes_with.Given as goal
 
 abbrev pub invariant-loop-j : goal.invariant-loop-j
-invariant-loop-j l = clashes_after l.edges l.i l.e (l.i + 1) ≡ list_any (clash (length l.edges) (l.i, l.e)) (drop l.j-index (numbered_meeting (box_of l.e) (l.i + 1) l.edges))
+invariant-loop-j l = clashes_after l.edges l.i l.e l.from ≡ list_any (clash (length l.edges) (l.i, l.e)) (drop l.j-index (numbered_sharing l.e l.from l.edges))

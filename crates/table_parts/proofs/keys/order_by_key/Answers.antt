@@ -22,7 +22,7 @@ double_among-requires c =
     let sorted = c.sort_keyed.new.keyed.items in
     let given : c.in_ok-keyed.keyed.items ≡ map (keyed_row key) rows = rw c.replace-given.ensures.value at c.in_ok-keyed.ensures in
     let moved = subst (λ l. IsPermutation l sorted) given c.sort_keyed.ensures.moved in
-    rw (c.as_slice-3.ensures.value, c.as_slice-4.ensures.value, c.in_ok-keys.ensures, c.as_slice-2.ensures.value)
+    rw (c.as_slice-3.ensures.value, c.as_slice-4.ensures.value, c.in_ok-keys.ensures, c.as_slice-2.ensures.value, c.replace-given.ensures.value)
     (keys_moved (λ (k : KeyedRow). k.number) (keyed_row key) (key_of key) rows sorted (λ r. refl) moved)
 
 pub returns-clause-ok : goal.returns-clause-ok
@@ -30,8 +30,8 @@ returns-clause-ok c =
     let key = c.args.key in
     let rows = c.args.rows.now.items in
     let sorted = c.sort_keyed.new.keyed.items in
-    let none : double_key (map (key_of key) rows) ≡ None =
-    ap double_key (sym (c.as_slice-3.ensures.value ∙ c.in_ok-keys.ensures ∙ ap (map (key_of key)) c.as_slice-2.ensures.value)) ∙ sym c.in_ok-number.ensures ∙ c.in-None.is in
+    let keys = rw c.replace-given.ensures.value at (c.as_slice-3.ensures.value ∙ c.in_ok-keys.ensures ∙ ap (map (key_of key)) c.as_slice-2.ensures.value) in
+    let none : double_key (map (key_of key) rows) ≡ None = ap double_key (sym keys) ∙ sym c.in_ok-number.ensures ∙ c.in-None.is in
     let given : c.in_ok-keyed.keyed.items ≡ map (keyed_row key) rows = rw c.replace-given.ensures.value at c.in_ok-keyed.ensures in
     let moved = subst (λ l. IsPermutation l sorted) given c.sort_keyed.ensures.moved in
     let order = the_keyed_order (λ (k : KeyedRow). k.number) (λ (k : KeyedRow). k.row) (keyed_row key) key rows sorted (λ r. refl) (λ r. refl) none moved c.sort_keyed.ensures.sorted in

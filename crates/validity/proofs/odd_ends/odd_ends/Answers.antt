@@ -1,4 +1,4 @@
-use Rattle.std.proofs.Common.{◌≡◌, sym, ap, ◌∙◌, flat_map}
+use Rattle.std.proofs.Common.{ap, ◌∙◌, flat_map}
 use Rattle.geometry_model.specs.Locations.{ends}
 use Rattle.validity.proofs.OddEndFacts.{odd_ends_found}
 use Rattle.validity.proofs.odd_ends.odd_ends.Goals as goal

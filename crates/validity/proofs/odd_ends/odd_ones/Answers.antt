@@ -1,4 +1,4 @@
-use Rattle.std.proofs.Common.{◌≡◌, ◌<◌, length, sym, subst, rules, List}
+use Rattle.std.proofs.Common.{sym, subst, List}
 use Rattle.geometry_model.specs.Points.{Position}
 use Rattle.validity.proofs.OddEndFacts.{IsKeptOdd, nothing_odd, odd_toggled, odd_of_all}
 use Rattle.validity.proofs.odd_ends.odd_ones.Goals as goal

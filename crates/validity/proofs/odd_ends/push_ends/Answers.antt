@@ -1,6 +1,6 @@
-use Rattle.std.proofs.Common.{◌≡◌, ◌<◌, length, sym, ◌∙◌, arith, rules}
+use Rattle.std.proofs.Common.{◌<◌, length, arith}
 use Rattle.std.proofs.lemmas.Bool.Decides.{nat_tests}
-use Rattle.validity.proofs.OddEndFacts.{two_ends, no_ends}
+use Rattle.validity.proofs.OddEndFacts.{two_ends}
 use Rattle.validity.proofs.odd_ends.push_ends.Goals as goal
 
 pub returns-in_ok-push-2 : goal.returns-in_ok-push-2

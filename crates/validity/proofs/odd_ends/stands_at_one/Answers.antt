@@ -1,4 +1,4 @@
-use Rattle.std.proofs.Common.{◌≡◌, ◌+◌, ◌-◌, ◌/◌, ◌<◌, ℕ, length, refl, sym, ap, ◌∙◌, arith, rules}
+use Rattle.std.proofs.Common.{◌+◌, ◌-◌, ◌/◌, length, refl, sym, ap, ◌∙◌}
 use Rattle.geometry_model.specs.Points.{compare}
 use Rattle.validity.proofs.OddEndFacts.{parted_first, parted_less, parted_greater, found_there, not_there, middle_within, middle_before}
 use Rattle.validity.proofs.odd_ends.stands_at_one.Goals as goal

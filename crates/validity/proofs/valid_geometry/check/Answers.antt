@@ -3,19 +3,19 @@ use Rattle.validity.proofs.Kept.{brings}
 use Rattle.validity.proofs.PolygonPromises.{holes_are_cut_out, holes_are_inside, interior_by_elements, elements_are_apart, stretches_stay, outside_exterior, rings_part_there, rings_have_sides}
 use Rattle.validity.proofs.valid_geometry.check.Goals as goal
 
-pub returns-in_ok-of_points-in-Point-clause-stretches : goal.returns-in_ok-of_points-in-Point-clause-stretches
-returns-in_ok-of_points-in-Point-clause-stretches c = stretches_stay c.args.geometry (no_fault_valid c.args.geometry c.in_ok-of_points-in-Point.ensures.faultless)
+pub returns-in_ok-of_point-in-Point-clause-stretches : goal.returns-in_ok-of_point-in-Point-clause-stretches
+returns-in_ok-of_point-in-Point-clause-stretches c = stretches_stay c.args.geometry (no_fault_valid c.args.geometry c.in_ok-of_point-in-Point.ensures.faultless)
 
-pub returns-in_ok-of_points-in-Point-clause-outside : goal.returns-in_ok-of_points-in-Point-clause-outside
-returns-in_ok-of_points-in-Point-clause-outside c = outside_exterior c.args.geometry (no_fault_valid c.args.geometry c.in_ok-of_points-in-Point.ensures.faultless)
+pub returns-in_ok-of_point-in-Point-clause-outside : goal.returns-in_ok-of_point-in-Point-clause-outside
+returns-in_ok-of_point-in-Point-clause-outside c = outside_exterior c.args.geometry (no_fault_valid c.args.geometry c.in_ok-of_point-in-Point.ensures.faultless)
 
-pub returns-in-Line : goal.returns-in-Line
-returns-in-Line c =
+pub returns-in_default : goal.returns-in_default
+returns-in_default c =
     let geometry = c.args.geometry in
-    let found = c.of_edges.result in
-    let none = c.of_edges.ensures.faultless in
+    let found = c.of_larger.result in
+    let none = c.of_larger.ensures.faultless in
     record {
-      same = c.of_edges.ensures.same;
+      same = c.of_larger.ensures.same;
       valid = brings found none (no_fault_valid geometry);
       faultless = none;
       holes = brings found none (λ n. holes_are_cut_out geometry (no_fault_valid geometry n));
@@ -26,7 +26,7 @@ returns-in-Line c =
       outside = brings found none (λ n. outside_exterior geometry (no_fault_valid geometry n));
       parted = brings found none (λ n. rings_part_there geometry (no_fault_valid geometry n));
       sides = brings found none (λ n. rings_have_sides geometry (no_fault_valid geometry n));
-      fault = c.of_edges.ensures.fault;
-      stands = c.of_edges.ensures.stands;
-      first = c.of_edges.ensures.first;
+      fault = c.of_larger.ensures.fault;
+      stands = c.of_larger.ensures.stands;
+      first = c.of_larger.ensures.first;
     }

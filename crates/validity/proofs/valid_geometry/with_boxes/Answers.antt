@@ -1,9 +1,10 @@
 use Rattle.std.proofs.Common.{subst}
-use Rattle.geometry_model.specs.Geometries.{Geometry}
-use Rattle.validity.specs.OddEnds.{AreOddEnds, ended_lines}
+use Rattle.validity.specs.ValidGeometries.{AreSearched}
 use Rattle.validity.proofs.Kept.{is_kept}
 use Rattle.validity.proofs.valid_geometry.with_boxes.Goals as goal
 
 pub returns-clause-kept : goal.returns-clause-kept
-returns-clause-kept c = is_kept c.args.outline c.in_ok-boxes.boxes c.in_ok-odd_ends.odd_ends.items c.in_ok-boxes.ensures
-    (subst (λ (g : Geometry). AreOddEnds c.in_ok-odd_ends.odd_ends.items (ended_lines g)) c.geometry.ensures c.in_ok-odd_ends.ensures) c.requires
+returns-clause-kept c = is_kept c.args.outline c.in_ok-boxes.boxes c.in_ok-boxes.ensures c.requires
+
+pub returns-clause-searched : goal.returns-clause-searched
+returns-clause-searched c = subst (AreSearched c.in_ok-positions.positions.items) c.geometry.ensures c.in_ok-positions.ensures

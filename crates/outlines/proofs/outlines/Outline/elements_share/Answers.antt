@@ -10,4 +10,4 @@ share-requires c = c.requires.boxes c.element_edges.result.now c.element_edges.e
 
 pub returns : goal.returns
 returns c = IfOk-weaker c.share.result (λ share. share ≡ edges_share c.element_edges.result.now c.element_edges-2.result.now) _
-    (λ share is. is ∙ sym (elements_share_by_edges (elements c.args.self.now) c.args.i c.args.j c.element_edges.result.now c.element_edges-2.result.now c.element_edges.ensures c.element_edges-2.ensures)) c.share.ensures
+    (λ share is. is ∙ sym (elements_share_by_edges (elements c.args.self.now) c.args.i c.args.j c.element_edges.result.now c.element_edges-2.result.now c.element_edges.ensures c.element_edges-2.ensures)) c.share.ensures.exact

@@ -10,4 +10,4 @@ share-requires c = c.requires.boxes c.line_edges.result.now c.line_edges.ensures
 
 pub returns : goal.returns
 returns c = IfOk-weaker c.share.result (λ share. share ≡ edges_share c.line_edges.result.now c.line_edges-2.result.now) _
-    (λ share is. is ∙ sym (rings_share_by_edges (lines c.args.self.now) c.args.i c.args.j c.line_edges.result.now c.line_edges-2.result.now c.line_edges.ensures c.line_edges-2.ensures)) c.share.ensures
+    (λ share is. is ∙ sym (rings_share_by_edges (lines c.args.self.now) c.args.i c.args.j c.line_edges.result.now c.line_edges-2.result.now c.line_edges.ensures c.line_edges-2.ensures)) c.share.ensures.exact

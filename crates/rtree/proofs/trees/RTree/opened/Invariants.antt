@@ -5,4 +5,4 @@ use Rattle.rtree.proofs.trees.RTree.opened.Given as goal
 
 -- the nodes below this height were counted
 abbrev pub invariant-loop-height : goal.invariant-loop-height
-invariant-loop-height l = l.opened ≡ met_up_to l.asked (map vec_items l.self-inside.levels.items) l.height
+invariant-loop-height l = l.opened ≡ met_up_to l.asked (map vec_items l.self-inside.tree.levels.items) l.height

@@ -1,4 +1,4 @@
-use Rattle.std.proofs.Common.{◌≡◌, ◌∙◌}
+use Rattle.std.proofs.Common.{◌∙◌}
 use Rattle.validity.proofs.valid_geometry.Valid.is_odd_end.Goals as goal
 
 pub stands_at_one-requires : goal.stands_at_one-requires

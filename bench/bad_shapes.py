@@ -1,0 +1,400 @@
+"""The bad inputs of one or two geometries: shapes that make many edges near one another, share much or cover themselves.
+
+Each function takes a size, and returns a text for `check` or a pair of texts for `relate`. Chance is seeded by the size. Numbers
+are small, so that a text of 10,000 positions can be a word of a command line.
+"""
+
+import math
+import random
+
+from relate import combs as straight_combs
+
+SPAN = 9_000
+
+
+def positions_text(positions):
+    """The text of a list of positions."""
+    return "(" + ",".join(f"{x} {y}" for x, y in positions) + ")"
+
+
+def line(positions):
+    """The text of a line."""
+    return "LINESTRING" + positions_text(positions)
+
+
+def lines(several):
+    """The text of several lines."""
+    return "MULTILINESTRING(" + ",".join(map(positions_text, several)) + ")"
+
+
+def rings_text(rings):
+    """The text of the rings of a polygon, each of which is closed here."""
+    return "(" + ",".join(positions_text(ring + ring[:1]) for ring in rings) + ")"
+
+
+def polygon(*rings):
+    """The text of a polygon."""
+    return "POLYGON" + rings_text(rings)
+
+
+def polygons(several):
+    """The text of several polygons, each of which is a list of rings."""
+    return "MULTIPOLYGON(" + ",".join(map(rings_text, several)) + ")"
+
+
+def points(positions):
+    """The text of several points."""
+    return "MULTIPOINT(" + ",".join(f"({x} {y})" for x, y in positions) + ")"
+
+
+def twice(text):
+    """A geometry, and itself."""
+    return text, text
+
+
+def at_random(chance):
+    """A position anywhere."""
+    return chance.randint(-SPAN, SPAN), chance.randint(-SPAN, SPAN)
+
+
+def star_ring(count, start=0):
+    """The positions of a star at distances that vary, from one of them on."""
+    chance = random.Random(count)
+    ring = []
+    for k in range(count):
+        angle, distance = 2 * math.pi * k / count, SPAN * (0.5 + 0.5 * chance.random())
+        ring.append((round(distance * math.cos(angle)), round(distance * math.sin(angle))))
+    return ring[start:] + ring[:start]
+
+
+def to_and_fro(count):
+    """A line whose edges are all on one line, to and fro, so that it covers itself many times."""
+    chance = random.Random(count)
+    return twice(line([(3 * at, at) for at in (chance.randint(-SPAN // 3, SPAN // 3) for _ in range(count))]))
+
+
+def to_and_fro_upright(count):
+    """The same on an upright line."""
+    chance = random.Random(count)
+    return twice(line([(5, chance.randint(-SPAN, SPAN)) for _ in range(count)]))
+
+
+def scribble(count):
+    """A line from one position anywhere to the next, so that a third of all pairs of its edges cross."""
+    chance = random.Random(count)
+    return twice(line([at_random(chance) for _ in range(count)]))
+
+
+def scribble_reversed(count):
+    """The same line, and it backwards."""
+    chance = random.Random(count)
+    positions = [at_random(chance) for _ in range(count)]
+    return line(positions), line(positions[::-1])
+
+
+def two_scribbles(count):
+    """Two such lines, which share no stretch."""
+    chance = random.Random(count)
+    return tuple(line([at_random(chance) for _ in range(count)]) for _ in range(2))
+
+
+def random_segments(count):
+    """Lines of one edge each, anywhere."""
+    chance = random.Random(count)
+    return twice(lines([[at_random(chance), at_random(chance)] for _ in range(count)]))
+
+
+def street_grid(count):
+    """A grid of streets, of which each is one line."""
+    side, step = count // 2, 2 * SPAN // (count // 2)
+    level = [[(-SPAN, -SPAN + step * k), (SPAN, -SPAN + step * k)] for k in range(side)]
+    upright = [[(x, y) for y, x in street] for street in level]
+    return twice(lines(level + upright))
+
+
+def mown_row(count, is_upright):
+    """A line of rows from side to side, as a field is mown."""
+    step = 2 * SPAN // (count // 2)
+    row = []
+    for k in range(count // 2):
+        ends = [(-SPAN, -SPAN + step * k), (SPAN, -SPAN + step * k)]
+        row += ends if k % 2 == 0 else ends[::-1]
+    return [(y, x) for x, y in row] if is_upright else row
+
+
+def cross_mown(count):
+    """A field that is mown from side to side and then upwards, in one line."""
+    return twice(line(mown_row(count // 2, False) + mown_row(count // 2, True)))
+
+
+def along_edge(count):
+    """A line that goes to and fro along the edge of a triangle, and the triangle."""
+    chance = random.Random(count)
+    return line([(at, at) for at in (chance.randint(-SPAN, SPAN) for _ in range(count))]), polygon(
+        [(-SPAN, -SPAN), (SPAN, SPAN), (-SPAN, SPAN)]
+    )
+
+
+def along_edge_step_by_step(count):
+    """A line of short steps along the edge of a triangle with as many positions there, and the triangle."""
+    step = 2 * SPAN // count
+    edge = [(-SPAN + step * k, -SPAN + step * k) for k in range(count)]
+    return line(edge), polygon(edge + [(-SPAN, SPAN)])
+
+
+def points_shuffled(count):
+    """Points, and the same in another order."""
+    chance = random.Random(count)
+    positions = [at_random(chance) for _ in range(count)]
+    return points(positions), points(chance.sample(positions, count))
+
+
+def points_equal(count):
+    """One point, listed so often."""
+    return twice(points([(3, 5)] * count))
+
+
+def points_on_upright(count):
+    """Points on an upright line, and the same in another order."""
+    positions = [(5, 2 * k) for k in range(count)]
+    return points(positions), points(random.Random(count).sample(positions, count))
+
+
+def points_apart(count):
+    """Two lists of points without a point in common."""
+    chance = random.Random(count)
+    return tuple(points([(2 * (x // 2) + odd, y) for x, y in (at_random(chance) for _ in range(count))]) for odd in (0, 1))
+
+
+def points_of_scribble(count):
+    """The positions of a scribble as points, and the scribble."""
+    chance = random.Random(count)
+    positions = [at_random(chance) for _ in range(count)]
+    return points(positions), line(positions)
+
+
+def points_in_spiral(count):
+    """Points inside a spiral, and the spiral."""
+    chance, ring = random.Random(count), spiral_ring(count)
+    inside = [((x + u) // 2, (y + v) // 2) for (x, y), (u, v) in zip(ring, ring[::-1])]
+    return points(chance.sample(inside, len(inside))), polygon(ring)
+
+
+def zigzag_ring(count):
+    """A band that goes to and fro askew, so that the bounds of all its edges overlap."""
+    half, reach = count // 2, SPAN // 2
+    left = [(2 * k + (reach if k % 2 else -reach) // 2, -2 * k + (reach if k % 2 else -reach) // 2) for k in range(half)]
+    right = [(x + 1, y + 1) for x, y in left]
+    return left + right[::-1]
+
+
+def zigzag(count):
+    """A polygon that goes to and fro askew."""
+    return polygon(zigzag_ring(count))
+
+
+def ragged_star(count):
+    """A star whose corners are far and near in turn, so that all its edges are long and thin spokes."""
+    ring = []
+    for k in range(count):
+        angle, distance = 2 * math.pi * k / count, 100 * SPAN * (1 if k % 2 else 0.2)
+        ring.append((round(distance * math.cos(angle)), round(distance * math.sin(angle))))
+    return polygon(ring)
+
+
+def sliver(k, length):
+    """A long thin quadrilateral askew, the k-th of a row."""
+    x = 12 * k
+    return [(x, -x), (x + length, length - x), (x + length + 4, length - x), (x + 4, -x)]
+
+
+def thin_holes(count):
+    """A polygon of so many long thin holes askew."""
+    length, reach = 12 * count, 60 * count
+    outer = [(-reach, -reach), (reach, -reach), (reach, reach), (-reach, reach)]
+    return polygon(outer, *(sliver(k, length) for k in range(count)))
+
+
+def holes_of_one_box(count):
+    """The same of holes so long that their bounds are almost equal."""
+    length, reach = 1_000 * count, 1_100 * count
+    outer = [(-reach, -reach), (reach, -reach), (reach, reach), (-reach, reach)]
+    return polygon(outer, *(sliver(k, length) for k in range(count)))
+
+
+def thin_polygons(count):
+    """So many long thin polygons askew."""
+    return polygons([[sliver(k, 12 * count)] for k in range(count)])
+
+
+def equal_stars(count):
+    """A star, and the same from another start on."""
+    return polygon(star_ring(count)), polygon(star_ring(count, count // 3))
+
+
+def ring_and_star(count):
+    """The ring of a star as a line, and the star."""
+    ring = star_ring(count)
+    return line(ring + ring[:1]), polygon(ring)
+
+
+def chevron(k, reach):
+    """A chevron, the k-th of a nest."""
+    y = 4 * k
+    return [(-reach, y), (0, y + reach), (reach, y), (reach, y + 2), (0, y + reach + 2), (-reach, y + 2)]
+
+
+def nested_chevrons(count):
+    """So many chevrons, each in the next."""
+    return polygons([[chevron(k, 8 * count)] for k in range(count)])
+
+
+def frame(k):
+    """A square frame round smaller ones."""
+    outer, inner = 4 * k + 4, 4 * k + 2
+    return [[(-r, -r), (r, -r), (r, r), (-r, r)] for r in (outer, inner)]
+
+
+def nested_frames(count):
+    """Frames in frames: the bounds of each hold those of all before it."""
+    return polygons([frame(k) for k in range(count // 2)])
+
+
+def nested_frames_twice(count):
+    """The same, related to itself."""
+    return twice(nested_frames(count))
+
+
+def holes_in_spiral(count):
+    """A spiral with a hole in each of its corners, so that each hole is looked for in the whole spiral."""
+    ring = spiral_ring(count * 6, 64)
+    holes = []
+    for (x, y), (u, v) in zip(ring[1 : count // 2], ring[::-1][1 : count // 2]):
+        a, b = (x + u) // 2, (y + v) // 2
+        holes.append([(a - 1, b - 1), (a + 1, b - 1), (a + 1, b + 1), (a - 1, b + 1)])
+    return polygon(ring, *holes)
+
+
+def spiral_ring(count, pitch=8):
+    """A band that winds outwards at right angles."""
+    corners, x, y = [(0, 0)], 0, 0
+    for k in range(count // 2 - 1):
+        across, up = ((1, 0), (0, 1), (-1, 0), (0, -1))[k % 4]
+        length = pitch * (k // 2 + 1)
+        x, y = x + across * length, y + up * length
+        corners.append((x, y))
+    left, right, normals = [], [], ((0, 1), (-1, 0), (0, -1), (1, 0))
+    for k, (x, y) in enumerate(corners):
+        turns = {max(k - 1, 0) % 4, min(k, len(corners) - 2) % 4}
+        dx, dy = (sum(normals[t][axis] for t in turns) for axis in (0, 1))
+        left.append((x + pitch // 4 * dx, y + pitch // 4 * dy))
+        right.append((x - pitch // 4 * dx, y - pitch // 4 * dy))
+    return left + right[::-1]
+
+
+def spiral(count):
+    """A polygon that winds outwards."""
+    return polygon(spiral_ring(count))
+
+
+def spiral_twice(count):
+    """The same, related to itself."""
+    return twice(spiral(count))
+
+
+def spiral_askew(count):
+    """The same, turned by half a right angle, so that bounds overlap."""
+    return polygon([(x - y, x + y) for x, y in spiral_ring(count)])
+
+
+def odd_spokes(count):
+    """An odd number of lines from one point, and the same backwards."""
+    ring = star_ring(count | 1)
+    return lines([[(0, 0), end] for end in ring]), lines([[end, (0, 0)] for end in ring])
+
+
+def hatch(count, across):
+    """Parallel lines askew."""
+    step, reach = 4, 4 * count
+    return lines([[(step * k + across, -step * k), (step * k + across + reach, reach - step * k)] for k in range(count)])
+
+
+def hatches(count):
+    """Two hatches, the lines of the one between those of the other."""
+    return hatch(count, 0), hatch(count, 2)
+
+
+def hatches_across(count):
+    """Two grids of which the lines of one cross all those of the other."""
+    step = 2 * SPAN // count
+    level = [[(-SPAN - 9, -SPAN + step * k), (SPAN + 9, -SPAN + step * k)] for k in range(count)]
+    return lines(level), lines([[(y + 1, x) for x, y in street] for street in level])
+
+
+def comb_ring(count, up):
+    """A comb with teeth askew, between which those of another fit."""
+    teeth, reach = count // 4, 8 * count
+    ring = []
+    for k in range(teeth):
+        x, y = 8 * k, -8 * k
+        tip = reach if up else -reach
+        ring += [(x, y), (x + tip, y + tip), (x + tip + 2, y + tip - 2), (x + 2, y - 2)]
+    return ring + ([(8 * teeth - 4 * reach, -8 * teeth - 4 * reach)] if up else [(8 * teeth + 4 * reach, 4 * reach - 8 * teeth)])
+
+
+def combs_askew(count):
+    """Two combs with teeth askew that go into one another and don't touch."""
+    upper = comb_ring(count, True)
+    lower = [(x + 8 * count + 24, y + 8 * count + 16) for x, y in comb_ring(count, False)]
+    return polygon(upper), polygon(lower)
+
+
+def combs_across(count):
+    """Two combs of so many teeth, each tooth of the one across all of the other."""
+    return straight_combs(count)
+
+
+def zigzags_beside(count):
+    """Two lines that go to and fro askew, side by side, which don't meet."""
+    ring = zigzag_ring(2 * count)
+    return line(ring[:count]), line([(x + 1, y + 1) for x, y in ring[:count]])
+
+
+def zigzag_twice(count):
+    """A polygon that goes to and fro askew, related to itself."""
+    return twice(zigzag(count))
+
+
+def one_point_often(count):
+    """A line that comes back to one point again and again, and its spokes as a star of lines."""
+    ring = star_ring(min(count // 2, 1_000))
+    visits = [position for end in ring for position in ((0, 0), end)]
+    return line(visits), lines([[(0, 0), end] for end in ring])
+
+
+def cut_square(count):
+    """A square with many positions on its sides, and the square of four."""
+    per, step = count // 4, 4
+    reach = per * step
+    sides = [(step * k, 0) for k in range(per)] + [(reach, step * k) for k in range(per)]
+    sides += [(reach - step * k, reach) for k in range(per)] + [(0, reach - step * k) for k in range(per)]
+    return polygon(sides), polygon([(0, 0), (reach, 0), (reach, reach), (0, reach)])
+
+
+def loops_of_one_ring(count):
+    """The lines of a circle's ring, of which each goes round half of it."""
+    ring = [(round(SPAN * math.cos(2 * math.pi * k / 60)), round(SPAN * math.sin(2 * math.pi * k / 60))) for k in range(60)]
+    halves = [[ring[(k + i) % 60] for i in range(31)] for k in range(count // 31)]
+    return twice(lines(halves))
+
+
+def long_numbers(count):
+    """Two points whose numbers have so many zeros in front and behind the point."""
+    zeros = "0" * count
+    return f"MULTIPOINT({zeros}7 -{zeros}1.{zeros},+{zeros}.{zeros} 3.{zeros})"
+
+
+def blanks(count):
+    """A point with so many blanks wherever they may be."""
+    blank = " " * count
+    return f"{blank}POINT{blank}({blank}1{blank}2{blank}){blank}"

@@ -1,0 +1,272 @@
+"""The bad inputs of joins: tables whose rows are all near one another, have NULL or one value, or lie against the order of an index.
+
+Each function takes a number of rows, and returns the tables, the query and the peers that can run it. Chance is seeded by the
+number of rows.
+"""
+
+import random
+from typing import NamedTuple, Optional
+
+SPAN = 1_000_000
+
+
+class Tables(NamedTuple):
+    """The texts of two tables' rows behind their keys, the columns of both, and the query; a peer that is asked the same."""
+
+    first: list
+    second: list
+    columns: str
+    query: str
+    # The predicate that GEOS and SpatiaLite are asked for, empty where `sqlite3` runs the query itself, None where no peer can.
+    predicate: Optional[str] = ""
+    # Whether keys go down from record to record.
+    is_descending: bool = False
+
+
+def of_shapes(first, second, predicate="intersects", wanted="a.id, b.id", more=""):
+    """A join of two lists of geometries by a predicate."""
+    condition = f"ST_{predicate.capitalize()}(a.geom, b.geom)"
+    query = f"SELECT {wanted} FROM first a JOIN second b ON {condition}{more}"
+    return Tables(first, second, "geom GEOMETRY", query, predicate)
+
+
+def of_values(first, second, condition):
+    """A count of the pairs of rows of a number and a text that meet a condition."""
+    query = f"SELECT COUNT(*) FROM first a JOIN second b ON {condition}"
+    return Tables(first, second, "number INTEGER, name TEXT", query)
+
+
+def point(x, y):
+    """The text of a point."""
+    return f"POINT({x} {y})"
+
+
+def box(x, y, across, up):
+    """The text of a rectangle from its lower left corner on."""
+    return f'"POLYGON(({x} {y},{x + across} {y},{x + across} {y + up},{x} {y + up},{x} {y}))"'
+
+
+def edge(x, y, across, up):
+    """The text of a line of one edge."""
+    return f'"LINESTRING({x} {y},{x + across} {y + up})"'
+
+
+def scattered(count, shape, wide=SPAN, high=SPAN, seed=0):
+    """So many shapes at positions anywhere in a rectangle."""
+    chance = random.Random(2 * count + seed)
+    return [shape(chance.randint(-wide, wide), chance.randint(-high, high)) for _ in range(count)]
+
+
+def squares(count, **where):
+    """Small squares anywhere, of which a few hold a given point."""
+    side = max(2, 2 * SPAN // int(count**0.5))
+    return scattered(count, lambda x, y: box(x, y, side, side), seed=1, **where)
+
+
+def with_nulls(texts, every):
+    """The same with NULL in every so manieth row."""
+    return ["" if place % every == 0 else text for place, text in enumerate(texts)]
+
+
+def uniform(count):
+    """Points and squares anywhere."""
+    return of_shapes(scattered(count, point), squares(count))
+
+
+def null_tenth(count):
+    """The same, a tenth of both tables NULL."""
+    return of_shapes(with_nulls(scattered(count, point), 10), with_nulls(squares(count), 10))
+
+
+def null_third(count):
+    """The same, a third of both tables NULL."""
+    return of_shapes(with_nulls(scattered(count, point), 3), with_nulls(squares(count), 3))
+
+
+def null_half_of_first(count):
+    """The same, half of the first table NULL."""
+    return of_shapes(with_nulls(scattered(count, point), 2), squares(count))
+
+
+def null_half_of_second(count):
+    """The same, half of the second table NULL."""
+    return of_shapes(scattered(count, point), with_nulls(squares(count), 2))
+
+
+def null_all(count):
+    """The same, all of both tables NULL."""
+    return of_shapes([""] * count, [""] * count)
+
+
+def empties(count):
+    """The same, a third of both tables EMPTY."""
+    first = [text or "POINT EMPTY" for text in with_nulls(scattered(count, point), 3)]
+    return of_shapes(first, [text or "POLYGON EMPTY" for text in with_nulls(squares(count), 3)])
+
+
+def north_south_band(count):
+    """Points and squares in a narrow upright band."""
+    band = lambda x, y: box(x, y, 9, 9)
+    return of_shapes(scattered(count, point, wide=10), scattered(count, band, wide=10, seed=1))
+
+
+def east_west_band(count):
+    """Points and squares in a narrow level band."""
+    band = lambda x, y: box(x, y, 9, 9)
+    return of_shapes(scattered(count, point, high=10), scattered(count, band, high=10, seed=1))
+
+
+def diagonal_band(count):
+    """Points and squares along a diagonal."""
+    first, second = scattered(count, lambda x, y: point(x, x + y % 9)), scattered(count, lambda x, y: box(x, x + y % 9, 9, 9), seed=1)
+    return of_shapes(first, second)
+
+
+def level_lines(count):
+    """Points, and lines as wide as all."""
+    return of_shapes(scattered(count, point), scattered(count, lambda x, y: edge(-SPAN, y, 2 * SPAN, 0), seed=1))
+
+
+def upright_lines(count):
+    """Points, and lines as high as all."""
+    return of_shapes(scattered(count, point), scattered(count, lambda x, y: edge(x, -SPAN, 0, 2 * SPAN), seed=1))
+
+
+def giants_among_dwarfs(count):
+    """Points, and in every eighth row a line as wide as all, in the other rows small squares."""
+    second = squares(count)
+    lines = scattered(count, lambda x, y: edge(-SPAN, y, 2 * SPAN - abs(x), 0), seed=2)
+    return of_shapes(scattered(count, point), [lines[k] if k % 8 == 0 else text for k, text in enumerate(second)])
+
+
+def equal_envelopes(count):
+    """Lines whose envelopes are all one, which meet in their ends alone: each pair is a candidate."""
+    first = [f'"LINESTRING(0 0,{k + 1} {2 * SPAN - k},{2 * SPAN} {2 * SPAN})"' for k in range(count)]
+    second = [f'"LINESTRING(0 0,{2 * SPAN - k} {k + 1},{2 * SPAN} {2 * SPAN})"' for k in range(count)]
+    return of_shapes(first, second, "crosses")
+
+
+def lines_askew(count):
+    """Parallel lines askew, as long as all, of which none meets another."""
+    askew = lambda odd: [edge(8 * k + odd, -8 * k, SPAN, SPAN) for k in range(count)]
+    return of_shapes(askew(0), askew(4))
+
+
+def concentric(count):
+    """Rings round one point, those of the one table between those of the other."""
+    ring = lambda r: f'"LINESTRING({-r} {-r},{r} {-r},{r} {r},{-r} {r},{-r} {-r})"'
+    return of_shapes([ring(4 * k + 2) for k in range(count)], [ring(4 * k + 4) for k in range(count)], "touches")
+
+
+def turned_bits(place, count):
+    """A place with its bits in the other order: neighbours are far from one another."""
+    width = max(1, (count - 1).bit_length())
+    return int(f"{place:0{width}b}"[::-1], 2)
+
+
+def keys_against_order(count):
+    """Points on a level line, whose keys go up as their places turn about."""
+    places = [turned_bits(k, count) for k in range(count)]
+    return of_shapes([point(9 * at, at % 7) for at in places], [box(9 * at - 1, 0, 3, 7) for at in places[::-1]])
+
+
+def one_point_apart(count):
+    """Points that are all equal, in tables of which the second is the shorter: it is the outer one."""
+    return [point(3, 3)] * (count + 1), [point(3, 3)] * count
+
+
+def count_of_equal_points(count):
+    """The count of all pairs of equal points."""
+    return of_shapes(*one_point_apart(count), wanted="COUNT(*)")
+
+
+def limit_of_equal_points(count):
+    """The first of all pairs of equal points."""
+    return of_shapes(*one_point_apart(count), more=" LIMIT 1")
+
+
+def points_on_scribble(count):
+    """Points, and one line from one position anywhere to the next, of as many as it may have at the most."""
+    chance = random.Random(count)
+    ends = ",".join(f"{chance.randint(-SPAN, SPAN)} {chance.randint(-SPAN, SPAN)}" for _ in range(min(count, 10_000)))
+    return of_shapes(scattered(count, point), [f'"LINESTRING({ends})"'])
+
+
+def many_predicates(count):
+    """A join by so many predicates, and as many of its first table and a constant: each is a probe that a plan may make."""
+    two = " AND ".join(["ST_Within(a.geom,b.geom)"] * count)
+    one = " AND ".join(["ST_Within(a.geom,ST_GeomFromText('POINT EMPTY'))"] * count)
+    query = f"SELECT a.id FROM first a, second b WHERE {two} AND {one}"
+    return Tables([point(1, 1)], [point(1, 1)], "geom GEOMETRY", query, None)
+
+
+def numbered(count, shift=0, text="name"):
+    """Rows of a number and a text, each once, in an order at random."""
+    places = list(range(count))
+    random.Random(count + shift).shuffle(places)
+    return [f"{place + shift},{text}{place + shift}" for place in places]
+
+
+def equal_numbers(count):
+    """Equality of two columns of numbers."""
+    return of_values(numbered(count), numbered(count, 1), "a.number = b.number")
+
+
+def equal_texts(count):
+    """Equality of two columns of texts."""
+    return of_values(numbered(count), numbered(count, 1), "a.name = b.name")
+
+
+def equal_long_texts(count):
+    """Equality of texts that differ in their last characters."""
+    long = "n" * 200
+    return of_values(numbered(count, 0, long), numbered(count, 1, long), "a.name = b.name")
+
+
+def equal_keys(count):
+    """Equality of the keys."""
+    return of_values(numbered(count), numbered(count, 1), "a.id = b.id")
+
+
+def key_and_number(count):
+    """Equality of a key and a column."""
+    return of_values(numbered(count), numbered(count, 1), "a.id = b.number")
+
+
+def one_value_and_texts(count):
+    """Two equalities, of which the first is one value in every row."""
+    rows = lambda shift: [f"7,name{row.split(',')[0]}" for row in numbered(count, shift)]
+    return of_values(rows(0), rows(1), "a.number = b.number AND a.name = b.name")
+
+
+def one_equality_or_other(count):
+    """One equality or another."""
+    return of_values(numbered(count), numbered(count, 1), "a.number = b.number OR a.name = b.name")
+
+
+def equality_by_order(count):
+    """An equality that is written as two comparisons."""
+    return of_values(numbered(count), numbered(count, 1), "a.number <= b.number AND a.number >= b.number")
+
+
+def one_row_of_each(count):
+    """Conditions on each table alone, which one row of each meets."""
+    return of_values(numbered(count), numbered(count, 1), "a.number = 3 AND b.number = 5")
+
+
+def no_numbers(count):
+    """Equality of two columns of which each is NULL in every row."""
+    rows = [f",name{k}" for k in range(count)]
+    return of_values(rows, rows, "a.number = b.number")
+
+
+def keys_downwards(count):
+    """One table whose keys go down, and a condition on it."""
+    query = "SELECT COUNT(*) FROM first a WHERE a.number = 3"
+    return Tables(numbered(count), [], "number INTEGER, name TEXT", query, is_descending=True)
+
+
+def many_comparisons(count):
+    """So many conditions on one row, and an OR of as many predicates."""
+    query = f"SELECT id FROM first WHERE {' AND '.join(['id=1'] * count)} AND ({' OR '.join(['ST_Touches(g,g)'] * count)})"
+    return Tables([point(1, 1)], [], "g GEOMETRY", query, None)

@@ -1,0 +1,66 @@
+"""Draws what `all.py` measures: for each workload a panel with the cost of a row over the size, both logarithmic."""
+
+import math
+
+ACROSS, WIDTH, HEIGHT, LEFT, TOP = 4, 210, 150, 46, 30
+COLOURS = {"sfq": "#1f5fbf", "floor": "#2a8a4a", "peer": "#c26a1a"}
+STYLE = (
+    "text{font:11px sans-serif;fill:#333}.title{font-weight:bold}.line{fill:none;stroke-width:2}"
+    ".grid{stroke:#ccc;stroke-width:1}rect.paper{fill:#fff}"
+)
+
+
+def costs(panels, unit):
+    """The picture of panels: each a title, and the sizes and costs of each program."""
+    rows = math.ceil(len(panels) / ACROSS)
+    width, height = ACROSS * (WIDTH + LEFT) + 20, rows * (HEIGHT + 2 * TOP) + 30
+    parts = [f'<svg xmlns="http://www.w3.org/2000/svg" width="{width}" height="{height}" role="img">']
+    parts.append(f"<title>{unit} of a row over the number of rows</title><style>{STYLE}</style>")
+    parts.append(f'<rect class="paper" width="{width}" height="{height}"/>')
+    for place, (title, found) in enumerate(panels):
+        x, y = LEFT + place % ACROSS * (WIDTH + LEFT), TOP + place // ACROSS * (HEIGHT + 2 * TOP)
+        parts += panel(x, y, title, found)
+    parts += legend(LEFT, height - 12, unit)
+    return "\n".join([*parts, "</svg>", ""])
+
+
+def panel(left, top, title, found):
+    """The lines of one panel."""
+    sizes = [math.log10(size) for size, _ in found["sfq"]]
+    values = [math.log10(cost) for line in found.values() for _, cost in line]
+    low, high = math.floor(min(values)), math.ceil(max(values))
+    span = max(sizes[-1] - sizes[0], 1e-9)
+
+    def at(size, cost):
+        x = left + (math.log10(size) - sizes[0]) / span * (WIDTH - 20)
+        return x, top + (high - math.log10(cost)) / max(high - low, 1) * (HEIGHT - 20)
+
+    parts = [f'<text class="title" x="{left}" y="{top - 10}">{title}</text>']
+    for power in range(low, high + 1):
+        y = at(found["sfq"][0][0], 10**power)[1]
+        parts.append(f'<path class="grid" d="M{left} {y:.1f}H{left + WIDTH - 20}"/>')
+        parts.append(f'<text x="{left - 6}" y="{y + 4:.1f}" text-anchor="end">{power_text(power)}</text>')
+    for size, _ in found["sfq"]:
+        x = at(size, 10**low)[0]
+        parts.append(f'<text x="{x:.1f}" y="{top + HEIGHT - 4}" text-anchor="middle">{size:,}</text>')
+    for who, line in found.items():
+        points = " ".join(f"{x:.1f},{y:.1f}" for x, y in (at(*it) for it in line))
+        parts.append(f'<polyline class="line" stroke="{COLOURS[who]}" points="{points}"/>')
+        parts += [f'<circle cx="{it.split(",")[0]}" cy="{it.split(",")[1]}" r="3" fill="{COLOURS[who]}"/>' for it in points.split()]
+    return parts
+
+
+def power_text(power):
+    """A power of ten, in short."""
+    return {0: "1", 1: "10", 2: "100", 3: "1k", 4: "10k", 5: "100k", 6: "1M", 7: "10M"}.get(power, f"1e{power}")
+
+
+def legend(left, y, unit):
+    """Which colour is which, and what the panels show."""
+    parts = [f'<text x="{left}" y="{y}">{unit} for each row, over the number of rows:</text>']
+    x = left + 260
+    for who, colour in COLOURS.items():
+        name = {"sfq": "sfq", "floor": "the floor, a C program for this alone", "peer": "the best peer (GEOS, sqlite3)"}[who]
+        parts.append(f'<path class="line" stroke="{colour}" d="M{x} {y - 4}h24"/><text x="{x + 30}" y="{y}">{name}</text>')
+        x += 60 + 7 * len(name)
+    return parts

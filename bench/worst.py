@@ -1,0 +1,389 @@
+#!/usr/bin/env python3
+"""Measures `sfq` on bad inputs: shapes and tables within the limits on which an engine may be slow, at a size and at twice that.
+
+Geometries (`bad_shapes.py`) are given to `sfq relate` or `sfq check`, and joins (`bad_tables.py`) to `sfq run`. Beside it run the
+peers that are there: GEOS (`geos_peer.c`, `geos_tables.c`), SpatiaLite with an R*-tree, and `sqlite3` for joins without a geometry.
+It prints a Markdown table: the size, the processor time of `sfq` at it and at twice that, the exponent by which the time grows, the
+best peer at twice the size and its time, the ratio, and the greatest memory of `sfq`. Times are the least of some runs, start-up left
+out. A run that takes more than a limit of processor seconds is broken off, and shown as more than that.
+
+Under `--instructions` it counts the instructions of `sfq` alone, by valgrind, at a small size and twice that. The inputs are the same
+each time. With `--bounds` it writes beside each input the bound that its growth has in the test.
+
+It needs Python's standard library and the built program (run ./build, or name another by `--program`); for the peers the
+distribution's packages `gcc`, `libgeos-dev`, `sqlite3` and `libsqlite3-mod-spatialite`; and for `--instructions` `valgrind`. It is no
+test: the gate doesn't run it. Its short form is tests/test_worst.py.
+"""
+
+import argparse
+import os
+import pathlib
+import re
+import shutil
+import subprocess
+import sys
+import tempfile
+from typing import Callable, NamedTuple, Optional
+
+import bad_shapes as shapes
+import bad_tables as tables
+from joins import commands as spatial_commands
+from peers import TABLES, spatialite_command
+from timing import PROGRAM, exponent, figure, instructions, print_columns, print_heads, probe
+
+GEOS_PEER = pathlib.Path(__file__).resolve().parent / "geos_peer.c"
+
+
+# The size at which the first input of a kind takes little more than start-up.
+SMALLEST = 4
+# What a bound is above the exponent that was counted.
+MARGIN = 0.12
+
+
+class Input(NamedTuple):
+    """A bad input: what makes it, its size, at which it is measured and at twice which, a small size at which it is counted, and
+    how fast its instructions may grow: the exponent from the small size to twice that, with a margin, or None where it isn't
+    measured yet. Lower it where that falls."""
+
+    label: str
+    make: Callable
+    size: int
+    small: int
+    bound: Optional[float] = None
+
+
+# What `sfq relate` is given.
+PAIRS = (
+    Input("to and fro on one line, to itself", shapes.to_and_fro, 500, 40),
+    Input("to and fro on an upright line, to itself", shapes.to_and_fro_upright, 500, 40),
+    Input("scribble to itself", shapes.scribble, 500, 40),
+    Input("scribble and it backwards", shapes.scribble_reversed, 500, 40),
+    Input("two scribbles", shapes.two_scribbles, 4_000, 100),
+    Input("random segments to themselves", shapes.random_segments, 500, 60),
+    Input("street grid to itself", shapes.street_grid, 500, 60),
+    Input("cross-mown field to itself", shapes.cross_mown, 2_000, 100),
+    Input("line along a polygon's edge", shapes.along_edge, 2_000, 100),
+    Input("line of short steps along an edge", shapes.along_edge_step_by_step, 4_000, 200),
+    Input("points to themselves, shuffled", shapes.points_shuffled, 4_500, 400),
+    Input("one point listed often, to itself", shapes.points_equal, 4_500, 400),
+    Input("points on an upright line, shuffled", shapes.points_on_upright, 4_500, 400),
+    Input("points to other points", shapes.points_apart, 4_500, 400),
+    Input("points of a scribble, and it", shapes.points_of_scribble, 4_500, 200),
+    Input("points in a spiral, and it", shapes.points_in_spiral, 4_000, 200),
+    Input("zigzag polygon to itself", shapes.zigzag_twice, 2_000, 120),
+    Input("zigzag lines side by side", shapes.zigzags_beside, 2_000, 200),
+    Input("equal stars, other start", shapes.equal_stars, 4_500, 200),
+    Input("ring of a star, and the star", shapes.ring_and_star, 4_500, 200),
+    Input("spiral to itself", shapes.spiral_twice, 4_000, 200),
+    Input("nested frames to themselves", shapes.nested_frames_twice, 500, 40),
+    Input("odd spokes and them backwards", shapes.odd_spokes, 499, 61),
+    Input("hatches that don't meet", shapes.hatches, 500, 60),
+    Input("hatches that cross", shapes.hatches_across, 500, 60),
+    Input("combs askew, into one another", shapes.combs_askew, 2_000, 200),
+    Input("combs across one another", shapes.combs_across, 500, 60),
+    Input("line back to one point, and its spokes", shapes.one_point_often, 900, 80),
+    Input("square cut often, and the square", shapes.cut_square, 4_500, 200),
+    Input("half rounds of one ring", shapes.loops_of_one_ring, 4_000, 250),
+)
+
+# What `sfq check` is given.
+SINGLES = (
+    Input("validity of a zigzag polygon", shapes.zigzag, 4_990, 250),
+    Input("validity of a ragged star", shapes.ragged_star, 4_990, 400),
+    Input("validity of thin holes", shapes.thin_holes, 499, 60),
+    Input("validity of holes of almost one box", shapes.holes_of_one_box, 499, 60),
+    Input("validity of thin polygons", shapes.thin_polygons, 499, 60),
+    Input("validity of nested chevrons", shapes.nested_chevrons, 499, 60),
+    Input("validity of nested frames", shapes.nested_frames, 499, 60),
+    Input("validity of a spiral", shapes.spiral, 4_000, 400),
+    Input("validity of a spiral askew", shapes.spiral_askew, 4_000, 250),
+    Input("validity of holes in a spiral", shapes.holes_in_spiral, 499, 60),
+    Input("numbers of many zeros", shapes.long_numbers, 80_000, 10_000),
+    Input("blanks between words", shapes.blanks, 80_000, 10_000),
+)
+
+# Of these two tables are joined by a geometry.
+SPATIAL = (
+    Input("points in squares", tables.uniform, 50_000, 500),
+    Input("a tenth NULL", tables.null_tenth, 25_000, 500),
+    Input("a third NULL", tables.null_third, 10_000, 300),
+    Input("half of the first table NULL", tables.null_half_of_first, 10_000, 300),
+    Input("half of the second table NULL", tables.null_half_of_second, 10_000, 300),
+    Input("all NULL", tables.null_all, 5_000, 200),
+    Input("a third EMPTY", tables.empties, 10_000, 300),
+    Input("north-south band", tables.north_south_band, 50_000, 600),
+    Input("east-west band", tables.east_west_band, 50_000, 600),
+    Input("diagonal band", tables.diagonal_band, 50_000, 600),
+    Input("long level lines", tables.level_lines, 25_000, 1_000),
+    Input("long upright lines", tables.upright_lines, 25_000, 1_000),
+    Input("a wide line in every eighth row", tables.giants_among_dwarfs, 25_000, 400),
+    Input("all envelopes equal", tables.equal_envelopes, 500, 40),
+    Input("parallel lines askew", tables.lines_askew, 1_000, 50),
+    Input("rings round one point", tables.concentric, 1_000, 30),
+    Input("keys against the order", tables.keys_against_order, 50_000, 500),
+    Input("COUNT(*) of equal points", tables.count_of_equal_points, 1_000, 60),
+    Input("LIMIT 1 of equal points", tables.limit_of_equal_points, 1_000, 60),
+    Input("points on a scribble", tables.points_on_scribble, 5_000, 200),
+)
+
+# Of these two tables are joined by a number or a text.
+PLAIN = (
+    Input("equal INTEGERs", tables.equal_numbers, 5_000, 100),
+    Input("equal TEXTs", tables.equal_texts, 5_000, 100),
+    Input("equal long TEXTs", tables.equal_long_texts, 2_500, 60),
+    Input("equal keys", tables.equal_keys, 5_000, 100),
+    Input("a key equal to a column", tables.key_and_number, 5_000, 100),
+    Input("one value in every row, and TEXTs", tables.one_value_and_texts, 2_500, 100),
+    Input("equality or equality", tables.one_equality_or_other, 2_500, 100),
+    Input("equality by two orders", tables.equality_by_order, 2_500, 100),
+    Input("a condition on each table", tables.one_row_of_each, 5_000, 100),
+    Input("equality where all are NULL", tables.no_numbers, 5_000, 100),
+    Input("keys downwards", tables.keys_downwards, 50_000, 1_000),
+)
+
+# What no peer can be asked.
+ALONE = (
+    Input("many predicates, each of which can drive a probe", tables.many_predicates, 390, 60),
+    Input("many conditions, and an OR of many", tables.many_comparisons, 1_100, 200),
+)
+
+ALL = PAIRS + SINGLES + SPATIAL + PLAIN + ALONE
+
+
+def start_of(bad):
+    """The input whose smallest size gives the start-up of a command."""
+    return next(kind[0] for kind in (PAIRS, SINGLES, SPATIAL, PLAIN + ALONE) if bad in kind)
+
+
+class Run(NamedTuple):
+    """A command and the file on its standard input."""
+
+    command: list
+    given: str = os.devnull
+
+
+class Peers:
+    """The peers that are there; GEOS is compiled here."""
+
+    def __init__(self, folder):
+        self.sqlite = shutil.which("sqlite3") is not None
+        self.geos, self.geos_tables = (compiled(source, folder) for source in (GEOS_PEER, TABLES))
+
+
+def compiled(source, folder):
+    """Compiles a peer over GEOS, and returns its path; None where it can't be compiled, which it says."""
+    program = folder / source.stem
+    command = ["gcc", "-O2", "-o", str(program), str(source), "-lgeos_c"]
+    if shutil.which("gcc") and subprocess.run(command, stderr=subprocess.DEVNULL).returncode == 0:
+        return str(program)
+    print(f"{source.name} is left out: apt-get install gcc libgeos-dev", file=sys.stderr)
+    return None
+
+
+def runs_of(bad, size, folder, program, peers):
+    """Makes an input at a size in a folder, and returns what each program runs there, `sfq` first."""
+    made = bad.make(size)
+    if bad in PAIRS:
+        return runs_of_pair(made, folder, program, peers)
+    if bad in SINGLES:
+        return runs_of_single(made, folder, program, peers)
+    return runs_of_tables(made, folder, program, peers)
+
+
+def runs_of_pair(texts, folder, program, peers):
+    """The matrix of two geometries."""
+    (folder / "input").write_text("\n".join(texts) + "\n")
+    runs = {"sfq": Run([program, "relate", *texts])}
+    if peers and peers.geos:
+        runs["GEOS"] = Run([peers.geos, "relate", "0"], "input")
+    return runs
+
+
+def runs_of_single(text, folder, program, peers):
+    """The validity of a geometry."""
+    (folder / "input").write_text(text + "\n")
+    (folder / "schema.sql").write_text("CREATE TABLE one (id INTEGER PRIMARY KEY, geom GEOMETRY);\n")
+    (folder / "one.csv").write_text(f'id,geom\n1,"{text}"\n')
+    runs = {"sfq": Run([program, "check", "schema.sql", "."])}
+    if peers and peers.geos:
+        runs["GEOS"] = Run([peers.geos, "check", "1"], "input")
+    return runs
+
+
+def runs_of_tables(made, folder, program, peers):
+    """The rows of a query over two tables."""
+    names = ",".join(column.split()[0] for column in made.columns.split(", "))
+    columns = f"(id INTEGER PRIMARY KEY, {made.columns})"
+    (folder / "schema.sql").write_text(f"CREATE TABLE first {columns};\nCREATE TABLE second {columns};\n")
+    for table, rows in ("first", made.first), ("second", made.second):
+        keys = range(len(rows), 0, -1) if made.is_descending else range(1, len(rows) + 1)
+        lines = (f"{key},{row}\n" for key, row in zip(keys, rows))
+        (folder / f"{table}.csv").write_text(f"id,{names}\n" + "".join(lines))
+    runs = {"sfq": Run([program, "run", "schema.sql", ".", made.query])}
+    if peers is None or made.predicate is None:
+        return runs
+    return runs | (peers_of_join(made, peers) if made.predicate else peers_of_query(made, columns, peers))
+
+
+def peers_of_join(made, peers):
+    """The peers of a join by a predicate of geometries, which print all its pairs."""
+    given = spatial_commands(peers.geos_tables, made.predicate, "second")
+    there = {"SpatiaLite": peers.sqlite and given["spatialite"], "GEOS": peers.geos_tables and given["geos"]}
+    return {who: Run(command) for who, command in there.items() if command}
+
+
+def peers_of_query(made, columns, peers):
+    """The peer of a query without a geometry."""
+    if not peers.sqlite:
+        return {}
+    script = [".mode csv"]
+    for table in "first", "second":
+        script += [f"CREATE TABLE {table} {columns};", f".import --skip 1 {table}.csv {table}"]
+        script.append(f"UPDATE {table} SET number = NULL WHERE number = '';")
+    return {"sqlite3": Run(["sqlite3", ":memory:", *script, made.query + ";"])}
+
+
+def least(run, folder, options):
+    """The least processor seconds of some runs, of a long one of fewer, and the greatest kilobytes; None for the seconds where a
+    run is broken off or gives no answer."""
+    times, peaks = [], []
+    while len(times) < options.repeats and sum(times) < options.seconds / 4:
+        _, processor, peak, status = probe(run.command, folder, folder / run.given, options.seconds)
+        peaks.append(peak)
+        if status > 0:
+            print(f"{run.command[0]} ended with status {status}", file=sys.stderr)
+        if status != 0:
+            return None, max(peaks)
+        times.append(processor)
+    return min(times), max(peaks)
+
+
+class Measures:
+    """The rows of the table, of which each is one input at two sizes."""
+
+    def __init__(self, room, program, peers, options):
+        self.room, self.program, self.peers, self.options = room, program, peers, options
+        self.starts = {}
+
+    def folder(self, name):
+        """A new folder for an input at a size."""
+        return pathlib.Path(tempfile.mkdtemp(prefix=name, dir=self.room))
+
+    def start(self, bad, who):
+        """The processor seconds of a program's start-up: what the smallest input of this kind takes."""
+        smallest = start_of(bad)
+        if (smallest.label, who) not in self.starts:
+            folder = self.folder("start")
+            run = runs_of(smallest, SMALLEST, folder, self.program, self.peers)[who]
+            self.starts[smallest.label, who] = least(run, folder, self.options)[0] or 0
+        return self.starts[smallest.label, who]
+
+    def beyond_start(self, bad, size, only=None):
+        """Of each program, or of one alone, the processor seconds beyond its start-up, and kilobytes."""
+        folder = self.folder("input")
+        measured = {}
+        for who, run in runs_of(bad, size, folder, self.program, self.peers).items():
+            if only in (None, who):
+                seconds, peak = least(run, folder, self.options)
+                measured[who] = seconds and max(seconds - self.start(bad, who), 1e-4), peak
+        shutil.rmtree(folder)
+        return measured
+
+    def print_row(self, bad):
+        """Measures an input, and prints its row."""
+        small = self.beyond_start(bad, bad.size, "sfq")["sfq"][0]
+        measured = self.beyond_start(bad, 2 * bad.size)
+        ours, peak = measured.pop("sfq")
+        growth = exponent((bad.size, small), (2 * bad.size, ours)) if small and ours else ""
+        answers = {who: seconds for who, (seconds, _) in measured.items() if seconds}
+        best = min(answers, key=answers.get, default=None)
+        peer = f"{best} {figure(answers[best] * 1e3)}" if best else ""
+        if not best and measured:
+            peer = f"{', '.join(measured)} > {self.options.seconds * 1e3:,}"
+        ratio = f"{ours / answers[best]:.2g}" if best and ours else ""
+        times = [self.shown(small), self.shown(ours)]
+        print_columns([bad.label, f"{bad.size:,}", *times, growth, peer, ratio, f"{peak / 1024:.0f}"])
+
+    def shown(self, seconds):
+        """A time in milliseconds, or that a run was broken off."""
+        return figure(seconds * 1e3) if seconds else f"> {self.options.seconds * 1e3:,}"
+
+
+class Counts:
+    """Instructions of `sfq` on inputs of small sizes, by valgrind, beyond those of its start-up, which are taken first."""
+
+    def __init__(self, room, program):
+        self.room, self.program, self.starts = room, program, {}
+
+    def at(self, bad, size):
+        """Those of an input at a size."""
+        with tempfile.TemporaryDirectory(dir=self.room) as name:
+            folder = pathlib.Path(name)
+            command = runs_of(bad, size, folder, self.program, None)["sfq"].command
+            return instructions(command, folder)
+
+    def take_starts(self):
+        """Counts those of start-up: what the smallest input of each kind takes."""
+        self.starts = {it.label: self.at(it, SMALLEST) for it in set(map(start_of, ALL))}
+
+    def growth(self, bad):
+        """The counts at the small size of an input and at twice that, and the exponent between them."""
+        start = self.starts[start_of(bad).label]
+        before, now = (self.at(bad, size) - start for size in (bad.small, 2 * bad.small))
+        return before, now, float(exponent((1, before), (2, now)))
+
+
+def main():
+    parser = argparse.ArgumentParser(description=__doc__.splitlines()[0])
+    parser.add_argument("--program", default=str(PROGRAM), help="the program that is measured (that of ./build)")
+    parser.add_argument("--seconds", type=int, default=20, help="processor seconds at which a run is broken off (20)")
+    parser.add_argument("--repeats", type=int, default=3, help="runs of each command (3)")
+    parser.add_argument("--only", default="", help="the inputs whose name has this word")
+    parser.add_argument("--instructions", action="store_true", help="count instructions of sfq in place of time")
+    parser.add_argument("--bounds", action="store_true", help="with --instructions: write the bounds that follow into this file")
+    options = parser.parse_args()
+    if not os.access(options.program, os.X_OK):
+        sys.exit("the program isn't built: run ./build")
+    program = os.path.abspath(options.program)
+    chosen = [bad for bad in ALL if options.only in bad.label]
+    with tempfile.TemporaryDirectory() as room:
+        if options.instructions:
+            print_counts(chosen, Counts(room, program), options.bounds)
+        else:
+            print_times(chosen, Measures(room, program, Peers(pathlib.Path(room)), options))
+
+
+def with_bounds(text, growths):
+    """This file's text with the bounds that follow from the growths of some inputs, by their labels."""
+
+    def bounded(line):
+        growth = growths.get(line[2])
+        return line[0] if growth is None else f'{line[1]}, {max(growth, 1) + MARGIN:.2f})'
+
+    return re.sub(r'(    Input\("([^"]*)", \w+\.\w+, [\d_]+, [\d_]+)(?:, [\d.]+)?\)', bounded, text)
+
+
+def print_counts(chosen, counts, sets_bounds):
+    """Prints the table of instructions, and sets the bounds of its inputs where that is asked for."""
+    growths = {}
+    print_heads(["input", "n", "sfq at n, millions", "at 2n", "exponent", "bound"])
+    counts.take_starts()
+    for bad in chosen:
+        before, now, growth = counts.growth(bad)
+        bound = "" if bad.bound is None else f"{bad.bound:.2f}"
+        print_columns([bad.label, f"{bad.small:,}", figure(before / 1e6), figure(now / 1e6), f"{growth:.2f}", bound])
+        growths[bad.label] = growth
+    if sets_bounds:
+        here = pathlib.Path(__file__)
+        here.write_text(with_bounds(here.read_text(), growths))
+
+
+def print_times(chosen, measures):
+    """Prints the table of times."""
+    print_heads(["input", "n", "sfq ms at n", "at 2n", "exponent", "best peer, ms at 2n", "ratio", "MB"])
+    for bad in chosen:
+        measures.print_row(bad)
+
+
+if __name__ == "__main__":
+    main()

@@ -1,5 +1,0 @@
-use Rattle.std.proofs.Common.{rules}
-use Rattle.rtree.proofs.trees.RTreeEnvelopeIndex.search.Goals as goal
-
-pub returns-else-is_err-clause-exact : goal.returns-else-is_err-clause-exact
-returns-else-is_err-clause-exact c = search rules

@@ -1,6 +1,0 @@
-use Rattle.std.proofs.Common.{refl}
-use Rattle.validity.proofs.Kept.{points_are_kept}
-use Rattle.validity.proofs.valid_geometry.of_points.Goals as goal
-
-pub invariant_of-result : goal.invariant_of-result
-invariant_of-result c = (c.requires, points_are_kept c.args.geometry _ c.in_ok-boxes.boxes c.requires refl c.in_ok-boxes.ensures)

@@ -1,0 +1,77 @@
+"""Bad inputs at small sizes: the instructions that they take don't grow faster than they did."""
+import sys
+import tempfile
+import unittest
+from concurrent.futures import ThreadPoolExecutor
+
+from support import ROOT, needs, needs_build
+
+import proving
+import repository
+
+sys.path.insert(0, f"{ROOT}/bench")
+
+import worst
+
+# What Linux takes as one word of a command line, and the limits of sfq.
+WORD_BYTES, RECORD_BYTES, QUERY_BYTES = 131_071, 1_048_576, 65_536
+POSITIONS, ROWS = 10_000, 100_000
+
+
+class Inputs(unittest.TestCase):
+    def test_shapes_are_within_the_limits(self):
+        for bad in worst.PAIRS + worst.SINGLES:
+            made = bad.make(2 * bad.size)
+            texts = [made] if bad in worst.SINGLES else made
+            with self.subTest(input=bad.label):
+                self.assertLessEqual(max(text.count(",") + 1 for text in texts), POSITIONS)
+                self.assertLess(max(map(len, texts)), RECORD_BYTES if bad in worst.SINGLES else WORD_BYTES)
+
+    def test_tables_are_within_the_limits(self):
+        for bad in worst.SPATIAL + worst.PLAIN:
+            with self.subTest(input=bad.label):
+                self.assertLessEqual(2 * bad.size, ROWS)
+
+    def test_queries_are_within_the_limit(self):
+        for bad in worst.ALONE:
+            with self.subTest(input=bad.label):
+                self.assertLessEqual(len(bad.make(2 * bad.size).query), QUERY_BYTES)
+
+    def test_inputs_are_the_same_each_time(self):
+        for bad in worst.ALL:
+            with self.subTest(input=bad.label):
+                self.assertEqual(bad.make(bad.small), bad.make(bad.small))
+
+    def test_labels_differ(self):
+        self.assertEqual(len({bad.label for bad in worst.ALL}), len(worst.ALL))
+
+    def test_bounds_are_written_beside_inputs(self):
+        head = '    Input("some name", shapes.scribble, 1_000, 40'
+        other = '    Input("other", shapes.scribble, 10, 4, 1.20),\n'
+        for before in (f"{head}),\n{other}", f"{head}, 2.00),\n{other}"):
+            after = worst.with_bounds(before, {"some name": 1.5})
+            self.assertEqual(after, f"{head}, {1.5 + worst.MARGIN:.2f}),\n{other}")
+
+
+class Growth(unittest.TestCase):
+    """Each input at a small size and twice that, under valgrind: about a minute."""
+
+    ASKS_PROGRAM = True
+
+    @needs_build
+    @needs("valgrind", "valgrind")
+    def test_no_bad_input(self):
+        bounded = [bad for bad in worst.ALL if bad.bound is not None]
+        if not bounded:
+            self.skipTest("needs the bounds of bench/worst.py, which aren't measured yet")
+        with tempfile.TemporaryDirectory(prefix="sfq-worst-") as room:
+            counts = worst.Counts(room, repository.PROGRAM)
+            counts.take_starts()
+            with ThreadPoolExecutor(proving.processors()) as pool:
+                for bad, (before, now, growth) in zip(bounded, pool.map(counts.growth, bounded)):
+                    with self.subTest(input=bad.label):
+                        self.assertLessEqual(growth, bad.bound, f"{before:,} instructions at {bad.small:,}, {now:,} at twice that")
+
+
+if __name__ == "__main__":
+    unittest.main()
