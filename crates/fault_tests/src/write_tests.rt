@@ -96,6 +96,15 @@ fn exact_beginnings(rt: HostRuntime) -> Result<(), Fail> {
     Ok(())
 }
 
+/// The header is the whole answer of a query without rows, and its put fails too.
+#[test]
+fn a_header_alone(rt: HostRuntime) -> Result<(), Fail> {
+    let case = Case { query: "SELECT id FROM t WHERE pop < 0", answer: "id\n", ..NAMES };
+    assert!(rt; puts(rt.alloc(), &case, usize::MAX)? == 1);
+    assert!(rt; puts(rt.alloc(), &case, 1)? == case.answer.len());
+    Ok(())
+}
+
 /// A sink of one byte a call that never fails gets the same text.
 #[test]
 fn a_byte_a_call(rt: HostRuntime) -> Result<(), Fail> {
