@@ -103,6 +103,10 @@ fn matrices_of_lines(rt: HostRuntime) -> Result<(), Fail> {
 #[test]
 fn commands_take_their_words(rt: HostRuntime) -> Result<(), Fail> {
     let command = sfq_command(rt.alloc())?;
-    assert!(rt; command.try_get_matches_from(&["sfq", "check", "a", "b"]).is_ok());
+    assert!(rt;
+        command
+            .try_get_matches_from(&["sfq", "check", "a", "b"])
+            .is_ok()
+    );
     Ok(())
 }

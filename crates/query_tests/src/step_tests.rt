@@ -40,7 +40,9 @@ fn records_and_rows(rt: HostRuntime) -> Result<(), Fail> {
     let text: &[u8] = b"id,geom\n2,POLYGON EMPTY\n";
     let mut records = Records::new(rt.alloc(), text);
     let mut record = ByteRecord::new(rt.alloc());
-    assert!(rt; next_record(&mut records, &mut record)? && field_of(&record, 1) == b"geom".as_slice());
+    assert!(rt;
+        next_record(&mut records, &mut record)? && field_of(&record, 1) == b"geom".as_slice()
+    );
     let mut rows = Vec::new(rt.alloc());
     rows.push(row_with(rt.alloc(), 2)?)?;
     rows.push(row_with(rt.alloc(), 1)?)?;
@@ -124,7 +126,12 @@ fn run_over(alloc: Global, schema: &Schema, sink: &mut MemorySink) -> Result<u64
         return Err(Fail::from("not one table"));
     }
     let work = run_observed::<RTree, &[u8], MemorySink, Unobserved>(
-        alloc, schema, readers, PROBED, sink, &mut Unobserved,
+        alloc,
+        schema,
+        readers,
+        PROBED,
+        sink,
+        &mut Unobserved,
     )?;
     Ok(work.count())
 }
