@@ -1,5 +1,6 @@
 """What docs/PROVED.md says of clauses, theorems and tests is so, and what isn't so is found."""
 import os
+import re
 import sys
 import unittest
 
@@ -97,6 +98,13 @@ class Page(unittest.TestCase):
         self.assertGreater(len(proved_page.rows_of(page)), 40)
         self.assertEqual(proved_page.wrong_clauses(page, functions), [])
         self.assertEqual(proved_page.wrong_tests(needed, proved_page.listed(page), proved_page.sources(), functions), [])
+
+    def test_one_call_makes_a_matrix(self):
+        functions, public = proved_page.all_functions()
+        makers = {it.name for it in public if re.search(r"\bMatrix\b", it.signature.partition("->")[2])}
+        self.assertEqual(makers, {"relate", "relate_texts"})
+        self.assertIn("relate", proved_page.reached("relate_texts", functions))
+        self.assertRegex(proved_page.read(f"{ROOT}/crates/de9im/src/matrix.rt"), r"pub struct Matrix \{\n    cells: MatrixCells,\n\}")
 
     def test_functions_of_a_source(self):
         found = [(it.owner, it.name, it.is_public, it.takes_memory(), sorted(it.clauses)) for it in self.functions]
