@@ -17,7 +17,9 @@ import printed
 import repository
 
 # Calls whose answers tests look at, beside those that documents show.
-HELP_CALLS = [[], ["--help"], ["--version"], ["run", "--help"], ["check", "-h"], ["help", "relate"], ["rum"]]
+HELP_CALLS = [
+    [], ["--help"], ["--version"], ["run", "--help"], ["check", "-h"], ["help", "relate"], ["rum"], ["relate", "POINT(1 1)"],
+]
 
 # A stand-in for `rt`. It notes each call, and does what the file `behaviour` beside it says, a piece of Python.
 STAND_IN = """#!{python}

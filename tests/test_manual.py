@@ -103,6 +103,11 @@ class Help(unittest.TestCase):
         self.assertEqual(mistyped.status, 2)
         self.assertIn("'run'", mistyped.err.decode())
 
+    def test_a_word_too_few(self):
+        _, _, helps = asked()
+        self.assertEqual((helps["relate", "POINT(1 1)"].out, helps["relate", "POINT(1 1)"].status), (b"", 2))
+        self.assertNotEqual(helps["relate", "POINT(1 1)"].err, b"")
+
 
 class Completions(unittest.TestCase):
     def complete(self, *words, folder=ROOT):

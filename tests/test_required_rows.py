@@ -44,7 +44,11 @@ class RequiredRows(unittest.TestCase):
     """Each line of the list, and a small list over a small script."""
 
     def missing(self, *lines):
-        tests = required_rows.Tests(required_rows.rows_of(SCRIPT), {"one_tests.rt": "fn of_one(rt: HostRuntime) {}\n"})
+        files = {
+            "library": [("one_tests.rt", "fn of_one(rt: HostRuntime) {}\n")],
+            "example": [("lib.rt", "ensures { 1 }"), ("lib.rt", "ensures { 2 }")],
+        }
+        tests = required_rows.Tests(required_rows.rows_of(SCRIPT), files)
         return required_rows.missing(lines, tests)
 
     def test_no_row_is_missing(self):
@@ -57,6 +61,7 @@ class RequiredRows(unittest.TestCase):
         self.assertEqual(self.missing("pair POINT(1 1) | LINESTRING(0 0,2 2) => 0FFFFF102"), [])
         self.assertEqual(self.missing("relate POINT(1 1) | POINT(1 1 => ! sfq: second W1 at 9\\nstatus 5"), [])
         self.assertEqual(self.missing("# A comment.", "", "library one_tests.rt: fn of_one("), [])
+        self.assertEqual(self.missing("example lib.rt: ensures { 1 }", "example lib.rt: ensures { 2 }"), [])
 
     def test_what_no_script_has_is_missing(self):
         for files, line in [
@@ -69,6 +74,9 @@ class RequiredRows(unittest.TestCase):
             ([], "pair POINT(1 1) | LINESTRING(0 0,2 2) => FFFFFF102"),
             ([], "library one_tests.rt: fn of_two("),
             ([], "library two_tests.rt: fn of_one("),
+            ([], "library one_tests.rt: "),
+            ([], "example lib.rt: ensures { 3 }"),
+            ([], "system lib.rt: ensures { 1 }"),
             ([], "a line of no kind"),
         ]:
             with self.subTest(line=line):

@@ -12,6 +12,12 @@ import repository
 
 SCRIPTS = f"{repository.ROOT}/crates/scripts"
 TEST_CRATES = ["library_tests", "query_tests", "command_tests", "fault_tests"]
+# The files that a kind of line names: tests that need code, worked examples that are proved, and system tests.
+FILES = {
+    "library": [f"crates/{it}/src/*.rt" for it in TEST_CRATES],
+    "example": ["crates/*/src/*_examples.rt"],
+    "system": ["tests/test_*.py"],
+}
 LIST = f"{repository.ROOT}/tests/required_rows.txt"
 # What `$S` means in a script.
 SQUARE = "ST_GeomFromText('POLYGON((0 0,4 0,4 4,0 4,0 0))')"
@@ -46,15 +52,18 @@ class Row:
 
 
 class Tests:
-    """The rows of the scripts by their commands, and the sources of the tests that need code."""
+    """The rows of the scripts by their commands, and by their kind the files of the other tests, each with its name and text."""
 
-    def __init__(self, rows, library):
-        self.rows, self.library = {}, library
+    def __init__(self, rows, files):
+        self.rows, self.files = {}, files
         for it in rows:
             self.rows.setdefault(it.command, []).append(it)
 
     def has_row(self, command, output, files):
         return any(it.output == output and it.has_files(files) for it in self.rows.get(command, []))
+
+    def has_text(self, kind, name, text):
+        return any(name == it and text in whole for it, whole in self.files.get(kind, []))
 
 
 def rows_of(script):
@@ -74,9 +83,8 @@ def rows_of(script):
 def all_tests():
     names = read(f"{SCRIPTS}/args").splitlines()
     rows = [row for it in names for row in rows_of(read(f"{SCRIPTS}/data/{it}"))]
-    sources = [it for name in TEST_CRATES for it in glob.glob(f"{repository.ROOT}/crates/{name}/src/*.rt")]
-    library = {os.path.basename(it): read(it) for it in sources}
-    return Tests(rows, library)
+    paths = {kind: [it for pattern in FILES[kind] for it in glob.glob(f"{repository.ROOT}/{pattern}")] for kind in FILES}
+    return Tests(rows, {kind: [(os.path.basename(it), read(it)) for it in paths[kind]] for kind in paths})
 
 
 def text_of(written):
@@ -89,9 +97,10 @@ def transposed(matrix):
     return "".join(matrix[it] for it in (0, 3, 6, 1, 4, 7, 2, 5, 8))
 
 
-def is_library_row(line, tests):
-    name, _, text = line.removeprefix("library ").partition(": ")
-    return text in tests.library.get(name, "")
+def is_text_of_file(line, tests):
+    kind, _, rest = line.partition(" ")
+    name, colon, text = rest.partition(": ")
+    return bool(colon and text) and tests.has_text(kind, name, text)
 
 
 def is_pair(line, tests):
@@ -113,8 +122,8 @@ def missing(lines, tests):
         elif line.startswith("table "):
             _, name, text = line.split(" ", 2)
             files = {**files, f"table {name}": text_of(text)}
-        elif line.startswith("library "):
-            found += [] if is_library_row(line, tests) else [line]
+        elif line.partition(" ")[0] in FILES:
+            found += [] if is_text_of_file(line, tests) else [line]
         elif line.startswith("pair "):
             found += [] if is_pair(line, tests) else [line]
         elif not arrow:

@@ -37,6 +37,8 @@ mod order_tests;
 #[cfg(test)]
 mod pair_tests;
 #[cfg(test)]
+mod part_tests;
+#[cfg(test)]
 mod point_tests;
 #[cfg(test)]
 mod printing_tests;

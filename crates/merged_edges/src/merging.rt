@@ -1,6 +1,6 @@
 //! Edges, merged along each line.
 
-ghost use Rattle.std.specs.Prelude.{◌≡◌, ◌↔◌, IsTrue, ◌+◌, ◌<◌, ◌≤◌, true, List, [], ◌&&◌, OnOk, vec_len};
+ghost use Rattle.std.specs.Prelude.{◌≡◌, ◌↔◌, IsTrue, ◌+◌, ◌<◌, ◌≤◌, true, List, [], ◌&&◌, OnErr, OnOk, vec_len};
 ghost use Rattle.geometry_model.specs.Geometries.{Edge};
 ghost use Rattle.geometry_model.specs.Points.{point_at};
 ghost use Rattle.geometry_model.specs.Sides.{on};
@@ -109,12 +109,16 @@ impl MergedEdges {
         self.stretches.is_empty()
     }
 
-    /// Replaces what is there by these edges, merged. It fails only when memory runs out.
+    /// Replaces what is there by these edges, merged. It fails only when memory runs out, and then there are none.
     pub fn merge(&mut self, edges: &[Segment]) -> Result<(), AllocError>
-        ensures { OnOk result (AreMerged edges.now self.new) }
+        ensures merged { OnOk result (AreMerged edges.now self.new) }
+        ensures refused { OnErr result (self.new ≡ []) }
     {
         self.stretches.clear();
-        push_ascending(&mut self.stretches, edges)?;
+        if let Err(refusal) = push_ascending(&mut self.stretches, edges) {
+            self.stretches.clear();
+            return Err(refusal);
+        }
         sort_by_line(&mut self.stretches);
         join_neighbours(&mut self.stretches);
         Ok(())

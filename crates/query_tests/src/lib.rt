@@ -6,6 +6,8 @@ mod condition_tests;
 #[cfg(test)]
 mod row_tests;
 #[cfg(test)]
+mod step_tests;
+#[cfg(test)]
 mod table_tests;
 #[cfg(test)]
 mod tables;

@@ -5,6 +5,7 @@ ghost use Rattle.table_model.specs.Plans.{IsLawful};
 
 use crate::tables::{POINTS_SCHEMA, database_of, points_up_to};
 use de9im::Work;
+use engine::Unobserved;
 use executor::{RowPair, Rows, execute};
 use feature_table::Database;
 use planner::choose;
@@ -77,7 +78,7 @@ fn text_of(alloc: Global, accesses: &[Access], rows: &[RowPair]) -> Result<Strin
 // The rows of a stream, one after another, and the work after the first.
 fn one_by_one(alloc: Global, mut rows: Rows<'_, RTree>) -> Result<(Vec<RowPair>, u64), AllocError> {
     let mut pairs = Vec::new(alloc);
-    if let Some(row) = rows.next() {
+    if let Some(row) = rows.next_observed(&mut Unobserved) {
         pairs.push(row?)?;
     }
     let work = rows.work().count();

@@ -1,0 +1,147 @@
+//! The steps of a load and of a run, each called by itself.
+
+use crate::tables::{POINTS_SCHEMA, database_of, points_up_to};
+use answer_records::{header_record, row_record};
+use csv::ByteRecord;
+use de9im::Work;
+use engine::{Unobserved, run_observed};
+use feature_table::{Database, Geometry, Records, Row, Schema};
+use filters::passes;
+use planner::choose_by_counts;
+use query_binder::{Bound, bind};
+use rtree::RTree;
+use spatial_sql::{Query, read_query, read_schema};
+use sqlite_items::Items;
+use std::alloc::{AllocError, Global};
+use std::test::Fail;
+use table_model::plans::Plan;
+use table_model::values::Value;
+use table_parts::{next_record, order_by_key};
+use wkt::MemorySink;
+
+const PROBED: &str = "SELECT id FROM big \
+    WHERE ST_Intersects(geom, ST_GeomFromText('POLYGON((0 0,4 0,4 4,0 4,0 0))'))";
+
+// The text of a field of a record.
+fn field_of(record: &ByteRecord, place: usize) -> &[u8] {
+    record.get(place).unwrap_or(&[])
+}
+
+// A row of a table that has its key alone.
+fn row_with(alloc: Global, key: i64) -> Result<Items<Value<Geometry>>, AllocError> {
+    let mut row = Items::new(alloc);
+    row.push(Value::Integer(key))?;
+    Ok(row)
+}
+
+/// Records are read one by one, and rows are sorted by their keys.
+#[test]
+fn records_and_rows(rt: HostRuntime) -> Result<(), Fail> {
+    let text: &[u8] = b"id,geom\n2,POLYGON EMPTY\n";
+    let mut records = Records::new(rt.alloc(), text);
+    let mut record = ByteRecord::new(rt.alloc());
+    assert!(rt;
+        next_record(&mut records, &mut record)? && field_of(&record, 1) == b"geom".as_slice()
+    );
+    let mut rows = Vec::new(rt.alloc());
+    rows.push(row_with(rt.alloc(), 2)?)?;
+    rows.push(row_with(rt.alloc(), 1)?)?;
+    assert!(rt; order_by_key(rt.alloc(), &mut rows, 0).is_ok() && rows.len() == 2);
+    Ok(())
+}
+
+// The fields of a row of a bound query, and whether it passes the filters of a plan.
+fn answered(
+    alloc: Global,
+    bound: &Bound,
+    plan: &Plan,
+    row: Row<'_>,
+) -> Result<(ByteRecord, bool), AllocError> {
+    let rows = [row];
+    let mut record = ByteRecord::new(alloc);
+    row_record(alloc, &mut record, bound, &rows)?;
+    let mut work = Work::new();
+    let filters = plan.filters.as_slice();
+    let passed = passes(alloc, bound.conjuncts.as_slice(), filters, &rows, &mut work)?;
+    Ok((record, passed))
+}
+
+// Whether the rows at these places of the first table have these ids, and pass the filters of a plan or don't.
+fn are_answered(
+    alloc: Global,
+    database: &Database<'_, RTree>,
+    bound: &Bound,
+    plan: &Plan,
+) -> Result<bool, Fail> {
+    if database.definitions().is_empty() {
+        return Err(Fail::from("no table"));
+    }
+    let table = database.table(0);
+    for (place, id, passed) in &[(3, "4", true), (4, "5", false)] {
+        if *place >= table.rows() {
+            return Err(Fail::from("no row"));
+        }
+        let (record, found) = answered(alloc, bound, plan, table.row(*place))?;
+        if field_of(&record, 0) != id.as_bytes() || found != *passed {
+            return Ok(false);
+        }
+    }
+    Ok(true)
+}
+
+// The header of a query, and the cost of its plan over ten rows.
+fn planned(
+    alloc: Global,
+    database: &Database<'_, RTree>,
+    query: &Query<'_>,
+) -> Result<(ByteRecord, u64, bool), Fail> {
+    let bound = bind(alloc, query, database.definitions())?;
+    let plan = choose_by_counts(alloc, &bound, &[10])?;
+    let header = header_record(alloc, database.definitions(), &bound)?;
+    let answered = are_answered(alloc, database, &bound, &plan)?;
+    Ok((header, plan.cost, answered))
+}
+
+// The same of the text of a query, over ten points.
+fn planned_over(alloc: Global, query: &str) -> Result<(ByteRecord, u64, bool), Fail> {
+    let schema = read_schema(alloc, POINTS_SCHEMA.as_bytes())?;
+    let points = points_up_to(alloc, 10)?;
+    let database = database_of(alloc, &schema, &[points.as_bytes()])?;
+    planned(alloc, &database, &read_query(alloc, query)?)
+}
+
+/// A query is bound to definitions, its plan is chosen by the number of rows, and records are made of its header and rows.
+#[test]
+fn plans_and_records(rt: HostRuntime) -> Result<(), Fail> {
+    let (header, cost, answered) = planned_over(rt.alloc(), PROBED)?;
+    assert!(rt; field_of(&header, 0) == b"id".as_slice() && cost == 5 && answered);
+    Ok(())
+}
+
+// Runs a query over ten points, whose schema is given, and observes nothing.
+fn run_over(alloc: Global, schema: &Schema, sink: &mut MemorySink) -> Result<u64, Fail> {
+    let points = points_up_to(alloc, 10)?;
+    let readers = Vec::from_slice(alloc, &[points.as_bytes()])?;
+    if readers.len() != schema.tables().len() {
+        return Err(Fail::from("not one table"));
+    }
+    let work = run_observed::<RTree, &[u8], MemorySink, Unobserved>(
+        alloc,
+        schema,
+        readers,
+        PROBED,
+        sink,
+        &mut Unobserved,
+    )?;
+    Ok(work.count())
+}
+
+/// A run that is observed.
+#[test]
+fn observed_runs(rt: HostRuntime) -> Result<(), Fail> {
+    let schema = read_schema(rt.alloc(), POINTS_SCHEMA.as_bytes())?;
+    let mut sink = MemorySink::new(rt.alloc());
+    let work = run_over(rt.alloc(), &schema, &mut sink)?;
+    assert!(rt; work == 4 && sink.bytes() == b"id\n1\n2\n3\n4\n".as_slice());
+    Ok(())
+}
