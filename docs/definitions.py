@@ -45,8 +45,8 @@ PAGE = [
      "Each fault is a fact about rational points. A geometry without fault is valid.",
      [(G, "Validity", "Element elements_from numbered_elements IsRing")]),
     ("Well-known text",
-     "A relation for each rule of the grammar, between a text and what it spells. Refusals are said apart"
-     " from any reading, by the bytes before them.",
+     "A relation for each rule of the grammar, between a text and what it spells. Refusals are stated"
+     " without a reader, by the bytes before them.",
      [(G, "WellKnownText", "begins_with Blank Space Padded Enclosed Separated is_white Byte Rule"
        " same_position written_positions written_parts Begins"),
       (G, "TextRefusals", "TakesNumber begins_more IsFirstNumber"),
@@ -85,7 +85,7 @@ PAGE = [
       (T, "Loading", "GeometryReader and_then unless each is_space_or_tab trimmed number_in place_in"
        " field_under first_fault whole_number double_from insert_by_key keyed_rows rows_of filled_value is_number"),
       (T, "Databases", "at_table fits_type fits_columns"),
-      (T, "SpatialTables", "")]),
+      (T, "SpatialTables", "SpatialTable")]),
     ("Truth and meaning",
      "Truth has three values. The meaning of a query is the rows of the product of its tables at which ON"
      " and WHERE are true.",
@@ -96,6 +96,7 @@ PAGE = [
      "The records of the answer, their text, and what a run gives in place of an answer.",
      [(T, "AnswerTexts", "Writing name_of column_name reference_header column_header"),
       (T, "RunOutcomes", "RecordText counted_text after"),
+      ("answer_records", "RecordTexts", ""),
       ("query_runs", "Runs", "rows_text bound_text rows_of_choices choice_text count_text planned_work planned_text"
        " answer_work query_work loaded_work work_outcome IsReached RefusesTable none_reached Counts IsOfTables"
        " PutsFront AnswersQuery CountsQuery"),
@@ -107,7 +108,7 @@ PAGE = [
        " possible_counts plan_of row_counts"),
       (T, "Work", "computed_by_parts computes is_as_text as_text_by_parts has_as_text filters_of passes_filters"
        " work_of up_to_passing candidates_to_row work_to_row counted"),
-      (T, "ExplainTexts", "conjunct_number line count_line limit_line")]),
+      (T, "ExplainTexts", "conjunct_number line count_line limit_line method_text access_lines filters_text")]),
 ]
 SHOWN = ["IsPoint", "side", "on", "IsInterior", "IsBoundary", "IsExterior", "HasTriangle", "HasDimension", "common",
          "IsMatrix", "GivesMatrix", "matches", "crosses", "holds", "IsValid", "Spells", "IsQuery", "and_of",
@@ -115,21 +116,21 @@ SHOWN = ["IsPoint", "side", "on", "IsInterior", "IsBoundary", "IsExterior", "Has
 HEAD = """# Definitions
 
 For whoever doubts the proof. The machine proves that the program does what the definitions say, not
-that these say what the standards mean. People have to judge that, by reading this page.
+that they say what the standards mean. People have to judge that, by reading this page.
 
 Each row is a definition: its name, what it says, and its clause of OGC 06-103r4 or 06-104r4, or its
 part of SQL. Where no clause is named, this project chose. The definitions that matter most are
-printed whole. [PROVED](PROVED.md) lists the ten that carry the headline, in order.
+printed whole. [PROVED](PROVED.md) lists the ten that carry the headline.
 
-Left out are helpers, which are beside their definition in its file; and what nobody has to believe:
-functions that a law ties to a definition on this page, and labels, cut points and pieces, by which
-the proof goes. Worked examples are proved by computing, in `src/*_examples.rt` of the two models.
+Left out are helpers, which are beside their definition in its file, and what nobody has to believe:
+functions that a law ties to a definition here; and labels, cut points and pieces, by which the
+proof goes. `src/*_examples.rt` of both models has worked examples, proved by computing.
 
-What ends in `Type 0` is a fact, what ends in `Bool` computes, and a `record` is a fact with parts.
-`A × B` says both, `A → B` that A implies B, `(x : T) → ..` says it of every x, `¬ A` that A isn't
-so, and `⊥` is never so. `≡` is equality, `x ∷ xs` a list that begins with x, ℕ and ℤ are the whole
-numbers, `<ℤ` and the like are those of ℤ, and `pos n` is n in ℤ. `codes "T*"` is the bytes of a
-text.
+`abbrev pub` begins a definition. What ends in `Type 0` is a fact, and so is a `record`, whose parts
+all hold; what ends in `Bool` computes. `A × B` says both, `A → B` that A implies B, `(x : T) → ..`
+says it of every x, `{T : Type 0} → ..` of every type, `¬ A` that A isn't so; `⊥` is never so.
+`f x` is f of x, `λ x. ..` a function of x, `≡` equality, `x ∷ xs` a list that begins with x. ℕ and
+ℤ are the whole numbers, `<ℤ` and the like are of ℤ, `pos n` is n in ℤ, `codes "T*"` a text's bytes.
 
 `docs/definitions.py` makes this page from the comments in the specifications. Change it there.
 """
