@@ -99,7 +99,11 @@ fn exact_beginnings(rt: HostRuntime) -> Result<(), Fail> {
 /// The header is the whole answer of a query without rows, and its put fails too.
 #[test]
 fn a_header_alone(rt: HostRuntime) -> Result<(), Fail> {
-    let case = Case { query: "SELECT id FROM t WHERE pop < 0", answer: "id\n", ..NAMES };
+    let case = Case {
+        query: "SELECT id FROM t WHERE pop < 0",
+        answer: "id\n",
+        ..NAMES
+    };
     assert!(rt; puts(rt.alloc(), &case, usize::MAX)? == 1);
     assert!(rt; puts(rt.alloc(), &case, 1)? == case.answer.len());
     Ok(())
