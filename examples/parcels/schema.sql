@@ -1,4 +1,4 @@
--- The land register of a small town: its parcels and who owns them, and what stands, runs and lies on them.
+-- The land register of a small town: its parcels and who owns them, and the buildings, waters, paths and wells on them.
 -- The grid's unit is ten metres.
 
 CREATE TABLE owner (
