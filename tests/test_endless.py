@@ -1,4 +1,4 @@
-"""Tables and schemas that never end, or whose fields and records are very long: what is refused, and how much memory a run takes."""
+"""Tables and schemas that never end, or whose fields and records are very long: what is refused."""
 import os
 import resource
 import shutil
@@ -18,10 +18,6 @@ PIPE_BYTES = 1 << 16
 SLACK = 3 * PIPE_BYTES
 # How much memory a run may take that ends at a limit, in bytes.
 ROOM = 128 << 20
-
-# The greatest memory of a run, as the README says it: these bytes, and so many for each byte of the tables and for each
-# pair of rows that a join finds before it sorts them; under LIMIT n for at most 2n pairs.
-BASE, EACH_BYTE, EACH_PAIR = 8 << 20, 64, 48
 
 SCHEMA = b"CREATE TABLE t (id INTEGER PRIMARY KEY, name TEXT, geom MULTIPOINT);"
 HEADER = b"id,name,geom\n"
@@ -49,24 +45,22 @@ class Endless(unittest.TestCase):
         with open(path, "wb") as file:
             file.write(text)
 
-    def ask(self, room=ROOM, query=""):
-        """Returns what `check`, or `run` of a query, writes within so much memory, and its status."""
-        limit = lambda: resource.setrlimit(resource.RLIMIT_AS, (room, room))
-        words = ["run", "schema.sql", ".", query] if query else ["check", "schema.sql", "."]
+    def ask(self):
+        """Returns what `check` writes within the memory that such a run may take, and its status."""
         ran = subprocess.run(
-            [sweeps.program(), *words],
+            [sweeps.program(), "check", "schema.sql", "."],
             cwd=self.folder,
             stdin=subprocess.DEVNULL,
             capture_output=True,
             timeout=sweeps.PATIENCE,
-            preexec_fn=limit,
+            preexec_fn=lambda: resource.setrlimit(resource.RLIMIT_AS, (ROOM, ROOM)),
         )
         return ran.stdout, ran.stderr, ran.returncode
 
-    def loading(self, text, room=ROOM):
+    def loading(self, text):
         """Returns what `check` writes where the table's file has this text."""
         self.write(self.table, text)
-        return self.ask(room)
+        return self.ask()
 
     def fed(self, path, begin, piece):
         """Returns what `check` writes where a file is a pipe with a text and then a piece again and again.
@@ -137,6 +131,15 @@ class EndlessTables(Endless):
         os.symlink("/dev/zero", self.table)
         self.assertEqual(self.ask(), REFUSED)
 
+    @needs_build
+    def test_a_file_with_a_hole(self):
+        # It has a terabyte of zeros, and takes no room on the disk.
+        for begin in (b"", HEADER, HEADER + b'1,"'):
+            self.write(self.table, begin)
+            os.truncate(self.table, 1 << 40)
+            with self.subTest(begin=begin):
+                self.assertEqual(self.ask(), REFUSED)
+
 
 class EndlessSchemas(Endless):
     @needs_build
@@ -148,6 +151,10 @@ class EndlessSchemas(Endless):
                 self.assertEqual(said, fault("S6", 3))
                 self.assertLessEqual(taken, 65_537 + SLACK)
         os.symlink("/dev/zero", self.schema)
+        self.assertEqual(self.ask(), fault("S6", 3))
+        os.remove(self.schema)
+        self.write(self.schema, SCHEMA)
+        os.truncate(self.schema, 1 << 40)
         self.assertEqual(self.ask(), fault("S6", 3))
 
 
@@ -199,52 +206,6 @@ class Limits(Endless):
         self.assertEqual(len(number), 40)
         points = b", ".join([number + b" " + number] * 10_000)
         self.assertEqual(self.loading(HEADER + b'1,a,"MULTIPOINT(' + points + b')"\n'), loaded(1))
-
-
-class Memory(Endless):
-    @needs_build
-    def test_tables_that_take_the_most_for_their_size(self):
-        # A NULL takes one byte of the file, and a whole value in the row.
-        columns = [f"c{at}" for at in range(31)]
-        for kind, cell, rows in (("GEOMETRY", "", 100_000), ("GEOMETRY", "", 65_537), ("TEXT", "a", 100_000)):
-            schema = "".join(f", {it} {kind}" for it in columns)
-            self.write(self.schema, f"CREATE TABLE t (id INTEGER PRIMARY KEY{schema});".encode())
-            tail = f",{cell}" * 31 + "\n"
-            text = ",".join(["id", *columns]) + "\n" + "".join(f"{at}{tail}" for at in range(rows))
-            with self.subTest(kind=kind, rows=rows):
-                self.assertEqual(self.loading(text.encode(), BASE + EACH_BYTE * len(text)), loaded(rows))
-
-    def two_tables(self, first, second):
-        """Writes two tables of equal points. Returns the bytes of both, and how many pairs of rows they have."""
-        self.write(self.schema, b"CREATE TABLE t (id INTEGER PRIMARY KEY, p POINT); CREATE TABLE u (id INTEGER PRIMARY KEY, p POINT);")
-        size = 0
-        for name, number in (("t", first), ("u", second)):
-            text = b"id,p\n" + b"".join(b"%d,POINT(1 1)\n" % at for at in range(number))
-            self.write(f"{self.folder}/{name}.csv", text)
-            size += len(text)
-        return size, first * second
-
-    @needs_build
-    def test_a_join_that_sorts(self):
-        size, pairs = self.two_tables(1000, 525)
-        query = "SELECT b.id FROM t a JOIN u b ON ST_Equals(a.p, b.p)"
-        out, err, status = self.ask(query=f"EXPLAIN {query}")
-        self.assertIn(b"outer b scan", out)
-        out, err, status = self.ask(BASE + EACH_BYTE * size + EACH_PAIR * pairs, query)
-        self.assertEqual((out.count(b"\n"), err, status), (pairs + 1, b"", 0))
-
-    @needs_build
-    def test_a_join_that_sorts_under_limit(self):
-        # All points are equal, so each pair is found; the list of them all doesn't fit.
-        size, _ = self.two_tables(2000, 1050)
-        query = "SELECT a.id, b.id FROM t a JOIN u b ON ST_Equals(a.p, b.p)"
-        out, err, status = self.ask(query=f"EXPLAIN {query}")
-        self.assertIn(b"outer b scan", out)
-        for most in (1, 100):
-            room = BASE + EACH_BYTE * size + EACH_PAIR * 2 * most
-            first = b"a.id,b.id\n" + b"".join(b"0,%d\n" % at for at in range(most))
-            with self.subTest(limit=most):
-                self.assertEqual(self.ask(room, f"{query} LIMIT {most}"), (first, b"", 0))
 
 
 if __name__ == "__main__":

@@ -4,8 +4,8 @@ import sys
 import unittest
 from concurrent.futures import ThreadPoolExecutor
 
-from faults import sweeps
-from support import needs, needs_build
+from faults import measures, sweeps
+from support import ROOT, needs, needs_build, read
 
 import proving
 
@@ -88,6 +88,16 @@ class LongSweeps(Sweep, unittest.TestCase):
     ASKS_PROGRAM = True
     IS_LONG = True
     most = ALL
+
+
+class Documented(unittest.TestCase):
+    ASKS_PROGRAM = True
+    IS_LONG = True
+
+    @needs_build
+    @needs("gcc", "cc")
+    def test_the_document_has_the_counts(self):
+        self.assertIn(measures.calls(), read(f"{ROOT}/docs/FAULT-TESTING.md"))
 
 
 class Calls(unittest.TestCase):

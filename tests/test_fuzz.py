@@ -11,7 +11,7 @@ from support import ROOT, needs_build, read, write
 
 import repository
 
-FUZZ = f"{ROOT}/tests/fuzz/fuzz.py"
+FUZZ, GAUGE = f"{ROOT}/tests/fuzz/fuzz.py", f"{ROOT}/crates/gauge/out/gauge"
 SQUARE, LINE = b"POLYGON((0 0,4 0,4 4,0 4,0 0))", b"LINESTRING(-2 2,2 -2)"
 # After so many cases a planted mistake counts as not found.
 CASES = 150
@@ -25,13 +25,19 @@ def fuzz(test, *words):
 
 
 class Fuzzing(unittest.TestCase):
-    """A thousand cases, the same in each run."""
+    """Some cases, the same in each run."""
 
     ASKS_PROGRAM = True
 
     @needs_build
     def test_a_thousand_cases(self):
         fuzz(self, "--seed", "1", "--cases", "1000")
+
+    @needs_build
+    def test_labels_give_the_same(self):
+        if not os.path.isfile(GAUGE):
+            self.skipTest("needs the program gauge: rt run in crates/gauge, or ./test --all")
+        self.assertNotIn("without gauge", fuzz(self, "--seed", "2", "--cases", "100"))
 
 
 class LongFuzzing(unittest.TestCase):

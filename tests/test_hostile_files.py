@@ -41,7 +41,7 @@ class WithTables(unittest.TestCase):
 
     def ask(self, words=("check", "schema.sql", "good"), **how):
         """Returns what a command writes over these files, and its status."""
-        how = {"cwd": self.folder, "stdin": subprocess.DEVNULL, "timeout": sweeps.PATIENCE, **how}
+        how = {"cwd": self.folder, "timeout": sweeps.PATIENCE, "input": b"", **how}
         ran = subprocess.run([sweeps.program(), *words], capture_output=True, **how)
         return ran.stdout, ran.stderr, ran.returncode
 
@@ -262,6 +262,17 @@ class Pipes(WithTables):
             with self.subTest(size=size):
                 self.assertEqual(self.ask(), said)
             os.remove(self.place)
+
+    @needs_build
+    def test_standard_input_by_its_name(self):
+        for path in (self.schema, self.place):
+            text = sweeps.read(path)
+            os.remove(path)
+            os.symlink("/dev/stdin", path)
+            with self.subTest(path=path):
+                self.assertEqual(self.ask(input=text), WELL)
+            os.remove(path)
+            self.write(path, text)
 
     @needs_build
     def test_a_pipe_without_writer_is_waited_for(self):

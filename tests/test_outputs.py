@@ -1,9 +1,11 @@
-"""Where the program's answer goes: full disks, closed pipes and streams, and what signals leave behind."""
+"""Where the program's answer goes: full disks, closed pipes and streams, what signals leave behind, and odd words of a command."""
+import ctypes
 import itertools
 import os
 import pty
 import resource
 import signal
+import socket
 import subprocess
 import tempfile
 import threading
@@ -53,6 +55,32 @@ class Outputs(unittest.TestCase):
             os.close(ours)
             with self.subTest(words=words), os.fdopen(theirs, "wb") as pipe:
                 self.assertEqual(end(start(words, stdout=pipe)), self.FAILED)
+
+    @needs_build
+    def test_streams_that_cannot_be_written(self):
+        ours, theirs = socket.socketpair()
+        ours.close()
+        terminal, its_end = pty.openpty()
+        os.close(terminal)
+        with open(os.devnull, "rb") as read_only, theirs:
+            for stream in (read_only, theirs, its_end):
+                for words in (sweeps.COMMANDS["relate"], MANY_ROWS):
+                    with self.subTest(stream=stream, words=words):
+                        self.assertEqual(end(start(words, stdout=stream)), self.FAILED)
+        os.close(its_end)
+
+    @needs_build
+    def test_a_table_to_which_its_own_rows_are_added(self):
+        # All is read before the first byte is written, so it ends.
+        with tempfile.TemporaryDirectory(dir=sweeps.room()) as folder:
+            rows = "".join(f"{it},{it}\n" for it in range(20_000))
+            sweeps.write(f"{folder}/schema.sql", "CREATE TABLE t (id INTEGER PRIMARY KEY, n INTEGER);")
+            sweeps.write(f"{folder}/t.csv", f"id,n\n{rows}")
+            with open(f"{folder}/t.csv", "ab") as table:
+                words = ["run", "schema.sql", ".", "SELECT id FROM t WHERE n < 10000"]
+                self.assertEqual(end(start(words, cwd=folder, stdout=table)), (b"", 0))
+            more = "".join(f"{it}\n" for it in range(10_000))
+            self.assertEqual(sweeps.read(f"{folder}/t.csv").decode(), f"id,n\n{rows}id\n{more}")
 
     @needs_build
     def test_a_pipe_that_is_closed_on_the_way(self):
@@ -121,6 +149,30 @@ class Outputs(unittest.TestCase):
                 child = start(sweeps.COMMANDS[name], stdout=subprocess.PIPE, stderr=full)
                 self.assertEqual(child.communicate()[0], b"")
                 self.assertEqual(child.returncode, sweeps.whole(name).status)
+
+
+class Words(unittest.TestCase):
+    """Words of the command line that no shell gives."""
+
+    ASKS_PROGRAM = True
+
+    @needs_build
+    def test_words_that_are_not_utf8(self):
+        said = b"error: invalid UTF-8 was detected in one or more arguments\n"
+        for words in ([b"\xff"], [b"relate", b"POINT(0 0)", b"\xc3("], [b"run", b"\xed\xa0\x80", b".", b"SELECT"]):
+            with self.subTest(words=words):
+                self.assertEqual(end(start(words)), (said, 2))
+
+    @needs_build
+    def test_no_words_at_all(self):
+        # Not even the program's name. A new system gives an empty one.
+        no_words = (ctypes.c_char_p * 1)(None)
+        execute = ctypes.CDLL(None).execve
+        begin = lambda: execute(sweeps.program().encode(), no_words, no_words)
+        child = subprocess.Popen(["false"], stdout=subprocess.PIPE, stderr=subprocess.PIPE, preexec_fn=begin)
+        out, err = child.communicate(timeout=sweeps.PATIENCE)
+        self.assertEqual((out, child.returncode), (b"", 2))
+        self.assertIn(b"Usage: sfq <COMMAND>", err)
 
 
 class Signals(unittest.TestCase):

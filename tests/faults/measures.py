@@ -8,25 +8,39 @@ import sys
 
 sys.dont_write_bytecode = True
 TESTS = os.path.dirname(os.path.dirname(os.path.realpath(__file__)))
-sys.path[:1] = [TESTS, f"{os.path.dirname(TESTS)}/tools"]
+sys.path[:0] = [TESTS, f"{os.path.dirname(TESTS)}/tools"]
 
 from faults import deep, sweeps
 
 import repository
 
 
-def print_table(head, rows):
-    print(f"| {' | '.join(head)} |\n|{'---|' * len(head)}")
-    for it in rows:
-        print(f"| {' | '.join(map(str, it))} |")
-    print()
+def table(head, rows):
+    """Returns the text of a table, as a document has it."""
+
+    def line(cells):
+        text = " | ".join(map(str, cells))
+        return f"| {text} |\n".replace("*", "\\*")
+
+    return line(head) + "|---" * len(head) + "|\n" + "".join(map(line, rows))
+
+
+def calls():
+    """Returns the table of how many calls of each kind each command makes. None calls fstat."""
+    kinds = [it for it in sweeps.CALLS if it != "fstat"]
+    rows = ([it, *(sweeps.whole(it).counts[kind] for kind in kinds)] for it in sweeps.COMMANDS)
+    return table(["command", "growths of memory", "reads", "writes", "opens"], rows)
+
+
+def stacks():
+    """Returns the table of how much stack the deepest inputs take."""
+    return table(["input", "KB of stack"], ((it, deep.least_stack(words)) for it, words in deep.cases().items()))
 
 
 def main():
     if not repository.is_built():
         repository.fail("needs ./build")
-    print_table(("command", *sweeps.CALLS), ((it, *sweeps.whole(it).counts.values()) for it in sweeps.COMMANDS))
-    print_table(("input", "KB of stack"), ((it, deep.least_stack(words)) for it, words in deep.cases().items()))
+    print(f"{calls()}\n{stacks()}")
 
 
 if __name__ == "__main__":

@@ -171,6 +171,14 @@ def query(text, folder="good"):
     return ["run", "schema.sql", folder, text]
 
 
+def bordering(count):
+    """Returns two areas that have a ragged border in common, of so many edges."""
+    border = [(at, at % 2) for at in range(count)]
+    below, above = [(count - 1, -9), (0, -9)], [(count - 1, 9), (0, 9)]
+    rings = ([*border, *side, border[0]] for side in (below, above))
+    return [f"POLYGON(({','.join(f'{x} {y}' for x, y in ring)}))" for ring in rings]
+
+
 LARGE = square(100, 100, 700)
 RING = "POLYGON((0 0,9 0,9 9,0 9,0 0),(2 2,2 7,7 7,7 2,2 2))"
 JOIN = "SELECT p.id, p.name, a.name FROM place p JOIN area a ON ST_Within(p.geom, a.geom) WHERE a.id > 3"
@@ -180,6 +188,7 @@ COMMANDS = {
     "misuse": ["rum"],
     "relate": ["relate", RING, "MULTILINESTRING((0 0,5 5,9 9),(1 -3,1 12))"],
     "relate of 400": ["relate", star(200, 9000), f"MULTILINESTRING((-9000 1,9000 2),{star(199, 9100)[8:-1]})"],
+    "relate along a border": ["relate", *bordering(300)],
     "relate refused": ["relate", RING, "POLYGON((0 0,4 4,4 0,0 4,0 0))"],
     "check": ["check", "schema.sql", "good"],
     "check refused": ["check", "schema.sql", "bad"],
@@ -188,6 +197,7 @@ COMMANDS = {
     "rows refused": query("SELECT id FROM place WHERE ST_Within(geom, ST_GeomFromText('POINT(1'))"),
     "join": query(JOIN),
     "join that sorts": query("SELECT a.id, p.id FROM area a, place p WHERE ST_Contains(a.geom, p.geom)"),
+    "LIMIT that sorts": query("SELECT a.id, p.id FROM area a, place p WHERE ST_Contains(a.geom, p.geom) LIMIT 40"),
     "COUNT(*)": query("SELECT COUNT(*) FROM area a JOIN area b ON ST_Overlaps(a.geom, b.geom)"),
     "EXPLAIN": query(f"EXPLAIN {JOIN}"),
     "EXPLAIN ANALYZE": query(f"EXPLAIN ANALYZE {JOIN}"),

@@ -1,0 +1,214 @@
+"""How much memory a run takes at most, and what it does where there is less."""
+import re
+import resource
+import shutil
+import subprocess
+import sys
+import tempfile
+import unittest
+from concurrent.futures import ThreadPoolExecutor
+
+from faults import deep, sweeps
+from support import ROOT, needs_build, read
+
+import proving
+
+sys.path.insert(0, f"{ROOT}/bench")
+
+import worst
+
+# The greatest memory of a run, as the README says it: these bytes, and so many for each byte of the tables and for each
+# pair of rows that a join finds before it sorts them; under LIMIT n for at most 2n pairs.
+BASE, EACH_BYTE, EACH_PAIR = 8 << 20, 64, 48
+
+QUERY_BYTES = 65_536
+
+
+def run(words, folder, room):
+    """Runs the program within so much memory, and returns what it wrote and its status."""
+    ran = subprocess.run(
+        [sweeps.program(), *words],
+        cwd=folder,
+        env={},
+        stdin=subprocess.DEVNULL,
+        capture_output=True,
+        timeout=sweeps.PATIENCE,
+        preexec_fn=lambda: resource.setrlimit(resource.RLIMIT_AS, (room, room)),
+    )
+    return ran.stdout, ran.stderr, ran.returncode
+
+
+class WithFolder(unittest.TestCase):
+    """A test case with a folder of its own, in which the schema and the tables are written."""
+
+    ASKS_PROGRAM = True
+
+    def setUp(self):
+        self.folder = tempfile.mkdtemp(dir=sweeps.room())
+        self.addCleanup(shutil.rmtree, self.folder)
+
+    def write(self, schema, **tables):
+        """Writes the files, and returns how many bytes the tables have."""
+        sweeps.write(f"{self.folder}/schema.sql", schema)
+        for name, text in tables.items():
+            sweeps.write(f"{self.folder}/{name}.csv", text)
+        return sum(len(text.encode()) for text in tables.values())
+
+    def query(self, text, room):
+        return run(["run", "schema.sql", ".", text], self.folder, room)
+
+
+class Tables(WithFolder):
+    """Tables that take the most for their size."""
+
+    def loads(self, columns, head, rows, count):
+        """Whether a table loads within the memory that its bytes allow."""
+        size = self.write(f"CREATE TABLE t (id INTEGER PRIMARY KEY{columns});", t=f"id{head}\n{rows}")
+        ran = run(["check", "schema.sql", "."], self.folder, BASE + EACH_BYTE * size)
+        self.assertEqual(ran, (f"t {count}\n".encode(), b"", 0))
+
+    @needs_build
+    def test_rows_of_short_fields(self):
+        # A NULL takes one byte of the file, and a whole value in the row. Rows grow by twice, so that 65,537 take the most.
+        names = [f"c{at}" for at in range(31)]
+        for kind, cell, count in (
+            ("GEOMETRY", "", 100_000),
+            ("GEOMETRY", "", 65_537),
+            ("TEXT", "a", 100_000),
+            ("INTEGER", "1", 65_537),
+            ("GEOMETRY", "POINT EMPTY", 9_000),
+            ("GEOMETRY", "POINT(0 0)", 9_000),
+            ("GEOMETRY", "MULTIPOINT(0 0)", 9_000),
+            ("GEOMETRY", '"LINESTRING(0 0,1 1)"', 4_200),
+            ("GEOMETRY", '"POLYGON((0 0,1 0,0 1,0 0))"', 4_200),
+            ("GEOMETRY", '"MULTIPOLYGON(((0 0,1 0,0 1,0 0)))"', 4_200),
+        ):
+            columns, head = ("".join(f", {it}{more}" for it in names) for more in (f" {kind}", ""))
+            with self.subTest(kind=kind, cell=cell, count=count):
+                rows = "".join(f"{at}{f',{cell}' * 31}\n" for at in range(count))
+                self.loads(columns, head.replace(", ", ","), rows, count)
+
+    @needs_build
+    def test_long_geometries(self):
+        for text in (
+            f"MULTIPOINT({','.join(['0 0'] * 10_000)})",
+            f"LINESTRING({','.join(['0 0,1 1'] * 5_000)})",
+            f"MULTILINESTRING({','.join(['(0 0,1 1)'] * 1_000)})",
+            deep.multipolygon(1000),
+            *(bad.make(2 * bad.size) for bad in worst.SINGLES),
+        ):
+            with self.subTest(text=text[:30], bytes=len(text)):
+                self.loads(", geom GEOMETRY", ",geom", f'1,"{text}"\n', 1)
+
+
+class Queries(WithFolder):
+    """Queries and geometries that take the most for their size: their bytes aren't counted."""
+
+    @needs_build
+    def test_the_longest_queries(self):
+        size = self.write(deep.ONE_TABLE, t="id,name,geom\n1,a,POINT(0 0)\n")
+        room = BASE + EACH_BYTE * size
+        points = f"MULTIPOINT({','.join(['0 0'] * 10_000)})"
+        head, one = "SELECT id FROM t WHERE id = 1", " AND ST_Touches(geom, ST_GeomFromText('POINT(0 0)')) = 0"
+        for text, answer in (
+            (deep.longest("AND"), b"id\n1\n"),
+            (deep.longest("OR"), b"id\n1\n"),
+            (head + one * ((QUERY_BYTES - len(head)) // len(one)), b"id\n1\n"),
+            (f"SELECT id FROM t WHERE ST_Within(geom, ST_GeomFromText('{points}'))", b"id\n1\n"),
+            (f"SELECT {','.join(['id'] * 21_000)} FROM t LIMIT 0", b",".join([b"id"] * 21_000) + b"\n"),
+            (f"SELECT {','.join(['*'])} FROM t WHERE name = '{'a' * 65_000}'", b"id,name,geom\n"),
+        ):
+            with self.subTest(text=text[:60]):
+                self.assertEqual(self.query(text, room), (answer, b"", 0))
+
+    @needs_build
+    def test_the_longest_geometries_of_relate(self):
+        pairs = [(bad.label, bad.make(2 * bad.size)) for bad in worst.PAIRS]
+        with ThreadPoolExecutor(proving.processors()) as pool:
+            for (label, _), ran in zip(pairs, pool.map(lambda it: run(["relate", *it[1]], self.folder, BASE), pairs)):
+                with self.subTest(pair=label):
+                    self.assertEqual((len(ran[0]), *ran[1:]), (10, b"", 0))
+
+
+class Joins(WithFolder):
+    def two_tables(self, first, second):
+        """Writes two tables of equal points. Returns the bytes of both, and how many pairs of rows they have."""
+        one = "(id INTEGER PRIMARY KEY, p POINT);"
+        texts = ("id,p\n" + "".join(f"{at},POINT(1 1)\n" for at in range(count)) for count in (first, second))
+        size = self.write(f"CREATE TABLE t {one} CREATE TABLE u {one}", **dict(zip("tu", texts)))
+        return size, first * second
+
+    @needs_build
+    def test_a_join_that_sorts(self):
+        size, pairs = self.two_tables(1000, 525)
+        query = "SELECT b.id FROM t a JOIN u b ON ST_Equals(a.p, b.p)"
+        room = BASE + EACH_BYTE * size + EACH_PAIR * pairs
+        self.assertIn(b"outer b scan", self.query(f"EXPLAIN {query}", room)[0])
+        out, err, status = self.query(query, room)
+        self.assertEqual((out.count(b"\n"), err, status), (pairs + 1, b"", 0))
+
+    @needs_build
+    def test_a_join_that_sorts_under_limit(self):
+        # All points are equal, so each pair is found; the list of them all doesn't fit.
+        size, _ = self.two_tables(2000, 1050)
+        query = "SELECT a.id, b.id FROM t a JOIN u b ON ST_Equals(a.p, b.p)"
+        for most in (1, 100):
+            room = BASE + EACH_BYTE * size + EACH_PAIR * 2 * most
+            self.assertIn(b"outer b scan", self.query(f"EXPLAIN {query}", room)[0])
+            first = b"a.id,b.id\n" + b"".join(b"0,%d\n" % at for at in range(most))
+            with self.subTest(limit=most):
+                self.assertEqual(self.query(f"{query} LIMIT {most}", room), (first, b"", 0))
+
+
+class TooLittle(unittest.TestCase):
+    """Less memory than a run takes, from what the system's loader takes on.
+
+    None of these commands takes more stack than the system sets up for it. Where a condition is nested so deep that it has to grow
+    meanwhile, and no room is left for it, the system ends the program by SIGSEGV: docs/FAULT-TESTING.md.
+    """
+
+    ASKS_PROGRAM = True
+    COMMANDS = ("help", "relate of 400", "relate along a border", "check", "rows", "join", "join that sorts", "COUNT(*)")
+    # The status of the loader where it can't begin the program.
+    NOT_BEGUN = 127
+    LEAST, AMPLE, STEPS = 2 << 20, 64 << 20, 100
+
+    def least(self, words, folder, well):
+        """Returns with how much memory the answer is whole, to a page."""
+        below, enough = self.LEAST, self.AMPLE
+        while enough - below > resource.getpagesize():
+            middle = (below + enough) // 2
+            below, enough = (below, middle) if run(words, folder, middle) == well else (middle, enough)
+        return enough
+
+    def ended(self, words, folder):
+        """Returns the runs with too little memory that didn't end as they may, and how many began."""
+        well, found, begun = run(words, folder, self.AMPLE), [], 0
+        enough = self.least(words, folder, well)
+        for step in range(self.STEPS):
+            room = enough - (1 << 20) * step // self.STEPS
+            ran = run(words, folder, room)
+            begun += ran[2] != self.NOT_BEGUN
+            is_refused = ran[2] == sweeps.NO_MEMORY and ran[1] in sweeps.OUT_OF_MEMORY and sweeps.beginning_of(ran[0], well[0])
+            if ran != well and not is_refused and ran[2] != self.NOT_BEGUN:
+                found.append((room, ran))
+        return found, begun
+
+    @needs_build
+    def test_a_run_is_refused_or_whole(self):
+        with ThreadPoolExecutor(proving.processors()) as pool:
+            ended = pool.map(lambda it: self.ended(sweeps.COMMANDS[it], sweeps.tables()), self.COMMANDS)
+            for name, (found, begun) in zip(self.COMMANDS, ended):
+                with self.subTest(name=name):
+                    self.assertEqual(found[:3], [])
+                    self.assertGreater(begun, 4)
+
+
+class Readme(unittest.TestCase):
+    def test_it_has_these_numbers(self):
+        row = re.search(r"(?m)^\| memory \| at most (\d+) MiB, and (\d+) bytes .* at most (\d+) for each pair", read(f"{ROOT}/README.md"))
+        self.assertEqual([int(it) for it in row.groups()], [BASE >> 20, EACH_BYTE, EACH_PAIR])
+
+
+if __name__ == "__main__":
+    unittest.main()
