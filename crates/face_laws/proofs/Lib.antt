@@ -1,0 +1,2 @@
+pub mod VerticalLines
+pub mod Views
