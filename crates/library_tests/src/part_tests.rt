@@ -24,7 +24,7 @@ fn texts_and_references(rt: HostRuntime) -> Result<(), Fail> {
     assert!(rt; text.as_str() == "Big");
     let one = References::one(rt.alloc(), 7)?;
     let two = References::two(rt.alloc(), 7, 8)?;
-    assert!(rt; one.as_slice() == [7] && two.as_slice() == [7, 8]);
+    assert!(rt; one.as_slice() == [7].as_slice() && two.as_slice() == [7, 8].as_slice());
     let tokens = lex(rt.alloc(), b"SELECT 'it''s'", true)?;
     assert!(rt; tokens.len() == 3);
     Ok(())
