@@ -201,7 +201,7 @@ class TooLittle(unittest.TestCase):
             for name, (found, begun) in zip(self.COMMANDS, ended):
                 with self.subTest(name=name):
                     self.assertEqual(found[:3], [])
-                    self.assertGreater(begun, 4)
+                    self.assertGreater(begun, 1)
 
 
 class Readme(unittest.TestCase):

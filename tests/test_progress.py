@@ -19,7 +19,7 @@ LINE = re.compile(rb"sfq: row (\d+) of (\d+), (\d+) candidates, (\d+) found")
 ROWS = 8_000
 
 SCHEMA = "CREATE TABLE t (id INTEGER PRIMARY KEY, n INTEGER); CREATE TABLE u (id INTEGER PRIMARY KEY, n INTEGER);"
-QUERY = "SELECT a.id, b.id FROM t a JOIN u b ON a.n = b.n"
+QUERY = "SELECT a.id, b.id FROM t a JOIN u b ON a.n <= b.n"
 ANSWER = b"a.id,b.id\n5,7\n"
 
 
@@ -41,7 +41,7 @@ class ProgressOnATerminal(unittest.TestCase):
         room = tempfile.TemporaryDirectory(prefix="sfq-progress-")
         self.addCleanup(room.cleanup)
         self.room = room.name
-        # One number is in both tables, in row 5 of the one and row 7 of the other.
+        # One pair is found: 0 is the least number of the one table, in row 5, and the greatest of the other, in row 7.
         write(f"{self.room}/schema.sql", SCHEMA)
         for name, sign, place in (("t", 1, 5), ("u", -1, 7)):
             numbers = [0 if it == place else sign * it for it in range(1, ROWS + 1)]

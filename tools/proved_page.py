@@ -14,7 +14,6 @@ import sys
 import repository
 
 PAGE = f"{repository.ROOT}/docs/PROVED.md"
-TEST_CRATES = ["library_tests", "query_tests", "command_tests", "fault_tests"]
 PROGRAMS = ["sfq", "scripts", "gauge"]
 # How the list begins in the page. It ends with its paragraph.
 BEGIN = "succeeds with ample memory in a test of this module"
@@ -90,9 +89,9 @@ def is_reached(function, lib):
 
 def all_functions():
     """Returns the functions of the libraries, and of these the ones that can be called from outside."""
-    found, public = [], []
+    found, public, tests = [], [], repository.crates_with_tests()
     for crate in repository.read_crates():
-        if crate in TEST_CRATES + PROGRAMS:
+        if crate in tests + PROGRAMS:
             continue
         lib = read(f"{repository.ROOT}/crates/{crate}/src/lib.rt")
         for path in sorted(glob.glob(f"{repository.ROOT}/crates/{crate}/src/*.rt")):
@@ -163,7 +162,7 @@ def reached(name, functions):
 def sources():
     """Returns the text that plays each module and script: a script is played by the program `scripts`."""
     found = {}
-    for crate in TEST_CRATES:
+    for crate in repository.crates_with_tests():
         for path in glob.glob(f"{repository.ROOT}/crates/{crate}/src/*_tests.rt"):
             found[os.path.basename(path)[: -len("_tests.rt")]] = read(path)
     player = "".join(read(it) for it in glob.glob(f"{repository.ROOT}/crates/scripts/src/*.rt"))

@@ -11,10 +11,9 @@ import sys
 import repository
 
 SCRIPTS = f"{repository.ROOT}/crates/scripts"
-TEST_CRATES = ["library_tests", "query_tests", "command_tests", "fault_tests"]
 # The files that a kind of line names: tests that need code, worked examples that are proved, and system tests.
 FILES = {
-    "library": [f"crates/{it}/src/*.rt" for it in TEST_CRATES],
+    "library": [f"crates/{it}/src/*.rt" for it in repository.crates_with_tests()],
     "example": ["crates/*/src/*_examples.rt"],
     "system": ["tests/test_*.py"],
 }

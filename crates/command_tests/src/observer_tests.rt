@@ -105,9 +105,11 @@ fn each_candidate_and_each_row_is_reported(rt: HostRuntime) -> Result<(), Fail> 
     let one = observed(&rt, "SELECT id FROM t WHERE n = 7")?;
     assert!(rt; one.candidates == 4 && one.rows == 2);
     assert!(rt; one.first_left == 3 && one.last_left == 0);
-    let pairs = observed(&rt, "SELECT a.id, b.id FROM t a, t b WHERE a.n = b.n")?;
-    assert!(rt; pairs.candidates == 16 && pairs.rows == 6);
+    let pairs = observed(&rt, "SELECT a.id, b.id FROM t a, t b WHERE a.n >= b.n")?;
+    assert!(rt; pairs.candidates == 16 && pairs.rows == 11);
     assert!(rt; pairs.first_left == 3 && pairs.last_left == 0);
+    let equal = observed(&rt, "SELECT a.id, b.id FROM t a, t b WHERE a.n = b.n")?;
+    assert!(rt; equal.candidates == 6 && equal.rows == 6);
     let plan = observed(&rt, "EXPLAIN SELECT id FROM t")?;
     assert!(rt; plan.candidates == 0 && plan.rows == 0);
     Ok(())

@@ -1,3 +1,3 @@
 pub mod FilterLemmas
 mod IdleRowLemmas
-mod SoughtNumberLemmas
+mod SoughtValueLemmas

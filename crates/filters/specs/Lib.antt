@@ -1,3 +1,3 @@
 pub mod Filters
 pub mod IdleRows
-pub mod SoughtNumbers
+pub mod SoughtValues

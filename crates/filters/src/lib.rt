@@ -4,9 +4,9 @@
 mod fields;
 pub mod filters;
 pub mod idle_rows;
-pub mod sought_numbers;
+pub mod sought_values;
 
 pub use filters::passes;
 pub use idle_rows::gives_none;
-pub use sought_numbers::sought_number;
+pub use sought_values::{equal_column, sought_value};
 pub use truth::Work;

@@ -1,5 +1,5 @@
 -- Edges that were made of others, so that each of their points is on some of those.
-use Rattle.std.specs.Prelude.{List, All}
+use Rattle.std.specs.Prelude.{ℕ, List, All, ◌++◌, take, drop}
 use Rattle.geometry_model.specs.Geometries.{Edge}
 use Rattle.cover_laws.specs.Covering.{IsHeld}
 
@@ -10,3 +10,7 @@ AreMerged es merged = All (IsHeld es) merged
 -- what holds the edges of the first list holds those of the second
 abbrev pub KeepsHeld : List Edge → List Edge → Type 0
 KeepsHeld before after = (es : List Edge) → AreMerged es before → AreMerged es after
+
+-- the first of the edges, which are kept, and those from a place on, which are still to be joined
+abbrev pub left_of : List Edge → ℕ → ℕ → List Edge
+left_of merged kept place = take kept merged ++ drop place merged

@@ -19,7 +19,8 @@ fn is_before(one: GridPoint, other: GridPoint) -> bool
 
 /// The edge from its lesser end to its greater one.
 pub(crate) fn ascending(edge: &Segment) -> Segment
-    ensures { IsHeld (edge.now ∷ []) result }
+    ensures held { IsHeld (edge.now ∷ []) result }
+    ensures holds { IsHeld (result ∷ []) edge.now }
 {
     match Segment::new(edge.end(), edge.start()) {
         Some(turned) if is_before(edge.end(), edge.start()) => turned,
@@ -45,13 +46,18 @@ pub(crate) fn line_order(one: &Segment, other: &Segment) -> Ordering {
 
 /// Two ascending edges as one, if they are on one line and the second starts on the first.
 pub(crate) fn joined(one: &Segment, other: &Segment) -> Option<Segment>
-    ensures { IfSome result (IsHeld (one.now ∷ other.now ∷ [])) }
+    ensures held { IfSome result (IsHeld (one.now ∷ other.now ∷ [])) }
+    ensures first { IfSome result (λ longer. IsHeld (longer ∷ []) one.now) }
+    ensures second { IfSome result (λ longer. IsHeld (longer ∷ []) other.now) }
 {
     let from = one.start();
     let to = one.end();
     let next_from = other.start();
     let next_to = other.end();
-    if is_before(to, next_from) || is_before(next_from, from) || !are_on_one_line(one, other) {
+    if is_before(to, next_from) || is_before(next_from, from) || is_before(next_to, from) {
+        return None;
+    }
+    if !are_on_one_line(one, other) {
         return None;
     }
     if !is_before(to, next_to) {

@@ -5,7 +5,7 @@ ghost use Rattle.geometry_model.specs.Geometries.{Edge};
 ghost use Rattle.geometry_model.specs.Points.{point_at};
 ghost use Rattle.geometry_model.specs.Sides.{on};
 ghost use Rattle.cover_laws.specs.Covering.{IsHeld};
-ghost use Rattle.merged_edges.specs.Merging.{AreMerged, KeepsHeld};
+ghost use Rattle.merged_edges.specs.Merging.{AreMerged, KeepsHeld, left_of};
 
 use crate::joining::{ascending, joined, line_order};
 use fraction::RatPoint;
@@ -33,7 +33,8 @@ impl Model for MergedEdges {
 /// Adds each of the edges, from its lesser end to its greater one.
 fn push_ascending(stretches: &mut Vec<Segment>, edges: &[Segment]) -> Result<(), AllocError>
     requires { AreMerged edges.now stretches.old.items }
-    ensures { OnOk result (AreMerged edges.now stretches.new.items) }
+    ensures merged { OnOk result (AreMerged edges.now stretches.new.items) }
+    ensures all { OnOk result (AreMerged stretches.new.items edges.now) }
 {
     for edge in edges {
         stretches.push(ascending(edge))?;
@@ -43,7 +44,8 @@ fn push_ascending(stretches: &mut Vec<Segment>, edges: &[Segment]) -> Result<(),
 
 /// Sorts edges into the order of their lines.
 fn sort_by_line(stretches: &mut Vec<Segment>)
-    ensures { KeepsHeld stretches.old.items stretches.new.items }
+    ensures held { KeepsHeld stretches.old.items stretches.new.items }
+    ensures all { AreMerged stretches.new.items stretches.old.items }
 {
     stretches.sort_unstable_by(|one, other| line_order(one, other));
 }
@@ -54,6 +56,8 @@ fn join_next(stretches: &mut Vec<Segment>, kept: usize, place: usize) -> usize
     requires order { kept ≤ place }
     requires within { place < vec_len stretches.old }
     ensures held { KeepsHeld stretches.old.items stretches.new.items }
+    ensures all { AreMerged (left_of stretches.new.items result (place + 1))
+        (left_of stretches.old.items kept place) }
     ensures length { vec_len stretches.new ≡ vec_len stretches.old }
     ensures kept { 0 < result }
     ensures next { result ≤ kept + 1 }
@@ -74,7 +78,8 @@ fn join_next(stretches: &mut Vec<Segment>, kept: usize, place: usize) -> usize
 
 /// Joins each edge with those right after it, as far as they touch on one line.
 fn join_neighbours(stretches: &mut Vec<Segment>)
-    ensures { KeepsHeld stretches.old.items stretches.new.items }
+    ensures held { KeepsHeld stretches.old.items stretches.new.items }
+    ensures all { AreMerged stretches.new.items stretches.old.items }
 {
     let mut kept = 1;
     for place in 1..stretches.len() {
@@ -112,6 +117,7 @@ impl MergedEdges {
     /// Replaces what is there by these edges, merged. It fails only when memory runs out, and then there are none.
     pub fn merge(&mut self, edges: &[Segment]) -> Result<(), AllocError>
         ensures merged { OnOk result (AreMerged edges.now self.new) }
+        ensures all { OnOk result (AreMerged self.new edges.now) }
         ensures refused { OnErr result (self.new ≡ []) }
     {
         self.stretches.clear();

@@ -47,15 +47,3 @@ but-none of old text a b is (front, split, put) =
 -- where a stream gives no row, none is to come
 pub none_left : {E : Type 0} (matrix : MatrixOf) (old new : Stream) (result : Option (Result RowPair E)) → result ≡ None → GivesNext matrix old result new → to_come matrix old ≡ []
 none_left matrix old new result is gives = (subst (λ r. GivesNext matrix old r new) is gives).0
-
--- one row more is counted
-pub one_counted : {X : Type 0} (count more whole : ℕ) (old new : List X) (x : X) → more ≡ count + 1 → old ≡ x ∷ new → count + length old ≡ whole → more + length new ≡ whole
-one_counted count more whole old new x next is all =
-    let one : length old ≡ length new + 1 = ap length is ∙ omega arith in
-    omega (arith, next, one, all)
-
--- all are counted where none is to come
-pub all_counted : {X : Type 0} (count whole : ℕ) (old : List X) → old ≡ [] → count + length old ≡ whole → count ≡ whole
-all_counted count whole old is all =
-    let none : length old ≡ 0 = ap length is in
-    omega (arith, none, all)

@@ -223,7 +223,7 @@ fn put_analysis<I: EnvelopeIndex + Drop, S: Sink, O: RowObserver>(
         ≡ kept_count (spec.work matrix denoted database.now.tables query.now plan.now))) }
 {
     let mut rows = Rows::new(alloc, database, query, plan, Work::new());
-    count_rows(&mut rows, observer)?;
+    rows.count_observed(observer)?;
     let work = rows.into_work();
     analyze(query, plan, &work, sink)?;
     Ok(work)
@@ -249,31 +249,12 @@ fn put_answer<I: EnvelopeIndex + Drop, S: Sink, O: RowObserver>(
 {
     let mut writer = RecordWriter::new(alloc);
     if query.counts {
-        let count = count_rows(rows, observer)?;
+        let count = rows.count_observed(observer)?;
         return put_count(alloc, query.limit, count, &mut writer, sink);
     }
     let header = header_record(alloc, database.definitions(), query)?;
     writer.put(alloc, &header, sink)?;
     put_records(alloc, database, query, rows, &mut writer, sink, observer)
-}
-
-// Takes rows to their end, and returns how many there were. More than 64 bits hold count as running out of memory.
-fn count_rows<I: EnvelopeIndex + Drop, O: RowObserver>(
-    rows: &mut Rows<'_, I>,
-    observer: &mut O,
-) -> Result<u64, AllocError>
-    ensures count { ByEveryMatrix (λ matrix. IfOk result (λ n. n ≡ length (to_come matrix rows.old))) }
-    ensures work { ByEveryMatrix (λ matrix. OnOk result (rows.new.work ≡ work_at_end matrix rows.old)) }
-{
-    let mut count: u64 = 0;
-    while let Some(found) = rows.next_observed(observer) {
-        found?;
-        let Some(more) = count.checked_add(1) else {
-            return Err(AllocError);
-        };
-        count = more;
-    }
-    Ok(count)
 }
 
 // Writes the header of COUNT(*) and the record of the number, which is left out under LIMIT 0.
