@@ -8,7 +8,7 @@ from support import needs_build
 import proving
 
 # The greatest that was measured, in kilobytes, beside the words of the command line, and some for other processors.
-GREATEST = 208
+GREATEST = 256
 
 
 class Stack(unittest.TestCase):
