@@ -135,6 +135,15 @@ def along_edge(count):
     )
 
 
+def long_over_stretches(count):
+    """Long lines on one line, and short stretches of it with gaps between."""
+    chance, reach = random.Random(count), SPAN // 3
+    ends = lambda a, b: [(3 * a, a), (3 * b, b)]
+    long = [ends(chance.randint(-reach, -reach // 2), chance.randint(reach // 2, reach)) for _ in range(count)]
+    step = 2 * reach // count
+    return lines(long), lines([ends(-reach + step * k, -reach + step * k + step // 2) for k in range(count)])
+
+
 def along_edge_step_by_step(count):
     """A line of short steps along the edge of a triangle with as many positions there, and the triangle."""
     step = 2 * SPAN // count
@@ -193,6 +202,12 @@ def zigzag(count):
     return polygon(zigzag_ring(count))
 
 
+def zigzag_that_crosses(count):
+    """The same, but its last edge crosses its first."""
+    *ring, (x, y) = zigzag_ring(count)
+    return polygon([*ring, (x - 1, y - 60)])
+
+
 def ragged_star(count):
     """A star whose corners are far and near in turn, so that all its edges are long and thin spokes."""
     ring = []
@@ -227,6 +242,30 @@ def thin_polygons(count):
     return polygons([[sliver(k, 12 * count)] for k in range(count)])
 
 
+def thin_holes_twice(count):
+    """The polygon of long thin holes, related to itself."""
+    return twice(thin_holes(count))
+
+
+def slivers_of_which_two_touch(count):
+    """Long thin quadrilaterals askew, of which the last has a corner on the one before it."""
+    length, x = 12 * count, 12 * (count - 1)
+    last = [(x - 7, 13 - x), *sliver(count - 1, length)[1:]]
+    return [sliver(k, length) for k in range(count - 1)] + [last]
+
+
+def holes_of_which_two_touch(count):
+    """A polygon of long thin holes, of which the last two share a point: a fault that is found last."""
+    reach = 60 * count
+    outer = [(-reach, -reach), (reach, -reach), (reach, reach), (-reach, reach)]
+    return polygon(outer, *slivers_of_which_two_touch(count))
+
+
+def polygons_of_which_two_touch(count):
+    """The same of long thin polygons."""
+    return polygons([[ring] for ring in slivers_of_which_two_touch(count)])
+
+
 def equal_stars(count):
     """A star, and the same from another start on."""
     return polygon(star_ring(count)), polygon(star_ring(count, count // 3))
@@ -247,6 +286,11 @@ def chevron(k, reach):
 def nested_chevrons(count):
     """So many chevrons, each in the next."""
     return polygons([[chevron(k, 8 * count)] for k in range(count)])
+
+
+def nested_chevrons_twice(count):
+    """The same, related to itself."""
+    return twice(nested_chevrons(count))
 
 
 def frame(k):

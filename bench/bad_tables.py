@@ -7,6 +7,8 @@ number of rows.
 import random
 from typing import NamedTuple, Optional
 
+from bad_shapes import star_ring
+
 SPAN = 1_000_000
 
 
@@ -21,6 +23,8 @@ class Tables(NamedTuple):
     predicate: Optional[str] = ""
     # Whether keys go down from record to record.
     is_descending: bool = False
+    # Names in the headers that the schema lacks.
+    ignored: tuple = ()
 
 
 def of_shapes(first, second, predicate="intersects", wanted="a.id, b.id", more=""):
@@ -185,6 +189,53 @@ def limit_of_equal_points(count):
     return of_shapes(*one_point_apart(count), more=" LIMIT 1")
 
 
+def limit_of_a_thousand(count):
+    """The first thousand of all pairs of equal points."""
+    return of_shapes(*one_point_apart(count), more=" LIMIT 1000")
+
+
+def beside_star(count, shape):
+    """Small shapes anywhere, and one star of as many positions as there are shapes."""
+    ring = [(100 * x, 100 * y) for x, y in star_ring(min(count, 9_998))]
+    text = ",".join(f"{x} {y}" for x, y in ring + ring[:1])
+    return of_shapes(scattered(count, shape), [f'"POLYGON(({text}))"'])
+
+
+def short_lines_and_star(count):
+    """Short lines, and one large star."""
+    return beside_star(count, lambda x, y: edge(x, y, 40, 30))
+
+
+def small_squares_and_star(count):
+    """Small squares, and one large star."""
+    return beside_star(count, lambda x, y: box(x, y, 40, 30))
+
+
+def points_with_numbers(count, per):
+    """One point in every row, with numbers of which each is in so many rows of both tables, and the pairs of equal numbers."""
+    first, second = ([f"POINT(3 3),{place // per}" for place in range(count)] for _ in range(2))
+    query = "SELECT COUNT(*) FROM first a JOIN second b ON ST_Intersects(a.geom, b.geom) AND a.number = b.number"
+    return Tables(first, second, "geom GEOMETRY, number INTEGER", query, None)
+
+
+def one_point_and_numbers(count):
+    """One point in every row, and each number once."""
+    return points_with_numbers(count, 1)
+
+
+def one_point_and_frequent_numbers(count):
+    """One point in every row, and each number in 65 rows."""
+    return points_with_numbers(count, 65)
+
+
+def nulls_behind_predicate(count):
+    """A predicate of NULL in every row, behind one that counts."""
+    rows = ["POINT(3 3),"] * count
+    constant = "ST_Intersects(b.geom, ST_GeomFromText('POINT(3 3)'))"
+    query = f"SELECT COUNT(*) FROM first a JOIN second b ON {constant} AND ST_Intersects(a.other, b.other)"
+    return Tables(rows, rows, "geom GEOMETRY, other GEOMETRY", query, None)
+
+
 def points_on_scribble(count):
     """Points, and one line from one position anywhere to the next, of as many as it may have at the most."""
     chance = random.Random(count)
@@ -270,3 +321,15 @@ def many_comparisons(count):
     """So many conditions on one row, and an OR of as many predicates."""
     query = f"SELECT id FROM first WHERE {' AND '.join(['id=1'] * count)} AND ({' OR '.join(['ST_Touches(g,g)'] * count)})"
     return Tables([point(1, 1)], [], "g GEOMETRY", query, None)
+
+
+def many_names(count):
+    """A header of so many names that the schema lacks, and a record of as many empty fields."""
+    names = tuple(f"x{place}" for place in range(count))
+    return Tables(["7" + "," * count], [], "number INTEGER", "SELECT id FROM first", None, ignored=names)
+
+
+def many_items(count):
+    """So many items of one row."""
+    query = f"SELECT {','.join(['number'] * count)} FROM first"
+    return Tables(["7"], [], "number INTEGER", query, None)

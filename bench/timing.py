@@ -57,15 +57,18 @@ def best(command, folder, repeats):
     return min(r[0] for r in runs), min(r[1] for r in runs), max(r[2] for r in runs), lines
 
 
-def instructions(command, folder, given=os.devnull):
-    """How many instructions a command takes on a file, as valgrind counts them: the same whatever else runs on the machine."""
+def instructions(command, folder, given=os.devnull, status=0):
+    """How many instructions a command takes on a file, as valgrind counts them: the same whatever else runs on the machine. Ends
+    the program where the command's status isn't the one that is wanted."""
     if shutil.which("valgrind") is None:
         sys.exit("valgrind isn't installed: apt-get install valgrind")
     counting = ["valgrind", "--tool=cachegrind", "--cache-sim=no", f"--cachegrind-out-file={os.devnull}"]
     with open(given) as source, open(folder / "output", "wb") as output:
         ran = subprocess.run(
-            [*counting, *map(str, command)], cwd=folder, stdin=source, stdout=output, stderr=subprocess.PIPE, text=True, check=True
+            [*counting, *map(str, command)], cwd=folder, stdin=source, stdout=output, stderr=subprocess.PIPE, text=True
         )
+    if ran.returncode != status:
+        sys.exit(f"{command[0]} ended with status {ran.returncode}")
     return int(re.search(r"I +refs: +([\d,]+)", ran.stderr)[1].replace(",", ""))
 
 

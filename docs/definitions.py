@@ -17,13 +17,14 @@ HERE = pathlib.Path(__file__).resolve().parent
 CRATES = HERE.parent / "crates"
 DEFINITION = re.compile(r"^(?:abbrev |unfoldable )?pub (?:data |record |abbrev )?([^\s:({]+)")
 STANDARD = re.compile(r"\s*\(((?:06-10[34]r4|SQL|clause|this project's choice)[^()]*(?:\([^()]*\)[^()]*)*)\)$")
+CHOICE = "this project's choice"
 
 G, T = "geometry_model", "table_model"
 # Sections: a title, a sentence or two, and files with the names that they leave out.
 PAGE = [
     ("Points and geometries",
      "A point of the plane is a triple of whole numbers X, Y, W with W at least 1. It means (X/W, Y/W).",
-     [(G, "Points", "compare_x compare_y compare mediant IsLeast last_divisor gcd divided least_form"),
+     [(G, "Points", "point_at compare_x compare_y compare mediant IsLeast last_divisor gcd divided least_form"),
       (G, "Geometries", "type_of kind_of_type joined_rings positions edges_of_lines"),
       (G, "Sides", "between on_one_line"),
       (G, "Crossings", "reaches exactly_one odd at_or_above odd_at_or_above")]),
@@ -31,7 +32,7 @@ PAGE = [
      "The three sets are said twice: as facts about a point in the standard's words, and as the function"
      " `locate`. The law `parts_are_located` proves that both agree.",
      [(G, "PointSets", ""),
-      (G, "Locations", "last_after on_some in_points")]),
+      (G, "Locations", "is_at last_after on_some is_odd_end in_points in_lines in_rings")]),
     ("Dimension and the DE-9IM matrix",
      "The dimension of a set of points is the largest kind of piece that it holds: a triangle, a segment,"
      " a point, nothing.",
@@ -42,7 +43,7 @@ PAGE = [
      [(G, "Patterns", "character_of characters_of pattern_of dimension_character"),
       (G, "Predicates", "like wants_point wants_common_point forces_meeting")]),
     ("Validity",
-     "Each fault is a fact about rational points. A geometry without fault is valid.",
+     "Each fault, V1 to V8, is a fact about rational points. A geometry without fault is valid.",
      [(G, "Validity", "Element elements_from numbered_elements IsRing")]),
     ("Well-known text",
      "A relation for each rule of the grammar, between a text and what it spells. Refusals are stated"
@@ -50,77 +51,77 @@ PAGE = [
      [(G, "WellKnownText", "begins_with Blank Space Padded Enclosed Separated is_white Byte Rule"
        " same_position written_positions written_parts Begins"),
       (G, "TextRefusals", "TakesNumber begins_more IsFirstNumber"),
-      (G, "CanonicalText", "listed_text"),
+      (G, "CanonicalText", "listed_text line_text polygon_text"),
       (G, "CheckedTexts", "valid_or tested")]),
     ("Tokens and schemas",
-     "A schema is a list of lawful tables. A relation for each rule of its grammar.",
+     "A schema is a list of lawful tables. A relation for each rule of its grammar, and the faults S5, S2, S4 and S3.",
      [(T, "Tokens", "same_kind is_in_line kind_in word_kind symbol_of_one symbol closing string_to string"
        " front text_of at_front tokens_from text_place IsSlice"),
-      (T, "SchemaGrammar", "IsNamed IsMark Marked key_places AnswersSchema IsNotNull IsPrimaryKey"),
+      (T, "SchemaGrammar", "IsNamed IsMark Marked key_places ReturnsSchema IsNotNull IsPrimaryKey"),
       (T, "Definitions", "is_integer column_names"),
       (T, "SchemaRefusals", "Written IsColumn IsCreateTable IsWritten BeforeTable BeforeColumns BeforeColumn"
-       " BeforeKey BeforeClose IsName is_among has_key names_of StandsAt StandsIn is_at_token")]),
+       " BeforeKey BeforeClose IsName is_among has_key names_of AppliesAt AppliesIn is_at_token")]),
     ("Queries",
-     "A relation for each rule of the grammar, between a tree and the tokens that are written for it.",
-     [(T, "Queries", ""),
-      (T, "QueryReading", "+most_levels"),
+     "A relation for each rule of the grammar, between a tree and the tokens that are written for it; then the"
+     " faults Q10 and Q12.",
+     [(T, "QueryReading", "+most_levels"),
       (T, "QueryGrammar", "IsDigits IsCall IsOperandFunction IsNumber IsPair IsPredicate IsChain IsCondition"
-       " IsNegation IsRowCount IsCrossed IsJoined IsItemFunction AnswersQuery"),
+       " IsNegation IsRowCount IsCrossed IsJoined IsItemFunction ReturnsQuery"),
       (T, "QueryRefusals", "IsAnyInteger IsAnyOperand IsAnyNegation IsAnyCondition BeforeSecond BeforeOn"
-       " ThroughFrom BeforeWhere IsAnyWhere BeforeLimit AreParts BeforeNegation BeforeOperand StandsAt"
-       " StandsIn is_at_token")]),
+       " ThroughFrom BeforeWhere IsAnyWhere BeforeLimit AreParts BeforeNegation BeforeOperand AppliesAt"
+       " AppliesIn is_at_token")]),
     ("Binding: what names mean",
      "Rules that say what each name, condition and query is bound to, and where it is refused. Laws prove"
      " that the functions of binding, which contracts name, follow them.",
-     [(T, "BindingRules", "IsNowhere IsSomewhere IsTwice IsFirst IsOnly Then FirstFault AreOneName"
+     [(T, "BindingRules", "IsColumnNamed IsNowhere IsSomewhere IsTwice IsFirst IsOnly Then FirstFault AreOneName"
        " IsBoundPredicate IsRefusedPredicate IsRefusedOperand GeometryRules IsGeometryPart"),
-      (T, "QueryRules", "IsTableNamed IsTaken IsFromAfter IsRefusedAfter IsThere StandsBefore IsListed"
+      (T, "QueryRules", "IsTableNamed IsTaken IsFromAfter IsRefusedAfter IsThere AppliesBefore IsListed"
        " AreInOrder IsRefusedWhole IsWhole")]),
     ("Tables and loading",
      "A record is a list of fields, each some bytes. Loading gives the typed rows by ascending key, or the"
      " first fault.",
      [(T, "FeatureTables", ""),
-      (T, "GeometryColumns", "of_shape literal bound_argument bound_place pattern_or bound_pattern"
+      (T, "GeometryColumns", "takes_type of_shape literal bound_argument bound_place pattern_or bound_pattern"
        " geometry_binding"),
       (T, "Loading", "GeometryReader and_then unless each is_space_or_tab trimmed number_in place_in"
-       " field_under first_fault whole_number double_from insert_by_key keyed_rows rows_of filled_value is_number"),
-      (T, "Databases", "at_table fits_type fits_columns"),
-      (T, "SpatialTables", "SpatialTable")]),
+       " field_under first_fault whole_number double_from insert_by_key keyed_rows rows_of filled_value is_number values_of"),
+      (T, "Databases", "at_table fits_type fits_columns loaded_tables")]),
     ("Truth and meaning",
      "Truth has three values. The meaning of a query is the rows of the product of its tables at which ON"
      " and WHERE are true.",
-     [(T, "Truths", "truth_of order_of truth_by_parts text_value dimension_value"),
+     [(T, "Truths", "truth_of order_of text_value dimension_value"),
       (T, "Arguments", ""),
       (T, "Meanings", "passing_rows all_true")]),
     ("The answer and its outcome",
      "The records of the answer, their text, and what a run gives in place of an answer.",
      [(T, "AnswerTexts", "Writing name_of column_name reference_header column_header"),
-      (T, "RunOutcomes", "RecordText counted_text after"),
+      (T, "RunOutcomes", "RecordText counted_text answer_text after"),
       ("answer_records", "RecordTexts", ""),
       ("query_runs", "Runs", "rows_text bound_text rows_of_choices choice_text count_text planned_work planned_text"
        " answer_work query_work loaded_work work_outcome IsReached RefusesTable none_reached Counts IsOfTables"
-       " PutsFront AnswersQuery CountsQuery"),
+       " PutsFront ReturnsQuery CountsQuery"),
       (T, "Outcomes", ""),
       (T, "FaultLines", "memory_text")]),
     ("Plans and work",
      "Only EXPLAIN and EXPLAIN ANALYZE show these. The rows of an answer don't depend on them.",
-     [(T, "Plans", "is_column_of is_known places_where access_methods accesses_of nested predicates_by_parts"
+     [(T, "Plans", "can_search expected_rows first_of_least is_column_of is_known places_where access_methods accesses_of nested predicates_by_parts"
        " possible_counts plan_of row_counts"),
-      (T, "Work", "computed_by_parts computes is_as_text as_text_by_parts has_as_text filters_of passes_filters"
+      (T, "Work", "candidate_work keeps_order computed_by_parts computes is_as_text as_text_by_parts has_as_text filters_of passes_filters"
        " work_of up_to_passing candidates_to_row work_to_row counted"),
       (T, "ExplainTexts", "conjunct_number line count_line limit_line method_text access_lines filters_text")]),
 ]
 SHOWN = ["IsPoint", "side", "on", "IsInterior", "IsBoundary", "IsExterior", "HasTriangle", "HasDimension", "common",
-         "IsMatrix", "GivesMatrix", "matches", "crosses", "holds", "IsValid", "Spells", "IsQuery", "and_of",
-         "related", "search_condition", "filtered", "meaning", "answer", "outcome", "ByEveryMatrix", "RunsOver"]
+         "IsMatrix", "GivesMatrix", "crosses", "holds", "IsValid", "Spells", "IsQuery", "and_of", "related", "truth_by_parts",
+         "truth", "search_condition", "filtered", "meaning", "answer", "outcome", "ByEveryMatrix", "RunsOver"]
 HEAD = """# Definitions
 
 For whoever doubts the proof. The machine proves that the program does what the definitions say, not
 that they say what the standards mean. People have to judge that, by reading this page.
 
-Each row is a definition: its name, what it says, and its clause of OGC 06-103r4 or 06-104r4, or its
-part of SQL. Where no clause is named, this project chose. The definitions that matter most are
-printed whole. [PROVED](PROVED.md) lists the ten that carry the headline.
+Each row is a definition: its name, what it says, and where a standard has it. A number alone, such
+as 6.1.4, is a clause of OGC 06-103r4. Where no standard is named, or a row says 'our choice', this
+project chose. The definitions that matter most are printed whole. [PROVED](PROVED.md) lists the ten
+that carry the headline.
 
 Left out are helpers, which are beside their definition in its file, and what nobody has to believe:
 functions that a law ties to a definition here; and labels, cut points and pieces, by which the
@@ -129,8 +130,9 @@ proof goes. `src/*_examples.rt` of both models has worked examples, proved by co
 `abbrev pub` begins a definition. What ends in `Type 0` is a fact, and so is a `record`, whose parts
 all hold; what ends in `Bool` computes. `A × B` says both, `A → B` that A implies B, `(x : T) → ..`
 says it of every x, `{T : Type 0} → ..` of every type, `¬ A` that A isn't so; `⊥` is never so.
-`f x` is f of x, `λ x. ..` a function of x, `≡` equality, `x ∷ xs` a list that begins with x. ℕ and
-ℤ are the whole numbers, `<ℤ` and the like are of ℤ, `pos n` is n in ℤ, `codes "T*"` a text's bytes.
+`f x` is f of x, `λ x. ..` a function of x, `≡` equality, `x ∷ xs` a list that begins with x. ℕ are
+the whole numbers from 0 on and ℤ those with a sign; `<ℤ` and the like are of ℤ, and `pos n` is n in
+ℤ. `codes "T*"` are a text's bytes. `fold-Cond` goes through a condition from the inside out.
 
 `docs/definitions.py` makes this page from the comments in the specifications. Change it there.
 """
@@ -165,6 +167,13 @@ def cell(text):
     return text.replace("|", "\\|")
 
 
+def shortened(clause):
+    """A clause as the page's head explains it: of 06-103r4 the number alone, and nothing where no standard is named."""
+    if "06-104r4" not in clause:
+        clause = clause.replace("06-103r4, ", "")
+    return "" if clause == CHOICE else clause.replace(CHOICE, "our choice")
+
+
 def wrapped(text, width=100):
     lines = [""]
     for word in text.split():
@@ -191,7 +200,7 @@ def section(title, words, files, problems):
         problems += [f"no definition {name} in {module}" for name in left_out.split() if name not in names]
         for name, said, clause, whole in found:
             if name[0].isalpha() and name not in left_out.split():
-                rows += f"| `{name}` | {cell(said)} | {cell(clause)} |\n"
+                rows += f"| `{name}` | {cell(said)} | {cell(shortened(clause))} |\n"
                 shown += f"{whole}\n\n" if name in SHOWN else ""
     text += f"\n| name | what it is | standard |\n|---|---|---|\n{rows}"
     return text + (f"\n```text\n{shown.rstrip()}\n```\n" if shown else "")

@@ -1,4 +1,4 @@
-"""What docs/PROVED.md says of clauses, theorems and tests is so, and what isn't so is found."""
+"""What docs/PROVED.md says of clauses and theorems and ample_memory.txt of tests is so, and what isn't so is found."""
 import os
 import re
 import sys
@@ -70,11 +70,11 @@ PAGE = """
 - Lists are lists (`lists_are_lists`), as `somebody` says (see [a page](one.md)).
 
 ## What is only tested
+"""
+LIST = """# Tests.
 
-Each call succeeds with ample memory in a test of this module: first: `Listed::copy`; second:
-`List::{new, add}` (`reserve`).
-
-Text.
+first: Listed::copy
+second: List::new, List::add (reserve)
 """
 TESTS = {"first": "use one_crate::Listed;\nListed::copy(rt.alloc(), &list)?", "second": "List::new(rt.alloc()).add(1)?"}
 
@@ -84,10 +84,10 @@ class Page(unittest.TestCase):
         self.functions = proved_page.functions_in("one_crate", "lists", SOURCE)
 
     def wrong(self, old="", new="", texts=TESTS):
-        page = PAGE.replace(old, new) if old else PAGE
+        page, tests = (it.replace(old, new) if old else it for it in (PAGE, LIST))
         needed = sorted({proved_page.name_of(it, self.functions) for it in self.functions if it.is_public and it.takes_memory()})
-        tests = proved_page.wrong_tests(needed, proved_page.listed(page), texts, self.functions)
-        return proved_page.wrong_clauses(page, self.functions) + tests
+        found = proved_page.wrong_tests(needed, proved_page.listed(tests), texts, self.functions)
+        return proved_page.wrong_clauses(page, self.functions) + found
 
     def test_nothing_is_wrong_in_the_page(self):
         functions, public = proved_page.all_functions()
@@ -97,7 +97,9 @@ class Page(unittest.TestCase):
         page = proved_page.read(proved_page.PAGE)
         self.assertGreater(len(proved_page.rows_of(page)), 40)
         self.assertEqual(proved_page.wrong_clauses(page, functions), [])
-        self.assertEqual(proved_page.wrong_tests(needed, proved_page.listed(page), proved_page.sources(), functions), [])
+        tests = proved_page.listed(proved_page.read(proved_page.LIST))
+        self.assertGreater(len(tests), 20)
+        self.assertEqual(proved_page.wrong_tests(needed, tests, proved_page.sources(), functions), [])
 
     def test_one_call_makes_a_matrix(self):
         functions, public = proved_page.all_functions()
@@ -123,19 +125,24 @@ class Page(unittest.TestCase):
 
     def test_what_is_so(self):
         self.assertEqual(self.wrong(), [])
-        self.assertEqual(self.wrong("first: `Listed::copy`", "first: all others"), [])
+        self.assertEqual(self.wrong("first: Listed::copy", "first: all others"), [])
+
+    def test_the_list(self):
+        found = proved_page.listed("# A head: not this.\n\none: a, B::c (d, E::f), g\ntwo.txt: all others\n")
+        wanted = [("one", "a", []), ("one", "B::c", ["d", "E::f"]), ("one", "g", []), ("two.txt", "all others", [])]
+        self.assertEqual(found, wanted)
 
     def test_what_is_wrong(self):
         for old, new, wrong in [
             ("`List::add` |", "`List::adds` |", "List::adds is no function of a library"),
             ("`added` |", "`kept` |", "List::add: no clause is named kept"),
             ("(`lists_are_lists`)", "(`lists_are_sets`)", "lists_are_sets is no theorem"),
-            ("first: `Listed::copy`; ", "", "no test is named for Listed::copy"),
-            (" (`reserve`)", "", "no test is named for reserve"),
-            ("first: `Listed::copy`", "first: `Listed::copies`", "Listed::copies is no function of a library"),
+            ("first: Listed::copy\n", "", "no test is named for Listed::copy"),
+            (" (reserve)", "", "no test is named for reserve"),
+            ("first: Listed::copy", "first: Listed::copies", "Listed::copies is no function of a library"),
             ("first: ", "third: ", "third is no module of tests and no script"),
-            ("first: `Listed::copy`", "first: `Listed::copy`, `List::add`", "first doesn't call List::add"),
-            ("(`reserve`)", "(`reserve`, `Listed::copy`)", "List::add doesn't call Listed::copy"),
+            ("first: Listed::copy", "first: Listed::copy, List::add", "first doesn't call List::add"),
+            ("(reserve)", "(reserve, Listed::copy)", "List::add doesn't call Listed::copy"),
         ]:
             with self.subTest(wrong=wrong):
                 self.assertIn(wrong, self.wrong(old, new))

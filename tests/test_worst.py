@@ -15,17 +15,18 @@ import worst
 
 # What Linux takes as one word of a command line, and the limits of sfq.
 WORD_BYTES, RECORD_BYTES, QUERY_BYTES = 131_071, 1_048_576, 65_536
-POSITIONS, ROWS = 10_000, 100_000
+POSITIONS, ROWS, FIELDS = 10_000, 100_000, 100_000
 
 
 class Inputs(unittest.TestCase):
     def test_shapes_are_within_the_limits(self):
-        for bad in worst.PAIRS + worst.SINGLES:
+        singles = worst.SINGLES + worst.FAULTY
+        for bad in worst.PAIRS + singles:
             made = bad.make(2 * bad.size)
-            texts = [made] if bad in worst.SINGLES else made
+            texts = [made] if bad in singles else made
             with self.subTest(input=bad.label):
                 self.assertLessEqual(max(text.count(",") + 1 for text in texts), POSITIONS)
-                self.assertLess(max(map(len, texts)), RECORD_BYTES if bad in worst.SINGLES else WORD_BYTES)
+                self.assertLess(max(map(len, texts)), RECORD_BYTES if bad in singles else WORD_BYTES)
 
     def test_tables_are_within_the_limits(self):
         for bad in worst.SPATIAL + worst.PLAIN:
@@ -34,8 +35,10 @@ class Inputs(unittest.TestCase):
 
     def test_queries_are_within_the_limit(self):
         for bad in worst.ALONE:
+            made = bad.make(2 * bad.size)
             with self.subTest(input=bad.label):
-                self.assertLessEqual(len(bad.make(2 * bad.size).query), QUERY_BYTES)
+                self.assertLessEqual(len(made.query), QUERY_BYTES)
+                self.assertLess(len(made.ignored), FIELDS - 2)
 
     def test_inputs_are_the_same_each_time(self):
         for bad in worst.ALL:

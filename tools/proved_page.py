@@ -1,10 +1,10 @@
 #!/usr/bin/env python3
-"""Prints what docs/PROVED.md says wrong of the sources, and ends with status 1 if something is.
+"""Prints what docs/PROVED.md and tests/ample_memory.txt say wrong of the sources, and ends with status 1 if something is.
 
 usage: python3 tools/proved_page.py
 
-Each clause of its tables has to be one of the call beside it, and each theorem a function. Its list of tests has to have each
-public function that may run out of memory, and each test has to call the functions that are listed with it.
+Each clause of the page's tables has to be one of the call beside it, and each theorem a function. The list of tests has to
+have each public function that may run out of memory, and each test has to call the functions that are listed with it.
 """
 import glob
 import os
@@ -15,9 +15,8 @@ import repository
 
 PAGE = f"{repository.ROOT}/docs/PROVED.md"
 PROGRAMS = ["sfq", "scripts", "gauge"]
-# How the list begins in the page. It ends with its paragraph.
-BEGIN = "succeeds with ample memory in a test of this module"
-# What the list says of the modules that call all functions which it doesn't name.
+LIST = f"{repository.ROOT}/tests/ample_memory.txt"
+# What the list says of the modules that call functions which it doesn't name.
 OTHERS = "all others"
 # Errors that come where memory that a value already has can't grow.
 GROWTHS = r"\b(?:AllocError|LoadFault|WktFault|PutFault|Error)\b"
@@ -114,25 +113,17 @@ def needed(public):
     return sorted({name_of(it, public) for it in public if it.takes_memory()})
 
 
-def listed(page):
+def listed(text):
     """Returns the list as triples: the module or script, a function that it calls, and those that are called on its way."""
-    paragraph = page.partition(BEGIN)[2].partition("\n\n")[0].partition(":")[2].replace("\n", " ")
     found = []
-    for part in paragraph.rstrip(" .").split(";"):
-        module, _, names = part.partition(":")
-        if names.strip() == OTHERS:
-            found += [(it.strip(), OTHERS, []) for it in re.split(r",| and ", module)]
-        for name, inner in re.findall(r"`([^`]*)`(?: \(([^)]*)\))?", names.replace("::{", "::<").replace("}", ">")):
-            *first, last = spelled_out(name)
-            ways = [it for each in re.findall(r"`([^`]*)`", inner) for it in spelled_out(each)]
-            found += [(module.strip(" `"), it, []) for it in first] + [(module.strip(" `"), last, ways)]
+    for line in text.splitlines():
+        module, _, names = line.partition(": ")
+        if not line.strip() or line.startswith("#"):
+            continue
+        for name, inner in re.findall(r"([^,()]+)(?:\(([^)]*)\))?", names):
+            if name.strip():
+                found.append((module, name.strip(), [it.strip() for it in inner.split(",")] if inner else []))
     return found
-
-
-def spelled_out(name):
-    """Returns the names that `Type::<one, two>` is short for."""
-    owner, short, rest = name.partition("::<")
-    return [f"{owner}::{it.strip()}" for it in rest.rstrip(">").split(",")] if short else [name]
 
 
 def calls(text, name):
@@ -225,8 +216,7 @@ def wrong_tests(names, triples, texts, functions):
 
 def main():
     functions, public = all_functions()
-    page = read(PAGE)
-    found = wrong_clauses(page, functions) + wrong_tests(needed(public), listed(page), sources(), functions)
+    found = wrong_clauses(read(PAGE), functions) + wrong_tests(needed(public), listed(read(LIST)), sources(), functions)
     for it in found:
         print(it)
     return 1 if found else 0

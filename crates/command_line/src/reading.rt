@@ -4,7 +4,7 @@ ghost use Rattle.std.specs.Prelude.{◌≡◌, [], true, codes, IfOk, IfErr, IfS
 ghost use Rattle.std.specs.String.{string_bytes};
 ghost use Rattle.clap.specs.Walk.{texts};
 ghost use Rattle.clap.specs.Words.{rows_of, found_of, first_value, subcommand_rows_of, takes, fault_of, kind_of, HasKind};
-ghost use Rattle.command_words.specs.Commands.{sfq};
+ghost use Rattle.command_words.specs.CommandWords.{sfq};
 ghost use Rattle.command_line.specs.Orders.{Orders, OrdersBy, HasWords, HasTextsOf, HasRunWords, HasCheckWords, HasRelateWords, name_of};
 
 use crate::known_commands::Order;

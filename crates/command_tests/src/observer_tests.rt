@@ -109,7 +109,7 @@ fn each_candidate_and_each_row_is_reported(rt: HostRuntime) -> Result<(), Fail> 
     assert!(rt; pairs.candidates == 16 && pairs.rows == 11);
     assert!(rt; pairs.first_left == 3 && pairs.last_left == 0);
     let equal = observed(&rt, "SELECT a.id, b.id FROM t a, t b WHERE a.n = b.n")?;
-    assert!(rt; equal.candidates == 6 && equal.rows == 6);
+    assert!(rt; equal.candidates == 16 && equal.rows == 6);
     let plan = observed(&rt, "EXPLAIN SELECT id FROM t")?;
     assert!(rt; plan.candidates == 0 && plan.rows == 0);
     Ok(())

@@ -4,7 +4,7 @@
 
 ghost use Rattle.std.specs.Prelude.{◌≡◌, false, codes, IfOk, IsOkAnd};
 ghost use Rattle.clap.specs.Words.{app_of, rule_of, with_rule, AddsSubcommand};
-ghost use Rattle.command_words.specs.Commands.{required_word, bare_sfq, check, run, relate, sfq};
+ghost use Rattle.command_words.specs.CommandWords.{required_word, bare_sfq, check, run, relate, sfq};
 
 use clap::{Arg, Command};
 use std::alloc::{AllocError, Global};

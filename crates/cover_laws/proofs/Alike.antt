@@ -98,15 +98,15 @@ back x m n y h = less_of_lex (weighted m x (suc n) y) x (carry _ _ _ _ (linear x
     linear a w b v = solve (a ∷ w ∷ b ∷ v ∷ pos m ∷ pos (suc n) ∷ []) (var 0 ⊗ (var 4 ⊗ var 1 ⊕ var 5 ⊗ var 3) ⊖ (var 4 ⊗ var 0 ⊕ var 5 ⊗ var 2) ⊗ var 1) (var 5 ⊗ (var 0 ⊗ var 3 ⊖ var 2 ⊗ var 1)) tt
 
 -- where a point lies to the ends of the gap
-pub data Stands (e : Edge) (p q x : Point) : Type 0 where
-  AtLesser : same_point p x ≡ true → Stands e p q x
-  AtGreater : same_point x q ≡ true → Stands e p q x
-  Amid : IsBetween e p q x → Stands e p q x
+pub data Applies (e : Edge) (p q x : Point) : Type 0 where
+  AtLesser : same_point p x ≡ true → Applies e p q x
+  AtGreater : same_point x q ≡ true → Applies e p q x
+  Amid : IsBetween e p q x → Applies e p q x
 
-pub stands : (e : Edge) (p q x : Point) → IsPoint p → IsPoint q → IsPoint x → on e x ≡ true → IsWithin (record { lesser = p; greater = q }) x → Stands e p q x
-stands e p q x hp hq hx h w = go (compare p x) refl (compare x q) refl
+pub applies : (e : Edge) (p q x : Point) → IsPoint p → IsPoint q → IsPoint x → on e x ≡ true → IsWithin (record { lesser = p; greater = q }) x → Applies e p q x
+applies e p q x hp hq hx h w = go (compare p x) refl (compare x q) refl
   where
-    go : (t : Ordering) → compare p x ≡ t → (u : Ordering) → compare x q ≡ u → Stands e p q x
+    go : (t : Ordering) → compare p x ≡ t → (u : Ordering) → compare x q ≡ u → Applies e p q x
     go Equal k u l = AtLesser ((equal_is_same p x).0 k)
     go Greater k u l = absurd (w.not_before (turn_less p x k))
     go Less k Equal l = AtGreater ((equal_is_same x q).0 l)
@@ -114,13 +114,13 @@ stands e p q x hp hq hx h w = go (compare p x) refl (compare x q) refl
     go Less k Less l = Amid (record { is_point = hx; is_on = h; after = k; before = l })
 
 -- a shared edge holds each point from the one end to the other
-holds : (e f : Edge) (fs : List Edge) (p q x : Point) → IsGap e fs p q → IsPoint x → IsShared e p q f → Stands e p q x → on f x ≡ true
+holds : (e f : Edge) (fs : List Edge) (p q x : Point) → IsGap e fs p q → IsPoint x → IsShared e p q f → Applies e p q x → on f x ≡ true
 holds e f fs p q x g hx s (AtLesser k) = sym (on_respects f p x g.lesser_is_point hx k) ∙ (shared_holds_ends e f p q (span_of_gap e fs p q g) s).0
 holds e f fs p q x g hx s (AtGreater k) = on_respects f x q hx g.greater_is_point k ∙ (shared_holds_ends e f p q (span_of_gap e fs p q g) s).1
 holds e f fs p q x g hx s (Amid i) = s.1 x i
 
 -- what lies between an end, or a point between, and a point between lies between
-inwards : (e : Edge) (fs : List Edge) (p q x y : Point) → IsGap e fs p q → IsPoint x → on e x ≡ true → IsBetween e p q y → (m n : ℕ) → 0 < m + suc n → Stands e p q x → IsBetween e p q (weighted m x (suc n) y)
+inwards : (e : Edge) (fs : List Edge) (p q x y : Point) → IsGap e fs p q → IsPoint x → on e x ≡ true → IsBetween e p q y → (m n : ℕ) → 0 < m + suc n → Applies e p q x → IsBetween e p q (weighted m x (suc n) y)
 inwards e fs p q x y g hx h j m n l (Amid i) = between_sum e p q x y m (suc n) l i j
 inwards e fs p q x y g hx h j m n l (AtLesser k) = record {
   is_point = weighted_is_point m x (suc n) y hx j.is_point l;
@@ -143,8 +143,8 @@ gap_end_is_alike b c e p q g x y j hx h w off = (
   all_from_each (λ f. on f y ≡ false) (edges b) off_y,
 )
   where
-    place : Stands e p q x
-    place = stands e p q x g.lesser_is_point g.greater_is_point hx h w
+    place : Applies e p q x
+    place = applies e p q x g.lesser_is_point g.greater_is_point hx h w
 
     off_x : Each (λ f. on f x ≡ false) (edges b)
     off_x = each_from_all (λ f. on f x ≡ false) (edges b) off

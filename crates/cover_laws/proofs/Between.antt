@@ -7,7 +7,7 @@ use Rattle.geometry_model.specs.Points.{Position, Point, IsPoint, point_at, comp
 use Rattle.geometry_model.specs.Geometries.{Edge}
 use Rattle.geometry_model.specs.Sides.{side, on}
 use Rattle.geometry_model.specs.Dimensions.{weighted}
-use Rattle.geometry_model.specs.Locations.{stands_at}
+use Rattle.geometry_model.specs.Locations.{is_at}
 use Rattle.geometry_model.proofs.LeastFormFacts.{least_is_same, least_is_point}
 use Rattle.geometry_laws.specs.PointLaws.{reversed}
 use Rattle.geometry_laws.proofs.PointOrder.{same_symmetric, same_transitive, compare_reversed, equal_is_same, less_transitive, mediant_between}
@@ -16,7 +16,7 @@ use Rattle.geometry_laws.proofs.Hulls.{on_from_hull, hull_from_on, on_parts}
 use Rattle.geometry_laws.proofs.RingParity.{position_is_point}
 use Rattle.geometry_laws.proofs.Lines.{weighted_is_point}
 use Rattle.geometry_laws.proofs.Locating.{by_contraries}
-use Rattle.geometry_laws.proofs.Triangles.{dot, dot_stands}
+use Rattle.geometry_laws.proofs.Triangles.{dot, dot_is_at}
 use Rattle.geometry_laws.proofs.LineOrder.{IsSum, after_sum, before_sum, sum_between, on_sum, weighted_is_sum, area_on_line}
 use Rattle.geometry_laws.proofs.Cuts.{turn_less, not_less_self, not_after_both, not_before_both}
 use Rattle.cover_laws.specs.Gaps.{IsBetween}
@@ -32,8 +32,8 @@ pub record Span (e : Edge) (p q : Point) : Type 0 where
 -- such an edge has two different ends
 pub wide : (e : Edge) (p q : Point) → Span e p q → e.start ≡ e.end → ⊥
 wide e p q s k = not_less_self p q (same_transitive p (point_at e.start) q (position_is_point e.start)
-    (same_symmetric p (point_at e.start) ∙ dot_stands e.start p s.lesser (subst (λ (g : Edge). on g p ≡ true) is_dot s.lesser_on))
-    (dot_stands e.start q s.greater (subst (λ (g : Edge). on g q ≡ true) is_dot s.greater_on))) s.in_order
+    (same_symmetric p (point_at e.start) ∙ dot_is_at e.start p s.lesser (subst (λ (g : Edge). on g p ≡ true) is_dot s.lesser_on))
+    (dot_is_at e.start q s.greater (subst (λ (g : Edge). on g q ≡ true) is_dot s.greater_on))) s.in_order
   where
     is_dot : e ≡ dot e.start
     is_dot = λ i. record { start = e.start; end = sym k i }
@@ -112,13 +112,13 @@ least_mediant_between e p q s = go (mediant_is_between e p q s)
 
 -- ---- a point between is no end of the edge
 -- points of the edge come before it and after it, and none comes before an edge's lesser end or after its greater
-pub no_end_between : (e : Edge) (p q x : Point) → Span e p q → IsBetween e p q x → (stands_at x e.start ≡ false) × (stands_at x e.end ≡ false)
-no_end_between e p q x s i = (by_contraries (stands_at x e.start) false (λ k. absurd (at_start k)) refl, by_contraries (stands_at x e.end) false (λ k. absurd (at_end k)) refl)
+pub no_end_between : (e : Edge) (p q x : Point) → Span e p q → IsBetween e p q x → (is_at x e.start ≡ false) × (is_at x e.end ≡ false)
+no_end_between e p q x s i = (by_contraries (is_at x e.start) false (λ k. absurd (at_start k)) refl, by_contraries (is_at x e.end) false (λ k. absurd (at_end k)) refl)
   where
-    after : (a : Position) → stands_at x a ≡ true → compare p (point_at a) ≡ Less
+    after : (a : Position) → is_at x a ≡ true → compare p (point_at a) ≡ Less
     after a k = compare_respects_last p (point_at a) x (position_is_point a) i.is_point k ∙ i.after
 
-    before : (a : Position) → stands_at x a ≡ true → compare (point_at a) q ≡ Less
+    before : (a : Position) → is_at x a ≡ true → compare (point_at a) q ≡ Less
     before a k = compare_respects q (point_at a) x (position_is_point a) i.is_point k ∙ i.before
 
     clash : (t : Bool) → t ≡ true → t ≡ false → ⊥
@@ -127,7 +127,7 @@ no_end_between e p q x s i = (by_contraries (stands_at x e.start) false (λ k. a
     same_before : (a : Position) → compare p (point_at a) ≡ Equal → compare (point_at a) q ≡ Less
     same_before a k = compare_respects q (point_at a) p (position_is_point a) s.lesser (same_symmetric (point_at a) p ∙ (equal_is_same p (point_at a)).0 k) ∙ s.in_order
 
-    at_start : stands_at x e.start ≡ true → ⊥
+    at_start : is_at x e.start ≡ true → ⊥
     at_start k = go (compare p (point_at e.end)) refl
       where
         go : (o : Ordering) → compare p (point_at e.end) ≡ o → ⊥
@@ -135,7 +135,7 @@ no_end_between e p q x s i = (by_contraries (stands_at x e.start) false (λ k. a
         go Equal l = clash (on e q) s.greater_on (not_after_both e q s.greater (before e.start k) (same_before e.end l))
         go Greater l = clash (on e q) s.greater_on (not_after_both e q s.greater (before e.start k) (less_transitive (point_at e.end) p q (position_is_point e.end) s.lesser s.greater (turn_less p (point_at e.end) l) s.in_order))
 
-    at_end : stands_at x e.end ≡ true → ⊥
+    at_end : is_at x e.end ≡ true → ⊥
     at_end k = go (compare p (point_at e.start)) refl
       where
         go : (o : Ordering) → compare p (point_at e.start) ≡ o → ⊥

@@ -24,7 +24,7 @@ use Rattle.cover_laws.specs.Covering.{IsOffEdges, ShowsOff, ShowsOn, ShowsAt}
 use Rattle.cover_laws.proofs.Shared.{span_of_gap}
 use Rattle.cover_laws.proofs.GapTheorems.{gap_has_no_cut, gap_is_alike, own_edges_are_mostly, sides_off_edges, sides_of_no_area, sides_of_own_edge, sides_along_own_edge, shared_point_shares_gap, shared_gap_holds_ends}
 use Rattle.cover_laws.proofs.Stretching.{not_upright_either}
-use Rattle.cover_laws.proofs.Located.{contains_left, all_at, is_area, on_or_off, StandsMostly, no_cut_stands}
+use Rattle.cover_laws.proofs.Located.{contains_left, all_at, is_area, on_or_off, AppliesMostly, no_cut_applies}
 
 -- ---- the edge's point between, as one of the other edge
 pub between_of_other : (e f : Edge) (p q x : Point) → IsShared e p q f → IsBetween e p q x → IsBetween f p q x
@@ -60,7 +60,7 @@ off_along e fs p q g x y i j h = all_from_each (λ f. on f x ≡ false) fs (each
 -- ---- what is there at a point of the gap that is no cut
 -- where the point lies, and what the label matrix shows of it and of its sides
 pub record AtNoCut (a b : Geometry) (e : Edge) (x : Point) : Type 0 where
-  pub stands : StandsMostly a b x
+  pub applies : AppliesMostly a b x
   pub no_cut : IsNoCut a b x
   pub piece : Shows (labelled_matrix a b) (locate a x) (locate b x) One
   pub sides : e.start.x ≢ e.end.x → Shows (labelled_matrix a b) (below a x) (below b x) Two × Shows (labelled_matrix a b) (above a x) (above b x) Two
@@ -68,7 +68,7 @@ pub record AtNoCut (a b : Geometry) (e : Edge) (x : Point) : Type 0 where
 -- a point that is no cut lies where almost all do, and its piece and its sides are there
 at_no_cut : (a b : Geometry) → IsValid a → IsValid b → (e : Edge) → Contains (edges a) e → (p q x : Point) → IsBetween e p q x → IsNoCut a b x → AtNoCut a b e x
 at_no_cut a b va vb e c p q x i f = record {
-  stands = no_cut_stands a b e c x i.is_point i.is_on f;
+  applies = no_cut_applies a b e c x i.is_point i.is_on f;
   no_cut = f;
   piece = piece_is_there a b (valid_rings_are_closed a va) (valid_rings_are_closed b vb) e (contains_left (edges a) (edges b) e c) x i.is_point i.is_on f;
   sides = λ n. sides_are_there a b (valid_rings_are_closed a va) (valid_rings_are_closed b vb) e (contains_left (edges a) (edges b) e c) n x i.is_point i.is_on f;
@@ -100,7 +100,7 @@ inner_there a b va e c x hx h f k n l u v = parted (sides_of_own_edge a b va k e
 -- it lies as the point that is no cut, so what is there of that one is what it shows
 off_there : (a b : Geometry) → IsValid a → IsValid b → (e : Edge) → Contains (edges a) e → (p q x y : Point) → IsGap e (edges b) p q → IsBetween e p q x → IsBetween e p q y → AtNoCut a b e x → IsOffEdges b y → ShowsOff a (labelled_matrix a b) e (mostly b y)
 off_there a b va vb e c p q x y g i j t o = record {
-  piece = shows_at (labelled_matrix a b) One (locate a x) (of_own_edges (kind a)) (locate b x) (mostly b y) (t.stands).0 ((t.stands).1 ∙ alike) t.piece;
+  piece = shows_at (labelled_matrix a b) One (locate a x) (of_own_edges (kind a)) (locate b x) (mostly b y) (t.applies).0 ((t.applies).1 ∙ alike) t.piece;
   outer = λ n. outer_there a b va e c x i.is_point i.is_on t.no_cut n (mostly b y) (lower n) (upper n);
   inner = λ k n. inner_there a b va e c x i.is_point i.is_on t.no_cut k n (mostly b y) (lower n) (upper n);
 }
@@ -121,7 +121,7 @@ off_there a b va vb e c p q x y g i j t o = record {
 -- all along a shared gap the sides lie alike, so what is there of the point that is no cut is what it shows
 on_there : (a b : Geometry) → IsValid a → IsValid b → (e : Edge) → Contains (edges a) e → (p q x y : Point) → IsGap e (edges b) p q → IsBetween e p q x → IsBetween e p q y → AtNoCut a b e x → (f : Edge) → Contains (edges b) f → IsShared e p q f → ShowsOn a b (labelled_matrix a b) e y
 on_there a b va vb e c p q x y g i j t f d s = record {
-  piece = shows_at (labelled_matrix a b) One (locate a x) (of_own_edges (kind a)) (locate b x) (of_own_edges (kind b)) (t.stands).0 ((t.stands).1 ∙ own_edges_are_mostly b f d x (s.1 x i)) t.piece;
+  piece = shows_at (labelled_matrix a b) One (locate a x) (of_own_edges (kind a)) (locate b x) (of_own_edges (kind b)) (t.applies).0 ((t.applies).1 ∙ own_edges_are_mostly b f d x (s.1 x i)) t.piece;
   lower = λ n. shows_at (labelled_matrix a b) Two (below a x) (below a y) (below b x) (below b y) (alike n).first_below (alike n).second_below ((t.sides n).0);
   upper = λ n. shows_at (labelled_matrix a b) Two (above a x) (above a y) (above b x) (above b y) (alike n).first_above (alike n).second_above ((t.sides n).1);
 }

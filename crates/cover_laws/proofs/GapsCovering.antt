@@ -17,14 +17,14 @@ use Rattle.geometry_laws.proofs.Respect.{locate_respects}
 use Rattle.geometry_laws.proofs.RingParity.{each_from_all}
 use Rattle.geometry_laws.proofs.Cuts.{among_from_contains, contains_of_among, one_line}
 use Rattle.matrix_laws.proofs.Closing.{valid_rings_are_closed}
-use Rattle.matrix_laws.proofs.Lists.{Some_of, some_from_any}
+use Rattle.matrix_laws.proofs.MatrixLists.{Some_of, some_from_any}
 use Rattle.matrix_laws.proofs.CutOrder.{cut_of_same}
 use Rattle.matrix_laws.specs.Cells.{Shows, ShowsPoint, IsNoCut, Covers}
 use Rattle.matrix_laws.proofs.Growing.{shows_at, shows_less}
 use Rattle.cover_laws.specs.Gaps.{EdgeGaps, AreGaps, IsBetween, IsClear, IsShared, IsGap, IsWithin, mostly, of_own_edges}
 use Rattle.cover_laws.specs.Covering.{IsOffEdges, ShowsOff, ShowsOn, ShowsGap, ShowsEnds}
 use Rattle.cover_laws.proofs.Shared.{span_of_gap}
-use Rattle.cover_laws.proofs.Alike.{Stands, stands}
+use Rattle.cover_laws.proofs.Alike.{Applies, applies}
 use Rattle.cover_laws.proofs.GapTheorems.{gap_end_is_alike, shared_point_shares_gap}
 use Rattle.cover_laws.proofs.Stretching.{spread, Meeting, goes_on, goes_back}
 use Rattle.cover_laws.proofs.Located.{contains_left, contains_right, all_at, not_off, on_or_off, off_is_shown, ShowsShared, shared_is_shown}
@@ -79,12 +79,12 @@ cut_of_both a b e c x (AtCrossing hx f h d k n s t) = AtCrossing hx f h (member 
 
 -- so a point that is no cut lies strictly within the gap
 between : (a b : Geometry) (m : Matrix) (e : Edge) → Contains (edges a) e → (x : Point) → IsPoint x → on e x ≡ true → (h : Held a b m e x) → IsNoCut a b x → IsBetween e h.p h.q x
-between a b m e c x hx k h f = go (stands e h.p h.q x (h.gap).lesser_is_point (h.gap).greater_is_point hx k h.within)
+between a b m e c x hx k h f = go (applies e h.p h.q x (h.gap).lesser_is_point (h.gap).greater_is_point hx k h.within)
   where
-    go : Stands e h.p h.q x → IsBetween e h.p h.q x
-    go (Stands.AtLesser s) = absurd (f (cut_of_same (edges_of_both a b) (listed a ++ listed b) h.p x (h.gap).lesser_is_point hx s (cut_of_both a b e c h.p h.lesser_is_cut)))
-    go (Stands.AtGreater s) = absurd (f (cut_of_same (edges_of_both a b) (listed a ++ listed b) h.q x (h.gap).greater_is_point hx (same_symmetric h.q x ∙ s) (cut_of_both a b e c h.q h.greater_is_cut)))
-    go (Stands.Amid i) = i
+    go : Applies e h.p h.q x → IsBetween e h.p h.q x
+    go (Applies.AtLesser s) = absurd (f (cut_of_same (edges_of_both a b) (listed a ++ listed b) h.p x (h.gap).lesser_is_point hx s (cut_of_both a b e c h.p h.lesser_is_cut)))
+    go (Applies.AtGreater s) = absurd (f (cut_of_same (edges_of_both a b) (listed a ++ listed b) h.q x (h.gap).greater_is_point hx (same_symmetric h.q x ∙ s) (cut_of_both a b e c h.q h.greater_is_cut)))
+    go (Applies.Amid i) = i
 
 -- ---- off b's edges the point lies as the gap's sample
 -- so what the matrix shows by the sample it shows of the point too
@@ -97,7 +97,7 @@ off_shown a b vb m t e c x hx k h o = go (gap_end_is_alike b (valid_rings_are_cl
 -- ---- on an edge of b
 -- the gap beside the point is shared, where neither edge ends there and both are on one line
 sample_held : (a b : Geometry) (m : Matrix) (e : Edge) (x : Point) → IsPoint x → (h : Held a b m e x) → on e x ≡ true → (f : Edge) → Contains (edges b) f → on f x ≡ true → on_one_line e f ≡ true → is_end f x ≡ false → on f (h.shows).sample ≡ true
-sample_held a b m e x hx h ke f d k l n = go (all_at (λ r. IsClear e h.p h.q r ⊎ IsShared e h.p h.q r) (edges b) f (h.gap).whole d) (stands e h.p h.q x (h.gap).lesser_is_point (h.gap).greater_is_point hx ke h.within)
+sample_held a b m e x hx h ke f d k l n = go (all_at (λ r. IsClear e h.p h.q r ⊎ IsShared e h.p h.q r) (edges b) f (h.gap).whole d) (applies e h.p h.q x (h.gap).lesser_is_point (h.gap).greater_is_point hx ke h.within)
   where
     meeting : Meeting e f h.p h.q
     meeting = record {
@@ -105,11 +105,11 @@ sample_held a b m e x hx h ke f d k l n = go (all_at (λ r. IsClear e h.p h.q r 
       span = span_of_gap e (edges b) h.p h.q h.gap;
     }
 
-    go : IsClear e h.p h.q f ⊎ IsShared e h.p h.q f → Stands e h.p h.q x → on f (h.shows).sample ≡ true
+    go : IsClear e h.p h.q f ⊎ IsShared e h.p h.q f → Applies e h.p h.q x → on f (h.shows).sample ≡ true
     go (inr s) r = s.1 (h.shows).sample (h.shows).between
-    go (inl u) (Stands.AtLesser r) = goes_on e f h.p h.q meeting u x hx (spread f x hx k n) r (h.shows).sample (h.shows).between
-    go (inl u) (Stands.AtGreater r) = goes_back e f h.p h.q meeting u x hx (spread f x hx k n) r (h.shows).sample (h.shows).between
-    go (inl u) (Stands.Amid i) = absurd (let z : true ≡ false = sym k ∙ u x i in cc)
+    go (inl u) (Applies.AtLesser r) = goes_on e f h.p h.q meeting u x hx (spread f x hx k n) r (h.shows).sample (h.shows).between
+    go (inl u) (Applies.AtGreater r) = goes_back e f h.p h.q meeting u x hx (spread f x hx k n) r (h.shows).sample (h.shows).between
+    go (inl u) (Applies.Amid i) = absurd (let z : true ≡ false = sym k ∙ u x i in cc)
 
 -- a point that is one of the shared points, in whatever triple, is shown as that one is
 shared_shown : (a b : Geometry) (m : Matrix) (x : Point) → IsPoint x → (ps : List Point) → All IsPoint ps → All (λ p. Shows m (locate a p) (locate b p) Zero) ps → Any (λ p. same_point p x ≡ true) ps → Shows m (locate a x) (locate b x) Zero

@@ -7,7 +7,7 @@ use Rattle.geometry_model.specs.Dimensions.{Matrix}
 use Rattle.geometry_model.specs.Labels.{below, above}
 use Rattle.geometry_laws.proofs.Each.{Passing}
 use Rattle.geometry_laws.proofs.Cuts.{contains_of_among, one_line}
-use Rattle.matrix_laws.proofs.Lists.{Some_of, some_from_any}
+use Rattle.matrix_laws.proofs.MatrixLists.{Some_of, some_from_any}
 use Rattle.matrix_laws.specs.Cells.{ShowsPoint, IsNoCut, Covers}
 use Rattle.cover_laws.specs.Covering.{IsOffEdges, IsHeld, ShowsOn, ShowsAt, ShowsEnds}
 use Rattle.cover_laws.specs.CoveringLaws.{IsFullOff, IsFullOn, IsFullAlong}

@@ -7,7 +7,7 @@ use Rattle.geometry_model.specs.Sides.{on, on_one_line}
 use Rattle.geometry_model.specs.Crossings.{odd_above, odd_at_or_above}
 use Rattle.geometry_model.specs.CutPoints.{is_end}
 use Rattle.geometry_model.specs.CutPoints.IsCut.{AtEnd, AtCrossing}
-use Rattle.geometry_model.specs.Locations.{stands_at, is_odd_end, locate}
+use Rattle.geometry_model.specs.Locations.{is_at, is_odd_end, locate}
 use Rattle.geometry_model.specs.Dimensions.{Matrix}
 use Rattle.geometry_model.specs.Labels.{below, above, edges_of_both}
 use Rattle.geometry_model.specs.declared.shapes.Kind.{Kind}
@@ -92,10 +92,10 @@ no_listed (Geometry.Polygon rs) e c p m = m
 no_listed (Geometry.MultiPolygon es) e c p m = m
 
 -- so none is at the point
-none_listed : (a : Geometry) (e : Edge) → Contains (edges a) e → (x : Point) → All (λ p. stands_at x p ≡ false) (listed a)
-none_listed a e c x = all_from_each (λ p. stands_at x p ≡ false) (listed a) (each_none (listed a) (no_listed a e c))
+none_listed : (a : Geometry) (e : Edge) → Contains (edges a) e → (x : Point) → All (λ p. is_at x p ≡ false) (listed a)
+none_listed a e c x = all_from_each (λ p. is_at x p ≡ false) (listed a) (each_none (listed a) (no_listed a e c))
   where
-    each_none : (ps : List Position) → ((p : Position) → Among p ps → ⊥) → Each (λ p. stands_at x p ≡ false) ps
+    each_none : (ps : List Position) → ((p : Position) → Among p ps → ⊥) → Each (λ p. is_at x p ≡ false) ps
     each_none [] f = tt
     each_none (p ∷ ps) f = absurd (f p (inl refl))
 
@@ -109,37 +109,37 @@ odd_end_or_not g x = go (is_line (kind g)) (is_odd_end (lines g) x) refl
     go (inr n) t e = inr (λ l. absurd (n l))
 
 -- a listed position is at the point, or none is
-listed_or_not : (b : Geometry) (x : Point) → Passing (stands_at x) (listed b) ⊎ All (λ p. stands_at x p ≡ false) (listed b)
-listed_or_not b x = go (list_any (stands_at x) (listed b)) refl
+listed_or_not : (b : Geometry) (x : Point) → Passing (is_at x) (listed b) ⊎ All (λ p. is_at x p ≡ false) (listed b)
+listed_or_not b x = go (list_any (is_at x) (listed b)) refl
   where
-    go : (t : Bool) → list_any (stands_at x) (listed b) ≡ t → Passing (stands_at x) (listed b) ⊎ All (λ p. stands_at x p ≡ false) (listed b)
-    go true e = inl (some_passed (stands_at x) (listed b) e)
-    go false e = inr (all_from_each (λ p. stands_at x p ≡ false) (listed b) (none_passed (stands_at x) (listed b) e))
+    go : (t : Bool) → list_any (is_at x) (listed b) ≡ t → Passing (is_at x) (listed b) ⊎ All (λ p. is_at x p ≡ false) (listed b)
+    go true e = inl (some_passed (is_at x) (listed b) e)
+    go false e = inr (all_from_each (λ p. is_at x p ≡ false) (listed b) (none_passed (is_at x) (listed b) e))
 
 -- it lies on a's own edges, and in b where almost all points about it do
-abbrev pub StandsMostly : Geometry → Geometry → Point → Type 0
-StandsMostly a b x = (locate a x ≡ of_own_edges (kind a)) × (locate b x ≡ mostly b x)
+abbrev pub AppliesMostly : Geometry → Geometry → Point → Type 0
+AppliesMostly a b x = (locate a x ≡ of_own_edges (kind a)) × (locate b x ≡ mostly b x)
 
 -- an odd end or a listed position is among the ends that are shown, and any other point lies where almost all do
-pub shown_or_mostly : (a b : Geometry) (m : Matrix) → ShowsEnds a b m → (e : Edge) → Contains (edges a) e → (x : Point) → IsPoint x → on e x ≡ true → Shows m (locate a x) (locate b x) Zero ⊎ StandsMostly a b x
+pub shown_or_mostly : (a b : Geometry) (m : Matrix) → ShowsEnds a b m → (e : Edge) → Contains (edges a) e → (x : Point) → IsPoint x → on e x ≡ true → Shows m (locate a x) (locate b x) Zero ⊎ AppliesMostly a b x
 shown_or_mostly a b m s e c x hx h = go (odd_end_or_not a x) (odd_end_or_not b x) (listed_or_not b x)
   where
-    at_listed : Passing (stands_at x) (listed b) → Shows m (locate a x) (locate b x) Zero
+    at_listed : Passing (is_at x) (listed b) → Shows m (locate a x) (locate b x) Zero
     at_listed p = shows_at m Zero (locate a (point_at p.found)) (locate a x) (locate b (point_at p.found)) (locate b x)
         (locate_respects a (point_at p.found) x (position_is_point p.found) hx p.passes) (locate_respects b (point_at p.found) x (position_is_point p.found) hx p.passes)
         (each_at (CoversPosition a b m) (listed b) p.found (each_from_all (CoversPosition a b m) (listed b) s.positions) p.among)
 
     go : ((kind a ≡ kinds.Line) × (is_odd_end (lines a) x ≡ true)) ⊎ (kind a ≡ kinds.Line → is_odd_end (lines a) x ≡ false)
         → ((kind b ≡ kinds.Line) × (is_odd_end (lines b) x ≡ true)) ⊎ (kind b ≡ kinds.Line → is_odd_end (lines b) x ≡ false)
-        → Passing (stands_at x) (listed b) ⊎ All (λ p. stands_at x p ≡ false) (listed b) → Shows m (locate a x) (locate b x) Zero ⊎ StandsMostly a b x
+        → Passing (is_at x) (listed b) ⊎ All (λ p. is_at x p ≡ false) (listed b) → Shows m (locate a x) (locate b x) Zero ⊎ AppliesMostly a b x
     go (inl k) v w = inl (s.of_first k.0 x hx k.1)
     go (inr u) (inl k) w = inl (s.of_second k.0 x hx k.1)
     go (inr u) (inr v) (inl p) = inl (at_listed p)
     go (inr u) (inr v) (inr w) = inr (mostly_is_located a x hx u (none_listed a e c x) ∙ own_edges_are_mostly a e c x h, mostly_is_located b x hx v w)
 
 -- a point that is no cut lies so
-pub no_cut_stands : (a b : Geometry) (e : Edge) → Contains (edges a) e → (x : Point) → IsPoint x → on e x ≡ true → IsNoCut a b x → StandsMostly a b x
-no_cut_stands a b e c x hx h f = ((no_cut_is_mostly a b x hx f).0 ∙ own_edges_are_mostly a e c x h, (no_cut_is_mostly a b x hx f).1)
+pub no_cut_applies : (a b : Geometry) (e : Edge) → Contains (edges a) e → (x : Point) → IsPoint x → on e x ≡ true → IsNoCut a b x → AppliesMostly a b x
+no_cut_applies a b e c x hx h f = ((no_cut_is_mostly a b x hx f).0 ∙ own_edges_are_mostly a e c x h, (no_cut_is_mostly a b x hx f).1)
 
 -- ---- a point of an edge of a that no edge of b holds
 -- the gap's sides are shown as exterior and, of an area, as interior, so each side is shown
@@ -151,15 +151,15 @@ side_off a m e k l n s (inr q) = shows_at m Two Interior l k k (sym q.1) refl (s
 pub off_is_shown : (a b : Geometry) (m : Matrix) → ShowsEnds a b m → (e : Edge) → Contains (edges a) e → (x : Point) → IsPoint x → on e x ≡ true → IsOffEdges b x → ShowsOff a m e (mostly b x) → ShowsPoint a b m e x
 off_is_shown a b m t e c x hx h o s = record {
   point = point (shown_or_mostly a b m t e c x hx h);
-  piece = λ f. mostly_shown (no_cut_stands a b e c x hx h f);
+  piece = λ f. mostly_shown (no_cut_applies a b e c x hx h f);
   lower = λ f n. shows_at m Two (below a x) (below a x) (mostly b x) (below b x) refl (sym ((sides_off_edges b x hx o).0)) (side_off a m e (mostly b x) (below a x) n s (lower_side a x));
   upper = λ f n. shows_at m Two (above a x) (above a x) (mostly b x) (above b x) refl (sym ((sides_off_edges b x hx o).1)) (side_off a m e (mostly b x) (above a x) n s (upper_side a x));
 }
   where
-    mostly_shown : StandsMostly a b x → Shows m (locate a x) (locate b x) One
+    mostly_shown : AppliesMostly a b x → Shows m (locate a x) (locate b x) One
     mostly_shown q = shows_at m One (of_own_edges (kind a)) (locate a x) (mostly b x) (locate b x) (sym q.0) (sym q.1) s.piece
 
-    point : Shows m (locate a x) (locate b x) Zero ⊎ StandsMostly a b x → Shows m (locate a x) (locate b x) Zero
+    point : Shows m (locate a x) (locate b x) Zero ⊎ AppliesMostly a b x → Shows m (locate a x) (locate b x) Zero
     point (inl z) = z
     point (inr q) = shows_less m (locate a x) (locate b x) One Zero refl (mostly_shown q)
 
@@ -174,12 +174,12 @@ pub record ShowsShared (a b : Geometry) (m : Matrix) (e : Edge) (x : Point) : Ty
 pub shared_is_shown : (a b : Geometry) (m : Matrix) → ShowsEnds a b m → (e : Edge) → Contains (edges a) e → (f : Edge) → Contains (edges b) f → (x : Point) → IsPoint x → on e x ≡ true → on f x ≡ true → ShowsShared a b m e x → ShowsPoint a b m e x
 shared_is_shown a b m t e c f d x hx h k s = record {
   point = point (shown_or_mostly a b m t e c x hx h) s.point;
-  piece = λ u. let q : StandsMostly a b x = no_cut_stands a b e c x hx h u in shows_at m One (of_own_edges (kind a)) (locate a x) (of_own_edges (kind b)) (locate b x) (sym q.0) (sym (q.1 ∙ own_edges_are_mostly b f d x k)) (s.piece u);
+  piece = λ u. let q : AppliesMostly a b x = no_cut_applies a b e c x hx h u in shows_at m One (of_own_edges (kind a)) (locate a x) (of_own_edges (kind b)) (locate b x) (sym q.0) (sym (q.1 ∙ own_edges_are_mostly b f d x k)) (s.piece u);
   lower = s.lower;
   upper = s.upper;
 }
   where
-    point : Shows m (locate a x) (locate b x) Zero ⊎ StandsMostly a b x → Shows m (locate a x) (locate b x) Zero ⊎ Shows m (of_own_edges (kind a)) (of_own_edges (kind b)) Zero → Shows m (locate a x) (locate b x) Zero
+    point : Shows m (locate a x) (locate b x) Zero ⊎ AppliesMostly a b x → Shows m (locate a x) (locate b x) Zero ⊎ Shows m (of_own_edges (kind a)) (of_own_edges (kind b)) Zero → Shows m (locate a x) (locate b x) Zero
     point (inl z) w = z
     point (inr q) (inl z) = z
     point (inr q) (inr z) = shows_at m Zero (of_own_edges (kind a)) (locate a x) (of_own_edges (kind b)) (locate b x) (sym q.0) (sym (q.1 ∙ own_edges_are_mostly b f d x k)) z

@@ -6,7 +6,7 @@ use Rattle.geometry_model.specs.Sides.{on}
 use Rattle.geometry_model.specs.Crossings.{exactly_one as xor, odd_above, odd_at_or_above}
 use Rattle.geometry_model.specs.CutPoints.{IsCut}
 use Rattle.geometry_model.specs.CutPoints.IsCut.{AtEnd, Listed}
-use Rattle.geometry_model.specs.Locations.{stands_at, ends, on_some, is_odd_end, in_points, in_rings, locate}
+use Rattle.geometry_model.specs.Locations.{is_at, ends, on_some, is_odd_end, in_points, in_rings, locate}
 use Rattle.geometry_model.specs.Labels.{below, above, edges_of_both}
 use Rattle.geometry_model.specs.declared.shapes.Kind.TheVariants as kinds
 use Rattle.geometry_model.specs.declared.point_sets.Location.{Location}
@@ -42,14 +42,14 @@ own_edges_are_mostly (Geometry.MultiPolygon es) e c x h = in_rings_of (on_some (
 
 -- ---- where a point lies that isn't listed and no odd end
 -- a point at which no listed position lies is exterior to points
-unlisted : (ps : List Position) (x : Point) → All (λ a. stands_at x a ≡ false) ps → in_points ps x ≡ Exterior
-unlisted ps x h = ap (λ (t : Bool). if t then Interior else Exterior) (none_passes (stands_at x) ps (each_from_all (λ a. stands_at x a ≡ false) ps h))
+unlisted : (ps : List Position) (x : Point) → All (λ a. is_at x a ≡ false) ps → in_points ps x ≡ Exterior
+unlisted ps x h = ap (λ (t : Bool). if t then Interior else Exterior) (none_passes (is_at x) ps (each_from_all (λ a. is_at x a ≡ false) ps h))
 
 in_lines_unless : (s t : Bool) → s ≡ false → (if s then Boundary else if t then Interior else Exterior) ≡ (if t then Interior else Exterior)
 in_lines_unless s t e = ap (λ (u : Bool). if u then Boundary else if t then Interior else Exterior) e
 
 -- in points only the listed ones differ, in lines only the odd ends, and in areas no point does
-pub mostly_is_located : (g : Geometry) (x : Point) → IsPoint x → (kind g ≡ kinds.Line → is_odd_end (lines g) x ≡ false) → All (λ a. stands_at x a ≡ false) (listed g) → locate g x ≡ mostly g x
+pub mostly_is_located : (g : Geometry) (x : Point) → IsPoint x → (kind g ≡ kinds.Line → is_odd_end (lines g) x ≡ false) → All (λ a. is_at x a ≡ false) (listed g) → locate g x ≡ mostly g x
 mostly_is_located (Geometry.Point o) x hx f h = unlisted (option_to_list o) x h
 mostly_is_located (Geometry.MultiPoint qs) x hx f h = unlisted qs x h
 mostly_is_located (Geometry.LineString l) x hx f h = in_lines_unless (is_odd_end (l ∷ []) x) (on_some (l ∷ []) x) (f refl)
@@ -60,24 +60,24 @@ mostly_is_located (Geometry.MultiPolygon es) x hx f h = refl
 -- ---- where a point lies that is no cut
 -- no cut of some edges and positions, a geometry's among them
 no_odd_end : (es : List Edge) (ps : List Position) (x : Point) → IsPoint x → (IsCut es ps x → ⊥) → (ls : List (List Position)) → ((e : Edge) → Among e (edges_of_lines ls) → Among e es) → is_odd_end ls x ≡ false
-no_odd_end es ps x hx f ls b = odd_count (stands_at x) (flat_map ends ls) ∙ all_ends_even ls x (each_of (λ e. (stands_at x e.start ≡ false) × (stands_at x e.end ≡ false)) (edges_of_lines ls) (λ e m. (
-  by_contraries (stands_at x e.start) false (λ k. absurd (f (AtEnd hx e (contains_of_among e es (b e m)) (or_first (stands_at x e.start) (stands_at x e.end) k)))) refl,
-  by_contraries (stands_at x e.end) false (λ k. absurd (f (AtEnd hx e (contains_of_among e es (b e m)) (or_last (stands_at x e.start) (stands_at x e.end) k)))) refl,
+no_odd_end es ps x hx f ls b = odd_count (is_at x) (flat_map ends ls) ∙ all_ends_even ls x (each_of (λ e. (is_at x e.start ≡ false) × (is_at x e.end ≡ false)) (edges_of_lines ls) (λ e m. (
+  by_contraries (is_at x e.start) false (λ k. absurd (f (AtEnd hx e (contains_of_among e es (b e m)) (or_first (is_at x e.start) (is_at x e.end) k)))) refl,
+  by_contraries (is_at x e.end) false (λ k. absurd (f (AtEnd hx e (contains_of_among e es (b e m)) (or_last (is_at x e.start) (is_at x e.end) k)))) refl,
 )))
 
 -- nor does a listed position
-no_listed : (es : List Edge) (ps : List Position) (x : Point) → IsPoint x → (IsCut es ps x → ⊥) → (qs : List Position) → ((a : Position) → Among a qs → Among a ps) → All (λ a. stands_at x a ≡ false) qs
-no_listed es ps x hx f qs b = all_from_each (λ a. stands_at x a ≡ false) qs (each_of (λ a. stands_at x a ≡ false) qs (λ a m. by_contraries (stands_at x a) false (λ k. absurd (f (Listed hx a (contains_of_among a ps (b a m)) k))) refl))
+no_listed : (es : List Edge) (ps : List Position) (x : Point) → IsPoint x → (IsCut es ps x → ⊥) → (qs : List Position) → ((a : Position) → Among a qs → Among a ps) → All (λ a. is_at x a ≡ false) qs
+no_listed es ps x hx f qs b = all_from_each (λ a. is_at x a ≡ false) qs (each_of (λ a. is_at x a ≡ false) qs (λ a m. by_contraries (is_at x a) false (λ k. absurd (f (Listed hx a (contains_of_among a ps (b a m)) k))) refl))
 
 -- so it lies where almost all points do
-no_cut_stands : (es : List Edge) (ps : List Position) (x : Point) → IsPoint x → (IsCut es ps x → ⊥) → (g : Geometry) → ((e : Edge) → Among e (edges g) → Among e es) → ((a : Position) → Among a (listed g) → Among a ps) → locate g x ≡ mostly g x
-no_cut_stands es ps x hx f g b p = mostly_is_located g x hx (λ k. no_odd_end es ps x hx f (lines g) b) (no_listed es ps x hx f (listed g) p)
+no_cut_applies : (es : List Edge) (ps : List Position) (x : Point) → IsPoint x → (IsCut es ps x → ⊥) → (g : Geometry) → ((e : Edge) → Among e (edges g) → Among e es) → ((a : Position) → Among a (listed g) → Among a ps) → locate g x ≡ mostly g x
+no_cut_applies es ps x hx f g b p = mostly_is_located g x hx (λ k. no_odd_end es ps x hx f (lines g) b) (no_listed es ps x hx f (listed g) p)
 
 -- in both geometries, since the cuts are those of both
 pub no_cut_is_mostly : (a b : Geometry) (x : Point) → IsPoint x → (IsCut (edges_of_both a b) (listed a ++ listed b) x → ⊥) → (locate a x ≡ mostly a x) × (locate b x ≡ mostly b x)
 no_cut_is_mostly a b x hx f = (
-  no_cut_stands (edges_of_both a b) (listed a ++ listed b) x hx f a (λ e m. among_left e (edges a) (edges b) m) (λ p m. among_left p (listed a) (listed b) m),
-  no_cut_stands (edges_of_both a b) (listed a ++ listed b) x hx f b (λ e m. among_right e (edges a) (edges b) m) (λ p m. among_right p (listed a) (listed b) m),
+  no_cut_applies (edges_of_both a b) (listed a ++ listed b) x hx f a (λ e m. among_left e (edges a) (edges b) m) (λ p m. among_left p (listed a) (listed b) m),
+  no_cut_applies (edges_of_both a b) (listed a ++ listed b) x hx f b (λ e m. among_right e (edges a) (edges b) m) (λ p m. among_right p (listed a) (listed b) m),
 )
 
 -- ---- off all edges

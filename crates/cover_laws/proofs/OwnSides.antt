@@ -7,7 +7,7 @@ use Rattle.geometry_model.specs.Crossings.{exactly_one as xor, spans, strictly_a
 use Rattle.geometry_model.specs.Dimensions.{weighted}
 use Rattle.geometry_model.specs.CutPoints.{IsCut}
 use Rattle.geometry_model.specs.CutPoints.IsCut.{AtEnd}
-use Rattle.geometry_model.specs.Locations.{stands_at}
+use Rattle.geometry_model.specs.Locations.{is_at}
 use Rattle.geometry_model.specs.Labels.{below, above, edges_of_both}
 use Rattle.geometry_model.specs.Validity.{IsValid}
 use Rattle.geometry_model.specs.declared.shapes.Kind.TheVariants as kinds
@@ -58,15 +58,15 @@ ring_place a e m = go (ring_of e (rings a) m)
 
 -- ---- one side interior, the other exterior
 -- strictly within an edge of a valid area's ring one side is interior and the other exterior
-parted : (a : Geometry) → IsValid a → (e : Edge) → RingPlace a e → e.start.x ≢ e.end.x → (x : Point) → IsPoint x → on e x ≡ true → (stands_at x e.start ≡ false) × (stands_at x e.end ≡ false) → ArePartedAs (below a x) (above a x)
+parted : (a : Geometry) → IsValid a → (e : Edge) → RingPlace a e → e.start.x ≢ e.end.x → (x : Point) → IsPoint x → on e x ≡ true → (is_at x e.start ≡ false) × (is_at x e.end ≡ false) → ArePartedAs (below a x) (above a x)
 parted a v e r u x hx h n = (sides_of_a_ring a v r.i r.ring r.ring_at r.j e r.edge_at x hx h n.0 n.1 u).0
 
 -- a point that is no cut is no end of the edge, so it is strictly within it
 pub sides_of_own_edge : (a b : Geometry) → IsValid a → kind a ≡ kinds.Area → (e : Edge) → Contains (edges a) e → e.start.x ≢ e.end.x → (x : Point) → IsPoint x → on e x ≡ true
     → (IsCut (edges_of_both a b) (listed a ++ listed b) x → ⊥) → ArePartedAs (below a x) (above a x)
 sides_of_own_edge a b v k e c u x hx h f = parted a v e (ring_place a e (ring_edge a k e c)) u x hx h (
-  by_contraries (stands_at x e.start) false (λ s. absurd (f (AtEnd hx e among (or_first (stands_at x e.start) (stands_at x e.end) s)))) refl,
-  by_contraries (stands_at x e.end) false (λ s. absurd (f (AtEnd hx e among (or_last (stands_at x e.start) (stands_at x e.end) s)))) refl,
+  by_contraries (is_at x e.start) false (λ s. absurd (f (AtEnd hx e among (or_first (is_at x e.start) (is_at x e.end) s)))) refl,
+  by_contraries (is_at x e.end) false (λ s. absurd (f (AtEnd hx e among (or_last (is_at x e.start) (is_at x e.end) s)))) refl,
 )
   where
     among : Contains (edges_of_both a b) e
@@ -119,7 +119,7 @@ steps a v e r p q x y s i j = each_ring (Step x y) (rings a) (λ k t tk m d dm. 
     at_edge k t w tk m d dm (inl n) = subst (Step x y) (same_item e d (sym r.edge_at ∙ ap₂ (λ (o : List Position) (l : ℕ). slice_get (edges_of_line o) l) (sym (same_ring k t w tk)) (sym n) ∙ dm)) along
     at_edge k t w tk m d dm (inr n) = missed d (λ z b. other z b (no_end_between e p q z s b))
       where
-        other : (z : Point) → IsBetween e p q z → (stands_at z e.start ≡ false) × (stands_at z e.end ≡ false) → on d z ≡ false
+        other : (z : Point) → IsBetween e p q z → (is_at z e.start ≡ false) × (is_at z e.end ≡ false) → on d z ≡ false
         other z b o = no_edge_of_ring a v r.i r.ring r.ring_at r.j e r.edge_at z b.is_point b.is_on o.0 o.1 m d n (ap (λ (o : List Position). slice_get (edges_of_line o) m) (sym (same_ring k t w tk)) ∙ dm)
 
     at_ring : (k : ℕ) (t : List Position) → slice_get (rings a) k ≡ Some t → (m : ℕ) (d : Edge) → slice_get (edges_of_line t) m ≡ Some d → (k ≡ r.i) ⊎ (k ≡ r.i → ⊥) → Step x y d
@@ -143,7 +143,7 @@ other_parity false true true false e f g = absurd (cc)
 
 -- at each point between exactly one of the two parities is odd, since the rings part there
 part_at : (a : Geometry) → IsValid a → (e : Edge) → RingPlace a e → e.start.x ≢ e.end.x → (p q x : Point) → Span e p q → IsBetween e p q x → xor (odd_above (rings a) x) (odd_at_or_above (rings a) x) ≡ true
-part_at a v e r u p q x s i = let n : (stands_at x e.start ≡ false) × (stands_at x e.end ≡ false) = no_end_between e p q x s i in rings_part a v r.i r.ring r.ring_at r.j e r.edge_at x i.is_point i.is_on n.0 n.1 u
+part_at a v e r u p q x s i = let n : (is_at x e.start ≡ false) × (is_at x e.end ≡ false) = no_end_between e p q x s i in rings_part a v r.i r.ring r.ring_at r.j e r.edge_at x i.is_point i.is_on n.0 n.1 u
 
 -- so both parities, and with them both sides, are the same at both points
 along_area : (a : Geometry) → IsValid a → (e : Edge) → RingPlace a e → e.start.x ≢ e.end.x → (p q x y : Point) → Span e p q → IsBetween e p q x → IsBetween e p q y

@@ -15,7 +15,7 @@ use Rattle.geometry_laws.proofs.LineOrder.{area_on_line}
 use Rattle.geometry_laws.proofs.Cuts.{among_from_contains, turn_less, not_less_self, not_after_both, not_before_both, OneLine, one_line, hull_of_start, hull_of_end}
 use Rattle.geometry_laws.proofs.Hulls.{on_from_hull}
 use Rattle.geometry_laws.proofs.Avoid.{OffPoints, avoid_points}
-use Rattle.matrix_laws.proofs.Lists.{Some_of}
+use Rattle.matrix_laws.proofs.MatrixLists.{Some_of}
 use Rattle.matrix_laws.proofs.CutOrder.{listed_is_cut, cut_is_listed}
 use Rattle.cover_laws.specs.Gaps.{IsBetween, IsClear, IsShared, IsGap}
 use Rattle.cover_laws.proofs.Between.{Span, wide, on_line, on_within, between_sum, mediant_is_between, least_mediant_between, After, after_lesser, Before, before_greater}

@@ -4,7 +4,7 @@ use Rattle.geometry_model.specs.Points.{Position, Point, IsPoint, least_form, me
 use Rattle.geometry_model.specs.Geometries.{Edge, Geometry, kind, edges, lines, listed}
 use Rattle.geometry_model.specs.Sides.{on}
 use Rattle.geometry_model.specs.CutPoints.{IsCut}
-use Rattle.geometry_model.specs.Locations.{stands_at, is_odd_end, locate}
+use Rattle.geometry_model.specs.Locations.{is_at, is_odd_end, locate}
 use Rattle.geometry_model.specs.Labels.{below, above, edges_of_both}
 use Rattle.geometry_model.specs.Validity.{IsValid}
 use Rattle.geometry_model.specs.declared.shapes.Kind.TheVariants as kinds
@@ -32,7 +32,7 @@ GapEndIsAlike = (b : Geometry) → HasClosedRings b → (e : Edge) (p q : Point)
 
 -- a point lies where `mostly` says, unless it is an odd end or a listed position (06-103r4, 6.1.8.1)
 abbrev pub MostlyIsLocated : Type 0
-MostlyIsLocated = (g : Geometry) (x : Point) → IsPoint x → (kind g ≡ kinds.Line → is_odd_end (lines g) x ≡ false) → All (λ a. stands_at x a ≡ false) (listed g) → locate g x ≡ mostly g x
+MostlyIsLocated = (g : Geometry) (x : Point) → IsPoint x → (kind g ≡ kinds.Line → is_odd_end (lines g) x ≡ false) → All (λ a. is_at x a ≡ false) (listed g) → locate g x ≡ mostly g x
 
 -- so does each point that isn't a cut (06-103r4, 6.1.8.1)
 abbrev pub NoCutIsMostly : Type 0

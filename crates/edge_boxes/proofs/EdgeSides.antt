@@ -143,10 +143,10 @@ both_zero c d u v e hu hv signs = (first (zero_product c u (left (c *ℤ u) (d *
     second (inr z) = absurd (hv z)
 
 -- a point on an edge's line and between its ends in x, above or below both in a direction, lies straight above or below both
-stands_upright : (dx dy : ℤ) (e : Edge) (p : Point) → int_eq (side e.start e.end p) (pos 0) ≡ true → between e.start.x e.end.x p.X p.W ≡ true
+applies_upright : (dx dy : ℤ) (e : Edge) (p : Point) → int_eq (side e.start e.end p) (pos 0) ≡ true → between e.start.x e.end.x p.X p.W ≡ true
     → ((pos 0 <ℤ beyond dx dy e.start p) × (pos 0 <ℤ beyond dx dy e.end p)) ⊎ ((beyond dx dy e.start p <ℤ pos 0) × (beyond dx dy e.end p <ℤ pos 0))
     → (p.X -ℤ e.start.x *ℤ p.W ≡ pos 0) × (p.X -ℤ e.end.x *ℤ p.W ≡ pos 0)
-stands_upright dx dy e p f g h = (zeros.1, turn (e.end.x *ℤ p.W) p.X zeros.0)
+applies_upright dx dy e p f g h = (zeros.1, turn (e.end.x *ℤ p.W) p.X zeros.0)
   where
     c : ℤ
     c = e.end.x *ℤ p.W -ℤ p.X
@@ -199,12 +199,12 @@ lower dx dy a p hx e h = no_less p.Y (a.y *ℤ p.W) (cancel_negative dx (p.Y -�
 -- past them in y
 pub on_off_beyond : (dx dy : ℤ) (e : Edge) (p : Point) → pos 0 <ℤ dx → pos 0 <ℤ beyond dx dy e.start p → pos 0 <ℤ beyond dx dy e.end p → on e p ≡ false
 on_off_beyond dx dy e p hx h k = off_in_y (int_eq (side e.start e.end p) (pos 0)) (between e.start.x e.end.x p.X p.W) (between e.start.y e.end.y p.Y p.W)
-    (λ f g. let zeros = stands_upright dx dy e p f g (inl (h, k)) in past e.start.y e.end.y p.Y p.W (higher dx dy e.start p hx zeros.0 h) (higher dx dy e.end p hx zeros.1 k))
+    (λ f g. let zeros = applies_upright dx dy e p f g (inl (h, k)) in past e.start.y e.end.y p.Y p.W (higher dx dy e.start p hx zeros.0 h) (higher dx dy e.end p hx zeros.1 k))
 
 -- nor does it hold a point below both its ends in a direction
 pub on_off_short : (dx dy : ℤ) (e : Edge) (p : Point) → pos 0 <ℤ dx → beyond dx dy e.start p <ℤ pos 0 → beyond dx dy e.end p <ℤ pos 0 → on e p ≡ false
 on_off_short dx dy e p hx h k = off_in_y (int_eq (side e.start e.end p) (pos 0)) (between e.start.x e.end.x p.X p.W) (between e.start.y e.end.y p.Y p.W)
-    (λ f g. let zeros = stands_upright dx dy e p f g (inr (h, k)) in ahead e.start.y e.end.y p.Y p.W (lower dx dy e.start p hx zeros.0 h) (lower dx dy e.end p hx zeros.1 k))
+    (λ f g. let zeros = applies_upright dx dy e p f g (inr (h, k)) in ahead e.start.y e.end.y p.Y p.W (lower dx dy e.start p hx zeros.0 h) (lower dx dy e.end p hx zeros.1 k))
 
 -- the edge doesn't hold the point and isn't counted above it
 pub record IsOff (p : Point) (e : Edge) : Type 0 where

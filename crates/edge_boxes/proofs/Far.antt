@@ -17,7 +17,7 @@ use Rattle.validity_laws.proofs.ElementFacts.{or_from}
 use Rattle.validity_laws.proofs.SharedPoints.{shared_point_is_decided}
 use Rattle.ring_tests.specs.RunLaws.{box_of}
 use Rattle.ring_tests.proofs.Boxes.{sharing_boxes_overlap}
-use Rattle.edge_boxes.specs.Runs.{LiesIn}
+use Rattle.edge_boxes.specs.EdgeRuns.{LiesIn}
 use Rattle.edge_boxes.specs.Strips.{rise, LiesInStrip, IsStripOf, lies_beside}
 use Rattle.edge_boxes.specs.OneLine.{SharesNone}
 use Rattle.edge_boxes.specs.declared.kept_runs.Run.{Run}

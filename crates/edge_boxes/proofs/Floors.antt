@@ -9,7 +9,7 @@ use mir.Val.{SFits}
 use Rattle.geometry_model.specs.WellKnownText.{coordinate_limit}
 use Rattle.integers.proofs.Ring.{solve, var, lit, ◌⊖◌, ◌⊗◌}
 use Rattle.integers.proofs.Signs.{plus_plus, at_most_or_less, same_at_most, at_most_yes, at_most_no, at_most_from, not_at_most_from}
-use Rattle.edge_boxes.specs.Cells.{IsFloor, IsCeiling}
+use Rattle.edge_boxes.specs.BoxCells.{IsFloor, IsCeiling}
 
 weak : (x : ℤ) → pos 0 <ℤ x → pos 0 ≤ℤ x
 weak x h = omega (arith, ints)

@@ -2,7 +2,7 @@
 use Rattle.std.proofs.Common.{ℕ, zero, suc, ◌+◌, ◌-◌, ◌<◌, ◌≤◌, ◌≡◌, ◌⊎◌, inl, inr, List, [], ◌∷◌, ◌++◌, length, drop, get_or, drop-cons, append_assoc, Some, None, refl, sym, ap, ◌∙◌, subst, arith}
 use Rattle.std.specs.Prelude.{slice_get}
 use Rattle.geometry_model.specs.Geometries.{Edge}
-use Rattle.edge_boxes.specs.Runs.{SumsUp}
+use Rattle.edge_boxes.specs.EdgeRuns.{SumsUp}
 use Rattle.edge_boxes.specs.BoxLists.{end_of, covered, IsRun, IsBoxAt, AreBoxes}
 use Rattle.edge_boxes.specs.Builds.{covered_by_all, KeepsBoxes, IsNextBox, IsRunFrom}
 use Rattle.edge_boxes.specs.declared.boxes.EdgeBox.{EdgeBox}

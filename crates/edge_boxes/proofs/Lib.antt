@@ -1,7 +1,7 @@
 pub mod EdgeSides
 pub mod StripSums
 pub mod RunSums
-pub mod Telling
+pub mod Saying
 pub mod StripSides
 pub mod Floors
 pub mod BoxFacts
@@ -10,4 +10,4 @@ pub mod Growing
 pub mod StripTaking
 pub mod Sharing
 pub mod Far
-pub mod OneLine
+pub mod BoxLines

@@ -7,29 +7,29 @@ use Rattle.geometry_model.specs.Points.{Point}
 use Rattle.geometry_model.specs.Sides.{on}
 use Rattle.geometry_model.specs.Geometries.{Edge}
 use Rattle.edge_boxes.specs.BoxLists.{covered, IsBoxAt, AreBoxes}
-use Rattle.edge_boxes.specs.Cells.{IsCellOf}
-use Rattle.edge_boxes.specs.EdgeCrossings.{AreCrossings, IsTold, on_any}
+use Rattle.edge_boxes.specs.BoxCells.{IsCellOf}
+use Rattle.edge_boxes.specs.EdgeCrossings.{AreCrossings, IsShown, on_any}
 use Rattle.edge_boxes.specs.Walks.{IsStep}
 use Rattle.edge_boxes.specs.declared.boxes.EdgeBox.{EdgeBox}
 use Rattle.edge_boxes.specs.declared.cells.Cell.{Cell}
 use Rattle.edge_boxes.specs.declared.point_crossings.Crossings.{Crossings}
 use Rattle.edge_boxes.proofs.BoxFacts.{run_then_rest, rest_is, found_before, covered_before}
-use Rattle.edge_boxes.proofs.Telling.{none_found}
+use Rattle.edge_boxes.proofs.Saying.{none_found}
 
 -- the box that is read right before a place is one of the edges' boxes there
 pub box_before : (boxes : List EdgeBox) (edges : List Edge) (place : ℕ) (b : EdgeBox) → AreBoxes boxes edges → 0 < place → place ≤ length boxes → b ≡ get_or boxes (place - 1) b → IsBoxAt edges boxes (place - 1) b
 box_before boxes edges place b are h k is = are (place - 1) b (found_before boxes place b h k is)
 
 -- a box that shows
-pub told_step : (boxes : List EdgeBox) (edges : List Edge) (p : Point) (place : ℕ) (b : EdgeBox) (cell : Cell) (c : Crossings) → AreBoxes boxes edges → 0 < place → place ≤ length boxes → b ≡ get_or boxes (place - 1) b
-    → IsCellOf cell p → IsTold b.run cell c → IsStep boxes edges p place (place - 1 - b.size) c
-told_step boxes edges p place b cell c are h k is of tells =
+pub step_shown : (boxes : List EdgeBox) (edges : List Edge) (p : Point) (place : ℕ) (b : EdgeBox) (cell : Cell) (c : Crossings) → AreBoxes boxes edges → 0 < place → place ≤ length boxes → b ≡ get_or boxes (place - 1) b
+    → IsCellOf cell p → IsShown b.run cell c → IsStep boxes edges p place (place - 1 - b.size) c
+step_shown boxes edges p place b cell c are h k is of says =
     let box = box_before boxes edges place b are h k is in
     record {
       earlier = omega (arith, h);
       own = box.run.own;
       split = box.run.split ∙ ap (λ n. box.run.own ++ drop n edges) (sym (covered_before boxes place b h (found_before boxes place b h k is)));
-      told = tells p box.run.own of box.run.sums;
+      said = says p box.run.own of box.run.sums;
     }
 
 -- where a leaf's run begins
@@ -49,7 +49,7 @@ leaf_step boxes edges p place b c are h k is leaf of =
       own = slice_range edges (covered boxes (place - 1)) b.end;
       split = run_then_rest edges (covered boxes (place - 1)) b.end (leaf_ordered boxes edges place b are h k is leaf)
           ∙ ap (λ n. slice_range edges (covered boxes (place - 1)) b.end ++ drop n edges) (sym (covered_before boxes place b h (found_before boxes place b h k is)));
-      told = of;
+      said = of;
     }
 
 -- before a box that is entered the others go as far
@@ -69,14 +69,14 @@ inner_step boxes edges p place b c are h k is inner e =
       earlier = omega (arith, h);
       own = [];
       split = ap (λ n. drop n edges) (inner_covered boxes edges place b are h k is inner);
-      told = rw e (none_found [] p tt);
+      said = rw e (none_found [] p tt);
     }
 
 -- what was found, with what a step shows
 pub step_joined : (boxes : List EdgeBox) (edges : List Edge) (p : Point) (place next : ℕ) (own found all : Crossings) → IsStep boxes edges p place next own
     → ((q : Point) (xs ys : List Edge) → AreCrossings own xs q → AreCrossings found ys q → AreCrossings all (xs ++ ys) q)
     → AreCrossings found (drop (covered boxes place) edges) p → AreCrossings all (drop (covered boxes next) edges) p
-step_joined boxes edges p place next own found all s join h = subst (λ l. AreCrossings all l p) (sym s.split) (join p s.own (drop (covered boxes place) edges) s.told h)
+step_joined boxes edges p place next own found all s join h = subst (λ l. AreCrossings all l p) (sym s.split) (join p s.own (drop (covered boxes place) edges) s.said h)
 
 -- ---- on an edge
 or_true : (a b : Bool) → b ≡ true → (a || b) ≡ true
@@ -91,7 +91,7 @@ on_from edges n p e = ap (λ l. on_any l p) (sym (take-append-drop n edges)) ∙
 stepped : (boxes : List EdgeBox) (edges : List Edge) (p : Point) (place next : ℕ) (own : Crossings) (s : IsStep boxes edges p place next own)
     → on_any (drop (covered boxes next) edges) p ≡ (own.on || on_any (drop (covered boxes place) edges) p)
 stepped boxes edges p place next own s = ap (λ l. on_any l p) s.split ∙ list_any-append (λ f. on f p) s.own (drop (covered boxes place) edges)
-    ∙ ap (λ (b : Bool). b || on_any (drop (covered boxes place) edges) p) (sym s.told.on)
+    ∙ ap (λ (b : Bool). b || on_any (drop (covered boxes place) edges) p) (sym s.said.on)
 
 -- where a step shows that the point is on an edge, it is on one of all edges
 pub on_at_step : (boxes : List EdgeBox) (edges : List Edge) (p : Point) (place next : ℕ) (own : Crossings) → IsStep boxes edges p place next own → own.on ≡ true → on_any edges p ≡ true

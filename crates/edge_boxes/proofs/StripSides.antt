@@ -7,17 +7,17 @@ use Rattle.geometry_model.specs.Crossings.{exactly_one as xor}
 use Rattle.integers.proofs.Ring.{solve, var, lit, ◌⊕◌, ◌⊖◌, ◌⊗◌}
 use Rattle.integers.proofs.Signs.{plus_plus, strict_plus_plus, at_most_or_less, at_most_yes, at_most_from}
 use Rattle.geometry_laws.proofs.Scaling.{and_parts}
-use Rattle.edge_boxes.specs.Cells.{IsFloor, IsCeiling, IsCellOf}
+use Rattle.edge_boxes.specs.BoxCells.{IsFloor, IsCeiling, IsCellOf}
 use Rattle.edge_boxes.specs.Strips.{rise, IsInStrip, LiesInStrip, IsStripOf, lies_under, lies_over}
-use Rattle.edge_boxes.specs.Runs.{SumsUpEnds}
-use Rattle.edge_boxes.specs.EdgeCrossings.{AreCrossings, IsTold, IsToldByStrip}
+use Rattle.edge_boxes.specs.EdgeRuns.{SumsUpEnds}
+use Rattle.edge_boxes.specs.EdgeCrossings.{AreCrossings, IsShown, IsShownByStrip}
 use Rattle.edge_boxes.specs.declared.point_crossings.Crossings.{Crossings}
 use Rattle.edge_boxes.specs.declared.kept_runs.Run.{Run}
 use Rattle.edge_boxes.specs.declared.cells.Cell.{Cell}
 use Rattle.edge_boxes.specs.declared.kept_runs.Ends.{Ends}
 use Rattle.edge_boxes.specs.declared.strips.Strip.{Strip}
 use Rattle.edge_boxes.proofs.EdgeSides.{beyond, IsOff, IsOver, off_beyond, over_beyond}
-use Rattle.edge_boxes.proofs.Telling.{each_of, none_found, spanning_found}
+use Rattle.edge_boxes.proofs.Saying.{each_of, none_found, spanning_found}
 
 weak : (x : ℤ) → pos 0 <ℤ x → pos 0 ≤ℤ x
 weak x h = omega (arith, ints)
@@ -126,24 +126,24 @@ below_all s cell p is right far a h = go (at_most_or_less (pos 0) s.direction.dy
 
 -- ---- what a strip shows
 -- a strip wholly below the cell shows that no edge holds the point and none is counted above it
-pub under_tells : (s : Strip) (cell : Cell) (p : Point) (es : List Edge) → IsCellOf cell p → IsStripOf s es → lies_under s cell ≡ true
+pub under_says : (s : Strip) (cell : Cell) (p : Point) (es : List Edge) → IsCellOf cell p → IsStripOf s es → lies_under s cell ≡ true
     → AreCrossings (record { on = false; odd_above = false; odd_at_or_above = false }) es p
-under_tells s cell p es is of far = none_found es p (each_of (LiesInStrip s) (IsOff p) es off of.lies)
+under_says s cell p es is of far = none_found es p (each_of (LiesInStrip s) (IsOff p) es off of.lies)
   where
     off : (e : Edge) → LiesInStrip s e → IsOff p e
     off e l = off_beyond s.direction.dx s.direction.dy e p is.positive of.rightward (above_all s cell p is of.rightward far e.start l.start) (above_all s cell p is of.rightward far e.end l.end)
 
 -- a strip wholly above the cell shows that the edges that span the point are those above it,
 -- so the ends of a chain give the parity
-pub over_tells : (s : Strip) (ends : Ends) (cell : Cell) (p : Point) (es : List Edge) → IsCellOf cell p → IsStripOf s es → SumsUpEnds ends es → lies_over s cell ≡ true → ends.is_chain ≡ true
+pub over_says : (s : Strip) (ends : Ends) (cell : Cell) (p : Point) (es : List Edge) → IsCellOf cell p → IsStripOf s es → SumsUpEnds ends es → lies_over s cell ≡ true → ends.is_chain ≡ true
     → (b : Bool) → b ≡ xor (int_le ends.first_x cell.floor_x) (int_le ends.last_x cell.floor_x) → AreCrossings (record { on = false; odd_above = b; odd_at_or_above = b }) es p
-over_tells s ends cell p es is of sums far chain b e = spanning_found es p ends.first_x ends.last_x b (each_of (LiesInStrip s) (IsOver p) es over of.lies) (sums chain)
+over_says s ends cell p es is of sums far chain b e = spanning_found es p ends.first_x ends.last_x b (each_of (LiesInStrip s) (IsOver p) es over of.lies) (sums chain)
     (e ∙ sym (ap₂ xor (is.floor_x ends.first_x) (is.floor_x ends.last_x)))
   where
     over : (f : Edge) → LiesInStrip s f → IsOver p f
     over f l = over_beyond s.direction.dx s.direction.dy f p is.positive of.rightward (below_all s cell p is of.rightward far f.start l.start) (below_all s cell p is of.rightward far f.end l.end)
 
 -- what a run's strip shows, the run shows
-pub told_by_run : (o : Option Crossings) (run : Run) (strip : Strip) (cell : Cell) → run.strip ≡ Some strip → IfSome o (IsToldByStrip strip run.ends cell) → IfSome o (IsTold run cell)
-told_by_run None run strip cell e h = tt
-told_by_run (Some c) run strip cell e h = λ p es is sums. h p es is (subst (λ (s : Option Strip). IfSome s (λ t. IsStripOf t es)) e sums.strip) sums.ends
+pub shown_by_run : (o : Option Crossings) (run : Run) (strip : Strip) (cell : Cell) → run.strip ≡ Some strip → IfSome o (IsShownByStrip strip run.ends cell) → IfSome o (IsShown run cell)
+shown_by_run None run strip cell e h = tt
+shown_by_run (Some c) run strip cell e h = λ p es is sums. h p es is (subst (λ (s : Option Strip). IfSome s (λ t. IsStripOf t es)) e sums.strip) sums.ends

@@ -1,7 +1,7 @@
 -- Lists of boxes over consecutive edges. Each box comes after the boxes of its subtree, and has their number.
 use Rattle.std.specs.Prelude.{◌≡◌, ◌⊎◌, ℕ, zero, suc, ◌-◌, ◌≤◌, List, ◌++◌, length, drop, Option, Some, None, slice_get}
 use Rattle.geometry_model.specs.Geometries.{Edge}
-use Rattle.edge_boxes.specs.Runs.{SumsUp}
+use Rattle.edge_boxes.specs.EdgeRuns.{SumsUp}
 use Rattle.edge_boxes.specs.declared.kept_runs.Run.{Run}
 use Rattle.edge_boxes.specs.declared.boxes.EdgeBox.{EdgeBox}
 use Rattle.edge_boxes.specs.declared.boxes.EdgeBoxes.{EdgeBoxes}

@@ -6,9 +6,9 @@ use Rattle.geometry_model.specs.Geometries.{Edge}
 use Rattle.geometry_model.specs.Envelopes.{Envelope}
 use Rattle.geometry_model.specs.Sides.{on}
 use Rattle.geometry_model.specs.Crossings.{odd, strictly_above, at_or_above}
-use Rattle.edge_boxes.specs.Runs.{SumsUp, SumsUpEnds}
+use Rattle.edge_boxes.specs.EdgeRuns.{SumsUp, SumsUpEnds}
 use Rattle.edge_boxes.specs.Strips.{IsStripOf}
-use Rattle.edge_boxes.specs.Cells.{IsCellOf}
+use Rattle.edge_boxes.specs.BoxCells.{IsCellOf}
 use Rattle.edge_boxes.specs.declared.kept_runs.Ends.{Ends}
 use Rattle.edge_boxes.specs.declared.kept_runs.Run.{Run}
 use Rattle.edge_boxes.specs.declared.strips.Strip.{Strip}
@@ -38,9 +38,9 @@ abbrev pub lie_apart : Envelope → Cell → Bool
 lie_apart b c = int_lt b.greatest_x c.ceiling_x || int_lt c.floor_x b.least_x || int_lt b.greatest_y c.ceiling_y
 
 -- what a run says of a point in a cell is right, whatever the run's edges are
-abbrev pub IsTold : Run → Cell → Crossings → Type 0
-IsTold run cell c = (p : Point) (es : List Edge) → IsCellOf cell p → SumsUp run es → AreCrossings c es p
+abbrev pub IsShown : Run → Cell → Crossings → Type 0
+IsShown run cell c = (p : Point) (es : List Edge) → IsCellOf cell p → SumsUp run es → AreCrossings c es p
 
 -- what a run's strip and ends say of a point in a cell is right, whatever the run's edges are
-abbrev pub IsToldByStrip : Strip → Ends → Cell → Crossings → Type 0
-IsToldByStrip strip ends cell c = (p : Point) (es : List Edge) → IsCellOf cell p → IsStripOf strip es → SumsUpEnds ends es → AreCrossings c es p
+abbrev pub IsShownByStrip : Strip → Ends → Cell → Crossings → Type 0
+IsShownByStrip strip ends cell c = (p : Point) (es : List Edge) → IsCellOf cell p → IsStripOf strip es → SumsUpEnds ends es → AreCrossings c es p

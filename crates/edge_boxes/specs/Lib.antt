@@ -1,7 +1,7 @@
 pub mod Strips
-pub mod Runs
+pub mod EdgeRuns
 pub mod EdgeCrossings
-pub mod Cells
+pub mod BoxCells
 pub mod BoxLists
 pub mod Walks
 pub mod Builds

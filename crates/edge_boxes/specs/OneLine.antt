@@ -5,7 +5,7 @@ use Rattle.geometry_model.specs.Geometries.{Edge}
 use Rattle.geometry_model.specs.Sides.{on_one_line}
 use Rattle.geometry_model.specs.FirstFaults.{share_point}
 use Rattle.edge_boxes.specs.BoxLists.{covered}
-use Rattle.edge_boxes.specs.Runs.{SumsUp}
+use Rattle.edge_boxes.specs.EdgeRuns.{SumsUp}
 use Rattle.edge_boxes.specs.declared.boxes.EdgeBox.{EdgeBox}
 use Rattle.edge_boxes.specs.declared.kept_runs.Run.{Run}
 
@@ -22,4 +22,4 @@ pub record IsLineStep (boxes : List EdgeBox) (edges : List Edge) (e : Edge) (pla
   pub earlier : next < place
   pub own : List Edge
   pub split : drop (covered boxes next) edges ≡ own ++ drop (covered boxes place) edges
-  pub told : found ≡ list_any (meet_on_one_line e) own
+  pub said : found ≡ list_any (meet_on_one_line e) own

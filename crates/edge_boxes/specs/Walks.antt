@@ -12,4 +12,4 @@ pub record IsStep (boxes : List EdgeBox) (edges : List Edge) (p : Point) (place 
   pub earlier : next < place
   pub own : List Edge
   pub split : drop (covered boxes next) edges ≡ own ++ drop (covered boxes place) edges
-  pub told : AreCrossings c own p
+  pub said : AreCrossings c own p

@@ -1,9 +1,19 @@
 //! The list of boxes over consecutive edges, and what can be found with it.
+//!
+//! ```text
+//! edges     0 1 2 3 4 5 6 7 | 8 9 .. 15 | 16 ..  | ..      consecutive edges, in the geometry's order
+//! leaves    [------------]   [--------]   [----]            up to 8 edges each, within their bounds
+//! above     [------------------------------------]          up to 4 boxes, over all that they cover
+//! ```
+//!
+//! Each box comes after those that it covers. A walk goes from the last box to the first. If a point is outside a box, the two
+//! ends of its run of edges decide for the whole run; else the walk goes on inside. A box over at most 128 edges also keeps a
+//! strip along its run, which decides more without a look inside. Edges without a box are asked singly.
 
 ghost use Rattle.std.specs.Prelude.{◌≡◌, ◌≤◌, ◌<◌, length, List, [], IfOk, OnErr, OnOk, slice_range};
 ghost use Rattle.std.specs.List.{list_any};
 ghost use Rattle.geometry_model.specs.Geometries.{Edge};
-ghost use Rattle.edge_boxes.specs.Cells.{IsCellOf};
+ghost use Rattle.edge_boxes.specs.BoxCells.{IsCellOf};
 ghost use Rattle.edge_boxes.specs.EdgeCrossings.{AreCrossings, on_any};
 ghost use Rattle.edge_boxes.specs.BoxLists.{AreBoxes, BoxesOf, covered};
 ghost use Rattle.edge_boxes.specs.Sharings.{places_sharing};
@@ -15,7 +25,7 @@ use crate::building::boxes_over;
 use crate::cells::Cell;
 use crate::kept_runs::Run;
 use crate::lines::is_one_on_line_among;
-use crate::point_crossings::{Crossings, none, of_edges, told};
+use crate::point_crossings::{Crossings, none, of_edges, said};
 use crate::sharing_edges::{Asked, push_asked};
 use fraction::RatPoint;
 use orient::Segment;
@@ -175,7 +185,7 @@ fn step(
     ensures { IsStep boxes.now edges.now point.now place result.0 result.1 }
 {
     let last = &boxes[place - 1];
-    match told(&last.run, cell) {
+    match said(&last.run, cell) {
         Some(crossings) => (place - 1 - last.size as usize, crossings),
         None if last.size == 0 => {
             let leaf = run_of(edges, covered(boxes, place - 1), last.end as usize);

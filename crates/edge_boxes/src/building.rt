@@ -19,7 +19,8 @@ const LEAST_LEAF: usize = 4;
 
 const GREATEST_LEAF: usize = 8;
 
-/// The most edges of a box whose strip is kept; each strip takes a walk along its edges.
+/// The most edges of a box whose strip is kept. A strip over more edges is wide and decides little, and finding it takes a walk
+/// along them.
 const STRIP_EDGES: usize = 128;
 
 /// How many subtrees are joined to one.

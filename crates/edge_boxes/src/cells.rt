@@ -2,7 +2,7 @@
 
 ghost use Rattle.std.specs.Prelude.{◌≡◌, ◌≤◌, ◌*◌, ◌<ℤ◌, ◌*ℤ◌, ℤ, pos, int_le, unsigned_abs};
 ghost use Rattle.geometry_model.specs.WellKnownText.{coordinate_limit};
-ghost use Rattle.edge_boxes.specs.Cells.{IsCellOf, IsFloor, IsCeiling};
+ghost use Rattle.edge_boxes.specs.BoxCells.{IsCellOf, IsFloor, IsCeiling};
 
 use fraction::RatPoint;
 

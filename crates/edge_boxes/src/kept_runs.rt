@@ -2,7 +2,7 @@
 
 ghost use Rattle.std.specs.Prelude.{◌≡◌, List, [], ◌∷◌, ◌++◌};
 ghost use Rattle.geometry_model.specs.Geometries.{Edge};
-ghost use Rattle.edge_boxes.specs.Runs.{SumsUp, SumsUpEnds};
+ghost use Rattle.edge_boxes.specs.EdgeRuns.{SumsUp, SumsUpEnds};
 
 use crate::bounds::Bounds;
 use crate::strips::Strip;

@@ -4,9 +4,9 @@ ghost use Rattle.std.specs.Prelude.{◌≡◌, List, [], ◌∷◌, ◌++◌, If
 ghost use Rattle.geometry_model.specs.Crossings.{exactly_one};
 ghost use Rattle.geometry_model.specs.Points.{Point};
 ghost use Rattle.geometry_model.specs.Geometries.{Edge};
-ghost use Rattle.edge_boxes.specs.Runs.{SumsUp};
-ghost use Rattle.edge_boxes.specs.Cells.{IsCellOf};
-ghost use Rattle.edge_boxes.specs.EdgeCrossings.{AreCrossings, IsTold, IsToldByStrip, lie_apart};
+ghost use Rattle.edge_boxes.specs.EdgeRuns.{SumsUp};
+ghost use Rattle.edge_boxes.specs.BoxCells.{IsCellOf};
+ghost use Rattle.edge_boxes.specs.EdgeCrossings.{AreCrossings, IsShown, IsShownByStrip, lie_apart};
 
 use crate::bounds::Bounds;
 use crate::cells::Cell;
@@ -90,8 +90,8 @@ fn is_over(bounds: &Bounds, cell: &Cell) -> bool
 }
 
 /// How the point lies relative to a run of edges that it isn't on; none if the run's strip and ends don't show it.
-fn told_by_strip(strip: &Strip, ends: &Ends, cell: &Cell) -> Option<Crossings>
-    ensures { IfSome result (IsToldByStrip strip.now ends.now cell.now) }
+fn shown_by_strip(strip: &Strip, ends: &Ends, cell: &Cell) -> Option<Crossings>
+    ensures { IfSome result (IsShownByStrip strip.now ends.now cell.now) }
 {
     if strip.is_under(cell) {
         Some(NONE)
@@ -104,8 +104,8 @@ fn told_by_strip(strip: &Strip, ends: &Ends, cell: &Cell) -> Option<Crossings>
 
 /// How the point lies relative to a run of edges that it isn't on; none if neither the run's bounds nor its strip, with its
 /// ends, show it.
-pub(crate) fn told(run: &Run, cell: &Cell) -> Option<Crossings>
-    ensures { IfSome result (IsTold run.now cell.now) }
+pub(crate) fn said(run: &Run, cell: &Cell) -> Option<Crossings>
+    ensures { IfSome result (IsShown run.now cell.now) }
 {
     if is_apart(&run.bounds, cell) {
         return Some(NONE);
@@ -114,7 +114,7 @@ pub(crate) fn told(run: &Run, cell: &Cell) -> Option<Crossings>
         return Some(above(spans(&run.ends, cell.floor_x)));
     }
     match &run.strip {
-        Some(strip) => told_by_strip(strip, &run.ends, cell),
+        Some(strip) => shown_by_strip(strip, &run.ends, cell),
         None => None,
     }
 }
@@ -140,7 +140,7 @@ fn of_edge(edge: &Segment, point: &RatPoint, cell: &Cell) -> Crossings
     if point.denominator() == 1 {
         return by_side(edge, point);
     }
-    match told(&Run::of(edge), cell) {
+    match said(&Run::of(edge), cell) {
         Some(crossings) => crossings,
         None => by_side(edge, point),
     }

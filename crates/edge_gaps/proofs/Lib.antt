@@ -1,3 +1,3 @@
-pub mod Near
+pub mod NearGaps
 pub mod Shared
 pub mod StopFacts

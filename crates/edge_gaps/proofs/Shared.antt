@@ -12,7 +12,7 @@ use Rattle.geometry_model.specs.Envelopes.{overlap}
 use Rattle.geometry_laws.proofs.Scaling.{and_parts, and_from}
 use Rattle.validity_laws.proofs.SharedPoints.{shared_point_is_decided}
 use Rattle.fraction.specs.Ranges.{meeting_limit}
-use Rattle.matrix_laws.proofs.Lists.{among_from_contains, any_from_some}
+use Rattle.matrix_laws.proofs.MatrixLists.{among_from_contains, any_from_some}
 use Rattle.ring_tests.specs.RunLaws.{box_of}
 use Rattle.ring_tests.proofs.Boxes.{sharing_boxes_overlap}
 use Rattle.edge_boxes.specs.Sharings.{places_sharing}
@@ -25,11 +25,11 @@ use Rattle.noding.proofs.NodeCuts.{cut_is_point, cut_of_both, named_on_both}
 use Rattle.noding.proofs.BreakPoints.{Shares, all_of, any_left, any_right, earlier_or_last, point_kept}
 use Rattle.cover_laws.specs.Gaps.{SharesNoStretch}
 use Rattle.edge_gaps.specs.Steps.{IsSharedPoint, ListsCommonCuts, AreSharedSoFar, IsAt, IsAtPlace, AreShared}
-use Rattle.edge_gaps.proofs.Near.{IsNearAt, sharing, sharing_is_near}
+use Rattle.edge_gaps.proofs.NearGaps.{IsNearAt, sharing, sharing_is_near}
 
 -- ---- one more edge
-element_stands : {X : Type 0} (xs : List X) (j : ℕ) (x d : X) → j < length xs → x ≡ get_or xs j x → get_or xs j d ≡ x
-element_stands xs j x d h is = get_or_default xs j d x h ∙ sym is
+element_is_there : {X : Type 0} (xs : List X) (j : ℕ) (x d : X) → j < length xs → x ≡ get_or xs j x → get_or xs j d ≡ x
+element_is_there xs j x d h is = get_or_default xs j d x h ∙ sym is
 
 pub first_shared : (e : Edge) (others : List Edge) (IsAsked : ℕ → Edge → Type 0) (points : List Point) → points ≡ [] → AreSharedSoFar e others IsAsked 0 points
 first_shared e others IsAsked points none = record { from = from; found = λ k f l. absurd (omega (arith, l)) }
@@ -92,10 +92,10 @@ shared_no_more e others IsAsked n f points off same h = record { from = h.from; 
 
 -- the edge that is read at a place is the one there
 pub one_at : (others : List Edge) (j : ℕ) (f g : Edge) → j < length others → f ≡ get_or others j f → IsAt others j g → f ≡ g
-one_at others j f g lj hf at = sym (element_stands others j f g lj hf) ∙ at
+one_at others j f g lj hf at = sym (element_is_there others j f g lj hf) ∙ at
 
 pub one_at_place : (others : List Edge) (near : List ℕ) (n j : ℕ) (f g : Edge) → n < length near → j ≡ get_or near n j → j < length others → f ≡ get_or others j f → IsAtPlace others near n g → f ≡ g
-one_at_place others near n j f g hn hj lj hf at = one_at others j f g lj hf (subst (λ i. IsAt others i g) (element_stands near n j 0 hn hj) at)
+one_at_place others near n j f g hn hj lj hf at = one_at others j f g lj hf (subst (λ i. IsAt others i g) (element_is_there near n j 0 hn hj) at)
 
 -- ---- after the last edge
 pub all_shared : (e : Edge) (others : List Edge) (n : ℕ) (points : List Point) → length others ≤ n → AreSharedSoFar e others (IsAt others) n points → AreShared e others points
@@ -111,7 +111,7 @@ all_near_shared e others near n points is past h = record { from = h.from; found
         at (sharing_is_near e others near f p is c hp both.0 both.1)
       where
         at : IsNearAt near others f → ListsPoint points p
-        at a = h.found a.index f (omega (arith, a.within, past)) (ap (λ i. get_or others i f) (get_or_default near a.index 0 a.place a.within) ∙ a.stands) p hp k
+        at a = h.found a.index f (omega (arith, a.within, past)) (ap (λ i. get_or others i f) (get_or_default near a.index 0 a.place a.within) ∙ a.applies) p hp k
 
 pub shared_points : (e : Edge) (others : List Edge) (points : List Point) → AreShared e others points → All IsPoint points
 shared_points e others points h = all_of IsPoint points (λ p c. cut_is_point (e ∷ others) [] p (h.from p c).is_cut)

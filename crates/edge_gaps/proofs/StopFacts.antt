@@ -18,9 +18,9 @@ use Rattle.geometry_laws.proofs.PointOrder.{same_reflexive, same_symmetric, same
 use Rattle.geometry_laws.proofs.RingParity.{position_is_point}
 use Rattle.geometry_laws.proofs.Hulls.{on_parts}
 use Rattle.geometry_laws.proofs.LineOrder.{area_on_line}
-use Rattle.geometry_laws.proofs.Triangles.{dot_stands}
+use Rattle.geometry_laws.proofs.Triangles.{dot_is_at}
 use Rattle.geometry_laws.proofs.Cuts.{OneLine, one_line}
-use Rattle.matrix_laws.proofs.Lists.{Some_of, among_from_contains, contains_from_among, some_from_any, any_from_some, among_filter, filter_among}
+use Rattle.matrix_laws.proofs.MatrixLists.{Some_of, among_from_contains, contains_from_among, some_from_any, any_from_some, among_filter, filter_among}
 use Rattle.matrix_laws.proofs.CutLists.{or_first, or_second, or_either}
 use Rattle.matrix_laws.proofs.Sorted.{Sorted, filter-sorted}
 use Rattle.matrix_laws.proofs.Stretches.{Neighbours, stretch_is, less_right, less_left}
@@ -99,7 +99,7 @@ dot_clear e f p q is none = λ x b. is_false (on f x) (λ k. none x b.is_point b
   where
     ends : (x : Point) → IsBetween e p q x → on f x ≡ true → is_end f x ≡ true
     ends x b k = or_first (same_point (point_at f.start) x) (same_point (point_at f.end) x)
-        (dot_stands f.start x b.is_point (subst (λ (a : Position). on (record { start = f.start; end = a }) x ≡ true) (sym is) k))
+        (dot_is_at f.start x b.is_point (subst (λ (a : Position). on (record { start = f.start; end = a }) x ≡ true) (sym is) k))
 
 lined_clear : (e f : Edge) (p q : Point) (low high : Position) → (e.start ≡ e.end → ⊥) → IsPoint p → IsPoint q → on e p ≡ true → on e q ≡ true → on_one_line e f ≡ true → HasEnds f low high → NoCut e f p q → ClearOrShared e f p q
 lined_clear e f p q low high wide hp hq kp kq one h none = go (not_after_or (point_at low) p) (not_after_or q (point_at high))

@@ -1,7 +1,9 @@
 //! The gaps of an edge among other edges.
 
 ghost use Rattle.std.specs.Prelude.{◌≡◌, false, [], OnErr, OnOk};
+ghost use Rattle.std.specs.List.{list_any};
 ghost use Rattle.edge_boxes.specs.BoxLists.{BoxesOf};
+ghost use Rattle.edge_boxes.specs.OneLine.{meet_on_one_line};
 ghost use Rattle.cover_laws.specs.Gaps.{AreGaps, SharesNoStretch};
 
 use crate::sharing::{find_shared, put_in_order};
@@ -82,11 +84,12 @@ impl Gaps {
         set_stops(&mut self.stops, edge, self.shared.as_slice())
     }
 
-    /// Whether one of the others, whose boxes are given, may share a stretch with the edge. If it returns false, none does. It
-    /// takes no memory.
+    /// Whether one of the others, whose boxes are given, is on one line with the edge and shares a point with it. If it returns
+    /// false, none shares a stretch with the edge. It takes no memory.
     pub fn may_share_stretch(edge: &Segment, others: &[Segment], boxes: &EdgeBoxes) -> bool
         requires { BoxesOf boxes.now others.now }
-        ensures { result ≡ false → SharesNoStretch edge.now others.now }
+        ensures exact { result ≡ list_any (meet_on_one_line edge.now) others.now }
+        ensures none { result ≡ false → SharesNoStretch edge.now others.now }
     {
         boxes.meets_on_line(others, edge)
     }

@@ -126,7 +126,7 @@ Opens {F} g opener (path ∷ paths) (reader ∷ readers) after = (next : F) × C
 -- the readers of the tables' files, or the first that can't be opened; or memory ran out
 abbrev pub OpensTables : {F R : Type 0} → Mut F (Bor (List ℕ) × Unit {0}) (Option R) → F → List ℕ → SpatialSchema → Result (List R) Failure → Type 0
 OpensTables {F} g opener directory definitions (Ok readers) = (after : F) × Opens g opener (table_paths directory definitions) readers after
-OpensTables {F} {R} g opener directory definitions (Err (f.TableUnreadable name)) =
+OpensTables {F} {R} g opener directory definitions (Err (f.Unreadable name)) =
     (place : ℕ) × (readers : List R) × (next after : F)
     × Opens g opener (take place (table_paths directory definitions)) readers next
     × CalledAt g next (table_path directory name.now) None after

@@ -310,7 +310,7 @@ fn open_tables<'s, R: Read + Drop, F: FnMut(&str) -> Option<R>>(
             return Err(Failure::OutOfMemory);
         };
         let Some(reader) = opener(path.as_str()) else {
-            return Err(Failure::TableUnreadable(name));
+            return Err(Failure::Unreadable(name));
         };
         let Ok(()) = readers.push(reader) else {
             return Err(Failure::OutOfMemory);

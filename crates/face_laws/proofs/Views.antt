@@ -5,7 +5,7 @@ use Rattle.geometry_model.specs.Points.{Position, Point, IsPoint, point_at}
 use Rattle.geometry_model.specs.Geometries.{Edge, Geometry, edges, listed}
 use Rattle.geometry_model.specs.Sides.{on}
 use Rattle.geometry_model.specs.Crossings.{spans, side_rightward, strictly_above, at_or_above}
-use Rattle.geometry_model.specs.Locations.{stands_at, locate}
+use Rattle.geometry_model.specs.Locations.{is_at, locate}
 use Rattle.geometry_model.specs.Labels.{above, below}
 use Rattle.integers.proofs.Ring.{solve, var, ◌⊗◌}
 use Rattle.integers.proofs.Signs.{strict_plus_plus, plus_plus, cancel_positive, cancel_negative, at_most_or_less, less_yes, less_no, less_from, at_most_yes, at_most_no, zero_times}
@@ -136,15 +136,15 @@ no_more : (x y : ℤ) → x ≡ y → x <ℤ y → ⊥
 no_more x y e h = omega (arith, ints)
 
 -- a position where m is would be on the way
-up_away : (s m : Point) → IsPoint s → IsPoint m → IsStraightOver m s → IsLower s m → (a : Position) → (IsOnTheWayUp s m (point_at a) → ⊥) → stands_at m a ≡ false
-up_away s m hs hm str low a clear = by_contraries (stands_at m a) false (λ h. absurd (clear (record {
+up_away : (s m : Point) → IsPoint s → IsPoint m → IsStraightOver m s → IsLower s m → (a : Position) → (IsOnTheWayUp s m (point_at a) → ⊥) → is_at m a ≡ false
+up_away s m hs hm str low a clear = by_contraries (is_at m a) false (λ h. absurd (clear (record {
   straight = straight_through (point_at a) m s hm (same_x (point_at a) m h) str;
   higher = lower_than_same (point_at a) m s (position_is_point a) hm (same_y (point_at a) m h) low;
   not_past = λ l. no_more (m.Y *ℤ pos 1) (a.y *ℤ m.W) (sym (same_y (point_at a) m h)) l;
 }))) refl
 
-down_away : (s m : Point) → IsPoint s → IsPoint m → IsStraightOver m s → IsLower m s → (a : Position) → (IsOnTheWayDown s m (point_at a) → ⊥) → stands_at m a ≡ false
-down_away s m hs hm str low a clear = by_contraries (stands_at m a) false (λ h. absurd (clear (record {
+down_away : (s m : Point) → IsPoint s → IsPoint m → IsStraightOver m s → IsLower m s → (a : Position) → (IsOnTheWayDown s m (point_at a) → ⊥) → is_at m a ≡ false
+down_away s m hs hm str low a clear = by_contraries (is_at m a) false (λ h. absurd (clear (record {
   straight = straight_through (point_at a) m s hm (same_x (point_at a) m h) str;
   lower = same_is_lower (point_at a) m s (position_is_point a) hm (same_y (point_at a) m h) low;
   not_past = λ l. no_more (a.y *ℤ m.W) (m.Y *ℤ pos 1) (same_y (point_at a) m h) l;
@@ -158,7 +158,7 @@ up_off g s m hs h = record {
   edges = all_from_each (λ e. on e m ≡ false) (edges g) (each_map (λ e. (z : Point) → IsPoint z → IsOnTheWayUp s m z → on e z ≡ false) (λ e. on e m ≡ false) (edges g)
       (λ e k. k m h.is_point (record { straight = h.straight; higher = h.higher; not_past = self (m.Y *ℤ m.W) }))
       (each_from_all (λ e. (z : Point) → IsPoint z → IsOnTheWayUp s m z → on e z ≡ false) (edges g) h.edges));
-  positions = all_from_each (λ a. stands_at m a ≡ false) (listed g) (each_map (λ a. IsOnTheWayUp s m (point_at a) → ⊥) (λ a. stands_at m a ≡ false) (listed g)
+  positions = all_from_each (λ a. is_at m a ≡ false) (listed g) (each_map (λ a. IsOnTheWayUp s m (point_at a) → ⊥) (λ a. is_at m a ≡ false) (listed g)
       (up_away s m hs h.is_point h.straight h.higher)
       (each_from_all (λ a. IsOnTheWayUp s m (point_at a) → ⊥) (listed g) h.positions));
 }
@@ -168,13 +168,13 @@ down_off g s m hs h = record {
   edges = all_from_each (λ e. on e m ≡ false) (edges g) (each_map (λ e. (z : Point) → IsPoint z → IsOnTheWayDown s m z → on e z ≡ false) (λ e. on e m ≡ false) (edges g)
       (λ e k. k m h.is_point (record { straight = h.straight; lower = h.lower; not_past = self (m.Y *ℤ m.W) }))
       (each_from_all (λ e. (z : Point) → IsPoint z → IsOnTheWayDown s m z → on e z ≡ false) (edges g) h.edges));
-  positions = all_from_each (λ a. stands_at m a ≡ false) (listed g) (each_map (λ a. IsOnTheWayDown s m (point_at a) → ⊥) (λ a. stands_at m a ≡ false) (listed g)
+  positions = all_from_each (λ a. is_at m a ≡ false) (listed g) (each_map (λ a. IsOnTheWayDown s m (point_at a) → ⊥) (λ a. is_at m a ≡ false) (listed g)
       (down_away s m hs h.is_point h.straight h.lower)
       (each_from_all (λ a. IsOnTheWayDown s m (point_at a) → ⊥) (listed g) h.positions));
 }
 
 off_from : (g : Geometry) (p : Point) → IsOff g p → Off g p
-off_from g p o = record { edges_off = each_from_all (λ e. on e p ≡ false) (edges g) o.edges; listed_off = each_from_all (λ a. stands_at p a ≡ false) (listed g) o.positions }
+off_from g p o = record { edges_off = each_from_all (λ e. on e p ≡ false) (edges g) o.edges; listed_off = each_from_all (λ a. is_at p a ≡ false) (listed g) o.positions }
 
 -- the end of a view is off, and lies by the parity above it, which is that above the point looked from
 pub face_point_above : (g : Geometry) (s m : Point) → IsPoint s → SeesUp g s m → IsOff g m × (locate g m ≡ above g s)

@@ -1,9 +1,9 @@
 -- How a text of several parts is written.
-use Rattle.table_model.specs.FaultLines.{line_of}
 use Rattle.std.proofs.Common.{Result, Ok, Err, OnOk, OnErr, codes, ◌≡◌, ℕ, List, [], ◌∷◌, ◌++◌, Option, subst, append_assoc, append-nil}
 use Rattle.std.specs.List.{concat}
 use Rattle.std.specs.Io.KnownBytes.{Appends}
 use Rattle.sinks.specs.Sinks.{AppendsFront}
+use Rattle.failures.specs.Failures.{line_after}
 use Rattle.sinks.proofs.SinkLemmas.{Appends-then, AppendsFront-then}
 
 -- the text of parts in which three numbers are
@@ -11,9 +11,9 @@ abbrev joined : (table words number code first between second : List ℕ) → Li
 joined table words number code first between second = ((table ++ words) ++ number) ++ ((code ++ first) ++ (between ++ second))
 
 -- the parts of a line, joined
-pub line_parts : (table words number code first between second : List ℕ)
-    → concat (codes "sfq: " ∷ table ∷ words ∷ number ∷ code ∷ first ∷ between ∷ second ∷ codes "\n" ∷ []) ≡ line_of (joined table words number code first between second)
-line_parts table words number code first between second = simp (append_assoc, append-nil)
+pub line_parts : (name table words number code first between second : List ℕ)
+    → concat (name ∷ table ∷ words ∷ number ∷ code ∷ first ∷ between ∷ second ∷ codes "\n" ∷ []) ≡ line_after name (joined table words number code first between second)
+line_parts name table words number code first between second = simp (append_assoc, append-nil)
 
 -- a first text, and then what was put after it
 pub first-front : {A E : Type 0} (r : Result A E) (a b c : Option (List ℕ)) (first text rest : List ℕ) → first ≡ text → Appends a b first

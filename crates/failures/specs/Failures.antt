@@ -18,7 +18,7 @@ abbrev pub failure_text : Failure → List ℕ
 failure_text (f.Schema fault) = schema_text fault
 failure_text f.SchemaUnreadable = codes "schema unreadable"
 failure_text (f.Load table fault) = load_text table.now fault
-failure_text (f.TableUnreadable table) = table.now ++ codes " unreadable"
+failure_text (f.Unreadable name) = name.now ++ codes " unreadable"
 failure_text (f.Query fault) = query_text fault
 failure_text (f.Refused word fault) = word_text word ++ (codes " " ++ geometry_text fault)
 failure_text f.WriteFailed = codes "write failed"
@@ -28,12 +28,20 @@ failure_text f.OutOfMemory = memory_text
 abbrev pub failure_line : Failure → List ℕ
 failure_line failure = line_of (failure_text failure)
 
+-- the line of a failure within an answer: its text, without the program's name
+abbrev pub text_line : Failure → List ℕ
+text_line failure = failure_text failure ++ codes "\n"
+
+-- a name, a text and a line feed
+abbrev pub line_after : List ℕ → List ℕ → List ℕ
+line_after name text = name ++ (text ++ codes "\n")
+
 -- the status of a failure: 6 where reading or writing failed, 7 when memory ran out
 abbrev pub failure_status : Failure → ℕ
 failure_status (f.Schema fault) = schema_status fault
 failure_status f.SchemaUnreadable = 6
 failure_status (f.Load table fault) = load_status fault
-failure_status (f.TableUnreadable table) = 6
+failure_status (f.Unreadable name) = 6
 failure_status (f.Query fault) = query_status fault
 failure_status (f.Refused word fault) = 5
 failure_status f.WriteFailed = 6

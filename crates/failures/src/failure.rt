@@ -2,9 +2,9 @@
 
 ghost use Rattle.std.specs.Prelude.{◌≡◌, ◌++◌, decimal, codes, OnOk, OnErr};
 ghost use Rattle.std.specs.Io.KnownBytes.{Appends};
-ghost use Rattle.table_model.specs.FaultLines.{schema_text, load_text, query_text, geometry_text, line_of};
+ghost use Rattle.table_model.specs.FaultLines.{schema_text, load_text, query_text, geometry_text};
 ghost use Rattle.sinks.specs.Sinks.{AppendsFront, CountsFailure};
-ghost use Rattle.failures.specs.Failures.{failure_text, failure_line, failure_status, digits_of, fault_text, word_text, text_with, words_text};
+ghost use Rattle.failures.specs.Failures.{failure_text, failure_line, failure_status, text_line, line_after, digits_of, fault_text, word_text, text_with, words_text};
 ghost use Rattle.geometry_model.specs.declared.geometry_faults.GeometryFault.TheVariants as g;
 
 use geometry_model::{GeometryFault, TextFault, ValidityFault};
@@ -28,8 +28,9 @@ pub enum Failure<'a> {
     SchemaUnreadable,
     /// The table of this name can't be loaded.
     Load(&'a str, LoadFault),
-    /// The file of the table of this name can't be opened.
-    TableUnreadable(&'a str),
+    /// The file of this name can't be opened or read. It is that of a table, which has the table's name, of a geometry
+    /// (`first`, `second`) or of a query (`query`).
+    Unreadable(&'a str),
     /// The query is refused.
     Query(QueryFault),
     /// The text of this geometry isn't well-known text, or its geometry isn't valid.
@@ -66,6 +67,28 @@ pub fn fault_line<S: Sink>(failure: &Failure<'_>, sink: &mut S) -> Result<(), Si
         (AppendsFront (S.taken sink.old) (S.taken sink.new) (failure_line failure.now)) }
     ensures failures { CountsFailure (S.failures sink.old) (S.failures sink.new) result }
 {
+    put_named("sfq: ", failure, sink)
+}
+
+/// Writes the text of a failure and a line feed, without the program's name, as a line of an answer. It takes no memory. At Err
+/// the sink failed, and a beginning of the line has been written.
+pub fn answer_line<S: Sink>(failure: &Failure<'_>, sink: &mut S) -> Result<(), SinkFault>
+    ensures ok { OnOk result (Appends (S.taken sink.old) (S.taken sink.new) (text_line failure.now)) }
+    ensures front { OnErr result
+        (AppendsFront (S.taken sink.old) (S.taken sink.new) (text_line failure.now)) }
+    ensures failures { CountsFailure (S.failures sink.old) (S.failures sink.new) result }
+{
+    put_named("", failure, sink)
+}
+
+// Writes a name, the text of a failure, and a line feed.
+fn put_named<S: Sink>(name: &str, failure: &Failure<'_>, sink: &mut S) -> Result<(), SinkFault>
+    ensures ok { OnOk result
+        (Appends (S.taken sink.old) (S.taken sink.new) (line_after name.now (failure_text failure.now))) }
+    ensures front { OnErr result
+        (AppendsFront (S.taken sink.old) (S.taken sink.new) (line_after name.now (failure_text failure.now))) }
+    ensures failures { CountsFailure (S.failures sink.old) (S.failures sink.new) result }
+{
     let words = failure_words(failure);
     let mut number = Buffer::new();
     let mut first = Buffer::new();
@@ -73,7 +96,7 @@ pub fn fault_line<S: Sink>(failure: &Failure<'_>, sink: &mut S) -> Result<(), Si
     let number = digits(words.number, &mut number);
     let first = digits(words.fault.first, &mut first);
     let second = digits(words.fault.second, &mut second);
-    put_line(sink, &words, number, first, second)
+    put_line(sink, name, &words, number, first, second)
 }
 
 // The digits of a number, and no byte of none.
@@ -97,7 +120,7 @@ pub fn status(failure: &Failure<'_>) -> u8
         | Failure::Query(QueryFault::OutOfMemory)
         | Failure::OutOfMemory => 7,
         Failure::SchemaUnreadable
-        | Failure::TableUnreadable(_)
+        | Failure::Unreadable(_)
         | Failure::Load(_, LoadFault::ReadFailed)
         | Failure::WriteFailed => 6,
         Failure::Schema(_) => 3,
@@ -106,9 +129,10 @@ pub fn status(failure: &Failure<'_>) -> u8
     }
 }
 
-// Writes the program's name, the parts of a text with the digits of its numbers, and a line feed.
+// Writes a name, the parts of a text with the digits of its numbers, and a line feed.
 fn put_line<'l, S: Sink>(
     sink: &mut S,
+    name: &'l str,
     words: &Words<'l>,
     number: &'l str,
     first: &'l str,
@@ -116,14 +140,14 @@ fn put_line<'l, S: Sink>(
 ) -> Result<(), SinkFault>
     ensures ok { OnOk result
         (Appends (S.taken sink.old) (S.taken sink.new)
-        (line_of (text_with words.now number.now first.now second.now))) }
+        (line_after name.now (text_with words.now number.now first.now second.now))) }
     ensures front { OnErr result
         (AppendsFront (S.taken sink.old) (S.taken sink.new)
-        (line_of (text_with words.now number.now first.now second.now))) }
+        (line_after name.now (text_with words.now number.now first.now second.now))) }
     ensures failures { CountsFailure (S.failures sink.old) (S.failures sink.new) result }
 {
     let parts = [
-        b"sfq: ",
+        name.as_bytes(),
         words.table.as_bytes(),
         words.words.as_bytes(),
         number.as_bytes(),
@@ -233,7 +257,7 @@ fn failure_words<'a>(failure: &Failure<'a>) -> Words<'a>
         Failure::Schema(fault) => schema_words(fault),
         Failure::SchemaUnreadable => Words::plain("", "schema unreadable"),
         Failure::Load(table, fault) => load_words(table, fault),
-        Failure::TableUnreadable(table) => Words::plain(table, " unreadable"),
+        Failure::Unreadable(name) => Words::plain(name, " unreadable"),
         Failure::Query(fault) => query_words(fault),
         Failure::Refused(word, fault) => refused_words(word, fault),
         Failure::WriteFailed => Words::plain("", "write failed"),

@@ -4,5 +4,5 @@
 pub mod failure;
 pub mod run_fault;
 
-pub use failure::{Failure, GeometryWord, fault_line, status};
+pub use failure::{Failure, GeometryWord, answer_line, fault_line, status};
 pub use run_fault::Fault;

@@ -45,8 +45,8 @@ pub point_ties_are : (p q : Point) → IsPoint p → IsPoint q → eq_by_cmp poi
 point_ties_are p q hp hq = ap is_eq (point_order_is p q hp hq) ∙ then_is_both (compare_x p q) (compare_y p q)
 
 -- of kept points the triples show whether they are one point
-pub triples_tell : (t : Bool) (p q : Point) → IsKeptPoint p → IsKeptPoint q → IsTrue t ↔ (p ≡ q) → t ≡ same_point p q
-triples_tell t p q hp hq tells = both_ways t (same_point p q) (λ e. itself (tells.0 e)) (λ e. tells.1 (least_is_unique p q hp.range.positive hq.range.positive hp.least hq.least e))
+pub triples_say : (t : Bool) (p q : Point) → IsKeptPoint p → IsKeptPoint q → IsTrue t ↔ (p ≡ q) → t ≡ same_point p q
+triples_say t p q hp hq says = both_ways t (same_point p q) (λ e. itself (says.0 e)) (λ e. says.1 (least_is_unique p q hp.range.positive hq.range.positive hp.least hq.least e))
   where
     itself : p ≡ q → same_point p q ≡ true
     itself e = ap (same_point p) (sym e) ∙ and_from _ _ (equal_yes (p.X *ℤ p.W) (p.X *ℤ p.W) refl) (equal_yes (p.Y *ℤ p.W) (p.Y *ℤ p.W) refl)

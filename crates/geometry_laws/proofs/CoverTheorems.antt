@@ -6,19 +6,19 @@ use Rattle.geometry_model.specs.Points.{Position, Point, IsPoint, same_point}
 use Rattle.geometry_model.specs.Geometries.{Edge, Geometry, edges, listed, rings}
 use Rattle.geometry_model.specs.Crossings.{strictly_above, at_or_above}
 use Rattle.geometry_model.specs.Dimensions.{area, weighted, weighted_three, HasTriangle, common}
-use Rattle.geometry_model.specs.Locations.{stands_at}
+use Rattle.geometry_model.specs.Locations.{is_at}
 use Rattle.geometry_model.specs.Labels.{above, below, edges_of_both}
 use Rattle.integers.proofs.Ring.{solve, var, lit, ◌⊖◌, ◌⊗◌}
 use Rattle.integers.proofs.Signs.{cancel_zero}
 use Rattle.geometry_laws.specs.RingLaws.{IsClosed}
 use Rattle.geometry_laws.specs.PieceLaws.{HasClosedRings}
-use Rattle.geometry_laws.specs.CoverLaws.{Line, value, IsLine, FirstAbove, IsSlantAt, NearSides, AllNearStand}
+use Rattle.geometry_laws.specs.CoverLaws.{Line, value, IsLine, FirstAbove, IsSlantAt, NearSides, AreAllNear}
 use Rattle.geometry_laws.proofs.Each.{Each, each_of, each_append}
 use Rattle.geometry_laws.proofs.RingParity.{each_from_all}
-use Rattle.geometry_laws.proofs.Triangles.{dots, dot_stands, marks}
+use Rattle.geometry_laws.proofs.Triangles.{dots, dot_is_at, marks}
 use Rattle.geometry_laws.proofs.Nudge.{IsSlant, breadth}
 use Rattle.geometry_laws.proofs.SideTriangles.{lower_triangle, upper_triangle, near_sides}
-use Rattle.geometry_laws.proofs.NearPoints.{all_near_stand}
+use Rattle.geometry_laws.proofs.NearPoints.{are_all_near}
 use Rattle.geometry_laws.proofs.First.{First, first, over_point, over_is_point, over_on, over_higher, not_lower, label_of_first}
 use Rattle.geometry_laws.proofs.Plane.{right}
 use Rattle.geometry_laws.proofs.Cuts.{contains_of_among, among_from_contains}
@@ -85,15 +85,15 @@ first_is_above es x hx = go (first es x hx)
     })
 
 -- a dot counts as vertical, but no dot of these positions goes through the point
-pub slant_dots : (ps : List Position) (p : Point) → IsPoint p → Each (λ a. stands_at p a ≡ false) ps → Each (IsSlant p) (dots ps)
+pub slant_dots : (ps : List Position) (p : Point) → IsPoint p → Each (λ a. is_at p a ≡ false) ps → Each (IsSlant p) (dots ps)
 slant_dots [] p hp h = tt
-slant_dots (a ∷ ps) p hp h = (λ k e. let z : true ≡ false = sym (dot_stands a p hp k) ∙ h.0 in absurd (cc), slant_dots ps p hp h.1)
+slant_dots (a ∷ ps) p hp h = (λ k e. let z : true ≡ false = sym (dot_is_at a p hp k) ∙ h.0 in absurd (cc), slant_dots ps p hp h.1)
 
 -- so nothing vertical among the marks of both geometries goes through the point
 slant_marks : (a b : Geometry) (s : Point) → IsPoint s → IsSlantAt a s → IsSlantAt b s → Each (IsSlant s) (marks a b)
 slant_marks a b s hs h k = each_append (IsSlant s) (edges_of_both a b) (dots (listed a ++ listed b))
     (each_append (IsSlant s) (edges a) (edges b) (each_from_all (IsSlant s) (edges a) h.edges) (each_from_all (IsSlant s) (edges b) k.edges))
-    (slant_dots (listed a ++ listed b) s hs (each_append (λ q. stands_at s q ≡ false) (listed a) (listed b) (each_from_all (λ q. stands_at s q ≡ false) (listed a) h.positions) (each_from_all (λ q. stands_at s q ≡ false) (listed b) k.positions)))
+    (slant_dots (listed a ++ listed b) s hs (each_append (λ q. is_at s q ≡ false) (listed a) (listed b) (each_from_all (λ q. is_at s q ≡ false) (listed a) h.positions) (each_from_all (λ q. is_at s q ≡ false) (listed b) k.positions)))
 
 -- just below and just above a point that no vertical edge goes through, all points of some triangle lie alike
 pub sides_have_triangles : (a b : Geometry) → HasClosedRings a → HasClosedRings b → (s : Point) → IsPoint s → IsSlantAt a s → IsSlantAt b s
@@ -108,5 +108,5 @@ pub sides_are_near : (g : Geometry) (s : Point) → IsPoint s → IsSlantAt g s 
 sides_are_near g s hs h k = near_sides g s hs (slant_marks g g s hs h h) k
 
 -- near enough a point, what lies straight below and above it lies as its sides do
-pub near_points_stand_so : (g : Geometry) (s : Point) → IsPoint s → IsSlantAt g s → AllNearStand g s
-near_points_stand_so g s hs h = all_near_stand g s hs (slant_marks g g s hs h h)
+pub near_points_are_so : (g : Geometry) (s : Point) → IsPoint s → IsSlantAt g s → AreAllNear g s
+near_points_are_so g s hs h = are_all_near g s hs (slant_marks g g s hs h h)

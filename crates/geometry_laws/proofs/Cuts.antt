@@ -26,7 +26,7 @@ use Rattle.geometry_laws.proofs.Hulls.{OnHull, on_from_hull, hull_from_on, on_pa
 use Rattle.geometry_laws.proofs.RingParity.{side_is_area, Natural, natural, position_is_point, Step, step_by_missing, step_along}
 use Rattle.geometry_laws.proofs.Lines.{weighted_is_point}
 use Rattle.geometry_laws.proofs.Locating.{start_is_on, end_is_on, by_contraries}
-use Rattle.geometry_laws.proofs.Triangles.{dot, dot_stands}
+use Rattle.geometry_laws.proofs.Triangles.{dot, dot_is_at}
 use Rattle.geometry_laws.proofs.LineOrder.{after_sum, before_sum, sum_between, on_sum, weighted_is_sum, area_on_line}
 
 -- ---- an element of a list is at a place of it
@@ -73,8 +73,8 @@ not_less_self p q e f = let g : Equal ≡ Less = sym ((equal_is_same p q).1 e) �
 -- its edge has two different ends
 pub edge_is_wide : (es : List Edge) (ps : List Position) (c : Piece) (h : IsPiece es ps c) → Ends c → h.edge.start ≡ h.edge.end → ⊥
 edge_is_wide es ps c h d e = not_less_self c.lesser c.greater (same_transitive c.lesser (point_at h.edge.start) c.greater (position_is_point h.edge.start)
-    (same_symmetric c.lesser (point_at h.edge.start) ∙ dot_stands h.edge.start c.lesser d.lesser (subst (λ (g : Edge). on g c.lesser ≡ true) is_dot h.lesser_on))
-    (dot_stands h.edge.start c.greater d.greater (subst (λ (g : Edge). on g c.greater ≡ true) is_dot h.greater_on))) h.in_order
+    (same_symmetric c.lesser (point_at h.edge.start) ∙ dot_is_at h.edge.start c.lesser d.lesser (subst (λ (g : Edge). on g c.lesser ≡ true) is_dot h.lesser_on))
+    (dot_is_at h.edge.start c.greater d.greater (subst (λ (g : Edge). on g c.greater ≡ true) is_dot h.greater_on))) h.in_order
   where
     is_dot : h.edge ≡ dot h.edge.start
     is_dot = λ i. record { start = h.edge.start; end = sym e i }

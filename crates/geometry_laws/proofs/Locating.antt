@@ -5,7 +5,7 @@ use Rattle.geometry_model.specs.Points.{Position, Point, IsPoint, point_at}
 use Rattle.geometry_model.specs.Geometries.{Edge, Geometry, edges, edges_of_line, edges_of_lines, listed, joined_rings}
 use Rattle.geometry_model.specs.Sides.{on}
 use Rattle.geometry_model.specs.Crossings.{exactly_one as xor, odd_above}
-use Rattle.geometry_model.specs.Locations.{stands_at, last_after, ends, in_points, in_lines, in_rings, locate}
+use Rattle.geometry_model.specs.Locations.{is_at, last_after, ends, in_points, in_lines, in_rings, locate}
 use Rattle.geometry_model.specs.Labels.{above}
 use Rattle.geometry_model.specs.declared.point_sets.Location.TheVariants.{Interior, Boundary, Exterior}
 use Rattle.integers.proofs.Ring.{solve, var, lit, ◌⊕◌, ◌⊗◌}
@@ -25,7 +25,7 @@ at_end : (x w a b : ℤ) → b *ℤ w ≡ x *ℤ pos 1 → pos 1 *ℤ x ≡ pos 
 at_end x w a b e = solve (x ∷ []) (lit (pos 1) ⊗ var 0) (var 0 ⊗ lit (pos 1)) tt ∙ sym e ∙ solve (a ∷ b ∷ w ∷ []) (var 1 ⊗ var 2) (lit (pos 0) ⊗ var 0 ⊕ var 2 ⊗ var 1) tt
 
 -- the start is the sum of the ends with all weight on it
-pub start_is_on : (e : Edge) (p : Point) → IsPoint p → stands_at p e.start ≡ true → on e p ≡ true
+pub start_is_on : (e : Edge) (p : Point) → IsPoint p → is_at p e.start ≡ true → on e p ≡ true
 start_is_on e p hp h = on_from_hull e p (record {
   k = pos 1;
   m = p.W;
@@ -42,7 +42,7 @@ start_is_on e p hp h = on_from_hull e p (record {
     no_weight w = omega (arith, ints)
 
 -- and so is the end
-pub end_is_on : (e : Edge) (p : Point) → IsPoint p → stands_at p e.end ≡ true → on e p ≡ true
+pub end_is_on : (e : Edge) (p : Point) → IsPoint p → is_at p e.end ≡ true → on e p ≡ true
 end_is_on e p hp h = on_from_hull e p (record {
   k = pos 1;
   m = pos 0;
@@ -64,12 +64,12 @@ by_contraries true b f e = absurd (let g : true ≡ false = sym (f refl) ∙ e i
 by_contraries false b f e = refl
 
 -- a point off an edge isn't at its start
-start_off : (e : Edge) (p : Point) → IsPoint p → on e p ≡ false → stands_at p e.start ≡ false
-start_off e p hp h = by_contraries (stands_at p e.start) (on e p) (start_is_on e p hp) h
+start_off : (e : Edge) (p : Point) → IsPoint p → on e p ≡ false → is_at p e.start ≡ false
+start_off e p hp h = by_contraries (is_at p e.start) (on e p) (start_is_on e p hp) h
 
 -- nor at its end
-end_off : (e : Edge) (p : Point) → IsPoint p → on e p ≡ false → stands_at p e.end ≡ false
-end_off e p hp h = by_contraries (stands_at p e.end) (on e p) (end_is_on e p hp) h
+end_off : (e : Edge) (p : Point) → IsPoint p → on e p ≡ false → is_at p e.end ≡ false
+end_off e p hp h = by_contraries (is_at p e.end) (on e p) (end_is_on e p hp) h
 
 -- ---- off the edges of a line no odd number of ends is at the point
 abbrev pub OffEdges : List Edge → Point → Type 0
@@ -77,43 +77,43 @@ OffEdges es p = Each (λ e. on e p ≡ false) es
 
 -- no end of an edge is at the point
 abbrev pub NoEnd : List Edge → Point → Type 0
-NoEnd es p = Each (λ e. (stands_at p e.start ≡ false) × (stands_at p e.end ≡ false)) es
+NoEnd es p = Each (λ e. (is_at p e.start ≡ false) × (is_at p e.end ≡ false)) es
 
 -- so a point off all edges is at no end of any
 pub no_end_off : (es : List Edge) (p : Point) → IsPoint p → OffEdges es p → NoEnd es p
-no_end_off es p hp h = each_map (λ e. on e p ≡ false) (λ e. (stands_at p e.start ≡ false) × (stands_at p e.end ≡ false)) es (λ e f. (start_off e p hp f, end_off e p hp f)) h
+no_end_off es p hp h = each_map (λ e. on e p ≡ false) (λ e. (is_at p e.start ≡ false) × (is_at p e.end ≡ false)) es (λ e f. (start_off e p hp f, end_off e p hp f)) h
 
 -- the last position of a line is the end of its last edge, so the point isn't there either
-last_off : (a b : Position) (rest : List Position) (p : Point) → NoEnd (edges_of_line (a ∷ b ∷ rest)) p → stands_at p (last_after b rest) ≡ false
+last_off : (a b : Position) (rest : List Position) (p : Point) → NoEnd (edges_of_line (a ∷ b ∷ rest)) p → is_at p (last_after b rest) ≡ false
 last_off a b [] p h = (h.0).1
 last_off a b (c ∷ rest) p h = last_off b c rest p h.1
 
 -- neither end of a line is at the point, or both are, where the line is a single position
-ends_even : (l : List Position) (p : Point) → NoEnd (edges_of_line l) p → parity (stands_at p) (ends l) ≡ false
+ends_even : (l : List Position) (p : Point) → NoEnd (edges_of_line l) p → parity (is_at p) (ends l) ≡ false
 ends_even [] p h = refl
-ends_even (a ∷ []) p h = ap (xor (stands_at p a)) (xor_false (stands_at p a)) ∙ xor_self (stands_at p a)
-ends_even (a ∷ b ∷ rest) p h = ap₂ xor ((h.0).0) (xor_false (stands_at p (last_after b rest)) ∙ last_off a b rest p h)
+ends_even (a ∷ []) p h = ap (xor (is_at p a)) (xor_false (is_at p a)) ∙ xor_self (is_at p a)
+ends_even (a ∷ b ∷ rest) p h = ap₂ xor ((h.0).0) (xor_false (is_at p (last_after b rest)) ∙ last_off a b rest p h)
 
 -- off all edges no end of a line is there, so their number is even and the point isn't boundary
-pub all_ends_even : (ls : List (List Position)) (p : Point) → NoEnd (edges_of_lines ls) p → parity (stands_at p) (flat_map ends ls) ≡ false
+pub all_ends_even : (ls : List (List Position)) (p : Point) → NoEnd (edges_of_lines ls) p → parity (is_at p) (flat_map ends ls) ≡ false
 all_ends_even [] p h = refl
-all_ends_even (l ∷ ls) p h = parity_append (stands_at p) (ends l) (flat_map ends ls) ∙ ap₂ xor
-    (ends_even l p (each_left (λ e. (stands_at p e.start ≡ false) × (stands_at p e.end ≡ false)) (edges_of_line l) (edges_of_lines ls) h))
-    (all_ends_even ls p (each_right (λ e. (stands_at p e.start ≡ false) × (stands_at p e.end ≡ false)) (edges_of_line l) (edges_of_lines ls) h))
+all_ends_even (l ∷ ls) p h = parity_append (is_at p) (ends l) (flat_map ends ls) ∙ ap₂ xor
+    (ends_even l p (each_left (λ e. (is_at p e.start ≡ false) × (is_at p e.end ≡ false)) (edges_of_line l) (edges_of_lines ls) h))
+    (all_ends_even ls p (each_right (λ e. (is_at p e.start ≡ false) × (is_at p e.end ≡ false)) (edges_of_line l) (edges_of_lines ls) h))
 
 -- ---- where it lies
 pub record Off (g : Geometry) (p : Point) : Type 0 where
   pub edges_off : OffEdges (edges g) p
-  pub listed_off : Each (λ a. stands_at p a ≡ false) (listed g)
+  pub listed_off : Each (λ a. is_at p a ≡ false) (listed g)
 
 -- off the positions of a point type a point is exterior to it
-points_off : (ps : List Position) (p : Point) → Each (λ a. stands_at p a ≡ false) ps → in_points ps p ≡ Exterior
-points_off ps p h = ap (λ (t : Bool). if t then Interior else Exterior) (none_passes (stands_at p) ps h)
+points_off : (ps : List Position) (p : Point) → Each (λ a. is_at p a ≡ false) ps → in_points ps p ≡ Exterior
+points_off ps p h = ap (λ (t : Bool). if t then Interior else Exterior) (none_passes (is_at p) ps h)
 
 -- off the edges of lines a point is exterior: an even number of ends is there, and no edge
 lines_off : (ls : List (List Position)) (p : Point) → IsPoint p → OffEdges (edges_of_lines ls) p → in_lines ls p ≡ Exterior
 lines_off ls p hp h = ap₂ (λ (s t : Bool). if s then Boundary else if t then Interior else Exterior)
-    (odd_count (stands_at p) (flat_map ends ls) ∙ all_ends_even ls p (no_end_off (edges_of_lines ls) p hp h))
+    (odd_count (is_at p) (flat_map ends ls) ∙ all_ends_even ls p (no_end_off (edges_of_lines ls) p hp h))
     (none_passes (λ e. on e p) (edges_of_lines ls) h)
 
 -- off the rings of an area a point is interior or exterior by the parity above it

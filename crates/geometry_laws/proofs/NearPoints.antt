@@ -9,7 +9,7 @@ use Rattle.geometry_model.specs.Locations.{locate}
 use Rattle.geometry_model.specs.Labels.{above, below}
 use Rattle.integers.proofs.Ring.{solve, var, lit, ◌⊕◌, ◌⊖◌, ◌⊗◌}
 use Rattle.integers.proofs.Signs.{strict_plus_plus, plus_plus, plus_minus, cancel_positive, zero_product, at_most_or_less, less_yes, less_no, at_most_yes, at_most_no}
-use Rattle.geometry_laws.specs.CoverLaws.{value, IsJustBelow, AllNearStand}
+use Rattle.geometry_laws.specs.CoverLaws.{value, IsJustBelow, AreAllNear}
 use Rattle.geometry_laws.proofs.Each.{Each, each_map, each_of}
 use Rattle.geometry_laws.proofs.Scaling.{same_from}
 use Rattle.geometry_laws.proofs.Respect.{locate_respects}
@@ -201,11 +201,11 @@ some_natural z n e h = omega (arith, ints)
 
 -- near enough, a point straight below or above is off all edges, so it lies by the parity above it,
 -- and that is the parity of the point's own lower or upper side
-pub all_near_stand : (g : Geometry) (s : Point) → IsPoint s → Each (IsSlant s) (marks g g) → AllNearStand g s
-all_near_stand g s hs h = go (kept_near down strictly_above at_or_above g s not_down hs h (λ k. sinks_at k s hs)) (kept_near (pos 1) strictly_above strictly_above g s not_up hs h (λ k. rises_at k s hs))
+pub are_all_near : (g : Geometry) (s : Point) → IsPoint s → Each (IsSlant s) (marks g g) → AreAllNear g s
+are_all_near g s hs h = go (kept_near down strictly_above at_or_above g s not_down hs h (λ k. sinks_at k s hs)) (kept_near (pos 1) strictly_above strictly_above g s not_up hs h (λ k. rises_at k s hs))
   where
-    stands : (t : Point) → IsPoint t → (d : ℤ) (n : ℕ) → t.W ≡ pos n → t.X *ℤ s.W ≡ s.X *ℤ t.W → t.Y *ℤ s.W -ℤ s.Y *ℤ t.W ≡ d → Each (λ e. on e (lifted d n s) ≡ false) (marks g g) → locate g t ≡ above g (lifted d n s)
-    stands t ht d n e f y off = locate_respects g t (lifted d n s) ht moved (same_moved t s d n e f y) ∙ locate_off g (lifted d n s) moved (off_first g g (lifted d n s) moved off)
+    applies : (t : Point) → IsPoint t → (d : ℤ) (n : ℕ) → t.W ≡ pos n → t.X *ℤ s.W ≡ s.X *ℤ t.W → t.Y *ℤ s.W -ℤ s.Y *ℤ t.W ≡ d → Each (λ e. on e (lifted d n s) ≡ false) (marks g g) → locate g t ≡ above g (lifted d n s)
+    applies t ht d n e f y off = locate_respects g t (lifted d n s) ht moved (same_moved t s d n e f y) ∙ locate_off g (lifted d n s) moved (off_first g g (lifted d n s) moved off)
       where
         moved : IsPoint (lifted d n s)
         moved = lifted_is_point d n s (some_natural t.W n e ht) hs
@@ -222,11 +222,11 @@ all_near_stand g s hs h = go (kept_near down strictly_above at_or_above g s not_
     turn : (x w : ℤ) (n : ℕ) (y : ℤ) → w ≡ pos n → x <ℤ (y *ℤ w) → x <ℤ (pos n *ℤ y)
     turn x w n y e l = subst (λ (z : ℤ). x <ℤ z) (ap (λ (v : ℤ). y *ℤ v) e ∙ solve (y ∷ pos n ∷ []) (var 0 ⊗ var 1) (var 1 ⊗ var 0) tt) l
 
-    go : Nearly down s.W (Kept strictly_above at_or_above g s) → Nearly (pos 1) s.W (Kept strictly_above strictly_above g s) → AllNearStand g s
+    go : Nearly down s.W (Kept strictly_above at_or_above g s) → Nearly (pos 1) s.W (Kept strictly_above strictly_above g s) → AreAllNear g s
     go u o = record {
       k = u.bound + o.bound;
-      under_stand = λ t ht b. under t ht (natural t.W (weak t.W ht)) b;
-      over_stand = λ t ht b. over t ht (natural t.W (weak t.W ht)) b;
+      under_are = λ t ht b. under t ht (natural t.W (weak t.W ht)) b;
+      over_are = λ t ht b. over t ht (natural t.W (weak t.W ht)) b;
     }
       where
         part : (k l : ℕ) (m z : ℤ) → pos 0 <ℤ m → (pos (k + l) *ℤ m) <ℤ z → ((pos k *ℤ m) <ℤ z) × ((pos l *ℤ m) <ℤ z)
@@ -242,7 +242,7 @@ all_near_stand g s hs h = go (kept_near down strictly_above at_or_above g s not_
             second x y p q = omega (arith, ints)
 
         under : (t : Point) → IsPoint t → Natural t.W → IsJustBelow (u.bound + o.bound) t s → locate g t ≡ below g s
-        under t ht n b = stands t ht (down *ℤ (s.Y *ℤ t.W -ℤ t.Y *ℤ s.W)) n.n n.is b.straight (sunk (t.Y *ℤ s.W) (s.Y *ℤ t.W)) kept.off ∙ below_from g s (lifted (down *ℤ (s.Y *ℤ t.W -ℤ t.Y *ℤ s.W)) n.n s) kept.alike
+        under t ht n b = applies t ht (down *ℤ (s.Y *ℤ t.W -ℤ t.Y *ℤ s.W)) n.n n.is b.straight (sunk (t.Y *ℤ s.W) (s.Y *ℤ t.W)) kept.off ∙ below_from g s (lifted (down *ℤ (s.Y *ℤ t.W -ℤ t.Y *ℤ s.W)) n.n s) kept.alike
           where
             rise : pos 0 <ℤ (s.Y *ℤ t.W -ℤ t.Y *ℤ s.W)
             rise = gap (t.Y *ℤ s.W) (s.Y *ℤ t.W) b.lower
@@ -251,7 +251,7 @@ all_near_stand g s hs h = go (kept_near down strictly_above at_or_above g s not_
             kept = u.holds (s.Y *ℤ t.W -ℤ t.Y *ℤ s.W) n.n rise (some_natural t.W n.n n.is ht) ((part u.bound o.bound (s.Y *ℤ t.W -ℤ t.Y *ℤ s.W) (pos n.n *ℤ s.W) rise (subst (λ (z : ℤ). (pos (u.bound + o.bound) *ℤ (s.Y *ℤ t.W -ℤ t.Y *ℤ s.W)) <ℤ (z *ℤ s.W)) n.is b.near)).0)
 
         over : (t : Point) → IsPoint t → Natural t.W → IsJustBelow (u.bound + o.bound) s t → locate g t ≡ above g s
-        over t ht n b = stands t ht (pos 1 *ℤ (t.Y *ℤ s.W -ℤ s.Y *ℤ t.W)) n.n n.is (sym b.straight) (risen (s.Y *ℤ t.W) (t.Y *ℤ s.W)) kept.off ∙ above_from g s (lifted (pos 1 *ℤ (t.Y *ℤ s.W -ℤ s.Y *ℤ t.W)) n.n s) kept.alike
+        over t ht n b = applies t ht (pos 1 *ℤ (t.Y *ℤ s.W -ℤ s.Y *ℤ t.W)) n.n n.is (sym b.straight) (risen (s.Y *ℤ t.W) (t.Y *ℤ s.W)) kept.off ∙ above_from g s (lifted (pos 1 *ℤ (t.Y *ℤ s.W -ℤ s.Y *ℤ t.W)) n.n s) kept.alike
           where
             rise : pos 0 <ℤ (t.Y *ℤ s.W -ℤ s.Y *ℤ t.W)
             rise = gap (s.Y *ℤ t.W) (t.Y *ℤ s.W) b.lower

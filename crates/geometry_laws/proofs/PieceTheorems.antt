@@ -4,7 +4,7 @@ use Rattle.geometry_model.specs.Points.{Position, Point, IsPoint}
 use Rattle.geometry_model.specs.Geometries.{Geometry, edges, listed, rings}
 use Rattle.geometry_model.specs.Sides.{on}
 use Rattle.geometry_model.specs.Dimensions.{HasTriangle, common}
-use Rattle.geometry_model.specs.Locations.{stands_at, locate}
+use Rattle.geometry_model.specs.Locations.{is_at, locate}
 use Rattle.geometry_model.specs.Labels.{above, below, is_upright, edges_of_both}
 use Rattle.geometry_model.specs.Pieces.{Piece}
 use Rattle.geometry_laws.specs.RingLaws.{IsClosed}
@@ -13,7 +13,7 @@ use Rattle.geometry_laws.proofs.Cuts.{Ends, piece_ends}
 use Rattle.geometry_laws.proofs.Each.{Each, among_left, among_right, each_append}
 use Rattle.geometry_laws.proofs.RingParity.{each_from_all}
 use Rattle.geometry_laws.proofs.Locating.{Off, locate_off, by_contraries}
-use Rattle.geometry_laws.proofs.Triangles.{dot, dots, dot_stands, marks, triangle_of_off}
+use Rattle.geometry_laws.proofs.Triangles.{dot, dots, dot_is_at, marks, triangle_of_off}
 use Rattle.geometry_laws.proofs.WithinPiece.{Belongs, locate_within, above_within, below_within, slant_edge}
 
 -- the edges and positions of each geometry are among those of both: of the first
@@ -47,18 +47,18 @@ sides_constant a b ca cb c h f x y i j = let d : Ends c = piece_ends (edges_of_b
 
 -- ---- off both
 -- a point at none of the positions is off their dots
-dots_of : (ps : List Position) (p : Point) → IsPoint p → Each (λ a. stands_at p a ≡ false) ps → Each (λ e. on e p ≡ false) (dots ps)
+dots_of : (ps : List Position) (p : Point) → IsPoint p → Each (λ a. is_at p a ≡ false) ps → Each (λ e. on e p ≡ false) (dots ps)
 dots_of [] p hp h = tt
-dots_of (a ∷ ps) p hp h = (by_contraries (on (dot a) p) (stands_at p a) (dot_stands a p hp) h.0, dots_of ps p hp h.1)
+dots_of (a ∷ ps) p hp h = (by_contraries (on (dot a) p) (is_at p a) (dot_is_at a p hp) h.0, dots_of ps p hp h.1)
 
 -- a point off both geometries is off all their marks
 pub off_marks : (a b : Geometry) (p : Point) → IsPoint p → Off a p → Off b p → Each (λ e. on e p ≡ false) (marks a b)
 off_marks a b p hp h k = each_append (λ e. on e p ≡ false) (edges_of_both a b) (dots (listed a ++ listed b))
     (each_append (λ e. on e p ≡ false) (edges a) (edges b) h.edges_off k.edges_off)
-    (dots_of (listed a ++ listed b) p hp (each_append (λ q. stands_at p q ≡ false) (listed a) (listed b) h.listed_off k.listed_off))
+    (dots_of (listed a ++ listed b) p hp (each_append (λ q. is_at p q ≡ false) (listed a) (listed b) h.listed_off k.listed_off))
 
 off_from : (g : Geometry) (p : Point) → IsOff g p → Off g p
-off_from g p o = record { edges_off = each_from_all (λ e. on e p ≡ false) (edges g) o.edges; listed_off = each_from_all (λ a. stands_at p a ≡ false) (listed g) o.positions }
+off_from g p o = record { edges_off = each_from_all (λ e. on e p ≡ false) (edges g) o.edges; listed_off = each_from_all (λ a. is_at p a ≡ false) (listed g) o.positions }
 
 -- so around it there is a triangle of points that lie in both geometries where it does
 pub off_has_triangle : (a b : Geometry) → HasClosedRings a → HasClosedRings b → (p : Point) → IsPoint p → IsOff a p → IsOff b p → HasTriangle (common a (locate a p) b (locate b p))

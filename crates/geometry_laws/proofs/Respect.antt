@@ -7,7 +7,7 @@ use Rattle.geometry_model.specs.Points.{Position, Point, same_point, compare, po
 use Rattle.geometry_model.specs.Geometries.{Edge, Geometry, edges_of_lines, joined_rings}
 use Rattle.geometry_model.specs.Sides.{side, on, between}
 use Rattle.geometry_model.specs.Crossings.{exactly_one, reaches, spans, side_rightward, strictly_above, at_or_above, odd, odd_above, odd_at_or_above}
-use Rattle.geometry_model.specs.Locations.{stands_at, ends, on_some, in_points, in_lines, in_rings, locate}
+use Rattle.geometry_model.specs.Locations.{is_at, ends, on_some, in_points, in_lines, in_rings, locate}
 use Rattle.geometry_model.specs.declared.point_sets.Location.TheVariants.{Interior, Boundary, Exterior}
 use Rattle.integers.proofs.Ring.{solve, var, ◌⊖◌, ◌⊗◌}
 use Rattle.integers.proofs.Quotients.{at_most_scaled}
@@ -122,11 +122,11 @@ odd_at_or_above_respects rs p q hp hq h = ap (λ (f : Edge → Bool). odd (count
 
 -- ---- where a point lies
 -- whether it is at a position
-stands_at_respects : (a : Position) → Respects (λ p. stands_at p a)
-stands_at_respects a = by_scaling (λ p. stands_at p a) (λ k p h. same_point_scaled (point_at a) k p h)
+is_at_respects : (a : Position) → Respects (λ p. is_at p a)
+is_at_respects a = by_scaling (λ p. is_at p a) (λ k p h. same_point_scaled (point_at a) k p h)
 
-stands_respects : Respects stands_at
-stands_respects p q hp hq h = fun_ext (λ a. stands_at_respects a p q hp hq h)
+applies_respects : Respects is_at
+applies_respects p q hp hq h = fun_ext (λ a. is_at_respects a p q hp hq h)
 
 -- whether it is on some edge of lines or rings
 pub on_some_respects : (ls : List (List Position)) → Respects (on_some ls)
@@ -134,11 +134,11 @@ on_some_respects ls p q hp hq h = ap (λ (f : Edge → Bool). list_any f (edges_
 
 -- so where it lies in point types
 pub in_points_respects : (ps : List Position) → Respects (in_points ps)
-in_points_respects ps p q hp hq h = ap (λ (f : Position → Bool). if list_any f ps then Interior else Exterior) (stands_respects p q hp hq h)
+in_points_respects ps p q hp hq h = ap (λ (f : Position → Bool). if list_any f ps then Interior else Exterior) (applies_respects p q hp hq h)
 
 -- in lines, by the ends that are there and the edges that go through it
 pub in_lines_respects : (ls : List (List Position)) → Respects (in_lines ls)
-in_lines_respects ls p q hp hq h = ap₂ (λ (f : Position → Bool) (t : Bool). if odd (count_by f (flat_map ends ls)) then Boundary else if t then Interior else Exterior) (stands_respects p q hp hq h) (on_some_respects ls p q hp hq h)
+in_lines_respects ls p q hp hq h = ap₂ (λ (f : Position → Bool) (t : Bool). if odd (count_by f (flat_map ends ls)) then Boundary else if t then Interior else Exterior) (applies_respects p q hp hq h) (on_some_respects ls p q hp hq h)
 
 -- in areas, by the edges that go through it and the parity above it
 pub in_rings_respects : (rs : List (List Position)) → Respects (in_rings rs)

@@ -167,6 +167,6 @@ near_sides g s hs h k = go (moved_soon k down strictly_above at_or_above (marks 
       over_is_point = lifted_is_point (pos 1) m s (some k m o.more) hs;
       is_below = just_below k n s hs u.more;
       is_above = just_above k m s hs o.more;
-      under_stands = locate_off g (lifted down n s) (lifted_is_point down n s (some k n u.more) hs) (off_first g g (lifted down n s) (lifted_is_point down n s (some k n u.more) hs) u.off) ∙ below_from g s (lifted down n s) u.alike;
-      over_stands = locate_off g (lifted (pos 1) m s) (lifted_is_point (pos 1) m s (some k m o.more) hs) (off_first g g (lifted (pos 1) m s) (lifted_is_point (pos 1) m s (some k m o.more) hs) o.off) ∙ above_from g s (lifted (pos 1) m s) o.alike;
+      under_is = locate_off g (lifted down n s) (lifted_is_point down n s (some k n u.more) hs) (off_first g g (lifted down n s) (lifted_is_point down n s (some k n u.more) hs) u.off) ∙ below_from g s (lifted down n s) u.alike;
+      over_is = locate_off g (lifted (pos 1) m s) (lifted_is_point (pos 1) m s (some k m o.more) hs) (off_first g g (lifted (pos 1) m s) (lifted_is_point (pos 1) m s (some k m o.more) hs) o.off) ∙ above_from g s (lifted (pos 1) m s) o.alike;
     }

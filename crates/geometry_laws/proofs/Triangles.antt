@@ -5,7 +5,7 @@ use Rattle.geometry_model.specs.Points.{Position, Point, IsPoint, point_at}
 use Rattle.geometry_model.specs.Geometries.{Edge, Geometry, edges, listed, rings, joined_rings}
 use Rattle.geometry_model.specs.Sides.{on}
 use Rattle.geometry_model.specs.Dimensions.{weighted_three, HasTriangle, common}
-use Rattle.geometry_model.specs.Locations.{stands_at, locate}
+use Rattle.geometry_model.specs.Locations.{is_at, locate}
 use Rattle.geometry_model.specs.Labels.{above, edges_of_both}
 use Rattle.geometry_model.specs.declared.point_sets.Location.{Location}
 use Rattle.geometry_model.specs.declared.point_sets.Location.TheVariants.{Interior, Exterior}
@@ -28,8 +28,8 @@ abbrev pub dots : List Position → List Edge
 dots ps = map dot ps
 
 -- a point off the dot of a position isn't at the position
-dot_off : (a : Position) (p : Point) → IsPoint p → on (dot a) p ≡ false → stands_at p a ≡ false
-dot_off a p hp h = by_contraries (stands_at p a) (on (dot a) p) (start_is_on (dot a) p hp) h
+dot_off : (a : Position) (p : Point) → IsPoint p → on (dot a) p ≡ false → is_at p a ≡ false
+dot_off a p hp h = by_contraries (is_at p a) (on (dot a) p) (start_is_on (dot a) p hp) h
 
 -- a sum of one number with itself, over the sum of the weights, is that number
 pub dot_coordinate : (k m n a x w : ℤ) → pos 0 <ℤ k → k *ℤ x ≡ m *ℤ a +ℤ n *ℤ a → k *ℤ w ≡ m +ℤ n → a *ℤ w ≡ x *ℤ pos 1
@@ -41,10 +41,10 @@ dot_coordinate k m n a x w h e f = same (a *ℤ w) (x *ℤ pos 1) (cancel_zero k
     same x y e = omega (arith, ints)
 
 -- an edge without length holds its own position alone
-pub dot_stands : (a : Position) (p : Point) → IsPoint p → on (dot a) p ≡ true → stands_at p a ≡ true
-dot_stands a p hp h = go (hull_from_on (dot a) p hp h)
+pub dot_is_at : (a : Position) (p : Point) → IsPoint p → on (dot a) p ≡ true → is_at p a ≡ true
+dot_is_at a p hp h = go (hull_from_on (dot a) p hp h)
   where
-    go : OnHull (dot a) p → stands_at p a ≡ true
+    go : OnHull (dot a) p → is_at p a ≡ true
     go o = same_from (point_at a) p (dot_coordinate o.k o.m o.n a.x p.X p.W o.from_k o.x_is o.w_is) (dot_coordinate o.k o.m o.n a.y p.Y p.W o.from_k o.y_is o.w_is)
 
 -- ---- all edges and dots of two geometries
@@ -55,7 +55,7 @@ abbrev OffAll : List Edge → Point → Type 0
 OffAll es p = Each (λ e. on e p ≡ false) es
 
 -- so a point off all dots is at none of the positions
-dots_off : (ps : List Position) (p : Point) → IsPoint p → OffAll (dots ps) p → Each (λ a. stands_at p a ≡ false) ps
+dots_off : (ps : List Position) (p : Point) → IsPoint p → OffAll (dots ps) p → Each (λ a. is_at p a ≡ false) ps
 dots_off [] p hp h = tt
 dots_off (a ∷ ps) p hp h = (dot_off a p hp h.0, dots_off ps p hp h.1)
 
@@ -63,14 +63,14 @@ dots_off (a ∷ ps) p hp h = (dot_off a p hp h.0, dots_off ps p hp h.1)
 pub off_first : (a b : Geometry) (p : Point) → IsPoint p → OffAll (marks a b) p → Off a p
 off_first a b p hp h = record {
   edges_off = each_left (λ e. on e p ≡ false) (edges a) (edges b) (each_left (λ e. on e p ≡ false) (edges_of_both a b) (dots (listed a ++ listed b)) h);
-  listed_off = each_left (λ q. stands_at p q ≡ false) (listed a) (listed b) (dots_off (listed a ++ listed b) p hp (each_right (λ e. on e p ≡ false) (edges_of_both a b) (dots (listed a ++ listed b)) h));
+  listed_off = each_left (λ q. is_at p q ≡ false) (listed a) (listed b) (dots_off (listed a ++ listed b) p hp (each_right (λ e. on e p ≡ false) (edges_of_both a b) (dots (listed a ++ listed b)) h));
 }
 
 -- and off the second
 pub off_second : (a b : Geometry) (p : Point) → IsPoint p → OffAll (marks a b) p → Off b p
 off_second a b p hp h = record {
   edges_off = each_right (λ e. on e p ≡ false) (edges a) (edges b) (each_left (λ e. on e p ≡ false) (edges_of_both a b) (dots (listed a ++ listed b)) h);
-  listed_off = each_right (λ q. stands_at p q ≡ false) (listed a) (listed b) (dots_off (listed a ++ listed b) p hp (each_right (λ e. on e p ≡ false) (edges_of_both a b) (dots (listed a ++ listed b)) h));
+  listed_off = each_right (λ q. is_at p q ≡ false) (listed a) (listed b) (dots_off (listed a ++ listed b) p hp (each_right (λ e. on e p ≡ false) (edges_of_both a b) (dots (listed a ++ listed b)) h));
 }
 
 -- ---- the parity of a geometry's rings along a stretch that misses its edges

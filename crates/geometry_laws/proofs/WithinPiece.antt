@@ -8,7 +8,7 @@ use Rattle.geometry_model.specs.Geometries.{Edge, Geometry, edges, edges_of_line
 use Rattle.geometry_model.specs.Sides.{side, on, on_one_line}
 use Rattle.geometry_model.specs.Crossings.{exactly_one as xor, reaches as position_reaches, spans, side_rightward, strictly_above, at_or_above, odd, odd_above, odd_at_or_above}
 use Rattle.geometry_model.specs.Dimensions.{area}
-use Rattle.geometry_model.specs.Locations.{stands_at, ends, on_some, in_points, in_lines, locate}
+use Rattle.geometry_model.specs.Locations.{is_at, ends, on_some, in_points, in_lines, locate}
 use Rattle.geometry_model.specs.Labels.{above, below, is_upright}
 use Rattle.geometry_model.specs.CutPoints.IsCut.{AtEnd, Listed}
 use Rattle.geometry_model.specs.Pieces.{Piece, IsPiece}
@@ -32,14 +32,14 @@ use Rattle.geometry_laws.proofs.Cuts.{Ends, contains_of_among, OneLine, one_line
 
 -- ---- what is at a point within
 -- a listed position is a cut, so none is at a point strictly within a piece
-pub no_position_within : (es : List Edge) (ps : List Position) (c : Piece) (h : IsPiece es ps c) (x : Point) → Inside es ps c h x → (a : Position) → Among a ps → stands_at x a ≡ false
-no_position_within es ps c h x i a m = by_contraries (stands_at x a) false (λ k. absurd (h.neighbours x i.is_point i.is_on (Listed i.is_point a (contains_of_among a ps m) k) i.after i.before)) refl
+pub no_position_within : (es : List Edge) (ps : List Position) (c : Piece) (h : IsPiece es ps c) (x : Point) → Inside es ps c h x → (a : Position) → Among a ps → is_at x a ≡ false
+no_position_within es ps c h x i a m = by_contraries (is_at x a) false (λ k. absurd (h.neighbours x i.is_point i.is_on (Listed i.is_point a (contains_of_among a ps m) k) i.after i.before)) refl
 
 -- and so is an end of an edge
-no_end_within : (es : List Edge) (ps : List Position) (c : Piece) (h : IsPiece es ps c) (x : Point) → Inside es ps c h x → (g : Edge) → Among g es → (stands_at x g.start ≡ false) × (stands_at x g.end ≡ false)
+no_end_within : (es : List Edge) (ps : List Position) (c : Piece) (h : IsPiece es ps c) (x : Point) → Inside es ps c h x → (g : Edge) → Among g es → (is_at x g.start ≡ false) × (is_at x g.end ≡ false)
 no_end_within es ps c h x i g m = (
-  by_contraries (stands_at x g.start) false (λ k. absurd (h.neighbours x i.is_point i.is_on (AtEnd i.is_point g (contains_of_among g es m) (or_first (stands_at x g.start) (stands_at x g.end) k)) i.after i.before)) refl,
-  by_contraries (stands_at x g.end) false (λ k. absurd (h.neighbours x i.is_point i.is_on (AtEnd i.is_point g (contains_of_among g es m) (or_last (stands_at x g.start) (stands_at x g.end) k)) i.after i.before)) refl,
+  by_contraries (is_at x g.start) false (λ k. absurd (h.neighbours x i.is_point i.is_on (AtEnd i.is_point g (contains_of_among g es m) (or_first (is_at x g.start) (is_at x g.end) k)) i.after i.before)) refl,
+  by_contraries (is_at x g.end) false (λ k. absurd (h.neighbours x i.is_point i.is_on (AtEnd i.is_point g (contains_of_among g es m) (or_last (is_at x g.start) (is_at x g.end) k)) i.after i.before)) refl,
 )
 
 -- the edges and listed positions of a geometry are among all
@@ -50,15 +50,15 @@ pub record Belongs (es : List Edge) (ps : List Position) (g : Geometry) : Type 0
 -- ---- where two points within lie
 -- so a point within a piece is exterior to point types
 points_within : (es : List Edge) (ps : List Position) (c : Piece) (h : IsPiece es ps c) (x : Point) → Inside es ps c h x → (qs : List Position) → ((a : Position) → Among a qs → Among a ps) → in_points qs x ≡ Exterior
-points_within es ps c h x i qs f = ap (λ (t : Bool). if t then Interior else Exterior) (none_passes (stands_at x) qs (each_of (λ a. stands_at x a ≡ false) qs (λ a m. no_position_within es ps c h x i a (f a m))))
+points_within es ps c h x i qs f = ap (λ (t : Bool). if t then Interior else Exterior) (none_passes (is_at x) qs (each_of (λ a. is_at x a ≡ false) qs (λ a m. no_position_within es ps c h x i a (f a m))))
 
 -- lines and rings hold both points or neither, as each of their edges does
 on_some_within : (es : List Edge) (ps : List Position) (c : Piece) (h : IsPiece es ps c) → Ends c → (x y : Point) → Inside es ps c h x → Inside es ps c h y → (ls : List (List Position)) → ((e : Edge) → Among e (edges_of_lines ls) → Among e es) → on_some ls x ≡ on_some ls y
 on_some_within es ps c h d x y i j ls f = same_any (λ e. on e x) (λ e. on e y) (edges_of_lines ls) (each_of (λ e. on e x ≡ on e y) (edges_of_lines ls) (λ e m. same_on es ps c h d e x y (f e m) i j))
 
 -- no end of an edge is at a point within, so the number of the lines' ends there is even
-ends_within : (es : List Edge) (ps : List Position) (c : Piece) (h : IsPiece es ps c) (x : Point) → Inside es ps c h x → (ls : List (List Position)) → ((e : Edge) → Among e (edges_of_lines ls) → Among e es) → odd (count_by (stands_at x) (flat_map ends ls)) ≡ false
-ends_within es ps c h x i ls f = odd_count (stands_at x) (flat_map ends ls) ∙ all_ends_even ls x (each_of (λ e. (stands_at x e.start ≡ false) × (stands_at x e.end ≡ false)) (edges_of_lines ls) (λ e m. no_end_within es ps c h x i e (f e m)))
+ends_within : (es : List Edge) (ps : List Position) (c : Piece) (h : IsPiece es ps c) (x : Point) → Inside es ps c h x → (ls : List (List Position)) → ((e : Edge) → Among e (edges_of_lines ls) → Among e es) → odd (count_by (is_at x) (flat_map ends ls)) ≡ false
+ends_within es ps c h x i ls f = odd_count (is_at x) (flat_map ends ls) ∙ all_ends_even ls x (each_of (λ e. (is_at x e.start ≡ false) × (is_at x e.end ≡ false)) (edges_of_lines ls) (λ e m. no_end_within es ps c h x i e (f e m)))
 
 -- so both points lie alike in lines
 lines_within : (es : List Edge) (ps : List Position) (c : Piece) (h : IsPiece es ps c) → Ends c → (x y : Point) → Inside es ps c h x → Inside es ps c h y → (ls : List (List Position)) → ((e : Edge) → Among e (edges_of_lines ls) → Among e es) → in_lines ls x ≡ in_lines ls y

@@ -5,7 +5,7 @@ use Rattle.geometry_model.specs.Geometries.{Edge, Geometry, edges, listed}
 use Rattle.geometry_model.specs.Sides.{on}
 use Rattle.geometry_model.specs.Crossings.{strictly_above, at_or_above}
 use Rattle.geometry_model.specs.Dimensions.{area, weighted, weighted_three, HasTriangle, common}
-use Rattle.geometry_model.specs.Locations.{stands_at, locate}
+use Rattle.geometry_model.specs.Locations.{is_at, locate}
 use Rattle.geometry_model.specs.Labels.{above, below}
 use Rattle.geometry_laws.specs.PieceLaws.{HasClosedRings}
 
@@ -61,7 +61,7 @@ FirstIsAbove = (es : List Edge) (x : Point) → IsPoint x → All (λ e. strictl
 -- no vertical edge goes through the point, and no listed position is there
 pub record IsSlantAt (g : Geometry) (p : Point) : Type 0 where
   pub edges : All (λ e. on e p ≡ true → e.start.x ≡ e.end.x → ⊥) (edges g)
-  pub positions : All (λ a. stands_at p a ≡ false) (listed g)
+  pub positions : All (λ a. is_at p a ≡ false) (listed g)
 
 -- just below and just above such a point there are triangles of points that lie where `below` and `above` say
 abbrev pub SidesHaveTriangles : Type 0
@@ -82,19 +82,19 @@ pub record NearSides (g : Geometry) (s : Point) (k : ℕ) : Type 0 where
   pub over_is_point : IsPoint over
   pub is_below : IsJustBelow k under s
   pub is_above : IsJustBelow k s over
-  pub under_stands : locate g under ≡ below g s
-  pub over_stands : locate g over ≡ above g s
+  pub under_is : locate g under ≡ below g s
+  pub over_is : locate g over ≡ above g s
 
 -- straight below and straight above a point through which no vertical edge goes there are, arbitrarily near, points that lie where `below` and `above` say
 abbrev pub SidesAreNear : Type 0
 SidesAreNear = (g : Geometry) (s : Point) → IsPoint s → IsSlantAt g s → (k : ℕ) → NearSides g s k
 
 -- nearer than some 1/k, all points straight below s lie in g where `below` says, and all straight above it where `above` says
-pub record AllNearStand (g : Geometry) (s : Point) : Type 0 where
+pub record AreAllNear (g : Geometry) (s : Point) : Type 0 where
   pub k : ℕ
-  pub under_stand : (t : Point) → IsPoint t → IsJustBelow k t s → locate g t ≡ below g s
-  pub over_stand : (t : Point) → IsPoint t → IsJustBelow k s t → locate g t ≡ above g s
+  pub under_are : (t : Point) → IsPoint t → IsJustBelow k t s → locate g t ≡ below g s
+  pub over_are : (t : Point) → IsPoint t → IsJustBelow k s t → locate g t ≡ above g s
 
 -- straight below and straight above a point through which no vertical edge goes, all points near enough lie where `below` and `above` say
-abbrev pub NearPointsStandSo : Type 0
-NearPointsStandSo = (g : Geometry) (s : Point) → IsPoint s → IsSlantAt g s → AllNearStand g s
+abbrev pub NearPointsAreSo : Type 0
+NearPointsAreSo = (g : Geometry) (s : Point) → IsPoint s → IsSlantAt g s → AreAllNear g s

@@ -5,7 +5,7 @@ use Rattle.geometry_model.specs.Points.{Position, Point, IsPoint, compare}
 use Rattle.geometry_model.specs.Geometries.{Edge, Geometry, edges, listed, rings}
 use Rattle.geometry_model.specs.Sides.{on}
 use Rattle.geometry_model.specs.Dimensions.{HasTriangle, common}
-use Rattle.geometry_model.specs.Locations.{stands_at, locate}
+use Rattle.geometry_model.specs.Locations.{is_at, locate}
 use Rattle.geometry_model.specs.Labels.{above, below, is_upright, edges_of_both}
 use Rattle.geometry_model.specs.Pieces.{Piece, IsPiece}
 use Rattle.geometry_laws.specs.RingLaws.{IsClosed}
@@ -42,7 +42,7 @@ SidesAreConstant = (a b : Geometry) → HasClosedRings a → HasClosedRings b �
 -- no edge goes through the point, and no listed position is there
 pub record IsOff (g : Geometry) (p : Point) : Type 0 where
   pub edges : All (λ e. on e p ≡ false) (edges g)
-  pub positions : All (λ a. stands_at p a ≡ false) (listed g)
+  pub positions : All (λ a. is_at p a ≡ false) (listed g)
 
 -- around a point off both geometries there is a triangle of points that lie where it does
 abbrev pub OffHasTriangle : Type 0

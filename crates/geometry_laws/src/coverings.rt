@@ -1,6 +1,6 @@
 //! Laws of what finitely many points and lines don't cover, and of the first edge above a point.
 
-ghost use Rattle.geometry_laws.specs.CoverLaws.{PointsDontCover, LinesDontCover, FirstIsAbove, SidesHaveTriangles, SidesAreNear, NearPointsStandSo};
+ghost use Rattle.geometry_laws.specs.CoverLaws.{PointsDontCover, LinesDontCover, FirstIsAbove, SidesHaveTriangles, SidesAreNear, NearPointsAreSo};
 
 /// Finitely many points don't cover a segment.
 pub fn points_dont_cover()
@@ -28,6 +28,6 @@ pub fn sides_are_near()
 {}
 
 /// Straight below and straight above such a point, all points near enough lie where `below` and `above` say.
-pub fn near_points_stand_so()
-    ensures { NearPointsStandSo }
+pub fn near_points_are_so()
+    ensures { NearPointsAreSo }
 {}

@@ -7,7 +7,7 @@ use Rattle.geometry_model.specs.Points.{Position, Point}
 use Rattle.geometry_model.specs.Geometries.{Geometry, edges_of_lines, joined_rings}
 use Rattle.geometry_model.specs.Sides.{on}
 use Rattle.geometry_model.specs.Crossings.{odd_above}
-use Rattle.geometry_model.specs.Locations.{locate, part, stands_at, on_some, is_odd_end, in_lines, in_rings}
+use Rattle.geometry_model.specs.Locations.{locate, part, is_at, on_some, is_odd_end, in_lines, in_rings}
 use Rattle.geometry_model.specs.PointSets.{IsListed, LiesOn, IsOddEnd, IsInterior, IsBoundary, IsExterior}
 use Rattle.geometry_model.specs.declared.point_sets.Location.{Location}
 use Rattle.geometry_model.specs.declared.point_sets.Location.TheVariants.{Interior, Boundary, Exterior}
@@ -61,8 +61,8 @@ exterior_of Boundary I B h k = (λ e. absurd (not_boundary_off (sym e)), λ x. a
 exterior_of Exterior I B h k = (λ e. (λ x. not_interior_off (h.1 x), λ y. not_boundary_off (k.1 y)), λ x. refl)
 
 -- the tests and their facts
-listed : (ps : List Position) (p : Point) → (list_any (stands_at p) ps ≡ true) ↔ IsListed ps p
-listed ps p = (Any-from_list_any (stands_at p) ps, list_any-from_Any (stands_at p) ps)
+listed : (ps : List Position) (p : Point) → (list_any (is_at p) ps ≡ true) ↔ IsListed ps p
+listed ps p = (Any-from_list_any (is_at p) ps, list_any-from_Any (is_at p) ps)
 
 -- lying on an edge of lines or rings, as a test and as a fact
 lies_on : (ls : List (List Position)) (p : Point) → (on_some ls p ≡ true) ↔ LiesOn ls p
@@ -89,8 +89,8 @@ rings_boundary rs p = boundary_of_three (on_some rs p) (odd_above rs p) (LiesOn 
 
 -- the answer is interior exactly at the points of the interior, for each kind of geometry
 pub locates_interior : (g : Geometry) (p : Point) → (locate g p ≡ Interior) ↔ IsInterior g p
-locates_interior (Geometry.Point o) p = interior_of_two (list_any (stands_at p) (option_to_list o)) _ (listed (option_to_list o) p)
-locates_interior (Geometry.MultiPoint ps) p = interior_of_two (list_any (stands_at p) ps) _ (listed ps p)
+locates_interior (Geometry.Point o) p = interior_of_two (list_any (is_at p) (option_to_list o)) _ (listed (option_to_list o) p)
+locates_interior (Geometry.MultiPoint ps) p = interior_of_two (list_any (is_at p) ps) _ (listed ps p)
 locates_interior (Geometry.LineString ps) p = lines_interior (ps ∷ []) p
 locates_interior (Geometry.MultiLineString ls) p = lines_interior ls p
 locates_interior (Geometry.Polygon rs) p = rings_interior rs p
@@ -98,8 +98,8 @@ locates_interior (Geometry.MultiPolygon es) p = rings_interior (joined_rings es)
 
 -- it is boundary exactly at the points of the boundary
 pub locates_boundary : (g : Geometry) (p : Point) → (locate g p ≡ Boundary) ↔ IsBoundary g p
-locates_boundary (Geometry.Point o) p = boundary_of_two (list_any (stands_at p) (option_to_list o))
-locates_boundary (Geometry.MultiPoint ps) p = boundary_of_two (list_any (stands_at p) ps)
+locates_boundary (Geometry.Point o) p = boundary_of_two (list_any (is_at p) (option_to_list o))
+locates_boundary (Geometry.MultiPoint ps) p = boundary_of_two (list_any (is_at p) ps)
 locates_boundary (Geometry.LineString ps) p = lines_boundary (ps ∷ []) p
 locates_boundary (Geometry.MultiLineString ls) p = lines_boundary ls p
 locates_boundary (Geometry.Polygon rs) p = rings_boundary rs p

@@ -9,8 +9,8 @@ use Rattle.geometry_model.specs.declared.point_sets.Location.{Location}
 use Rattle.geometry_model.specs.declared.point_sets.Location.TheVariants.{Interior, Boundary, Exterior}
 
 -- the point is at the position (06-103r4, 6.1.4)
-abbrev pub stands_at : Point → Position → Bool
-stands_at p a = same_point (point_at a) p
+abbrev pub is_at : Point → Position → Bool
+is_at p a = same_point (point_at a) p
 
 -- the last position of a line that begins with a (06-103r4, 6.1.6.1)
 abbrev pub last_after : Position → List Position → Position
@@ -28,11 +28,11 @@ on_some ls p = list_any (λ e. on e p) (edges_of_lines ls)
 
 -- an odd number of line ends are at the point (06-103r4, 6.1.8.1: the mod 2 rule)
 abbrev pub is_odd_end : List (List Position) → Point → Bool
-is_odd_end ls p = odd (count_by (stands_at p) (flat_map ends ls))
+is_odd_end ls p = odd (count_by (is_at p) (flat_map ends ls))
 
 -- points: the listed ones are the interior, and the boundary is empty (06-103r4, 6.1.4 and 6.1.5)
 abbrev pub in_points : List Position → Point → Location
-in_points ps p = if list_any (stands_at p) ps then Interior else Exterior
+in_points ps p = if list_any (is_at p) ps then Interior else Exterior
 
 -- lines: the boundary is the odd ends; the interior is the rest of the lines (06-103r4, 6.1.6.1 and 6.1.8.1: the mod 2 rule)
 abbrev pub in_lines : List (List Position) → Point → Location

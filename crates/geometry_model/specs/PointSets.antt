@@ -4,11 +4,11 @@ use Rattle.geometry_model.specs.Points.{Position, Point}
 use Rattle.geometry_model.specs.Geometries.{Geometry, edges_of_lines, joined_rings}
 use Rattle.geometry_model.specs.Sides.{on}
 use Rattle.geometry_model.specs.Crossings.{odd_above}
-use Rattle.geometry_model.specs.Locations.{stands_at, is_odd_end}
+use Rattle.geometry_model.specs.Locations.{is_at, is_odd_end}
 
 -- the point is at one of the positions (06-103r4, 6.1.4 and 6.1.5)
 abbrev pub IsListed : List Position → Point → Type 0
-IsListed ps p = Any (λ a. IsTrue (stands_at p a)) ps
+IsListed ps p = Any (λ a. IsTrue (is_at p a)) ps
 
 -- the point lies on an edge of the lines or rings (06-103r4, 6.1.7)
 abbrev pub LiesOn : List (List Position) → Point → Type 0

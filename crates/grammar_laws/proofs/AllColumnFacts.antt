@@ -3,7 +3,7 @@ use Rattle.std.proofs.Common.{◌≡◌, ◌⊎◌, ◌<◌, inl, inr, ◌+◌, 
 use Rattle.std.specs.List.{enumerate_from, flat_map}
 use Rattle.table_model.specs.Binding.{all_items, columns_of, items_of}
 use Rattle.table_model.specs.BindingRules.{Then}
-use Rattle.table_model.specs.QueryRules.{AreAllColumns, AreInOrder, IsListed, StandsBefore}
+use Rattle.table_model.specs.QueryRules.{AreAllColumns, AreInOrder, IsListed, AppliesBefore}
 use Rattle.table_model.specs.declared.conditions.ColumnPlace.{ColumnPlace}
 use Rattle.table_model.specs.declared.conditions.Item.{Item}
 use Rattle.table_model.specs.declared.conditions.Item.TheVariants as items
@@ -53,7 +53,7 @@ listed_joined (x ∷ xs) ys v (inr is) = elim (listed_joined xs ys v is) [
 ]
 
 -- lists in order, of which each place of the first comes before each of the second, are in order when joined
-in_order_joined : (xs ys : List ColumnPlace) → AreInOrder xs → AreInOrder ys → ((a b : ColumnPlace) → IsListed xs a → IsListed ys b → StandsBefore a b) → AreInOrder (xs ++ ys)
+in_order_joined : (xs ys : List ColumnPlace) → AreInOrder xs → AreInOrder ys → ((a b : ColumnPlace) → IsListed xs a → IsListed ys b → AppliesBefore a b) → AreInOrder (xs ++ ys)
 in_order_joined [] ys are too apart = too
 in_order_joined (x ∷ xs) ys are too apart = (
   λ later is. elim (listed_joined xs ys later is) [
@@ -161,7 +161,7 @@ all_columns {T} schema references = record {
 -- ---- no other list is
 
 -- no two places come before one another
-never_both : (a b : ColumnPlace) → StandsBefore a b → StandsBefore b a → ⊥
+never_both : (a b : ColumnPlace) → AppliesBefore a b → AppliesBefore b a → ⊥
 never_both a b (inl is) (inl too) = omega arith
 never_both a b (inl is) (inr too) = less a.reference b.reference is too.0
   where
@@ -194,13 +194,13 @@ one_order (x ∷ xs) (y ∷ ys) are too to from = ap₂ (λ v vs. v ∷ vs) firs
 
     further : (v : ColumnPlace) → IsListed xs v → IsListed ys v
     further v is = elim (to v (inr is)) [
-      | inl same ↦ absurd (never_both x x (subst (λ p. StandsBefore x p) (sym same ∙ sym first) (are.0 v is)) (subst (λ p. StandsBefore x p) (sym same ∙ sym first) (are.0 v is)))
+      | inl same ↦ absurd (never_both x x (subst (λ p. AppliesBefore x p) (sym same ∙ sym first) (are.0 v is)) (subst (λ p. AppliesBefore x p) (sym same ∙ sym first) (are.0 v is)))
       | inr behind ↦ behind
     ]
 
     back : (v : ColumnPlace) → IsListed ys v → IsListed xs v
     back v is = elim (from v (inr is)) [
-      | inl same ↦ absurd (never_both y y (subst (λ p. StandsBefore y p) (sym same ∙ first) (too.0 v is)) (subst (λ p. StandsBefore y p) (sym same ∙ first) (too.0 v is)))
+      | inl same ↦ absurd (never_both y y (subst (λ p. AppliesBefore y p) (sym same ∙ first) (too.0 v is)) (subst (λ p. AppliesBefore y p) (sym same ∙ first) (too.0 v is)))
       | inr behind ↦ behind
     ]
 
@@ -232,7 +232,7 @@ items_are schema k (reference ∷ references) =
 pub all_agree : {T D : Type 0} (schema : List (TableDef T)) (references : List Reference)
     → Agrees (Then (AreAllColumns schema references) (λ places listed. listed ≡ map items.Column places)) (λ fault. ⊥) (Ok (all_items {D = D} schema references))
 all_agree schema references = record {
-  stands = (places_of schema 0 references, all_columns schema references, items_are schema 0 references);
+  applies = (places_of schema 0 references, all_columns schema references, items_are schema 0 references);
   refused = tt;
   answers = λ listed is. ap Ok (items_are schema 0 references
       ∙ ap (map items.Column) (one_order (places_of schema 0 references) is.0 (all_columns schema references).in_order is.1.in_order

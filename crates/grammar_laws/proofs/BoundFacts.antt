@@ -97,11 +97,11 @@ if_some false x y P is other = other
 -- the column of a name has the type that is found
 named : {T : Type 0} (name : List ℕ) (all : List (ColumnDef T)) (k : ℕ) (columns : List (ColumnDef T)) → ((i : ℕ) → slice_get all (i + k) ≡ slice_get columns i)
     → IfSome (column_named name k columns) (λ f. column_type (slice_get all f.0) ≡ Some f.1)
-named name all k [] stands = tt
-named name all k (column ∷ columns) stands =
+named name all k [] applies = tt
+named name all k (column ∷ columns) applies =
     if_some (same_name column.name name) (Some (k, type_of column.column_type)) (column_named name (k + 1) columns) (λ f. column_type (slice_get all f.0) ≡ Some f.1)
-    (ap (λ n. column_type (slice_get all n)) (at_start k) ∙ ap column_type (stands zero))
-    (named name all (k + 1) columns (λ i. ap (slice_get all) (one_on i k) ∙ stands (suc i)))
+    (ap (λ n. column_type (slice_get all n)) (at_start k) ∙ ap column_type (applies zero))
+    (named name all (k + 1) columns (λ i. ap (slice_get all) (one_on i k) ∙ applies (suc i)))
   where
     at_start : (n : ℕ) → n ≡ zero + n
     at_start n = omega arith
@@ -125,13 +125,13 @@ each_kept P (Some x) xs is are = (is, are)
 -- so each column that is meant in some references has its type at its place
 meant : {T : Type 0} (schema : List (TableDef T)) (references : List Reference) (w : WrittenColumn) (k : ℕ) (rs : List Reference) → ((i : ℕ) → slice_get references (i + k) ≡ slice_get rs i)
     → Each (HasType schema references) (columns_meant schema w k rs)
-meant schema references w k [] stands = tt
-meant schema references w k (r ∷ rs) stands =
+meant schema references w k [] applies = tt
+meant schema references w k (r ∷ rs) applies =
     each_kept (HasType schema references) (column_meant schema w k r) (columns_meant schema w (k + 1) rs)
     (if_some (refers_to w.reference r.name) (found_in k (column_named w.name.text zero (columns_of schema r))) None (HasType schema references)
-    (in_reference schema references k r (column_named w.name.text zero (columns_of schema r)) (ap (slice_get references) (at_start k) ∙ stands zero)
+    (in_reference schema references k r (column_named w.name.text zero (columns_of schema r)) (ap (slice_get references) (at_start k) ∙ applies zero)
     (named w.name.text (columns_of schema r) zero (columns_of schema r) (λ i. ap (slice_get (columns_of schema r)) (at_end i)))) tt)
-    (meant schema references w (k + 1) rs (λ i. ap (slice_get references) (one_on i k) ∙ stands (suc i)))
+    (meant schema references w (k + 1) rs (λ i. ap (slice_get references) (one_on i k) ∙ applies (suc i)))
   where
     at_start : (n : ℕ) → n ≡ zero + n
     at_start n = omega arith
@@ -331,11 +331,11 @@ every P always (x ∷ xs) = (always x, every P always xs)
 in_columns : {T A D : Type 0} (fits : GeometryFits T A D) (schema : List (TableDef T)) (references : List Reference) (k : ℕ) (r : Reference) → slice_get references k ≡ Some r
     → (j : ℕ) (columns : List (ColumnDef T)) → ((i : ℕ) → slice_get (columns_of schema r) (i + j) ≡ slice_get columns i)
     → list_all (item_fits fits schema references) (map (λ c. items.Column (record { reference = k; column = c.0 })) (enumerate_from j columns)) ≡ true
-in_columns fits schema references k r is j [] stands = refl
-in_columns fits schema references k r is j (column ∷ columns) stands =
+in_columns fits schema references k r is j [] applies = refl
+in_columns fits schema references k r is j (column ∷ columns) applies =
     both _ _
-    (ap (λ o. is_some (column_type (slice_get (reference_columns schema o) j))) is ∙ ap (λ n. is_some (column_type (slice_get (columns_of schema r) n))) (at_start j) ∙ ap (λ o. is_some (column_type o)) (stands zero))
-    (in_columns fits schema references k r is (j + 1) columns (λ i. ap (slice_get (columns_of schema r)) (one_on i j) ∙ stands (suc i)))
+    (ap (λ o. is_some (column_type (slice_get (reference_columns schema o) j))) is ∙ ap (λ n. is_some (column_type (slice_get (columns_of schema r) n))) (at_start j) ∙ ap (λ o. is_some (column_type o)) (applies zero))
+    (in_columns fits schema references k r is (j + 1) columns (λ i. ap (slice_get (columns_of schema r)) (one_on i j) ∙ applies (suc i)))
   where
     at_start : (n : ℕ) → n ≡ zero + n
     at_start n = omega arith
@@ -346,11 +346,11 @@ in_columns fits schema references k r is j (column ∷ columns) stands =
 -- so all that the asterisk lists is there, reference by reference
 in_references : {T A D : Type 0} (fits : GeometryFits T A D) (schema : List (TableDef T)) (references : List Reference) (k : ℕ) (rs : List Reference) → ((i : ℕ) → slice_get references (i + k) ≡ slice_get rs i)
     → list_all (item_fits fits schema references) (flat_map (λ r. items_of r.0 (columns_of schema r.1)) (enumerate_from k rs)) ≡ true
-in_references fits schema references k [] stands = refl
-in_references fits schema references k (r ∷ rs) stands =
+in_references fits schema references k [] applies = refl
+in_references fits schema references k (r ∷ rs) applies =
     all_joined (item_fits fits schema references) (items_of k (columns_of schema r)) (flat_map (λ r. items_of r.0 (columns_of schema r.1)) (enumerate_from (k + 1) rs))
-    (in_columns fits schema references k r (ap (slice_get references) (at_start k) ∙ stands zero) zero (columns_of schema r) (λ i. ap (slice_get (columns_of schema r)) (at_end i)))
-    (in_references fits schema references (k + 1) rs (λ i. ap (slice_get references) (one_on i k) ∙ stands (suc i)))
+    (in_columns fits schema references k r (ap (slice_get references) (at_start k) ∙ applies zero) zero (columns_of schema r) (λ i. ap (slice_get (columns_of schema r)) (at_end i)))
+    (in_references fits schema references (k + 1) rs (λ i. ap (slice_get references) (one_on i k) ∙ applies (suc i)))
   where
     at_start : (n : ℕ) → n ≡ zero + n
     at_start n = omega arith
@@ -499,11 +499,11 @@ pub geometry_queries_are_bound : GeometryQueriesAreBound
 geometry_queries_are_bound definitions query few = binding_ok geometry_binding geometry_fits geometry_fitting definitions query few
 
 -- where a call that may run out of memory answers, its answer is the one that was to be given
-answered : {X : Type 0} (r s : Checked X) (P : X → Type 0) → IfOk s P → Gives query_fault.OutOfMemory (λ x. x) r s → IfOk r P
-answered (Ok x) s P is gives = subst (λ t. IfOk t P) gives is
-answered (Err e) s P is gives = tt
+returned : {X : Type 0} (r s : Checked X) (P : X → Type 0) → IfOk s P → Gives query_fault.OutOfMemory (λ x. x) r s → IfOk r P
+returned (Ok x) s P is gives = subst (λ t. IfOk t P) gives is
+returned (Err e) s P is gives = tt
 
 -- a binder that returns what binding gives, or runs out of memory, returns what is bound to these definitions
 pub geometry_answer_is_bound : (definitions : List (TableDef ColumnShape)) (query : Query WrittenGeometry WrittenColumn) (r : Checked (Bound (GeometryArgument Geometry) ColumnPlace))
     → AreOneOrTwo query.references → Gives query_fault.OutOfMemory (λ b. b) r (binding geometry_binding definitions query) → IfOk r (IsBound geometry_fits definitions)
-geometry_answer_is_bound definitions query r few gives = answered r (binding geometry_binding definitions query) (IsBound geometry_fits definitions) (geometry_queries_are_bound definitions query few) gives
+geometry_answer_is_bound definitions query r few gives = returned r (binding geometry_binding definitions query) (IsBound geometry_fits definitions) (geometry_queries_are_bound definitions query few) gives

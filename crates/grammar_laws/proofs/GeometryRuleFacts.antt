@@ -18,20 +18,20 @@ use Rattle.table_model.specs.declared.typing.OperandType.TheVariants as types
 use Rattle.grammar_laws.specs.RuleLaws.{Agrees, GeometryAgrees, ConditionsAgree}
 use Rattle.grammar_laws.proofs.CondRules.{cond_agrees}
 use Rattle.grammar_laws.proofs.NameFacts.{columns_agree}
-use Rattle.grammar_laws.proofs.RuleFacts.{answered}
+use Rattle.grammar_laws.proofs.RuleFacts.{returned}
 
 -- a geometry's text is bound to the geometry that is read from it, or refused with the fault of the text or of the geometry
 literal_agrees : (at : ℕ) (r : Result Geometry GeometryFault)
     → Agrees (λ typed. (g : Geometry) × (r ≡ Ok g) × (typed ≡ record { part = arguments.Literal g; part_type = types.Geometry }))
     (λ fault. (reason : GeometryFault) × (r ≡ Err reason) × (fault ≡ faults.BadGeometry at reason)) (literal at r)
 literal_agrees at (Ok g) = record {
-  stands = (g, refl, refl);
+  applies = (g, refl, refl);
   refused = tt;
   answers = λ typed is. ap (literal at) is.1 ∙ ap Ok (sym is.2);
   refuses = λ fault is. ap (literal at) is.1 ∙ ap Err (sym is.2);
 }
 literal_agrees at (Err e) = record {
-  stands = tt;
+  applies = tt;
   refused = (e, refl, refl);
   answers = λ typed is. ap (literal at) is.1 ∙ ap Ok (sym is.2);
   refuses = λ fault is. ap (literal at) is.1 ∙ ap Err (sym is.2);
@@ -40,13 +40,13 @@ literal_agrees at (Err e) = record {
 -- a pattern's text is bound to its pattern, or refused where it writes none
 pattern_agrees : (at : ℕ) (o : Option Pattern) → Agrees (λ pattern. o ≡ Some pattern) (λ fault. (o ≡ None) × (fault ≡ faults.BadPattern at)) (pattern_or at o)
 pattern_agrees at (Some p) = record {
-  stands = refl;
+  applies = refl;
   refused = tt;
   answers = λ pattern is. ap (pattern_or at) is;
   refuses = λ fault is. ap (pattern_or at) is.0 ∙ ap Err (sym is.1);
 }
 pattern_agrees at None = record {
-  stands = tt;
+  applies = tt;
   refused = (refl, refl);
   answers = λ pattern is. ap (pattern_or at) is;
   refuses = λ fault is. ap (pattern_or at) is.0 ∙ ap Err (sym is.1);
@@ -56,14 +56,14 @@ pattern_agrees at None = record {
 argument_agrees : (schema : List (TableDef ColumnShape)) (references : List Reference) (a : WrittenGeometry)
     → Agrees (IsGeometryArgument schema references a) (IsRefusedGeometryArgument schema references a) (bound_argument schema references a)
 argument_agrees schema references (written_geometry.Column w) =
-    answered (IsBoundColumn schema references w) (IsRefusedColumn schema references w) (bound_column schema references w) (λ found. record { part = arguments.Column found.place; part_type = found.column_type }) (columns_agree ColumnShape schema references w)
+    returned (IsBoundColumn schema references w) (IsRefusedColumn schema references w) (bound_column schema references w) (λ found. record { part = arguments.Column found.place; part_type = found.column_type }) (columns_agree ColumnShape schema references w)
 argument_agrees schema references (written_geometry.FromText string) = literal_agrees string.at (geometry_in_text (unquoted string.text))
 
 -- so arguments of conditions, arguments of items and patterns all agree with their rules
 pub geometry_agrees : GeometryAgrees geometry_rules geometry_binding
 geometry_agrees = record {
   argument = argument_agrees;
-  item_argument = λ schema references w. answered (IsBoundColumn schema references w) (IsRefusedColumn schema references w) (bound_column schema references w) (λ found. record { part = found.place; part_type = found.column_type }) (columns_agree ColumnShape schema references w);
+  item_argument = λ schema references w. returned (IsBoundColumn schema references w) (IsRefusedColumn schema references w) (bound_column schema references w) (λ found. record { part = found.place; part_type = found.column_type }) (columns_agree ColumnShape schema references w);
   pattern = λ string. pattern_agrees string.at (pattern_of_text (unquoted string.text));
 }
 

@@ -17,7 +17,7 @@ use Rattle.table_model.specs.declared.queries.WrittenItem.TheVariants as written
 use Rattle.grammar_laws.specs.RuleLaws.{Agrees, GeometryAgrees}
 use Rattle.grammar_laws.proofs.AllColumnFacts.{all_agree}
 use Rattle.grammar_laws.proofs.NameFacts.{columns_agree}
-use Rattle.grammar_laws.proofs.RuleFacts.{answered, geometry_agrees, pure, sequence}
+use Rattle.grammar_laws.proofs.RuleFacts.{returned, geometry_agrees, pure, sequence}
 
 -- ---- one item
 
@@ -27,13 +27,13 @@ function_agrees : {T A B C D : Type 0} (rules : GeometryRules T A B C D) (how : 
     (how.item_argument schema references a >>= (λ typed. geometry_only at typed >>= (λ x. Ok (made x))))
 function_agrees rules how agrees schema references at a made =
     sequence (rules.IsItemArgument schema references a) (rules.IsRefusedItemArgument schema references a) _ _ (how.item_argument schema references a) _ (agrees.item_argument schema references a)
-    (λ argument is. answered (IsGeometryPart argument) (IsNoGeometry at argument) (geometry_only at argument) made (geometry_agrees at argument))
+    (λ argument is. returned (IsGeometryPart argument) (IsNoGeometry at argument) (geometry_only at argument) made (geometry_agrees at argument))
 
 -- an item is a column or one of the three functions of a geometry
 item_agrees : {T A B C D : Type 0} (rules : GeometryRules T A B C D) (how : GeometryBinding T A B C D) → GeometryAgrees rules how → (schema : List (TableDef T)) (references : List Reference) (w : WrittenItem C)
     → Agrees (IsBoundItem rules schema references w) (IsRefusedItem rules schema references w) (bound_item how schema references w)
 item_agrees {T = T} rules how agrees schema references (written_item.Column w) =
-    answered (IsBoundColumn schema references w) (IsRefusedColumn schema references w) (bound_column schema references w) (λ found. items.Column found.place) (columns_agree T schema references w)
+    returned (IsBoundColumn schema references w) (IsRefusedColumn schema references w) (bound_column schema references w) (λ found. items.Column found.place) (columns_agree T schema references w)
 item_agrees rules how agrees schema references (written_item.AsText at a) = function_agrees rules how agrees schema references at a items.AsText
 item_agrees rules how agrees schema references (written_item.Dimension at a) = function_agrees rules how agrees schema references at a items.Dimension
 item_agrees rules how agrees schema references (written_item.IsEmpty at a) = function_agrees rules how agrees schema references at a items.IsEmpty
@@ -63,19 +63,19 @@ one_refused Is Refused x xs (Ok y) (Err e) a b = (suc b.0, b.1, ((λ f. not_both
 one_refused Is Refused x xs (Err e) s a b = (zero, x, (refl, (e, a.refused)), a.refused)
 
 -- where it and all behind it are bound, so are all
-one_stands : {X Y : Type 0} (Is : X → Y → Type 0) (Refused : X → QueryFault → Type 0) (x : X) (xs : List X) (r : Checked Y) (s : Checked (List Y))
+one_applies : {X Y : Type 0} (Is : X → Y → Type 0) (Refused : X → QueryFault → Type 0) (x : X) (xs : List X) (r : Checked Y) (s : Checked (List Y))
     → IfOk r (Is x) → IfOk s (AllZip Is xs) → IfOk (both r s) (AllZip Is (x ∷ xs))
 unfolding both
-one_stands Is Refused x xs (Ok y) (Ok ys) a b = (a, b)
-one_stands Is Refused x xs (Ok y) (Err e) a b = tt
-one_stands Is Refused x xs (Err e) s a b = tt
+one_applies Is Refused x xs (Ok y) (Ok ys) a b = (a, b)
+one_applies Is Refused x xs (Ok y) (Err e) a b = tt
+one_applies Is Refused x xs (Err e) s a b = tt
 
 -- the other way round: what the rules bind all to, item by item, is returned
-one_answers : {X Y : Type 0} (Is : X → Y → Type 0) (Refused : X → QueryFault → Type 0) (x : X) (xs : List X) (r : Checked Y) (s : Checked (List Y)) → Agrees (Is x) (Refused x) r
+one_returns : {X Y : Type 0} (Is : X → Y → Type 0) (Refused : X → QueryFault → Type 0) (x : X) (xs : List X) (r : Checked Y) (s : Checked (List Y)) → Agrees (Is x) (Refused x) r
     → Agrees (AllZip Is xs) (FirstOf Refused xs) s → (ys : List Y) → AllZip Is (x ∷ xs) ys → both r s ≡ Ok ys
 unfolding both
-one_answers Is Refused x xs r s a b [] is = absurd is
-one_answers Is Refused x xs r s a b (y ∷ ys) is = ap₂ (λ q t. and_then q (λ z. and_then t (λ zs. Ok (z ∷ zs)))) (a.answers y is.0) (b.answers ys is.1)
+one_returns Is Refused x xs r s a b [] is = absurd is
+one_returns Is Refused x xs r s a b (y ∷ ys) is = ap₂ (λ q t. and_then q (λ z. and_then t (λ zs. Ok (z ∷ zs)))) (a.answers y is.0) (b.answers ys is.1)
 
 -- and the fault of the first item that the rules refuse is returned, since those before it are bound
 one_refuses : {X Y : Type 0} (Is : X → Y → Type 0) (Refused : X → QueryFault → Type 0) (x : X) (xs : List X) (r : Checked Y) (s : Checked (List Y)) → Agrees (Is x) (Refused x) r
@@ -89,15 +89,15 @@ one_refuses Is Refused x xs (Ok y) s a b fault (suc place) item first refused = 
 pub each_agrees : {X Y : Type 0} (Is : X → Y → Type 0) (Refused : X → QueryFault → Type 0) (f : X → Checked Y) → ((x : X) → Agrees (Is x) (Refused x) (f x)) → (xs : List X)
     → Agrees (AllZip Is xs) (λ fault. (place : ℕ) × (x : X) × IsFirst (λ w. (e : QueryFault) × Refused w e) xs place x × Refused x fault) (each (map f xs))
 unfolding both FirstOf
-each_agrees {X} {Y} Is Refused f agrees [] = record { stands = tt; refused = tt; answers = none; refuses = λ fault is. absurd is.2 }
+each_agrees {X} {Y} Is Refused f agrees [] = record { applies = tt; refused = tt; answers = none; refuses = λ fault is. absurd is.2 }
   where
     none : (ys : List Y) → AllZip Is [] ys → each (map f []) ≡ Ok ys
     none [] is = refl
     none (y ∷ ys) is = absurd is
 each_agrees Is Refused f agrees (x ∷ xs) = record {
-  stands = one_stands Is Refused x xs (f x) (each (map f xs)) (agrees x).stands (each_agrees Is Refused f agrees xs).stands;
+  applies = one_applies Is Refused x xs (f x) (each (map f xs)) (agrees x).applies (each_agrees Is Refused f agrees xs).applies;
   refused = one_refused Is Refused x xs (f x) (each (map f xs)) (agrees x) (each_agrees Is Refused f agrees xs).refused;
-  answers = one_answers Is Refused x xs (f x) (each (map f xs)) (agrees x) (each_agrees Is Refused f agrees xs);
+  answers = one_returns Is Refused x xs (f x) (each (map f xs)) (agrees x) (each_agrees Is Refused f agrees xs);
   refuses = λ fault is. one_refuses Is Refused x xs (f x) (each (map f xs)) (agrees x) (each_agrees Is Refused f agrees xs) fault is.0 is.1 is.2 is.3;
 }
 

@@ -214,8 +214,8 @@ same_fault schema references w d e (inr is) (inr too) = is.1 ∙ sym too.1
 -- rules that say one thing at most are what is returned, where what is returned they say
 pub agreed : {X : Type 0} (Is : X → Type 0) (Refused : QueryFault → Type 0) (r : Checked X) → IfOk r Is → IfErr r Refused
     → ((x y : X) → Is x → Is y → x ≡ y) → ((x : X) (e : QueryFault) → Is x → Refused e → ⊥) → ((d e : QueryFault) → Refused d → Refused e → d ≡ e) → Agrees Is Refused r
-agreed Is Refused (Ok x) is none one either fault = record { stands = is; refused = tt; answers = λ y too. ap Ok (one x y is too); refuses = λ e refused. absurd (either x e is refused) }
-agreed Is Refused (Err d) none is one either fault = record { stands = tt; refused = is; answers = λ y too. absurd (either y d too is); refuses = λ e refused. ap Err (fault d e is refused) }
+agreed Is Refused (Ok x) is none one either fault = record { applies = is; refused = tt; answers = λ y too. ap Ok (one x y is too); refuses = λ e refused. absurd (either x e is refused) }
+agreed Is Refused (Err d) none is one either fault = record { applies = tt; refused = is; answers = λ y too. absurd (either y d too is); refuses = λ e refused. ap Err (fault d e is refused) }
 
 -- what is returned the rules say, and they say one thing at most
 pub columns_agree : (T : Type 0) → ColumnsAgree T

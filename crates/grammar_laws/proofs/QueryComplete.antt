@@ -1232,12 +1232,12 @@ no_left : (kind known : TokenKind) → kind ≡ known → same_kind known k.Left
 no_left kind known e h = rw e h
 
 -- EXPLAIN and ANALYZE are read as they are written: SELECT, which follows, is neither
-pub explained_complete : (told : Explain) (used : List Token) (t : Token) (rest : List Token) → IsExplain told used → t.kind ≡ k.Select
-    → explained (used ++ t ∷ rest) ≡ Ok (told, t ∷ rest)
+pub explained_complete : (said : Explain) (used : List Token) (t : Token) (rest : List Token) → IsExplain said used → t.kind ≡ k.Select
+    → explained (used ++ t ∷ rest) ≡ Ok (said, t ∷ rest)
 unfolding same_kind next
-explained_complete told used t rest (inl (e, none)) select =
+explained_complete said used t rest (inl (e, none)) select =
     rw (none, says_select (codes "EXPLAIN") t rest select, e) refl
-explained_complete told used t rest (inr (inl (e, p))) select =
+explained_complete said used t rest (inr (inl (e, p))) select =
     let word = one_only _ used p in
     rw (
       word.1,
@@ -1245,7 +1245,7 @@ explained_complete told used t rest (inr (inl (e, p))) select =
       says_select (codes "ANALYZE") t rest select,
       e,
     ) refl
-explained_complete told used t rest (inr (inr (e, p))) select =
+explained_complete said used t rest (inr (inr (e, p))) select =
     let first = one_first _ (IsWord (codes "ANALYZE")) used p in
     let last = one_only _ first.1 first.4 in
     rw (
@@ -1419,14 +1419,14 @@ second_begins both a b ts e (inr (inr (given, x, ex, ey, (a1, b1, e1, inr p, q))
 -- ---- queries as a whole
 
 -- a query, where each step of its reader reads its part
-query_by_steps : (told : Explain) (listed : Selection WrittenColumn) (first : WrittenReference) (both : Second)
+query_by_steps : (said : Explain) (listed : Selection WrittenColumn) (first : WrittenReference) (both : Second)
     (filter : Option Condition) (most : Option ℕ) (ts ts0 ts1 ts2 ts3 ts4 ts5 ts6 tail : List Token)
-    → explained ts ≡ Ok (told, ts0) → expect fault.Syntax k.Select ts0 ≡ Ok (tt, ts1) → selection ts1 ≡ Ok (listed, ts2) → expect fault.Syntax k.From ts2 ≡ Ok (tt, ts3)
+    → explained ts ≡ Ok (said, ts0) → expect fault.Syntax k.Select ts0 ≡ Ok (tt, ts1) → selection ts1 ≡ Ok (listed, ts2) → expect fault.Syntax k.From ts2 ≡ Ok (tt, ts3)
     → reference ts3 ≡ Ok (first, ts4) → second ts4 ≡ Ok (both, ts5) → where_condition ts5 ≡ Ok (filter, ts6) → limited ts6 ≡ Ok (most, tail)
     → expect fault.Syntax k.End (after k.Semicolon tail) ≡ Ok (tt, [])
-    → query ts ≡ Ok (record { explain = told; selection = listed; references = first ∷ both.0; on = both.1; condition = filter; limit = most }, [])
+    → query ts ≡ Ok (record { explain = said; selection = listed; references = first ∷ both.0; on = both.1; condition = filter; limit = most }, [])
 unfolding query
-query_by_steps told listed first both filter most ts ts0 ts1 ts2 ts3 ts4 ts5 ts6 tail e0 e1 e2 e3 e4 e5 e6 e7 e8 = rw (e0, e1, e2, e3, e4, e5, e6, e7, e8) refl
+query_by_steps said listed first both filter most ts ts0 ts1 ts2 ts3 ts4 ts5 ts6 tail e0 e1 e2 e3 e4 e5 e6 e7 e8 = rw (e0, e1, e2, e3, e4, e5, e6, e7, e8) refl
 
 -- from LIMIT on
 abbrev pub Rest6 : Option ℕ → List Token → Type 0
@@ -1494,14 +1494,14 @@ with_references ts q references is =
 
 -- each rule is read as far as its phrase goes, by the token that comes after it
 pub select_complete : (q : SelectQuery) (ts : List Token) → IsSelect q ts → query ts ≡ Ok (q, [])
-select_complete q ts (a0, b0, e0, told, p) = at_select (one_first _ _ b0 p)
+select_complete q ts (a0, b0, e0, said, p) = at_select (one_first _ _ b0 p)
   where
     at_reference : (m : Token) (ts1 a1 : List Token) (n : Token) (ts3 : List Token) → b0 ≡ m ∷ ts1 → m.kind ≡ k.Select → ts1 ≡ a1 ++ n ∷ ts3 → n.kind ≡ k.From → IsSelection q.selection a1
         → ((first : WrittenReference) × (later : List WrittenReference) × (q.references ≡ first ∷ later) × (IsReference first ▸ IsSecond later q.on ▸ IsRest q) ts3) → query ts ≡ Ok (q, [])
     at_reference m ts1 a1 n ts3 e1 s cut f l1 (first, later, is, (a, b, e, r, w)) =
         let more = rest4 (later, q.on) q.condition q.limit b w in
         with_references ts q (first ∷ later) is (query_by_steps q.explain q.selection first (later, q.on) q.condition q.limit ts (m ∷ ts1) ts1 (n ∷ ts3) ts3 b more.0 more.2.0 more.2.2.0
-        (ap explained (e0 ∙ ap (λ l. a0 ++ l) e1) ∙ explained_complete q.explain a0 m ts1 told s)
+        (ap explained (e0 ∙ ap (λ l. a0 ++ l) e1) ∙ explained_complete q.explain a0 m ts1 said s)
         (expect_read k.Select m ts1 s)
         (ap selection cut ∙ selection_complete q.selection a1 n ts3 l1 (from_ends n.kind f))
         (expect_read k.From n ts3 f)

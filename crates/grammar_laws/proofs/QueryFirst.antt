@@ -19,7 +19,7 @@ use Rattle.table_model.specs.Outcomes.{Gives}
 use Rattle.table_model.specs.Parsers.{kind, place, spelling, next, sees, after, and_then, expect, parts_from}
 use Rattle.table_model.specs.QueryGrammar.{IsDigits, IsOperand, IsBool, IsPredicateOf, IsPredicate, IsChain, IsConjunction, IsConditionOf, IsNegationOf, IsNegation, IsCondition, IsSelection, IsReference, IsCrossed}
 use Rattle.table_model.specs.QueryReading.{Reader, integer, integer_value, operand, explained, selection, reference, comparison_of, compared, comparison, predicate_functions, predicate, chain, conjunction, condition_of, group, negation, most_levels, condition, Second, joined_on, second, where_condition, limit_value, limit_number, limited, query, bad_place, query_of}
-use Rattle.table_model.specs.QueryRefusals.{IsAnyInteger, IsAnyOperand, IsAnyNegation, IsAnyCondition, BeforeSecond, BeforeOn, ThroughFrom, BeforeWhere, IsAnyWhere, BeforeLimit, AreParts, BeforeNegation, BeforeOperand, StandsAt, StandsIn, is_at_token, AnswersFirst}
+use Rattle.table_model.specs.QueryRefusals.{IsAnyInteger, IsAnyOperand, IsAnyNegation, IsAnyCondition, BeforeSecond, BeforeOn, ThroughFrom, BeforeWhere, IsAnyWhere, BeforeLimit, AreParts, BeforeNegation, BeforeOperand, AppliesAt, AppliesIn, is_at_token, ReturnsFirst}
 use Rattle.table_model.specs.Queries.{Condition, ConditionOperand, SelectQuery}
 use Rattle.table_model.specs.Tokens.{same_kind, tokens, most_bytes}
 use Rattle.grammar_laws.proofs.QuerySound.{Begins, one_begins, seq_begins, BeginsOperand, operand_begins}
@@ -567,36 +567,36 @@ condition_hits n used v u (ors, ands, (a, b, e, p, q)) hit =
 
 -- what is read from the second reference on
 abbrev pub finish : Explain → Selection WrittenColumn → WrittenReference → Second → Reader SelectQuery
-finish told listed first both = λ ts. and_then (where_condition ts) (λ condition rest. and_then (limited rest) (λ most tail.
+finish said listed first both = λ ts. and_then (where_condition ts) (λ condition rest. and_then (limited rest) (λ most tail.
     and_then (expect fault.Syntax k.End (after k.Semicolon tail))
-    (λ _ last. Ok (record { explain = told; selection = listed; references = first ∷ both.0; on = both.1; condition = condition; limit = most }, last))))
+    (λ _ last. Ok (record { explain = said; selection = listed; references = first ∷ both.0; on = both.1; condition = condition; limit = most }, last))))
 
 -- a query up to its first reference, where each step of the reader reads its part: what is left is the second reference and the rest
-query_steps : (told : Explain) (listed : Selection WrittenColumn) (first : WrittenReference) (ts ts0 ts1 ts2 ts3 ts4 : List Token)
-    → explained ts ≡ Ok (told, ts0) → expect fault.Syntax k.Select ts0 ≡ Ok (tt, ts1) → selection ts1 ≡ Ok (listed, ts2) → expect fault.Syntax k.From ts2 ≡ Ok (tt, ts3)
-    → reference ts3 ≡ Ok (first, ts4) → query ts ≡ and_then (second ts4) (finish told listed first)
+query_steps : (said : Explain) (listed : Selection WrittenColumn) (first : WrittenReference) (ts ts0 ts1 ts2 ts3 ts4 : List Token)
+    → explained ts ≡ Ok (said, ts0) → expect fault.Syntax k.Select ts0 ≡ Ok (tt, ts1) → selection ts1 ≡ Ok (listed, ts2) → expect fault.Syntax k.From ts2 ≡ Ok (tt, ts3)
+    → reference ts3 ≡ Ok (first, ts4) → query ts ≡ and_then (second ts4) (finish said listed first)
 unfolding query
-query_steps told listed first ts ts0 ts1 ts2 ts3 ts4 e0 e1 e2 e3 e4 = rw (e0, e1, e2, e3, e4) refl
+query_steps said listed first ts ts0 ts1 ts2 ts3 ts4 e0 e1 e2 e3 e4 = rw (e0, e1, e2, e3, e4) refl
 
 -- tokens up to the first table reference are read, before one that may follow it
 abbrev pub Prefix : List Token → Type 0
-Prefix a = (told : Explain) × (listed : Selection WrittenColumn) × (first : WrittenReference)
-    × ((t : Token) (rest : List Token) → EndsReference t.kind → query (a ++ t ∷ rest) ≡ and_then (second (t ∷ rest)) (finish told listed first))
+Prefix a = (said : Explain) × (listed : Selection WrittenColumn) × (first : WrittenReference)
+    × ((t : Token) (rest : List Token) → EndsReference t.kind → query (a ++ t ∷ rest) ≡ and_then (second (t ∷ rest)) (finish said listed first))
 
 -- a front up to the first reference is read, since each part is read by the token that comes after it
 prefix_read : (a : List Token) → BeforeSecond a → Prefix a
-prefix_read a (told, listed, first, (x, b, e, p, q)) = (told, listed, first, with_select (one_first _ (IsSelection listed ▸ IsToken k.From ▸ IsReference first) b q))
+prefix_read a (said, listed, first, (x, b, e, p, q)) = (said, listed, first, with_select (one_first _ (IsSelection listed ▸ IsToken k.From ▸ IsReference first) b q))
   where
     R : Type 0
-    R = (t : Token) (rest : List Token) → EndsReference t.kind → query (a ++ t ∷ rest) ≡ and_then (second (t ∷ rest)) (finish told listed first)
+    R = (t : Token) (rest : List Token) → EndsReference t.kind → query (a ++ t ∷ rest) ≡ and_then (second (t ∷ rest)) (finish said listed first)
 
     with_from : (m : Token) (d y z : List Token) → b ≡ m ∷ d → m.kind ≡ k.Select → d ≡ y ++ z → IsSelection listed y
         → ((n : Token) × (w : List Token) × (z ≡ n ∷ w) × (n.kind ≡ k.From) × IsReference first w) → R
     with_from m d y z g select h l (n, w, i, from, r) = λ t rest f.
         let ts1 : d ++ t ∷ rest ≡ y ++ n ∷ (w ++ t ∷ rest) = split d y z w (t ∷ rest) n h i in
         let ts : a ++ t ∷ rest ≡ x ++ m ∷ (d ++ t ∷ rest) = split a x b d (t ∷ rest) m e g in
-        query_steps told listed first (a ++ t ∷ rest) (m ∷ (d ++ t ∷ rest)) (d ++ t ∷ rest) (n ∷ (w ++ t ∷ rest)) (w ++ t ∷ rest) (t ∷ rest)
-        (ap explained ts ∙ explained_complete told x m (d ++ t ∷ rest) p select)
+        query_steps said listed first (a ++ t ∷ rest) (m ∷ (d ++ t ∷ rest)) (d ++ t ∷ rest) (n ∷ (w ++ t ∷ rest)) (w ++ t ∷ rest) (t ∷ rest)
+        (ap explained ts ∙ explained_complete said x m (d ++ t ∷ rest) p select)
         (expect_read k.Select m (d ++ t ∷ rest) select)
         (ap selection ts1 ∙ selection_complete listed y n (w ++ t ∷ rest) l (from_ends n.kind from))
         (expect_read k.From n (w ++ t ∷ rest) from)
@@ -607,28 +607,28 @@ prefix_read a (told, listed, first, (x, b, e, p, q)) = (told, listed, first, wit
 
 -- the next token may follow the first table reference
 prefix_at : (a ts : List Token) (p : Prefix a) → Begins EndsReference ts → query (a ++ ts) ≡ and_then (second ts) (finish p.0 p.1 p.2)
-prefix_at a ts (told, listed, first, read) (t, more, e, f) =
-    ap (λ l. query (a ++ l)) e ∙ read t more f ∙ ap (λ l. and_then (second l) (finish told listed first)) (sym e)
+prefix_at a ts (said, listed, first, read) (t, more, e, f) =
+    ap (λ l. query (a ++ l)) e ∙ read t more f ∙ ap (λ l. and_then (second l) (finish said listed first)) (sym e)
 
 -- behind such a front, a fault in the second reference is what a query is refused for
 second_refused : (a ts : List Token) (f : QueryFault) → Prefix a → Begins EndsReference ts → second ts ≡ Err f → query (a ++ ts) ≡ Err f
 second_refused a ts f p begins h = prefix_at a ts p begins ∙ ap (λ r. and_then r (finish p.0 p.1 p.2)) h
 
 -- what WHERE is refused for, the rest of the query is
-finish_refused : (told : Explain) (listed : Selection WrittenColumn) (first : WrittenReference) (both : Second) (ts : List Token) (f : QueryFault)
-    → where_condition ts ≡ Err f → finish told listed first both ts ≡ Err f
-finish_refused told listed first both ts f e = rw e refl
+finish_refused : (said : Explain) (listed : Selection WrittenColumn) (first : WrittenReference) (both : Second) (ts : List Token) (f : QueryFault)
+    → where_condition ts ≡ Err f → finish said listed first both ts ≡ Err f
+finish_refused said listed first both ts f e = rw e refl
 
 -- so is one of LIMIT, once the condition of WHERE is read
-limit_refused : (told : Explain) (listed : Selection WrittenColumn) (first : WrittenReference) (both : Second) (ts rest : List Token)
-    (filter : Option Condition) (f : QueryFault) → where_condition ts ≡ Ok (filter, rest) → limited rest ≡ Err f → finish told listed first both ts ≡ Err f
-limit_refused told listed first both ts rest filter f e g = rw (e, g) refl
+limit_refused : (said : Explain) (listed : Selection WrittenColumn) (first : WrittenReference) (both : Second) (ts rest : List Token)
+    (filter : Option Condition) (f : QueryFault) → where_condition ts ≡ Ok (filter, rest) → limited rest ≡ Err f → finish said listed first both ts ≡ Err f
+limit_refused said listed first both ts rest filter f e g = rw (e, g) refl
 
 -- a fault in the condition behind WHERE is what the rest of the query is refused for
-filter_refused : (told : Explain) (listed : Selection WrittenColumn) (first : WrittenReference) (both : Second) (m : Token) (tail : List Token) (f : QueryFault)
-    → m.kind ≡ k.Where → condition tail ≡ Err f → finish told listed first both (m ∷ tail) ≡ Err f
-filter_refused told listed first both m tail f word h =
-    finish_refused told listed first both (m ∷ tail) f (where_of_word m tail word ∙ ap (λ r. and_then r (λ x rest. Ok (Some x, rest))) h)
+filter_refused : (said : Explain) (listed : Selection WrittenColumn) (first : WrittenReference) (both : Second) (m : Token) (tail : List Token) (f : QueryFault)
+    → m.kind ≡ k.Where → condition tail ≡ Err f → finish said listed first both (m ∷ tail) ≡ Err f
+filter_refused said listed first both m tail f word h =
+    finish_refused said listed first both (m ∷ tail) f (where_of_word m tail word ∙ ap (λ r. and_then r (λ x rest. Ok (Some x, rest))) h)
 
 -- JOIN, a reference and ON, with INNER or not
 abbrev pub IsOn : WrittenReference → Phrase
@@ -714,8 +714,8 @@ with_condition given x used more (i, v1, e1, inner, (j, v2, e2, join, (r, o, e3,
 -- the references are read, and what follows them is read next, or a fault in the condition of ON is returned
 abbrev pub Through : List Token → Type 0
 Through before =
-    ((told : Explain) × (listed : Selection WrittenColumn) × (first : WrittenReference) × (both : Second)
-    × ((m : Token) (tail : List Token) → EndsSecond m.kind → query (before ++ m ∷ tail) ≡ finish told listed first both (m ∷ tail)))
+    ((said : Explain) × (listed : Selection WrittenColumn) × (first : WrittenReference) × (both : Second)
+    × ((m : Token) (tail : List Token) → EndsSecond m.kind → query (before ++ m ∷ tail) ≡ finish said listed first both (m ∷ tail)))
     ⊎ Stops query before
 
 -- behind such a front, a second reference that is read leaves the condition of WHERE and the rest
@@ -774,12 +774,12 @@ where_hits : (before v : List Token) (u : Token) → BeforeWhere before → Hits
 where_hits before v u (a, w, e, p, q) (f, at, h) = go (one_only _ w q) (through_meets a p)
   where
     go : ((m : Token) × (w ≡ m ∷ []) × (m.kind ≡ k.Where)) → Through a → Hits query (before ++ v) u
-    go (m, is, word) (inl (told, listed, first, both, read)) = (
+    go (m, is, word) (inl (said, listed, first, both, read)) = (
       f,
       at,
       λ rest.
           ap query (in_a_row before a w v (u ∷ rest) e ∙ ap (λ l. a ++ (l ++ (v ++ u ∷ rest))) is) ∙ read m (v ++ u ∷ rest) (where_ends m.kind word)
-          ∙ filter_refused told listed first both m (v ++ u ∷ rest) f word (h rest),
+          ∙ filter_refused said listed first both m (v ++ u ∷ rest) f word (h rest),
     )
     go (m, is, word) (inr (g, at2, stops)) =
         (g, at2, λ rest. ap query (in_a_row before a w v (u ∷ rest) e ∙ ap (λ l. a ++ (l ++ (v ++ u ∷ rest))) is) ∙ stops m (v ++ u ∷ rest))
@@ -806,24 +806,24 @@ limit_hits before u (a, b, e, p, (w, c, e2, filter, q)) digits none = go (one_on
 
     -- behind WHERE and its condition
     filtered : (m n : Token) (d : List Token) → c ≡ m ∷ [] → m.kind ≡ k.Limit → w ≡ n ∷ d → n.kind ≡ k.Where
-        → ((told : Explain) × (listed : Selection WrittenColumn) × (first : WrittenReference) × (both : Second)
-        × ((t : Token) (tail : List Token) → EndsSecond t.kind → query (a ++ t ∷ tail) ≡ finish told listed first both (t ∷ tail)))
+        → ((said : Explain) × (listed : Selection WrittenColumn) × (first : WrittenReference) × (both : Second)
+        × ((t : Token) (tail : List Token) → EndsSecond t.kind → query (a ++ t ∷ tail) ≡ finish said listed first both (t ∷ tail)))
         → Meets condition IsCondition d → Hits query before u
-    filtered m n d is word cut_where where_word (told, listed, first, both, read) (inl (z, s)) = (
+    filtered m n d is word cut_where where_word (said, listed, first, both, read) (inl (z, s)) = (
       fault.NumberTooBig u.at,
       refl,
       λ rest.
           ap query (cut m is rest ∙ ap (λ l. a ++ (l ++ m ∷ u ∷ rest)) cut_where) ∙ read n (d ++ m ∷ u ∷ rest) (where_ends n.kind where_word)
-          ∙ limit_refused told listed first both (n ∷ (d ++ m ∷ u ∷ rest)) (m ∷ u ∷ rest) (Some z) (fault.NumberTooBig u.at)
+          ∙ limit_refused said listed first both (n ∷ (d ++ m ∷ u ∷ rest)) (m ∷ u ∷ rest) (Some z) (fault.NumberTooBig u.at)
           (where_of_word n (d ++ m ∷ u ∷ rest) where_word ∙ ap (λ r. and_then r (λ x rest. Ok (Some x, rest))) (condition_complete z d m (u ∷ rest) s (limit_ends m.kind word).0.0))
           (big m word rest),
     )
-    filtered m n d is word cut_where where_word (told, listed, first, both, read) (inr (f, at, h)) = (
+    filtered m n d is word cut_where where_word (said, listed, first, both, read) (inr (f, at, h)) = (
       f,
       at,
       λ rest.
           ap query (cut m is rest ∙ ap (λ l. a ++ (l ++ m ∷ u ∷ rest)) cut_where) ∙ read n (d ++ m ∷ u ∷ rest) (where_ends n.kind where_word)
-          ∙ filter_refused told listed first both n (d ++ m ∷ u ∷ rest) f where_word (h m (u ∷ rest)),
+          ∙ filter_refused said listed first both n (d ++ m ∷ u ∷ rest) f where_word (h m (u ∷ rest)),
     )
 
     with_where : (m : Token) → c ≡ m ∷ [] → m.kind ≡ k.Limit → (x : Condition) → ((n : Token) × (d : List Token) × (w ≡ n ∷ d) × (n.kind ≡ k.Where) × IsAnyCondition x d)
@@ -835,12 +835,12 @@ limit_hits before u (a, b, e, p, (w, c, e2, filter, q)) digits none = go (one_on
         (f, at, λ rest. ap query (cut m is rest ∙ ap (λ l. a ++ (l ++ m ∷ u ∷ rest)) cut_where) ∙ stops n (d ++ m ∷ u ∷ rest))
 
     go : ((m : Token) × (c ≡ m ∷ []) × (m.kind ≡ k.Limit)) → IsAnyWhere w → Through a → Hits query before u
-    go (m, is, word) (inl absent) (inl (told, listed, first, both, read)) = (
+    go (m, is, word) (inl absent) (inl (said, listed, first, both, read)) = (
       fault.NumberTooBig u.at,
       refl,
       λ rest.
           ap query (cut m is rest ∙ ap (λ l. a ++ (l ++ m ∷ u ∷ rest)) absent) ∙ read m (u ∷ rest) (limit_ends m.kind word).1
-          ∙ limit_refused told listed first both (m ∷ u ∷ rest) (m ∷ u ∷ rest) None (fault.NumberTooBig u.at) (where_of_none m (u ∷ rest) (limit_ends m.kind word).0.1) (big m word rest),
+          ∙ limit_refused said listed first both (m ∷ u ∷ rest) (m ∷ u ∷ rest) None (fault.NumberTooBig u.at) (where_of_none m (u ∷ rest) (limit_ends m.kind word).0.1) (big m word rest),
     )
     go (m, is, word) (inl absent) (inr (f, at, stops)) = (f, at, λ rest. ap query (cut m is rest ∙ ap (λ l. a ++ (l ++ m ∷ u ∷ rest)) absent) ∙ stops m (u ∷ rest))
     go (m, is, word) (inr (x, p)) through = with_where m is word x (one_first _ (IsAnyCondition x) w p) through
@@ -980,29 +980,29 @@ deep_hit u (inr e) zero count = (fault.TooDeep u.at, refl, λ rest. too_deep_lef
 deep_hit u which (suc levels) count = absurd (omega (arith, count))
 
 -- where a fault applies at a token, one is returned, whatever follows the token
-stands_hits : (before : List Token) (u : Token) (g : QueryFault) → StandsAt before u g → Hits query before u
-stands_hits before u (fault.TooDeep at) (is, (which, p)) =
+applies_hits : (before : List Token) (u : Token) (g : QueryFault) → AppliesAt before u g → Hits query before u
+applies_hits before u (fault.TooDeep at) (is, (which, p)) =
     hits_at query (before ++ []) before u (append-nil before) (nested_hits most_levels before [] u p (deep_hit u which))
-stands_hits before u (fault.NumberTooBig at) (is, (digits, inl (big, p))) =
+applies_hits before u (fault.NumberTooBig at) (is, (digits, inl (big, p))) =
     hits_at query (before ++ []) before u (append-nil before) (operand_hits before [] u p (digits_unseen u digits) (digits_hit u digits big))
-stands_hits before u (fault.NumberTooBig at) (is, (digits, inr (inl (big, (a, b, e, p, q))))) =
+applies_hits before u (fault.NumberTooBig at) (is, (digits, inr (inl (big, (a, b, e, p, q))))) =
     let m = one_only _ b q in
     hits_at query (a ++ m.0 ∷ []) before u (sym (e ∙ ap (λ l. a ++ l) m.1)) (operand_hits a (m.0 ∷ []) u p (plus_unseen m.0 u m.2) (plus_hit m.0 u m.2 digits big))
-stands_hits before u (fault.NumberTooBig at) (is, (digits, inr (inr (inr (big, p))))) = limit_hits before u p digits big
-stands_hits before u (fault.NumberTooBig at) (is, (digits, inr (inr (inl (big, (a, b, e, p, q)))))) =
+applies_hits before u (fault.NumberTooBig at) (is, (digits, inr (inr (inr (big, p))))) = limit_hits before u p digits big
+applies_hits before u (fault.NumberTooBig at) (is, (digits, inr (inr (inl (big, (a, b, e, p, q)))))) =
     let m = one_only _ b q in
     hits_at query (a ++ m.0 ∷ []) before u (sym (e ∙ ap (λ l. a ++ l) m.1)) (operand_hits a (m.0 ∷ []) u p (minus_unseen m.0 u m.2) (minus_hit m.0 u m.2 digits big))
-stands_hits before u (fault.Lex at) h = absurd h
-stands_hits before u (fault.Syntax at) h = absurd h
-stands_hits before u (fault.UnknownTable at) h = absurd h
-stands_hits before u (fault.SameName at) h = absurd h
-stands_hits before u (fault.UnknownColumn at) h = absurd h
-stands_hits before u (fault.AmbiguousColumn at) h = absurd h
-stands_hits before u (fault.TypeMismatch at) h = absurd h
-stands_hits before u (fault.BadGeometry at g) h = absurd h
-stands_hits before u (fault.BadPattern at) h = absurd h
-stands_hits before u fault.TooLong h = absurd h
-stands_hits before u fault.OutOfMemory h = absurd h
+applies_hits before u (fault.Lex at) h = absurd h
+applies_hits before u (fault.Syntax at) h = absurd h
+applies_hits before u (fault.UnknownTable at) h = absurd h
+applies_hits before u (fault.SameName at) h = absurd h
+applies_hits before u (fault.UnknownColumn at) h = absurd h
+applies_hits before u (fault.AmbiguousColumn at) h = absurd h
+applies_hits before u (fault.TypeMismatch at) h = absurd h
+applies_hits before u (fault.BadGeometry at g) h = absurd h
+applies_hits before u (fault.BadPattern at) h = absurd h
+applies_hits before u fault.TooLong h = absurd h
+applies_hits before u fault.OutOfMemory h = absurd h
 
 -- ---- texts
 
@@ -1018,15 +1018,15 @@ given_itself (Ok x) = refl
 given_itself (Err f) = λ _. refl
 
 -- where a fault applies at a token of a text, one that applies there or before is given
-pub first_is_given : (text : List ℕ) (r : Result SelectQuery QueryFault) → Gives fault.OutOfMemory (λ q. q) r (query_of text) → AnswersFirst text r
-first_is_given text r given before after t g short good cut stands =
-    let h = stands_hits before t g stands in (
+pub first_is_given : (text : List ℕ) (r : Result SelectQuery QueryFault) → Gives fault.OutOfMemory (λ q. q) r (query_of text) → ReturnsFirst text r
+first_is_given text r given before after t g short good cut applies =
+    let h = applies_hits before t g applies in (
       h.0,
       h.1,
-      subst (λ answer. Faults answer (StandsIn (before ++ t ∷ []))) (h.2 []) (query_faults (before ++ t ∷ [])) h.1,
+      subst (λ answer. Faults answer (AppliesIn (before ++ t ∷ []))) (h.2 []) (query_faults (before ++ t ∷ [])) h.1,
       subst (λ answer. Gives fault.OutOfMemory (λ q. q) r answer) (fault_given text (before ++ t ∷ after) h.0 short good cut (h.2 after)) given,
     )
 
 -- where a fault applies at a token of a text, one that applies there or before is read
-pub first_is_read : (text : List ℕ) → AnswersFirst text (query_of text)
+pub first_is_read : (text : List ℕ) → ReturnsFirst text (query_of text)
 first_is_read text = first_is_given text (query_of text) (given_itself (query_of text))

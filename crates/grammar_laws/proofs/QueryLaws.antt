@@ -5,7 +5,7 @@ use Rattle.table_model.specs.declared.faults.QueryFault.{QueryFault}
 use Rattle.table_model.specs.declared.faults.QueryFault.TheVariants as fault
 use Rattle.table_model.specs.Outcomes.{Gives}
 use Rattle.table_model.specs.Parsers.{Outcome, value_of}
-use Rattle.table_model.specs.QueryGrammar.{IsReferences, IsSecond, IsSelect, IsQuery, AnswersQuery}
+use Rattle.table_model.specs.QueryGrammar.{IsReferences, IsSecond, IsSelect, IsQuery, ReturnsQuery}
 use Rattle.table_model.specs.QueryReading.{bad_place, query, query_by, query_of}
 use Rattle.table_model.specs.Queries.{Condition, SelectQuery}
 use Rattle.table_model.specs.References.{AreOneOrTwo}
@@ -72,7 +72,7 @@ few_in references on ts (first, more, is, (a, b, e, p, second)) = subst (λ l. A
 
 -- and so are those of a query
 few_of : (q : SelectQuery) (ts : List Token) → IsSelect q ts → AreOneOrTwo q.references
-few_of q ts (a0, b0, e0, told, (a1, b1, e1, select, (a2, b2, e2, listed, (a3, b3, e3, from, (a4, b4, e4, references, rest))))) = few_in q.references q.on a4 references
+few_of q ts (a0, b0, e0, said, (a1, b1, e1, select, (a2, b2, e2, listed, (a3, b3, e3, from, (a4, b4, e4, references, rest))))) = few_in q.references q.on a4 references
 
 -- a query has one reference or two
 pub references_are_few : (text : List ℕ) (q : SelectQuery) → IsQuery text q → AreOneOrTwo q.references
@@ -85,5 +85,5 @@ given_is_query text (Ok q) e = read_is_query text q e
 given_is_query text (Err e) h = tt
 
 -- whatever query a text is, that one is given
-pub query_is_given : (text : List ℕ) (r : Result SelectQuery QueryFault) → Gives fault.OutOfMemory (λ q. q) r (query_of text) → AnswersQuery text r
+pub query_is_given : (text : List ℕ) (r : Result SelectQuery QueryFault) → Gives fault.OutOfMemory (λ q. q) r (query_of text) → ReturnsQuery text r
 query_is_given text r given q is = subst (λ answer. Gives fault.OutOfMemory (λ q. q) r answer) (query_is_read text q is) given

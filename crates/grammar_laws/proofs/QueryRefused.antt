@@ -23,7 +23,7 @@ use Rattle.table_model.specs.Outcomes.{Gives}
 use Rattle.table_model.specs.Parsers.{Outcome, kind, place, spelling, next, sees, after, and_then, expect, parts_from, value_of}
 use Rattle.table_model.specs.QueryGrammar.{IsOperand, IsComparison, IsPredicateOf, IsPredicate, IsChain, IsConjunction, IsConditionOf, IsNegationOf, IsNegation, IsCondition, IsSelection, IsReference, IsWhere, IsExplain}
 use Rattle.table_model.specs.QueryReading.{Reader, Functions, name, column, calls, called_or, enclosed, string, geometry, integer, integer_value, integer_or, operand_functions, operand, comparison_of, compared, compared_by, null_test, comparison, truth_value, truth_test, truth_tested, relates, relates_by, predicate_functions, predicate, chain, conjunction, condition_of, group, negation, most_levels, condition, item_functions, item, items, counted, count_function, selection, alias, reference, Second, crossed, joined_on, second, where_condition, limit_value, limit_or, limit_number, limited, says, explained, query, bad_place, query_by, query_of}
-use Rattle.table_model.specs.QueryRefusals.{IsAnyOperand, IsAnyNegation, IsAnyCondition, BeforeSecond, BeforeOn, ThroughFrom, BeforeWhere, IsAnyWhere, BeforeLimit, AreParts, BeforeNegation, BeforeOperand, IsTooBig, StandsIn, is_at_token, StandsInQuery}
+use Rattle.table_model.specs.QueryRefusals.{IsAnyOperand, IsAnyNegation, IsAnyCondition, BeforeSecond, BeforeOn, ThroughFrom, BeforeWhere, IsAnyWhere, BeforeLimit, AreParts, BeforeNegation, BeforeOperand, IsTooBig, AppliesIn, is_at_token, AppliesInQuery}
 use Rattle.table_model.specs.Queries.{Condition, ConditionOperand, SelectQuery}
 use Rattle.table_model.specs.Tokens.{same_kind, tokens, most_bytes}
 use Rattle.grammar_laws.proofs.QuerySound.{Sound, operand_sound, comparison_taken, chain_sound, negation_sound, explained_sound, selection_sound, reference_sound, expect_sound, second_sound, where_sound, optional, IsBoth}
@@ -317,17 +317,17 @@ integer_faults A negative E ts h =
 -- digits that are too big are refused at the token where the reader is, behind the tokens that it took
 big_here : (all : List Token) (P : Phrase) {V : Type 0} (value : List ℕ → Option V) (ts : List Token) → Took all P ts → sees k.Integer ts ≡ true → value (spelling ts) ≡ None
     → ((before : List Token) (t : Token) → P before → t.kind ≡ k.Integer → value t.text ≡ None → IsTooBig before t)
-    → StandsIn all (fault.NumberTooBig (place ts))
+    → AppliesIn all (fault.NumberTooBig (place ts))
 unfolding sees kind place spelling
 big_here all P value [] took is none f = absurd (let e = same k.Bad k.Integer is in cc)
 big_here all P value (t ∷ rest) took is none f = (took.0, rest, t, took.1, (refl, f took.0 t took.2 (same t.kind k.Integer is) none))
 
 -- an operand is refused at a token only as an integer: behind +, behind -, or without a sign
-operand_faults : (all ts : List Token) → Took all BeforeOperand ts → Faults (operand ts) (StandsIn all)
+operand_faults : (all ts : List Token) → Took all BeforeOperand ts → Faults (operand ts) (AppliesIn all)
 unfolding operand
 operand_faults all ts took =
     let A : Type 0 = WrittenGeometry in
-    let E : QueryFault → Type 0 = StandsIn all in
+    let E : QueryFault → Type 0 = AppliesIn all in
     let B : Phrase = BeforeOperand in
     if_faults (sees k.Null ts) _ _ E (λ _. tt)
     (λ _. if_faults (sees k.Text ts) _ _ E (λ _. tt)
@@ -346,32 +346,32 @@ operand_faults all ts took =
 -- the right side comes after the left one and the sign of comparison, where an operand may be there
 compared_faults : (all : List Token) (opened : ℕ) (at : ℕ) (left : ConditionOperand) (start ts : List Token) (v : Option Comparison)
     → Took all (BeforeNegation opened) start → Took start (IsOperand left) ts → comparison_of (kind ts) ≡ v
-    → Faults (compared_by at left v ts) (StandsIn all)
+    → Faults (compared_by at left v ts) (AppliesIn all)
 compared_faults all opened at left start ts None stood read e = λ e. absurd (false≢true e)
 compared_faults all opened at left start ts (Some comparison) stood read e =
     let O : Phrase = IsAnyOperand left in
     let both : Took all (BeforeNegation opened ▸ O ▸ IsComparison comparison) (next ts) =
     seq (BeforeNegation opened) (O ▸ IsComparison comparison) all start (next ts) stood
     (seq O (IsComparison comparison) start ts (next ts) (but (IsOperand left) O start ts read (λ used p. inl p)) (comparison_taken ts comparison e)) in
-    then_none (operand (next ts)) _ (StandsIn all)
+    then_none (operand (next ts)) _ (AppliesIn all)
     (operand_faults all (next ts) (but (BeforeNegation opened ▸ O ▸ IsComparison comparison) BeforeOperand all (next ts) both (λ used p. (opened, inr (left, comparison, p)))))
     (λ right rest. tt)
 
 -- the left side is where the predicate is; IS NULL behind it has no further operand
-comparison_faults : (all : List Token) (opened : ℕ) (ts : List Token) → Took all (BeforeNegation opened) ts → Faults (comparison ts) (StandsIn all)
+comparison_faults : (all : List Token) (opened : ℕ) (ts : List Token) → Took all (BeforeNegation opened) ts → Faults (comparison ts) (AppliesIn all)
 unfolding comparison compared
 comparison_faults all opened ts took =
-    let E : QueryFault → Type 0 = StandsIn all in
+    let E : QueryFault → Type 0 = AppliesIn all in
     then_faults (operand ts) _ (λ x rest. Took ts (IsOperand x) rest) E (operand_sound ts)
     (operand_faults all ts (but (BeforeNegation opened) BeforeOperand all ts took (λ used p. (opened, inl p))))
     (λ left mid read. eaten_faults k.Is mid _ _ E (λ _. null_faults left E (next mid))
     (λ _. compared_faults all opened (place ts) left ts mid (comparison_of (kind mid)) took read refl))
 
 -- functions aren't refused at a token, so a predicate is refused as a comparison is
-predicate_faults : (all : List Token) (opened : ℕ) (ts : List Token) → Took all (BeforeNegation opened) ts → Faults (predicate ts) (StandsIn all)
+predicate_faults : (all : List Token) (opened : ℕ) (ts : List Token) → Took all (BeforeNegation opened) ts → Faults (predicate ts) (AppliesIn all)
 unfolding predicate
 predicate_faults all opened ts took =
-    called_faults (predicate_functions (place ts)) comparison ts (StandsIn all)
+    called_faults (predicate_functions (place ts)) comparison ts (AppliesIn all)
     (predicate_functions_faults (place ts)) (comparison_faults all opened ts took)
 
 -- ---- conditions
@@ -436,7 +436,7 @@ either_true X false b h f g = g h
 
 -- a NOT or a parenthesis where all levels are open is refused as too deep, at itself
 deep_here : (all ts : List Token) → Took all (BeforeNegation most_levels) ts → (sees k.Not ts || sees k.LeftParenthesis ts) ≡ true
-    → StandsIn all (fault.TooDeep (place ts))
+    → AppliesIn all (fault.TooDeep (place ts))
 unfolding sees kind place same_kind
 deep_here all [] took h = absurd (false≢true h)
 deep_here all (t ∷ rest) took h = (
@@ -457,14 +457,14 @@ deep_here all (t ∷ rest) took h = (
 -- each NOT and each parenthesis opens a level, and the open levels and those that are left stay the same in sum,
 -- so where none is left all are open
 negation_faults : (all : List Token) (levels opened : ℕ) → opened + levels ≡ most_levels → (ts : List Token) → Took all (BeforeNegation opened) ts
-    → Faults (negation levels ts) (StandsIn all)
+    → Faults (negation levels ts) (AppliesIn all)
 unfolding negation BeforeNegation
 negation_faults all zero opened count ts took =
-    if_faults (sees k.Not ts || sees k.LeftParenthesis ts) _ _ (StandsIn all)
+    if_faults (sees k.Not ts || sees k.LeftParenthesis ts) _ _ (AppliesIn all)
     (λ h. λ _. let full : opened ≡ most_levels = omega (arith, count) in deep_here all ts (subst (λ n. Took all (BeforeNegation n) ts) full took) h)
     (λ _. predicate_faults all opened ts took)
 negation_faults all (suc levels) opened count ts took =
-    let E : QueryFault → Type 0 = StandsIn all in
+    let E : QueryFault → Type 0 = AppliesIn all in
     let B : Phrase = BeforeNegation opened in
     let more : suc opened + levels ≡ most_levels = omega (arith, count) in
     if_faults (sees k.Not ts) _ _ E
@@ -481,19 +481,19 @@ negation_faults all (suc levels) opened count ts took =
 
 -- the parts of a whole condition, of ON or of WHERE, are where no level is open yet
 condition_faults : (C : Phrase) (all : List Token) → ((ts : List Token) → Took all (C ▸ AreParts) ts → Took all (BeforeNegation 0) ts)
-    → (ts : List Token) → Took all C ts → Faults (condition ts) (StandsIn all)
+    → (ts : List Token) → Took all C ts → Faults (condition ts) (AppliesIn all)
 condition_faults C all begins ts took =
-    condition_of_faults (negation most_levels) IsAnyNegation C all (StandsIn all) (negation_read most_levels)
+    condition_of_faults (negation most_levels) IsAnyNegation C all (AppliesIn all) (negation_read most_levels)
     (λ ors ands us stood. negation_faults all most_levels 0 refl us (begins us (with_parts C ors ands all us stood))) ts took
 
 -- ---- queries
 
 -- the condition of ON comes after JOIN, the second reference and ON
 joined_on_faults : (all start ts : List Token) → Took all BeforeSecond start → Took start (IsOptional k.Inner) ts
-    → Faults (joined_on ts) (StandsIn all)
+    → Faults (joined_on ts) (AppliesIn all)
 unfolding joined_on BeforeNegation
 joined_on_faults all start ts took inner =
-    let E : QueryFault → Type 0 = StandsIn all in
+    let E : QueryFault → Type 0 = AppliesIn all in
     then_faults (expect fault.Syntax k.Join ts) _ (λ _ rest. Took ts (IsToken k.Join) rest) E (expect_sound k.Join ts (λ e. cc)) (expect_faults k.Join E ts)
     (λ _ ts1 p1. then_faults (reference ts1) _ (λ x rest. Took ts1 (IsReference x) rest) E (reference_sound ts1) (reference_faults E ts1)
     (λ given ts2 p2. then_faults (expect fault.Syntax k.On ts2) _ (λ _ rest. Took ts2 (IsToken k.On) rest) E (expect_sound k.On ts2 (λ e. cc)) (expect_faults k.On E ts2)
@@ -508,9 +508,9 @@ joined_on_faults all start ts took inner =
     (λ x rest. tt))))
 
 -- of the ways to write a second reference the one with JOIN and ON alone has a condition
-second_faults : (all ts : List Token) → Took all BeforeSecond ts → Faults (second ts) (StandsIn all)
+second_faults : (all ts : List Token) → Took all BeforeSecond ts → Faults (second ts) (AppliesIn all)
 second_faults all ts took =
-    let E : QueryFault → Type 0 = StandsIn all in
+    let E : QueryFault → Type 0 = AppliesIn all in
     if_faults (sees k.Comma ts) _ _ E (λ _. crossed_faults E (next ts))
     (λ _. if_faults (sees k.Cross ts) _ _ E
     (λ _. then_none (expect fault.Syntax k.Join (next ts)) _ E (expect_faults k.Join E (next ts)) (λ _ mid. crossed_faults E mid))
@@ -542,10 +542,10 @@ through_from both used (a, b, e, p, inr (inr (given, on, x, y, joined))) = go (o
     ))
 
 -- the condition of WHERE comes after the last reference and its condition
-where_faults : (all ts : List Token) → Took all ThroughFrom ts → Faults (where_condition ts) (StandsIn all)
+where_faults : (all ts : List Token) → Took all ThroughFrom ts → Faults (where_condition ts) (AppliesIn all)
 unfolding where_condition BeforeNegation
 where_faults all ts took =
-    let E : QueryFault → Type 0 = StandsIn all in
+    let E : QueryFault → Type 0 = AppliesIn all in
     eaten_faults k.Where ts _ _ E
     (λ h. then_none (condition (next ts)) _ E
     (condition_faults BeforeWhere all (λ us h. but (BeforeWhere ▸ AreParts) (BeforeNegation 0) all us h (λ used p. inr p)) (next ts)
@@ -565,10 +565,10 @@ count_faults E at rest (Some n) h = tt
 
 -- the integer of LIMIT comes after FROM, WHERE and LIMIT, and is refused where it is too big
 limit_faults : (filter : Option Condition) (all mid ts : List Token) → Took all ThroughFrom mid → Took mid (IsWhere filter) ts
-    → Faults (limited ts) (StandsIn all)
+    → Faults (limited ts) (AppliesIn all)
 unfolding limit_number
 limit_faults filter all mid ts took read =
-    let E : QueryFault → Type 0 = StandsIn all in
+    let E : QueryFault → Type 0 = AppliesIn all in
     if_faults (sees k.Limit ts) _ _ E
     (λ h. if_faults (sees k.Integer (next ts)) _ _ E
     (λ is. count_faults E (place (next ts)) (next (next ts)) (limit_value (spelling (next ts)))
@@ -580,19 +580,19 @@ limit_faults filter all mid ts took read =
     (λ _. tt)
 
 -- each reader comes after what those before it took, which is the front of the grammar that its fault asks for
-pub query_faults : (ts : List Token) → Faults (query ts) (StandsIn ts)
+pub query_faults : (ts : List Token) → Faults (query ts) (AppliesIn ts)
 unfolding query
 query_faults ts =
-    let E : QueryFault → Type 0 = StandsIn ts in
+    let E : QueryFault → Type 0 = AppliesIn ts in
     then_faults (explained ts) _ (λ x rest. Took ts (IsExplain x) rest) E (explained_sound ts) (explained_faults E ts)
-    (λ told ts0 p0. then_faults (expect fault.Syntax k.Select ts0) _ (λ _ rest. Took ts0 (IsToken k.Select) rest) E (expect_sound k.Select ts0 (λ e. cc)) (expect_faults k.Select E ts0)
+    (λ said ts0 p0. then_faults (expect fault.Syntax k.Select ts0) _ (λ _ rest. Took ts0 (IsToken k.Select) rest) E (expect_sound k.Select ts0 (λ e. cc)) (expect_faults k.Select E ts0)
     (λ _ ts1 p1. then_faults (selection ts1) _ (λ x rest. Took ts1 (IsSelection x) rest) E (selection_sound ts1) (selection_faults E ts1)
     (λ listed ts2 p2. then_faults (expect fault.Syntax k.From ts2) _ (λ _ rest. Took ts2 (IsToken k.From) rest) E (expect_sound k.From ts2 (λ e. cc)) (expect_faults k.From E ts2)
     (λ _ ts3 p3. then_faults (reference ts3) _ (λ x rest. Took ts3 (IsReference x) rest) E (reference_sound ts3) (reference_faults E ts3)
     (λ first ts4 p4.
-    let stood : Took ts BeforeSecond ts4 = but (IsExplain told ▸ IsToken k.Select ▸ IsSelection listed ▸ IsToken k.From ▸ IsReference first) BeforeSecond ts ts4
-    (seq (IsExplain told) _ ts ts0 ts4 p0 (seq (IsToken k.Select) _ ts0 ts1 ts4 p1 (seq (IsSelection listed) _ ts1 ts2 ts4 p2 (seq (IsToken k.From) (IsReference first) ts2 ts3 ts4 p3 p4))))
-    (λ used p. (told, listed, first, p)) in
+    let stood : Took ts BeforeSecond ts4 = but (IsExplain said ▸ IsToken k.Select ▸ IsSelection listed ▸ IsToken k.From ▸ IsReference first) BeforeSecond ts ts4
+    (seq (IsExplain said) _ ts ts0 ts4 p0 (seq (IsToken k.Select) _ ts0 ts1 ts4 p1 (seq (IsSelection listed) _ ts1 ts2 ts4 p2 (seq (IsToken k.From) (IsReference first) ts2 ts3 ts4 p3 p4))))
+    (λ used p. (said, listed, first, p)) in
     then_faults (second ts4) _ (λ x rest. Took ts4 (IsBoth x) rest) E (second_sound ts4) (second_faults ts ts4 stood)
     (λ both ts5 p5.
     let through : Took ts ThroughFrom ts5 = but (BeforeSecond ▸ IsBoth both) ThroughFrom ts ts5 (seq BeforeSecond (IsBoth both) ts ts4 ts5 stood p5) (through_from both) in
@@ -608,30 +608,30 @@ by_value text E (Err f) h = h
 
 -- a fault at one of the tokens applies in the text, which isn't too long and is made of tokens
 in_text : (text : List ℕ) (r : Result SelectQuery QueryFault) → length text ≤ most_bytes → bad_place (tokens true text) ≡ None
-    → IfErr r (λ f. is_at_token f ≡ true → StandsIn (tokens true text) f) → IfErr r (StandsInQuery text)
+    → IfErr r (λ f. is_at_token f ≡ true → AppliesIn (tokens true text) f) → IfErr r (AppliesInQuery text)
 in_text text (Ok q) short good h = tt
 in_text text (Err f) short good h = λ is. (short, good, h is)
 
 -- a byte that begins no token is a fault of its own; without one the tokens are read
-by_place : (text : List ℕ) (v : Option ℕ) → length text ≤ most_bytes → bad_place (tokens true text) ≡ v → IfErr (query_by v (tokens true text)) (StandsInQuery text)
+by_place : (text : List ℕ) (v : Option ℕ) → length text ≤ most_bytes → bad_place (tokens true text) ≡ v → IfErr (query_by v (tokens true text)) (AppliesInQuery text)
 by_place text None short good =
     in_text text (value_of (query (tokens true text))) short good
-    (by_value text (StandsIn (tokens true text)) (query (tokens true text)) (query_faults (tokens true text)))
+    (by_value text (AppliesIn (tokens true text)) (query (tokens true text)) (query_faults (tokens true text)))
 by_place text (Some at) short bad = λ e. absurd (false≢true e)
 
 -- a fault at a token that is read applies there
-pub query_of_stands : (text : List ℕ) → IfErr (query_of text) (StandsInQuery text)
+pub query_of_applies : (text : List ℕ) → IfErr (query_of text) (AppliesInQuery text)
 unfolding query_of
-query_of_stands text = go (nat_lt most_bytes (length text)) refl
+query_of_applies text = go (nat_lt most_bytes (length text)) refl
   where
-    go : (long : Bool) → nat_lt most_bytes (length text) ≡ long → IfErr (if long then Err fault.TooLong else query_by (bad_place (tokens true text)) (tokens true text)) (StandsInQuery text)
+    go : (long : Bool) → nat_lt most_bytes (length text) ≡ long → IfErr (if long then Err fault.TooLong else query_by (bad_place (tokens true text)) (tokens true text)) (AppliesInQuery text)
     go true e = λ is. absurd (false≢true is)
     go false e = by_place text (bad_place (tokens true text)) (ltb-false most_bytes (length text) e) refl
 
 -- a fault at a token that is given applies there
-pub given_stands : (text : List ℕ) (r : Result SelectQuery QueryFault) → Gives fault.OutOfMemory (λ q. q) r (query_of text) → IfErr r (StandsInQuery text)
-given_stands text (Ok q) given = tt
-given_stands text (Err f) given = λ is. subst (λ r. IfErr r (StandsInQuery text)) (given (λ e. memory f is e)) (query_of_stands text) is
+pub given_applies : (text : List ℕ) (r : Result SelectQuery QueryFault) → Gives fault.OutOfMemory (λ q. q) r (query_of text) → IfErr r (AppliesInQuery text)
+given_applies text (Ok q) given = tt
+given_applies text (Err f) given = λ is. subst (λ r. IfErr r (AppliesInQuery text)) (given (λ e. memory f is e)) (query_of_applies text) is
   where
     memory : (f : QueryFault) → is_at_token f ≡ true → f ≡ fault.OutOfMemory → ⊥
     memory f is e = false≢true (sym (ap is_at_token e) ∙ is)

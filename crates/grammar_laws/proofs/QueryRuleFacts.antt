@@ -18,13 +18,13 @@ use Rattle.grammar_laws.proofs.Filtering.{bound_of_statement}
 use Rattle.grammar_laws.proofs.FromFacts.{from_agrees}
 use Rattle.grammar_laws.proofs.GeometryRuleFacts.{geometry_agrees}
 use Rattle.grammar_laws.proofs.ItemRules.{items_agree}
-use Rattle.grammar_laws.proofs.RuleFacts.{answered, if_err, if_ok, pure, sequence}
+use Rattle.grammar_laws.proofs.RuleFacts.{returned, if_err, if_ok, pure, sequence}
 
 -- ---- rules that say the same
 
 -- what is bound may be said in another way
 restated : {X : Type 0} (P Q : X → Type 0) (Refused : QueryFault → Type 0) (r : Checked X) → ((x : X) → P x → Q x) → ((x : X) → Q x → P x) → Agrees P Refused r → Agrees Q Refused r
-restated P Q Refused r to from a = record { stands = if_ok r P Q to a.stands; refused = a.refused; answers = λ x is. a.answers x (from x is); refuses = a.refuses }
+restated P Q Refused r to from a = record { applies = if_ok r P Q to a.applies; refused = a.refused; answers = λ x is. a.answers x (from x is); refuses = a.refuses }
 
 -- ---- the whole query
 
@@ -33,7 +33,7 @@ whole_agrees : {T A B C D : Type 0} (rules : GeometryRules T A B C D) (how : Geo
     → Agrees (IsWhole rules schema references w) (IsRefusedWhole rules schema references w) (bound_whole how schema references w)
 whole_agrees rules how agrees schema references None = pure None
 whole_agrees rules how agrees schema references (Some w) =
-    answered (IsCond rules schema references w) (IsRefusedCond rules schema references w) (bound_cond how schema references w) Some (cond_agrees rules how agrees schema references w)
+    returned (IsCond rules schema references w) (IsRefusedCond rules schema references w) (bound_cond how schema references w) Some (cond_agrees rules how agrees schema references w)
 
 stated : {A B C D : Type 0} → Query A C → List Reference → List (Item D) → Option (Cond B) → Option (Cond B) → Statement B D
 stated query references listed on condition =
@@ -56,7 +56,7 @@ steps_agree rules how agrees schema query =
     (items_agree rules how agrees schema references query.selection)
     (λ listed listed_are. sequence (IsWhole rules schema references query.on) (IsRefusedWhole rules schema references query.on) _ _ (bound_whole how schema references query.on) _
     (whole_agrees rules how agrees schema references query.on)
-    (λ on on_is. answered (IsWhole rules schema references query.condition) (IsRefusedWhole rules schema references query.condition) (bound_whole how schema references query.condition)
+    (λ on on_is. returned (IsWhole rules schema references query.condition) (IsRefusedWhole rules schema references query.condition) (bound_whole how schema references query.condition)
     (λ condition. stated query references listed on condition) (whole_agrees rules how agrees schema references query.condition))))
 
 -- what the steps return is what the rules say of a query, part by part
@@ -97,10 +97,10 @@ statement_agrees rules how agrees schema query =
 with_conjuncts : {A C : Type 0} (Is : Statement A C → Type 0) (Refused : QueryFault → Type 0) (r : Checked (Statement A C)) → Agrees Is Refused r
     → Agrees (Then Is (λ s bound. bound ≡ by_conjuncts s)) Refused (r >>= (λ s. Ok (by_conjuncts s)))
 with_conjuncts Is Refused r a = record {
-  stands = (answered Is Refused r by_conjuncts a).stands;
-  refused = if_err (r >>= (λ s. Ok (by_conjuncts s))) (FirstFault Is Refused (λ s fault. ⊥)) Refused none_later (answered Is Refused r by_conjuncts a).refused;
-  answers = (answered Is Refused r by_conjuncts a).answers;
-  refuses = λ fault is. (answered Is Refused r by_conjuncts a).refuses fault (inl is);
+  applies = (returned Is Refused r by_conjuncts a).applies;
+  refused = if_err (r >>= (λ s. Ok (by_conjuncts s))) (FirstFault Is Refused (λ s fault. ⊥)) Refused none_later (returned Is Refused r by_conjuncts a).refused;
+  answers = (returned Is Refused r by_conjuncts a).answers;
+  refuses = λ fault is. (returned Is Refused r by_conjuncts a).refuses fault (inl is);
 }
   where
     none_later : (e : QueryFault) → FirstFault Is Refused (λ s fault. ⊥) e → Refused e

@@ -776,9 +776,9 @@ says_taken word ts h = word_taken word ts (and_left _ _ (and_left _ _ h)) (and_r
 
 -- behind EXPLAIN, ANALYZE is read where it is next
 analyzed_sound : (ts : List Token) → says (codes "EXPLAIN") ts ≡ true
-    → IfRead (analyzed (next ts)) (λ told rest. Took ts (IsExplain told) rest)
+    → IfRead (analyzed (next ts)) (λ said rest. Took ts (IsExplain said) rest)
 analyzed_sound ts h =
-    let Q : Explain → List Token → Type 0 = λ told rest. Took ts (IsExplain told) rest in
+    let Q : Explain → List Token → Type 0 = λ said rest. Took ts (IsExplain said) rest in
     if_read (says (codes "ANALYZE") (next ts)) _ _ Q
     (λ h2. but _ _ ts (next (next ts))
     (seq (IsWord (codes "EXPLAIN")) (IsWord (codes "ANALYZE")) ts (next ts) (next (next ts)) (says_taken (codes "EXPLAIN") ts h) (says_taken (codes "ANALYZE") (next ts) h2))
@@ -788,7 +788,7 @@ analyzed_sound ts h =
 -- EXPLAIN is read where it is next; else no token is taken
 pub explained_sound : Sound explained IsExplain
 explained_sound ts =
-    if_read (says (codes "EXPLAIN") ts) _ _ (λ told rest. Took ts (IsExplain told) rest)
+    if_read (says (codes "EXPLAIN") ts) _ _ (λ said rest. Took ts (IsExplain said) rest)
     (λ h. analyzed_sound ts h) (λ _. ([], refl, inl (refl, refl)))
 
 -- a condition is read exactly where WHERE is next
@@ -863,7 +863,7 @@ unfolding query
 query_sound ts once =
     let R : SelectQuery → List Token → Type 0 = λ q rest. IsSelect q ts in
     then_read (explained ts) _ (λ x rest. Took ts (IsExplain x) rest) R
-    (λ told ts0 p0. then_read (expect fault.Syntax k.Select ts0) _ (λ u rest. Took ts0 (IsToken k.Select) rest) R
+    (λ said ts0 p0. then_read (expect fault.Syntax k.Select ts0) _ (λ u rest. Took ts0 (IsToken k.Select) rest) R
     (λ u1 ts1 p1. then_read (selection ts1) _ (λ x rest. Took ts1 (IsSelection x) rest) R
     (λ listed ts2 p2. then_read (expect fault.Syntax k.From ts2) _ (λ u rest. Took ts2 (IsToken k.From) rest) R
     (λ u3 ts3 p3. then_read (reference ts3) _ (λ x rest. Took ts3 (IsReference x) rest) R
@@ -876,9 +876,9 @@ query_sound ts once =
     then_read (expect fault.Syntax k.End ts8) _ (λ u rest. Took ts8 (IsToken k.End) rest × (rest ≡ [])) R
     (λ u9 ts9 p9.
     all_taken
-    (IsExplain told ▸ IsToken k.Select ▸ IsSelection listed ▸ IsToken k.From ▸ IsReferences (first ∷ both.0) both.1 ▸ IsWhere filter ▸ IsLimit most
+    (IsExplain said ▸ IsToken k.Select ▸ IsSelection listed ▸ IsToken k.From ▸ IsReferences (first ∷ both.0) both.1 ▸ IsWhere filter ▸ IsLimit most
     ▸ IsOptional k.Semicolon ▸ IsToken k.End) ts ts9
-    (seq (IsExplain told) _ ts ts0 ts9 p0 (seq (IsToken k.Select) _ ts0 ts1 ts9 p1 (seq (IsSelection listed) _ ts1 ts2 ts9 p2 (seq (IsToken k.From) _ ts2 ts3 ts9 p3
+    (seq (IsExplain said) _ ts ts0 ts9 p0 (seq (IsToken k.Select) _ ts0 ts1 ts9 p1 (seq (IsSelection listed) _ ts1 ts2 ts9 p2 (seq (IsToken k.From) _ ts2 ts3 ts9 p3
     (seq (IsReferences (first ∷ both.0) both.1) _ ts3 ts5 ts9 (references_taken first both ts3 ts4 ts5 p4 p5) (seq (IsWhere filter) _ ts5 ts6 ts9 p6 (seq (IsLimit most) _ ts6 ts7 ts9 p7
     (seq (IsOptional k.Semicolon) (IsToken k.End) ts7 ts8 ts9 p8 p9.0)))))))) p9.1)
     (end_sound ts8 (ends_left _ ts7 ts8 (ends_left _ ts6 ts7 (ends_left _ ts5 ts6 (ends_left _ ts4 ts5 (ends_left _ ts3 ts4 (ends_left _ ts2 ts3 (ends_left _ ts1 ts2 (ends_left _ ts0 ts1 (ends_left _ ts ts0 once p0) p1) p2) p3) p4) p5) p6) p7) p8)))

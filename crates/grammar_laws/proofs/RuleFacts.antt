@@ -28,25 +28,25 @@ differ h = subst IsNot h tt
 
 -- what a step returns
 pub pure : {X : Type 0} (v : X) → Agrees (λ x. x ≡ v) (λ fault. ⊥) (Ok v)
-pure v = record { stands = refl; refused = tt; answers = λ x is. ap Ok (sym is); refuses = λ fault is. absurd is }
+pure v = record { applies = refl; refused = tt; answers = λ x is. ap Ok (sym is); refuses = λ fault is. absurd is }
 
 -- what a second step returns behind what the first one returned, the rules of both say
-answers_then : {X Y : Type 0} (First : X → Type 0) (Refused : QueryFault → Type 0) (Second : X → Y → Type 0) (then_refused : X → QueryFault → Type 0) (r : Checked X) (f : X → Checked Y)
+returns_then : {X Y : Type 0} (First : X → Type 0) (Refused : QueryFault → Type 0) (Second : X → Y → Type 0) (then_refused : X → QueryFault → Type 0) (r : Checked X) (f : X → Checked Y)
     → Agrees First Refused r → ((x : X) → First x → Agrees (Second x) (then_refused x) (f x)) → IfOk (r >>= f) (Then First Second)
-answers_then First Refused Second then_refused (Ok x) f a next = if_ok (f x) (Second x) (Then First Second) (λ y is. (x, a.stands, is)) (next x a.stands).stands
-answers_then First Refused Second then_refused (Err e) f a next = tt
+returns_then First Refused Second then_refused (Ok x) f a next = if_ok (f x) (Second x) (Then First Second) (λ y is. (x, a.applies, is)) (next x a.applies).applies
+returns_then First Refused Second then_refused (Err e) f a next = tt
 
 -- a fault is the first step's, or the second's behind what the first one returned
 faults_then : {X Y : Type 0} (First : X → Type 0) (Refused : QueryFault → Type 0) (Second : X → Y → Type 0) (then_refused : X → QueryFault → Type 0) (r : Checked X) (f : X → Checked Y)
     → Agrees First Refused r → ((x : X) → First x → Agrees (Second x) (then_refused x) (f x)) → IfErr (r >>= f) (FirstFault First Refused then_refused)
-faults_then First Refused Second then_refused (Ok x) f a next = if_err (f x) (then_refused x) (FirstFault First Refused then_refused) (λ e is. inr (x, a.stands, is)) (next x a.stands).refused
+faults_then First Refused Second then_refused (Ok x) f a next = if_err (f x) (then_refused x) (FirstFault First Refused then_refused) (λ e is. inr (x, a.applies, is)) (next x a.applies).refused
 faults_then First Refused Second then_refused (Err e) f a next = inl a.refused
 
 -- one step after another
 pub sequence : {X Y : Type 0} (First : X → Type 0) (Refused : QueryFault → Type 0) (Second : X → Y → Type 0) (then_refused : X → QueryFault → Type 0) (r : Checked X) (f : X → Checked Y)
     → Agrees First Refused r → ((x : X) → First x → Agrees (Second x) (then_refused x) (f x)) → Agrees (Then First Second) (FirstFault First Refused then_refused) (r >>= f)
 sequence First Refused Second then_refused r f a next = record {
-  stands = answers_then First Refused Second then_refused r f a next;
+  applies = returns_then First Refused Second then_refused r f a next;
   refused = faults_then First Refused Second then_refused r f a next;
   answers = λ y is. ap (λ t. t >>= f) (a.answers is.0 is.1) ∙ (next is.0 is.1).answers y is.2;
   refuses = λ e is. elim is [
@@ -56,20 +56,20 @@ sequence First Refused Second then_refused r f a next = record {
 }
 
 -- a step that may be refused, and then an answer
-pub answered : {X Y : Type 0} (First : X → Type 0) (Refused : QueryFault → Type 0) (r : Checked X) (v : X → Y) → Agrees First Refused r
+pub returned : {X Y : Type 0} (First : X → Type 0) (Refused : QueryFault → Type 0) (r : Checked X) (v : X → Y) → Agrees First Refused r
     → Agrees (Then First (λ x y. y ≡ v x)) (FirstFault First Refused (λ x fault. ⊥)) (r >>= (λ x. Ok (v x)))
-answered First Refused r v a = sequence First Refused (λ x y. y ≡ v x) (λ x fault. ⊥) r (λ x. Ok (v x)) a (λ x is. pure (v x))
+returned First Refused r v a = sequence First Refused (λ x y. y ≡ v x) (λ x fault. ⊥) r (λ x. Ok (v x)) a (λ x is. pure (v x))
 
 -- a test of a fact between a fault and an answer
 pub tested : {X : Type 0} (P : Type 0) (b : Bool) (e : QueryFault) (v : X) → (b ≡ true → P) → (P → b ≡ true)
     → Agrees (λ x. (P → ⊥) × (x ≡ v)) (λ fault. P × (fault ≡ e)) (if b then Err e else Ok v)
-tested P true e v is_so is_found = record { stands = tt; refused = (is_so refl, refl); answers = λ x is. absurd (is.0 (is_so refl)); refuses = λ fault is. ap Err (sym is.1) }
-tested P false e v is_so is_found = record { stands = (λ p. differ (is_found p), refl); refused = tt; answers = λ x is. ap Ok (sym is.1); refuses = λ fault is. absurd (differ (is_found is.0)) }
+tested P true e v is_so is_found = record { applies = tt; refused = (is_so refl, refl); answers = λ x is. absurd (is.0 (is_so refl)); refuses = λ fault is. ap Err (sym is.1) }
+tested P false e v is_so is_found = record { applies = (λ p. differ (is_found p), refl); refused = tt; answers = λ x is. ap Ok (sym is.1); refuses = λ fault is. absurd (differ (is_found is.0)) }
 
 -- a test of types
 pub types_tested : {X : Type 0} (b : Bool) (at : ℕ) (v : X) → Agrees (λ x. (b ≡ true) × (x ≡ v)) (λ fault. (b ≡ false) × (fault ≡ faults.TypeMismatch at)) (checked_types b at v)
-types_tested true at v = record { stands = (refl, refl); refused = tt; answers = λ x is. ap Ok (sym is.1); refuses = λ fault is. absurd (differ (sym is.0)) }
-types_tested false at v = record { stands = tt; refused = (refl, refl); answers = λ x is. absurd (differ is.0); refuses = λ fault is. ap Err (sym is.1) }
+types_tested true at v = record { applies = (refl, refl); refused = tt; answers = λ x is. ap Ok (sym is.1); refuses = λ fault is. absurd (differ (sym is.0)) }
+types_tested false at v = record { applies = tt; refused = (refl, refl); answers = λ x is. absurd (differ is.0); refuses = λ fault is. ap Err (sym is.1) }
 
 -- ---- geometry arguments
 
@@ -83,7 +83,7 @@ IsOther types.Null = Unit {0}
 of_other : {X : Type 0} (at : ℕ) (part : X) (type : OperandType) → (type ≡ types.Geometry → ⊥) → geometry_of_type at part type ≡ Err (faults.TypeMismatch at)
     → Agrees (λ x. (type ≡ types.Geometry) × (x ≡ part)) (λ fault. (type ≡ types.Geometry → ⊥) × (fault ≡ faults.TypeMismatch at)) (geometry_of_type at part type)
 of_other at part type other is = record {
-  stands = subst (λ r. IfOk r (λ x. (type ≡ types.Geometry) × (x ≡ part))) (sym is) tt;
+  applies = subst (λ r. IfOk r (λ x. (type ≡ types.Geometry) × (x ≡ part))) (sym is) tt;
   refused = subst (λ r. IfErr r (λ fault. (type ≡ types.Geometry → ⊥) × (fault ≡ faults.TypeMismatch at))) (sym is) (other, refl);
   answers = λ x has. absurd (other has.0);
   refuses = λ fault has. is ∙ ap Err (sym has.1);
@@ -92,7 +92,7 @@ of_other at part type other is = record {
 -- so the test for a geometry agrees with its rule at each of the four types
 of_type : {X : Type 0} (at : ℕ) (part : X) (type : OperandType)
     → Agrees (λ x. (type ≡ types.Geometry) × (x ≡ part)) (λ fault. (type ≡ types.Geometry → ⊥) × (fault ≡ faults.TypeMismatch at)) (geometry_of_type at part type)
-of_type at part types.Geometry = record { stands = (refl, refl); refused = tt; answers = λ x is. ap Ok (sym is.1); refuses = λ fault is. absurd (is.0 refl) }
+of_type at part types.Geometry = record { applies = (refl, refl); refused = tt; answers = λ x is. ap Ok (sym is.1); refuses = λ fault is. absurd (is.0 refl) }
 of_type at part types.Integer = of_other at part types.Integer (λ h. subst IsOther h tt) refl
 of_type at part types.Text = of_other at part types.Text (λ h. subst IsOther h tt) refl
 of_type at part types.Null = of_other at part types.Null (λ h. subst IsOther h tt) refl

@@ -6,13 +6,13 @@ use Rattle.std.proofs.lemmas.List.{map-append}
 use Rattle.grammar_laws.proofs.AsciiWords.{AsciiWords, tokens_ascii, words_before, words_behind}
 use Rattle.grammar_laws.proofs.QuerySound.{Begins, one_begins, seq_begins}
 use Rattle.grammar_laws.proofs.SchemaComplete.{EndsColumn, IsWordKind, IsWordOf, column_last, column_read, column_then, comma_ends, expect_read, is_kind, marks_complete, name_read, not_end, null_absent, null_read, one_first, one_last, one_only, parenthesis_ends, separator_read, split, table_read, table_then, turns_suffice, two_only, type_read, word_not, word_read}
-use Rattle.grammar_laws.proofs.SchemaRefused.{Answers, Anything, schema_answers}
+use Rattle.grammar_laws.proofs.SchemaRefused.{Answers, Anything, schema_returns}
 use Rattle.table_model.specs.Definitions.{is_integer}
 use Rattle.table_model.specs.Outcomes.{Gives}
 use Rattle.table_model.specs.Parsers.{Outcome, kind, place, spelling, next, sees, after}
 use Rattle.table_model.specs.SchemaGrammar.{IsType, IsNotNull, IsMark, AreMarks, Marked}
 use Rattle.table_model.specs.SchemaReading.{is_ascii, new_name, type_named, null_mark, key_mark, marks, has_column, column, is_there, key_after, columns_from, columns, has_table, table_name, table, tables_from, schema, schema_of}
-use Rattle.table_model.specs.SchemaRefusals.{Written, IsColumn, IsCreateTable, IsWritten, BeforeTable, BeforeColumns, BeforeColumn, BeforeKey, BeforeClose, has_key, is_among, names_of, is_at_token, StandsAt, StandsIn, AnswersFirst}
+use Rattle.table_model.specs.SchemaRefusals.{Written, IsColumn, IsCreateTable, IsWritten, BeforeTable, BeforeColumns, BeforeColumn, BeforeKey, BeforeClose, has_key, is_among, names_of, is_at_token, AppliesAt, AppliesIn, ReturnsFirst}
 use Rattle.table_model.specs.Texts.{same_name}
 use Rattle.table_model.specs.Tokens.{same_kind, tokens, most_bytes}
 use Rattle.table_model.specs.declared.definitions.ColumnType.{ColumnType}
@@ -740,22 +740,22 @@ close_stops {T = T} geometry ws name first more before u (x, b, e, opened, parts
         (fault.NoKey u.at, refl, λ after. table_unkeyed geometry now (firsts (first ∷ more)) u1 u2 u3 u4 (b ++ u ∷ after) u after is room fresh (read after) right)
 
 -- where a fault applies at a token, one is returned, whatever follows the token
-pub stands_stops : {T : Type 0} (geometry : List ℕ → Option T) (before : List Token) (u : Token) (g : SchemaFault) → StandsAt geometry before u g → AsciiWords (before ++ u ∷ [])
+pub applies_stops : {T : Type 0} (geometry : List ℕ → Option T) (before : List Token) (u : Token) (g : SchemaFault) → AppliesAt geometry before u g → AsciiWords (before ++ u ∷ [])
     → Hit (λ after. schema geometry (before ++ u ∷ after))
-stands_stops geometry before u (fault.TooMany at) (is, (word, ws, inl (full, p))) words =
+applies_stops geometry before u (fault.TooMany at) (is, (word, ws, inl (full, p))) words =
     table_name_stops geometry ws before u p words word (λ now e. inl (le-leb 16 (length now) (subst (λ n. 16 ≤ n) (sym (length-named now ws e ∙ full)) (omega arith))))
-stands_stops geometry before u (fault.TooMany at) (is, (word, ws, inr (name, m, full, p))) words =
+applies_stops geometry before u (fault.TooMany at) (is, (word, ws, inr (name, m, full, p))) words =
     column_name_stops geometry ws name m before u p words word (inl (le-leb 32 (length (firsts m)) (subst (λ n. 32 ≤ n) (sym (length-firsts m ∙ full)) (omega arith))))
-stands_stops geometry before u (fault.DoubleName at) (is, (word, ws, inl (room, taken, p))) words =
+applies_stops geometry before u (fault.DoubleName at) (is, (word, ws, inl (room, taken, p))) words =
     table_name_stops geometry ws before u p words word (λ now e. inr (table_taken now u (ap (is_among u) e ∙ taken)))
-stands_stops geometry before u (fault.DoubleName at) (is, (word, ws, inr (name, m, room, taken, p))) words =
+applies_stops geometry before u (fault.DoubleName at) (is, (word, ws, inr (name, m, room, taken, p))) words =
     column_name_stops geometry ws name m before u p words word (inr (column_taken m u taken))
-stands_stops geometry before u (fault.TwoKeys at) (is, (word, primary, ws, name, m, has, col, type, not_null, whole, p)) words =
+applies_stops geometry before u (fault.TwoKeys at) (is, (word, primary, ws, name, m, has, col, type, not_null, whole, p)) words =
     second_stops geometry ws name m col type not_null before u p words (word, primary) has whole
-stands_stops geometry before u (fault.NoKey at) (is, (right, ws, name, first, more, none, p)) words = close_stops geometry ws name first more before u p words right none
-stands_stops geometry before u (fault.Syntax at) h words = absurd h
-stands_stops geometry before u fault.TooLong h words = absurd h
-stands_stops geometry before u fault.OutOfMemory h words = absurd h
+applies_stops geometry before u (fault.NoKey at) (is, (right, ws, name, first, more, none, p)) words = close_stops geometry ws name first more before u p words right none
+applies_stops geometry before u (fault.Syntax at) h words = absurd h
+applies_stops geometry before u fault.TooLong h words = absurd h
+applies_stops geometry before u fault.OutOfMemory h words = absurd h
 
 -- ---- texts
 
@@ -767,14 +767,14 @@ fault_given geometry text ts f short e h = rw (le-ltb most_bytes (length text) s
 
 -- where a fault applies at a token of a text, one that applies there or before is given
 pub first_is_given : {T : Type 0} (geometry : List ℕ → Option T) (text : List ℕ) (r : Result (List (TableDef T)) SchemaFault) → Gives fault.OutOfMemory (λ t. t) r (schema_of geometry text)
-    → AnswersFirst geometry text r
-first_is_given geometry text r given before after t g short cut stands =
+    → ReturnsFirst geometry text r
+first_is_given geometry text r given before after t g short cut applies =
     let words : AsciiWords (before ++ t ∷ after) = subst AsciiWords cut (tokens_ascii false text) in
     let front : AsciiWords (before ++ t ∷ []) = words_before (before ++ t ∷ []) after (subst AsciiWords (sym (append_assoc before (t ∷ []) after)) words) in
-    let h = stands_stops geometry before t g stands front in (
+    let h = applies_stops geometry before t g applies front in (
       h.0,
       h.1,
-      subst (λ r. Answers r Anything (StandsIn geometry (before ++ t ∷ []))) (h.2 []) (schema_answers geometry (before ++ t ∷ [])) h.1,
+      subst (λ r. Answers r Anything (AppliesIn geometry (before ++ t ∷ []))) (h.2 []) (schema_returns geometry (before ++ t ∷ [])) h.1,
       subst (λ answer. Gives fault.OutOfMemory (λ t. t) r answer) (fault_given geometry text (before ++ t ∷ after) h.0 short cut (h.2 after)) given,
     )
 
@@ -784,5 +784,5 @@ given_itself (Ok x) = refl
 given_itself (Err f) = λ _. refl
 
 -- where a fault applies at a token of a text, one that applies there or before is read
-pub first_is_read : {T : Type 0} (geometry : List ℕ → Option T) (text : List ℕ) → AnswersFirst geometry text (schema_of geometry text)
+pub first_is_read : {T : Type 0} (geometry : List ℕ → Option T) (text : List ℕ) → ReturnsFirst geometry text (schema_of geometry text)
 first_is_read geometry text = first_is_given geometry text (schema_of geometry text) (given_itself (schema_of geometry text))

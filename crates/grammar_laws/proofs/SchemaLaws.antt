@@ -12,7 +12,7 @@ use Rattle.table_model.specs.declared.faults.SchemaFault.{SchemaFault}
 use Rattle.table_model.specs.declared.faults.SchemaFault.TheVariants as fault
 use Rattle.table_model.specs.Outcomes.{Gives}
 use Rattle.table_model.specs.Parsers.{Outcome, value_of}
-use Rattle.table_model.specs.SchemaGrammar.{AreTables, IsSchema, AnswersSchema}
+use Rattle.table_model.specs.SchemaGrammar.{AreTables, IsSchema, ReturnsSchema}
 use Rattle.table_model.specs.SchemaReading.{schema, schema_of}
 use Rattle.table_model.specs.Tokens.{tokens, most_bytes}
 
@@ -47,7 +47,7 @@ schema_of_complete geometry text tables (short, are, grammar) =
 
 -- whatever schema a text is, that one is given
 pub schema_is_given : {T : Type 0} (geometry : List ℕ → Option T) (text : List ℕ) (r : Result (List (TableDef T)) SchemaFault) → Gives fault.OutOfMemory (λ t. t) r (schema_of geometry text)
-    → AnswersSchema geometry text r
+    → ReturnsSchema geometry text r
 schema_is_given geometry text r given tables is = subst (λ answer. Gives fault.OutOfMemory (λ t. t) r answer) (schema_of_complete geometry text tables is) given
 
 -- one answer has one value

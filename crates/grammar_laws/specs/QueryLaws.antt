@@ -2,7 +2,7 @@
 use Rattle.std.specs.Prelude.{◌≡◌, ℕ, List, Ok, IfErr}
 use Rattle.table_model.specs.QueryGrammar.{IsQuery}
 use Rattle.table_model.specs.QueryReading.{query_of}
-use Rattle.table_model.specs.QueryRefusals.{StandsInQuery, AnswersFirst}
+use Rattle.table_model.specs.QueryRefusals.{AppliesInQuery, ReturnsFirst}
 use Rattle.table_model.specs.Queries.{SelectQuery}
 use Rattle.table_model.specs.References.{AreOneOrTwo}
 
@@ -23,9 +23,9 @@ abbrev pub ReferencesAreFew : Type 0
 ReferencesAreFew = (text : List ℕ) (query : SelectQuery) → IsQuery text query → AreOneOrTwo query.references
 
 -- if a text is refused for a fault at a token, the fault applies there
-abbrev pub RefusalStands : Type 0
-RefusalStands = (text : List ℕ) → IfErr (query_of text) (StandsInQuery text)
+abbrev pub RefusalApplies : Type 0
+RefusalApplies = (text : List ℕ) → IfErr (query_of text) (AppliesInQuery text)
 
 -- where faults apply at tokens of a text, it is refused for the first of them
 abbrev pub FirstIsRead : Type 0
-FirstIsRead = (text : List ℕ) → AnswersFirst text (query_of text)
+FirstIsRead = (text : List ℕ) → ReturnsFirst text (query_of text)

@@ -16,7 +16,7 @@ use Rattle.table_model.specs.declared.queries.WrittenReference.{WrittenReference
 
 -- a result agrees with rules: they say what is returned, and nothing else
 pub record Agrees {X : Type 0} (Is : X → Type 0) (Refused : QueryFault → Type 0) (answer : Checked X) : Type 0 where
-  pub stands : IfOk answer Is
+  pub applies : IfOk answer Is
   pub refused : IfErr answer Refused
   pub answers : (x : X) → Is x → answer ≡ Ok x
   pub refuses : (fault : QueryFault) → Refused fault → answer ≡ Err fault

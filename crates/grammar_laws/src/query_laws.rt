@@ -1,7 +1,7 @@
 //! Laws of queries. Nothing here runs: each function has an empty body,
 //! and its contract is a law of the definitions.
 
-ghost use Rattle.grammar_laws.specs.QueryLaws.{ReadIsQuery, QueryIsRead, OneTree, ReferencesAreFew, RefusalStands, FirstIsRead};
+ghost use Rattle.grammar_laws.specs.QueryLaws.{ReadIsQuery, QueryIsRead, OneTree, ReferencesAreFew, RefusalApplies, FirstIsRead};
 
 /// The query that a text is read as is its query by the grammar.
 pub fn read_is_query()
@@ -24,8 +24,8 @@ pub fn references_are_few()
 {}
 
 /// If a text is refused for a condition nested too deep or a number too big, the fault applies there by the grammar.
-pub fn refusal_stands()
-    ensures { RefusalStands }
+pub fn refusal_applies()
+    ensures { RefusalApplies }
 {}
 
 /// If conditions are nested too deep or numbers are too big in a text, it is refused for the first such fault.

@@ -5,7 +5,7 @@ ghost use Rattle.grammar_laws.specs.SchemaLaws.{
   ReadIsSchema,
   SchemaIsRead,
   OneSchema,
-  SchemaRefusalStands,
+  SchemaRefusalApplies,
   FirstSchemaFaultIsRead,
 };
 
@@ -25,8 +25,8 @@ pub fn one_schema<T>()
 {}
 
 /// If a text is refused for a fault at a token, the fault applies there by the grammar.
-pub fn schema_refusal_stands<T>()
-    ensures { SchemaRefusalStands T }
+pub fn schema_refusal_applies<T>()
+    ensures { SchemaRefusalApplies T }
 {}
 
 /// If faults apply at tokens of a text, it is refused for the first of them.

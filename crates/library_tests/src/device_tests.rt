@@ -97,8 +97,8 @@ fn reading_and_writing_may_fail(rt: HostRuntime) -> Result<(), Fail> {
         let mut out = StopSink::new(rt.alloc(), failing.put, 3);
         let mut err = MemorySink::new(rt.alloc());
         let status = run_failing(&rt, &failing, &mut out, &mut err)?;
-        let told = err.bytes() == line.as_bytes() && status == 6;
-        assert!(rt; told && out.bytes() == out_text.as_bytes());
+        let said = err.bytes() == line.as_bytes() && status == 6;
+        assert!(rt; said && out.bytes() == out_text.as_bytes());
     }
     Ok(())
 }
@@ -126,7 +126,7 @@ fn refused_unread(rt: &HostRuntime, table: &str, line: &[u8], wanted: u8) -> Res
 
 /// A failed reading names its table, unless a table before it doesn't load.
 #[test]
-fn a_failed_reading_is_told_of_its_table(rt: HostRuntime) -> Result<(), Fail> {
+fn a_failed_reading_names_its_table(rt: HostRuntime) -> Result<(), Fail> {
     assert!(rt; refused_unread(&rt, "id\n1\n", b"sfq: u L11\n", 6)?);
     assert!(rt; refused_unread(&rt, "id\nx\n", b"sfq: t L5 record 1\n", 4)?);
     Ok(())

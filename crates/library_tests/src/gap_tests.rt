@@ -128,10 +128,10 @@ fn is_filled(alloc: Global, gaps: &mut Gaps, row: &Row) -> Result<bool, Fail> {
     let (edge, others, shared, stops, may_share) = row;
     let edge = segment(edge.0, edge.1)?;
     let others = segments(alloc, others)?;
-    let told = fill(alloc, gaps, &edge, others.as_slice())?;
+    let said = fill(alloc, gaps, &edge, others.as_slice())?;
     let are_shared = have(alloc, gaps.shared(), shared)?;
     let are_stops = have(alloc, gaps.stops(), stops)?;
-    Ok(told == *may_share && are_shared && are_stops)
+    Ok(said == *may_share && are_shared && are_stops)
 }
 
 #[test]

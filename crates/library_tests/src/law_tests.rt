@@ -3,7 +3,7 @@
 use table_laws::loading_laws::{required_are_filled, rows_are_permuted, rows_ascend, rows_fit};
 
 #[test]
-fn laws_stand_at_plain_types() {
+fn laws_hold_at_plain_types() {
     rows_ascend::<u8, i64>();
     rows_are_permuted::<u8, i64>();
     rows_fit::<u8, i64>();

@@ -46,7 +46,7 @@ impl Read for Broken {
 }
 
 #[test]
-fn failed_read_is_told(rt: HostRuntime) -> Result<(), Fail> {
+fn failed_read_is_reported(rt: HostRuntime) -> Result<(), Fail> {
     let schema = read_schema(rt.alloc(), SCHEMA)?;
     assert!(rt; !schema.tables().is_empty());
     let mut records = Records::new(rt.alloc(), Broken);

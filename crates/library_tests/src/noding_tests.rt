@@ -38,24 +38,24 @@ const NODED: &str =
 0 0 to 4 0; 4 0 to 4 4; 4 4 to 0 4; 0 4 to 0 0 | 3 1 | 0 0 1,0 4 1,3 1 1,4 0 1,4 4 1,/0 0 1,0 4 1,0 0 1,4 0 1,0 4 1,4 4 1,4 0 1,4 4 1,/5";
 
 // Appends a point's text.
-fn tell(told: &mut String, point: &RatPoint) -> Result<(), Fail> {
+fn say(said: &mut String, point: &RatPoint) -> Result<(), Fail> {
     let (x, y, w) = numbers(point);
-    write!(told, "{x} {y} {w},")?;
+    write!(said, "{x} {y} {w},")?;
     Ok(())
 }
 
 // What two segments have in common.
 fn common(alloc: Global, one: &Segment, other: &Segment) -> Result<String, Fail> {
-    let mut told = String::new(alloc);
+    let mut said = String::new(alloc);
     match meet(one, other) {
-        Meet::Apart => told.push_str("apart")?,
-        Meet::At(point) => tell(&mut told, &point)?,
+        Meet::Apart => said.push_str("apart")?,
+        Meet::At(point) => say(&mut said, &point)?,
         Meet::Along(first, last) => {
-            tell(&mut told, &first)?;
-            tell(&mut told, &last)?;
+            say(&mut said, &first)?;
+            say(&mut said, &last)?;
         }
     }
-    Ok(told)
+    Ok(said)
 }
 
 // The segment from its end to its start.
@@ -65,8 +65,8 @@ fn turned(segment: &Segment) -> Result<Segment, Fail> {
 
 // Whether two segments have that in common, in either order.
 fn meet_as(alloc: Global, one: &Segment, other: &Segment, wanted: &str) -> Result<bool, Fail> {
-    let (told, told_back) = (common(alloc, one, other)?, common(alloc, other, one)?);
-    Ok(told.as_str() == wanted && told_back.as_str() == wanted)
+    let (said, said_back) = (common(alloc, one, other)?, common(alloc, other, one)?);
+    Ok(said.as_str() == wanted && said_back.as_str() == wanted)
 }
 
 // Whether two segments have that in common, each of them also from its end to its start.
@@ -93,17 +93,17 @@ fn meetings_either_way(rt: HostRuntime) -> Result<(), Fail> {
 // The nodes of some segments and positions, the ends of the pieces, and how many pairs were tried.
 fn noded(alloc: Global, segments: &[Segment], listed: &[GridPoint]) -> Result<String, Fail> {
     let noded = node(alloc, segments, listed)?;
-    let mut told = String::new(alloc);
+    let mut said = String::new(alloc);
     for point in noded.nodes() {
-        tell(&mut told, point)?;
+        say(&mut said, point)?;
     }
-    told.push_str("/")?;
+    said.push_str("/")?;
     for (lesser, greater) in noded.pieces() {
-        tell(&mut told, lesser)?;
-        tell(&mut told, greater)?;
+        say(&mut said, lesser)?;
+        say(&mut said, greater)?;
     }
-    write!(told, "/{}", noded.tests())?;
-    Ok(told)
+    write!(said, "/{}", noded.tests())?;
+    Ok(said)
 }
 
 // The segments of a list.
@@ -133,8 +133,8 @@ fn nodes_and_pieces_of_segments(rt: HostRuntime) -> Result<(), Fail> {
         let (lines, places, wanted) = parts_of(row)?;
         let segments = segments_of(rt.alloc(), lines)?;
         let listed = positions_of(rt.alloc(), places)?;
-        let told = noded(rt.alloc(), segments.as_slice(), listed.as_slice())?;
-        assert!(rt; told.as_str() == wanted);
+        let said = noded(rt.alloc(), segments.as_slice(), listed.as_slice())?;
+        assert!(rt; said.as_str() == wanted);
     }
     Ok(())
 }

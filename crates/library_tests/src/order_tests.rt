@@ -41,7 +41,7 @@ const SHOWN: [(&[&str], &[&str]); 4] = [
 ];
 
 #[test]
-fn texts_tell_what_each_word_is(rt: HostRuntime) -> Result<(), Fail> {
+fn texts_say_what_each_word_is(rt: HostRuntime) -> Result<(), Fail> {
     for (words, parts) in &SHOWN {
         assert!(rt; has_all(shown(&rt, words)?.as_str(), parts));
     }

@@ -39,7 +39,7 @@ fn orders(a: &RatPoint, b: &RatPoint) -> (Ordering, Ordering, Ordering) {
 
 /// Points are ordered by the numbers that they stand for.
 #[test]
-fn points_stand_by_their_numbers(rt: HostRuntime) {
+fn points_are_their_numbers(rt: HostRuntime) {
     let half = RatPoint::reduced(1, 0, 2);
     let one_high = RatPoint::reduced(2, 4, 4);
     let most = 15_999_999_999_999_999_999_999;

@@ -101,15 +101,15 @@ fn a_failed_put_leaves_a_beginning(rt: HostRuntime) -> Result<(), Fail> {
 }
 
 #[test]
-fn a_fault_of_reading_tells_of_the_text(rt: HostRuntime) {
-    for (fault, told) in &[
+fn a_fault_of_reading_shows_the_text(rt: HostRuntime) {
+    for (fault, said) in &[
         (WktFault::Syntax(9), Some(TextFault::Syntax(9))),
         (WktFault::OffGrid(6), Some(TextFault::OffGrid(6))),
         (WktFault::OutOfRange(6), Some(TextFault::OutOfRange(6))),
         (WktFault::TooLong, Some(TextFault::TooLong)),
         (WktFault::OutOfMemory, None),
     ] {
-        assert!(rt; fault.text_fault() == *told);
+        assert!(rt; fault.text_fault() == *said);
     }
     assert!(rt; WktFault::from(AllocError) == WktFault::OutOfMemory);
 }

@@ -25,7 +25,7 @@ fn points_and_lines_are_kept(rt: HostRuntime) -> Result<(), Fail> {
 }
 
 #[test]
-fn refusals_tell_the_fault(rt: HostRuntime) {
+fn refusals_say_the_fault(rt: HostRuntime) {
     for (refusal, fault) in &[
         (
             CheckFault::TooFewPoints(3),

@@ -29,7 +29,7 @@ use Rattle.cover_laws.proofs.GapTheorems.{gap_has_mediant}
 use Rattle.cover_laws.proofs.CoveringTheorems.{gap_is_there}
 use Rattle.matrices.specs.Raising.{IsRaisedTo, Grows, off_edges}
 use Rattle.matrices.proofs.Growth.{grows_raised}
-use Rattle.matrices.proofs.OffEdges.{told_off}
+use Rattle.matrices.proofs.OffEdges.{shown_off}
 
 -- ---- where each point lies
 abbrev nowhere : Crossings
@@ -42,7 +42,7 @@ outside kinds.Area = refl
 
 -- each point is off the edges, mostly in the exterior
 apart : (b : Geometry) → edges b ≡ [] → (x : Point) → IsOffEdges b x × (Exterior ≡ mostly b x)
-apart b none x = told_off b x nowhere (kind b) Exterior (subst (λ (es : List Edge). AreCrossings nowhere es x) (sym none) (record { on = refl; above = refl; at_or_above = refl })) refl refl (outside (kind b))
+apart b none x = shown_off b x nowhere (kind b) Exterior (subst (λ (es : List Edge). AreCrossings nowhere es x) (sym none) (record { on = refl; above = refl; at_or_above = refl })) refl refl (outside (kind b))
 
 -- ---- an edge as one gap
 one_position : (a b : Position) → compare (point_at a) (point_at b) ≡ Equal → a ≡ b

@@ -5,7 +5,7 @@ use Rattle.std.proofs.lemmas.List.Elements.{All-nil, All-more, All-weaker}
 use Rattle.geometry_model.specs.Points.{Point, IsPoint}
 use Rattle.geometry_model.specs.Geometries.{Edge, Geometry, kind, edges, lines, listed}
 use Rattle.geometry_model.specs.Sides.{on}
-use Rattle.geometry_model.specs.Locations.{stands_at, is_odd_end, locate}
+use Rattle.geometry_model.specs.Locations.{is_at, is_odd_end, locate}
 use Rattle.geometry_model.specs.Dimensions.{Matrix}
 use Rattle.geometry_model.specs.declared.shapes.Kind.TheVariants as kinds
 use Rattle.geometry_model.specs.declared.point_sets.Dimension.TheVariants.{Zero}
@@ -36,10 +36,10 @@ points_kept a b ps m n part all = All-weaker (λ p. Shows m (locate a p) (locate
 no_edges : {X : Type 0} (e : Edge) → Contains [] e → X
 no_edges e c = absurd (omega (arith, c.1))
 
-none_listed : (x : Point) → All (λ a. stands_at x a ≡ false) []
-none_listed x = All-nil (λ a. stands_at x a ≡ false)
+none_listed : (x : Point) → All (λ a. is_at x a ≡ false) []
+none_listed x = All-nil (λ a. is_at x a ≡ false)
 
-mostly_there : (g : Geometry) (e : Edge) (x : Point) → Contains (edges g) e → on e x ≡ true → IsPoint x → (kind g ≡ kinds.Line → is_odd_end (lines g) x ≡ false) → All (λ a. stands_at x a ≡ false) (listed g) → locate g x ≡ of_own_edges (kind g)
+mostly_there : (g : Geometry) (e : Edge) (x : Point) → Contains (edges g) e → on e x ≡ true → IsPoint x → (kind g ≡ kinds.Line → is_odd_end (lines g) x ≡ false) → All (λ a. is_at x a ≡ false) (listed g) → locate g x ≡ of_own_edges (kind g)
 mostly_there g e x c h hx f none = mostly_is_located g x hx f none ∙ own_edges_are_mostly g e c x h
 
 by_end : (g : Geometry) (x : Point) (t : Bool) → is_odd_end (lines g) x ≡ t → ((is_odd_end (lines g) x ≡ false) → locate g x ≡ of_own_edges kinds.Line) → kind g ≡ kinds.Line → (locate g x ≡ of_own_edges kinds.Line) ⊎ ((kind g ≡ kinds.Line) × (is_odd_end (lines g) x ≡ true))
@@ -54,17 +54,17 @@ own_point (Geometry.MultiLineString ls) e x c h hx = by_end (Geometry.MultiLineS
 own_point (Geometry.Polygon rs) e x c h hx = inl (mostly_there (Geometry.Polygon rs) e x c h hx (λ k. absurd (let z : kinds.Area ≡ kinds.Line = k in cc)) (none_listed x))
 own_point (Geometry.MultiPolygon es) e x c h hx = inl (mostly_there (Geometry.MultiPolygon es) e x c h hx (λ k. absurd (let z : kinds.Area ≡ kinds.Line = k in cc)) (none_listed x))
 
-abbrev Stands : Point → Geometry → Type 0
-Stands x g = (locate g x ≡ of_own_edges (kind g)) ⊎ ((kind g ≡ kinds.Line) × (is_odd_end (lines g) x ≡ true))
+abbrev Applies : Point → Geometry → Type 0
+Applies x g = (locate g x ≡ of_own_edges (kind g)) ⊎ ((kind g ≡ kinds.Line) × (is_odd_end (lines g) x ≡ true))
 
 -- where the own edges' parts share a point, and all odd ends are shown, so is each point on both
 pub shared_shown : (a b : Geometry) (m : Matrix) (x : Point) → ShowsEnds a b m → IsOnBoth a b x → Shows m (of_own_edges (kind a)) (of_own_edges (kind b)) Zero → Shows m (locate a x) (locate b x) Zero
 shared_shown a b m x ends both meets = go (own a both.on_first) (own b both.on_second)
   where
-    own : (g : Geometry) → Any (λ e. on e x ≡ true) (edges g) → Stands x g
+    own : (g : Geometry) → Any (λ e. on e x ≡ true) (edges g) → Applies x g
     own g s = own_point g s.1 x (s.0, s.2, s.3) s.4 both.is_point
 
-    go : Stands x a → Stands x b → Shows m (locate a x) (locate b x) Zero
+    go : Applies x a → Applies x b → Shows m (locate a x) (locate b x) Zero
     go (inr o) t = ends.of_first o.0 x both.is_point o.1
     go (inl e) (inr o) = ends.of_second o.0 x both.is_point o.1
     go (inl e) (inl f) = shows_at m Zero _ _ _ _ (sym e) (sym f) meets

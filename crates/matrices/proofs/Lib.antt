@@ -1,5 +1,5 @@
 pub mod Growth
-pub mod Ends
+pub mod EndsShown
 pub mod OddEnds
 pub mod GapCells
 pub mod EdgePoints

@@ -4,7 +4,7 @@ use Rattle.std.specs.List.{All, list_any}
 use Rattle.std.proofs.lemmas.List.Elements.{All-contains, All-head, All-tail}
 use Rattle.geometry_model.specs.Points.{Position, Point, IsPoint, point_at}
 use Rattle.geometry_model.specs.Geometries.{Geometry, kind, lines}
-use Rattle.geometry_model.specs.Locations.{stands_at, is_odd_end, on_some, ends, locate}
+use Rattle.geometry_model.specs.Locations.{is_at, is_odd_end, on_some, ends, locate}
 use Rattle.geometry_model.specs.Dimensions.{Matrix}
 use Rattle.geometry_model.specs.declared.shapes.Kind.TheVariants as kinds
 use Rattle.geometry_model.specs.declared.point_sets.Location.TheVariants.{Interior, Boundary, Exterior}
@@ -28,12 +28,12 @@ odd_end_is_boundary (Geometry.MultiLineString ls) x k h = boundary_if (is_odd_en
 odd_end_is_boundary (Geometry.Polygon rs) x k h = absurd (let z : kinds.Area ≡ kinds.Line = k in cc)
 odd_end_is_boundary (Geometry.MultiPolygon es) x k h = absurd (let z : kinds.Area ≡ kinds.Line = k in cc)
 
-end_there : (ls : List (List Position)) (x : Point) → is_odd_end ls x ≡ true → Passing (stands_at x) (flat_map ends ls)
-end_there ls x h = go (list_any (stands_at x) (flat_map ends ls)) refl
+end_there : (ls : List (List Position)) (x : Point) → is_odd_end ls x ≡ true → Passing (is_at x) (flat_map ends ls)
+end_there ls x h = go (list_any (is_at x) (flat_map ends ls)) refl
   where
-    go : (t : Bool) → list_any (stands_at x) (flat_map ends ls) ≡ t → Passing (stands_at x) (flat_map ends ls)
-    go true e = some_passed (stands_at x) (flat_map ends ls) e
-    go false e = absurd (let z : false ≡ true = sym (odd_count (stands_at x) (flat_map ends ls) ∙ parity_none (stands_at x) (flat_map ends ls) (none_passed (stands_at x) (flat_map ends ls) e)) ∙ h in cc)
+    go : (t : Bool) → list_any (is_at x) (flat_map ends ls) ≡ t → Passing (is_at x) (flat_map ends ls)
+    go true e = some_passed (is_at x) (flat_map ends ls) e
+    go false e = absurd (let z : false ≡ true = sym (odd_count (is_at x) (flat_map ends ls) ∙ parity_none (is_at x) (flat_map ends ls) (none_passed (is_at x) (flat_map ends ls) e)) ∙ h in cc)
 
 end_covered : (a b : Geometry) (m : Matrix) (ls : List (List Position)) (p : Position) → All (CoversEndsOf a b m) ls → Among p (flat_map ends ls) → CoversEnd a b m p
 end_covered a b m [] p all among = absurd among
@@ -46,7 +46,7 @@ end_covered a b m (l ∷ ls) p all among = go (among_either p (ends l) (flat_map
 pub shows_odd_end : (a b : Geometry) (m : Matrix) (x : Point) → kind a ≡ kinds.Line → IsPoint x → is_odd_end (lines a) x ≡ true → All (CoversEndsOf a b m) (lines a) → Shows m (locate a x) (locate b x) Zero
 shows_odd_end a b m x k hx h all = go (end_there (lines a) x h)
   where
-    go : Passing (stands_at x) (flat_map ends (lines a)) → Shows m (locate a x) (locate b x) Zero
+    go : Passing (is_at x) (flat_map ends (lines a)) → Shows m (locate a x) (locate b x) Zero
     go s = shows_at m Zero _ _ _ _ here there (end_covered a b m (lines a) s.found all s.among (here ∙ odd_end_is_boundary a x k h))
       where
         here : locate a (point_at s.found) ≡ locate a x

@@ -39,8 +39,8 @@ off_is_mostly (Geometry.Polygon rs) x h = inside_if (on_some rs x) (odd_above rs
 off_is_mostly (Geometry.MultiPolygon es) x h = inside_if (on_some (joined_rings es) x) (odd_above (joined_rings es) x) h
 
 -- ---- by how the point lies to the edges
-pub told_on : (g : Geometry) (x : Point) (c : Crossings) → AreCrossings c (edges g) x → c.on ≡ true → IsOffEdges g x → ⊥
-told_on g x c h e = on_not_off g x (sym h.on ∙ e)
+pub shown_on : (g : Geometry) (x : Point) (c : Crossings) → AreCrossings c (edges g) x → c.on ≡ true → IsOffEdges g x → ⊥
+shown_on g x c h e = on_not_off g x (sym h.on ∙ e)
 
-pub told_off : (g : Geometry) (x : Point) (c : Crossings) (k : Kind) (l : Location) → AreCrossings c (edges g) x → c.on ≡ false → k ≡ kind g → l ≡ off_edges k c.odd_above → IsOffEdges g x × (l ≡ mostly g x)
-told_off g x c k l h e ek el = (off_from g x (sym h.on ∙ e), el ∙ ap₂ off_edges ek h.above ∙ off_is_mostly g x (sym h.on ∙ e))
+pub shown_off : (g : Geometry) (x : Point) (c : Crossings) (k : Kind) (l : Location) → AreCrossings c (edges g) x → c.on ≡ false → k ≡ kind g → l ≡ off_edges k c.odd_above → IsOffEdges g x × (l ≡ mostly g x)
+shown_off g x c k l h e ek el = (off_from g x (sym h.on ∙ e), el ∙ ap₂ off_edges ek h.above ∙ off_is_mostly g x (sym h.on ∙ e))

@@ -19,7 +19,7 @@ use Rattle.cover_laws.specs.Covering.{ShowsEnds}
 use Rattle.matrix_cells.specs.Cells.{of_exteriors}
 use Rattle.matrices.specs.Raising.{Grows, ShowsOwnEnds}
 use Rattle.matrices.proofs.Growth.{covered_kept, part_through}
-use Rattle.matrices.proofs.Ends.{covered_ends_kept}
+use Rattle.matrices.proofs.EndsShown.{covered_ends_kept}
 use Rattle.matrices.proofs.OddEnds.{shows_odd_end}
 use Rattle.matrices.proofs.EdgePoints.{covers_kept}
 

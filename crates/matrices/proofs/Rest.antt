@@ -9,7 +9,7 @@ use Rattle.geometry_model.specs.Validity.{IsValid}
 use Rattle.geometry_laws.proofs.Each.{Passing, each_at}
 use Rattle.geometry_laws.proofs.RingParity.{each_from_all}
 use Rattle.matrix_laws.proofs.Closing.{valid_rings_are_closed}
-use Rattle.matrix_laws.proofs.Lists.{Some_of, some_from_any}
+use Rattle.matrix_laws.proofs.MatrixLists.{Some_of, some_from_any}
 use Rattle.matrix_laws.specs.Cells.{ShowsPoint, Covers}
 use Rattle.cover_laws.specs.Gaps.{EdgeGaps, AreGaps, IsGap, IsWithin, mostly}
 use Rattle.cover_laws.proofs.GapTheorems.{gap_end_is_alike}

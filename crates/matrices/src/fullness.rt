@@ -66,7 +66,7 @@ pub(crate) fn is_full_on(first: &Valid, second: &Valid, matrix: &MatrixCells) ->
             || matrix.shows(Location::Interior, Location::Interior, Dimension::Two))
 }
 
-/// The same of the gaps of one edge: an upright one has no sides to show.
+/// The same of the gaps of one edge: a vertical one has no sides to show.
 pub(crate) fn is_full_along(
     first: &Valid,
     second: &Valid,

@@ -40,8 +40,8 @@ fn shows_meeting(first: &Valid, second: &Valid, matrix: &MatrixCells) -> bool
     )
 }
 
-/// Raises cells by points that edges of both geometries share, until no further one can raise a cell. The matrix shows the odd
-/// ends of lines already.
+/// Raises cells by points that edges of both geometries share, until no further one can raise a cell. The odd ends of lines
+/// have to be shown before.
 fn raise_shared(first: &Valid, second: &Valid, shared: &[RatPoint], matrix: &mut MatrixCells)
     requires ends { ShowsEnds first.now second.now matrix.old }
     requires shared { All (IsOnBoth first.now second.now) shared.now }

@@ -17,10 +17,12 @@ pub fn find_matrix(alloc: Global, first: &Valid, second: &Valid) -> Result<Matri
     ensures point_sets { IfOk result (λ m. IsMatrix first.now second.now m) }
 {
     let mut matrix = MatrixCells::of_exteriors();
+    // The positions and odd ends of both geometries.
     raise_own_ends(first, second, &mut matrix);
     let mut turned = matrix.transposed();
     raise_own_ends(second, first, &mut turned);
     let mut gaps = Gaps::new(alloc);
+    // The edges of the second geometry, in the transposed matrix; then those of the first one, off these edges.
     raise_edges(alloc, second, first, &mut gaps, &mut turned)?;
     matrix = turned.transposed();
     raise_edges_off(alloc, first, second, &mut gaps, &mut matrix)?;

@@ -15,7 +15,7 @@ use Rattle.geometry_laws.proofs.Respect.{on_respects}
 use Rattle.geometry_laws.proofs.RingParity.{position_is_point}
 use Rattle.geometry_laws.proofs.Locating.{start_is_on, end_is_on, by_contraries}
 use Rattle.geometry_laws.proofs.Cuts.{Ends, contains_of_among, turn_less, not_after_both, not_before_both, start_is_cut, end_is_cut, or_first, or_last, same_end}
-use Rattle.matrix_laws.proofs.Lists.{Some_of, among_filter, filter_among}
+use Rattle.matrix_laws.proofs.MatrixLists.{Some_of, among_filter, filter_among}
 use Rattle.matrix_laws.proofs.Sorted.{Sorted, filter-sorted}
 use Rattle.matrix_laws.proofs.CutLists.{IsLeastCut}
 use Rattle.matrix_laws.proofs.CutOrder.{listed_is_cut, cut_is_listed, cut_points-sorted, cut_of_same}

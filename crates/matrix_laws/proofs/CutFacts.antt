@@ -14,7 +14,7 @@ use Rattle.geometry_laws.proofs.Scaling.{and_from, same_from}
 use Rattle.geometry_laws.proofs.PointOrder.{same_transitive}
 use Rattle.geometry_laws.proofs.Respect.{on_respects}
 use Rattle.geometry_laws.proofs.Each.{Among}
-use Rattle.matrix_laws.proofs.Lists.{Some_of}
+use Rattle.matrix_laws.proofs.MatrixLists.{Some_of}
 use Rattle.matrix_laws.proofs.EdgeMeeting.{before_turning, SharesPoint, shares_point}
 
 -- ---- the meeting point of two edges, turned up

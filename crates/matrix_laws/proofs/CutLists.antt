@@ -14,7 +14,7 @@ use Rattle.geometry_model.proofs.DimensionFacts.{is_false}
 use Rattle.geometry_laws.proofs.Scaling.{and_parts}
 use Rattle.geometry_laws.proofs.PointOrder.{same_reflexive}
 use Rattle.geometry_laws.proofs.Each.{Among, among_left, among_right, among_either}
-use Rattle.matrix_laws.proofs.Lists.{Some_of, among_from_contains, contains_from_among, among_map, map_among, among_flat_map, flat_map_among}
+use Rattle.matrix_laws.proofs.MatrixLists.{Some_of, among_from_contains, contains_from_among, among_map, map_among, among_flat_map, flat_map_among}
 use Rattle.matrix_laws.proofs.EdgeMeeting.{before_turning}
 use Rattle.matrix_laws.proofs.CutFacts.{turned_is_point, turned_is_nothing, least_is_nothing, crossing_found}
 

@@ -8,7 +8,7 @@ use Rattle.geometry_laws.specs.PointLaws.{reversed}
 use Rattle.geometry_laws.proofs.PointOrder.{same_symmetric, same_transitive, compare_reversed, equal_is_same, less_transitive}
 use Rattle.geometry_laws.proofs.Respect.{on_respects}
 use Rattle.geometry_laws.proofs.Each.{Among, each_of}
-use Rattle.matrix_laws.proofs.Lists.{Some_of, some_from_any, any_from_some, all_from_each}
+use Rattle.matrix_laws.proofs.MatrixLists.{Some_of, some_from_any, any_from_some, all_from_each}
 use Rattle.matrix_laws.proofs.Sorted.{Sorted, Ties, IsOrder, among_ascending, ascending_among, ascending-sorted, pairs_from_sorted}
 use Rattle.matrix_laws.proofs.CutLists.{IsLeastCut, all_cuts, cut_is_cut, cut_found, or_first, or_second, or_either}
 

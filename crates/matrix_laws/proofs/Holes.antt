@@ -56,8 +56,8 @@ pub record Lawful (outer : List Position) (holes : List (List Position)) : Type 
 abbrev whole : List (List Position) → Element
 whole rs = record { first = 0; rings = rs }
 
-stands : (rs : List (List Position)) → Contains (whole rs ∷ []) (whole rs)
-stands rs = (0, omega arith, refl)
+applies : (rs : List (List Position)) → Contains (whole rs ∷ []) (whole rs)
+applies rs = (0, omega arith, refl)
 
 numbered_as : (k : ℕ) → k ≡ 0 + k
 numbered_as k = omega arith
@@ -67,12 +67,12 @@ pub lawful : (outer : List Position) (holes : List (List Position)) → IsValid 
 lawful outer holes v = record {
   outer_closed = closed outer (λ n. v (RingNotClosed 0) (outer, refl, n));
   holes_closed = each_by IsClosed holes (λ i h e. closed h (λ n. v (RingNotClosed (suc i)) (h, e, n)));
-  outer_apart = each_by (Disjoint outer) holes (λ i h e. disjoint_from outer h (λ s. v (RingsMeet 0 (suc i)) (whole (outer ∷ holes), 0, suc i, outer, h, stands (outer ∷ holes), some_next i, (numbered_as 0, refl), (numbered_as (suc i), e), s)));
-  holes_inside = each_by (λ h. inside outer h ≡ true) holes (λ i h e. not_false (inside outer h) (λ f. v (HoleOutside (suc i)) (whole (outer ∷ holes), suc i, outer, h, stands (outer ∷ holes), some_next i, refl, (numbered_as (suc i), e), f)));
+  outer_apart = each_by (Disjoint outer) holes (λ i h e. disjoint_from outer h (λ s. v (RingsMeet 0 (suc i)) (whole (outer ∷ holes), 0, suc i, outer, h, applies (outer ∷ holes), some_next i, (numbered_as 0, refl), (numbered_as (suc i), e), s)));
+  holes_inside = each_by (λ h. inside outer h ≡ true) holes (λ i h e. not_false (inside outer h) (λ f. v (HoleOutside (suc i)) (whole (outer ∷ holes), suc i, outer, h, applies (outer ∷ holes), some_next i, refl, (numbered_as (suc i), e), f)));
   holes_apart = pairs_by Apart holes (λ i j h k l e g. record {
-    disjoint = disjoint_from h k (λ s. v (RingsMeet (suc i) (suc j)) (whole (outer ∷ holes), suc i, suc j, h, k, stands (outer ∷ holes), next_less i j l, (numbered_as (suc i), e), (numbered_as (suc j), g), s));
-    not_over = not_true (inside h k) (λ f. v (HolesNested (suc i) (suc j)) (whole (outer ∷ holes), suc i, suc j, h, k, stands (outer ∷ holes), some_next i, next_less i j l, (numbered_as (suc i), e), (numbered_as (suc j), g), inl f));
-    not_in = not_true (inside k h) (λ f. v (HolesNested (suc i) (suc j)) (whole (outer ∷ holes), suc i, suc j, h, k, stands (outer ∷ holes), some_next i, next_less i j l, (numbered_as (suc i), e), (numbered_as (suc j), g), inr f));
+    disjoint = disjoint_from h k (λ s. v (RingsMeet (suc i) (suc j)) (whole (outer ∷ holes), suc i, suc j, h, k, applies (outer ∷ holes), next_less i j l, (numbered_as (suc i), e), (numbered_as (suc j), g), s));
+    not_over = not_true (inside h k) (λ f. v (HolesNested (suc i) (suc j)) (whole (outer ∷ holes), suc i, suc j, h, k, applies (outer ∷ holes), some_next i, next_less i j l, (numbered_as (suc i), e), (numbered_as (suc j), g), inl f));
+    not_in = not_true (inside k h) (λ f. v (HolesNested (suc i) (suc j)) (whole (outer ∷ holes), suc i, suc j, h, k, applies (outer ∷ holes), some_next i, next_less i j l, (numbered_as (suc i), e), (numbered_as (suc j), g), inr f));
   });
 }
 

@@ -8,7 +8,7 @@ use Rattle.geometry_model.specs.Geometries.{Edge, Geometry, edges, edges_of_line
 use Rattle.geometry_model.specs.Sides.{on}
 use Rattle.geometry_model.specs.Crossings.{exactly_one, strictly_above, at_or_above, side_rightward}
 use Rattle.geometry_model.specs.Dimensions.{weighted, weighted_three, HasPoint, HasSegment, HasTriangle, HasDimension, common, IsMatrix}
-use Rattle.geometry_model.specs.Locations.{stands_at, locate}
+use Rattle.geometry_model.specs.Locations.{is_at, locate}
 use Rattle.geometry_model.specs.CutPoints.{IsCut, cut_points}
 use Rattle.geometry_model.specs.CutPoints.IsCut.{Listed}
 use Rattle.geometry_model.specs.Pieces.{Piece, pieces, sample}
@@ -41,7 +41,7 @@ use Rattle.geometry_laws.proofs.SideTriangles.{below_from}
 use Rattle.geometry_laws.proofs.First.{First, first, over_point, over_is_point, over_on, label_of_first}
 use Rattle.geometry_laws.proofs.Avoid.{OffLines, avoid_lines, OffPoints, avoid_points}
 use Rattle.geometry_laws.proofs.CoverTheorems.{over_straight}
-use Rattle.matrix_laws.proofs.Lists.{Some_of}
+use Rattle.matrix_laws.proofs.MatrixLists.{Some_of}
 use Rattle.matrix_laws.proofs.CutOrder.{listed_is_cut, cut_is_listed}
 use Rattle.matrix_laws.proofs.PieceLists.{IsLeastPiece, piece_is}
 use Rattle.matrix_laws.proofs.Around.{Within, within_piece}
@@ -256,12 +256,12 @@ free_no_cut a b z f c = go (cut_is_listed (edges' a b) (listed' a b) z f.is_poin
 -- where nothing goes through a point that is no cut, it lies off both
 off_both : (a b : Geometry) (z : Point) → IsPoint z → Each (λ e. on e z ≡ false) (edges' a b) → (IsCut (edges' a b) (listed' a b) z → ⊥) → Off a z × Off b z
 off_both a b z hz h f = (
-  record { edges_off = each_left (λ e. on e z ≡ false) (edges a) (edges b) h; listed_off = each_left (λ p. stands_at z p ≡ false) (listed a) (listed b) stands },
-  record { edges_off = each_right (λ e. on e z ≡ false) (edges a) (edges b) h; listed_off = each_right (λ p. stands_at z p ≡ false) (listed a) (listed b) stands },
+  record { edges_off = each_left (λ e. on e z ≡ false) (edges a) (edges b) h; listed_off = each_left (λ p. is_at z p ≡ false) (listed a) (listed b) applies },
+  record { edges_off = each_right (λ e. on e z ≡ false) (edges a) (edges b) h; listed_off = each_right (λ p. is_at z p ≡ false) (listed a) (listed b) applies },
 )
   where
-    stands : Each (λ p. stands_at z p ≡ false) (listed a ++ listed b)
-    stands = each_of (λ p. stands_at z p ≡ false) (listed a ++ listed b) (λ p m. by_contraries (stands_at z p) false (λ k. absurd (f (Listed hz p (contains_of_among p (listed a ++ listed b) m) k))) refl)
+    applies : Each (λ p. is_at z p ≡ false) (listed a ++ listed b)
+    applies = each_of (λ p. is_at z p ≡ false) (listed a ++ listed b) (λ p m. by_contraries (is_at z p) false (λ k. absurd (f (Listed hz p (contains_of_among p (listed a ++ listed b) m) k))) refl)
 
 -- nothing above: the exterior
 exterior_above : (g : Geometry) (z : Point) → Each (λ e. strictly_above e z ≡ false) (edges g) → above g z ≡ Exterior

@@ -1,4 +1,4 @@
-pub mod Lists
+pub mod MatrixLists
 pub mod Sorted
 pub mod EdgeMeeting
 pub mod CutFacts

@@ -6,7 +6,7 @@ use Rattle.geometry_model.specs.Points.{Position, Point, point_at}
 use Rattle.geometry_model.specs.Geometries.{Geometry, edges_of_lines, positions, kind, joined_rings}
 use Rattle.geometry_model.specs.Sides.{on}
 use Rattle.geometry_model.specs.Crossings.{odd_above}
-use Rattle.geometry_model.specs.Locations.{stands_at, on_some, is_odd_end, in_points, in_lines, in_rings, locate}
+use Rattle.geometry_model.specs.Locations.{is_at, on_some, is_odd_end, in_points, in_lines, in_rings, locate}
 use Rattle.geometry_model.specs.Dimensions.{HasPoint, HasDimension, Matrix, cell, common, IsMatrix, transposed}
 use Rattle.geometry_model.specs.Patterns.{takes, matches, pattern_of_text}
 use Rattle.geometry_model.specs.Predicates.{like, crosses, overlaps, holds, wants_point, wants_common_point, forces_meeting}
@@ -174,7 +174,7 @@ not_outside_rings rs p h e = go (on_some rs p) (odd_above rs p) h e
 
 -- a listed position is in the interior
 not_outside_points : (a : Position) (rest : List Position) → in_points (a ∷ rest) (point_at a) ≢ Exterior
-not_outside_points a rest e = go (stands_at (point_at a) a) (list_any (stands_at (point_at a)) rest) (same_end a) e
+not_outside_points a rest e = go (is_at (point_at a) a) (list_any (is_at (point_at a)) rest) (same_end a) e
   where
     go : (s t : Bool) → s ≡ true → (if s || t then Interior else Exterior) ≡ Exterior → ⊥
     go true t h e = absurd cc

@@ -7,7 +7,7 @@ use Rattle.geometry_model.specs.Points.{Position, Point, IsPoint, point_at}
 use Rattle.geometry_model.specs.Geometries.{Edge, Geometry, edges, edges_of_line, edges_of_lines, lines, listed, positions, rings, joined_rings}
 use Rattle.geometry_model.specs.Sides.{side, on}
 use Rattle.geometry_model.specs.Crossings.{exactly_one as xor, reaches, spans, side_rightward, strictly_above}
-use Rattle.geometry_model.specs.Locations.{stands_at, locate}
+use Rattle.geometry_model.specs.Locations.{is_at, locate}
 use Rattle.geometry_model.specs.Labels.{above}
 use Rattle.geometry_model.specs.Envelopes.{Envelope, envelope_at, joined, with_position, envelope_of_positions, envelope, overlap, meets}
 use Rattle.geometry_model.specs.declared.point_sets.Location.TheVariants.{Interior, Exterior}
@@ -269,8 +269,8 @@ rings_aside rs p hp c (inr (inr (inr h))) = nothing_above rs p (each_map (λ e. 
 
 -- ---- off all edges and listed positions
 -- the point is at no listed position, since it isn't on the edge from that position to itself
-listed_off : (P : Position → Type 0) (p : Point) → IsPoint p → ((e : Edge) → P e.start → P e.end → on e p ≡ false) → (qs : List Position) → Each P qs → Each (λ a. stands_at p a ≡ false) qs
-listed_off P p hp f qs h = each_map P (λ a. stands_at p a ≡ false) qs (λ a k. by_contraries (stands_at p a) (on (dot a) p) (start_is_on (dot a) p hp) (f (dot a) k k)) h
+listed_off : (P : Position → Type 0) (p : Point) → IsPoint p → ((e : Edge) → P e.start → P e.end → on e p ≡ false) → (qs : List Position) → Each P qs → Each (λ a. is_at p a ≡ false) qs
+listed_off P p hp f qs h = each_map P (λ a. is_at p a ≡ false) qs (λ a k. by_contraries (is_at p a) (on (dot a) p) (start_is_on (dot a) p hp) (f (dot a) k k)) h
 
 -- a side that keeps edges off the point keeps all edges and listed positions of a geometry off it
 off_by : (P : Position → Type 0) (g : Geometry) (p : Point) → IsPoint p → ((e : Edge) → P e.start → P e.end → on e p ≡ false) → Each P (positions g) → Off g p

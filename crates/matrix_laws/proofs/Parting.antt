@@ -8,7 +8,7 @@ use Rattle.geometry_model.specs.Points.{Position, Point, IsPoint, point_at, same
 use Rattle.geometry_model.specs.Geometries.{Edge, Geometry, edges_of_line, edges_of_lines, rings, joined_rings}
 use Rattle.geometry_model.specs.Sides.{side, on}
 use Rattle.geometry_model.specs.Crossings.{exactly_one as xor, reaches, spans, side_rightward, odd_above, odd_at_or_above}
-use Rattle.geometry_model.specs.Locations.{stands_at, last_after}
+use Rattle.geometry_model.specs.Locations.{is_at, last_after}
 use Rattle.geometry_model.specs.Validity.{IsValid, Clash, ShareOther}
 use Rattle.geometry_model.specs.declared.validity_faults.ValidityFault.TheVariants.{RingNotClosed, RingNotSimple}
 use Rattle.integers.proofs.Signs.{at_most_yes, at_most_no}
@@ -27,8 +27,8 @@ use Rattle.geometry_laws.proofs.Locating.{start_is_on, end_is_on, by_contraries}
 use Rattle.geometry_laws.proofs.Cuts.{turn_less, not_after_both, not_before_both, same_end}
 use Rattle.geometry_laws.proofs.WithinPiece.{touches, on_from_touch, strictly_right, parity_at_or_above}
 use Rattle.geometry_laws.proofs.Nudge.{IsSlant}
-use Rattle.geometry_laws.proofs.CoverTheorems.{all_from_each, sides_are_near, near_points_stand_so}
-use Rattle.geometry_laws.specs.CoverLaws.{IsSlantAt, NearSides, AllNearStand}
+use Rattle.geometry_laws.proofs.CoverTheorems.{all_from_each, sides_are_near, near_points_are_so}
+use Rattle.geometry_laws.specs.CoverLaws.{IsSlantAt, NearSides, AreAllNear}
 use Rattle.geometry_model.specs.Labels.{below, above}
 use Rattle.geometry_model.specs.declared.point_sets.Location.TheVariants.{Interior, Exterior}
 use Rattle.matrix_laws.specs.PolygonLaws.{ArePartedAs}
@@ -65,7 +65,7 @@ flat e p h = go (int_le e.start.x e.end.x)
     go false = turned (side e.start e.end p) (side e.end e.start p) (side_turned e.start e.end p) h
 
 -- strictly within an edge that isn't vertical, one end is to the left of the point and one to the right: the edge spans it
-pub goes_through : (e : Edge) (p : Point) → IsPoint p → on e p ≡ true → stands_at p e.start ≡ false → stands_at p e.end ≡ false → (e.start.x ≡ e.end.x → ⊥) → touches e p ≡ true
+pub goes_through : (e : Edge) (p : Point) → IsPoint p → on e p ≡ true → is_at p e.start ≡ false → is_at p e.end ≡ false → (e.start.x ≡ e.end.x → ⊥) → touches e p ≡ true
 goes_through e p hp h s t f = and_from (spans e p) (int_eq (side_rightward e p) (pos 0)) (go (compare (point_at e.start) p) refl (compare (point_at e.end) p) refl) (equal_yes (side_rightward e p) (pos 0) (flat e p ((on_parts e p h).on_line)))
   where
     no_way : (t : Bool) → t ≡ true → t ≡ false → ⊥
@@ -79,15 +79,15 @@ goes_through e p hp h s t f = and_from (spans e p) (int_eq (side_rightward e p) 
 
     go : (o : Ordering) → compare (point_at e.start) p ≡ o → (u : Ordering) → compare (point_at e.end) p ≡ u → spans e p ≡ true
     go Less k Less l = absurd (no_way (on e p) h (not_after_both e p hp k l))
-    go Less k Equal l = absurd (no_way (stands_at p e.end) ((equal_is_same (point_at e.end) p).0 l) t)
+    go Less k Equal l = absurd (no_way (is_at p e.end) ((equal_is_same (point_at e.end) p).0 l) t)
     go Less k Greater l = ap₂ xor
         (reaches_yes e.start p (strictly_right e.start e.end (point_at e.start) p f start_line ((on_parts e p h).on_line) k))
         (reaches_no e.end p (strictly_right e.start e.end p (point_at e.end) f ((on_parts e p h).on_line) end_line (turn_less (point_at e.end) p l)))
-    go Equal k u l = absurd (no_way (stands_at p e.start) ((equal_is_same (point_at e.start) p).0 k) s)
+    go Equal k u l = absurd (no_way (is_at p e.start) ((equal_is_same (point_at e.start) p).0 k) s)
     go Greater k Less l = ap₂ xor
         (reaches_no e.start p (strictly_right e.start e.end p (point_at e.start) f ((on_parts e p h).on_line) start_line (turn_less (point_at e.start) p k)))
         (reaches_yes e.end p (strictly_right e.start e.end (point_at e.end) p f end_line ((on_parts e p h).on_line) l))
-    go Greater k Equal l = absurd (no_way (stands_at p e.end) ((equal_is_same (point_at e.end) p).0 l) t)
+    go Greater k Equal l = absurd (no_way (is_at p e.end) ((equal_is_same (point_at e.end) p).0 l) t)
     go Greater k Greater l = absurd (no_way (on e p) h (not_before_both e p hp (turn_less (point_at e.start) p k) (turn_less (point_at e.end) p l)))
 
 -- ---- over all rings
@@ -171,7 +171,7 @@ clashes ring c i j e f l g h p hp k m s t = go (equal_or_not j (i + 1)) (equal_o
     go (inr q) (inr w) v = inr (inr (q, (λ b. w b.0), record { at = p; is_point = hp; on_first = k; on_second = m }))
 
 -- ---- no other edge goes through the point
-apart_from : (a : Position) (p : Point) → stands_at p a ≡ false → same_point p (point_at a) ≡ false
+apart_from : (a : Position) (p : Point) → is_at p a ≡ false → same_point p (point_at a) ≡ false
 apart_from a p h = same_symmetric p (point_at a) ∙ h
 
 not_on : (e : Edge) (p : Point) → (on e p ≡ true → ⊥) → on e p ≡ false
@@ -179,7 +179,7 @@ not_on e p n = by_contraries (on e p) false (λ q. absurd (n q)) refl
 
 -- none of its ring, since the ring is simple
 pub no_edge_of_ring : (g : Geometry) → IsValid g → (i : ℕ) (ring : List Position) → slice_get (rings g) i ≡ Some ring → (j : ℕ) (e : Edge) → slice_get (edges_of_line ring) j ≡ Some e
-    → (p : Point) → IsPoint p → on e p ≡ true → stands_at p e.start ≡ false → stands_at p e.end ≡ false → (k : ℕ) (d : Edge) → (k ≡ j → ⊥) → slice_get (edges_of_line ring) k ≡ Some d → on d p ≡ false
+    → (p : Point) → IsPoint p → on e p ≡ true → is_at p e.start ≡ false → is_at p e.end ≡ false → (k : ℕ) (d : Edge) → (k ≡ j → ⊥) → slice_get (edges_of_line ring) k ≡ Some d → on d p ≡ false
 no_edge_of_ring g v i ring ri j e ej p hp h s t k d n dk = not_on d p (λ m. pick m (less_or_more k j n))
   where
     ring_closed : IsClosed ring
@@ -205,7 +205,7 @@ no_edge_of_others g v i ring ri j e ej p hp h k r n rk m d dm = not_on d p (λ q
 -- ---- exactly one of the two parities
 -- just one edge goes through the point, so it alone is at or above it without being strictly above it
 pub rings_part : (g : Geometry) → IsValid g → (i : ℕ) (ring : List Position) → slice_get (rings g) i ≡ Some ring → (j : ℕ) (e : Edge) → slice_get (edges_of_line ring) j ≡ Some e
-    → (p : Point) → IsPoint p → on e p ≡ true → stands_at p e.start ≡ false → stands_at p e.end ≡ false → (e.start.x ≡ e.end.x → ⊥) → xor (odd_above (rings g) p) (odd_at_or_above (rings g) p) ≡ true
+    → (p : Point) → IsPoint p → on e p ≡ true → is_at p e.start ≡ false → is_at p e.end ≡ false → (e.start.x ≡ e.end.x → ⊥) → xor (odd_above (rings g) p) (odd_at_or_above (rings g) p) ≡ true
 rings_part g v i ring ri j e ej p hp h s t f = ap (xor (odd_above (rings g) p)) (parity_at_or_above (rings g) p) ∙ sym (xor_assoc (odd_above (rings g) p) (odd_above (rings g) p) (parity (λ k. touches k p) (edges_of_lines (rings g))))
     ∙ ap (λ (b : Bool). xor b (parity (λ k. touches k p) (edges_of_lines (rings g)))) (xor_self (odd_above (rings g) p)) ∙ over_rings (λ k. touches k p) (rings g)
     ∙ one_parity (λ r. parity (λ k. touches k p) (edges_of_line r)) (rings g) i ring ri
@@ -230,7 +230,7 @@ each_ring P (r ∷ rs) f = each_append P (edges_of_line r) (edges_of_lines rs) (
 
 -- every edge through the point is that one, so none of them is vertical
 slant_at : (g : Geometry) → IsValid g → (i : ℕ) (ring : List Position) → slice_get (rings g) i ≡ Some ring → (j : ℕ) (e : Edge) → slice_get (edges_of_line ring) j ≡ Some e
-    → (p : Point) → IsPoint p → on e p ≡ true → stands_at p e.start ≡ false → stands_at p e.end ≡ false → (e.start.x ≡ e.end.x → ⊥) → Each (IsSlant p) (edges_of_lines (rings g))
+    → (p : Point) → IsPoint p → on e p ≡ true → is_at p e.start ≡ false → is_at p e.end ≡ false → (e.start.x ≡ e.end.x → ⊥) → Each (IsSlant p) (edges_of_lines (rings g))
 slant_at g v i ring ri j e ej p hp h s t f = each_ring (IsSlant p) (rings g) (λ k r rk m d dm. at_ring k r rk m d dm (equal_or_not k i))
   where
     same_item : {X : Type 0} (x y : X) → Some x ≡ Some y → x ≡ y
@@ -253,15 +253,15 @@ slant_area (Geometry.Point o) p i ring e h = absurd (let z : None ≡ Some ring 
 slant_area (Geometry.MultiPoint qs) p i ring e h = absurd (let z : None ≡ Some ring = e in cc)
 slant_area (Geometry.LineString l) p i ring e h = absurd (let z : None ≡ Some ring = e in cc)
 slant_area (Geometry.MultiLineString ls) p i ring e h = absurd (let z : None ≡ Some ring = e in cc)
-slant_area (Geometry.Polygon rs) p i ring e h = record { edges = all_from_each (IsSlant p) (edges_of_lines rs) h; positions = all_from_each (λ a. stands_at p a ≡ false) [] tt }
-slant_area (Geometry.MultiPolygon es) p i ring e h = record { edges = all_from_each (IsSlant p) (edges_of_lines (joined_rings es)) h; positions = all_from_each (λ a. stands_at p a ≡ false) [] tt }
+slant_area (Geometry.Polygon rs) p i ring e h = record { edges = all_from_each (IsSlant p) (edges_of_lines rs) h; positions = all_from_each (λ a. is_at p a ≡ false) [] tt }
+slant_area (Geometry.MultiPolygon es) p i ring e h = record { edges = all_from_each (IsSlant p) (edges_of_lines (joined_rings es)) h; positions = all_from_each (λ a. is_at p a ≡ false) [] tt }
 
 -- below counts the edges at or above, above those strictly above, and just one of these numbers is odd;
 -- no edge through the point is vertical, so the points near it lie as these say
 pub sides_of_a_ring : (g : Geometry) → IsValid g → (i : ℕ) (ring : List Position) → slice_get (rings g) i ≡ Some ring → (j : ℕ) (e : Edge) → slice_get (edges_of_line ring) j ≡ Some e
-    → (p : Point) → IsPoint p → on e p ≡ true → stands_at p e.start ≡ false → stands_at p e.end ≡ false → (e.start.x ≡ e.end.x → ⊥) → ArePartedAs (below g p) (above g p) × ((k : ℕ) → NearSides g p k) × AllNearStand g p
+    → (p : Point) → IsPoint p → on e p ≡ true → is_at p e.start ≡ false → is_at p e.end ≡ false → (e.start.x ≡ e.end.x → ⊥) → ArePartedAs (below g p) (above g p) × ((k : ℕ) → NearSides g p k) × AreAllNear g p
 sides_of_a_ring g v i ring ri j e ej p hp h s t f = (
   parted_as (odd_above (rings g) p) (odd_at_or_above (rings g) p) (rings_part g v i ring ri j e ej p hp h s t f),
   sides_are_near g p hp (slant_area g p i ring ri (slant_at g v i ring ri j e ej p hp h s t f)),
-  near_points_stand_so g p hp (slant_area g p i ring ri (slant_at g v i ring ri j e ej p hp h s t f)),
+  near_points_are_so g p hp (slant_area g p i ring ri (slant_at g v i ring ri j e ej p hp h s t f)),
 )

@@ -11,7 +11,7 @@ use Rattle.geometry_laws.proofs.PointOrder.{same_symmetric, equal_is_same}
 use Rattle.geometry_laws.proofs.Respect.{on_respects}
 use Rattle.geometry_laws.proofs.Cuts.{piece_ends}
 use Rattle.geometry_laws.proofs.Each.{Each, Among, each_of}
-use Rattle.matrix_laws.proofs.Lists.{Some_of, among_from_contains, contains_from_among, among_flat_map, flat_map_among, among_filter, filter_among}
+use Rattle.matrix_laws.proofs.MatrixLists.{Some_of, among_from_contains, contains_from_among, among_flat_map, flat_map_among, among_filter, filter_among}
 use Rattle.matrix_laws.proofs.Sorted.{Sorted, Ties, among_ascending, ascending_among, ascending-sorted, filter-sorted, pairs_from_sorted}
 use Rattle.matrix_laws.proofs.CutLists.{IsLeastCut}
 use Rattle.matrix_laws.proofs.CutOrder.{listed_is_cut, cut_is_listed, cut_points-sorted}

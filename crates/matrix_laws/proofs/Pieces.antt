@@ -6,7 +6,7 @@ use Rattle.geometry_model.specs.Points.{Position, Point, IsPoint, point_at, same
 use Rattle.geometry_model.specs.Geometries.{Edge, Geometry, listed, rings}
 use Rattle.geometry_model.specs.Sides.{side, on_one_line}
 use Rattle.geometry_model.specs.Dimensions.{weighted, HasSegment, HasTriangle, common}
-use Rattle.geometry_model.specs.Locations.{stands_at, locate}
+use Rattle.geometry_model.specs.Locations.{is_at, locate}
 use Rattle.geometry_model.specs.Labels.{above, below, is_upright, edges_of_both}
 use Rattle.geometry_model.specs.Pieces.{Piece, IsPiece, sample}
 use Rattle.geometry_laws.specs.RingLaws.{IsClosed}
@@ -138,7 +138,7 @@ slant_all a b c h d f = go (sample_inside (edges_of_both a b) (listed a ++ liste
     go : Inside (edges_of_both a b) (listed a ++ listed b) c h (sample c) → Each (IsSlant (sample c)) (marks a b)
     go i = each_append (IsSlant (sample c)) (edges_of_both a b) (dots (listed a ++ listed b))
         (each_of (IsSlant (sample c)) (edges_of_both a b) (λ g m. slant_within (edges_of_both a b) (listed a ++ listed b) c h d f (sample c) i g m))
-        (slant_dots (listed a ++ listed b) (sample c) i.is_point (each_of (λ p. stands_at (sample c) p ≡ false) (listed a ++ listed b) (λ p m. no_position_within (edges_of_both a b) (listed a ++ listed b) c h (sample c) i p m)))
+        (slant_dots (listed a ++ listed b) (sample c) i.is_point (each_of (λ p. is_at (sample c) p ≡ false) (listed a ++ listed b) (λ p m. no_position_within (edges_of_both a b) (listed a ++ listed b) c h (sample c) i p m)))
 
 -- ---- its sides' labels are those of triangles
 -- just below the sample all points lie alike, so there is a triangle with the label of the lower side

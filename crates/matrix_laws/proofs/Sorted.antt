@@ -5,7 +5,7 @@ use Rattle.std.specs.declared.cmp.Ordering.TheVariants.{Less, Equal, Greater}
 use Rattle.std.proofs.lemmas.List.Kept.{AllPairs-cons}
 use Rattle.geometry_model.specs.CutPoints.{placed, with_value, ascending}
 use Rattle.geometry_laws.proofs.Each.{Each, Among, each_at, each_of}
-use Rattle.matrix_laws.proofs.Lists.{Some_of, all_from_each, among_filter}
+use Rattle.matrix_laws.proofs.MatrixLists.{Some_of, all_from_each, among_filter}
 
 -- each element comes before all later ones
 abbrev pub Sorted : {X : Type 0} → (X → X → Ordering) → List X → Type 0

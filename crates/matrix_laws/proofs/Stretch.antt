@@ -5,7 +5,7 @@ use Rattle.geometry_model.specs.Geometries.{Edge, Geometry, edges, listed, rings
 use Rattle.geometry_model.specs.Sides.{on}
 use Rattle.geometry_model.specs.Crossings.{odd_above}
 use Rattle.geometry_model.specs.Dimensions.{weighted}
-use Rattle.geometry_model.specs.Locations.{stands_at, locate}
+use Rattle.geometry_model.specs.Locations.{is_at, locate}
 use Rattle.geometry_model.specs.Labels.{above}
 use Rattle.geometry_model.specs.declared.point_sets.Location.TheVariants.{Interior, Boundary, Exterior}
 use Rattle.integers.proofs.Ring.{solve, var, lit, ◌⊕◌, ◌⊗◌}
@@ -52,13 +52,13 @@ stretch_stays g p q c hp hq h k m n l = (there ∙ sym kept ∙ sym here, λ f. 
     there : locate g (weighted m p n q) ≡ above g (weighted m p n q)
     there = locate_off g (weighted m p n q) (weighted_is_point m p n q hp hq l) (record {
       edges_off = each_map (Misses p q) (λ e. on e (weighted m p n q) ≡ false) (edges g) (λ e f. f m n l) h;
-      listed_off = each_map (PassesBy p q) (λ a. stands_at (weighted m p n q) a ≡ false) (listed g) (λ a f. f m n l) k;
+      listed_off = each_map (PassesBy p q) (λ a. is_at (weighted m p n q) a ≡ false) (listed g) (λ a f. f m n l) k;
     })
 
     here : locate g p ≡ above g p
     here = locate_off g p hp (record {
       edges_off = each_map (Misses p q) (λ e. on e p ≡ false) (edges g) (λ e f. subst (λ (z : Point). on e z ≡ false) (first_point p q) (f 1 0 (omega arith))) h;
-      listed_off = each_map (PassesBy p q) (λ a. stands_at p a ≡ false) (listed g) (λ a f. subst (λ (z : Point). stands_at z a ≡ false) (first_point p q) (f 1 0 (omega arith))) k;
+      listed_off = each_map (PassesBy p q) (λ a. is_at p a ≡ false) (listed g) (λ a f. subst (λ (z : Point). is_at z a ≡ false) (first_point p q) (f 1 0 (omega arith))) k;
     })
 
     kept : above g p ≡ above g (weighted m p n q)

@@ -13,7 +13,7 @@ use Rattle.geometry_model.specs.declared.point_sets.Location.{Location}
 use Rattle.geometry_model.specs.declared.point_sets.Location.TheVariants.{Interior, Boundary, Exterior}
 use Rattle.geometry_model.specs.declared.point_sets.Dimension.TheVariants.{Empty, Zero, One, Two}
 use Rattle.geometry_laws.proofs.Each.{Each, Among, each_at, each_of, among_left, among_right, among_either}
-use Rattle.matrix_laws.proofs.Lists.{among_from_contains, contains_from_among}
+use Rattle.matrix_laws.proofs.MatrixLists.{among_from_contains, contains_from_among}
 use Rattle.matrix_laws.proofs.Sorted.{Sorted, IsOrder}
 use Rattle.matrix_laws.proofs.CutLists.{IsLeastCut}
 use Rattle.matrix_laws.proofs.CutOrder.{listed_is_cut, points_are_ordered, cut_points-sorted}

@@ -6,7 +6,7 @@ use Rattle.geometry_model.specs.Sides.{on}
 use Rattle.geometry_model.specs.Crossings.{exactly_one, odd_above, odd_at_or_above}
 use Rattle.geometry_model.specs.Validity.{IsValid}
 use Rattle.geometry_model.specs.Dimensions.{weighted, Matrix, cell, IsMatrix}
-use Rattle.geometry_model.specs.Locations.{stands_at, locate}
+use Rattle.geometry_model.specs.Locations.{is_at, locate}
 use Rattle.geometry_model.specs.Labels.{below, above}
 use Rattle.geometry_model.specs.Envelopes.{Envelope, envelope, meets}
 use Rattle.geometry_model.specs.declared.point_sets.Dimension.TheVariants.{Empty}
@@ -14,11 +14,11 @@ use Rattle.geometry_model.specs.declared.point_sets.Location.{Location}
 use Rattle.geometry_model.specs.declared.point_sets.Location.TheVariants.{Interior, Boundary, Exterior}
 use Rattle.geometry_laws.specs.RingLaws.{Misses}
 use Rattle.geometry_laws.specs.PieceLaws.{HasClosedRings}
-use Rattle.geometry_laws.specs.CoverLaws.{NearSides, AllNearStand}
+use Rattle.geometry_laws.specs.CoverLaws.{NearSides, AreAllNear}
 
 -- no point of the straight stretch from p to q is at the position
 abbrev pub PassesBy : Point → Point → Position → Type 0
-PassesBy p q a = (m n : ℕ) → 0 < m + n → stands_at (weighted m p n q) a ≡ false
+PassesBy p q a = (m n : ℕ) → 0 < m + n → is_at (weighted m p n q) a ≡ false
 
 -- a straight stretch that misses a geometry's edges and listed positions lies entirely in its interior or entirely in its exterior (06-103r4, 6.1.11.1: the interior is a connected point set)
 abbrev pub StretchStays : Type 0
@@ -55,7 +55,7 @@ HolesAreCut = (g : Geometry) → IsValid g → (outer : List Position) (holes : 
 -- in a valid area, at a point strictly within a ring edge that isn't vertical, exactly one of the two numbers of edges, strictly above and at or above, is odd: the rings part the interior from the exterior there (06-103r4, 6.1.11.1 and 6.1.14)
 abbrev pub RingsPart : Type 0
 RingsPart = (g : Geometry) → IsValid g → (ring : List Position) → Contains (rings g) ring → (e : Edge) → Contains (edges_of_line ring) e
-    → (p : Point) → IsPoint p → on e p ≡ true → stands_at p e.start ≡ false → stands_at p e.end ≡ false → e.start.x ≢ e.end.x
+    → (p : Point) → IsPoint p → on e p ≡ true → is_at p e.start ≡ false → is_at p e.end ≡ false → e.start.x ≢ e.end.x
     → exactly_one (odd_above (rings g) p) (odd_at_or_above (rings g) p) ≡ true
 
 -- one of the two is the interior and the other the exterior
@@ -65,8 +65,8 @@ ArePartedAs l k = ((l ≡ Interior) × (k ≡ Exterior)) ⊎ ((l ≡ Exterior) �
 -- in a valid area, at such a point, one of below and above is interior and the other exterior; straight below and straight above it there are, arbitrarily near, points that lie so, and all that are near enough do (06-103r4, 6.1.11.1 and 6.1.14)
 abbrev pub SidesOfARing : Type 0
 SidesOfARing = (g : Geometry) → IsValid g → (ring : List Position) → Contains (rings g) ring → (e : Edge) → Contains (edges_of_line ring) e
-    → (p : Point) → IsPoint p → on e p ≡ true → stands_at p e.start ≡ false → stands_at p e.end ≡ false → e.start.x ≢ e.end.x
-    → ArePartedAs (below g p) (above g p) × ((k : ℕ) → NearSides g p k) × AllNearStand g p
+    → (p : Point) → IsPoint p → on e p ≡ true → is_at p e.start ≡ false → is_at p e.end ≡ false → e.start.x ≢ e.end.x
+    → ArePartedAs (below g p) (above g p) × ((k : ℕ) → NearSides g p k) × AreAllNear g p
 
 -- where the envelopes of two geometries don't meet, no part but the exterior of the one has a point in a part but the exterior of the other (06-103r4, 6.1.2.2 and 6.1.15.2)
 abbrev pub NothingCommon : Type 0

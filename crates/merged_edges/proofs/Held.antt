@@ -19,7 +19,7 @@ use Rattle.geometry_laws.proofs.Locating.{start_is_on, end_is_on}
 use Rattle.geometry_laws.proofs.Hulls.{OnHull, on_from_hull, hull_from_on}
 use Rattle.geometry_laws.proofs.LineOrder.{on_sum, area_on_line}
 use Rattle.geometry_laws.proofs.Cuts.{OneLine, one_line, not_less_self, turn_less, not_after_both, not_before_both}
-use Rattle.matrix_laws.proofs.Lists.{Some_of, all_from_each, among_from_contains, any_from_some, contains_from_among, some_from_any}
+use Rattle.matrix_laws.proofs.MatrixLists.{Some_of, all_from_each, among_from_contains, any_from_some, contains_from_among, some_from_any}
 use Rattle.cover_laws.specs.Covering.{IsHeld}
 use Rattle.merged_edges.specs.Merging.{AreMerged, left_of}
 use Rattle.cover_laws.proofs.Between.{on_line, wide}

@@ -28,14 +28,14 @@ places_of asked from n (e ∷ es) = go (is_near asked from n e) (numbered_from a
 -- an edge that is asked for is at its place
 pub record IsAskedAt (asked : Edge) (from : ℕ) (n : ℕ) (es : List Edge) (j : ℕ) (f : Edge) : Type 0 where
   pub not_before : n ≤ j
-  pub stands : slice_get es (j - n) ≡ Some f
+  pub applies : slice_get es (j - n) ≡ Some f
   pub asked_for : is_near asked from j f ≡ true
 
 -- what is in the rest is one place later in the whole
 one_later : (asked : Edge) (from : ℕ) (n : ℕ) (e : Edge) (es : List Edge) (j : ℕ) (f : Edge) → IsAskedAt asked from (suc n) es j f → IsAskedAt asked from n (e ∷ es) j f
 one_later asked from n e es j f h = let later = h.not_before in record {
   not_before = omega (arith, later);
-  stands = let less : j - n ≡ suc (j - suc n) = omega (arith, later) in ap (slice_get (e ∷ es)) less ∙ h.stands;
+  applies = let less : j - n ≡ suc (j - suc n) = omega (arith, later) in ap (slice_get (e ∷ es)) less ∙ h.applies;
   asked_for = h.asked_for;
 }
 
@@ -55,7 +55,7 @@ asked_at asked from n (e ∷ es) k j f h = go (is_near asked from n e) refl k h 
     go true is zero h rest = let s = same_pair n j e f (n, e) (j, f) refl refl h in
         record {
           not_before = omega (arith, s.0);
-          stands = let none : j - n ≡ 0 = omega (arith, s.0) in ap (slice_get (e ∷ es)) none ∙ ap Some s.1;
+          applies = let none : j - n ≡ 0 = omega (arith, s.0) in ap (slice_get (e ∷ es)) none ∙ ap Some s.1;
           asked_for = subst (λ m. is_near asked from m f ≡ true) s.0 (subst (λ d. is_near asked from n d ≡ true) s.1 is);
         }
     go true is (suc k) h rest = one_later asked from n e es j f (rest k h)
@@ -132,7 +132,7 @@ is_there (e ∷ es) (suc j) f h = let k = is_there es j f h in omega (arith, k)
 pub record IsNext (asked : Edge) (from : ℕ) (edges : List Edge) (k j : ℕ) : Type 0 where
   pub edge : Edge
   pub rest : drop k (numbered_sharing asked from edges) ≡ (j, edge) ∷ drop (k + 1) (numbered_sharing asked from edges)
-  pub stands : slice_get edges j ≡ Some edge
+  pub applies : slice_get edges j ≡ Some edge
   pub within : j < length edges
   pub later : from ≤ j
 
@@ -146,12 +146,12 @@ next_found asked from edges near k n is within =
     let j = get_or (map (λ (p : ℕ × Edge). p.0) pairs) k n in
     let at = asked_at asked from 0 edges k j m.0 m.1 in
     let none : j - 0 ≡ j = omega arith in
-    let stands : slice_get edges j ≡ Some m.0 = ap (slice_get edges) (sym none) ∙ at.stands in
+    let applies : slice_get edges j ≡ Some m.0 = ap (slice_get edges) (sym none) ∙ at.applies in
     subst (λ (l : List ℕ). IsNext asked from edges k (get_or l k n)) (sym same) record {
       edge = m.0;
       rest = at_place pairs k (j, m.0) m.1;
-      stands = stands;
-      within = is_there edges j m.0 stands;
+      applies = applies;
+      within = is_there edges j m.0 applies;
       later = le_from from j ((and_parts (nat_le from j) (share_point asked m.0) at.asked_for).0);
     }
   where
@@ -164,14 +164,14 @@ same_edge o e f g h = let s : Some e ≡ Some f = sym g ∙ h in cc
 -- what the next one says
 pub found_next : (test : (ℕ × Edge) → Bool) (asked : Edge) (from : ℕ) (edges : List Edge) (k j : ℕ) (f : Edge) → IsNext asked from edges k j → slice_get edges j ≡ Some f
     → test (j, f) ≡ true → list_any test (drop k (numbered_sharing asked from edges)) ≡ true
-found_next test asked from edges k j f next stands passes = ap (list_any test) next.rest
-    ∙ ap (λ (b : Bool). b || list_any test (drop (k + 1) (numbered_sharing asked from edges))) (ap (λ (e : Edge). test (j, e)) (same_edge (slice_get edges j) next.edge f next.stands stands) ∙ passes)
+found_next test asked from edges k j f next applies passes = ap (list_any test) next.rest
+    ∙ ap (λ (b : Bool). b || list_any test (drop (k + 1) (numbered_sharing asked from edges))) (ap (λ (e : Edge). test (j, e)) (same_edge (slice_get edges j) next.edge f next.applies applies) ∙ passes)
 
 -- .. and where it doesn't, the near edges behind it are left to be tried
 pub passed_next : (test : (ℕ × Edge) → Bool) (asked : Edge) (from : ℕ) (edges : List Edge) (k j : ℕ) (f : Edge) → IsNext asked from edges k j → slice_get edges j ≡ Some f
     → test (j, f) ≡ false → list_any test (drop k (numbered_sharing asked from edges)) ≡ list_any test (drop (k + 1) (numbered_sharing asked from edges))
-passed_next test asked from edges k j f next stands fails = ap (list_any test) next.rest
-    ∙ ap (λ (b : Bool). b || list_any test (drop (k + 1) (numbered_sharing asked from edges))) (ap (λ (e : Edge). test (j, e)) (same_edge (slice_get edges j) next.edge f next.stands stands) ∙ fails)
+passed_next test asked from edges k j f next applies fails = ap (list_any test) next.rest
+    ∙ ap (λ (b : Bool). b || list_any test (drop (k + 1) (numbered_sharing asked from edges))) (ap (λ (e : Edge). test (j, e)) (same_edge (slice_get edges j) next.edge f next.applies applies) ∙ fails)
 
 -- no place is left
 pub none_left : (test : (ℕ × Edge) → Bool) (asked : Edge) (from : ℕ) (edges : List Edge) (near : List ℕ) (k : ℕ) → near ≡ places_sharing asked from edges → length near ≤ k

@@ -15,7 +15,7 @@ use Rattle.geometry_laws.proofs.Scaling.{and_parts, and_from}
 use Rattle.geometry_laws.proofs.PointOrder.{same_reflexive, same_transitive}
 use Rattle.geometry_laws.proofs.Respect.{on_respects}
 use Rattle.geometry_laws.proofs.RingParity.{position_is_point}
-use Rattle.matrix_laws.proofs.Lists.{Some_of, among_from_contains, contains_from_among, some_from_any, any_from_some, all_from_each, among_map, map_among, among_filter, filter_among}
+use Rattle.matrix_laws.proofs.MatrixLists.{Some_of, among_from_contains, contains_from_among, some_from_any, any_from_some, all_from_each, among_map, map_among, among_filter, filter_among}
 use Rattle.matrix_laws.proofs.CutLists.{or_first, or_second, or_either}
 use Rattle.noding.specs.Meetings.{on_both, IsMeeting, named, is_common_cut, NamesCommonCuts}
 use Rattle.noding.specs.declared.answers.Meet.{Meet}
@@ -82,12 +82,12 @@ grown_by i points before after g p c = subst (λ zs. ListsPoint zs p) (sym g.the
 grown_from : (i : ℕ) (points : List Point) (before after : List (List Point)) → GrowsAt i points before after → (k : ℕ) (p : Point) → Contains (get_or after k []) p → Contains (get_or before k []) p ⊎ ((k ≡ i) × Contains points p)
 grown_from i points before after g k p c = go (same_or_other k i)
   where
-    told : k ≡ i → Contains (get_or before i []) p ⊎ Contains points p → Contains (get_or before k []) p ⊎ ((k ≡ i) × Contains points p)
-    told e (inl b) = inl (subst (λ n. Contains (get_or before n []) p) (sym e) b)
-    told e (inr b) = inr (e, b)
+    said : k ≡ i → Contains (get_or before i []) p ⊎ Contains points p → Contains (get_or before k []) p ⊎ ((k ≡ i) × Contains points p)
+    said e (inl b) = inl (subst (λ n. Contains (get_or before n []) p) (sym e) b)
+    said e (inr b) = inr (e, b)
 
     go : (k ≡ i) ⊎ (k ≢ i) → Contains (get_or before k []) p ⊎ ((k ≡ i) × Contains points p)
-    go (inl e) = told e (Contains-append_cases (get_or before i []) points p (subst (λ zs. Contains zs p) g.there (subst (λ n. Contains (get_or after n []) p) e c)))
+    go (inl e) = said e (Contains-append_cases (get_or before i []) points p (subst (λ zs. Contains zs p) g.there (subst (λ n. Contains (get_or after n []) p) e c)))
     go (inr n) = inl (subst (λ zs. Contains zs p) (g.elsewhere k n) c)
 
 -- ---- one more pair

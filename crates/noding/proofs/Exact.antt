@@ -9,7 +9,7 @@ use Rattle.geometry_model.specs.Pieces.{Piece, IsPiece, compare_pieces, pieces}
 use Rattle.geometry_model.proofs.LeastFormFacts.{least_is_unique}
 use Rattle.geometry_laws.proofs.Each.{Among, each_of}
 use Rattle.geometry_laws.proofs.Scaling.{and_parts}
-use Rattle.matrix_laws.proofs.Lists.{Some_of, contains_from_among, some_from_any}
+use Rattle.matrix_laws.proofs.MatrixLists.{Some_of, contains_from_among, some_from_any}
 use Rattle.matrix_laws.proofs.Stretches.{HasPoints, not_before_itself, pieces_are_ordered, then_less}
 use Rattle.matrix_laws.proofs.CutLists.{IsLeastCut}
 use Rattle.matrix_laws.proofs.CutOrder.{listed_is_cut, cut_points-sorted, points_are_ordered}

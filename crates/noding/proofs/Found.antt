@@ -11,7 +11,7 @@ use Rattle.geometry_laws.proofs.Scaling.{and_parts}
 use Rattle.geometry_laws.proofs.PointOrder.{same_reflexive, same_symmetric, same_transitive}
 use Rattle.geometry_laws.proofs.RingParity.{position_is_point}
 use Rattle.geometry_laws.proofs.Cuts.{not_less_self}
-use Rattle.matrix_laws.proofs.Lists.{any_from_some}
+use Rattle.matrix_laws.proofs.MatrixLists.{any_from_some}
 use Rattle.matrix_laws.proofs.EdgeMeeting.{before_turning, SharesPoint, shares_point}
 use Rattle.matrix_laws.proofs.CutFacts.{turned_is_point, turned_is_same}
 use Rattle.matrix_laws.proofs.CutLists.{or_either}

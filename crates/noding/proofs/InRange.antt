@@ -9,7 +9,7 @@ use Rattle.geometry_model.specs.Points.{Position, point_at}
 use Rattle.geometry_model.specs.Geometries.{Edge}
 use Rattle.geometry_model.specs.Sides.{on, between}
 use Rattle.geometry_laws.proofs.Hulls.{on_parts}
-use Rattle.noding.specs.Ranges.{lesser, greater, least_x, greatest_x}
+use Rattle.noding.specs.NodeRanges.{lesser, greater, least_x, greatest_x}
 use Rattle.noding.specs.Sweeps.{AscendPositions}
 use Rattle.noding.proofs.Sweeping.{false_from}
 

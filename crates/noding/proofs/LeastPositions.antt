@@ -2,7 +2,7 @@
 use Rattle.std.proofs.Common.{[], ◌∷◌, All, ◌≡◌, sym, subst}
 use native.Mathlib.Nat.{eq-one_of_dvd-one}
 use Rattle.geometry_model.specs.Points.{Position, Point, IsLeast, point_at}
-use Rattle.matrix_laws.proofs.Lists.{all_from_each}
+use Rattle.matrix_laws.proofs.MatrixLists.{all_from_each}
 
 -- a position's denominator is 1, and only 1 divides that
 pub position_is_least : (a : Position) → IsLeast (point_at a)

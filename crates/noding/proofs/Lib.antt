@@ -1,4 +1,4 @@
-pub mod Bounds
+pub mod MeetBounds
 pub mod Order
 pub mod Crossing
 pub mod Turned

@@ -12,7 +12,7 @@ use Rattle.geometry_model.specs.CutPoints.IsCut.{AtCrossing}
 use Rattle.geometry_laws.proofs.Scaling.{and_parts, and_from}
 use Rattle.geometry_laws.proofs.PointOrder.{same_reflexive}
 use Rattle.geometry_laws.proofs.Cuts.{contains_of_among, start_is_cut, end_is_cut}
-use Rattle.matrix_laws.proofs.Lists.{all_from_each}
+use Rattle.matrix_laws.proofs.MatrixLists.{all_from_each}
 use Rattle.noding.specs.Meetings.{on_both, on_stretch, IsMeeting, named}
 use Rattle.noding.specs.declared.answers.Meet.{Meet}
 use Rattle.noding.specs.declared.answers.Meet.TheVariants.{Apart, At, Along}

@@ -14,7 +14,7 @@ use Rattle.geometry_laws.proofs.Locating.{start_is_on, end_is_on}
 use Rattle.geometry_laws.proofs.LineOrder.{area_on_line}
 use Rattle.geometry_laws.proofs.RingParity.{side_is_area}
 use Rattle.geometry_laws.proofs.Cuts.{OneLine, one_line}
-use Rattle.matrix_laws.proofs.Lists.{Some_of, among_from_contains}
+use Rattle.matrix_laws.proofs.MatrixLists.{Some_of, among_from_contains}
 use Rattle.matrix_laws.proofs.CutLists.{or_first, or_second, or_either}
 use Rattle.noding.specs.Meetings.{on_both, on_stretch, IsMeeting, named, is_common_cut}
 use Rattle.noding.specs.declared.answers.Meet.{Meet}

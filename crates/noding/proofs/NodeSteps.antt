@@ -15,7 +15,7 @@ use Rattle.geometry_laws.proofs.Each.{Each, Among, each_of}
 use Rattle.geometry_laws.proofs.Scaling.{and_parts, and_from}
 use Rattle.geometry_laws.proofs.PointOrder.{same_reflexive, same_symmetric, same_transitive}
 use Rattle.geometry_laws.proofs.RingParity.{position_is_point}
-use Rattle.matrix_laws.proofs.Lists.{Some_of, among_from_contains, contains_from_among, some_from_any, any_from_some, among_map, map_among}
+use Rattle.matrix_laws.proofs.MatrixLists.{Some_of, among_from_contains, contains_from_among, some_from_any, any_from_some, among_map, map_among}
 use Rattle.matrix_laws.proofs.Sorted.{Sorted}
 use Rattle.matrix_laws.proofs.Stretches.{Neighbours, stretch_is, stretch_found, less_right, less_left}
 use Rattle.noding.specs.Nodings.{same_piece, ListsPoint, ListsPiece, IsNodeTriple, HasNodeTriples, HasPointEnds, ListsCuts, ListsPieces, AreBreaks, PutsPointsInOrder, PutsPiecesInOrder, HoldsNodes, HoldsPieces}

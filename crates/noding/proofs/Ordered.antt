@@ -17,7 +17,7 @@ use Rattle.fraction.proofs.OrderLemmas.{point_order_is, point_ties_are}
 use Rattle.geometry_laws.proofs.Each.{Each, Among, each_at, each_of}
 use Rattle.geometry_laws.proofs.Scaling.{and_parts, and_from}
 use Rattle.geometry_laws.proofs.PointOrder.{same_symmetric}
-use Rattle.matrix_laws.proofs.Lists.{Some_of, among_from_contains, contains_from_among, some_from_any, any_from_some, among_map, map_among}
+use Rattle.matrix_laws.proofs.MatrixLists.{Some_of, among_from_contains, contains_from_among, some_from_any, any_from_some, among_map, map_among}
 use Rattle.matrix_laws.proofs.Sorted.{Sorted, pairs_from_sorted}
 use Rattle.noding.specs.Nodings.{same_piece, piece_of, HasPointEnds, PutsPointsInOrder, PutsPiecesInOrder}
 
@@ -57,11 +57,11 @@ ordered {X} R E V order same a xs ys zs vs moved up left = record { from = from;
     values : Each V zs
     values = each_of V zs (λ x h. each_at V xs x vs (from x h))
 
-    told : (x : X) → V x → Some_of (λ z. E x z ≡ true) zs → Some_of (λ z. same z x ≡ true) zs
-    told x v s = record { found = s.found; among = s.among; has = a.same_is x s.found v (each_at V zs s.found values s.among) s.has }
+    said : (x : X) → V x → Some_of (λ z. E x z ≡ true) zs → Some_of (λ z. same z x ≡ true) zs
+    said x v s = record { found = s.found; among = s.among; has = a.same_is x s.found v (each_at V zs s.found values s.among) s.has }
 
     kept : (x : X) → Among x xs → Some_of (λ z. same z x ≡ true) zs
-    kept x h = told x (each_at V xs x vs h) (some_from_any (λ z. E x z ≡ true) zs (subst (Any (λ z. E x z ≡ true)) (sym left) (Any-dedup a.equivalence ys x (Contains-permutation xs ys x moved (contains_from_among xs x h)))))
+    kept x h = said x (each_at V xs x vs h) (some_from_any (λ z. E x z ≡ true) zs (subst (Any (λ z. E x z ≡ true)) (sym left) (Any-dedup a.equivalence ys x (Contains-permutation xs ys x moved (contains_from_among xs x h)))))
 
 -- ---- points
 -- the order of points by fractions agrees with their order across, and its ties with being one point

@@ -11,7 +11,7 @@ use Rattle.geometry_laws.proofs.Scaling.{and_parts, and_from}
 use Rattle.geometry_laws.proofs.Hulls.{on_parts, ordered}
 use Rattle.noding.specs.Meetings.{on_both, is_common_cut}
 use Rattle.noding.specs.Sweeps.{Ascends}
-use Rattle.noding.specs.Ranges.{lesser, greater, least_x, greatest_x, overlap, x_ranges_overlap, y_ranges_overlap}
+use Rattle.noding.specs.NodeRanges.{lesser, greater, least_x, greatest_x, overlap, x_ranges_overlap, y_ranges_overlap}
 
 -- ---- edges with a point in common have overlapping ranges
 pub lesser_first : (a b : ℤ) → lesser a b ≤ℤ a

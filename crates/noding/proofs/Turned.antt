@@ -14,7 +14,7 @@ use Rattle.matrix_laws.proofs.EdgeMeeting.{shares_point}
 use Rattle.noding.specs.Meetings.{on_both, IsMeeting}
 use Rattle.noding.specs.declared.answers.Meet.{Meet}
 use Rattle.noding.specs.declared.answers.Meet.TheVariants.{Apart, At, Along}
-use Rattle.noding.proofs.Bounds.{sides_within}
+use Rattle.noding.proofs.MeetBounds.{sides_within}
 use Rattle.noding.proofs.Crossing.{edge}
 
 -- an edge taken from its end to its start holds the same points

@@ -1,4 +1,4 @@
 pub mod Meetings
 pub mod Nodings
-pub mod Ranges
+pub mod NodeRanges
 pub mod Sweeps

@@ -6,7 +6,7 @@ use Rattle.geometry_model.specs.Geometries.{Edge}
 use Rattle.geometry_model.specs.Sides.{on}
 use Rattle.noding.specs.Meetings.{is_common_cut}
 use Rattle.noding.specs.Nodings.{ListsPoint, IsBreak, AllBreaks, AreBreaks, PutsPointsInOrder}
-use Rattle.noding.specs.Ranges.{least_x}
+use Rattle.noding.specs.NodeRanges.{least_x}
 
 -- no edge begins to the left of one before it
 abbrev pub Ascends : List Edge → Type 0

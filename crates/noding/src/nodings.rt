@@ -5,7 +5,7 @@ ghost use Rattle.geometry_model.specs.Points.{point_at};
 ghost use Rattle.geometry_model.specs.CutPoints.{IsCut, cut_points};
 ghost use Rattle.geometry_model.specs.Pieces.{IsPiece, stretches, pieces};
 ghost use Rattle.noding.specs.Nodings.{piece_of, AscendingPoints, AscendingPieces, ListsCuts, ListsPieces, IsNodeTriple, HasNodeTriples};
-ghost use Rattle.noding.specs.Ranges.{overlapping_pairs};
+ghost use Rattle.noding.specs.NodeRanges.{overlapping_pairs};
 
 use crate::break_points::Break;
 use crate::listed_positions::listed_order;

@@ -1,12 +1,12 @@
 //! The ranges of a segment's coordinates.
 
 ghost use Rattle.std.specs.Prelude.{◌≡◌};
-ghost use Rattle.noding.specs.Ranges as spec;
+ghost use Rattle.noding.specs.NodeRanges as spec;
 
 use orient::Segment;
 
 /// The lesser of two coordinates.
-#[tactic(auto, unfolding(crate::specs::Ranges::lesser))]
+#[tactic(auto, unfolding(crate::specs::NodeRanges::lesser))]
 fn lesser(a: i32, b: i32) -> i32
     ensures { result ≡ spec.lesser a b }
 {
@@ -14,7 +14,7 @@ fn lesser(a: i32, b: i32) -> i32
 }
 
 /// The greater of two coordinates.
-#[tactic(auto, unfolding(crate::specs::Ranges::greater))]
+#[tactic(auto, unfolding(crate::specs::NodeRanges::greater))]
 fn greater(a: i32, b: i32) -> i32
     ensures { result ≡ spec.greater a b }
 {

@@ -6,7 +6,7 @@ ghost use Rattle.geometry_model.specs.CutPoints.{IsCut};
 ghost use Rattle.fraction.specs.Ranges.{meeting_limit};
 ghost use Rattle.noding.specs.Meetings.{IsMeeting, named, NamesCommonCuts};
 ghost use Rattle.noding.specs.Sweeps.{IsSweepOrder, Ascends, own_breaks, IsWide, GrowsAt, OrdersAt, OrdersEach, HavePoints, SweepsPair, SweepsOn, SweepsAll, AllCut, AscendPositions};
-ghost use Rattle.noding.specs.Ranges.{overlapping_pairs, overlaps_of_first};
+ghost use Rattle.noding.specs.NodeRanges.{overlapping_pairs, overlaps_of_first};
 
 use crate::answers::Meet;
 use crate::break_points::Breaks;

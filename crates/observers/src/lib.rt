@@ -2,8 +2,8 @@
 //! many rows were found. They can't change what is read or found.
 #![tactic(auto)]
 
-pub mod readers;
+pub mod followed_readers;
 pub mod rows;
 
-pub use readers::{Followed, ReadObserver};
+pub use followed_readers::{Followed, ReadObserver};
 pub use rows::{RowObserver, Unobserved};

@@ -9,7 +9,7 @@ use Rattle.geometry_model.specs.Points.{Position, Point, IsPoint, point_at}
 use Rattle.geometry_model.specs.Geometries.{Geometry, Edge, edges_of_lines, lines, rings}
 use Rattle.geometry_model.specs.Sides.{on}
 use Rattle.geometry_model.specs.Crossings.{odd_above}
-use Rattle.geometry_model.specs.Locations.{stands_at, locate, on_some}
+use Rattle.geometry_model.specs.Locations.{is_at, locate, on_some}
 use Rattle.geometry_model.specs.Envelopes.{Envelope, envelope_at, joined, with_position, envelope_of_positions, meets}
 use Rattle.geometry_model.specs.Validity.{inside, inside_element}
 use Rattle.geometry_model.specs.FirstFaults.{share_point, rings_share, elements_share}
@@ -148,7 +148,7 @@ sharing_meet d e cd ce h = let w = shared_by_all (edges_of_lines d) (edges_of_li
 
 -- a position of a list is in the envelope of the list
 listed_not_exterior : (p : Position) (ps : List Position) → locate (Geometry.MultiPoint (p ∷ ps)) (point_at p) ≢ Exterior
-listed_not_exterior p ps is = let i : Interior ≡ Exterior = sym (ap (λ (t : Bool). if t || list_any (stands_at (point_at p)) ps then Interior else Exterior) (same_reflexive (point_at p))) ∙ is in cc
+listed_not_exterior p ps is = let i : Interior ≡ Exterior = sym (ap (λ (t : Bool). if t || list_any (is_at (point_at p)) ps then Interior else Exterior) (same_reflexive (point_at p))) ∙ is in cc
 
 -- listed points have no rings that could be open
 none_closed : (ps : List Position) → HasClosedRings (Geometry.MultiPoint ps)

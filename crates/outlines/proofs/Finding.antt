@@ -21,54 +21,54 @@ numbers_end i n h = let e : n - i ≡ 0 = omega arith in ap (range_with_len i) e
 
 -- ---- one fault a number
 -- one step of a search over numbers: the first fault is this number's where it lies ..
-pub found_here : (stands : ValidityFault → Bool) (fault : ℕ → ValidityFault) (i n : ℕ) → i < n → stands (fault i) ≡ true → find stands (map fault (numbers i n)) ≡ Some (fault i)
-found_here stands fault i n h e = rw (numbers_go_on i n h, e) refl
+pub found_here : (applies : ValidityFault → Bool) (fault : ℕ → ValidityFault) (i n : ℕ) → i < n → applies (fault i) ≡ true → find applies (map fault (numbers i n)) ≡ Some (fault i)
+found_here applies fault i n h e = rw (numbers_go_on i n h, e) refl
 
 -- .. and where it doesn't, the search goes on with the next number ..
-pub passed_here : (stands : ValidityFault → Bool) (fault : ℕ → ValidityFault) (i n : ℕ) → i < n → stands (fault i) ≡ false
-    → find stands (map fault (numbers i n)) ≡ find stands (map fault (numbers (i + 1) n))
-passed_here stands fault i n h e = ap (λ ns. find stands (map fault ns)) (numbers_go_on i n h) ∙ ap (λ b. cond b (Some (fault i)) (find stands (map fault (numbers (i + 1) n)))) e
+pub passed_here : (applies : ValidityFault → Bool) (fault : ℕ → ValidityFault) (i n : ℕ) → i < n → applies (fault i) ≡ false
+    → find applies (map fault (numbers i n)) ≡ find applies (map fault (numbers (i + 1) n))
+passed_here applies fault i n h e = ap (λ ns. find applies (map fault ns)) (numbers_go_on i n h) ∙ ap (λ b. cond b (Some (fault i)) (find applies (map fault (numbers (i + 1) n)))) e
 
 -- .. until none is left
-pub none_left : (stands : ValidityFault → Bool) (fault : ℕ → ValidityFault) (i n : ℕ) → n ≤ i → find stands (map fault (numbers i n)) ≡ None
-none_left stands fault i n h = ap (λ ns. find stands (map fault ns)) (numbers_end i n h)
+pub none_left : (applies : ValidityFault → Bool) (fault : ℕ → ValidityFault) (i n : ℕ) → n ≤ i → find applies (map fault (numbers i n)) ≡ None
+none_left applies fault i n h = ap (λ ns. find applies (map fault ns)) (numbers_end i n h)
 
 -- ---- some faults a number
 -- a search through two lists finds what lies first in the front one, or else what it finds in the other
-in_front : (stands : ValidityFault → Bool) (xs ys : List ValidityFault) (o : Option ValidityFault) → find stands xs ≡ o → find stands (xs ++ ys) ≡ option_or o (find stands ys)
-in_front stands xs ys o e = find-append stands xs ys ∙ ap (λ f. option_or f (find stands ys)) e
+in_front : (applies : ValidityFault → Bool) (xs ys : List ValidityFault) (o : Option ValidityFault) → find applies xs ≡ o → find applies (xs ++ ys) ≡ option_or o (find applies ys)
+in_front applies xs ys o e = find-append applies xs ys ∙ ap (λ f. option_or f (find applies ys)) e
 
 -- the same where each number has several faults: what applies first among this number's is the first of all ..
-pub found_among : (stands : ValidityFault → Bool) (faults : ℕ → List ValidityFault) (i n : ℕ) (fault : ValidityFault) → i < n → find stands (faults i) ≡ Some fault
-    → find stands (flat_map faults (numbers i n)) ≡ Some fault
-found_among stands faults i n fault h e = ap (λ ns. find stands (flat_map faults ns)) (numbers_go_on i n h) ∙ in_front stands (faults i) (flat_map faults (numbers (i + 1) n)) (Some fault) e
+pub found_among : (applies : ValidityFault → Bool) (faults : ℕ → List ValidityFault) (i n : ℕ) (fault : ValidityFault) → i < n → find applies (faults i) ≡ Some fault
+    → find applies (flat_map faults (numbers i n)) ≡ Some fault
+found_among applies faults i n fault h e = ap (λ ns. find applies (flat_map faults ns)) (numbers_go_on i n h) ∙ in_front applies (faults i) (flat_map faults (numbers (i + 1) n)) (Some fault) e
 
 -- .. where none of them applies the next number's are looked at ..
-pub passed_among : (stands : ValidityFault → Bool) (faults : ℕ → List ValidityFault) (i n : ℕ) → i < n → find stands (faults i) ≡ None
-    → find stands (flat_map faults (numbers i n)) ≡ find stands (flat_map faults (numbers (i + 1) n))
-passed_among stands faults i n h e = ap (λ ns. find stands (flat_map faults ns)) (numbers_go_on i n h) ∙ in_front stands (faults i) (flat_map faults (numbers (i + 1) n)) None e
+pub passed_among : (applies : ValidityFault → Bool) (faults : ℕ → List ValidityFault) (i n : ℕ) → i < n → find applies (faults i) ≡ None
+    → find applies (flat_map faults (numbers i n)) ≡ find applies (flat_map faults (numbers (i + 1) n))
+passed_among applies faults i n h e = ap (λ ns. find applies (flat_map faults ns)) (numbers_go_on i n h) ∙ in_front applies (faults i) (flat_map faults (numbers (i + 1) n)) None e
 
 -- .. until none is left
-pub none_among : (stands : ValidityFault → Bool) (faults : ℕ → List ValidityFault) (i n : ℕ) → n ≤ i → find stands (flat_map faults (numbers i n)) ≡ None
-none_among stands faults i n h = ap (λ ns. find stands (flat_map faults ns)) (numbers_end i n h)
+pub none_among : (applies : ValidityFault → Bool) (faults : ℕ → List ValidityFault) (i n : ℕ) → n ≤ i → find applies (flat_map faults (numbers i n)) ≡ None
+none_among applies faults i n h = ap (λ ns. find applies (flat_map faults ns)) (numbers_end i n h)
 
 -- ---- some faults a part
 -- what applies first among this part's faults is the first of all ..
-pub found_in_part : {A : Type 0} (stands : ValidityFault → Bool) (faults : A → List ValidityFault) (parts : List A) (m : ℕ) (part : A) (fault : ValidityFault) → slice_get parts m ≡ Some part
-    → find stands (faults part) ≡ Some fault → find stands (flat_map faults (drop m parts)) ≡ Some fault
-found_in_part stands faults parts m part fault is e = ap (λ xs. find stands (flat_map faults xs)) (at_place parts m part is)
-    ∙ in_front stands (faults part) (flat_map faults (drop (m + 1) parts)) (Some fault) e
+pub found_in_part : {A : Type 0} (applies : ValidityFault → Bool) (faults : A → List ValidityFault) (parts : List A) (m : ℕ) (part : A) (fault : ValidityFault) → slice_get parts m ≡ Some part
+    → find applies (faults part) ≡ Some fault → find applies (flat_map faults (drop m parts)) ≡ Some fault
+found_in_part applies faults parts m part fault is e = ap (λ xs. find applies (flat_map faults xs)) (at_place parts m part is)
+    ∙ in_front applies (faults part) (flat_map faults (drop (m + 1) parts)) (Some fault) e
 
 -- .. where none of them applies the next part's are looked at ..
-pub passed_in_part : {A : Type 0} (stands : ValidityFault → Bool) (faults : A → List ValidityFault) (parts : List A) (m : ℕ) (part : A) → slice_get parts m ≡ Some part
-    → find stands (faults part) ≡ None → find stands (flat_map faults (drop m parts)) ≡ find stands (flat_map faults (drop (m + 1) parts))
-passed_in_part stands faults parts m part is e = ap (λ xs. find stands (flat_map faults xs)) (at_place parts m part is)
-    ∙ in_front stands (faults part) (flat_map faults (drop (m + 1) parts)) None e
+pub passed_in_part : {A : Type 0} (applies : ValidityFault → Bool) (faults : A → List ValidityFault) (parts : List A) (m : ℕ) (part : A) → slice_get parts m ≡ Some part
+    → find applies (faults part) ≡ None → find applies (flat_map faults (drop m parts)) ≡ find applies (flat_map faults (drop (m + 1) parts))
+passed_in_part applies faults parts m part is e = ap (λ xs. find applies (flat_map faults xs)) (at_place parts m part is)
+    ∙ in_front applies (faults part) (flat_map faults (drop (m + 1) parts)) None e
 
 -- .. until none is left
-pub none_in_parts : {A : Type 0} (stands : ValidityFault → Bool) (faults : A → List ValidityFault) (parts : List A) (m : ℕ) → length parts ≤ m
-    → find stands (flat_map faults (drop m parts)) ≡ None
-none_in_parts stands faults parts m h = ap (λ xs. find stands (flat_map faults xs)) (past_all parts m h)
+pub none_in_parts : {A : Type 0} (applies : ValidityFault → Bool) (faults : A → List ValidityFault) (parts : List A) (m : ℕ) → length parts ≤ m
+    → find applies (flat_map faults (drop m parts)) ≡ None
+none_in_parts applies faults parts m h = ap (λ xs. find applies (flat_map faults xs)) (past_all parts m h)
 
 -- ---- what was found there, or nothing
 pub some_is : (o : Option ValidityFault) → is_some o ≡ true → (fault : ValidityFault) × (o ≡ Some fault)
@@ -80,47 +80,47 @@ none_is None h = refl
 none_is (Some fault) h = absurd cc
 
 -- the steps again, said of the answer of a search among this number's faults: what it found is the first of all ..
-pub first_among : (stands : ValidityFault → Bool) (faults : ℕ → List ValidityFault) (i n : ℕ) (o : Option ValidityFault) → i < n → o ≡ find stands (faults i) → is_some o ≡ true
-    → find stands (flat_map faults (numbers i n)) ≡ o
-first_among stands faults i n o h e some = let k = some_is o some in found_among stands faults i n k.0 h (sym e ∙ k.1) ∙ sym k.1
+pub first_among : (applies : ValidityFault → Bool) (faults : ℕ → List ValidityFault) (i n : ℕ) (o : Option ValidityFault) → i < n → o ≡ find applies (faults i) → is_some o ≡ true
+    → find applies (flat_map faults (numbers i n)) ≡ o
+first_among applies faults i n o h e some = let k = some_is o some in found_among applies faults i n k.0 h (sym e ∙ k.1) ∙ sym k.1
 
 -- .. and where it found nothing the search goes on with the next number
-pub further_among : (stands : ValidityFault → Bool) (faults : ℕ → List ValidityFault) (i n : ℕ) (o : Option ValidityFault) → i < n → o ≡ find stands (faults i) → is_some o ≡ false
-    → find stands (flat_map faults (numbers i n)) ≡ find stands (flat_map faults (numbers (i + 1) n))
-further_among stands faults i n o h e none = passed_among stands faults i n h (sym e ∙ none_is o none)
+pub further_among : (applies : ValidityFault → Bool) (faults : ℕ → List ValidityFault) (i n : ℕ) (o : Option ValidityFault) → i < n → o ≡ find applies (faults i) → is_some o ≡ false
+    → find applies (flat_map faults (numbers i n)) ≡ find applies (flat_map faults (numbers (i + 1) n))
+further_among applies faults i n o h e none = passed_among applies faults i n h (sym e ∙ none_is o none)
 
 -- what a search of this part found is the first of all that are left ..
-pub first_in_part : {A : Type 0} (stands : ValidityFault → Bool) (faults : A → List ValidityFault) (parts : List A) (m : ℕ) (part : A) (o : Option ValidityFault) → slice_get parts m ≡ Some part
-    → o ≡ find stands (faults part) → is_some o ≡ true → find stands (flat_map faults (drop m parts)) ≡ o
-first_in_part stands faults parts m part o is e some = let k = some_is o some in found_in_part stands faults parts m part k.0 is (sym e ∙ k.1) ∙ sym k.1
+pub first_in_part : {A : Type 0} (applies : ValidityFault → Bool) (faults : A → List ValidityFault) (parts : List A) (m : ℕ) (part : A) (o : Option ValidityFault) → slice_get parts m ≡ Some part
+    → o ≡ find applies (faults part) → is_some o ≡ true → find applies (flat_map faults (drop m parts)) ≡ o
+first_in_part applies faults parts m part o is e some = let k = some_is o some in found_in_part applies faults parts m part k.0 is (sym e ∙ k.1) ∙ sym k.1
 
 -- .. and where it found nothing the search goes on with the next part
-pub further_in_parts : {A : Type 0} (stands : ValidityFault → Bool) (faults : A → List ValidityFault) (parts : List A) (m : ℕ) (part : A) (o : Option ValidityFault) → slice_get parts m ≡ Some part
-    → o ≡ find stands (faults part) → is_some o ≡ false → find stands (flat_map faults (drop m parts)) ≡ find stands (flat_map faults (drop (m + 1) parts))
-further_in_parts stands faults parts m part o is e none = passed_in_part stands faults parts m part is (sym e ∙ none_is o none)
+pub further_in_parts : {A : Type 0} (applies : ValidityFault → Bool) (faults : A → List ValidityFault) (parts : List A) (m : ℕ) (part : A) (o : Option ValidityFault) → slice_get parts m ≡ Some part
+    → o ≡ find applies (faults part) → is_some o ≡ false → find applies (flat_map faults (drop m parts)) ≡ find applies (flat_map faults (drop (m + 1) parts))
+further_in_parts applies faults parts m part o is e none = passed_in_part applies faults parts m part is (sym e ∙ none_is o none)
 
 -- what is found in the one list, or else in the other
-pub found_or_else : (stands : ValidityFault → Bool) (xs ys : List ValidityFault) (o r : Option ValidityFault) → o ≡ find stands xs → MatchOption o (r ≡ find stands ys) (λ fault. r ≡ Some fault)
-    → r ≡ find stands (xs ++ ys)
-found_or_else stands xs ys None r e h = h ∙ sym (in_front stands xs ys None (sym e))
-found_or_else stands xs ys (Some fault) r e h = h ∙ sym (in_front stands xs ys (Some fault) (sym e))
+pub found_or_else : (applies : ValidityFault → Bool) (xs ys : List ValidityFault) (o r : Option ValidityFault) → o ≡ find applies xs → MatchOption o (r ≡ find applies ys) (λ fault. r ≡ Some fault)
+    → r ≡ find applies (xs ++ ys)
+found_or_else applies xs ys None r e h = h ∙ sym (in_front applies xs ys None (sym e))
+found_or_else applies xs ys (Some fault) r e h = h ∙ sym (in_front applies xs ys (Some fault) (sym e))
 
 -- ---- one list of faults before another
 -- what is found in the earlier list of tests is found in both together
-pub first_stays : (stands : ValidityFault → Bool) (xs ys : List ValidityFault) (o : Option ValidityFault) → o ≡ find stands xs → is_some o ≡ true → find stands (xs ++ ys) ≡ o
-first_stays stands xs ys o e some = let k = some_is o some in in_front stands xs ys o (sym e) ∙ (ap (λ f. option_or f (find stands ys)) k.1 ∙ sym k.1)
+pub first_stays : (applies : ValidityFault → Bool) (xs ys : List ValidityFault) (o : Option ValidityFault) → o ≡ find applies xs → is_some o ≡ true → find applies (xs ++ ys) ≡ o
+first_stays applies xs ys o e some = let k = some_is o some in in_front applies xs ys o (sym e) ∙ (ap (λ f. option_or f (find applies ys)) k.1 ∙ sym k.1)
 
 -- where the earlier list finds nothing both find what the later one does
-pub second_follows : (stands : ValidityFault → Bool) (xs ys : List ValidityFault) (o p : Option ValidityFault) → o ≡ find stands xs → is_some o ≡ false → p ≡ find stands ys → find stands (xs ++ ys) ≡ p
-second_follows stands xs ys o p e none f = in_front stands xs ys None (sym e ∙ none_is o none) ∙ sym f
+pub second_follows : (applies : ValidityFault → Bool) (xs ys : List ValidityFault) (o p : Option ValidityFault) → o ≡ find applies xs → is_some o ≡ false → p ≡ find applies ys → find applies (xs ++ ys) ≡ p
+second_follows applies xs ys o p e none f = in_front applies xs ys None (sym e ∙ none_is o none) ∙ sym f
 
 -- where both lists find nothing the later one finds nothing
-pub none_behind : (stands : ValidityFault → Bool) (xs ys : List ValidityFault) → find stands (xs ++ ys) ≡ None → find stands ys ≡ None
-none_behind stands xs ys h = go (find stands xs) refl
+pub none_behind : (applies : ValidityFault → Bool) (xs ys : List ValidityFault) → find applies (xs ++ ys) ≡ None → find applies ys ≡ None
+none_behind applies xs ys h = go (find applies xs) refl
   where
-    go : (o : Option ValidityFault) → find stands xs ≡ o → find stands ys ≡ None
-    go None e = sym (in_front stands xs ys None e) ∙ h
-    go (Some fault) e = let k : Some fault ≡ None = sym (in_front stands xs ys (Some fault) e) ∙ h in absurd cc
+    go : (o : Option ValidityFault) → find applies xs ≡ o → find applies ys ≡ None
+    go None e = sym (in_front applies xs ys None e) ∙ h
+    go (Some fault) e = let k : Some fault ≡ None = sym (in_front applies xs ys (Some fault) e) ∙ h in absurd cc
 
 -- the lists of the order of tests, the rings' and the polygons' together
 pub grouped : (a b c d e f g h : List ValidityFault) → a ++ b ++ c ++ d ++ e ++ f ++ g ++ h ≡ (a ++ b ++ c ++ (d ++ e ++ f)) ++ (g ++ h)

@@ -111,14 +111,14 @@ near_after g fault from end asked n (o ∷ envelopes) h k near =
 
     go : (b : Bool) → nat_lt n end ≡ b → (t : Bool) → has_fault g (fault n) ≡ t → find (has_fault g) (map fault (numbers (n + 1) end)) ≡ first_near g fault from end (places asked (n + 1) envelopes)
         → find (has_fault g) (map fault (numbers n end)) ≡ first_near g fault from end (cond (meets o asked) (n ∷ places asked (n + 1) envelopes) (places asked (n + 1) envelopes))
-    go true within true stands rest =
-        found_here (has_fault g) fault n end (lt_from n end within) stands
-        ∙ sym (taken_first g fault from end n (meets o asked) (places asked (n + 1) envelopes) (first_is g fault from end asked n o envelopes near h (lt_from n end within) stands)
-        (three (nat_le from n) (nat_lt n end) (has_fault g (fault n)) (le_yes from n h) within ∙ stands))
-    go true within false stands rest =
-        passed_here (has_fault g) fault n end (lt_from n end within) stands ∙ rest
-        ∙ sym (left_out g fault from end n (meets o asked) (places asked (n + 1) envelopes) (third_no (nat_le from n) (nat_lt n end) (has_fault g (fault n)) stands))
-    go false past t stands rest =
+    go true within true applies rest =
+        found_here (has_fault g) fault n end (lt_from n end within) applies
+        ∙ sym (taken_first g fault from end n (meets o asked) (places asked (n + 1) envelopes) (first_is g fault from end asked n o envelopes near h (lt_from n end within) applies)
+        (three (nat_le from n) (nat_lt n end) (has_fault g (fault n)) (le_yes from n h) within ∙ applies))
+    go true within false applies rest =
+        passed_here (has_fault g) fault n end (lt_from n end within) applies ∙ rest
+        ∙ sym (left_out g fault from end n (meets o asked) (places asked (n + 1) envelopes) (third_no (nat_le from n) (nat_lt n end) (has_fault g (fault n)) applies))
+    go false past t applies rest =
         none_left (has_fault g) fault n end (le_from n end past) ∙ (sym (none_left (has_fault g) fault (n + 1) end (omega (arith, le_from n end past))) ∙ rest)
         ∙ sym (left_out g fault from end n (meets o asked) (places asked (n + 1) envelopes) (second_no (nat_le from n) (nat_lt n end) (has_fault g (fault n)) past))
 
@@ -142,8 +142,8 @@ near_found g fault from end asked envelopes h near = near_from g fault from end 
 -- one step over the near numbers: one in the range whose fault applies is the first ..
 pub found_near : (g : Geometry) (fault : ℕ → ValidityFault) (from end : ℕ) (near : List ℕ) (k j d : ℕ) → k < length near → j ≡ get_or near k d → from ≤ j → j < end → has_fault g (fault j) ≡ true
     → first_near g fault from end (drop k near) ≡ Some (fault j)
-found_near g fault from end near k j d within is low high stands = ap (first_near g fault from end) (at_index near k d j within is)
-    ∙ ap (λ (b : Bool). cond b (Some (fault j)) (first_near g fault from end (drop (k + 1) near))) (three (nat_le from j) (nat_lt j end) (has_fault g (fault j)) (le_yes from j low) (lt_yes j end high) ∙ stands)
+found_near g fault from end near k j d within is low high applies = ap (first_near g fault from end) (at_index near k d j within is)
+    ∙ ap (λ (b : Bool). cond b (Some (fault j)) (first_near g fault from end (drop (k + 1) near))) (three (nat_le from j) (nat_lt j end) (has_fault g (fault j)) (le_yes from j low) (lt_yes j end high) ∙ applies)
 
 -- .. and one that isn't counted is passed: the search goes on behind it
 passed_number : (g : Geometry) (fault : ℕ → ValidityFault) (from end : ℕ) (near : List ℕ) (k j d : ℕ) → k < length near → j ≡ get_or near k d → nat_le from j && nat_lt j end && has_fault g (fault j) ≡ false
@@ -213,14 +213,14 @@ there (x ∷ xs) (suc i) h = there xs i (omega (arith, h))
 -- ---- rings of one polygon that share a point, or of which one is inside the other
 -- a later ring of the polygon that meets this one has an envelope that meets its own
 pub rings_near : (g : Geometry) (first end ring : ℕ) → HasClosedRings g → AreRings g first end → first ≤ ring → ring < end → AreNear g (RingsMeet ring) (ring + 1) end (get_or (ring_envelopes g) ring None) 0 (ring_envelopes g)
-rings_near g first end ring closed are low high j o h is later before stands =
+rings_near g first end ring closed are low high j o h is later before applies =
     let m = mapped_at envelope_of_positions (rings g) j o (ap (slice_get (ring_envelopes g)) (sym (no_zero j)) ∙ is) in
     let s = closed_at (rings g) j m.0 closed m.1 in
     let same = rings_are_lines g j s.0 in
     let own = there (rings g) ring (omega (arith, s.0, later)) in
     let r = closed_at (rings g) ring own.0 closed own.1 in
     let share = both_there rings_share (slice_get (lines g) ring) (slice_get (lines g) j) own.0 m.0 (ap (λ l. slice_get l ring) (sym same) ∙ own.1) (ap (λ l. slice_get l j) (sym same) ∙ m.1)
-    (sym (rings_meet_at g first end ring j are low (omega (arith, later)) before) ∙ stands) in
+    (sym (rings_meet_at g first end ring j are low (omega (arith, later)) before) ∙ applies) in
     ap₂ meets (sym m.2) (asked_envelope envelope_of_positions (rings g) ring own.0 own.1) ∙ sharing_rings_meet own.0 m.0 r.1 s.1 share
 
 one_of_two : (a b : Bool) → a || b ≡ true → (a ≡ true) ⊎ (b ≡ true)
@@ -229,14 +229,14 @@ one_of_two false b h = inr h
 
 -- of two holes of which one is inside the other the envelopes meet, whichever is the inner one
 pub holes_near : (g : Geometry) (first end hole : ℕ) → HasClosedRings g → AreRings g first end → first < hole → hole < end → AreNear g (HolesNested hole) (hole + 1) end (get_or (ring_envelopes g) hole None) 0 (ring_envelopes g)
-holes_near g first end hole closed are low high j o h is later before stands =
+holes_near g first end hole closed are low high j o h is later before applies =
     let m = mapped_at envelope_of_positions (rings g) j o (ap (slice_get (ring_envelopes g)) (sym (no_zero j)) ∙ is) in
     let s = closed_at (rings g) j m.0 closed m.1 in
     let same = rings_are_lines g j s.0 in
     let own = there (rings g) hole (omega (arith, s.0, later)) in
     let r = closed_at (rings g) hole own.0 closed own.1 in
     let nested = both_there (λ a b. inside a b || inside b a) (slice_get (lines g) hole) (slice_get (lines g) j) own.0 m.0 (ap (λ l. slice_get l hole) (sym same) ∙ own.1) (ap (λ l. slice_get l j) (sym same) ∙ m.1)
-    (sym (holes_nested_at g first end hole j are low (omega (arith, later)) before) ∙ stands) in
+    (sym (holes_nested_at g first end hole j are low (omega (arith, later)) before) ∙ applies) in
     ap₂ meets (sym m.2) (asked_envelope envelope_of_positions (rings g) hole own.0 own.1) ∙ either_way own.0 m.0 r.1 s.1 (one_of_two (inside own.0 m.0) (inside m.0 own.0) nested)
   where
     either_way : (r s : List Position) → IsClosed r → IsClosed s → (inside r s ≡ true) ⊎ (inside s r ≡ true) → meets (envelope_of_positions s) (envelope_of_positions r) ≡ true
@@ -262,10 +262,10 @@ element_closed (Geometry.MultiPolygon es) i d closed is = all_from_each IsClosed
 
 -- a later polygon that meets this one has an envelope that meets its own
 pub elements_near : (g : Geometry) (element : ℕ) → HasClosedRings g → AreNear g (ElementsMeet element) (element + 1) (length (elements g)) (get_or (element_envelopes g) element None) 0 (element_envelopes g)
-elements_near g element closed j o h is later before stands =
+elements_near g element closed j o h is later before applies =
     let m = mapped_at element_envelope (elements g) j o (ap (slice_get (element_envelopes g)) (sym (no_zero j)) ∙ is) in
     let own = there (elements g) element (omega (arith, before, later)) in
-    let share = both_there elements_share (slice_get (elements g) element) (slice_get (elements g) j) own.0 m.0 own.1 m.1 (sym (elements_meet_at g element j (omega (arith, later))) ∙ stands) in
+    let share = both_there elements_share (slice_get (elements g) element) (slice_get (elements g) j) own.0 m.0 own.1 m.1 (sym (elements_meet_at g element j (omega (arith, later))) ∙ applies) in
     ap₂ meets (sym m.2) (asked_envelope element_envelope (elements g) element own.0 own.1)
     ∙ sharing_meet own.0 m.0 (element_closed g element own.0 closed own.1) (element_closed g j m.0 closed m.1) share
 
@@ -274,11 +274,11 @@ second_of a b h = (and_parts a b h).1
 
 -- a polygon in which this one lies has an envelope that meets its own
 pub insides_near : (g : Geometry) (element : ℕ) → HasClosedRings g → element < length (elements g) → AreNear g (ElementInside element) 0 (length (elements g)) (get_or (element_envelopes g) element None) 0 (element_envelopes g)
-insides_near g element closed there_is j o h is later before stands =
+insides_near g element closed there_is j o h is later before applies =
     let m = mapped_at element_envelope (elements g) j o (ap (slice_get (element_envelopes g)) (sym (no_zero j)) ∙ is) in
     let own = there (elements g) element there_is in
     let within = both_there (λ d e. inside_element e d) (slice_get (elements g) element) (slice_get (elements g) j) own.0 m.0 own.1 m.1
-    (second_of (not (element == j)) (test_of_both (λ d e. inside_element e d) (slice_get (elements g) element) (slice_get (elements g) j)) stands) in
+    (second_of (not (element == j)) (test_of_both (λ d e. inside_element e d) (slice_get (elements g) element) (slice_get (elements g) j)) applies) in
     ap₂ meets (sym m.2) (asked_envelope element_envelope (elements g) element own.0 own.1)
     ∙ inside_meet own.0 m.0 (element_closed g j m.0 closed m.1) within
 

@@ -11,19 +11,19 @@ use Rattle.outlines.proofs.Finding.{first_in_part, further_in_parts, none_in_par
 use Rattle.outlines.proofs.OutlineFacts.{numbered_count}
 
 -- what is found first among a polygon's faults is the first of those of it and the later ones
-pub found_in_polygon : (stands : ValidityFault → Bool) (faults : ℕ → ℕ → List ValidityFault) (g : Geometry) (m first end : ℕ) (o : Option ValidityFault) → AreRingsOf g m first end
-    → o ≡ find stands (faults first end) → is_some o ≡ true → find stands (flat_map (λ e. faults e.first (rings_end e)) (drop m (numbered_elements g))) ≡ o
-found_in_polygon stands faults g m first end o are e some = first_in_part stands (λ (d : Element). faults d.first (rings_end d)) (numbered_elements g) m are.0 o are.1
-    (e ∙ ap₂ (λ a b. find stands (faults a b)) (sym are.2) (sym are.3)) some
+pub found_in_polygon : (applies : ValidityFault → Bool) (faults : ℕ → ℕ → List ValidityFault) (g : Geometry) (m first end : ℕ) (o : Option ValidityFault) → AreRingsOf g m first end
+    → o ≡ find applies (faults first end) → is_some o ≡ true → find applies (flat_map (λ e. faults e.first (rings_end e)) (drop m (numbered_elements g))) ≡ o
+found_in_polygon applies faults g m first end o are e some = first_in_part applies (λ (d : Element). faults d.first (rings_end d)) (numbered_elements g) m are.0 o are.1
+    (e ∙ ap₂ (λ a b. find applies (faults a b)) (sym are.2) (sym are.3)) some
 
 -- where a polygon has none, the search goes on with the next
-pub passed_in_polygon : (stands : ValidityFault → Bool) (faults : ℕ → ℕ → List ValidityFault) (g : Geometry) (m first end : ℕ) (o : Option ValidityFault) → AreRingsOf g m first end
-    → o ≡ find stands (faults first end) → is_some o ≡ false
-    → find stands (flat_map (λ e. faults e.first (rings_end e)) (drop m (numbered_elements g))) ≡ find stands (flat_map (λ e. faults e.first (rings_end e)) (drop (m + 1) (numbered_elements g)))
-passed_in_polygon stands faults g m first end o are e none = further_in_parts stands (λ (d : Element). faults d.first (rings_end d)) (numbered_elements g) m are.0 o are.1
-    (e ∙ ap₂ (λ a b. find stands (faults a b)) (sym are.2) (sym are.3)) none
+pub passed_in_polygon : (applies : ValidityFault → Bool) (faults : ℕ → ℕ → List ValidityFault) (g : Geometry) (m first end : ℕ) (o : Option ValidityFault) → AreRingsOf g m first end
+    → o ≡ find applies (faults first end) → is_some o ≡ false
+    → find applies (flat_map (λ e. faults e.first (rings_end e)) (drop m (numbered_elements g))) ≡ find applies (flat_map (λ e. faults e.first (rings_end e)) (drop (m + 1) (numbered_elements g)))
+passed_in_polygon applies faults g m first end o are e none = further_in_parts applies (λ (d : Element). faults d.first (rings_end d)) (numbered_elements g) m are.0 o are.1
+    (e ∙ ap₂ (λ a b. find applies (faults a b)) (sym are.2) (sym are.3)) none
 
 -- where all polygons are passed, none is found
-pub none_in_polygons : (stands : ValidityFault → Bool) (faults : ℕ → ℕ → List ValidityFault) (g : Geometry) (m : ℕ) → length (elements g) ≤ m
-    → find stands (flat_map (λ e. faults e.first (rings_end e)) (drop m (numbered_elements g))) ≡ None
-none_in_polygons stands faults g m h = none_in_parts stands (λ (d : Element). faults d.first (rings_end d)) (numbered_elements g) m (omega (arith, numbered_count 0 (elements g), h))
+pub none_in_polygons : (applies : ValidityFault → Bool) (faults : ℕ → ℕ → List ValidityFault) (g : Geometry) (m : ℕ) → length (elements g) ≤ m
+    → find applies (flat_map (λ e. faults e.first (rings_end e)) (drop m (numbered_elements g))) ≡ None
+none_in_polygons applies faults g m h = none_in_parts applies (λ (d : Element). faults d.first (rings_end d)) (numbered_elements g) m (omega (arith, numbered_count 0 (elements g), h))

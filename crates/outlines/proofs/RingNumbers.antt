@@ -70,16 +70,16 @@ one_decides t i start (x ∷ xs) (suc m) e is low high fails =
     ∙ one_decides t i (start + length x) xs m e is low high fails
 
 -- its ring with the number is at that number among all rings
-pub ring_stands : (i start : ℕ) (polygons : List (List (List Position))) (m : ℕ) (e : Element) → slice_get (elements_from start polygons) m ≡ Some e
+pub ring_is_there : (i start : ℕ) (polygons : List (List (List Position))) (m : ℕ) (e : Element) → slice_get (elements_from start polygons) m ≡ Some e
     → e.first ≤ i → i < rings_end e → ring_of e i ≡ slice_get (joined_rings polygons) (i - start)
-ring_stands i start [] m e is low high = absurd cc
-ring_stands i start (x ∷ xs) zero e is low high =
+ring_is_there i start [] m e is low high = absurd cc
+ring_is_there i start (x ∷ xs) zero e is low high =
     subst (λ (d : Element). d.first ≤ i → i < rings_end d → ring_of d i ≡ slice_get (x ++ joined_rings xs) (i - start)) (same_some (record { first = start; rings = x }) e is)
     (λ low high. ap (λ (b : Bool). cond b (slice_get x (i - start)) None) (le_yes start i low) ∙ sym (in_front x (joined_rings xs) (i - start) (omega (arith, low, high)))) low high
-ring_stands i start (x ∷ xs) (suc m) e is low high =
+ring_is_there i start (x ∷ xs) (suc m) e is low high =
     let from = counted_from (start + length x) xs m e is in
     let less : (i - start) - length x ≡ i - (start + length x) = omega arith in
-    ring_stands i (start + length x) xs m e is low high
+    ring_is_there i (start + length x) xs m e is low high
     ∙ sym (behind x (joined_rings xs) (i - start) (omega (arith, from, low)) ∙ ap (slice_get (joined_rings xs)) less)
 
 -- ---- the rings and polygons of a geometry
@@ -111,7 +111,7 @@ first_below g first end are = omega (arith, are.starts, are.ends)
 
 -- a ring of the polygon is the line with its number
 ring_is_line : (g : Geometry) (first end : ℕ) (are : AreRings g first end) (i : ℕ) → first ≤ i → i < end → ring_of are.element i ≡ slice_get (lines g) i
-ring_is_line g first end are i low high = ring_stands i 0 (elements g) are.place are.element are.numbered (omega (arith, are.starts, low)) (omega (arith, are.ends, high))
+ring_is_line g first end are i low high = ring_is_there i 0 (elements g) are.place are.element are.numbered (omega (arith, are.starts, low)) (omega (arith, are.ends, high))
     ∙ ap₂ (λ (l : List (List Position)) (k : ℕ). slice_get l k) (joined_are_lines g are.place are.element are.numbered) from_zero
   where
     from_zero : i - 0 ≡ i

@@ -6,7 +6,7 @@ use Rattle.geometry_model.specs.Geometries.{Geometry}
 use Rattle.geometry_model.specs.Dimensions.{Matrix}
 use Rattle.geometry_model.specs.GivenMatrix.{GivesMatrix}
 use Rattle.plan_laws.proofs.Lawful.{IsDriven, access}
-use Rattle.plan_laws.proofs.Lists.{filter_flat, filter_twice, kept_nested, crossed}
+use Rattle.plan_laws.proofs.PlanLists.{filter_flat, filter_twice, kept_nested, crossed}
 use Rattle.plan_laws.proofs.Probes.{Condition, rows_valid, method_gives, outer_gives}
 use Rattle.table_model.specs.Arguments.{denoted}
 use Rattle.table_model.specs.Candidates.{candidates_among, gives, placed}

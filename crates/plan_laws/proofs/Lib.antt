@@ -1,4 +1,4 @@
-pub mod Lists
+pub mod PlanLists
 pub mod Orders
 pub mod Lawful
 pub mod Probes

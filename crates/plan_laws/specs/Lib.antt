@@ -1,3 +1,3 @@
-pub mod FilterLaws
+pub mod PassingLaws
 pub mod CandidateLaws
 pub mod MeaningLaws

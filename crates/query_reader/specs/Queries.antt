@@ -16,10 +16,10 @@ use Rattle.table_model.specs.declared.tokens.TokenKind.TheVariants as k
 -- EXPLAIN, if it is there, and what SELECT lists
 abbrev pub head : Reader (Explain × Selection WrittenColumn)
 head = do
-  told ← explained
+  said ← explained
   expect fault.Syntax k.Select
   selection ← selection
-  pure (told, selection)
+  pure (said, selection)
 
 -- the references of FROM and the condition of ON, from the first reference and what was read after it
 abbrev pub with_first : WrittenReference → Outcome QueryFault Second → Outcome QueryFault (List WrittenReference × Option Condition)

@@ -3,9 +3,9 @@
 ghost use Rattle.std.specs.Prelude.{◌≡◌, Err, IfErr, IfOk, Ok};
 ghost use Rattle.table_model.specs.Outcomes.{Gives};
 ghost use Rattle.table_model.specs.Parsers.{Reads};
-ghost use Rattle.table_model.specs.QueryGrammar.{AnswersQuery, IsQuery};
+ghost use Rattle.table_model.specs.QueryGrammar.{ReturnsQuery, IsQuery};
 ghost use Rattle.table_model.specs.QueryReading as spec;
-ghost use Rattle.table_model.specs.QueryRefusals.{AnswersFirst, StandsInQuery};
+ghost use Rattle.table_model.specs.QueryRefusals.{ReturnsFirst, AppliesInQuery};
 ghost use Rattle.query_reader.specs.Queries as parts;
 ghost use Rattle.query_reader.specs.Steps.{mapped};
 
@@ -210,9 +210,9 @@ fn read<'a>(alloc: Global, text: &'a str) -> Result<Query<'a>, QueryFault>
 /// the first digit of a number that doesn't fit in 64 bits. OutOfMemory may come in place of any result.
 pub fn read_query<'a>(alloc: Global, text: &'a str) -> Result<Query<'a>, QueryFault>
     ensures ok { IfOk result (λ q. IsQuery text.now q) }
-    ensures only { AnswersQuery text.now result }
-    ensures first { AnswersFirst text.now result }
-    ensures stands { IfErr result (λ fault. StandsInQuery text.now fault) }
+    ensures only { ReturnsQuery text.now result }
+    ensures first { ReturnsFirst text.now result }
+    ensures applies { IfErr result (λ fault. AppliesInQuery text.now fault) }
     ensures exact { Gives QueryFault.OutOfMemory (λ q. q) result (spec.query_of text.now) }
 {
     read(alloc, text)

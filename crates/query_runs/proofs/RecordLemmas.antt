@@ -3,7 +3,7 @@ use Rattle.std.proofs.Common.{◌≡◌, ◌+◌, ℕ, List, [], ◌∷◌, ◌+
 use Rattle.std.specs.List.{concat}
 use Rattle.std.specs.Io.KnownBytes.{Appends}
 use Rattle.executor.specs.Streams.{GivesNext, Stream, to_come}
-use Rattle.executor.specs.Pairs.{RowPair}
+use Rattle.executor.specs.FoundPairs.{RowPair}
 use Rattle.sinks.specs.Sinks.{AppendsFront}
 use Rattle.sinks.proofs.SinkLemmas.{Appends-none, Appends-then, AppendsFront-more, AppendsFront-then}
 use Rattle.table_model.specs.RunOutcomes.{MatrixOf}

@@ -125,8 +125,8 @@ abbrev pub none_reached : ℕ → Type 0
 none_reached table = ⊥
 
 -- what a run over a loaded database promises, for every function that gives the matrix (SQL, the query; 06-103r4, 6.1.15)
-abbrev pub AnswersQuery : {A : Type 0} → Result A Fault → SpatialDatabase → SelectQuery → Option (List ℕ) → Option (List ℕ) → Type 0
-AnswersQuery result database query old new =
+abbrev pub ReturnsQuery : {A : Type 0} → Result A Fault → SpatialDatabase → SelectQuery → Option (List ℕ) → Option (List ℕ) → Type 0
+ReturnsQuery result database query old new =
     ByEveryMatrix (λ matrix. Runs result (query_outcome record_text matrix query database) none_reached old new)
 
 -- what a run over the tables' records promises, for every function that gives the matrix (SQL, the query; 06-103r4, 6.1.15)

@@ -4,9 +4,9 @@ ghost use Rattle.std.specs.Prelude.{◌≡◌, ◌∷◌, [], ℕ, IfErr, IfOk, 
 ghost use Rattle.csv.specs.Records.{fields_of};
 ghost use Rattle.std.specs.List.{concat};
 ghost use Rattle.query_runs.specs.Puts.{PutsText};
-ghost use Rattle.query_runs.specs.Runs.{AnswersQuery, CountsOver, CountsQuery, IsOfTables, RunsOver, bound_text, choice_text, count_after, count_text, planned_text, planned_work, rows_of_choices, rows_text};
+ghost use Rattle.query_runs.specs.Runs.{ReturnsQuery, CountsOver, CountsQuery, IsOfTables, RunsOver, bound_text, choice_text, count_after, count_text, planned_text, planned_work, rows_of_choices, rows_text};
 ghost use Rattle.answer_records.specs.RecordTexts.{record_text};
-ghost use Rattle.executor.specs.Pairs.{HasReferences, IsPlace, pair_rows};
+ghost use Rattle.executor.specs.FoundPairs.{HasReferences, IsPlace, pair_rows};
 ghost use Rattle.executor.specs.Streams.{to_come, work_at_end};
 ghost use Rattle.feature_table.specs.Tables.{EachRecordsOf, records_in};
 ghost use Rattle.records.specs.RecordWriters.{CountsPut, IsReady};
@@ -134,7 +134,7 @@ fn answer_query<I: EnvelopeIndex + Drop, S: Sink, O: RowObserver>(
     sink: &mut S,
     observer: &mut O,
 ) -> Result<Work, Fault>
-    ensures answer { AnswersQuery result database.now query.now
+    ensures answer { ReturnsQuery result database.now query.now
         (S.taken sink.old) (S.taken sink.new) }
     ensures work { CountsQuery result database.now query.now }
     ensures failures { S.failures sink.new ≡ count_after (S.failures sink.old) result }

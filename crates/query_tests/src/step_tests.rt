@@ -51,7 +51,7 @@ fn records_and_rows(rt: HostRuntime) -> Result<(), Fail> {
 }
 
 // The fields of a row of a bound query, and whether it passes the filters of a plan.
-fn answered(
+fn returned(
     alloc: Global,
     bound: &Bound,
     plan: &Plan,
@@ -67,7 +67,7 @@ fn answered(
 }
 
 // Whether the rows at these places of the first table have these ids, and pass the filters of a plan or don't.
-fn are_answered(
+fn are_returned(
     alloc: Global,
     database: &Database<'_, RTree>,
     bound: &Bound,
@@ -81,7 +81,7 @@ fn are_answered(
         if *place >= table.rows() {
             return Err(Fail::from("no row"));
         }
-        let (record, found) = answered(alloc, bound, plan, table.row(*place))?;
+        let (record, found) = returned(alloc, bound, plan, table.row(*place))?;
         if field_of(&record, 0) != id.as_bytes() || found != *passed {
             return Ok(false);
         }
@@ -98,8 +98,8 @@ fn planned(
     let bound = bind(alloc, query, database.definitions())?;
     let plan = choose_by_counts(alloc, &bound, &[10])?;
     let header = header_record(alloc, database.definitions(), &bound)?;
-    let answered = are_answered(alloc, database, &bound, &plan)?;
-    Ok((header, plan.cost, answered))
+    let returned = are_returned(alloc, database, &bound, &plan)?;
+    Ok((header, plan.cost, returned))
 }
 
 // The same of the text of a query, over ten points.
@@ -113,8 +113,8 @@ fn planned_over(alloc: Global, query: &str) -> Result<(ByteRecord, u64, bool), F
 /// A query is bound to definitions, its plan is chosen by the number of rows, and records are made of its header and rows.
 #[test]
 fn plans_and_records(rt: HostRuntime) -> Result<(), Fail> {
-    let (header, cost, answered) = planned_over(rt.alloc(), PROBED)?;
-    assert!(rt; field_of(&header, 0) == b"id".as_slice() && cost == 5 && answered);
+    let (header, cost, returned) = planned_over(rt.alloc(), PROBED)?;
+    assert!(rt; field_of(&header, 0) == b"id".as_slice() && cost == 5 && returned);
     Ok(())
 }
 

@@ -13,16 +13,16 @@ use Rattle.geometry_model.specs.Envelopes.{Envelope, overlap}
 use Rattle.rtree.specs.Found.{meeting_places, placed_meets}
 use Rattle.rtree.specs.Packing.{Entry, around, comes_before, entry_at, in_order, present}
 use Rattle.rtree.specs.Trees.{IsPacked, KeepPacking, entries_of, envelope_at, level_at, places_found, singles, unpacked}
-use Rattle.rtree.proofs.OrderLemmas.{Ascends, all-in_order, ascends-in_order, ascends-sorted, entry_order, number_order, numbers_apart, only-order, same_place, sum-in_order}
+use Rattle.rtree.proofs.PackingOrder.{Ascends, all-in_order, ascends-in_order, ascends-sorted, entry_order, number_order, numbers_apart, only-order, same_place, sum-in_order}
 
 -- ---- the entries of a list
 
 -- an entry is in its place
-abbrev Stands : List (Option Envelope) → Entry → Type 0
-Stands es e = slice_get es e.0 ≡ Some (Some e.1)
+abbrev Applies : List (Option Envelope) → Entry → Type 0
+Applies es e = slice_get es e.0 ≡ Some (Some e.1)
 
 -- each entry taken from a place on is at its own place in the list
-present-from : (es rest : List (Option Envelope)) (n : ℕ) → ((i : ℕ) → slice_get rest i ≡ slice_get es (n + i)) → AllByRecursion (Stands es) (filter_map entry_at (enumerate_from n rest))
+present-from : (es rest : List (Option Envelope)) (n : ℕ) → ((i : ℕ) → slice_get rest i ≡ slice_get es (n + i)) → AllByRecursion (Applies es) (filter_map entry_at (enumerate_from n rest))
 present-from es [] n same = tt
 present-from es (None ∷ rest) n same = present-from es rest (n + 1) (λ i. let m : n + suc i ≡ n + 1 + i = omega arith in same (suc i) ∙ ap (slice_get es) m)
 present-from es (Some e ∷ rest) n same = (
@@ -31,11 +31,11 @@ present-from es (Some e ∷ rest) n same = (
 )
 
 -- so each entry of the list does
-all_stand : (es : List (Option Envelope)) → AllByRecursion (Stands es) (present es)
-all_stand es = present-from es es 0 (λ i. let m : i ≡ 0 + i = omega arith in ap (slice_get es) m)
+all_apply : (es : List (Option Envelope)) → AllByRecursion (Applies es) (present es)
+all_apply es = present-from es es 0 (λ i. let m : i ≡ 0 + i = omega arith in ap (slice_get es) m)
 
 -- two entries of one list that are level have one place, so they are one
-same_entry : (es : List (Option Envelope)) (a b : Entry) → Stands es a → Stands es b → comes_before a b ≡ false → comes_before b a ≡ false → a ≡ b
+same_entry : (es : List (Option Envelope)) (a b : Entry) → Applies es a → Applies es b → comes_before a b ≡ false → comes_before b a ≡ false → a ≡ b
 same_entry es a b p q h k =
     let place : a.0 ≡ b.0 = same_place a b h k in
     let both : Some (Some a.1) ≡ Some (Some b.1) = sym p ∙ ap (slice_get es) place ∙ q in
@@ -45,9 +45,9 @@ same_entry es a b p q h k =
 -- entries that were put in order are the entries in order
 pub ordered_is : (es : List (Option Envelope)) (ordered : List Entry) → IsPermutation (present es) ordered → IsSortedBy comes_before ordered → ordered ≡ in_order (present es)
 ordered_is es ordered moved up =
-    only-order comes_before entry_order (Stands es) (same_entry es) ordered (in_order (present es)) (ascends-sorted comes_before entry_order ordered up) (ascends-in_order (present es))
-    (recursion_from_All (Stands es) ordered (All-permutation (Stands es) (present es) ordered moved (All-from_recursion (Stands es) (present es) (all_stand es))))
-    (all-in_order (Stands es) (present es) (all_stand es))
+    only-order comes_before entry_order (Applies es) (same_entry es) ordered (in_order (present es)) (ascends-sorted comes_before entry_order ordered up) (ascends-in_order (present es))
+    (recursion_from_All (Applies es) ordered (All-permutation (Applies es) (present es) ordered moved (All-from_recursion (Applies es) (present es) (all_apply es))))
+    (all-in_order (Applies es) (present es) (all_apply es))
     (λ f. sum_by-IsPermutation f (present es) ordered moved ∙ sym (sum-in_order f (present es)))
 
 -- ---- what is found
@@ -130,10 +130,10 @@ from_get (e ∷ es) zero x h = cc
 from_get (e ∷ es) (suc i) x h = from_get es i x h
 
 -- where each entry is in its place, the envelope of a position is the list's
-envelope_stands : (es : List (Option Envelope)) (zs : List Entry) (place : ℕ) (x : Envelope) → AllByRecursion (Stands es) zs → envelope_at zs place ≡ Some x
+envelope_is_there : (es : List (Option Envelope)) (zs : List Entry) (place : ℕ) (x : Envelope) → AllByRecursion (Applies es) zs → envelope_at zs place ≡ Some x
     → slice_get es place ≡ Some (Some x)
-envelope_stands es [] place x all h = cc
-envelope_stands es (z ∷ zs) place x all h = go (z.0 == place) refl h (envelope_stands es zs place x all.1)
+envelope_is_there es [] place x all h = cc
+envelope_is_there es (z ∷ zs) place x all h = go (z.0 == place) refl h (envelope_is_there es zs place x all.1)
   where
     go : (b : Bool) → z.0 == place ≡ b → ◌≡◌ {A = Option Envelope} (cond b (Some z.1) (envelope_at zs place)) (Some x)
         → (envelope_at zs place ≡ Some x → slice_get es place ≡ Some (Some x)) → slice_get es place ≡ Some (Some x)
@@ -193,8 +193,8 @@ envelope_moved es entries place moved within = go (envelope_at entries place) re
         (All-from_recursion (λ z. z.0 == place ≡ false) entries (none_there entries place h)) in
         sym (envelope-present 0 es place place (omega arith) within) ∙ there_none (present es) place (recursion_from_All (λ z. z.0 == place ≡ false) (present es) apart)
     go (Some x) h =
-        let all = recursion_from_All (Stands es) entries (All-permutation (Stands es) (present es) entries moved (All-from_recursion (Stands es) (present es) (all_stand es))) in
-        from_get es place x (envelope_stands es entries place x all h)
+        let all = recursion_from_All (Applies es) entries (All-permutation (Applies es) (present es) entries moved (All-from_recursion (Applies es) (present es) (all_apply es))) in
+        from_get es place x (envelope_is_there es entries place x all h)
 
 -- each position is that of an absent envelope or of one that is there
 both_counted : (n : ℕ) (es : List (Option Envelope))

@@ -1,7 +1,8 @@
 //! Envelopes, and indexes that find which envelopes of a list meet one asked for.
 //!
 //! The list has optional envelopes. An absent envelope is that of an empty geometry: it meets only another absent
-//! one.
+//! one. A program takes `CurveTree`. `RTree` is packed in another order and counts the nodes that a search opens; `ListIndex`
+//! looks at each envelope, and is for tests.
 #![tactic(auto)]
 
 mod curve;

@@ -3,9 +3,9 @@
 ghost use Rattle.schema_reader.specs.Outcomes.{ReadsAs};
 ghost use Rattle.std.specs.Prelude.{◌≡◌, IfErr, IfOk, Ok};
 ghost use Rattle.table_model.specs.Outcomes.{Gives};
-ghost use Rattle.table_model.specs.SchemaGrammar.{AnswersSchema, IsSchema};
+ghost use Rattle.table_model.specs.SchemaGrammar.{ReturnsSchema, IsSchema};
 ghost use Rattle.table_model.specs.SchemaReading as spec;
-ghost use Rattle.table_model.specs.SchemaRefusals.{AnswersFirst, StandsInSchema};
+ghost use Rattle.table_model.specs.SchemaRefusals.{ReturnsFirst, AppliesInSchema};
 ghost use Rattle.table_model.specs.GeometryColumns.{ColumnShape};
 ghost use Rattle.table_model.specs.GeometryColumns.{shape_named};
 
@@ -80,9 +80,9 @@ fn read(alloc: Global, text: &[u8]) -> Result<Schema, SchemaFault>
 /// parenthesis of a table without key; or `OutOfMemory`. (SQL, CREATE TABLE)
 pub fn read_schema(alloc: Global, text: &[u8]) -> Result<Schema, SchemaFault>
     ensures ok { IfOk result (λ schema. IsSchema shape_named text.now schema) }
-    ensures only { AnswersSchema shape_named text.now result }
-    ensures first { AnswersFirst shape_named text.now result }
-    ensures stands { IfErr result (λ fault. StandsInSchema {T = ColumnShape} shape_named text.now fault) }
+    ensures only { ReturnsSchema shape_named text.now result }
+    ensures first { ReturnsFirst shape_named text.now result }
+    ensures applies { IfErr result (λ fault. AppliesInSchema {T = ColumnShape} shape_named text.now fault) }
     ensures exact { Gives SchemaFault.OutOfMemory (λ schema. schema) result
         (spec.schema_of shape_named text.now) }
 {

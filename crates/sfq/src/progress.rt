@@ -35,7 +35,7 @@ pub struct Progress<'r> {
     // How long after the start a line may be written next.
     due: Cell<Duration>,
     // Whether a line is on the terminal.
-    stands: Cell<bool>,
+    applies: Cell<bool>,
     // Whether the output has begun on a terminal, so that no line is printed any more.
     is_over: Cell<bool>,
 }
@@ -53,7 +53,7 @@ impl<'r> Progress<'r> {
             start,
             opened: Cell::new(0),
             due: Cell::new(Duration::from_millis(PATIENCE_MILLISECONDS)),
-            stands: Cell::new(false),
+            applies: Cell::new(false),
             is_over: Cell::new(false),
         }
     }
@@ -114,13 +114,13 @@ impl<'r> Progress<'r> {
         let pause = Duration::from_millis(PAUSE_MILLISECONDS);
         self.due.set(elapsed.saturating_add(pause));
         self.clear();
-        self.stands.set(true);
+        self.applies.set(true);
         true
     }
 
     // Removes the line from the terminal.
     fn clear(&self) {
-        if self.stands.replace(false) {
+        if self.applies.replace(false) {
             let _ = self.rt.stderr().write_all(CLEAR);
         }
     }

@@ -44,10 +44,10 @@ pub sides_same : (a b : Geometry) (q : Point) (c : Piece) (la lb ua ub : Locatio
     → Some (record { lower = record { first = la; second = lb }; upper = record { first = ua; second = ub } }) ≡ side_labels a b c
 unfolding sides_of
 sides_same a b q c la lb ua ub h hq e level ela elb eua eub =
-    (λ i. Some (sides_of ((ela ∙ at_below a) i) ((elb ∙ at_below b) i) ((eua ∙ at_above a) i) ((eub ∙ at_above b) i))) ∙ sym (ap told level)
+    (λ i. Some (sides_of ((ela ∙ at_below a) i) ((elb ∙ at_below b) i) ((eua ∙ at_above a) i) ((eub ∙ at_above b) i))) ∙ sym (ap said level)
   where
-    told : Bool → Option SideLabels
-    told t = cond t None (Some (sides_of (below a (sample c)) (below b (sample c)) (above a (sample c)) (above b (sample c))))
+    said : Bool → Option SideLabels
+    said t = cond t None (Some (sides_of (below a (sample c)) (below b (sample c)) (above a (sample c)) (above b (sample c))))
 
     at_below : (g : Geometry) → below g q ≡ below g (sample c)
     at_below g = ap (λ t. cond t Interior Exterior) (odd_at_or_above_respects (rings g) q (sample c) hq (sample_is_point c h) e)

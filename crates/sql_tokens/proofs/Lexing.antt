@@ -41,15 +41,15 @@ pub one_more : (s : Bool) (at : ℕ) (text rest : List ℕ) (f : Option TokenKin
     → rest ≡ drop at text → f ≡ front s rest → at < length text → 1 ≤ f.1 → f.1 ≤ length rest
     → f.0 ≡ Some kind → same_kind kind k.Bad ≡ false → new ≡ old ++ record { kind = kind; text = text_of kind f.1 rest; at = at } ∷ []
     → old ++ tokens_from s 0 at (drop at text) ≡ all → new ++ tokens_from s 0 (at + f.1) (drop (at + f.1) text) ≡ all
-one_more s at text rest f kind old new all here e inside least most is good put told =
+one_more s at text rest f kind old new all here e inside least most is good put said =
     let goes = tokens_at s at text rest f here e inside least most in
-    rw (put, append_assoc) (sym (ap (λ r. old ++ r) (rw (is, good) at goes)) ∙ told)
+    rw (put, append_assoc) (sym (ap (λ r. old ++ r) (rw (is, good) at goes)) ∙ said)
 
 -- white space or a comment passed over
 pub none_more : (s : Bool) (at : ℕ) (text rest : List ℕ) (f : Option TokenKind × ℕ) (old all : List Token)
     → rest ≡ drop at text → f ≡ front s rest → at < length text → 1 ≤ f.1 → f.1 ≤ length rest
     → f.0 ≡ None
     → old ++ tokens_from s 0 at (drop at text) ≡ all → old ++ tokens_from s 0 (at + f.1) (drop (at + f.1) text) ≡ all
-none_more s at text rest f old all here e inside least most is told =
+none_more s at text rest f old all here e inside least most is said =
     let goes = tokens_at s at text rest f here e inside least most in
-    sym (ap (λ r. old ++ r) (rw is at goes)) ∙ told
+    sym (ap (λ r. old ++ r) (rw is at goes)) ∙ said

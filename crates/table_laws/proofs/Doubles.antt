@@ -7,7 +7,7 @@ use Rattle.std.specs.Ordering.{int_eq}
 use Rattle.integers.proofs.Tests.{equal_from, equal_no, equal_yes}
 use Rattle.table_model.specs.Loading.{double_from, double_key}
 use Rattle.table_laws.specs.KeyLaws.{DoubleIsFirst, IsFirstDouble, NoneIsDouble}
-use Rattle.table_laws.proofs.Lists.{Each, Pairs, all-pairs, each-weaker, pairs-all}
+use Rattle.table_laws.proofs.TableLists.{Each, Pairs, all-pairs, each-weaker, pairs-all}
 use Rattle.table_laws.proofs.Keys.{apart, differ, or-none}
 
 -- a key is among some

@@ -15,7 +15,7 @@ use Rattle.table_model.specs.declared.faults.LoadFault.TheVariants as fault
 use Rattle.table_model.specs.declared.values.Value.{Value}
 use Rattle.table_model.specs.declared.values.Value.TheVariants as value
 use Rattle.table_laws.specs.LoadLaws.{AreTyped, IsFilled, RowsFit, RequiredAreFilled}
-use Rattle.table_laws.proofs.Lists.{Each, each-all, each-weaker}
+use Rattle.table_laws.proofs.TableLists.{Each, each-all, each-weaker}
 use Rattle.table_laws.proofs.Keys.{each-by_key}
 use Rattle.table_laws.proofs.Loads.{loaded}
 

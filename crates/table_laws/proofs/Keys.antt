@@ -10,7 +10,7 @@ use Rattle.integers.proofs.Signs.{less_from, not_less_from, three_ways}
 use Rattle.integers.proofs.Tests.{equal_yes}
 use Rattle.table_model.specs.Loading.{by_key, double_from, double_key, insert_by_key, key_of}
 use Rattle.table_model.specs.Meanings.{Row}
-use Rattle.table_laws.proofs.Lists.{Each, Pairs, each-weaker, pairs-map}
+use Rattle.table_laws.proofs.TableLists.{Each, Pairs, each-weaker, pairs-map}
 
 -- a test of two that neither passes
 pub or-none : (a b : Bool) → (a || b) ≡ false → (a ≡ false) × (b ≡ false)

@@ -1,4 +1,4 @@
-pub mod Lists
+pub mod TableLists
 pub mod Keys
 pub mod Loads
 pub mod Fits

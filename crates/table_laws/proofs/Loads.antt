@@ -7,7 +7,7 @@ use Rattle.table_model.specs.declared.definitions.TableDef.{TableDef}
 use Rattle.table_model.specs.declared.faults.LoadFault.{LoadFault}
 use Rattle.table_model.specs.declared.faults.LoadFault.TheVariants as fault
 use Rattle.table_laws.specs.LoadLaws.{Ascends, AreTyped, RowsAscend, RowsArePermuted}
-use Rattle.table_laws.proofs.Lists.{pairs-all}
+use Rattle.table_laws.proofs.TableLists.{pairs-all}
 use Rattle.table_laws.proofs.Keys.{permuted, rises}
 
 pub record Loaded {T G : Type 0} (geometry : GeometryReader T G) (table : TableDef T) (records : List Record) (rows : Table G) : Type 0 where

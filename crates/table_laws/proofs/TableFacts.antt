@@ -21,7 +21,7 @@ use Rattle.table_laws.specs.FeatureTableLaws.{LoadsDatabase, LoadsRows}
 use Rattle.table_laws.specs.LoadLaws.{AreTyped}
 use Rattle.table_laws.proofs.Fits.{parts}
 use Rattle.table_laws.proofs.Keys.{each-by_key}
-use Rattle.table_laws.proofs.Lists.{Each, each-all}
+use Rattle.table_laws.proofs.TableLists.{Each, each-all}
 use Rattle.table_laws.proofs.Loads.{ascend, loaded}
 
 -- what is read as a geometry for a column is one that it takes

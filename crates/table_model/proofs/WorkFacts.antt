@@ -10,7 +10,7 @@ use Rattle.table_model.specs.Arguments.{denoted}
 use Rattle.table_model.specs.Candidates.{candidates}
 use Rattle.table_model.specs.ExplainTexts.{analyze_text}
 use Rattle.table_model.specs.Meanings.{Table, is_true, referenced}
-use Rattle.table_model.specs.PlanExamples.{Query, Condition, analyzed, answered}
+use Rattle.table_model.specs.PlanExamples.{Query, Condition, analyzed, returned}
 use Rattle.table_model.specs.GeometryColumns.{ColumnShape, geometry_writing}
 use Rattle.table_model.specs.Loading.{Record}
 use Rattle.table_model.specs.Places.{Choice, choices, query_rows, is_selected, limited}
@@ -74,9 +74,9 @@ work_up_to tables q plan passes n m h e =
     ap (λ t. work_of labelled_matrix denoted tables q plan (up_to_passing t n (candidates denoted tables q plan.accesses))) (fun_ext h) ∙ e
 
 -- the records of an answer, where ON and WHERE select a choice exactly where this test passes it
-pub answered_by : (definitions : List (TableDef ColumnShape)) (tables : List (Table Geometry)) (q : Query) (passes : Choice → Bool) (records : List Record)
+pub returned_by : (definitions : List (TableDef ColumnShape)) (tables : List (Table Geometry)) (q : Query) (passes : Choice → Bool) (records : List Record)
     → ((choice : Choice) → is_selected (truth labelled_matrix denoted) tables q choice ≡ passes choice)
     → answer geometry_writing definitions q (map (query_rows tables q) (limited q (filter passes (choices (referenced tables q.references))))) ≡ records
-    → answered definitions tables q ≡ records
-answered_by definitions tables q passes records h e =
+    → returned definitions tables q ≡ records
+returned_by definitions tables q passes records h e =
     ap (λ t. answer geometry_writing definitions q (map (query_rows tables q) (limited q (filter t (choices (referenced tables q.references)))))) (fun_ext h) ∙ e

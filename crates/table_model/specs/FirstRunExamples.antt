@@ -145,5 +145,5 @@ abbrev pub meant : BoundQuery → List (List (Row Geometry))
 meant query = passing_rows (truth labelled_matrix denoted) (town_rows ∷ []) query
 
 -- the records of its answer
-abbrev pub answered : BoundQuery → List Record
-answered query = answer_records geometry_writing towns query (meant query)
+abbrev pub returned : BoundQuery → List Record
+returned query = answer_records geometry_writing towns query (meant query)

@@ -140,5 +140,5 @@ functions_query = record {
 }
 
 -- the records of its answer over these rows
-abbrev pub told : List (Row Geometry) → List Record
-told rows = answer_records geometry_writing tables functions_query (map (λ row. row ∷ []) rows)
+abbrev pub said : List (Row Geometry) → List Record
+said rows = answer_records geometry_writing tables functions_query (map (λ row. row ∷ []) rows)

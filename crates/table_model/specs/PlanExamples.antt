@@ -171,8 +171,8 @@ abbrev pub wanted : List (Table Geometry) → Query → List (List (Row Geometry
 wanted tables q = map (query_rows tables q) (meant (truth labelled_matrix denoted) tables q)
 
 -- the records of an answer, the names of the columns being these tables'
-abbrev pub answered : List (TableDef ColumnShape) → List (Table Geometry) → Query → List Record
-answered definitions tables q = answer geometry_writing definitions q (wanted tables q)
+abbrev pub returned : List (TableDef ColumnShape) → List (Table Geometry) → Query → List Record
+returned definitions tables q = answer geometry_writing definitions q (wanted tables q)
 
 -- the work of the chosen plan after this many rows
 abbrev pub worked_to : List (Table Geometry) → Query → ℕ → Option ℕ

@@ -21,8 +21,8 @@ read_where condition = read (codes "SELECT * FROM t WHERE " ++ condition)
 
 -- the tree of a SELECT over one table or two, with its condition of ON
 abbrev pub joined : Explain → Selection WrittenColumn → List WrittenReference → Option Condition → Option Condition → Result SelectQuery QueryFault
-joined told selection references on condition =
-    Ok (record { explain = told; selection = selection; references = references; on = on; condition = condition; limit = None })
+joined said selection references on condition =
+    Ok (record { explain = said; selection = selection; references = references; on = on; condition = condition; limit = None })
 
 -- the tree of a SELECT of all columns of the table t with a condition
 abbrev pub all_where : Condition → Result SelectQuery QueryFault

@@ -239,10 +239,10 @@ IsLimit limit ts =
 
 -- ('EXPLAIN' 'ANALYZE'?)?; neither word is reserved
 abbrev pub IsExplain : Explain → Phrase
-IsExplain told ts =
-    ((told ≡ explain.No) × (ts ≡ []))
-    ⊎ ((told ≡ explain.Plan) × IsWord (codes "EXPLAIN") ts)
-    ⊎ ((told ≡ explain.Analyze) × (IsWord (codes "EXPLAIN") ▸ IsWord (codes "ANALYZE")) ts)
+IsExplain said ts =
+    ((said ≡ explain.No) × (ts ≡ []))
+    ⊎ ((said ≡ explain.Plan) × IsWord (codes "EXPLAIN") ts)
+    ⊎ ((said ≡ explain.Analyze) × (IsWord (codes "EXPLAIN") ▸ IsWord (codes "ANALYZE")) ts)
 
 -- query = ('EXPLAIN' 'ANALYZE'?)? 'SELECT' items 'FROM' ref second? ('WHERE' cond)? ('LIMIT' integer)? ';'?, and then
 -- the text ends (SQL, the query)
@@ -257,5 +257,5 @@ unfoldable pub IsQuery : List ℕ → SelectQuery → Type 0
 IsQuery text query = (length text ≤ most_bytes) × (bad_place (tokens true text) ≡ None) × IsSelect query (tokens true text)
 
 -- if the text is a query, a reader returns its tree, or memory ran out
-abbrev pub AnswersQuery : List ℕ → Result SelectQuery QueryFault → Type 0
-AnswersQuery text result = (query : SelectQuery) → IsQuery text query → Gives fault.OutOfMemory (λ q. q) result (Ok query)
+abbrev pub ReturnsQuery : List ℕ → Result SelectQuery QueryFault → Type 0
+ReturnsQuery text result = (query : SelectQuery) → IsQuery text query → Gives fault.OutOfMemory (λ q. q) result (Ok query)

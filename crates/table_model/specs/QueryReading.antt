@@ -359,7 +359,7 @@ explained ts = if says (codes "EXPLAIN") ts then analyzed (next ts) else Ok (exp
 -- the text ends (SQL, the query)
 unfoldable pub query : Reader SelectQuery
 query = do
-  told ← explained
+  said ← explained
   expect fault.Syntax k.Select
   selection ← selection
   expect fault.Syntax k.From
@@ -369,7 +369,7 @@ query = do
   limit ← limited
   eat k.Semicolon
   expect fault.Syntax k.End
-  pure (record { explain = told; selection = selection; references = first ∷ second.0; on = second.1; condition = condition; limit = limit })
+  pure (record { explain = said; selection = selection; references = first ∷ second.0; on = second.1; condition = condition; limit = limit })
 
 -- the place of the bad token, if there is one
 abbrev pub bad_place : List Token → Option ℕ

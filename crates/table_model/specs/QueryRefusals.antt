@@ -41,8 +41,8 @@ IsAnyCondition = IsConditionOf IsAnyNegation
 -- what comes up to the first table reference
 abbrev pub BeforeSecond : Phrase
 BeforeSecond ts =
-    (told : Explain) × (selection : Selection WrittenColumn) × (first : WrittenReference)
-    × (IsExplain told ▸ IsToken k.Select ▸ IsSelection selection ▸ IsToken k.From ▸ IsReference first) ts
+    (said : Explain) × (selection : Selection WrittenColumn) × (first : WrittenReference)
+    × (IsExplain said ▸ IsToken k.Select ▸ IsSelection selection ▸ IsToken k.From ▸ IsReference first) ts
 
 -- what comes before the condition of ON
 abbrev pub BeforeOn : Phrase
@@ -102,14 +102,14 @@ IsTooBig before t =
     ⊎ ((limit_value t.text ≡ None) × BeforeLimit before))
 
 -- a fault applies at a token, which comes after these tokens; all other faults aren't of this sort
-abbrev pub StandsAt : List Token → Token → QueryFault → Type 0
-StandsAt before t (fault.TooDeep at) = (at ≡ t.at) × IsTooDeep before t
-StandsAt before t (fault.NumberTooBig at) = (at ≡ t.at) × IsTooBig before t
-StandsAt before t _ = ⊥
+abbrev pub AppliesAt : List Token → Token → QueryFault → Type 0
+AppliesAt before t (fault.TooDeep at) = (at ≡ t.at) × IsTooDeep before t
+AppliesAt before t (fault.NumberTooBig at) = (at ≡ t.at) × IsTooBig before t
+AppliesAt before t _ = ⊥
 
 -- a fault applies at one of these tokens
-abbrev pub StandsIn : List Token → QueryFault → Type 0
-StandsIn ts f = (before after : List Token) × (t : Token) × (ts ≡ before ++ t ∷ after) × StandsAt before t f
+abbrev pub AppliesIn : List Token → QueryFault → Type 0
+AppliesIn ts f = (before after : List Token) × (t : Token) × (ts ≡ before ++ t ∷ after) × AppliesAt before t f
 
 -- whether a fault is one of those at a token: too deep, too big
 abbrev pub is_at_token : QueryFault → Bool
@@ -118,13 +118,13 @@ is_at_token (fault.NumberTooBig at) = true
 is_at_token _ = false
 
 -- if the fault is of the sort that applies at a token, it does so in the text, which isn't too long and is made of tokens
-abbrev pub StandsInQuery : List ℕ → QueryFault → Type 0
-StandsInQuery text f =
-    is_at_token f ≡ true → (length text ≤ most_bytes) × (bad_place (tokens true text) ≡ None) × StandsIn (tokens true text) f
+abbrev pub AppliesInQuery : List ℕ → QueryFault → Type 0
+AppliesInQuery text f =
+    is_at_token f ≡ true → (length text ≤ most_bytes) × (bad_place (tokens true text) ≡ None) × AppliesIn (tokens true text) f
 
 -- Where such faults apply at tokens of a text that isn't too long and is made of tokens, a reader returns one at the first
 -- of these tokens, or memory ran out.
-abbrev pub AnswersFirst : List ℕ → Result SelectQuery QueryFault → Type 0
-AnswersFirst text result = (before after : List Token) (t : Token) (g : QueryFault)
-    → length text ≤ most_bytes → bad_place (tokens true text) ≡ None → tokens true text ≡ before ++ t ∷ after → StandsAt before t g
-    → (f : QueryFault) × (is_at_token f ≡ true) × StandsIn (before ++ t ∷ []) f × Gives fault.OutOfMemory (λ q. q) result (Err f)
+abbrev pub ReturnsFirst : List ℕ → Result SelectQuery QueryFault → Type 0
+ReturnsFirst text result = (before after : List Token) (t : Token) (g : QueryFault)
+    → length text ≤ most_bytes → bad_place (tokens true text) ≡ None → tokens true text ≡ before ++ t ∷ after → AppliesAt before t g
+    → (f : QueryFault) × (is_at_token f ≡ true) × AppliesIn (before ++ t ∷ []) f × Gives fault.OutOfMemory (λ q. q) result (Err f)

@@ -112,8 +112,8 @@ IsThere {T} schema references place =
     × (slice_get references place.reference ≡ Some reference) × (slice_get (columns_of schema reference) place.column ≡ Some column)
 
 -- one column comes before another: that of the earlier reference, and of one reference the earlier column
-abbrev pub StandsBefore : ColumnPlace → ColumnPlace → Type 0
-StandsBefore a b = (a.reference < b.reference) ⊎ ((a.reference ≡ b.reference) × (a.column < b.column))
+abbrev pub AppliesBefore : ColumnPlace → ColumnPlace → Type 0
+AppliesBefore a b = (a.reference < b.reference) ⊎ ((a.reference ≡ b.reference) × (a.column < b.column))
 
 -- a place is among some
 abbrev pub IsListed : List ColumnPlace → ColumnPlace → Type 0
@@ -122,7 +122,7 @@ IsListed places place = IsSomewhere (λ listed. listed ≡ place) places
 -- each of some places comes before all that are listed after it
 abbrev pub AreInOrder : List ColumnPlace → Type 0
 AreInOrder [] = Unit {0}
-AreInOrder (first ∷ places) = ((later : ColumnPlace) → IsListed places later → StandsBefore first later) × AreInOrder places
+AreInOrder (first ∷ places) = ((later : ColumnPlace) → IsListed places later → AppliesBefore first later) × AreInOrder places
 
 -- all columns that are there, and no others, in order (SQL, the asterisk)
 pub record AreAllColumns {T : Type 0} (schema : List (TableDef T)) (references : List Reference) (places : List ColumnPlace) : Type 0 where

@@ -71,5 +71,5 @@ unfoldable pub IsSchema : {T : Type 0} → (List ℕ → Option T) → List ℕ 
 IsSchema geometry text tables = (length text ≤ most_bytes) × (lawful tables ≡ true) × AreTables geometry tables (tokens false text)
 
 -- if the text is the schema of some tables, a reader returns these tables, or memory ran out
-abbrev pub AnswersSchema : {T : Type 0} → (List ℕ → Option T) → List ℕ → Result (List (TableDef T)) SchemaFault → Type 0
-AnswersSchema {T} geometry text result = (tables : List (TableDef T)) → IsSchema geometry text tables → Gives fault.OutOfMemory (λ t. t) result (Ok tables)
+abbrev pub ReturnsSchema : {T : Type 0} → (List ℕ → Option T) → List ℕ → Result (List (TableDef T)) SchemaFault → Type 0
+ReturnsSchema {T} geometry text result = (tables : List (TableDef T)) → IsSchema geometry text tables → Gives fault.OutOfMemory (λ t. t) result (Ok tables)

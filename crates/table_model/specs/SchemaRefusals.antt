@@ -108,18 +108,18 @@ IsCloseWithoutKey {T} geometry before t =
     × BeforeClose geometry tables name first more before
 
 -- a fault applies at a token, which comes after these tokens; faults of syntax, length and memory aren't of this sort
-abbrev pub StandsAt : {T : Type 0} → (List ℕ → Option T) → List Token → Token → SchemaFault → Type 0
-StandsAt geometry before t (fault.TooMany at) = (at ≡ t.at) × IsTooMany geometry before t
-StandsAt geometry before t (fault.DoubleName at) = (at ≡ t.at) × IsDoubleName geometry before t
-StandsAt geometry before t (fault.TwoKeys at) = (at ≡ t.at) × IsSecondKey geometry before t
-StandsAt geometry before t (fault.NoKey at) = (at ≡ t.at) × IsCloseWithoutKey geometry before t
-StandsAt geometry before t (fault.Syntax at) = ⊥
-StandsAt geometry before t fault.TooLong = ⊥
-StandsAt geometry before t fault.OutOfMemory = ⊥
+abbrev pub AppliesAt : {T : Type 0} → (List ℕ → Option T) → List Token → Token → SchemaFault → Type 0
+AppliesAt geometry before t (fault.TooMany at) = (at ≡ t.at) × IsTooMany geometry before t
+AppliesAt geometry before t (fault.DoubleName at) = (at ≡ t.at) × IsDoubleName geometry before t
+AppliesAt geometry before t (fault.TwoKeys at) = (at ≡ t.at) × IsSecondKey geometry before t
+AppliesAt geometry before t (fault.NoKey at) = (at ≡ t.at) × IsCloseWithoutKey geometry before t
+AppliesAt geometry before t (fault.Syntax at) = ⊥
+AppliesAt geometry before t fault.TooLong = ⊥
+AppliesAt geometry before t fault.OutOfMemory = ⊥
 
 -- a fault applies at one of these tokens
-abbrev pub StandsIn : {T : Type 0} → (List ℕ → Option T) → List Token → SchemaFault → Type 0
-StandsIn geometry ts f = (before after : List Token) × (t : Token) × (ts ≡ before ++ t ∷ after) × StandsAt geometry before t f
+abbrev pub AppliesIn : {T : Type 0} → (List ℕ → Option T) → List Token → SchemaFault → Type 0
+AppliesIn geometry ts f = (before after : List Token) × (t : Token) × (ts ≡ before ++ t ∷ after) × AppliesAt geometry before t f
 
 -- whether a fault is one of those at a token: too many, a double name, two keys, no key
 abbrev pub is_at_token : SchemaFault → Bool
@@ -132,12 +132,12 @@ is_at_token fault.TooLong = false
 is_at_token fault.OutOfMemory = false
 
 -- if the fault is of the sort that applies at a token, it does so in the text
-abbrev pub StandsInSchema : {T : Type 0} → (List ℕ → Option T) → List ℕ → SchemaFault → Type 0
-StandsInSchema geometry text f = is_at_token f ≡ true → StandsIn geometry (tokens false text) f
+abbrev pub AppliesInSchema : {T : Type 0} → (List ℕ → Option T) → List ℕ → SchemaFault → Type 0
+AppliesInSchema geometry text f = is_at_token f ≡ true → AppliesIn geometry (tokens false text) f
 
 -- Where such faults apply at tokens of a text that isn't too long, a reader returns one at the first of these tokens, or
 -- memory ran out.
-abbrev pub AnswersFirst : {T : Type 0} → (List ℕ → Option T) → List ℕ → Result (List (TableDef T)) SchemaFault → Type 0
-AnswersFirst geometry text result = (before after : List Token) (t : Token) (g : SchemaFault)
-    → length text ≤ most_bytes → tokens false text ≡ before ++ t ∷ after → StandsAt geometry before t g
-    → (f : SchemaFault) × (is_at_token f ≡ true) × StandsIn geometry (before ++ t ∷ []) f × Gives fault.OutOfMemory (λ t. t) result (Err f)
+abbrev pub ReturnsFirst : {T : Type 0} → (List ℕ → Option T) → List ℕ → Result (List (TableDef T)) SchemaFault → Type 0
+ReturnsFirst geometry text result = (before after : List Token) (t : Token) (g : SchemaFault)
+    → length text ≤ most_bytes → tokens false text ≡ before ++ t ∷ after → AppliesAt geometry before t g
+    → (f : SchemaFault) × (is_at_token f ≡ true) × AppliesIn geometry (before ++ t ∷ []) f × Gives fault.OutOfMemory (λ t. t) result (Err f)

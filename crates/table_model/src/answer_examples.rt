@@ -11,27 +11,27 @@ ghost use Rattle.table_model.specs.PlanExamples.{
   equal_to_empty,
   listing,
   definition,
-  answered,
+  returned,
 };
 
 /// The points near a square, and with them one that is far away.
 pub fn points_near_a_square()
-    ensures near { answered (definition (codes "big") ∷ []) big (listing (0 ∷ []) near)
+    ensures near { returned (definition (codes "big") ∷ []) big (listing (0 ∷ []) near)
         ≡ (codes "id" ∷ []) ∷ (codes "1" ∷ []) ∷ (codes "2" ∷ []) ∷ (codes "3" ∷ []) ∷ (codes "4" ∷ []) ∷ [] }
-    ensures far_or_near { answered (definition (codes "big") ∷ []) big (listing (0 ∷ []) far_or_near)
+    ensures far_or_near { returned (definition (codes "big") ∷ []) big (listing (0 ∷ []) far_or_near)
         ≡ (codes "id" ∷ []) ∷ (codes "1" ∷ []) ∷ (codes "2" ∷ []) ∷ (codes "3" ∷ []) ∷ (codes "4" ∷ [])
         ∷ (codes "100" ∷ []) ∷ [] }
 {}
 
 /// Empty geometries of any type are equal, and null is equal to none.
 pub fn equal_empty_geometries()
-    ensures { answered (definition (codes "e") ∷ []) (empties ∷ []) (listing (0 ∷ []) equal_to_empty)
+    ensures { returned (definition (codes "e") ∷ []) (empties ∷ []) (listing (0 ∷ []) equal_to_empty)
         ≡ (codes "id" ∷ []) ∷ (codes "1" ∷ []) ∷ (codes "2" ∷ []) ∷ (codes "5" ∷ []) ∷ [] }
 {}
 
 /// Two squares that touch, as two pairs of one table with itself.
 pub fn touching_squares()
-    ensures { answered (definition (codes "sq") ∷ []) (squares ∷ []) (listing (0 ∷ 1 ∷ []) touching)
+    ensures { returned (definition (codes "sq") ∷ []) (squares ∷ []) (listing (0 ∷ 1 ∷ []) touching)
         ≡ (codes "a.id" ∷ codes "b.id" ∷ []) ∷ (codes "1" ∷ codes "2" ∷ [])
         ∷ (codes "2" ∷ codes "1" ∷ []) ∷ [] }
 {}

@@ -15,7 +15,7 @@ ghost use Rattle.table_model.specs.FirstRunExamples.{
   second_query,
   third_query,
   meant,
-  answered,
+  returned,
 };
 ghost use Rattle.table_model.specs.BindingExamples.{town_table};
 ghost use Rattle.table_model.specs.GeometryColumns.{read_geometry};
@@ -41,7 +41,7 @@ pub fn meaning_of_the_first_run()
 
 /// The records of the answers.
 pub fn answers_of_the_first_run()
-    ensures first { answered first_query
+    ensures first { returned first_query
         ≡ (codes "id" ∷ codes "name" ∷ []) ∷ (codes "1" ∷ codes "a" ∷ []) ∷ [] }
-    ensures third { answered third_query ≡ (codes "id" ∷ []) ∷ (codes "4" ∷ []) ∷ [] }
+    ensures third { returned third_query ≡ (codes "id" ∷ []) ∷ (codes "4" ∷ []) ∷ [] }
 {}

@@ -27,7 +27,7 @@ ghost use Rattle.table_model.specs.GeometryColumnExamples.{
   bound,
   bound_where,
   shaped,
-  told,
+  said,
 };
 ghost use Rattle.table_model.specs.declared.conditions.Comparison.TheVariants.{Equal};
 ghost use Rattle.table_model.specs.declared.faults.LoadFault.TheVariants as load;
@@ -131,7 +131,7 @@ pub fn geometry_fault_texts()
 
 /// Functions of the select list: the canonical text, the dimension by the kind, whether it is empty; of null, nothing.
 pub fn functions_of_geometries()
-    ensures { told (
+    ensures { said (
         shaped 1 (values.Geometry (MultiPoint (at (pos 1) (pos 2) ∷ at (pos 3) (pos 4) ∷ [])))
         ∷ shaped 2 values.Null
         ∷ shaped 3 (values.Geometry (Polygon []))

@@ -18,7 +18,7 @@ ghost use Rattle.table_model.specs.PlanExamples.{
   definition,
   explained,
   analyzed,
-  answered,
+  returned,
   worked_to,
 };
 
@@ -26,7 +26,7 @@ ghost use Rattle.table_model.specs.PlanExamples.{
 pub fn first_rows()
     ensures text { analyzed big (limit_to 2 far_or_near)
         ≡ Some (codes "cost 100\nouter big scan\nfilter 1\nlimit 2\nwork 2\n") }
-    ensures records { answered (definition (codes "big") ∷ []) big (listing (0 ∷ []) (limit_to 2 far_or_near))
+    ensures records { returned (definition (codes "big") ∷ []) big (listing (0 ∷ []) (limit_to 2 far_or_near))
         ≡ (codes "id" ∷ []) ∷ (codes "1" ∷ []) ∷ (codes "2" ∷ []) ∷ [] }
     ensures fourth { analyzed big (limit_to 4 far_or_near)
         ≡ Some (codes "cost 100\nouter big scan\nfilter 1\nlimit 4\nwork 4\n") }
@@ -39,21 +39,21 @@ pub fn first_rows()
 pub fn counted_rows()
     ensures text { analyzed big (counting near)
         ≡ Some (codes "cost 14\nouter big probe 1\nfilter 1\ncount\nwork 4\n") }
-    ensures records { answered (definition (codes "big") ∷ []) big (counting near)
+    ensures records { returned (definition (codes "big") ∷ []) big (counting near)
         ≡ (codes "COUNT(*)" ∷ []) ∷ (codes "4" ∷ []) ∷ [] }
     ensures limited_text { analyzed big (limit_to 1 (counting near))
         ≡ Some (codes "cost 14\nouter big probe 1\nfilter 1\ncount\nlimit 1\nwork 4\n") }
-    ensures limited_records { answered (definition (codes "big") ∷ []) big (limit_to 1 (counting near))
+    ensures limited_records { returned (definition (codes "big") ∷ []) big (limit_to 1 (counting near))
         ≡ (codes "COUNT(*)" ∷ []) ∷ (codes "4" ∷ []) ∷ [] }
 {}
 
 /// Under LIMIT 0 there is the header alone; without COUNT(*) no candidate counts, with it all do.
 pub fn no_rows()
-    ensures records { answered (definition (codes "big") ∷ []) big
+    ensures records { returned (definition (codes "big") ∷ []) big
         (listing (0 ∷ []) (limit_to 0 (query (of 0 (codes "big") ∷ []) []))) ≡ (codes "id" ∷ []) ∷ [] }
-    ensures counted { answered (definition (codes "big") ∷ []) big
+    ensures counted { returned (definition (codes "big") ∷ []) big
         (limit_to 0 (counting (query (of 0 (codes "big") ∷ []) []))) ≡ (codes "COUNT(*)" ∷ []) ∷ [] }
-    ensures all_counted { answered (definition (codes "big") ∷ []) big
+    ensures all_counted { returned (definition (codes "big") ∷ []) big
         (counting (query (of 0 (codes "big") ∷ []) [])) ≡ (codes "COUNT(*)" ∷ []) ∷ (codes "100" ∷ []) ∷ [] }
     ensures text { analyzed big (limit_to 0 near)
         ≡ Some (codes "cost 14\nouter big probe 1\nfilter 1\nlimit 0\nwork 0\n") }
@@ -69,7 +69,7 @@ pub fn no_rows()
 pub fn pairs_under_limit()
     ensures text { analyzed (point_rows 1 100 ∷ exchanged ∷ []) (limit_to 1 joined)
         ≡ Some (codes "cost 30\nouter s scan\ninner b probe 1\nfilter 2 1\nlimit 1\nwork 8\n") }
-    ensures records { answered (definition (codes "big") ∷ definition (codes "sq") ∷ [])
+    ensures records { returned (definition (codes "big") ∷ definition (codes "sq") ∷ [])
         (point_rows 1 100 ∷ exchanged ∷ []) (listing (0 ∷ 1 ∷ []) (limit_to 1 joined))
         ≡ (codes "b.id" ∷ codes "s.id" ∷ []) ∷ (codes "1" ∷ codes "2" ∷ []) ∷ [] }
     ensures first_outer { analyzed (squares ∷ []) (limit_to 1 touching)

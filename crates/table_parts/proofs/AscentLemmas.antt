@@ -60,9 +60,9 @@ ascending_order key xs up =
 -- the keys beside which rows are, in the order into which these were put
 pub keys_moved : {R K : Type 0} (number : K → ℤ) (make : R → K) (key : R → ℤ) (xs : List R) (ks : List K) → ((r : R) → number (make r) ≡ key r) → IsPermutation (map make xs) ks
     → IsPermutation (map key xs) (map number ks)
-keys_moved {R = R} number make key xs ks told moved =
+keys_moved {R = R} number make key xs ks said moved =
     subst (λ l. IsPermutation l (map number ks)) (same xs) (IsPermutation-map number (map make xs) ks moved)
   where
     same : (xs : List R) → map number (map make xs) ≡ map key xs
     same [] = refl
-    same (x ∷ xs) = ap₂ (λ (k : ℤ) (ks : List ℤ). k ∷ ks) (told x) (same xs)
+    same (x ∷ xs) = ap₂ (λ (k : ℤ) (ks : List ℤ). k ∷ ks) (said x) (same xs)

@@ -23,9 +23,9 @@ abbrev pub read_failed : {R : Type 0} → Records R → Bool
 read_failed r = r.read_failed
 
 -- whether csv returned an error, and one of reading
-abbrev pub tells_of_reading : {A : Type 0} → Result A Error → Bool
-tells_of_reading (Ok x) = false
-tells_of_reading (Err e) = is_io (error_kind e)
+abbrev pub is_of_its_reading : {A : Type 0} → Result A Error → Bool
+is_of_its_reading (Ok x) = false
+is_of_its_reading (Err e) = is_io (error_kind e)
 
 -- a record may be asked for: none was refused yet
 abbrev pub IsReady : {R : Type 0} → Records R → Type 0

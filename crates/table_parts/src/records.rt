@@ -5,7 +5,7 @@ ghost use Rattle.csv.specs.Reading.{error_kind, is_io};
 ghost use Rattle.csv.specs.Records.{fields_of};
 ghost use Rattle.table_parts.specs.Outcomes.{IsFailure, is_of_reading};
 ghost use Rattle.table_parts.specs.Reading.{IsSteady, StillGives};
-ghost use Rattle.table_parts.specs.Records.{Gives, GivesFirst, IsReady, asked, record_limit, records_in, read_failed, tells_of_reading};
+ghost use Rattle.table_parts.specs.Records.{Gives, GivesFirst, IsReady, asked, record_limit, records_in, read_failed, is_of_its_reading};
 ghost use Rattle.table_model.specs.Loading.{Record};
 ghost use Rattle.table_model.specs.declared.faults.LoadFault.TheVariants as fault;
 
@@ -73,7 +73,7 @@ impl<R: Read + Drop> Records<R> {
         requires ready { IsReady self.old }
         requires limit { asked self.old < record_limit }
         ensures asked { asked self.new ≡ asked self.old + 1 }
-        ensures read_failed { read_failed self.new ≡ tells_of_reading result }
+        ensures read_failed { read_failed self.new ≡ is_of_its_reading result }
         ensures ready { OnOk result (IsReady self.new) }
         ensures refused { OnErr result (fields_of record.new ≡ []) }
         ensures takes { (rest : List Record) → Gives R.remaining self.old rest

@@ -226,11 +226,11 @@ pub padded_follows : {A : Type 0} (f : Fork) (S : Type 0) (step : Reader A) → 
 padded_follows f S step h = then_on f S (run is_white) (λ _. step >>= λ x. (run is_white >>= λ _. pure x)) (run_follows f is_white refl f.not_white)
     (λ _. then_follows f S S step (λ x. (run is_white >>= λ _. pure x)) h
     (λ x. then_on f S (run is_white) (λ _. pure x) (run_follows f is_white refl f.not_white) (λ _. pure_follows f S x))
-    (λ stands x. then_stays f (Unit {0}) S (run is_white) (λ _. pure x) (run_stays f is_white refl) (λ _ _. pure_stays f S x stands)))
+    (λ applies x. then_stays f (Unit {0}) S (run is_white) (λ _. pure x) (run_stays f is_white refl) (λ _ _. pure_stays f S x applies)))
 
 -- a step in parentheses may come to the plus, but the closing parenthesis that has to follow isn't there
 pub enclosed_follows : {A : Type 0} (f : Fork) (S : Type 0) (step : Reader A) → Follows f S step → Follows f ⊥ (enclosed step)
 enclosed_follows f S step h = then_on f ⊥ (expect 40) (λ _. step >>= λ x. (expect 41 >>= λ _. pure x)) (expect_follows f 40 refl f.not_open)
     (λ _. then_follows f S ⊥ step (λ x. (expect 41 >>= λ _. pure x)) h
     (λ x. then_on f ⊥ (expect 41) (λ _. pure x) (expect_follows f 41 refl f.not_close) (λ _. pure_follows f ⊥ x))
-    (λ stands x. then_stays f ⊥ ⊥ (expect 41) (λ _. pure x) (expect_stays f 41 refl) (λ no _. absurd no)))
+    (λ applies x. then_stays f ⊥ ⊥ (expect 41) (λ _. pure x) (expect_stays f 41 refl) (λ no _. absurd no)))

@@ -18,14 +18,14 @@ use Rattle.text_laws.proofs.RefusedNumbers.{Read, first_number}
 use Rattle.text_laws.proofs.LastNumbers.{pair, HasDigit, NoDigit, Within, within, any_left, any_right, none_of_both, blank_no_digit, position_digit, blank_before}
 
 -- what is there is a number
-record Stands (other : List ℕ) : Type 0 where
+record Applies (other : List ℕ) : Type 0 where
   read : (j : Input) → j.left ≡ other → (n : FoundNumber) × (k : Input) × (numeral j ≡ Ok (n, k))
   not_white : begins_with is_white other ≡ false
   not_open : begins_with (λ c. c == 40) other ≡ false
 
 -- ---- a position where none may come
 -- a number is read there, and as no position may come the answer is too long
-position_stops : (other : List ℕ) → Stands other → (j : Input) → j.left ≡ other → IsFull (position zero j)
+position_stops : (other : List ℕ) → Applies other → (j : Input) → j.left ≡ other → IsFull (position zero j)
 unfolding position
 position_stops other s j is = let r = s.read j is in subst (λ q. IsFull {A = Position} (and_then q (λ n. (too_long >>= λ x. (space >> (numeral >>= λ m. (coordinate m >>= λ y. pure (record { x = x; y = y })))))))) (sym r.2) tt
 
@@ -35,7 +35,7 @@ behind_white i white other all is quiet = (read_run is_white i.left white other 
 
 -- where an item begins at the pair, and none may come
 abbrev Last : {A : Type 0} → (A → Rule) → Reader A → Type 0
-Last {A} P step = (x : A) (i : Input) (front closing other from rest : List ℕ) → Took from (Padded (P x)) rest → from ≡ front ++ pair closing → NoDigit rest → NoDigit closing → Stands other
+Last {A} P step = (x : A) (i : Input) (front closing other from rest : List ℕ) → Took from (Padded (P x)) rest → from ≡ front ++ pair closing → NoDigit rest → NoDigit closing → Applies other
     → i.left ≡ front ++ other → IsFull (padded step i)
 
 -- a position where none may come: white space is all that comes before the pair, so reading comes to the number
@@ -124,7 +124,7 @@ separated_digit P digit (x ∷ y ∷ more) from rest t = go (apart from rest (Pa
 
 -- the items before the last are read whole, and the pair is in the last, for which there is no room
 separated_last : {A : Type 0} (P : A → Rule) (item : ℕ → Reader A) → Begins P is_white → ((room : ℕ) → 0 < room → Complete P Ends (item room)) → ((x : A) (text : List ℕ) → P x text → HasDigit text) → Last P (item zero)
-    → (room : ℕ) (xs : List A) (i : Input) (front closing other from rest : List ℕ) → length xs ≡ room + 1 → Took from (Separated P xs) rest → from ≡ front ++ pair closing → NoDigit rest → NoDigit closing → Stands other
+    → (room : ℕ) (xs : List A) (i : Input) (front closing other from rest : List ℕ) → length xs ≡ room + 1 → Took from (Separated P xs) rest → from ≡ front ++ pair closing → NoDigit rest → NoDigit closing → Applies other
     → i.left ≡ front ++ other → IsFull (separated item room i)
 unfolding separated
 separated_last P item starts complete digit last room [] i front closing other from rest many t split none quiet s is = absurd t.2
@@ -202,13 +202,13 @@ list_last P inner xs closing other digit full i front from rest t split none qui
 -- an item whose last position is one too many
 LastItem : {A : Type 0} → (A → Rule) → (ℕ → ℕ → Reader A) → (A → List (List Position)) → Type 0
 LastItem {A} P item rings = (count room : ℕ) (x : A) (i : Input) (front closing other from rest : List ℕ) → positions_in (rings x) ≡ room + 1 → Took from (Padded (P x)) rest → from ≡ front ++ pair closing
-    → NoDigit rest → NoDigit closing → Stands other → i.left ≡ front ++ other → IsFull (padded (item count room) i)
+    → NoDigit rest → NoDigit closing → Applies other → i.left ≡ front ++ other → IsFull (padded (item count room) i)
 
 -- an item before the last fits and is read whole, or is too long itself; the pair is in the last
 items_last : {A : Type 0} (P : A → Rule) (item : ℕ → ℕ → Reader A) (rings : A → List (List Position)) → HasRings P rings → ReadsItem P item rings → FullItem P item rings
     → ((x : A) (text : List ℕ) → P x text → HasDigit text) → LastItem P item rings
     → (turns count room : ℕ) (xs : List A) (i : Input) (front closing other from rest : List ℕ) → count ≤ turns → positions_in (rings_of rings xs) ≡ room + 1 → Took from (Separated P xs) rest → from ≡ front ++ pair closing
-    → NoDigit rest → NoDigit closing → Stands other → i.left ≡ front ++ other → IsFull (items item rings turns count room i)
+    → NoDigit rest → NoDigit closing → Applies other → i.left ≡ front ++ other → IsFull (items item rings turns count room i)
 unfolding LastItem
 items_last P item rings has complete full digit last turns count room [] i front closing other from rest enough many t split none quiet s is = absurd t.2
 items_last P item rings has complete full digit last turns count room (x ∷ []) i front closing other from rest enough many t split none quiet s is = item_full item rings turns count room i
@@ -248,7 +248,7 @@ ring_last (suc count) room x i front closing other from rest many t split none q
 
 -- elements or rings with one position too many
 parts_last : (count room : ℕ) (xs : List (List Position)) (i : Input) (front closing other from rest : List ℕ) → positions_in xs ≡ room + 1 → Took from (Separated LineText xs) rest → from ≡ front ++ pair closing
-    → NoDigit rest → NoDigit closing → Stands other → i.left ≡ front ++ other → IsFull (parts count room i)
+    → NoDigit rest → NoDigit closing → Applies other → i.left ≡ front ++ other → IsFull (parts count room i)
 parts_last count room xs i front closing other from rest many t split none quiet s is = rw (parts_are_items count room i)
     (items_last LineText ring alone one_ring ring_read ring_full line_digit ring_last count count room xs i front closing other from rest (le_refl count) (ap positions_in (alone_of xs) ∙ many) t split none quiet s is)
 
@@ -260,7 +260,7 @@ polygon_last count room x i front closing other from rest many t split none quie
 
 -- polygons with one among all their rings
 polygons_last : (turns count room : ℕ) (xs : List (List (List Position))) (i : Input) (front closing other from rest : List ℕ) → count ≤ turns → positions_in (joined_rings xs) ≡ room + 1 → Took from (Separated PolygonText xs) rest
-    → from ≡ front ++ pair closing → NoDigit rest → NoDigit closing → Stands other → i.left ≡ front ++ other → IsFull (polygons turns count room i)
+    → from ≡ front ++ pair closing → NoDigit rest → NoDigit closing → Applies other → i.left ≡ front ++ other → IsFull (polygons turns count room i)
 polygons_last turns count room xs i front closing other from rest enough many t split none quiet s is = rw (polygons_are_items turns count room i)
     (items_last PolygonText polygon itself rings_of_polygon polygon_read polygon_full polygon_digit polygon_last turns count room xs i front closing other from rest enough many t split none quiet s is)
 
@@ -298,7 +298,7 @@ one_long : 1 ≡ position_limit + 1 → ⊥
 one_long e = omega (arith, e)
 
 -- type by type: with a number in the place of the pair, whatever comes after it, the text is too long
-lasting : (w : Geometry) (text front closing other : List ℕ) → Writes w text → text ≡ front ++ pair closing → NoDigit closing → Stands other → length (written_positions w) ≡ position_limit + 1
+lasting : (w : Geometry) (text front closing other : List ℕ) → Writes w text → text ≡ front ++ pair closing → NoDigit closing → Applies other → length (written_positions w) ≡ position_limit + 1
     → IsFull (whole (record { left = front ++ other; at = 0 }))
 lasting (Point None) text front closing other t split none s counted = absurd (none_long position_limit counted)
 lasting (Point (Some p)) text front closing other t split none s counted = absurd (one_long counted)
@@ -331,8 +331,8 @@ no_digit (x ∷ xs) e = let parts = or_parts (begins_more x) (list_any begins_mo
     rw here.0 (no_digit xs parts.1)
 
 -- a first number is read, and begins with neither white space nor a parenthesis
-stands : (tail : List ℕ) (minus : Bool) (integer digits : List ℕ) → IsFirstNumber tail minus integer digits → Stands tail
-stands tail minus integer digits f = record {
+applies : (tail : List ℕ) (minus : Bool) (integer digits : List ℕ) → IsFirstNumber tail minus integer digits → Applies tail
+applies tail minus integer digits f = record {
   read = λ j is. numbered j (first_number tail minus integer digits f j is);
   not_white = ap (begins_with is_white) f.split ∙ numeral_begins is_white refl refl refl digit_not_white minus integer digits f.number f.rest f.numeral;
   not_open = ap (begins_with (λ c. c == 40)) f.split ∙ numeral_begins (λ c. c == 40) refl refl refl (λ c is. differs c 40 is refl) minus integer digits f.number f.rest f.numeral;
@@ -346,4 +346,4 @@ pub too_many_positions_are_too_long : (text : List ℕ) → HasTooManyPositions 
 unfolding read_text
 too_many_positions_are_too_long text h = ap outcome (full_is (whole (record { left = text; at = 0 })) (subst (λ u. IsFull (whole (record { left = u; at = 0 }))) (sym h.split)
     (lasting h.written (h.front ++ codes "+0 0" ++ h.closing) h.front h.closing h.tail h.spelled (append_assoc h.front (codes "+0 0") h.closing) (no_digit h.closing h.no_more)
-    (stands h.tail h.minus h.whole h.fraction h.number) h.counted)))
+    (applies h.tail h.minus h.whole h.fraction h.number) h.counted)))

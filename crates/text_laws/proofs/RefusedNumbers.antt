@@ -98,10 +98,10 @@ plus_behind [] rest = refl
 plus_behind (x ∷ xs) rest = ap (λ r. x ∷ r) (plus_behind xs rest)
 
 -- reading the text that spells a geometry comes to the plus, so reading this text comes to the number and ends with its fault
-answered : (text : List ℕ) (at : ℕ) (minus : Bool) (integer digits : List ℕ) → HasNumber text at minus integer digits → (fault : TextFault)
+returned : (text : List ℕ) (at : ℕ) (minus : Bool) (integer digits : List ℕ) → HasNumber text at minus integer digits → (fault : TextFault)
     → ((n : FoundNumber) (l : Input) → n.whole ≡ integer → n.fraction ≡ digits → n.at ≡ at → coordinate n l ≡ Err fault) → read_text text ≡ Err fault
 unfolding read_text fork
-answered text at minus integer digits h fault bad = go (some_outcome (whole (begin (h.front ++ codes "+" ++ h.begins.0))) h.begins.1 (spelled_is_read (h.front ++ codes "+" ++ h.begins.0) h.begins.1 h.begins.2))
+returned text at minus integer digits h fault bad = go (some_outcome (whole (begin (h.front ++ codes "+" ++ h.begins.0))) h.begins.1 (spelled_is_read (h.front ++ codes "+" ++ h.begins.0) h.begins.1 h.begins.2))
   where
     go : (found : Geometry × Input) × (whole (begin (h.front ++ codes "+" ++ h.begins.0)) ≡ Ok found) → outcome (whole (begin text)) ≡ Err fault
     go w = ap outcome (whole_ends (fork text at minus integer digits h fault bad) (begin (h.front ++ codes "+" ++ h.begins.0)) (begin text) (record {
@@ -113,13 +113,13 @@ answered text at minus integer digits h fault bad = go (some_outcome (whole (beg
     }) w.0 w.1)
 
 -- what comes before the number can be read, so reading comes to it and stops there
-pub off_grid_is_answered : (text : List ℕ) (at : ℕ) → IsOffGrid text at → read_text text ≡ Err (OffGrid at)
+pub off_grid_is_returned : (text : List ℕ) (at : ℕ) → IsOffGrid text at → read_text text ≡ Err (OffGrid at)
 unfolding coordinate
-off_grid_is_answered text at h = answered text at h.minus h.whole h.fraction h.number (OffGrid at)
+off_grid_is_returned text at h = returned text at h.minus h.whole h.fraction h.number (OffGrid at)
     (λ n l integer digits place. rw (ap is_whole digits ∙ h.not_whole) (ap (λ p. Err (OffGrid p)) place))
 
 -- the same where the number is whole, and past the limit
-pub out_of_range_is_answered : (text : List ℕ) (at : ℕ) → IsOutOfRange text at → read_text text ≡ Err (OutOfRange at)
+pub out_of_range_is_returned : (text : List ℕ) (at : ℕ) → IsOutOfRange text at → read_text text ≡ Err (OutOfRange at)
 unfolding coordinate
-out_of_range_is_answered text at h = answered text at h.minus h.whole h.fraction h.number (OutOfRange at)
+out_of_range_is_returned text at h = returned text at h.minus h.whole h.fraction h.number (OutOfRange at)
     (λ n l integer digits place. rw (ap is_whole digits ∙ h.is_whole, ap (λ w. nat_lt coordinate_limit (digits_value 10 w)) integer ∙ (Decides-ltb coordinate_limit (digits_value 10 h.whole)).1 h.past) (ap (λ p. Err (OutOfRange p)) place))

@@ -13,7 +13,7 @@ use Rattle.geometry_model.specs.TextReading.{Input, Reader, FoundNumber, and_the
 use Rattle.geometry_model.specs.TextRefusals.{begins_more, IsFirstNumber, HasNumber, IsOffGrid, IsOutOfRange, HasTooManyPositions, HasTooManyParts, TakesNumber}
 use Rattle.geometry_model.specs.declared.text_faults.TextFault.{TextFault}
 use Rattle.geometry_model.specs.declared.text_faults.TextFault.TheVariants.{Syntax, OffGrid, OutOfRange, TooLong}
-use Rattle.text_laws.specs.ReadingLaws.{RefusalsStand}
+use Rattle.text_laws.specs.ReadingLaws.{RefusalsApply}
 use Rattle.text_laws.proofs.RoomLists.{positions_in, items, ring, alone, itself, rings_of, alone_of, positions_of_both, parts_are_items, polygons_are_items, FitsCounts, both_fit}
 use Rattle.text_laws.proofs.TextSteps.{all_pass, stops, first_is, some, nothing, word_is, byte_is, Took, both, took_run}
 use Rattle.text_laws.proofs.TextPlaces.{total, Keeps, keeps_if, ate, run_keeps, expect_keeps, padded_keeps, numeral_keeps, coordinate_keeps, space_keeps, position_keeps, point_keeps, line_keeps, polygon_keeps}
@@ -738,9 +738,9 @@ whole_fails i = then_fails (λ _ _. Unit {0}) (Stuck Writes RoomGeometry i) (Stu
 -- the law
 
 -- the fault that is returned is the one with which reading failed
-answered : (Q : TextFault → Type 0) (r : Result (Geometry × Input) TextFault) (fault : TextFault) → IfFails r Q → outcome r ≡ Err fault → Unless Q fault
-answered Q (Ok found) fault fails e = absurd cc
-answered Q (Err f) fault fails e = let same : f ≡ fault = cc in subst (Unless Q) same fails
+returned : (Q : TextFault → Type 0) (r : Result (Geometry × Input) TextFault) (fault : TextFault) → IfFails r Q → outcome r ≡ Err fault → Unless Q fault
+returned Q (Ok found) fault fails e = absurd cc
+returned Q (Err f) fault fails e = let same : f ≡ fault = cc in subst (Unless Q) same fails
 
 abbrev start : List ℕ → Input
 start text = record { left = text; at = 0 }
@@ -831,13 +831,13 @@ too_many text AtPart used tail mark closing g split what marked goes none counts
 })
 
 -- reading that failed shows a text of the grammar that begins like this one up to the fault, so the fault applies
-pub refusals_stand : RefusalsStand
+pub refusals_apply : RefusalsApply
 unfolding read_text
-refusals_stand text at = let i = start text in (
-  (λ e. let s = answered (Stuck Writes RoomGeometry i) (whole i) (OffGrid at) (whole_fails i) e in
+refusals_apply text at = let i = start text in (
+  (λ e. let s = returned (Stuck Writes RoomGeometry i) (whole i) (OffGrid at) (whole_fails i) e in
       off_grid text at s.kind s.used s.tail s.mark s.closing s.x s.split s.what s.place s.marked s.goes s.counts),
-  (λ e. let s = answered (Stuck Writes RoomGeometry i) (whole i) (OutOfRange at) (whole_fails i) e in
+  (λ e. let s = returned (Stuck Writes RoomGeometry i) (whole i) (OutOfRange at) (whole_fails i) e in
       out_of_range text at s.kind s.used s.tail s.mark s.closing s.x s.split s.what s.place s.marked s.goes s.counts),
-  (λ e. let s = answered (Stuck Writes RoomGeometry i) (whole i) TooLong (whole_fails i) e in
+  (λ e. let s = returned (Stuck Writes RoomGeometry i) (whole i) TooLong (whole_fails i) e in
       too_many text s.kind s.used s.tail s.mark s.closing s.x s.split s.what s.marked s.goes s.no_more s.counts),
 )

@@ -28,8 +28,8 @@ abbrev pub CanonicalTextIsRead : Type 0
 CanonicalTextIsRead = (text : List ℕ) (g : Geometry) → read_text text ≡ Ok g → read_text (canonical_text g) ≡ Ok g
 
 -- where reading returns W2, W3 or W4, that refusal applies
-abbrev pub RefusalsStand : Type 0
-RefusalsStand = (text : List ℕ) (at : ℕ)
+abbrev pub RefusalsApply : Type 0
+RefusalsApply = (text : List ℕ) (at : ℕ)
     → (read_text text ≡ Err (OffGrid at) → IsOffGrid text at)
     × (read_text text ≡ Err (OutOfRange at) → IsOutOfRange text at)
     × (read_text text ≡ Err TooLong → HasTooManyPositions text ⊎ HasTooManyParts text)

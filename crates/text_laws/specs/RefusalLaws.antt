@@ -8,16 +8,16 @@ use Rattle.geometry_model.specs.declared.text_faults.TextFault.{TextFault}
 use Rattle.geometry_model.specs.declared.text_faults.TextFault.TheVariants.{Syntax, TooLong}
 
 -- where W2, W3 or W4 applies, reading returns it: so no two of them apply, and none at two bytes
-abbrev pub RefusalIsAnswered : Type 0
-RefusalIsAnswered = (text : List ℕ) (fault : TextFault) → IsRefusedAs text fault → read_text text ≡ Err fault
+abbrev pub RefusalIsReturned : Type 0
+RefusalIsReturned = (text : List ℕ) (fault : TextFault) → IsRefusedAs text fault → read_text text ≡ Err fault
 
 -- where W1 applies, reading returns it, at some byte
-abbrev pub SyntaxIsAnswered : Type 0
-SyntaxIsAnswered = (text : List ℕ) (at : ℕ) → IsRefused text (Syntax at) → (byte : ℕ) × (read_text text ≡ Err (Syntax byte))
+abbrev pub SyntaxIsReturned : Type 0
+SyntaxIsReturned = (text : List ℕ) (at : ℕ) → IsRefused text (Syntax at) → (byte : ℕ) × (read_text text ≡ Err (Syntax byte))
 
 -- the fault that reading returns applies: W1 where the text spells nothing and no other fault applies
-abbrev pub AnswerStands : Type 0
-AnswerStands = (text : List ℕ) (fault : TextFault) → read_text text ≡ Err fault → IsRefused text fault
+abbrev pub AnswerIsGiven : Type 0
+AnswerIsGiven = (text : List ℕ) (fault : TextFault) → read_text text ≡ Err fault → IsRefused text fault
 
 -- a text of the grammar with more positions or parts than the counts allow is W4
 abbrev pub TooManyIsTooLong : Type 0

@@ -5,7 +5,7 @@ ghost use Rattle.text_laws.specs.ReadingLaws.{
   SpellsOne,
   CanonicalTextSpells,
   CanonicalTextIsRead,
-  RefusalsStand,
+  RefusalsApply,
 };
 
 /// If a text is read as a geometry, it spells that geometry (06-103r4, 7.2).
@@ -34,6 +34,6 @@ pub fn canonical_text_is_read()
 {}
 
 /// Where reading returns W2, W3 or W4, that refusal applies.
-pub fn refusals_stand()
-    ensures { RefusalsStand }
+pub fn refusals_apply()
+    ensures { RefusalsApply }
 {}

@@ -4,7 +4,7 @@ use Rattle.std.specs.List.{list_any, dedup, dedup_from}
 use Rattle.std.specs.Ordering.{eq_by_cmp}
 use Rattle.std.proofs.lemmas.List.Sorted.{list_any-IsPermutation}
 use Rattle.geometry_model.specs.Points.{Position}
-use Rattle.geometry_model.specs.Locations.{stands_at}
+use Rattle.geometry_model.specs.Locations.{is_at}
 use Rattle.geometry_model.specs.WellKnownText.{same_position}
 use Rattle.fraction.specs.Orders.{position_order}
 use Rattle.validity.specs.ValidGeometries.{HoldAlike}
@@ -38,7 +38,7 @@ each_once f (x ∷ xs) = again f x xs
 -- sorted, and each once, a list holds the same points
 pub held_alike : (given copy sorted found : List Position) → copy ≡ given → IsPermutation copy sorted → found ≡ dedup same_position sorted → HoldAlike found given
 held_alike given copy sorted found e moved is p =
-    ap (list_any (stands_at p)) is ∙ each_once (stands_at p) sorted ∙ sym (list_any-IsPermutation (stands_at p) copy sorted moved) ∙ ap (list_any (stands_at p)) e
+    ap (list_any (is_at p)) is ∙ each_once (is_at p) sorted ∙ sym (list_any-IsPermutation (is_at p) copy sorted moved) ∙ ap (list_any (is_at p)) e
 
 -- equal positions are those that compare as equal
 pub ties : (a b : Position) → same_position a b ≡ eq_by_cmp position_order a b

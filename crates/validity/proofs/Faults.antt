@@ -5,7 +5,7 @@ use Rattle.geometry_model.specs.Geometries.{Geometry}
 use Rattle.geometry_model.specs.Validity.{HasFault, IsValid}
 use Rattle.geometry_model.specs.FirstFaults.{validity_fault}
 use Rattle.geometry_model.specs.declared.validity_faults.ValidityFault.{ValidityFault}
-use Rattle.validity.specs.CheckFaults.{fault_in, IsFaultOf, IsFirstFaultOf, IsStandingFaultOf}
+use Rattle.validity.specs.CheckFaults.{fault_in, IsFaultOf, IsFirstFaultOf, IsAnyFaultOf}
 use Rattle.validity.specs.declared.check_fault.CheckFault.{CheckFault}
 use Rattle.validity_laws.specs.FaultLaws.{IsFirst}
 use Rattle.validity_laws.proofs.FirstPlace.{first_fault_is_first}
@@ -20,13 +20,13 @@ pub none_found_valid : {g h : Geometry} {found : Option ValidityFault} → h ≡
 none_found_valid {g} same is none = no_fault_valid g (ap validity_fault (sym same) ∙ (sym is ∙ none))
 
 -- the fault that is found is the first that applies
-pub first_stands : (g : Geometry) (refusal : CheckFault) (fault : ValidityFault) → fault_in refusal ≡ Some fault → validity_fault g ≡ Some fault → IsFirstFaultOf g refusal
-first_stands g refusal fault tells found = subst (λ o. MatchOption o (Unit {0}) (λ f. IsFirst g f)) (sym tells) (first_fault_is_first g fault found)
+pub first_is_there : (g : Geometry) (refusal : CheckFault) (fault : ValidityFault) → fault_in refusal ≡ Some fault → validity_fault g ≡ Some fault → IsFirstFaultOf g refusal
+first_is_there g refusal fault says found = subst (λ o. MatchOption o (Unit {0}) (λ f. IsFirst g f)) (sym says) (first_fault_is_first g fault found)
 
 -- and it applies
-pub found_stands : (g : Geometry) (refusal : CheckFault) (fault : ValidityFault) → fault_in refusal ≡ Some fault → validity_fault g ≡ Some fault → IsStandingFaultOf g refusal
-found_stands g refusal fault tells found = subst (λ o. MatchOption o (Unit {0}) (λ f. HasFault g f)) (sym tells) (first_fault_is_first g fault found).stands
+pub found_applies : (g : Geometry) (refusal : CheckFault) (fault : ValidityFault) → fault_in refusal ≡ Some fault → validity_fault g ≡ Some fault → IsAnyFaultOf g refusal
+found_applies g refusal fault says found = subst (λ o. MatchOption o (Unit {0}) (λ f. HasFault g f)) (sym says) (first_fault_is_first g fault found).applies
 
 -- the refusal is of the fault that is found
-pub found_is_told : (g : Geometry) (refusal : CheckFault) (fault : ValidityFault) → fault_in refusal ≡ Some fault → validity_fault g ≡ Some fault → IsFaultOf g refusal
-found_is_told g refusal fault tells found = subst (λ o. MatchOption o (Unit {0}) (λ f. validity_fault g ≡ Some f)) (sym tells) found
+pub found_is_shown : (g : Geometry) (refusal : CheckFault) (fault : ValidityFault) → fault_in refusal ≡ Some fault → validity_fault g ≡ Some fault → IsFaultOf g refusal
+found_is_shown g refusal fault says found = subst (λ o. MatchOption o (Unit {0}) (λ f. validity_fault g ≡ Some f)) (sym says) found

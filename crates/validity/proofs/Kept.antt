@@ -7,7 +7,7 @@ use Rattle.geometry_model.specs.declared.shapes.GeometryType.TheVariants as type
 use Rattle.geometry_model.specs.declared.shapes.Kind.{Kind}
 use Rattle.geometry_model.specs.declared.shapes.Kind.TheVariants as kinds
 use Rattle.geometry_model.specs.Points.{Position}
-use Rattle.geometry_model.specs.Locations.{stands_at}
+use Rattle.geometry_model.specs.Locations.{is_at}
 use Rattle.validity.specs.OddEnds.{AreOddEnds, ended_lines}
 use Rattle.geometry_model.specs.Geometries.{Geometry, Edge, edges, listed, kind, type_of}
 use Rattle.geometry_model.specs.FirstFaults.{validity_fault}
@@ -61,7 +61,7 @@ or_false false = refl
 pub point_is_searched : (g : Geometry) → type_of g ≡ types.Point → AreSearched (listed g) g
 unfolding IsStrictlySortedBy
 point_is_searched (g.Point None) e = record { ascend = tt; exact = λ p is. refl }
-point_is_searched (g.Point (Some a)) e = record { ascend = (tt, tt); exact = λ p is. sym (or_false (stands_at p a || false)) }
+point_is_searched (g.Point (Some a)) e = record { ascend = (tt, tt); exact = λ p is. sym (or_false (is_at p a || false)) }
 point_is_searched (g.MultiPoint ps) e = absurd cc
 point_is_searched (g.LineString ps) e = absurd cc
 point_is_searched (g.MultiLineString ls) e = absurd cc

@@ -15,7 +15,7 @@ use Rattle.std.proofs.lemmas.List.{take_more, append-nil, take_all}
 use Rattle.std.proofs.lemmas.List.Sorted.{sorted_far, ranks_by, sum_by-IsPermutation}
 use Rattle.geometry_model.specs.Points.{Position, Point, IsPoint, same_point, point_at, compare}
 use Rattle.geometry_model.specs.Crossings.{odd, exactly_one as xor}
-use Rattle.geometry_model.specs.Locations.{stands_at, last_after, ends}
+use Rattle.geometry_model.specs.Locations.{is_at, last_after, ends}
 use Rattle.geometry_model.specs.WellKnownText.{same_position}
 use Rattle.fraction.specs.Orders.{position_order}
 use Rattle.fraction.proofs.OrderLemmas.{position_order_is, same_position_is}
@@ -160,7 +160,7 @@ pub odd_added : (found given : List Position) (i : ℕ) (x : Position) → IsSor
 odd_added found given i x up l is n k = record {
   ascend = strict_added found x k.ascend (less_all x found k.ascend (all_weaker (IsBeforeRest given i) (λ b. is_lt (position_order x b) ≡ false) found (at_this given i x l is) k.before) n);
   before = all_added (IsBeforeRest given (i + 1)) found x (all_after given i found k.before) (this_before given i x up l is);
-  parity = λ p. added_odd (stands_at p) found x ∙ ap (λ b. xor b (stands_at p x)) (k.parity p) ∙ sym (added_odd (stands_at p) (take i given) x) ∙ ap (λ l. odd (count_by (stands_at p) l)) (sym (more p));
+  parity = λ p. added_odd (is_at p) found x ∙ ap (λ b. xor b (is_at p x)) (k.parity p) ∙ sym (added_odd (is_at p) (take i given) x) ∙ ap (λ l. odd (count_by (is_at p) l)) (sym (more p));
 }
   where
     more : (p : Point) → take (i + 1) given ≡ take i given ++ x ∷ []
@@ -175,14 +175,14 @@ pub odd_taken : (found kept given : List Position) (i : ℕ) (last x : Position)
 odd_taken found kept given i last x split l is e k = record {
   ascend = strict_left kept (last ∷ []) (subst (IsStrictlySortedBy position_order) split k.ascend);
   before = all_after given i kept (all_left (IsBeforeRest given i) kept (last ∷ []) (subst (AllByRecursion (IsBeforeRest given i)) split k.before));
-  parity = λ p. sym (twice (odd (count_by (stands_at p) kept)) (stands_at p x)) ∙ ap (λ b. xor b (stands_at p x)) (whole p) ∙ sym (added_odd (stands_at p) (take i given) x) ∙ ap (λ l. odd (count_by (stands_at p) l)) (sym more);
+  parity = λ p. sym (twice (odd (count_by (is_at p) kept)) (is_at p x)) ∙ ap (λ b. xor b (is_at p x)) (whole p) ∙ sym (added_odd (is_at p) (take i given) x) ∙ ap (λ l. odd (count_by (is_at p) l)) (sym more);
 }
   where
     more : take (i + 1) given ≡ take i given ++ x ∷ []
     more = take_more given i x l ∙ ap (λ b. take i given ++ b ∷ []) (sym is)
 
-    whole : (p : Point) → xor (odd (count_by (stands_at p) kept)) (stands_at p x) ≡ odd (count_by (stands_at p) (take i given))
-    whole p = ap (λ b. xor (odd (count_by (stands_at p) kept)) (stands_at p b)) (sym e) ∙ sym (added_odd (stands_at p) kept last) ∙ ap (λ l. odd (count_by (stands_at p) l)) (sym split) ∙ k.parity p
+    whole : (p : Point) → xor (odd (count_by (is_at p) kept)) (is_at p x) ≡ odd (count_by (is_at p) (take i given))
+    whole p = ap (λ b. xor (odd (count_by (is_at p) kept)) (is_at p b)) (sym e) ∙ sym (added_odd (is_at p) kept last) ∙ ap (λ l. odd (count_by (is_at p) l)) (sym split) ∙ k.parity p
 
 -- the position at the end, and those before it
 split_at_end : (found : List Position) (x : Position) → 0 < length found → found ≡ take (length found - 1) found ++ get_or found (length found - 1) x ∷ []
@@ -207,7 +207,7 @@ odd_toggled found new given i x up l is e k = go (ends_in found x) refl
 
 -- when all ends are seen the positions kept have the parity of all ends
 pub odd_of_all : (found given : List Position) (i : ℕ) → length given ≤ i → IsKeptOdd found given i → HasParityOf found given
-odd_of_all found given i h k p = k.parity p ∙ ap (λ l. odd (count_by (stands_at p) l)) (take_all i given h)
+odd_of_all found given i h k p = k.parity p ∙ ap (λ l. odd (count_by (is_at p) l)) (take_all i given h)
 
 -- the two ends of a line
 pub two_ends : (old once twice line : List Position) (a b : Position) → 0 < length line → a ≡ get_or line 0 a → b ≡ get_or line (length line - 1) b → once ≡ old ++ a ∷ [] → twice ≡ once ++ b ∷ [] → twice ≡ old ++ ends line
@@ -232,33 +232,33 @@ one_more_joined f xs i x items new more within is before made grew =
 
 -- ---- a point is at one of ascending positions at most
 -- a point isn't at two positions of which one is less, since positions at one point are equal
-apart : (p : Point) (a b : Position) → IsPoint p → position_order a b ≡ Less → stands_at p a ≡ true → stands_at p b ≡ false
-apart p a b hp h e = go (stands_at p b) refl
+apart : (p : Point) (a b : Position) → IsPoint p → position_order a b ≡ Less → is_at p a ≡ true → is_at p b ≡ false
+apart p a b hp h e = go (is_at p b) refl
   where
-    go : (t : Bool) → stands_at p b ≡ t → stands_at p b ≡ false
+    go : (t : Bool) → is_at p b ≡ t → is_at p b ≡ false
     go false f = f
     go true f = absurd (let n = same_equal a b (same_transitive (point_at a) p (point_at b) hp e (same_symmetric p (point_at b) ∙ f)) in let m : Less ≡ Equal = sym h ∙ n in cc)
 
 -- where a point lies at a position it is at none of the greater ones behind it
-none_after : (p : Point) (a : Position) (others : List Position) → IsPoint p → stands_at p a ≡ true → AllByRecursion (λ b. position_order a b ≡ Less) others → odd (count_by (stands_at p) others) ≡ false
+none_after : (p : Point) (a : Position) (others : List Position) → IsPoint p → is_at p a ≡ true → AllByRecursion (λ b. position_order a b ≡ Less) others → odd (count_by (is_at p) others) ≡ false
 none_after p a [] hp e h = refl
-none_after p a (b ∷ bs) hp e h = odd_joined (stands_at p) (b ∷ []) bs ∙ ap₂ xor (one_odd (stands_at p) b ∙ apart p a b hp h.0 e) (none_after p a bs hp e h.1)
+none_after p a (b ∷ bs) hp e h = odd_joined (is_at p) (b ∷ []) bs ∙ ap₂ xor (one_odd (is_at p) b ∙ apart p a b hp h.0 e) (none_after p a bs hp e h.1)
 
 -- at ascending positions a point is at one at most, so it is at some exactly where it lies at an odd number
-pub one_stands : (p : Point) (xs : List Position) → IsPoint p → IsStrictlySortedBy position_order xs → list_any (stands_at p) xs ≡ odd (count_by (stands_at p) xs)
+pub one_applies : (p : Point) (xs : List Position) → IsPoint p → IsStrictlySortedBy position_order xs → list_any (is_at p) xs ≡ odd (count_by (is_at p) xs)
 unfolding IsStrictlySortedBy
-one_stands p [] hp h = refl
-one_stands p (a ∷ others) hp h = go (stands_at p a) refl (one_stands p others hp h.1) ∙ sym (odd_joined (stands_at p) (a ∷ []) others ∙ ap (λ b. xor b (odd (count_by (stands_at p) others))) (one_odd (stands_at p) a))
+one_applies p [] hp h = refl
+one_applies p (a ∷ others) hp h = go (is_at p a) refl (one_applies p others hp h.1) ∙ sym (odd_joined (is_at p) (a ∷ []) others ∙ ap (λ b. xor b (odd (count_by (is_at p) others))) (one_odd (is_at p) a))
   where
-    go : (t : Bool) → stands_at p a ≡ t → list_any (stands_at p) others ≡ odd (count_by (stands_at p) others) → (stands_at p a || list_any (stands_at p) others) ≡ xor (stands_at p a) (odd (count_by (stands_at p) others))
-    go true e r = ap (λ b. b || list_any (stands_at p) others) e ∙ sym (ap not (none_after p a others hp e h.0)) ∙ ap (λ b. xor b (odd (count_by (stands_at p) others))) (sym e)
-    go false e r = ap (λ b. b || list_any (stands_at p) others) e ∙ r ∙ ap (λ b. xor b (odd (count_by (stands_at p) others))) (sym e)
+    go : (t : Bool) → is_at p a ≡ t → list_any (is_at p) others ≡ odd (count_by (is_at p) others) → (is_at p a || list_any (is_at p) others) ≡ xor (is_at p a) (odd (count_by (is_at p) others))
+    go true e r = ap (λ b. b || list_any (is_at p) others) e ∙ sym (ap not (none_after p a others hp e h.0)) ∙ ap (λ b. xor b (odd (count_by (is_at p) others))) (sym e)
+    go false e r = ap (λ b. b || list_any (is_at p) others) e ∙ r ∙ ap (λ b. xor b (odd (count_by (is_at p) others))) (sym e)
 
 -- of all ends, in ascending order, those that are left
 pub are_odd_ends : (ls : List (List Position)) (all sorted found : List Position) → all ≡ flat_map ends ls → IsPermutation all sorted → IsStrictlySortedBy position_order found → HasParityOf found sorted → AreOddEnds found ls
 are_odd_ends ls all sorted found e moved up alike = record {
   ascend = up;
-  exact = λ p hp. one_stands p found hp up ∙ alike p ∙ ap odd (sum_by-IsPermutation _ all sorted moved) ∙ ap (λ l. odd (count_by (stands_at p) l)) e;
+  exact = λ p hp. one_applies p found hp up ∙ alike p ∙ ap odd (sum_by-IsPermutation _ all sorted moved) ∙ ap (λ l. odd (count_by (is_at p) l)) e;
 }
 
 -- the same of an answer that may be running out of memory instead
@@ -353,34 +353,34 @@ parted_greater xs p low high middle a hp s m is e parts = record { below = parts
             (turn (point_at (get_or xs middle d)) p (at d)) (sym (position_order_is (get_or xs middle d) (get_or xs k d)) ∙ strict_far xs middle k d m l s))
         go (inr m) = ap (λ n. lies (get_or xs n d) p) (sym m) ∙ at d
 
-stands_from : (p : Point) (a : Position) → lies a p ≡ Equal → stands_at p a ≡ true
-stands_from p a e = (equal_is_same (point_at a) p).0 e
+is_from : (p : Point) (a : Position) → lies a p ≡ Equal → is_at p a ≡ true
+is_from p a e = (equal_is_same (point_at a) p).0 e
 
 -- a position that compares as equal with the point is one at which the point lies
-pub found_there : (xs : List Position) (p : Point) (middle : ℕ) (a : Position) → middle < length xs → a ≡ get_or xs middle a → lies a p ≡ Equal → list_any (stands_at p) xs ≡ true
+pub found_there : (xs : List Position) (p : Point) (middle : ℕ) (a : Position) → middle < length xs → a ≡ get_or xs middle a → lies a p ≡ Equal → list_any (is_at p) xs ≡ true
 found_there [] p middle a h is e = absurd (omega (arith, h))
-found_there (x ∷ xs) p zero a h is e = ap (λ b. b || list_any (stands_at p) xs) (ap (stands_at p) (sym is) ∙ stands_from p a e)
-found_there (x ∷ xs) p (suc m) a h is e = ap (λ b. stands_at p x || b) (found_there xs p m a (omega (arith, h)) is e) ∙ any_true (stands_at p x)
+found_there (x ∷ xs) p zero a h is e = ap (λ b. b || list_any (is_at p) xs) (ap (is_at p) (sym is) ∙ is_from p a e)
+found_there (x ∷ xs) p (suc m) a h is e = ap (λ b. is_at p x || b) (found_there xs p m a (omega (arith, h)) is e) ∙ any_true (is_at p x)
   where
     any_true : (b : Bool) → (b || true) ≡ true
     any_true true = refl
     any_true false = refl
 
 -- where no position compares as equal with the point it lies at none of them
-none_stands : (xs : List Position) (p : Point) → ((k : ℕ) (d : Position) → k < length xs → lies (get_or xs k d) p ≡ Equal → ⊥) → list_any (stands_at p) xs ≡ false
-none_stands [] p h = refl
-none_stands (x ∷ xs) p h = ap₂ (λ (a b : Bool). a || b) (off (stands_at p x) refl) (none_stands xs p (λ k d l. h (suc k) d (omega (arith, l))))
+none_applies : (xs : List Position) (p : Point) → ((k : ℕ) (d : Position) → k < length xs → lies (get_or xs k d) p ≡ Equal → ⊥) → list_any (is_at p) xs ≡ false
+none_applies [] p h = refl
+none_applies (x ∷ xs) p h = ap₂ (λ (a b : Bool). a || b) (off (is_at p x) refl) (none_applies xs p (λ k d l. h (suc k) d (omega (arith, l))))
   where
     first : 0 < length (x ∷ xs)
     first = omega arith
 
-    off : (t : Bool) → stands_at p x ≡ t → stands_at p x ≡ false
+    off : (t : Bool) → is_at p x ≡ t → is_at p x ≡ false
     off false e = e
     off true e = absurd (h zero x first ((equal_is_same (point_at x) p).1 e))
 
 -- when the places are used up each position is less or greater, so the point is at none
-pub not_there : (xs : List Position) (p : Point) (low high : ℕ) → high ≤ low → IsParted xs p low high → list_any (stands_at p) xs ≡ false
-not_there xs p low high h parts = none_stands xs p off
+pub not_there : (xs : List Position) (p : Point) (low high : ℕ) → high ≤ low → IsParted xs p low high → list_any (is_at p) xs ≡ false
+not_there xs p low high h parts = none_applies xs p off
   where
     off : (k : ℕ) (d : Position) → k < length xs → lies (get_or xs k d) p ≡ Equal → ⊥
     off k d l e = go (nat_lt k low) refl

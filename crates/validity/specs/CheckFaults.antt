@@ -26,8 +26,8 @@ abbrev pub IsFaultOf : Geometry → CheckFault → Type 0
 IsFaultOf g f = MatchOption (fault_in f) (Unit {0}) (λ found. validity_fault g ≡ Some found)
 
 -- the refusal is of a fault that applies to this geometry, said of rational points, or of running out of memory (06-103r4, 6.1.7, 6.1.11.1 and 6.1.14)
-abbrev pub IsStandingFaultOf : Geometry → CheckFault → Type 0
-IsStandingFaultOf g f = MatchOption (fault_in f) (Unit {0}) (λ found. HasFault g found)
+abbrev pub IsAnyFaultOf : Geometry → CheckFault → Type 0
+IsAnyFaultOf g f = MatchOption (fault_in f) (Unit {0}) (λ found. HasFault g found)
 
 -- the refusal is of the first fault that applies in the order of tests, V1 to V8 and within each the least numbers first, or of running out of memory (the order is this project's)
 abbrev pub IsFirstFaultOf : Geometry → CheckFault → Type 0

@@ -6,7 +6,7 @@ use Rattle.std.specs.Ordering.{is_lt}
 use Rattle.geometry_model.specs.Points.{Position, Point, IsPoint}
 use Rattle.geometry_model.specs.Geometries.{Geometry}
 use Rattle.geometry_model.specs.Crossings.{odd}
-use Rattle.geometry_model.specs.Locations.{stands_at, is_odd_end}
+use Rattle.geometry_model.specs.Locations.{is_at, is_odd_end}
 use Rattle.geometry_model.specs.WellKnownText.{same_position}
 use Rattle.fraction.specs.Orders.{position_order}
 
@@ -22,7 +22,7 @@ ended_lines (Geometry.MultiPolygon es) = []
 -- the positions ascend, each listed once, and a point is at one of them exactly where an odd number of the lines' ends are at it (06-103r4, 6.1.8.1: the mod 2 rule)
 pub record AreOddEnds (positions : List Position) (ls : List (List Position)) : Type 0 where
   pub ascend : IsStrictlySortedBy position_order positions
-  pub exact : (p : Point) → IsPoint p → list_any (stands_at p) positions ≡ is_odd_end ls p
+  pub exact : (p : Point) → IsPoint p → list_any (is_at p) positions ≡ is_odd_end ls p
 
 -- the last position of the list is this one
 abbrev pub ends_in : List Position → Position → Bool
@@ -34,7 +34,7 @@ toggled positions a = cond (ends_in positions a) (take (length positions - 1) po
 
 -- at each point, the numbers of positions of both lists are both odd or both even
 abbrev pub HasParityOf : List Position → List Position → Type 0
-HasParityOf positions given = (p : Point) → odd (count_by (stands_at p) positions) ≡ odd (count_by (stands_at p) given)
+HasParityOf positions given = (p : Point) → odd (count_by (is_at p) positions) ≡ odd (count_by (is_at p) given)
 
 -- no position from this place on is less than this one
 abbrev pub IsBeforeRest : List Position → ℕ → Position → Type 0

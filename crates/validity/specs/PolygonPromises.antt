@@ -7,12 +7,12 @@ use Rattle.geometry_model.specs.Crossings.{exactly_one, odd_above, odd_at_or_abo
 use Rattle.geometry_model.specs.Dimensions.{weighted}
 use Rattle.geometry_model.specs.Envelopes.{envelope}
 use Rattle.geometry_model.specs.Labels.{below, above}
-use Rattle.geometry_model.specs.Locations.{stands_at, locate}
+use Rattle.geometry_model.specs.Locations.{is_at, locate}
 use Rattle.geometry_model.specs.declared.point_sets.Location.{Location}
 use Rattle.geometry_model.specs.declared.point_sets.Location.TheVariants.{Interior, Exterior}
 use Rattle.geometry_model.specs.declared.shapes.Kind.TheVariants.{Area}
 use Rattle.geometry_laws.specs.RingLaws.{Misses}
-use Rattle.geometry_laws.specs.CoverLaws.{NearSides, AllNearStand}
+use Rattle.geometry_laws.specs.CoverLaws.{NearSides, AreAllNear}
 use Rattle.matrix_laws.specs.PolygonLaws.{ArePartedAs, IsOutside, PassesBy}
 
 -- the point is on none of the rings (06-103r4, 6.1.11.1)
@@ -64,8 +64,8 @@ pub record IsWithinSlantOfRing (g : Geometry) (p : Point) : Type 0 where
   pub edge : Edge
   pub is_edge : Contains (edges_of_line ring) edge
   pub is_on : on edge p ≡ true
-  pub not_start : stands_at p edge.start ≡ false
-  pub not_end : stands_at p edge.end ≡ false
+  pub not_start : is_at p edge.start ≡ false
+  pub not_end : is_at p edge.end ≡ false
   pub not_upright : edge.start.x ≢ edge.end.x
 
 -- there exactly one of the two numbers of edges, strictly above and at or above, is odd (06-103r4, 6.1.11.1)
@@ -74,4 +74,4 @@ RingsPart g = (p : Point) → IsWithinSlantOfRing g p → exactly_one (odd_above
 
 -- of below and above one is interior there and the other exterior; arbitrarily near there are points that lie so, and all near enough do (06-103r4, 6.1.11.1)
 abbrev pub RingsHaveSides : Geometry → Type 0
-RingsHaveSides g = (p : Point) → IsWithinSlantOfRing g p → ArePartedAs (below g p) (above g p) × ((k : ℕ) → NearSides g p k) × AllNearStand g p
+RingsHaveSides g = (p : Point) → IsWithinSlantOfRing g p → ArePartedAs (below g p) (above g p) × ((k : ℕ) → NearSides g p k) × AreAllNear g p

@@ -89,9 +89,9 @@ fn odd_ones(alloc: Global, given: &[GridPoint]) -> Result<Vec<GridPoint>, AllocE
 }
 
 /// Whether the point is at one of these ascending positions, by a binary search.
-pub(crate) fn stands_at_one(positions: &[GridPoint], p: &RatPoint) -> bool
+pub(crate) fn is_at_one(positions: &[GridPoint], p: &RatPoint) -> bool
     requires { IsStrictlySortedBy position_order positions.now }
-    ensures stands { result ≡ list_any (spec.stands_at p.now) positions.now }
+    ensures applies { result ≡ list_any (spec.is_at p.now) positions.now }
     ensures point { IsPoint p.now }
 {
     let is_point = p.denominator() > 0;

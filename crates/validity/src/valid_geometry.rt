@@ -4,18 +4,18 @@ ghost use Rattle.std.specs.Prelude.{◌≡◌, IfOk, OnOk, IfErr, None};
 ghost use Rattle.std.specs.List.{list_any};
 ghost use Rattle.geometry_model.specs.Geometries as spec;
 ghost use Rattle.geometry_model.specs.declared.shapes.GeometryType.TheVariants as types;
-ghost use Rattle.geometry_model.specs.Locations.{is_odd_end, stands_at};
+ghost use Rattle.geometry_model.specs.Locations.{is_odd_end, is_at};
 ghost use Rattle.geometry_model.specs.Validity.{IsValid};
 ghost use Rattle.geometry_model.specs.FirstFaults.{validity_fault};
 ghost use Rattle.edge_boxes.specs.BoxLists.{BoxesOf};
 ghost use Rattle.validity.specs.ValidGeometries.{IsKept, AreSearched};
 ghost use Rattle.validity.specs.OddEnds.{AreOddEnds, ended_lines};
-ghost use Rattle.validity.specs.CheckFaults.{IsFaultOf, IsStandingFaultOf, IsFirstFaultOf};
+ghost use Rattle.validity.specs.CheckFaults.{IsFaultOf, IsAnyFaultOf, IsFirstFaultOf};
 ghost use Rattle.validity.specs.PolygonPromises.{HolesAreCutOut, HolesAreInside, InteriorByElements, ElementsAreApart};
 ghost use Rattle.validity.specs.PolygonPromises.{StretchesStay, OutsideIsExterior, RingsPart, RingsHaveSides};
 
 use crate::check_fault::CheckFault;
-use crate::odd_ends::stands_at_one;
+use crate::odd_ends::is_at_one;
 use crate::searched_positions::searched_positions;
 use edge_boxes::EdgeBoxes;
 use fraction::{GridPoint, RatPoint};
@@ -26,7 +26,8 @@ use std::alloc::{AllocError, Global};
 use std::marker::Model;
 use wkt::Geometry;
 
-/// A geometry without fault (06-103r4, 6.1.7 and 6.1.11). Contracts see it as that geometry.
+/// A geometry without fault (06-103r4, 6.1.7 and 6.1.11). Contracts see it as that geometry. Beside it are kept its edges with
+/// their boxes, and what is searched: the positions of a MULTIPOINT, or the odd ends of lines, ascending.
 #[derive(Drop)]
 pub struct Valid {
     content: Content,
@@ -120,9 +121,9 @@ impl Valid {
     /// Whether the point is at one of its listed positions; lines and areas have none (06-103r4, 6.1.4 and 6.1.5). It takes no
     /// memory.
     pub fn is_listed(&self, p: &RatPoint) -> bool
-        ensures { result ≡ list_any (stands_at p.now) (spec.listed self.now) }
+        ensures { result ≡ list_any (is_at p.now) (spec.listed self.now) }
     {
-        self.kind() == Kind::Point && stands_at_one(self.searched(), p)
+        self.kind() == Kind::Point && is_at_one(self.searched(), p)
     }
 
     /// Lends the positions at which an odd number of ends of its lines are, ascending, each once: the boundary of lines
@@ -140,7 +141,7 @@ impl Valid {
     pub fn is_odd_end(&self, p: &RatPoint) -> bool
         ensures { result ≡ is_odd_end (ended_lines self.now) p.now }
     {
-        stands_at_one(self.odd_ends(), p)
+        is_at_one(self.odd_ends(), p)
     }
 }
 
@@ -162,7 +163,7 @@ pub fn check(alloc: Global, geometry: Geometry) -> Result<Valid, CheckFault>
     ensures parted { OnOk result (RingsPart geometry) }
     ensures sides { OnOk result (RingsHaveSides geometry) }
     ensures fault { IfErr result (IsFaultOf geometry) }
-    ensures stands { IfErr result (IsStandingFaultOf geometry) }
+    ensures applies { IfErr result (IsAnyFaultOf geometry) }
     ensures first { IfErr result (IsFirstFaultOf geometry) }
 {
     match geometry.geometry_type() {
@@ -188,7 +189,7 @@ fn of_larger(alloc: Global, geometry: Geometry) -> Result<Valid, CheckFault>
     ensures same { IfOk result (λ valid. valid ≡ geometry) }
     ensures faultless { OnOk result (validity_fault geometry ≡ None) }
     ensures fault { IfErr result (IsFaultOf geometry) }
-    ensures stands { IfErr result (IsStandingFaultOf geometry) }
+    ensures applies { IfErr result (IsAnyFaultOf geometry) }
     ensures first { IfErr result (IsFirstFaultOf geometry) }
 {
     let outline = Outline::of(alloc, geometry)?;

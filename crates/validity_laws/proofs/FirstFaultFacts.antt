@@ -8,7 +8,7 @@ use Rattle.geometry_model.specs.Validity.{Element, numbered_elements, HasFault, 
 use Rattle.geometry_model.specs.FirstFaults.{has_fault, numbers, of_pairs, rings_end, of_every_two, of_elements, in_order, validity_fault}
 use Rattle.geometry_model.specs.declared.validity_faults.ValidityFault.{ValidityFault}
 use Rattle.geometry_model.specs.declared.validity_faults.ValidityFault.TheVariants.{TooFewPoints, RingNotClosed, RingNotSimple, RingsMeet, HoleOutside, HolesNested, ElementsMeet, ElementInside}
-use Rattle.validity_laws.specs.FaultLaws.{AreClosed, FirstFaultStands, NoneIsFoundWhereValid}
+use Rattle.validity_laws.specs.FaultLaws.{AreClosed, FirstFaultApplies, NoneIsFoundWhereValid}
 use Rattle.validity_laws.proofs.ElementFacts.{greater_number, within}
 use Rattle.validity_laws.proofs.FaultFacts.{NeedsClosed, fault_decided}
 
@@ -174,8 +174,8 @@ none_found g e = let p = has_fault g in
     record { short = b.0; opened = b.1; crossed = c.0; meeting = d.0; outside = f.0; nested = h.0; touching = k.0; swallowed = k.1 }
 
 -- a fault whose test fails doesn't apply, since the test decides it
-pub stands_not : (g : Geometry) (fault : ValidityFault) → NeedsClosed g fault → has_fault g fault ≡ false → HasFault g fault → ⊥
-stands_not g fault needs none h = true≢false (sym ((fault_decided g fault needs).1 h) ∙ none)
+pub applies_not : (g : Geometry) (fault : ValidityFault) → NeedsClosed g fault → has_fault g fault ≡ false → HasFault g fault → ⊥
+applies_not g fault needs none h = true≢false (sym ((fault_decided g fault needs).1 h) ∙ none)
 
 from_first : (first k i : ℕ) → i ≡ first + k → first ≤ i
 from_first first k i e = omega (arith, e)
@@ -188,22 +188,22 @@ to_end first k i n e h = omega (arith, e, h)
 
 -- a fault that applied would have its place in the order of tests, but there each test fails
 valid_of : (g : Geometry) → NoneFound g → IsValid g
-valid_of g none (TooFewPoints i) h = stands_not g (TooFewPoints i) tt (fails_from (has_fault g) TooFewPoints 0 (length (lines g)) i none.short (omega arith) (within (lines g) i h.0 h.1)) h
+valid_of g none (TooFewPoints i) h = applies_not g (TooFewPoints i) tt (fails_from (has_fault g) TooFewPoints 0 (length (lines g)) i none.short (omega arith) (within (lines g) i h.0 h.1)) h
 valid_of g none (RingNotClosed i) h = are_closed g none.opened i h
-valid_of g none (RingNotSimple i) h = stands_not g (RingNotSimple i) (are_closed g none.opened)
+valid_of g none (RingNotSimple i) h = applies_not g (RingNotSimple i) (are_closed g none.opened)
     (fails_from (has_fault g) RingNotSimple 0 (length (rings g)) i none.crossed (omega arith) (within (rings g) i h.0 h.1)) h
-valid_of g none (RingsMeet i j) h = stands_not g (RingsMeet i j) tt
+valid_of g none (RingsMeet i j) h = applies_not g (RingsMeet i j) tt
     (pair_fails (has_fault g) RingsMeet h.0.first (rings_end h.0) i j (none_of (has_fault g) (λ e. of_pairs RingsMeet e.first (rings_end e)) (numbered_elements g) h.0 none.meeting h.5)
     (from_first h.0.first h.1 i h.7.0) (greater_number h.0.first h.1 h.2 i j h.7.0 h.8.0 h.6) (to_end h.0.first h.2 j (length h.0.rings) h.8.0 (within h.0.rings h.2 h.4 h.8.1))) h
-valid_of g none (HoleOutside i) h = stands_not g (HoleOutside i) tt
+valid_of g none (HoleOutside i) h = applies_not g (HoleOutside i) tt
     (fails_from (has_fault g) HoleOutside (h.0.first + 1) (rings_end h.0) i (none_of (has_fault g) (λ e. map HoleOutside (numbers (e.first + 1) (rings_end e))) (numbered_elements g) h.0 none.outside h.4)
     (past_first h.0.first h.1 i h.7.0 h.5) (to_end h.0.first h.1 i (length h.0.rings) h.7.0 (within h.0.rings h.1 h.3 h.7.1))) h
-valid_of g none (HolesNested i j) h = stands_not g (HolesNested i j) tt
+valid_of g none (HolesNested i j) h = applies_not g (HolesNested i j) tt
     (pair_fails (has_fault g) HolesNested (h.0.first + 1) (rings_end h.0) i j (none_of (has_fault g) (λ e. of_pairs HolesNested (e.first + 1) (rings_end e)) (numbered_elements g) h.0 none.nested h.5)
     (past_first h.0.first h.1 i h.8.0 h.6) (greater_number h.0.first h.1 h.2 i j h.8.0 h.9.0 h.7) (to_end h.0.first h.2 j (length h.0.rings) h.9.0 (within h.0.rings h.2 h.4 h.9.1))) h
-valid_of g none (ElementsMeet i j) h = stands_not g (ElementsMeet i j) tt
+valid_of g none (ElementsMeet i j) h = applies_not g (ElementsMeet i j) tt
     (pair_fails (has_fault g) ElementsMeet 0 (length (elements g)) i j none.touching (omega arith) h.2 (within (elements g) j h.1 h.4)) h
-valid_of g none (ElementInside i j) h = stands_not g (ElementInside i j) tt
+valid_of g none (ElementInside i j) h = applies_not g (ElementInside i j) tt
     (every_two_fail (has_fault g) ElementInside (length (elements g)) i j none.swallowed (within (elements g) i h.0 h.3) (within (elements g) j h.1 h.4)) h
 
 -- a fault of a ring that isn't simple is found only where the rings are closed
@@ -230,13 +230,13 @@ needs g (ElementsMeet i j) e = tt
 needs g (ElementInside i j) e = tt
 
 -- the fault that is found passes its test, which decides whether it applies
-pub first_fault_stands : FirstFaultStands
-first_fault_stands g fault e = (fault_decided g fault (needs g fault e)).0 (found_passes (has_fault g) (in_order g) fault e)
+pub first_fault_applies : FirstFaultApplies
+first_fault_applies g fault e = (fault_decided g fault (needs g fault e)).0 (found_passes (has_fault g) (in_order g) fault e)
 
 -- in a valid geometry none is found, since what is found applies
 none_of_valid : (g : Geometry) → IsValid g → (o : Option ValidityFault) → validity_fault g ≡ o → validity_fault g ≡ None
 none_of_valid g valid None e = e
-none_of_valid g valid (Some fault) e = absurd (valid fault (first_fault_stands g fault e))
+none_of_valid g valid (Some fault) e = absurd (valid fault (first_fault_applies g fault e))
 
 -- so none is found exactly where the geometry is valid
 pub none_is_found_where_valid : NoneIsFoundWhereValid

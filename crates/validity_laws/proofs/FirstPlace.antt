@@ -8,7 +8,7 @@ use Rattle.geometry_model.specs.declared.validity_faults.ValidityFault.TheVarian
 use Rattle.geometry_laws.proofs.Each.{Each, Among, each_at, each_append, each_left}
 use Rattle.validity_laws.specs.FaultLaws.{AreClosed, IsFirst, FirstFaultIsFirst}
 use Rattle.validity_laws.proofs.FaultFacts.{NeedsClosed}
-use Rattle.validity_laws.proofs.FirstFaultFacts.{found_in_two, none_in_two, head_fails, short_ones, open_ones, early_ones, late_ones, in_two, are_closed, stands_not, first_fault_stands}
+use Rattle.validity_laws.proofs.FirstFaultFacts.{found_in_two, none_in_two, head_fails, short_ones, open_ones, early_ones, late_ones, in_two, are_closed, applies_not, first_fault_applies}
 
 at_place : (xs : List ValidityFault) (x : ValidityFault) (k : ℕ) → k < length xs → slice_index_or xs k x ≡ x → Among x xs
 at_place [] x k h e = absurd (omega (arith, h))
@@ -72,8 +72,8 @@ first_at g fault found (inl e) = let s = split (has_fault g) (early_ones g) faul
   before = s.before;
   after = s.after ++ late_ones g;
   placed = in_two g ∙ (ap (λ (l : List ValidityFault). l ++ late_ones g) s.placed ∙ append_assoc s.before (fault ∷ s.after) (late_ones g));
-  stands = first_fault_stands g fault found;
-  none_before = λ earlier c h. let a = at_place s.before earlier c.0 c.1 c.2 in stands_not g earlier
+  applies = first_fault_applies g fault found;
+  none_before = λ earlier c h. let a = at_place s.before earlier c.0 c.1 c.2 in applies_not g earlier
       (each_at (NeedsClosed g) s.before earlier (each_left (NeedsClosed g) s.before (fault ∷ s.after) (subst (Each (NeedsClosed g)) s.placed (early_need g))) a)
       (each_at (λ x. has_fault g x ≡ false) s.before earlier (all_fail (has_fault g) s.before s.none) a) h;
 }
@@ -81,8 +81,8 @@ first_at g fault found (inr e) = let s = split (has_fault g) (late_ones g) fault
   before = early_ones g ++ s.before;
   after = s.after;
   placed = in_two g ∙ (ap (λ (l : List ValidityFault). early_ones g ++ l) s.placed ∙ sym (append_assoc (early_ones g) s.before (fault ∷ s.after)));
-  stands = first_fault_stands g fault found;
-  none_before = λ earlier c h. stands_not g earlier (closed_need g earlier (are_closed g (none_in_two (has_fault g) (short_ones g) (open_ones g) e.0).1))
+  applies = first_fault_applies g fault found;
+  none_before = λ earlier c h. applies_not g earlier (closed_need g earlier (are_closed g (none_in_two (has_fault g) (short_ones g) (open_ones g) e.0).1))
       (each_at (λ x. has_fault g x ≡ false) (early_ones g ++ s.before) earlier (all_fail (has_fault g) (early_ones g ++ s.before) (none_join (has_fault g) (early_ones g) s.before e.0 s.none))
       (at_place (early_ones g ++ s.before) earlier c.0 c.1 c.2)) h;
 }

@@ -8,7 +8,7 @@ use Rattle.geometry_model.specs.Validity.{Element, elements_from, numbered_eleme
 use Rattle.geometry_model.specs.declared.validity_faults.ValidityFault.{ValidityFault}
 use Rattle.geometry_model.specs.declared.validity_faults.ValidityFault.TheVariants.{TooFewPoints, RingNotClosed, RingNotSimple, RingsMeet, HoleOutside, HolesNested, ElementsMeet, ElementInside}
 use Rattle.geometry_laws.proofs.Each.{Each, each_map, each_append, each_right}
-use Rattle.validity_laws.specs.FaultLaws.{NoEarlierFaultStands}
+use Rattle.validity_laws.specs.FaultLaws.{NoEarlierFaultApplies}
 use Rattle.validity_laws.proofs.FirstFaultFacts.{short_ones, open_ones, crossed_ones, meeting_ones, outside_ones, nested_ones, touching_ones, swallowed_ones}
 use Rattle.validity_laws.proofs.FirstPlace.{each_mapped, first_fault_is_first}
 
@@ -239,6 +239,6 @@ distinct_in_order g = (grown 7 (short_ones g ++ open_ones g ++ crossed_ones g ++
 
 -- the found fault has one place in the order of tests, so each split at it is the one of the search,
 -- before which none applies
-pub no_earlier_fault_stands : NoEarlierFaultStands
-no_earlier_fault_stands g fault before after found placed earlier c h = let f = first_fault_is_first g fault found in
+pub no_earlier_fault_applies : NoEarlierFaultApplies
+no_earlier_fault_applies g fault before after found placed earlier c h = let f = first_fault_is_first g fault found in
     f.none_before earlier (subst (λ l. Contains l earlier) (one_split fault before f.before after f.after (sym placed ∙ f.placed) (subst Distinct placed (distinct_in_order g))) c) h

@@ -15,8 +15,8 @@ abbrev pub FaultIsDecided : Type 0
 FaultIsDecided = (g : Geometry) (fault : ValidityFault) → AreClosed g → (has_fault g fault ≡ true) ↔ HasFault g fault
 
 -- the first fault that is found applies
-abbrev pub FirstFaultStands : Type 0
-FirstFaultStands = (g : Geometry) (fault : ValidityFault) → validity_fault g ≡ Some fault → HasFault g fault
+abbrev pub FirstFaultApplies : Type 0
+FirstFaultApplies = (g : Geometry) (fault : ValidityFault) → validity_fault g ≡ Some fault → HasFault g fault
 
 -- no fault is found exactly if the geometry is valid
 abbrev pub NoneIsFoundWhereValid : Type 0
@@ -27,7 +27,7 @@ pub record IsFirst (g : Geometry) (fault : ValidityFault) : Type 0 where
   pub before : List ValidityFault
   pub after : List ValidityFault
   pub placed : in_order g ≡ before ++ fault ∷ after
-  pub stands : HasFault g fault
+  pub applies : HasFault g fault
   pub none_before : (earlier : ValidityFault) → Contains before earlier → HasFault g earlier → ⊥
 
 -- the fault that is found is the first that applies
@@ -35,6 +35,6 @@ abbrev pub FirstFaultIsFirst : Type 0
 FirstFaultIsFirst = (g : Geometry) (fault : ValidityFault) → validity_fault g ≡ Some fault → IsFirst g fault
 
 -- wherever the order of tests is split at the fault that is found, none before it applies
-abbrev pub NoEarlierFaultStands : Type 0
-NoEarlierFaultStands = (g : Geometry) (fault : ValidityFault) (before after : List ValidityFault) → validity_fault g ≡ Some fault → in_order g ≡ before ++ fault ∷ after
+abbrev pub NoEarlierFaultApplies : Type 0
+NoEarlierFaultApplies = (g : Geometry) (fault : ValidityFault) (before after : List ValidityFault) → validity_fault g ≡ Some fault → in_order g ≡ before ++ fault ∷ after
     → (earlier : ValidityFault) → Contains before earlier → HasFault g earlier → ⊥

@@ -2,9 +2,9 @@
 
 ghost use Rattle.validity_laws.specs.FaultLaws.{
   FaultIsDecided,
-  FirstFaultStands,
+  FirstFaultApplies,
   FirstFaultIsFirst,
-  NoEarlierFaultStands,
+  NoEarlierFaultApplies,
   NoneIsFoundWhereValid,
 };
 
@@ -14,8 +14,8 @@ pub fn fault_is_decided()
 {}
 
 /// The first fault that is found applies.
-pub fn first_fault_stands()
-    ensures { FirstFaultStands }
+pub fn first_fault_applies()
+    ensures { FirstFaultApplies }
 {}
 
 /// The fault that is found is the first that applies: none before it in the order of tests does.
@@ -24,8 +24,8 @@ pub fn first_fault_is_first()
 {}
 
 /// Wherever the order of tests is split at the fault that is found, none before it applies.
-pub fn no_earlier_fault_stands()
-    ensures { NoEarlierFaultStands }
+pub fn no_earlier_fault_applies()
+    ensures { NoEarlierFaultApplies }
 {}
 
 /// No fault is found exactly if the geometry is valid.

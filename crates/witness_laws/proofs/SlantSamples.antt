@@ -5,7 +5,7 @@ use Rattle.std.specs.declared.cmp.Ordering.TheVariants.{Less}
 use Rattle.geometry_model.specs.Points.{Position, Point, point_at, compare}
 use Rattle.geometry_model.specs.Geometries.{Edge, Geometry, edges, listed}
 use Rattle.geometry_model.specs.Sides.{side, on_one_line}
-use Rattle.geometry_model.specs.Locations.{stands_at}
+use Rattle.geometry_model.specs.Locations.{is_at}
 use Rattle.geometry_model.specs.Labels.{is_upright, edges_of_both}
 use Rattle.geometry_model.specs.Pieces.{Piece, IsPiece, sample}
 use Rattle.geometry_laws.specs.PieceLaws.{Inside, IsPieceOf}
@@ -58,11 +58,11 @@ pub sample_is_slant : (a b : Geometry) (c : Piece) → IsPieceOf a b c → is_up
 sample_is_slant a b c h f = (
   record {
     edges = all_from_each (IsSlant (sample c)) (edges a) (each_of (IsSlant (sample c)) (edges a) (λ e m. slant e (among_left e (edges a) (edges b) m)));
-    positions = all_from_each (λ p. stands_at (sample c) p ≡ false) (listed a) (each_of (λ p. stands_at (sample c) p ≡ false) (listed a) (λ p m. away p (among_left p (listed a) (listed b) m)));
+    positions = all_from_each (λ p. is_at (sample c) p ≡ false) (listed a) (each_of (λ p. is_at (sample c) p ≡ false) (listed a) (λ p m. away p (among_left p (listed a) (listed b) m)));
   },
   record {
     edges = all_from_each (IsSlant (sample c)) (edges b) (each_of (IsSlant (sample c)) (edges b) (λ e m. slant e (among_right e (edges a) (edges b) m)));
-    positions = all_from_each (λ p. stands_at (sample c) p ≡ false) (listed b) (each_of (λ p. stands_at (sample c) p ≡ false) (listed b) (λ p m. away p (among_right p (listed a) (listed b) m)));
+    positions = all_from_each (λ p. is_at (sample c) p ≡ false) (listed b) (each_of (λ p. is_at (sample c) p ≡ false) (listed b) (λ p m. away p (among_right p (listed a) (listed b) m)));
   },
 )
   where
@@ -72,5 +72,5 @@ sample_is_slant a b c h f = (
     slant : (e : Edge) → Among e (edges_of_both a b) → IsSlant (sample c) e
     slant e m = slant_within (edges_of_both a b) (listed a ++ listed b) c h ends f (sample c) (sample_inside (edges_of_both a b) (listed a ++ listed b) c h ends) e m
 
-    away : (p : Position) → Among p (listed a ++ listed b) → stands_at (sample c) p ≡ false
+    away : (p : Position) → Among p (listed a ++ listed b) → is_at (sample c) p ≡ false
     away p m = no_position_within (edges_of_both a b) (listed a ++ listed b) c h (sample c) (sample_inside (edges_of_both a b) (listed a ++ listed b) c h ends) p m

@@ -5,7 +5,7 @@ use Rattle.geometry_model.specs.Points.{Position, Point, point_at}
 use Rattle.geometry_model.specs.Geometries.{Edge, Geometry, edges, edges_of_lines, listed, joined_rings}
 use Rattle.geometry_model.specs.Sides.{on}
 use Rattle.geometry_model.specs.Crossings.{exactly_one, side_rightward, strictly_above}
-use Rattle.geometry_model.specs.Locations.{stands_at, locate}
+use Rattle.geometry_model.specs.Locations.{is_at, locate}
 use Rattle.geometry_model.specs.Labels.{above}
 use Rattle.geometry_model.specs.declared.point_sets.Location.TheVariants.{Interior, Exterior}
 use Rattle.integers.proofs.Signs.{at_most_yes}
@@ -46,8 +46,8 @@ not_above x e h = ap (λ (t : Bool). t && int_lt (side_rightward e (beyond x)) (
     within x a h = omega (arith, ints)
 
 -- nor is it at a position that doesn't reach beyond x
-away : (x : ℤ) (a : Position) → a.x ≤ℤ x → stands_at (beyond x) a ≡ false
-away x a h = by_contraries (stands_at (beyond x) a) false (λ k. absurd (clash x a.x h (same_x (point_at a) (beyond x) k))) refl
+away : (x : ℤ) (a : Position) → a.x ≤ℤ x → is_at (beyond x) a ≡ false
+away x a h = by_contraries (is_at (beyond x) a) false (λ k. absurd (clash x a.x h (same_x (point_at a) (beyond x) k))) refl
   where
     clash : (x a : ℤ) → a ≤ℤ x → a *ℤ pos 1 ≡ (x +ℤ pos 1) *ℤ pos 1 → ⊥
     clash x a h e = omega (arith, ints)
@@ -68,13 +68,13 @@ ends_of x g r = each_from_all (λ e. (e.start.x ≤ℤ x) × (e.end.x ≤ℤ x))
 is_off : (x : ℤ) (g : Geometry) → Reaches x g → IsOff g (beyond x)
 is_off x g r = record {
   edges = all_from_each (λ e. on e (beyond x) ≡ false) (edges g) (each_map (Ends x) (λ e. on e (beyond x) ≡ false) (edges g) (off x) (ends_of x g r));
-  positions = all_from_each (λ a. stands_at (beyond x) a ≡ false) (listed g) (each_map (λ a. a.x ≤ℤ x) (λ a. stands_at (beyond x) a ≡ false) (listed g) (away x) (each_from_all (λ a. a.x ≤ℤ x) (listed g) r.positions));
+  positions = all_from_each (λ a. is_at (beyond x) a ≡ false) (listed g) (each_map (λ a. a.x ≤ℤ x) (λ a. is_at (beyond x) a ≡ false) (listed g) (away x) (each_from_all (λ a. a.x ≤ℤ x) (listed g) r.positions));
 }
 
 is_exterior : (x : ℤ) (g : Geometry) → Reaches x g → locate g (beyond x) ≡ Exterior
 is_exterior x g r = locate_off g (beyond x) (omega (arith, ints)) (record {
   edges_off = each_map (Ends x) (λ e. on e (beyond x) ≡ false) (edges g) (off x) (ends_of x g r);
-  listed_off = each_map (λ a. a.x ≤ℤ x) (λ a. stands_at (beyond x) a ≡ false) (listed g) (away x) (each_from_all (λ a. a.x ≤ℤ x) (listed g) r.positions);
+  listed_off = each_map (λ a. a.x ≤ℤ x) (λ a. is_at (beyond x) a ≡ false) (listed g) (away x) (each_from_all (λ a. a.x ≤ℤ x) (listed g) r.positions);
 }) ∙ none_above g (beyond x) (each_map (Ends x) (λ e. strictly_above e (beyond x) ≡ false) (edges g) (not_above x) (ends_of x g r))
 
 pub reaches_further : (x y : ℤ) (g : Geometry) → x ≤ℤ y → Reaches x g → Reaches y g

@@ -11,7 +11,7 @@ use Rattle.geometry_laws.proofs.Cuts.{among_from_contains}
 use Rattle.std.specs.List.{list_any}
 use Rattle.geometry_model.specs.Points.{Position, Point, IsPoint, point_at, same_point}
 use Rattle.geometry_model.specs.Geometries.{Edge, Geometry, edges, listed, rings}
-use Rattle.geometry_model.specs.Locations.{stands_at, locate}
+use Rattle.geometry_model.specs.Locations.{is_at, locate}
 use Rattle.geometry_model.specs.Dimensions.{HasDimension, common, cell, IsMatrix}
 use Rattle.geometry_model.specs.CutPoints.{IsCut, cut_points}
 use Rattle.geometry_model.specs.Pieces.{Piece, IsPiece, pieces, sample}
@@ -85,10 +85,10 @@ on_lower l k (Some s) h n = or_last (is_pair l k s.lower) (is_pair l k s.upper) 
 slant_at : (g : Geometry) (p q : Point) → IsPoint p → IsPoint q → same_point q p ≡ true → IsSlantAt g p → IsSlantAt g q
 slant_at g p q hp hq e s = record {
   edges = λ i d l k. s.edges i d l (sym (on_respects (get_or (edges g) i d) q p hq hp e) ∙ k);
-  positions = λ i d l. at (get_or (listed g) i d) (stands_at q (get_or (listed g) i d)) refl (s.positions i d l);
+  positions = λ i d l. at (get_or (listed g) i d) (is_at q (get_or (listed g) i d)) refl (s.positions i d l);
 }
   where
-    at : (a : Position) (t : Bool) → stands_at q a ≡ t → stands_at p a ≡ false → stands_at q a ≡ false
+    at : (a : Position) (t : Bool) → is_at q a ≡ t → is_at p a ≡ false → is_at q a ≡ false
     at a false h k = h
     at a true h k = absurd (let z : true ≡ false = sym (same_transitive (point_at a) q p hq h e) ∙ k in cc)
 

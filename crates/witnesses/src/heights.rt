@@ -7,7 +7,7 @@ ghost use Rattle.geometry_model.specs.WellKnownText.{coordinate_limit};
 ghost use Rattle.fraction.specs.Ranges.{denominator_limit};
 ghost use Rattle.witnesses.specs.Heights as spec;
 
-use crate::products::{beyond, numerator_over, side_of_point, step};
+use crate::height_products::{beyond, numerator_over, side_of_point, step};
 use fraction::{GridPoint, RatPoint};
 use orient::Segment;
 use std::cmp::Ordering;

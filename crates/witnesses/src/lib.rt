@@ -7,8 +7,8 @@ pub mod face_points;
 pub mod faces;
 mod far_points;
 pub mod finding;
+mod height_products;
 pub mod heights;
-mod products;
 pub mod witness;
 
 pub use face_points::FacePoint;

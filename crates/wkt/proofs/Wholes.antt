@@ -7,7 +7,7 @@ use Rattle.geometry_model.specs.TextReading.{Input, Reader, ◌>>◌, and_then, 
 use Rattle.geometry_model.specs.TextRefusals.{IsRefused}
 use Rattle.geometry_model.specs.WellKnownText.{is_white, geometry_of, Spells}
 use Rattle.geometry_model.specs.declared.text_faults.TextFault.{TextFault}
-use Rattle.text_laws.proofs.RefusedTexts.{answer_stands}
+use Rattle.text_laws.proofs.RefusedTexts.{answer_is_given}
 use Rattle.text_laws.proofs.TextComplete.{spelled_is_read}
 use Rattle.text_laws.proofs.TextPrinted.{canonical_text_spells}
 use Rattle.text_laws.proofs.TextSound.{read_is_spelled}
@@ -85,13 +85,13 @@ found_again text g read = spelled_is_read (canonical_text g) g (canonical_text_s
 
 -- ---- the fault
 if_some : {P : TextFault → Type 0} (o : Option TextFault) → ((fault : TextFault) → o ≡ Some fault → P fault) → IfSome o P
-if_some None told = tt
-if_some (Some fault) told = told fault refl
+if_some None said = tt
+if_some (Some fault) said = said fault refl
 
 -- the fault that is said of the text is what the definition answers; where memory ran out, none is said
 pub fault_is : (text : List ℕ) (e : WktFault) → ((fault : TextFault) → text_fault e ≡ Some fault → meant whole (start text) ≡ Err fault)
     → IfSome (text_fault e) (λ fault. read_text text ≡ Err fault)
-fault_is text e read = if_some (text_fault e) (λ fault told. read_by_whole text ∙ ap found_of (read fault told))
+fault_is text e read = if_some (text_fault e) (λ fault said. read_by_whole text ∙ ap found_of (read fault said))
 
 -- of a text that is read no fault can be said, so memory ran out
 read_or_memory : (e : WktFault) (r : Result Geometry TextFault) (g : Geometry) → IfSome (text_fault e) (λ fault. r ≡ Err fault) → r ≡ Ok g → e ≡ faults.OutOfMemory
@@ -106,6 +106,6 @@ pub fault_is_memory : (text : List ℕ) (e : WktFault) → IfSome (text_fault e)
 fault_is_memory text e fault g spelled = read_or_memory e (read_text text) g fault (spelled_is_read text g spelled)
 
 -- a fault that is returned is
-pub fault_stands : (text : List ℕ) (o : Option TextFault) → IfSome o (λ fault. read_text text ≡ Err fault) → IfSome o (IsRefused text)
-fault_stands text (Some fault) e = answer_stands text fault e
-fault_stands text None e = e
+pub fault_applies : (text : List ℕ) (o : Option TextFault) → IfSome o (λ fault. read_text text ≡ Err fault) → IfSome o (IsRefused text)
+fault_applies text (Some fault) e = answer_is_given text fault e
+fault_applies text None e = e

@@ -1,6 +1,6 @@
 use Rattle.std.proofs.Common.{refl}
 use Rattle.std.proofs.lemmas.Result.{IfOk-weaker}
-use Rattle.command_words.specs.Commands.{check, relate, run}
+use Rattle.command_words.specs.CommandWords.{check, relate, run}
 use Rattle.command_words.proofs.CommandLemmas.{subcommand-added}
 use Rattle.command_words.proofs.sfq_command.Goals as goal
 

@@ -1,5 +1,5 @@
 use Rattle.std.proofs.Common.{◌≤◌, length, drop}
-use Rattle.edge_boxes.specs.Cells.{IsCellOf}
+use Rattle.edge_boxes.specs.BoxCells.{IsCellOf}
 use Rattle.edge_boxes.specs.EdgeCrossings.{AreCrossings}
 use Rattle.edge_boxes.specs.BoxLists.{covered}
 use Rattle.edge_boxes.proofs.boxes.crossings_among.Given as goal

@@ -1,5 +1,5 @@
 use Rattle.std.proofs.Common.{◌≡◌, ◌≤◌, false, length, drop}
-use Rattle.edge_boxes.specs.Cells.{IsCellOf}
+use Rattle.edge_boxes.specs.BoxCells.{IsCellOf}
 use Rattle.edge_boxes.specs.EdgeCrossings.{on_any}
 use Rattle.edge_boxes.specs.BoxLists.{covered}
 use Rattle.edge_boxes.proofs.boxes.is_held_among.Given as goal

@@ -6,7 +6,7 @@ use mir.Syntax.{w32, w64, w128}
 use mir.Val.{SFits}
 use Rattle.geometry_model.specs.WellKnownText.{coordinate_limit}
 use Rattle.orient.proofs.Bounds.{read}
-use Rattle.edge_boxes.specs.Cells.{IsFloor}
+use Rattle.edge_boxes.specs.BoxCells.{IsFloor}
 use Rattle.edge_boxes.proofs.Floors.{euclid_floor, floor_short, floor_as, floor_over_one, short_fits}
 use Rattle.edge_boxes.proofs.cells.floor.Goals as goal
 

@@ -1,6 +1,6 @@
 use Rattle.std.proofs.Common.{◌≤◌, length, sym, ◌∙◌, arith}
 use Rattle.edge_boxes.proofs.BoxFacts.{covered_within}
-use Rattle.edge_boxes.proofs.OneLine.{one_uncovered, one_at_step}
+use Rattle.edge_boxes.proofs.BoxLines.{one_uncovered, one_at_step}
 use Rattle.edge_boxes.proofs.lines.is_one_on_line_among.Goals as goal
 
 pub run_of-uncovered-requires-clause-ordered : goal.run_of-uncovered-requires-clause-ordered

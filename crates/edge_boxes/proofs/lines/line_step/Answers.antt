@@ -1,5 +1,5 @@
 use Rattle.edge_boxes.proofs.Steps.{box_before, leaf_ordered}
-use Rattle.edge_boxes.proofs.OneLine.{line_skip, line_leaf, line_inner}
+use Rattle.edge_boxes.proofs.BoxLines.{line_skip, line_leaf, line_inner}
 use Rattle.edge_boxes.proofs.lines.line_step.Goals as goal
 
 pub overflow_sub-result-then-is_far : goal.overflow_sub-result-then-is_far

@@ -24,7 +24,7 @@ returns-then-not-may_share_stretch-clause-covers c =
     let b = c.args.second.now in
     full_off_covers a b c.requires.first_valid c.requires.second_valid c.args.edge.now c.requires.own c.requires.length c.args.matrix.now c.requires.ends
     (c.is_full_off.ensures c.if-is_full_off.true) (sym c.shows_meeting.ensures ∙ c.if-shows_meeting.true)
-    (subst (SharesNoStretch c.args.edge.now) c.segments.ensures (c.may_share_stretch.ensures c.if-not-may_share_stretch.true))
+    (subst (SharesNoStretch c.args.edge.now) c.segments.ensures (c.may_share_stretch.ensures.none c.if-not-may_share_stretch.true))
 
 pub returns-then-holds-clause-covers : goal.returns-then-holds-clause-covers
 returns-then-holds-clause-covers c =

@@ -1,7 +1,7 @@
 use Rattle.std.proofs.Common.{◌<◌, length, arith}
 use Rattle.std.proofs.lemmas.Bool.Decides.{nat_tests}
 use Rattle.matrices.proofs.Growth.{grows_through}
-use Rattle.matrices.proofs.Ends.{ends_covered}
+use Rattle.matrices.proofs.EndsShown.{ends_covered}
 use Rattle.matrices.proofs.matrix_positions.raise_ends_of.Goals as goal
 
 pub returns-clause-grows : goal.returns-clause-grows

@@ -5,7 +5,7 @@ use Rattle.geometry_model.specs.Locations.{ends}
 use Rattle.matrix_laws.specs.Cells.{CoversPosition}
 use Rattle.matrices.specs.Raising.{CoversEndsOf}
 use Rattle.matrices.proofs.Growth.{grows_through, all_taken}
-use Rattle.matrices.proofs.Ends.{covers_line_more}
+use Rattle.matrices.proofs.EndsShown.{covers_line_more}
 use Rattle.matrices.proofs.matrix_positions.raise_line_ends.Goals as goal
 
 pub loop-line-preserved : goal.loop-line-preserved

@@ -2,13 +2,13 @@ use Rattle.std.proofs.Common.{◌∙◌, ap, Contains}
 use Rattle.geometry_model.specs.Geometries.{listed}
 use Rattle.matrix_laws.specs.Cells.{CoversPosition}
 use Rattle.matrices.proofs.Growth.{grows_through, covers_more, all_taken}
-use Rattle.matrices.proofs.ListedPositions.{stands_in}
+use Rattle.matrices.proofs.ListedPositions.{applies_in}
 use Rattle.matrices.proofs.matrix_positions.raise_listed.Goals as goal
 
 pub loop-position-preserved : goal.loop-position-preserved
 loop-position-preserved c =
     let a = c.args.first.now in
-    let there : Contains (listed a) c.position-item.result = stands_in c.listed-position-items.result.now (listed a) c.loop-position.position-index c.position-item.result c.loop-position-test.true c.position-item.is
+    let there : Contains (listed a) c.position-item.result = applies_in c.listed-position-items.result.now (listed a) c.loop-position.position-index c.position-item.result c.loop-position-test.true c.position-item.is
     (c.listed-position-items.ensures.listed ∙ ap listed c.geometry.ensures.same) in
     let grows = c.raise_listed_at.ensures.grows a there in
     record {

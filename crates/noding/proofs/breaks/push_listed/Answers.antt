@@ -6,7 +6,7 @@ use Rattle.std.proofs.lemmas.List.{append-nil}
 use Rattle.integers.proofs.Signs.{less_from}
 use Rattle.geometry_model.specs.Points.{point_at}
 use Rattle.geometry_model.specs.Sides.{on}
-use Rattle.noding.specs.Ranges.{greatest_x}
+use Rattle.noding.specs.NodeRanges.{greatest_x}
 use Rattle.noding.proofs.InRange.{none_to_the_left, none_to_the_right, one_more}
 use Rattle.noding.proofs.breaks.push_listed.Goals as goal
 

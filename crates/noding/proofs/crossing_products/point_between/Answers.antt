@@ -4,7 +4,7 @@ use mir.Syntax.{w32, w128}
 use mir.Val.{to_z, of_z, SFits}
 use Rattle.geometry_model.specs.Points.{Point, same_point, least_form}
 use Rattle.fraction.specs.Ranges.{IsInRange, meeting_limit}
-use Rattle.noding.proofs.Bounds.{weights_fit, sum_in_range, least_within}
+use Rattle.noding.proofs.MeetBounds.{weights_fit, sum_in_range, least_within}
 use Rattle.noding.proofs.crossing_products.point_between.Goals as goal
 
 -- what the words of three numbers are read as

@@ -1,5 +1,5 @@
 use Rattle.std.proofs.lemmas.Int.{to_z-of_z}
-use Rattle.noding.proofs.Bounds.{sum_fits}
+use Rattle.noding.proofs.MeetBounds.{sum_fits}
 use Rattle.noding.proofs.crossing_products.weighted_sum.Goals as goal
 
 pub overflow_add-result : goal.overflow_add-result

@@ -3,7 +3,7 @@ use Rattle.geometry_model.specs.Points.{point_at}
 use Rattle.geometry_model.specs.CutPoints.{IsCut}
 use Rattle.geometry_model.specs.Pieces.{IsPiece, stretches}
 use Rattle.noding.specs.Nodings.{piece_of, IsNodeTriple, HasNodeTriples, ListsCuts, ListsPieces, AscendingPoints, AscendingPieces}
-use Rattle.noding.specs.Ranges.{overlapping_pairs}
+use Rattle.noding.specs.NodeRanges.{overlapping_pairs}
 use Rattle.noding.proofs.Counting.{pairs_in_order}
 use Rattle.noding.proofs.NodeSteps.{first_nodes, first_pieces, nodes_more, pieces_more, nodes_are_points, pieces_have_points, nodes_are_cuts, has_cuts, nodes_are_triples, pieces_are_pieces, has_pieces, pieces_have_triples, Row, row, all_gone, same_given, cuts_of_same, lists_cuts_of_same, pieces_of_same, lists_pieces_of_same}
 use Rattle.noding.proofs.Exact.{nodes_are_cut_points, pieces_are_listed}

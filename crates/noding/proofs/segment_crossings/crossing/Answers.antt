@@ -7,7 +7,7 @@ use Rattle.geometry_model.specs.Geometries.{Edge}
 use Rattle.geometry_model.specs.Sides.{side, on}
 use Rattle.fraction.specs.Ranges.{meeting_limit}
 use Rattle.noding.specs.Meetings.{IsMeeting}
-use Rattle.noding.proofs.Bounds.{WeightsFit, side_weights_fit}
+use Rattle.noding.proofs.MeetBounds.{WeightsFit, side_weights_fit}
 use Rattle.noding.proofs.Crossing.{edge, point_of, Straddles, crossing_is, apart_beside, straddling}
 use Rattle.noding.proofs.segment_crossings.crossing.Goals as goal
 

@@ -1,6 +1,6 @@
 use Rattle.std.proofs.Common.{◌∙◌, ◌+◌, ◌-◌, ◌^◌, get_or, arith, drop}
 use Rattle.std.proofs.lemmas.List.{get_or_default}
-use Rattle.noding.specs.Ranges.{overlaps_of_first, overlapping_pairs}
+use Rattle.noding.specs.NodeRanges.{overlaps_of_first, overlapping_pairs}
 use Rattle.noding.proofs.BreakPoints.{some_edge, swept_enough}
 use Rattle.noding.proofs.Counting.{pairs_go_on, no_pairs, count_over, count_done}
 use Rattle.noding.proofs.sweeps.sweep.Goals as goal

@@ -1,6 +1,6 @@
 use Rattle.std.proofs.Common.{◌≡◌, ◌≤◌, ◌+◌, ◌-◌, ◌^◌, min, length, drop, List}
 use Rattle.geometry_model.specs.Points.{Position}
-use Rattle.noding.specs.Ranges.{overlapping_pairs}
+use Rattle.noding.specs.NodeRanges.{overlapping_pairs}
 use Rattle.noding.specs.Sweeps.{SweptTo}
 use Rattle.noding.proofs.sweeps.sweep.Given as goal
 

@@ -6,7 +6,7 @@ use Rattle.std.proofs.lemmas.Cmp.{int_cmp_total}
 use Rattle.std.proofs.lemmas.Fn.{always_returns_same}
 use Rattle.std.proofs.lemmas.List.Sorted.{sorted_far, ranks_by}
 use Rattle.geometry_model.specs.Geometries.{Edge}
-use Rattle.noding.specs.Ranges.{least_x}
+use Rattle.noding.specs.NodeRanges.{least_x}
 use Rattle.noding.specs.Sweeps.{Ascends}
 use Rattle.noding.proofs.sweeps.sweep_order.Goals as goal
 

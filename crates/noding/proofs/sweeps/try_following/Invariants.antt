@@ -1,6 +1,6 @@
 use Rattle.std.proofs.Common.{◌≡◌, ◌≤◌, ◌+◌, ◌-◌, ◌^◌, min, length, drop, List}
 use Rattle.geometry_model.specs.Points.{Position}
-use Rattle.noding.specs.Ranges.{overlaps_with_first, overlaps_of_first}
+use Rattle.noding.specs.NodeRanges.{overlaps_with_first, overlaps_of_first}
 use Rattle.noding.specs.Sweeps.{SweptTo}
 use Rattle.noding.proofs.sweeps.try_following.Given as goal
 

@@ -12,7 +12,7 @@ pub conjuncts-returns-in_err-keep-clause-ok : goal.conjuncts-returns-in_err-keep
 conjuncts-returns-in_err-keep-clause-ok t c =
     let e = one_turn (λ n. parts_from fault.Syntax k.And (negation c.args.levels) n c.loop-turn.parts c.loop-turn.tokens) _ c.loop-turn._turn c.loop-turn-test.true c.loop-turn.invariant in
     let f = part_fails k.And (negation c.args.levels) (c.count-turn-end.result - (c.loop-turn._turn + 1)) c.loop-turn.parts c.keep.new.parts c.loop-turn.tokens c.negation.new.tokens c.negation.result c.keep.result _ c.negation.ensures c.keep.ensures.ok c.keep.ensures.err c.in_err-keep.was in
-    let told = λ (some : c.in_err-keep.field-0.0 ≢ fault.OutOfMemory). e ∙ f some in
+    let said = λ (some : c.in_err-keep.field-0.0 ≢ fault.OutOfMemory). e ∙ f some in
     rw c.in_ok-parts.was (first_of (search rules, grind (arith, common_steps)))
 
 pub conjuncts-loop-turn-preserved : goal.conjuncts-loop-turn-preserved
@@ -24,7 +24,7 @@ pub disjuncts-returns-in_err-keep-clause-ok : goal.disjuncts-returns-in_err-keep
 disjuncts-returns-in_err-keep-clause-ok t c =
     let e = one_turn (λ n. parts_from fault.Syntax k.Or (conjunction (negation c.args.levels)) n c.loop-turn.parts c.loop-turn.tokens) _ c.loop-turn._turn c.loop-turn-test.true c.loop-turn.invariant in
     let f = part_fails k.Or (conjunction (negation c.args.levels)) (c.count-turn-end.result - (c.loop-turn._turn + 1)) c.loop-turn.parts c.keep.new.parts c.loop-turn.tokens c.conjunction.new.tokens c.conjunction.result c.keep.result _ c.conjunction.ensures c.keep.ensures.ok c.keep.ensures.err c.in_err-keep.was in
-    let told = λ (some : c.in_err-keep.field-0.0 ≢ fault.OutOfMemory). e ∙ f some in
+    let said = λ (some : c.in_err-keep.field-0.0 ≢ fault.OutOfMemory). e ∙ f some in
     rw c.in_ok-parts.was (first_of (search rules, grind (arith, common_steps)))
 
 pub disjuncts-loop-turn-preserved : goal.disjuncts-loop-turn-preserved

@@ -16,8 +16,8 @@ by_beside false s t e f start end k h = absurd (let n : false ≡ true = k in cc
 by_beside true s t e f start end k h =
     let a : ℤ = side e.start e.end (point_at f.start) in
     let b : ℤ = side e.start e.end (point_at f.end) in
-    let told : true ≡ ((int_lt (pos 0) a && int_lt (pos 0) b) || (int_lt a (pos 0) && int_lt b (pos 0))) = rw (← start, ← end) h in
-    sym (none_beside e f (beside_from a b (sym told)))
+    let said : true ≡ ((int_lt (pos 0) a && int_lt (pos 0) b) || (int_lt a (pos 0) && int_lt b (pos 0))) = rw (← start, ← end) h in
+    sym (none_beside e f (beside_from a b (sym said)))
 
 pub returns-else-not-are_beside : goal.returns-else-not-are_beside
 returns-else-not-are_beside c =

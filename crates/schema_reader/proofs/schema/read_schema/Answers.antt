@@ -1,7 +1,7 @@
 use Rattle.std.proofs.Common.{Result, Ok, Err, IfOk, List, ℕ}
 use Rattle.grammar_laws.proofs.SchemaFirst.{first_is_given}
 use Rattle.grammar_laws.proofs.SchemaLaws.{given_is_schema, schema_is_given}
-use Rattle.grammar_laws.proofs.SchemaRefused.{given_stands}
+use Rattle.grammar_laws.proofs.SchemaRefused.{given_applies}
 use Rattle.table_model.specs.declared.definitions.TableDef.{TableDef}
 use Rattle.table_model.specs.declared.faults.SchemaFault.{SchemaFault}
 use Rattle.table_model.specs.declared.faults.SchemaFault.TheVariants as fault
@@ -23,8 +23,8 @@ returns-clause-ok c = is_schema c.args.text.now c.read.result c.read.ensures
 pub returns-clause-only : goal.returns-clause-only
 returns-clause-only c = schema_is_given shape_named c.args.text.now c.read.result c.read.ensures
 
-pub returns-clause-stands : goal.returns-clause-stands
-returns-clause-stands c = given_stands shape_named c.args.text.now c.read.result c.read.ensures
+pub returns-clause-applies : goal.returns-clause-applies
+returns-clause-applies c = given_applies shape_named c.args.text.now c.read.result c.read.ensures
 
 pub returns-clause-first : goal.returns-clause-first
 returns-clause-first c = first_is_given shape_named c.args.text.now c.read.result c.read.ensures

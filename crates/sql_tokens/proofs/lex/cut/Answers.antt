@@ -12,15 +12,15 @@ loop-at-init c = first_of (search rules, grind (arith, common_steps))
 
 pub loop-at-preserved : goal.loop-at-preserved
 loop-at-preserved c = record {
-  told = elim c.match-found.branch [
+  said = elim c.match-found.branch [
     | in-Some+in_ok-push+else-same_kind w ↦
         one_more c.args.strings c.loop-at.at c.args.text.now _ c.front-found.result w.in-Some.kind c.loop-at.tokens c.match-found.tokens _
         (take_rest c.args.text.now c.loop-at.at) c.front-found.ensures.value c.loop-at-test.true c.front-found.ensures.within.0 c.front-found.ensures.within.1
-        w.in-Some.is (cc) (cc (w.in_ok-push.ensures.ok, w.new-text.ensures, w.text_of.ensures)) c.loop-at.invariant.told
+        w.in-Some.is (cc) (cc (w.in_ok-push.ensures.ok, w.new-text.ensures, w.text_of.ensures)) c.loop-at.invariant.said
     | in_default w ↦
         rw w.tokens-is (none_more c.args.strings c.loop-at.at c.args.text.now _ c.front-found.result c.loop-at.tokens _
         (take_rest c.args.text.now c.loop-at.at) c.front-found.ensures.value c.loop-at-test.true c.front-found.ensures.within.0 c.front-found.ensures.within.1
-        w.in_default.is c.loop-at.invariant.told)
+        w.in_default.is c.loop-at.invariant.said)
   ];
   within = omega (arith, length-drop c.loop-at.at c.args.text.now, ap length (take_rest c.args.text.now c.loop-at.at));
 }

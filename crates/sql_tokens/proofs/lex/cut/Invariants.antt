@@ -4,7 +4,7 @@ use Rattle.sql_tokens.proofs.lex.cut.Given as goal
 
 abbrev pub invariant-loop-at : goal.invariant-loop-at
 invariant-loop-at l = record {
-  told : l.tokens ++ tokens_from l.strings 0 l.at (drop l.at l.text) ≡ tokens l.strings l.text;
+  said : l.tokens ++ tokens_from l.strings 0 l.at (drop l.at l.text) ≡ tokens l.strings l.text;
   within : l.at ≤ length l.text;
 }
 

@@ -11,7 +11,7 @@ use Rattle.table_model.specs.Places.{Choice, query_rows}
 use Rattle.table_model.specs.Truths.{related}
 use Rattle.table_model.specs.declared.conditions.GeometryArgument.TheVariants as arguments
 use Rattle.table_model.proofs.CondFolds.{cond_folds}
-use Rattle.table_model.proofs.WorkFacts.{answered_by}
+use Rattle.table_model.proofs.WorkFacts.{returned_by}
 use Rattle.table_model.proofs.answer_examples.equal_empty_geometries.Goals as goal
 
 -- the geometry is equal to the empty one
@@ -21,4 +21,4 @@ is_equal choice =
 
 pub returns : goal.returns
 unfolding digits
-returns c = answered_by (definition (codes "e") ∷ []) (empties ∷ []) (listing (0 ∷ []) equal_to_empty) is_equal _ (λ choice. simp cond_folds refl) refl
+returns c = returned_by (definition (codes "e") ∷ []) (empties ∷ []) (listing (0 ∷ []) equal_to_empty) is_equal _ (λ choice. simp cond_folds refl) refl

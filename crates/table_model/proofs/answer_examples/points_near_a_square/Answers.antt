@@ -12,7 +12,7 @@ use Rattle.table_model.specs.declared.conditions.Comparison.TheVariants.{Greater
 use Rattle.table_model.specs.declared.conditions.GeometryArgument.TheVariants as arguments
 use Rattle.table_model.specs.declared.values.Value.TheVariants as values
 use Rattle.table_model.proofs.CondFolds.{cond_folds}
-use Rattle.table_model.proofs.WorkFacts.{answered_by}
+use Rattle.table_model.proofs.WorkFacts.{returned_by}
 use Rattle.table_model.proofs.answer_examples.points_near_a_square.Goals as goal
 
 -- the key is above 99, or the point and the square have a point in common
@@ -28,8 +28,8 @@ is_near choice = is_true (related labelled_matrix Intersects (denoted (query_row
 
 pub returns-clause-near : goal.returns-clause-near
 unfolding digits
-returns-clause-near c = answered_by (definition (codes "big") ∷ []) big (listing (0 ∷ []) near) is_near _ (λ choice. simp cond_folds refl) refl
+returns-clause-near c = returned_by (definition (codes "big") ∷ []) big (listing (0 ∷ []) near) is_near _ (λ choice. simp cond_folds refl) refl
 
 pub returns-clause-far_or_near : goal.returns-clause-far_or_near
 unfolding digits
-returns-clause-far_or_near c = answered_by (definition (codes "big") ∷ []) big (listing (0 ∷ []) far_or_near) is_far_or_near _ (λ choice. simp cond_folds refl) refl
+returns-clause-far_or_near c = returned_by (definition (codes "big") ∷ []) big (listing (0 ∷ []) far_or_near) is_far_or_near _ (λ choice. simp cond_folds refl) refl

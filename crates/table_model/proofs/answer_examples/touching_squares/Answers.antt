@@ -9,7 +9,7 @@ use Rattle.table_model.specs.PlanExamples.{squares, touching, geometry, listing,
 use Rattle.table_model.specs.Places.{Choice, query_rows}
 use Rattle.table_model.specs.Truths.{related}
 use Rattle.table_model.proofs.CondFolds.{cond_folds}
-use Rattle.table_model.proofs.WorkFacts.{answered_by}
+use Rattle.table_model.proofs.WorkFacts.{returned_by}
 use Rattle.table_model.proofs.answer_examples.touching_squares.Goals as goal
 
 -- the squares touch
@@ -19,4 +19,4 @@ touch choice =
 
 pub returns : goal.returns
 unfolding digits
-returns c = answered_by (definition (codes "sq") ∷ []) (squares ∷ []) (listing (0 ∷ 1 ∷ []) touching) touch _ (λ choice. simp cond_folds refl) refl
+returns c = returned_by (definition (codes "sq") ∷ []) (squares ∷ []) (listing (0 ∷ 1 ∷ []) touching) touch _ (λ choice. simp cond_folds refl) refl

@@ -15,7 +15,7 @@ use Rattle.table_model.specs.Work.{work}
 use Rattle.table_model.specs.declared.conditions.GeometryArgument.TheVariants as arguments
 use Rattle.table_model.specs.declared.plans.Plan.{Plan}
 use Rattle.table_model.proofs.CondFolds.{cond_folds}
-use Rattle.table_model.proofs.WorkFacts.{both, work_of_one, analyzed_is, answered_by}
+use Rattle.table_model.proofs.WorkFacts.{both, work_of_one, analyzed_is, returned_by}
 use Rattle.table_model.proofs.limit_examples.counted_rows.Goals as goal
 
 -- the point and the square have a point in common
@@ -50,8 +50,8 @@ returns-clause-limited_text c = analyzed_is big (limit_to 1 (counting near)) pro
 
 pub returns-clause-records : goal.returns-clause-records
 unfolding digits
-returns-clause-records c = answered_by (definition (codes "big") ∷ []) big (counting near) passes _ (λ choice. simp cond_folds refl) refl
+returns-clause-records c = returned_by (definition (codes "big") ∷ []) big (counting near) passes _ (λ choice. simp cond_folds refl) refl
 
 pub returns-clause-limited_records : goal.returns-clause-limited_records
 unfolding digits
-returns-clause-limited_records c = answered_by (definition (codes "big") ∷ []) big (limit_to 1 (counting near)) passes _ (λ choice. simp cond_folds refl) refl
+returns-clause-limited_records c = returned_by (definition (codes "big") ∷ []) big (limit_to 1 (counting near)) passes _ (λ choice. simp cond_folds refl) refl

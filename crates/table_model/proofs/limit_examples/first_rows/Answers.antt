@@ -19,7 +19,7 @@ use Rattle.table_model.specs.declared.conditions.GeometryArgument.TheVariants as
 use Rattle.table_model.specs.declared.values.Value.TheVariants as values
 use Rattle.table_model.specs.declared.plans.Plan.{Plan}
 use Rattle.table_model.proofs.CondFolds.{cond_folds}
-use Rattle.table_model.proofs.WorkFacts.{both, work_of_one, analyzed_is, work_up_to, answered_by}
+use Rattle.table_model.proofs.WorkFacts.{both, work_of_one, analyzed_is, work_up_to, returned_by}
 use Rattle.table_model.proofs.limit_examples.first_rows.Goals as goal
 
 -- the key is above 99, or the point and the square have a point in common
@@ -69,4 +69,4 @@ returns-clause-after_one c = ap (option_map (λ plan. work_to_row labelled_matri
 
 pub returns-clause-records : goal.returns-clause-records
 unfolding digits
-returns-clause-records c = answered_by (definition (codes "big") ∷ []) big (listing (0 ∷ []) (limit_to 2 far_or_near)) passes _ (λ choice. simp cond_folds refl) refl
+returns-clause-records c = returned_by (definition (codes "big") ∷ []) big (listing (0 ∷ []) (limit_to 2 far_or_near)) passes _ (λ choice. simp cond_folds refl) refl

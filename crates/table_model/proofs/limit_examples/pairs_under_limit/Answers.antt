@@ -16,7 +16,7 @@ use Rattle.table_model.specs.declared.conditions.Comparison.TheVariants.{NotEqua
 use Rattle.table_model.specs.declared.values.Value.TheVariants as values
 use Rattle.table_model.specs.declared.plans.Plan.{Plan}
 use Rattle.table_model.proofs.CondFolds.{cond_folds}
-use Rattle.table_model.proofs.WorkFacts.{both, work_of_one, work_of_two, analyzed_is, work_up_to, answered_by}
+use Rattle.table_model.proofs.WorkFacts.{both, work_of_one, work_of_two, analyzed_is, work_up_to, returned_by}
 use Rattle.table_model.proofs.limit_examples.pairs_under_limit.Goals as goal
 
 abbrev pairs : List (Table Geometry)
@@ -47,7 +47,7 @@ passes choice =
 
 pub returns-clause-records : goal.returns-clause-records
 unfolding digits
-returns-clause-records c = answered_by (definition (codes "big") ∷ definition (codes "sq") ∷ []) pairs (listing (0 ∷ 1 ∷ []) (limit_to 1 joined)) passes _ (λ choice. simp cond_folds refl) refl
+returns-clause-records c = returned_by (definition (codes "big") ∷ definition (codes "sq") ∷ []) pairs (listing (0 ∷ 1 ∷ []) (limit_to 1 joined)) passes _ (λ choice. simp cond_folds refl) refl
 
 abbrev alone : List (Table Geometry)
 alone = squares ∷ []

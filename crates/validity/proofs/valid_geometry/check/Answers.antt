@@ -27,6 +27,6 @@ returns-in_default c =
       parted = brings found none (λ n. rings_part_there geometry (no_fault_valid geometry n));
       sides = brings found none (λ n. rings_have_sides geometry (no_fault_valid geometry n));
       fault = c.of_larger.ensures.fault;
-      stands = c.of_larger.ensures.stands;
+      applies = c.of_larger.ensures.applies;
       first = c.of_larger.ensures.first;
     }

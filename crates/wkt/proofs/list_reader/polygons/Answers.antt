@@ -22,10 +22,10 @@ pub returns-in_err-rings : goal.returns-in_err-rings
 returns-in_err-rings c =
     let is : c.from_residual.result ≡ Err c.in_err-rings.field-0.0 = first_of (search rules, grind (arith, common_steps)) in
     rw is
-    (λ fault told. ap (λ r. and_then r (λ found. pure found.0))
+    (λ fault said. ap (λ r. and_then r (λ found. pure found.0))
     (c.loop-polygons.invariant.read
     ∙ made_fails polygon itself (map without_repeats) c.loop-polygons.polygons c.loop-polygons.invariant.turns c.loop-polygons.room c.loop-polygons.cursor fault
-    (sym (polygon_made c.loop-polygons.room c.loop-polygons.cursor) ∙ c.in_err-rings.ensures.read fault told)))
+    (sym (polygon_made c.loop-polygons.room c.loop-polygons.cursor) ∙ c.in_err-rings.ensures.read fault said)))
 
 pub returns-then-not-eat : goal.returns-then-not-eat
 returns-then-not-eat c =

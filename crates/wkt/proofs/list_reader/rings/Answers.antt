@@ -21,9 +21,9 @@ pub returns-in_err-ring-clause-read : goal.returns-in_err-ring-clause-read
 returns-in_err-ring-clause-read c =
     let is : c.from_residual.result ≡ Err c.in_err-ring.field-0.0 = first_of (search rules, grind (arith, common_steps)) in
     rw is
-    (λ fault told. c.loop-rings.invariant.read
+    (λ fault said. c.loop-rings.invariant.read
     ∙ made_fails ring alone without_repeats c.loop-rings.rings.items c.loop-rings.room.parts c.loop-rings.room c.loop-rings.cursor fault
-    (sym (ring_made c.loop-rings.room c.loop-rings.cursor) ∙ c.in_err-ring.ensures.read fault told))
+    (sym (ring_made c.loop-rings.room c.loop-rings.cursor) ∙ c.in_err-ring.ensures.read fault said))
 
 pub returns-then-not-eat-clause-read : goal.returns-then-not-eat-clause-read
 returns-then-not-eat-clause-read c =

@@ -4,7 +4,7 @@ use Rattle.std.proofs.lemmas.Grind.{common_steps}
 use Rattle.geometry_model.specs.TextReading.{read_text}
 use Rattle.geometries.specs.Shapes.{geometry_in}
 use Rattle.geometries.specs.TextFaults.{text_fault}
-use Rattle.wkt.proofs.Wholes.{found_is, found_spells, found_is_kept, found_alone, found_again, fault_is, fault_is_memory, fault_stands}
+use Rattle.wkt.proofs.Wholes.{found_is, found_spells, found_is_kept, found_alone, found_again, fault_is, fault_is_memory, fault_applies}
 use Rattle.wkt.proofs.reading.read.Goals as goal
 
 pub kept-requires : goal.kept-requires
@@ -25,7 +25,7 @@ returns-in_err-shape-clause-read c =
 pub returns-in_err-shape-clause-refusal : goal.returns-in_err-shape-clause-refusal
 returns-in_err-shape-clause-refusal c =
     let is : c.from_residual.result ≡ Err c.in_err-shape.field-0.0 = first_of (search rules, grind (arith, common_steps)) in
-    rw is (fault_stands c.args.text.now (text_fault c.in_err-shape.field-0.0) (fault_is c.args.text.now c.in_err-shape.field-0.0 (rw c.new-cursor.ensures at c.in_err-shape.ensures)))
+    rw is (fault_applies c.args.text.now (text_fault c.in_err-shape.field-0.0) (fault_is c.args.text.now c.in_err-shape.field-0.0 (rw c.new-cursor.ensures at c.in_err-shape.ensures)))
 
 pub returns-clause-ok : goal.returns-clause-ok
 returns-clause-ok c =

@@ -1,0 +1,82 @@
+//! Runs over pairs of geometries, pages of faults, and texts that words give.
+
+use failures::Failure;
+use fault_pages::page_of;
+use pair_runs::{Pairs, relate_pairs};
+use sinks::MemorySink;
+use std::test::Fail;
+use table_model::faults::{LoadFault, QueryFault};
+use word_texts::{geometry_text, query_text};
+
+const SQUARE: &str = "POLYGON((0 0,4 0,4 4,0 4,0 0))";
+
+#[test]
+fn each_pair_has_a_line(rt: HostRuntime) -> Result<(), Fail> {
+    let text = b"\"POLYGON((0 0,4 0,4 4,0 4,0 0))\",POINT(1 1)\nPOINT(1 1),POINT(1 1)\n".as_slice();
+    let mut out = MemorySink::new(rt.alloc());
+    let ended = relate_pairs(rt.alloc(), text, &mut out);
+    assert!(rt; matches!(ended, Ok(Pairs::AllRelated)));
+    assert!(rt; out.bytes() == b"0F2FF1FF2\n0FFFFFFF2\n".as_slice());
+    Ok(())
+}
+
+/// A refused geometry has its line, and the run goes on. A record of another length ends it.
+#[test]
+fn refusals_are_lines(rt: HostRuntime) -> Result<(), Fail> {
+    let text = b"POINT(1 1),\"LINESTRING(3 3,3 3)\"\nPOINT(1,POINT(1 1)\nPOINT(1 1)\n".as_slice();
+    let mut out = MemorySink::new(rt.alloc());
+    let ended = relate_pairs(rt.alloc(), text, &mut out);
+    assert!(rt;
+        matches!(
+            ended,
+            Err(Failure::Load("pairs", LoadFault::UnequalRecord(3)))
+        )
+    );
+    assert!(rt; out.bytes() == b"second V1 0\nfirst W1 at 7\n".as_slice());
+    Ok(())
+}
+
+#[test]
+fn each_code_has_its_page(rt: HostRuntime) -> Result<(), Fail> {
+    assert!(rt; matches!(page_of("q12"), Some(page) if page.starts_with("Q12: ")));
+    assert!(rt; page_of("Q13").is_none() && page_of("").is_none());
+    Ok(())
+}
+
+#[test]
+fn words_give_texts(rt: HostRuntime) -> Result<(), Fail> {
+    let mut opener = |path: &str| -> Option<&[u8]> {
+        if path == "square.wkt" {
+            Some(SQUARE.as_bytes())
+        } else {
+            None
+        }
+    };
+    assert!(rt; geometry_text(rt.alloc(), "POINT(1 2)", "first", &mut opener).is_ok());
+    assert!(rt; geometry_text(rt.alloc(), "@square.wkt", "first", &mut opener).is_ok());
+    let lost = geometry_text(rt.alloc(), "@nowhere", "second", &mut opener);
+    assert!(rt; matches!(lost, Err(Failure::Unreadable("second"))));
+    Ok(())
+}
+
+// The text of each file.
+fn text_of<'t>(_path: &str, text: &'t [u8]) -> Option<&'t [u8]> {
+    Some(text)
+}
+
+#[test]
+fn a_word_gives_a_query_of_the_greatest_length(rt: HostRuntime) -> Result<(), Fail> {
+    let text = vec![in rt.alloc(); b' '; 65_536]?;
+    let mut opener = |path: &str| text_of(path, text.as_slice());
+    assert!(rt; query_text(rt.alloc(), "@at.sql", &mut opener).is_ok());
+    Ok(())
+}
+
+#[test]
+fn a_longer_query_is_refused(rt: HostRuntime) -> Result<(), Fail> {
+    let text = vec![in rt.alloc(); b' '; 65_537]?;
+    let mut opener = |path: &str| text_of(path, text.as_slice());
+    let refused = query_text(rt.alloc(), "@past.sql", &mut opener);
+    assert!(rt; matches!(refused, Err(Failure::Query(QueryFault::TooLong))));
+    Ok(())
+}

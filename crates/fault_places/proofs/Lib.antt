@@ -1,0 +1,5 @@
+pub mod RingNumbers
+pub mod InsideFacts
+pub mod PartFacts
+pub mod PlaceFacts
+pub mod MeetingFacts

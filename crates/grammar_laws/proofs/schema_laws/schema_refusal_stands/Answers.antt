@@ -1,5 +1,0 @@
-use Rattle.grammar_laws.proofs.SchemaRefused.{schema_of_stands}
-use Rattle.grammar_laws.proofs.schema_laws.schema_refusal_stands.Goals as goal
-
-pub returns : goal.returns
-returns g c = schema_of_stands

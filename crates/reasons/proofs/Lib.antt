@@ -1,0 +1,4 @@
+pub mod DivisorLemmas
+pub mod FractionLemmas
+pub mod TextLemmas
+pub mod FaultTextLemmas

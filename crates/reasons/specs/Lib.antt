@@ -1,0 +1,4 @@
+pub mod PointTexts
+pub mod FractionLaws
+pub mod WitnessTexts
+pub mod FaultTexts

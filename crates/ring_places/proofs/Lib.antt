@@ -1,0 +1,2 @@
+pub mod SharedFacts
+pub mod ClashFacts

@@ -1,5 +1,0 @@
-use Rattle.text_laws.proofs.RefusedTexts.{refusal_is_answered}
-use Rattle.text_laws.proofs.refusals.refusal_is_answered.Goals as goal
-
-pub returns : goal.returns
-returns c = refusal_is_answered

@@ -1,5 +1,0 @@
-use Rattle.text_laws.proofs.RefusedTexts.{syntax_is_answered}
-use Rattle.text_laws.proofs.refusals.syntax_is_answered.Goals as goal
-
-pub returns : goal.returns
-returns c = syntax_is_answered

@@ -1,0 +1,85 @@
+"""The pages of `sfq fault` are those of docs/FAULTS.md, and their examples give the lines that they explain."""
+import re
+import subprocess
+import tempfile
+import unittest
+
+from support import ROOT, needs_build, read
+import fault_pages
+import printed
+import repository
+
+
+def words_of(text):
+    return " ".join(text.split())
+
+
+def examples_of(page):
+    """Returns the line and the commands of each example of a page."""
+    found = []
+    for part in page.split("\n\n"):
+        lines = part.split("\n")
+        if "  example:" in lines:
+            at = lines.index("  example:") + 1
+            end = next(it for it in range(at, len(lines)) if lines[it].startswith("  to do:"))
+            found.append((lines[0], "\n".join(it[4:] for it in lines[at:end])))
+    return found
+
+
+class Pages(unittest.TestCase):
+    def test_the_files_are_made_of_the_document(self):
+        self.assertEqual(fault_pages.stale(), [], "run python3 tools/fault_pages.py")
+
+    def test_each_code_of_the_document_has_a_page_and_no_other(self):
+        codes = set(re.findall(r"`sfq: [^`]*?\b([SLQWV]\d+)\b", read(f"{ROOT}/docs/FAULTS.md")))
+        self.assertEqual(set(fault_pages.pages()), codes)
+        listed = re.findall(r"^    FaultCode::([A-Z]\d+),$", read(f"{ROOT}/crates/fault_pages/src/fault_codes.rt"), re.M)
+        self.assertEqual(sorted(listed), sorted(codes))
+        self.assertEqual(len(codes), 41)
+
+    def test_each_page_has_the_words_of_its_rows(self):
+        rows = fault_pages.rows_of(read(f"{ROOT}/docs/FAULTS.md"))
+        self.assertGreater(len(rows), 45)
+        pages = fault_pages.pages()
+        for it in rows:
+            page = words_of(pages[it.code])
+            for part in (it.line, f"means: {it.means}", f"to do: {it.remedy}"):
+                self.assertIn(part, page, it.code)
+        for code, page in pages.items():
+            self.assertTrue(page.startswith(f"{code}: "), code)
+            self.assertLessEqual(max(map(len, page.split("\n"))), 78, code)
+            self.assertNotRegex(page, r"[`\t]|\]\(", code)
+
+    def test_each_text_of_an_example_is_in_its_page(self):
+        """What the tests of the documents run as an example of a line, its page shows."""
+        with tempfile.TemporaryDirectory(prefix="sfq-pages-") as room:
+            shown = printed.Faults(room).read("docs/FAULTS.md", read(f"{ROOT}/docs/FAULTS.md"))
+        lines = {it.text.strip() for it in shown}
+        for code, page in fault_pages.pages().items():
+            for line, _ in examples_of(page):
+                self.assertIn(line, lines, code)
+
+
+class Examples(unittest.TestCase):
+    """Each example of a page, run by a shell in a folder of its own."""
+
+    ASKS_PROGRAM = True
+
+    @needs_build
+    def test_each_example_gives_its_line(self):
+        count = 0
+        for code, page in fault_pages.pages().items():
+            for line, commands in examples_of(page):
+                with self.subTest(code=code, line=line), tempfile.TemporaryDirectory(prefix="sfq-page-") as room:
+                    if code[0] == "Q":
+                        printed.Faults(room).database(printed.Faults.QUERIED, "id,pop,name,geom\n")
+                        room = f"{room}/1"
+                    script = f'sfq() {{ "{repository.PROGRAM}" "$@"; }}\n{commands}\n'
+                    ran = subprocess.run(["bash", "-c", script], cwd=room, capture_output=True, text=True)
+                    self.assertEqual(ran.stderr, line + "\n")
+                    count += 1
+        self.assertGreater(count, 35)
+
+
+if __name__ == "__main__":
+    unittest.main()
