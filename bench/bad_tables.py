@@ -4,6 +4,7 @@ Each function takes a number of rows, and returns the tables, the query and the 
 number of rows.
 """
 
+import math
 import random
 from typing import NamedTuple, Optional
 
@@ -209,6 +210,24 @@ def short_lines_and_star(count):
 def small_squares_and_star(count):
     """Small squares, and one large star."""
     return beside_star(count, lambda x, y: box(x, y, 40, 30))
+
+
+def small_squares_and_line(count):
+    """Small squares anywhere, and one line of as many positions, to and fro over all of it."""
+    per_row = 1 + math.isqrt(count)
+    places = [divmod(k, per_row) for k in range(min(count, 9_999))]
+    spots = [(column if row % 2 == 0 else per_row - 1 - column, row) for row, column in places]
+    text = ",".join(f"{2 * SPAN * x // per_row - SPAN} {2 * SPAN * y // per_row - SPAN}" for x, y in spots)
+    return of_shapes(scattered(count, lambda x, y: box(x, y, 40, 30)), [f'"LINESTRING({text})"'])
+
+
+def lines_over_teeth(count):
+    """Lines over 70 teeth of one zigzag of as many positions as there are lines."""
+    teeth = min(count, 9_999)
+    chance = random.Random(count)
+    places = [100 * chance.randrange(max(1, teeth - 70)) for _ in range(count)]
+    text = ",".join(f"{100 * k} {k % 2 * 1_000}" for k in range(teeth))
+    return of_shapes([edge(x, 500, 7_000, 1) for x in places], [f'"LINESTRING({text})"'])
 
 
 def points_with_numbers(count, per):

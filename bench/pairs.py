@@ -1,9 +1,10 @@
 #!/usr/bin/env python3
 """Relates random pairs of each two types in two ways, by edges and by labels, and lists where the matrices differ.
 
-Geometries are drawn on a small grid, where they touch, overlap and share edges often. For each two types it draws until 10,000
-pairs are valid, prints the seed, how many were drawn and how many different matrices there were, and ends with status 1
-where two matrices of a pair differ. The seed of two types doesn't depend on what ran before.
+Geometries are drawn on a small grid, where they touch, overlap and share edges often. Some lines and areas have many edges,
+which reach beyond it. For each two types it draws until 10,000 pairs are valid, prints the seed, how many were drawn and how many
+different matrices there were, and ends with status 1 where two matrices of a pair differ. The seed of two types doesn't depend on
+what ran before.
 
 It needs Python's standard library and the built program: run `rt run` once in crates/gauge. The gate doesn't run it.
 """
@@ -16,6 +17,9 @@ import sys
 from gauged import GAUGE
 
 GRID = 7
+# How far geometries of many edges reach, and how often they are drawn.
+REACH = 30
+MANY = 0.2
 
 
 def position(chance):
@@ -29,7 +33,9 @@ def listed(positions):
 
 
 def draw_line(chance):
-    """The positions of a line, at times a closed one."""
+    """The positions of a line, at times a closed one, or of many edges."""
+    if chance.random() < MANY:
+        return draw_long_line(chance)
     positions = [position(chance) for _ in range(chance.randint(2, 5))]
     return positions + positions[:1] if chance.random() < 0.3 else positions
 
@@ -44,8 +50,33 @@ def draw_ring(chance, low=0, high=GRID):
     return corners + corners[:1]
 
 
+def draw_long_line(chance):
+    """The positions of a line of many edges, at times of short ones, at times a closed one."""
+    step = chance.choice((1, 3, REACH))
+    x, y = position(chance)
+    positions = [(x, y)]
+    for _ in range(chance.randint(20, 40)):
+        x, y = (min(max(at + chance.randint(-step, step), 0), REACH) for at in (x, y))
+        positions.append((x, y))
+    return positions + positions[:1] if chance.random() < 0.3 else positions
+
+
+def draw_long_ring(chance, low=0, high=GRID):
+    """A ring of many edges, from left to right and back; it begins at any of its positions."""
+    middle = chance.randint(low + 1, high)
+    right = chance.randint(12, REACH)
+    lower = [(x, chance.randint(low, middle - 1)) for x in range(right)]
+    upper = [(x, chance.randint(middle, high)) for x in reversed(range(right))]
+    corners = lower + upper
+    begin = chance.randrange(len(corners))
+    corners = (corners[begin:] + corners[:begin])[:: chance.choice((1, -1))]
+    return corners + corners[:1]
+
+
 def draw_rings(chance, low=0, high=GRID):
-    """The rings of a polygon, at times with a hole."""
+    """The rings of a polygon, at times with a hole, or one of many edges."""
+    if chance.random() < MANY:
+        return [draw_long_ring(chance, low, high)]
     if chance.random() < 0.3 and high - low >= 4:
         outer = [(low, low), (high, low), (high, high), (low, high), (low, low)]
         return [outer, draw_ring(chance, low + 1, high - 1)]

@@ -137,6 +137,8 @@ SPATIAL = (
     Input("points on a scribble", tables.points_on_scribble, 5_000, 200),
     Input("short lines and one star", tables.short_lines_and_star, 4_900, 300),
     Input("small squares and one star", tables.small_squares_and_star, 4_900, 300),
+    Input("small squares and one line", tables.small_squares_and_line, 4_900, 300),
+    Input("lines over 70 teeth of one zigzag", tables.lines_over_teeth, 4_900, 300),
     Input("one point in every row, and equal numbers", tables.one_point_and_numbers, 5_000, 200),
     Input("one point in every row, each number in 65", tables.one_point_and_frequent_numbers, 2_600, 260),
     Input("NULL in every row, behind a predicate that counts", tables.nulls_behind_predicate, 500, 60),

@@ -3,7 +3,7 @@ _sfq() {
     local word=${COMP_WORDS[COMP_CWORD]} command=${COMP_WORDS[1]-}
     COMPREPLY=()
     if ((COMP_CWORD == 1)); then
-        mapfile -t COMPREPLY < <(compgen -W 'run check relate help -h --help -V --version' -- "$word")
+        mapfile -t COMPREPLY < <(compgen -W 'run check relate why pairs fault help -h --help -V --version' -- "$word")
         return
     fi
     if [[ $word == -* ]]; then
@@ -20,11 +20,15 @@ _sfq() {
         mapfile -t COMPREPLY < <(compgen -d -- "$word")
         ;;
     run:4) mapfile -t COMPREPLY < <(compgen -W 'SELECT EXPLAIN' -- "$word") ;;
-    relate:2 | relate:3)
+    relate:2 | relate:3 | why:2 | why:3)
         mapfile -t COMPREPLY < <(compgen -W \
             'POINT( MULTIPOINT( LINESTRING( MULTILINESTRING( POLYGON( MULTIPOLYGON(' -- "$word")
         ;;
-    help:2) mapfile -t COMPREPLY < <(compgen -W 'run check relate help' -- "$word") ;;
+    pairs:2)
+        compopt -o filenames
+        mapfile -t COMPREPLY < <(compgen -f -- "$word")
+        ;;
+    help:2) mapfile -t COMPREPLY < <(compgen -W 'run check relate why pairs fault help' -- "$word") ;;
     esac
 }
 complete -F _sfq sfq

@@ -1,5 +1,5 @@
 # Completion of sfq for fish.
-set -l commands run check relate help
+set -l commands run check relate why pairs fault help
 set -l geometries 'POINT(' 'MULTIPOINT(' 'LINESTRING(' 'MULTILINESTRING(' 'POLYGON(' 'MULTIPOLYGON('
 
 complete -c sfq -f
@@ -8,7 +8,10 @@ complete -c sfq -n __fish_use_subcommand -s V -l version -d 'Print the version'
 complete -c sfq -n __fish_use_subcommand -a run -d 'Write the rows that a SELECT means, as CSV'
 complete -c sfq -n __fish_use_subcommand -a check -d 'Load every table, and print how many rows each has'
 complete -c sfq -n __fish_use_subcommand -a relate -d 'Write the DE-9IM matrix of two geometries'
+complete -c sfq -n __fish_use_subcommand -a why -d 'Show where two geometries meet, or why one is not valid'
+complete -c sfq -n __fish_use_subcommand -a pairs -d 'Write the DE-9IM matrix of each pair of geometries in a file'
+complete -c sfq -n __fish_use_subcommand -a fault -d 'Explain a fault'
 complete -c sfq -n __fish_use_subcommand -a help -d 'Print help'
-complete -c sfq -n '__fish_seen_subcommand_from run check' -F
-complete -c sfq -n '__fish_seen_subcommand_from relate' -a "$geometries"
+complete -c sfq -n '__fish_seen_subcommand_from run check pairs' -F
+complete -c sfq -n '__fish_seen_subcommand_from relate why' -a "$geometries"
 complete -c sfq -n '__fish_seen_subcommand_from help' -a "$commands"

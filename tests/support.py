@@ -18,7 +18,8 @@ import repository
 
 # Calls whose answers tests look at, beside those that documents show.
 HELP_CALLS = [
-    [], ["--help"], ["--version"], ["run", "--help"], ["check", "-h"], ["help", "relate"], ["rum"], ["relate", "POINT(1 1)"],
+    [], ["--help"], ["--version"], ["run", "--help"], ["check", "-h"], ["help", "relate"], ["why", "--help"], ["help", "pairs"],
+    ["rum"], ["relate", "POINT(1 1)"],
 ]
 
 # A stand-in for `rt`. It notes each call, and does what the file `behaviour` beside it says, a piece of Python.

@@ -85,6 +85,29 @@ class AnswersUnproved(WithCheckout):
             ran = self.checkout.run(["sfq", "check", "pipe", "tables"], folder=self.folder)
         self.assertTrue(ran.stdout.startswith(b"TABLE t\n"))
 
+    def test_files_of_texts_are_handed_in(self):
+        self.checkout.behave(
+            "named = words[words.index('--') + 1:]\n"
+            "texts = [open(data[it.lstrip('@')]).read() for it in named[1:] if it.lstrip('@') in data]\n"
+            f"finish(str(texts), '{ended(0)}', 0)"
+        )
+        for name, text in (("square", "POLYGON"), ("@", "POINT"), ("-", "LINESTRING")):
+            write(f"{self.folder}/{name}", text)
+        for words, wanted in (
+            (["relate", "@square", "@./-"], ["POLYGON", "LINESTRING"]),
+            (["why", "@@"], ["POINT"]),
+            (["why", "@-", "@-"], ["given", ""]),
+            (["relate", "square", "@none"], []),
+            (["pairs", "square"], ["POLYGON"]),
+            (["pairs", "@"], ["POINT"]),
+            (["pairs", "-"], ["given"]),
+            (["run", "schema.sql", "tables", "@square"], [read(f"{self.folder}/schema.sql"), "POLYGON"]),
+            (["check", "-", "tables"], ["LINESTRING"]),
+        ):
+            ran = self.checkout.run(["sfq", *words], folder=self.folder, given=b"given")
+            found = eval(ran.stdout)
+            self.assertEqual(sorted(found), sorted(wanted), words)
+
     def test_what_is_missing_is_left_to_the_program(self):
         self.checkout.behave(f"finish(str(len(data)), 'sfq: schema unreadable\\n{ended(6)}', 6)")
         for words in (["run", "nothing.sql", "tables", "q"], ["check", "tables", "nowhere"], ["check", "", ""]):

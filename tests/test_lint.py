@@ -84,6 +84,15 @@ class Refused(unittest.TestCase):
         code = CLEAN["crates/one/src/lib.rt"].replace("/// The number one.\n", "")
         self.refused("crates/one/src/lib.rt", code, 4, "one is public")
 
+    def test_a_private_item_with_another_comment(self):
+        code = CLEAN["crates/one/src/lib.rt"] + "\n// The number two.\nfn two() -> u64\n{\n    2\n}\n"
+        self.refused("crates/one/src/lib.rt", code, 10, "///")
+
+    def test_another_form_of_a_clause(self):
+        for clause in [". (SQL, LIMIT.)", " (OGC 06-103r4, 6.1)."]:
+            code = CLEAN["crates/one/src/lib.rt"].replace("one.\npub", f"one{clause}\npub")
+            self.refused("crates/one/src/lib.rt", code, 4, "clause of a standard")
+
     def test_an_edit_that_does_not_apply(self):
         edit = "file: src/lib.rt\nold: 3\nnew: 4\n"
         self.refused("crates/one/must-fail/two.edit", edit, 2, "0 times")

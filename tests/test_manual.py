@@ -89,7 +89,9 @@ class Help(unittest.TestCase):
         whole = helps["--help",].out.decode()
         self.assertEqual(helps[()].status, 2)
         self.assertEqual((helps[()].out, helps[()].err.decode()), (b"", whole))
-        for words, name in ((("run", "--help"), "run"), (("check", "-h"), "check"), (("help", "relate"), "relate")):
+        asking = ("run", "--help"), ("check", "-h"), ("help", "relate"), ("why", "--help"), ("help", "pairs")
+        for words in asking:
+            name = next(it for it in words if it.isalpha() and it != "help")
             text, status = helps[words].out.decode(), helps[words].status
             self.assertEqual(status, 0)
             self.assertRegex(text, rf"(?m)^Usage: sfq {name} ")
@@ -126,6 +128,7 @@ class Completions(unittest.TestCase):
         self.assertEqual(self.complete("sfq", "help", "c"), ["check"])
         self.assertEqual(self.complete("sfq", "run", "-"), ["-h", "--help"])
         self.assertIn("POLYGON(", self.complete("sfq", "relate", "P"))
+        self.assertIn("POLYGON(", self.complete("sfq", "why", "POINT(1 1)", "P"))
         with tempfile.TemporaryDirectory() as room:
             os.mkdir(f"{room}/tables")
             for it in ("schema.sql", "t.csv"):

@@ -94,7 +94,7 @@ class Page(unittest.TestCase):
         needed = proved_page.needed(public)
         self.assertGreater(len(needed), 50)
         self.assertLess({"relate", "Table::load", "RTree::search", "spatial_sql::bind"}, set(needed))
-        page = proved_page.read(proved_page.PAGE)
+        page = proved_page.text_of_pages()
         self.assertGreater(len(proved_page.rows_of(page)), 40)
         self.assertEqual(proved_page.wrong_clauses(page, functions), [])
         tests = proved_page.listed(proved_page.read(proved_page.LIST))
@@ -104,8 +104,9 @@ class Page(unittest.TestCase):
     def test_one_call_makes_a_matrix(self):
         functions, public = proved_page.all_functions()
         makers = {it.name for it in public if re.search(r"\bMatrix\b", it.signature.partition("->")[2])}
-        self.assertEqual(makers, {"relate", "relate_texts"})
-        self.assertIn("relate", proved_page.reached("relate_texts", functions))
+        self.assertEqual(makers, {"relate", "relate_texts", "matrix_of"})
+        for it in makers - {"relate"}:
+            self.assertIn("relate", proved_page.reached(it, functions))
         self.assertRegex(proved_page.read(f"{ROOT}/crates/de9im/src/matrix.rt"), r"pub struct Matrix \{\n    cells: MatrixCells,\n\}")
 
     def test_functions_of_a_source(self):

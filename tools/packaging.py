@@ -1,4 +1,5 @@
-"""Installs the program with its manual page and its shell completions, and makes a tarball and a Debian package of them."""
+"""Installs the program with its manual page and its shell completions, and the C library with what is over it where it is made; makes a
+tarball and a Debian package of the program."""
 import datetime
 import gzip
 import io
@@ -9,6 +10,8 @@ import subprocess
 import tarfile
 import tempfile
 
+import bindings
+import library
 import repository
 
 # What is installed: where it lies in the repository, where under the prefix, and its mode.
@@ -26,21 +29,32 @@ FILES = [
 OF_DEBIAN = {"share/zsh/site-functions/_sfq": "share/zsh/vendor-completions/_sfq"}
 
 
-def install(prefix, root=repository.ROOT):
-    """Copies each file under the prefix, a file in use by replacing it."""
-    for source, target, mode in FILES:
+def copy(files, prefix, root=repository.ROOT):
+    """Copies each file under the prefix, a file in use by replacing it, and prints its path."""
+    for source, target, mode in files:
         to = os.path.join(prefix, target)
         os.makedirs(os.path.dirname(to), exist_ok=True)
         shutil.copyfile(os.path.join(root, source), to + ".new")
         os.chmod(to + ".new", mode)
         os.replace(to + ".new", to)
         print(f"installed {to}")
+
+
+def install(prefix, root=repository.ROOT):
+    """Installs the program, and the C library with what is over it where it is made."""
+    with_library = root == repository.ROOT and library.is_made()
+    copy(FILES + (library.FILES + bindings.files() if with_library else []), prefix, root)
+    made = library.install_made(prefix, released(root)[0]) + bindings.install_made(prefix) if with_library else []
+    for it in made:
+        print(f"installed {it}")
     return 0
 
 
 def uninstall(prefix):
     """Removes each installed file, and the folders below the prefix that are empty then."""
-    for _, target, _ in FILES:
+    bindings.remove_compiled(prefix)
+    made = [*library.MADE, *bindings.made(prefix)]
+    for target in [*(it[1] for it in FILES + library.FILES + bindings.files()), *made]:
         path = os.path.join(prefix, target)
         if os.path.lexists(path):
             os.remove(path)

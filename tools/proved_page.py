@@ -1,9 +1,10 @@
 #!/usr/bin/env python3
-"""Prints what docs/PROVED.md and tests/ample_memory.txt say wrong of the sources, and ends with status 1 if something is.
+"""Prints what docs/PROVED.md, docs/LIBRARY.md and tests/ample_memory.txt say wrong of the sources, and ends with status 1 if
+something is.
 
 usage: python3 tools/proved_page.py
 
-Each clause of the page's tables has to be one of the call beside it, and each theorem a function. The list of tests has to
+Each clause of the pages' tables has to be one of the call beside it, and each theorem a function. The list of tests has to
 have each public function that may run out of memory, and each test has to call the functions that are listed with it.
 """
 import glob
@@ -13,7 +14,7 @@ import sys
 
 import repository
 
-PAGE = f"{repository.ROOT}/docs/PROVED.md"
+PAGES = [f"{repository.ROOT}/docs/{it}.md" for it in ("PROVED", "LIBRARY")]
 PROGRAMS = ["sfq", "scripts", "gauge"]
 LIST = f"{repository.ROOT}/tests/ample_memory.txt"
 # What the list says of the modules that call functions which it doesn't name.
@@ -25,6 +26,10 @@ GROWTHS = r"\b(?:AllocError|LoadFault|WktFault|PutFault|Error)\b"
 def read(path):
     with open(path, encoding="utf-8") as text:
         return text.read()
+
+
+def text_of_pages():
+    return "\n".join(read(it) for it in PAGES)
 
 
 class Function:
@@ -39,11 +44,15 @@ class Function:
         owner, _, last = name.rpartition("::")
         return name == self.owner or (last == self.name and owner in ("", self.owner, self.crate))
 
+    def is_exported(self):
+        """Whether C calls it. Its result is a status then."""
+        return 'extern "C" fn' in self.signature
+
     def takes_memory(self):
         """Whether it may run out of memory, by its signature. What is handed an allocator and can't fail only keeps it."""
         result = self.signature.partition("->")[2]
         if "alloc: Global" in self.signature:
-            return bool(re.search(r"\b(?:Result|Option|bool|u8)\b", result))
+            return self.is_exported() or bool(re.search(r"\b(?:Result|Option|bool|u8)\b", result))
         return bool(re.search(r"\bResult\b", result) and re.search(GROWTHS, result))
 
 
@@ -62,7 +71,7 @@ def functions_in(crate, module, text):
             owner, is_trait = owner_of(line), not re.match(r"impl\b", line) or " for " in line
         elif line.startswith("}"):
             owner, is_trait = "", False
-        head = re.match(r"( *)(pub(?:\(crate\))? )?fn (\w+)", line)
+        head = re.match(r"( *)(pub(?:\(crate\))? )?(?:extern \"C\" )?fn (\w+)", line)
         if not head:
             continue
         # A head ends at the line of its brace or semicolon; a call of a trait has no body.
@@ -79,8 +88,8 @@ def functions_in(crate, module, text):
 
 
 def is_reached(function, lib):
-    """Whether a library's root makes a public function of it reachable."""
-    if function.module == "lib" or re.search(rf"^pub mod {function.module};", lib, re.M):
+    """Whether a library's root makes a public function of it reachable, or C calls it."""
+    if function.is_exported() or function.module == "lib" or re.search(rf"^pub mod {function.module};", lib, re.M):
         return True
     names = {it for part in re.findall(r"^pub use ([^;]*);", lib, re.M) for it in re.findall(r"\w+", part)}
     return (function.owner or function.name) in names
@@ -151,7 +160,7 @@ def reached(name, functions):
 
 
 def sources():
-    """Returns the text that plays each module and script: a script is played by the program `scripts`."""
+    """Returns the text of each module of tests; that of the program `scripts`, which plays them, for each script; that of the C test."""
     found = {}
     for crate in repository.crates_with_tests():
         for path in glob.glob(f"{repository.ROOT}/crates/{crate}/src/*_tests.rt"):
@@ -159,6 +168,8 @@ def sources():
     player = "".join(read(it) for it in glob.glob(f"{repository.ROOT}/crates/scripts/src/*.rt"))
     for it in read(f"{repository.ROOT}/crates/scripts/args").split():
         found[it] = player
+    # What the C test calls of the library's header calls the proved calls in turn.
+    found["calls.c"] = "".join(read(f"{repository.ROOT}/{it}.c") for it in ("tests/library/calls", "tests/library/kept", "library/sfq"))
     return found
 
 
@@ -216,7 +227,7 @@ def wrong_tests(names, triples, texts, functions):
 
 def main():
     functions, public = all_functions()
-    found = wrong_clauses(read(PAGE), functions) + wrong_tests(needed(public), listed(read(LIST)), sources(), functions)
+    found = wrong_clauses(text_of_pages(), functions) + wrong_tests(needed(public), listed(read(LIST)), sources(), functions)
     for it in found:
         print(it)
     return 1 if found else 0

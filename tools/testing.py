@@ -1,5 +1,6 @@
 """The parts of ./test, and how what they found is counted."""
 import glob
+import importlib.util
 import os
 import re
 import shutil
@@ -11,6 +12,8 @@ import time
 import unittest
 from concurrent.futures import ThreadPoolExecutor
 
+import calls
+import library
 import proving
 import repository
 import unproved
@@ -179,6 +182,7 @@ def marked(test, mark):
     """Whether the test's class has the mark.
 
     ASKS_PROGRAM: it asks sfq itself, the proved program where it is built and else an unproved build.
+    ASKS_LIBRARY: it calls the C library or the module of the web page, so the gate makes both first.
     IS_LONG: it takes minutes, so only ./test --long runs it. IN_GATE: and ./test --all.
     """
     return getattr(test, mark, False)
@@ -224,7 +228,7 @@ def without_proof(is_long, named):
 
 
 def gate(counts):
-    """Runs `rt ci`, whose lines go through, and counts what it counted."""
+    """Runs `rt ci`, whose lines go through, and counts what it counted. Returns whether it went well."""
     before, begun = repository.current("sum")[1], time.monotonic()
     child = subprocess.Popen(["rt", "ci"], cwd=ROOT, stdout=subprocess.PIPE, text=True, errors="replace")
     last = ""
@@ -246,20 +250,49 @@ def gate(counts):
     if is_well and os.path.isfile(repository.PROGRAM) and repository.current("sum")[1] == before:
         # What rt ci leaves is the proved program.
         repository.current("stamp", before)
+    return is_well
+
+
+def make_library(counts):
+    """Makes the C library, and the web page where binaryen is there, of the libraries that `rt ci` left proved."""
+    begun, text = time.monotonic(), ""
+    try:
+        with tempfile.TemporaryDirectory(prefix="sfq-calls-") as room:
+            compiled = calls.compile_calls(room, keeps=False)
+            library.link(compiled.archive)
+            if shutil.which("wasm-opt"):
+                found = importlib.util.spec_from_file_location("web_build", f"{ROOT}/web/build.py")
+                page = importlib.util.module_from_spec(found)
+                found.loader.exec_module(page)
+                page.write_page(page.carried(page.module_of(calls.find_kit(), room, compiled)))
+    except calls.Failure as it:
+        text = str(it)
+    counts.take("making of the C library and the web page", not text, time.monotonic() - begun, text=text)
+
+
+def tests_of_library(counts, tests, is_left):
+    """Runs what calls the C library and the page, made first where `rt ci` left what they are made of."""
+    if is_left and calls.CRATE in repository.read_crates():
+        make_library(counts)
+    system_tests(counts, tests)
 
 
 def with_proof():
     """First what is quick, then `rt ci`, then what asks the program that it leaves.
 
-    `rt ci` proves and runs the crates' tests and the programs, so they aren't run without proof too.
+    `rt ci` proves and runs the crates' tests and the programs, so they aren't run without proof too. At its end what earlier
+    checks kept is there again, so the C library is made of what it proved only where nothing was kept.
     """
     counts, tests = Counts(), find_tests()
     lint(counts)
-    system_tests(counts, [it for it in tests if not marked(it, "ASKS_PROGRAM") and not marked(it, "IS_LONG")])
-    gate(counts)
+    is_after = lambda it: marked(it, "ASKS_PROGRAM") or marked(it, "ASKS_LIBRARY")
+    system_tests(counts, [it for it in tests if not is_after(it) and not marked(it, "IS_LONG")])
+    is_new = not glob.glob(f"{ROOT}/crates/*/out/rlib")
+    is_left = gate(counts) and is_new
     asking = [it for it in tests if marked(it, "ASKS_PROGRAM") and (marked(it, "IN_GATE") or not marked(it, "IS_LONG"))]
-    others = [it for it in tests if marked(it, "IN_GATE") and not marked(it, "ASKS_PROGRAM")]
-    side_by_side([(system_tests, counts, others), (system_tests, counts, asking)])
+    others = [it for it in tests if marked(it, "IN_GATE") and not is_after(it)]
+    calling = [it for it in tests if marked(it, "ASKS_LIBRARY") and not marked(it, "IS_LONG")]
+    side_by_side([(system_tests, counts, asking), (tests_of_library, counts, calling, is_left), (system_tests, counts, others)])
     return counts.close()
 
 

@@ -25,15 +25,29 @@ ENDED = re.compile(
 )
 
 
-def places(words):
-    """Returns the positions of the words that name the schema and the directory, where the command has such words."""
+def plain_words(words):
+    """Returns the positions of the words that aren't options, that of the command first."""
     found, only_words = [], False
     for at, word in enumerate(words):
         if word == "--" and at and not only_words:
             only_words = True
         elif only_words or word == "-" or not word.startswith("-"):
             found.append(at)
-    return found[1:3] if words and words[0] in ("run", "check") else []
+    return found
+
+
+def places(words):
+    """Returns the positions of the words that name the schema and the directory, where the command has such words."""
+    return plain_words(words)[1:3] if words and words[0] in ("run", "check") else []
+
+
+def text_places(words):
+    """Returns the positions of the words that name a file by `@`, and of the path of `pairs`."""
+    found = plain_words(words)
+    if words and words[0] == "pairs":
+        return found[1:2]
+    found = {"run": found[3:4], "relate": found[1:3], "why": found[1:3]}.get(words[0] if words else "", [])
+    return [at for at in found if words[at].startswith("@")]
 
 
 def is_for_clap(words):
@@ -50,6 +64,7 @@ class HandedIn:
 
     def __init__(self, room, base):
         self.room, self.base, self.files, self.names = room, base, {}, {}
+        self.is_read = False
 
     def at(self, path):
         return os.path.join(self.base, path) if path else ""
@@ -76,6 +91,27 @@ class HandedIn:
             # The program says what is missing.
             pass
 
+    def text(self, path):
+        """Hands in the file of a text, or standard input for `-`, and returns its name."""
+        if path == "-":
+            path = self.standard_input()
+        name = self.name(path, "text")
+        if os.path.isdir(self.at(path)):
+            # It opens and can't be read: it has to be a directory in the program's folder too.
+            self.files[f"{name}/nothing"] = os.devnull
+        else:
+            self.take(name, path)
+        return name
+
+    def standard_input(self):
+        """Returns the path of a copy of standard input, which is empty when it is read again."""
+        path = os.path.join(self.room, f"input{self.is_read:d}")
+        with open(path, "wb") as copy:
+            if not self.is_read:
+                shutil.copyfileobj(sys.stdin.buffer, copy)
+        self.is_read = True
+        return path
+
     def tables(self, name, folder, schema):
         """Hands in each file of the folder that is named as a table that the schema's text can name."""
         try:
@@ -94,8 +130,11 @@ class HandedIn:
                 self.take(f"{name}/{it}", path)
 
     def words(self, words):
-        """Returns the words with the schema and the directory named as they are handed in."""
+        """Returns the words with the schema, the directory and the files of texts named as they are handed in."""
         words, at = list(words), places(words)
+        for it in text_places(words):
+            sign = "" if words[0] == "pairs" else "@"
+            words[it] = sign + self.text(words[it].removeprefix(sign))
         schema = b""
         if at:
             name = self.name(words[at[0]], "schema")

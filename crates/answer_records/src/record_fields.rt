@@ -53,7 +53,7 @@ pub fn row_record(
     filled
 }
 
-// Replaces the fields of a record by those of the query's items at these rows. If memory runs out, it has some of them.
+/// Replaces the fields of a record by those of the query's items at these rows. If memory runs out, it has some of them.
 fn fill(
     alloc: Global,
     fields: &mut ByteRecord,
@@ -69,7 +69,7 @@ fn fill(
     Ok(())
 }
 
-// The header of an item.
+/// The header of an item.
 fn item_header(
     alloc: Global,
     definitions: &[TableDef],
@@ -93,7 +93,7 @@ fn item_header(
     }
 }
 
-// The header of a function of a column: its name with a parenthesis, the column's header, and a parenthesis.
+/// The header of a function of a column: its name with a parenthesis, the column's header, and a parenthesis.
 fn function_header(
     alloc: Global,
     name: &[u8],
@@ -111,7 +111,7 @@ fn function_header(
     Ok(text)
 }
 
-// The header of a column.
+/// The header of a column.
 fn column_header(
     alloc: Global,
     definitions: &[TableDef],
@@ -129,7 +129,7 @@ fn column_header(
     }
 }
 
-// The header of a column of a reference, which may be the only one.
+/// The header of a column of a reference, which may be the only one.
 fn reference_header(
     alloc: Global,
     definitions: &[TableDef],
@@ -150,7 +150,7 @@ fn reference_header(
     Ok(text)
 }
 
-// The name of a column, as the schema spells it.
+/// The name of a column, as the schema spells it.
 fn column_name(definitions: &[TableDef], table: usize, column: usize) -> &[u8]
     ensures { result.now ≡ column_name definitions.now table column }
 {
@@ -163,7 +163,7 @@ fn column_name(definitions: &[TableDef], table: usize, column: usize) -> &[u8]
     }
 }
 
-// Adds the field of an item.
+/// Adds the field of an item.
 fn push_item(
     alloc: Global,
     fields: &mut ByteRecord,
@@ -183,7 +183,7 @@ fn push_item(
     }
 }
 
-// The field at a place of some rows; null if there is none.
+/// The field at a place of some rows; null if there is none.
 fn field_at<'a>(rows: &'a [Row<'_>], place: ColumnPlace) -> Field<'a>
     ensures { shown result ≡ field_at rows.entry.now place }
 {
@@ -195,7 +195,7 @@ fn field_at<'a>(rows: &'a [Row<'_>], place: ColumnPlace) -> Field<'a>
     Field::Null
 }
 
-// Adds the text of a field.
+/// Adds the text of a field.
 fn push_field(alloc: Global, fields: &mut ByteRecord, field: Field<'_>) -> Result<(), AllocError>
     requires { partial_of fields.old ≡ [] }
     ensures fields { OnOk result
@@ -210,7 +210,7 @@ fn push_field(alloc: Global, fields: &mut ByteRecord, field: Field<'_>) -> Resul
     }
 }
 
-// Adds ST_AsText of a field.
+/// Adds ST_AsText of a field.
 fn push_text(alloc: Global, fields: &mut ByteRecord, field: Field<'_>) -> Result<(), AllocError>
     requires { partial_of fields.old ≡ [] }
     ensures fields { OnOk result (fields_of fields.new
@@ -223,7 +223,7 @@ fn push_text(alloc: Global, fields: &mut ByteRecord, field: Field<'_>) -> Result
     }
 }
 
-// Adds ST_Dimension of a field.
+/// Adds ST_Dimension of a field.
 fn push_dimension(fields: &mut ByteRecord, field: Field<'_>) -> Result<(), AllocError>
     requires { partial_of fields.old ≡ [] }
     ensures fields { OnOk result (fields_of fields.new
@@ -236,7 +236,7 @@ fn push_dimension(fields: &mut ByteRecord, field: Field<'_>) -> Result<(), Alloc
     }
 }
 
-// Adds ST_IsEmpty of a field.
+/// Adds ST_IsEmpty of a field.
 fn push_emptiness(fields: &mut ByteRecord, field: Field<'_>) -> Result<(), AllocError>
     requires { partial_of fields.old ≡ [] }
     ensures fields { OnOk result (fields_of fields.new
@@ -249,7 +249,7 @@ fn push_emptiness(fields: &mut ByteRecord, field: Field<'_>) -> Result<(), Alloc
     }
 }
 
-// ST_Dimension of geometries of a kind: 0 of points, 1 of lines, 2 of areas.
+/// ST_Dimension of geometries of a kind: 0 of points, 1 of lines, 2 of areas.
 fn dimension(kind: Kind) -> i64
     ensures { result ≡ dimension kind }
 {
@@ -260,7 +260,7 @@ fn dimension(kind: Kind) -> i64
     }
 }
 
-// Adds a number.
+/// Adds a number.
 fn push_number(fields: &mut ByteRecord, number: i64) -> Result<(), AllocError>
     requires { partial_of fields.old ≡ [] }
     ensures fields { OnOk result
@@ -271,7 +271,7 @@ fn push_number(fields: &mut ByteRecord, number: i64) -> Result<(), AllocError>
     fields.push_field(buffer.format(number).as_bytes())
 }
 
-// Adds the canonical text of a geometry. A sink over memory fails only when memory runs out.
+/// Adds the canonical text of a geometry. A sink over memory fails only when memory runs out.
 fn push_geometry(
     alloc: Global,
     fields: &mut ByteRecord,

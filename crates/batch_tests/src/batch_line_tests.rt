@@ -59,7 +59,7 @@ fn words_give_texts(rt: HostRuntime) -> Result<(), Fail> {
     Ok(())
 }
 
-// The text of each file.
+/// The text of each file.
 fn text_of<'t>(_path: &str, text: &'t [u8]) -> Option<&'t [u8]> {
     Some(text)
 }

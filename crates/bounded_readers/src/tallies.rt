@@ -87,14 +87,14 @@ impl Tally {
         tally
     }
 
-    // The tally after a byte.
+    /// The tally after a byte.
     fn after_byte(self, byte: u8) -> Tally
         ensures { result ≡ spec.tally_after self byte }
     {
         self.moved(place_after(self.place, byte)).checked()
     }
 
-    // The tally after a byte that leads to a place.
+    /// The tally after a byte that leads to a place.
     fn moved(self, place: Place) -> Tally
         ensures { result ≡ spec.moved self place }
     {
@@ -117,7 +117,7 @@ impl Tally {
         }
     }
 
-    // The tally where a record or a blank line begins.
+    /// The tally where a record or a blank line begins.
     fn at_record(self) -> Tally
         ensures { result ≡ spec.at_record self }
     {
@@ -135,7 +135,7 @@ impl Tally {
         }
     }
 
-    // The tally with its lengths compared with their limits.
+    /// The tally with its lengths compared with their limits.
     fn checked(self) -> Tally
         ensures { result ≡ spec.checked self }
     {
@@ -147,14 +147,14 @@ impl Tally {
     }
 }
 
-// Whether a place is in a record, so that the end of the line ends one.
+/// Whether a place is in a record, so that the end of the line ends one.
 fn is_in_record(place: Place) -> bool
     ensures { result ≡ spec.is_in_record place }
 {
     !matches!(place, Place::Start | Place::RecordStart)
 }
 
-// The place after a byte.
+/// The place after a byte.
 fn place_after(place: Place, byte: u8) -> Place
     ensures { result ≡ spec.place_after place byte }
 {
@@ -170,7 +170,7 @@ fn place_after(place: Place, byte: u8) -> Place
     }
 }
 
-// The place after a byte at the start of a field; or after a quote in quotes, where a second one is part of the field.
+/// The place after a byte at the start of a field; or after a quote in quotes, where a second one is part of the field.
 fn place_from_start(byte: u8) -> Place
     ensures { result ≡ spec.place_from_start byte }
 {
@@ -180,7 +180,7 @@ fn place_from_start(byte: u8) -> Place
     place_outside(byte)
 }
 
-// The place after a byte outside quotes, where a quote is a byte like others.
+/// The place after a byte outside quotes, where a quote is a byte like others.
 fn place_outside(byte: u8) -> Place
     ensures { result ≡ spec.place_outside byte }
 {

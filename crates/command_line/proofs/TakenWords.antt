@@ -16,8 +16,8 @@ use Rattle.clap.specs.Takes.{is_given}
 use Rattle.clap.specs.Walk.{Held, Names, Outcome, done, waits, plain, refused, Row, Rule, Step, next, trailing, subcommand, value, Text, Waiting, idle, option, positional, Walk}
 use Rattle.clap.specs.Walk.{after_flag, after_step, answers_to, arg_by_index, finished, first_of, long_or_other, nothing_held, plain_word, rows_after, short_or_plain, subcommand_met, subcommand_or_other, to_positional, walk, walk_from, walked, walked_from, word_met}
 use Rattle.clap.specs.declared.error.kind.ErrorKind.TheVariants.{DisplayHelp, InvalidSubcommand}
-use Rattle.command_words.specs.CommandWords.{check, relate, run, sfq}
-use Rattle.command_line.specs.Orders.{HasCheckWords, HasRelateWords, HasRunWords, HasWords}
+use Rattle.command_words.specs.CommandWords.{check, fault, pairs, relate, run, sfq, why}
+use Rattle.command_line.specs.Orders.{HasCheckWords, HasFaultWords, HasPairsWords, HasRelateWords, HasRunWords, HasWhyWords, HasWords}
 use Rattle.command_line.proofs.FilledRows.{first-filled, is_placed_or_help, rows-filled}
 
 -- no kind comes of either step
@@ -135,6 +135,15 @@ check_shape = built_leaf (inherited above check.top)
 abbrev relate_shape : Shape
 relate_shape = built_leaf (inherited above relate.top)
 
+abbrev why_shape : Shape
+why_shape = built_leaf (inherited above why.top)
+
+abbrev pairs_shape : Shape
+pairs_shape = built_leaf (inherited above pairs.top)
+
+abbrev fault_shape : Shape
+fault_shape = built_leaf (inherited above fault.top)
+
 abbrev help_leaf : Shape
 help_leaf = built_leaf (inherited above help_shape)
 
@@ -143,7 +152,7 @@ word-there : (c : List Rule) (words : List Text) (id : Text) → list_all is_pla
     → IsSome (first_of id (rows_after c [] words))
 word-there c words id flags given = first-filled id (rows_after c [] words) (rows-filled c flags [] words) (given-found id (rows_after c [] words) given)
 
--- the check of required words passes only where each of them is given: for `run`, `check` and `relate`
+-- the check of required words passes only where each of them is given: for each subcommand
 run-checked : (rows : List Row) → check_fault run_shape rows false ≡ []
     → (is_given (codes "schema") rows ≡ true) × (is_given (codes "directory") rows ≡ true) × (is_given (codes "query") rows ≡ true)
 run-checked rows passed = go (is_given (codes "schema") rows) (is_given (codes "directory") rows) (is_given (codes "query") rows) passed
@@ -170,7 +179,15 @@ relate-checked rows passed = go (is_given (codes "first") rows) (is_given (codes
     go true false e = cc
     go false b e = cc
 
--- so where the level of `run`, `check` or `relate` passes, its words are there
+-- of which `why`, `pairs` and `fault` have one
+one-checked : (id : Text) (rows : List Row) → check_kinds false false (not (is_given id rows) || false) ≡ [] → is_given id rows ≡ true
+one-checked id rows passed = go (is_given id rows) passed
+  where
+    go : (a : Bool) → check_kinds false false (not a || false) ≡ [] → a ≡ true
+    go true e = refl
+    go false e = cc
+
+-- so where the level of a subcommand passes, its words are there
 run-words : (words : List Text) → level_fault run_shape [] nothing_held words false [] ≡ [] → HasRunWords (rows_after run_shape.rules [] words)
 run-words words passed =
     let given = run-checked (rows_after run_shape.rules [] words) (level-parts run_shape [] nothing_held words false [] passed).2 in (
@@ -193,9 +210,25 @@ relate-words words passed =
       word-there relate_shape.rules words (codes "second") refl given.1,
     )
 
--- the subcommand, where the word is `run`, `check`, `relate` or `help`
-abbrev found : Bool → Bool → Bool → Bool → Option Shape
-found r k l h = cond r (Some run_shape) (cond k (Some check_shape) (cond l (Some relate_shape) (cond h (Some help_leaf) None)))
+why-words : (words : List Text) → level_fault why_shape [] nothing_held words false [] ≡ [] → HasWhyWords (rows_after why_shape.rules [] words)
+why-words words passed =
+    word-there why_shape.rules words (codes "first") refl
+    (one-checked (codes "first") (rows_after why_shape.rules [] words) (level-parts why_shape [] nothing_held words false [] passed).2)
+
+pairs-words : (words : List Text) → level_fault pairs_shape [] nothing_held words false [] ≡ [] → HasPairsWords (rows_after pairs_shape.rules [] words)
+pairs-words words passed =
+    word-there pairs_shape.rules words (codes "file") refl
+    (one-checked (codes "file") (rows_after pairs_shape.rules [] words) (level-parts pairs_shape [] nothing_held words false [] passed).2)
+
+fault-words : (words : List Text) → level_fault fault_shape [] nothing_held words false [] ≡ [] → HasFaultWords (rows_after fault_shape.rules [] words)
+fault-words words passed =
+    word-there fault_shape.rules words (codes "code") refl
+    (one-checked (codes "code") (rows_after fault_shape.rules [] words) (level-parts fault_shape [] nothing_held words false [] passed).2)
+
+-- the subcommand, where the word is `run`, `check`, `relate`, `why`, `pairs`, `fault` or `help`
+abbrev found : Bool → Bool → Bool → Bool → Bool → Bool → Bool → Option Shape
+found r k l w p f h = cond r (Some run_shape) (cond k (Some check_shape) (cond l (Some relate_shape) (cond w (Some why_shape)
+    (cond p (Some pairs_shape) (cond f (Some fault_shape) (cond h (Some help_leaf) None))))))
 
 -- a word that `help` answers to is `help`
 help-named : (word : Text) → bytes_eq word (codes "help") ≡ false → answers_to word (label_of help_leaf) ≡ false
@@ -208,21 +241,25 @@ help-named word other = go (bytes_eq (codes "help") word) refl
         let here : bytes_eq (codes "help") (codes "help") ≡ false = subst (λ (w : Text). bytes_eq w (codes "help") ≡ false) (sym same) other in
         absurd (true≢false here)
 
--- a level below that was entered and passes is one of `run`, `check` or `relate` and has its words,
+-- a level below that was entered and passes isn't `help` and has its words,
 -- since the walk doesn't stop at `help`
 entered-words : (stop : Option (Text × List Text)) → NoHelp stop → entered_fault (built sfq) stop ≡ [] → is_some (entered (built sfq) stop) ≡ true
     → HasWords (entered (built sfq) stop)
 entered-words None no_help passed has = absurd (true≢false (sym has))
 entered-words (Some p) no_help passed has =
-    go (answers_to p.0 (label_of run_shape)) (answers_to p.0 (label_of check_shape)) (answers_to p.0 (label_of relate_shape)) (answers_to p.0 (label_of help_leaf)) (help-named p.0 no_help) passed has
+    go (answers_to p.0 (label_of run_shape)) (answers_to p.0 (label_of check_shape)) (answers_to p.0 (label_of relate_shape)) (answers_to p.0 (label_of why_shape))
+    (answers_to p.0 (label_of pairs_shape)) (answers_to p.0 (label_of fault_shape)) (answers_to p.0 (label_of help_leaf)) (help-named p.0 no_help) passed has
   where
-    go : (r k l h : Bool) → h ≡ false → option_map_or (λ (s : Shape). level_fault s [] nothing_held p.1 false []) (found r k l h) [] ≡ []
-        → is_some (option_map (λ (s : Shape). rows_at s p.1) (found r k l h)) ≡ true → HasWords (option_map (λ (s : Shape). rows_at s p.1) (found r k l h))
-    go true k l h isnt passed has = inl (rows_after run_shape.rules [] p.1, refl, run-words p.1 passed)
-    go false true l h isnt passed has = inr (inl (rows_after check_shape.rules [] p.1, refl, check-words p.1 passed))
-    go false false true h isnt passed has = inr (inr (rows_after relate_shape.rules [] p.1, refl, relate-words p.1 passed))
-    go false false false true isnt passed has = absurd (true≢false isnt)
-    go false false false false isnt passed has = absurd (true≢false (sym has))
+    go : (r k l w q f h : Bool) → h ≡ false → option_map_or (λ (s : Shape). level_fault s [] nothing_held p.1 false []) (found r k l w q f h) [] ≡ []
+        → is_some (option_map (λ (s : Shape). rows_at s p.1) (found r k l w q f h)) ≡ true → HasWords (option_map (λ (s : Shape). rows_at s p.1) (found r k l w q f h))
+    go true k l w q f h isnt passed has = inl (rows_after run_shape.rules [] p.1, refl, run-words p.1 passed)
+    go false true l w q f h isnt passed has = inr (inl (rows_after check_shape.rules [] p.1, refl, check-words p.1 passed))
+    go false false true w q f h isnt passed has = inr (inr (inl (rows_after relate_shape.rules [] p.1, refl, relate-words p.1 passed)))
+    go false false false true q f h isnt passed has = inr (inr (inr (inl (rows_after why_shape.rules [] p.1, refl, why-words p.1 passed))))
+    go false false false false true f h isnt passed has = inr (inr (inr (inr (inl (rows_after pairs_shape.rules [] p.1, refl, pairs-words p.1 passed)))))
+    go false false false false false true h isnt passed has = inr (inr (inr (inr (inr (rows_after fault_shape.rules [] p.1, refl, fault-words p.1 passed)))))
+    go false false false false false false true isnt passed has = absurd (true≢false isnt)
+    go false false false false false false false isnt passed has = absurd (true≢false (sym has))
 
 -- where a subcommand is wanted, one of the last checks refuses, and none asks for arguments
 wanted-refused : (wants_help : Bool) → check_kinds wants_help true true ≡ [] → false ≡ true

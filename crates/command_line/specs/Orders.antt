@@ -1,5 +1,5 @@
 -- Which order the words of a command line give, by `clap`'s own definition of what matches a command.
-use Rattle.std.specs.Prelude.{◌≡◌, ◌⊎◌, List, Option, Some, codes, IsSome}
+use Rattle.std.specs.Prelude.{◌≡◌, ◌⊎◌, List, Option, Some, codes, option_map, IsSome}
 use Rattle.std.specs.String.{string_bytes}
 use Rattle.clap.specs.Words.{Row, Text, first_of, subcommand_of}
 use Rattle.command_words.specs.CommandWords.{sfq}
@@ -11,8 +11,11 @@ abbrev pub name_of : Order → Text
 name_of (order.Run schema directory query) = codes "run"
 name_of (order.Check schema directory) = codes "check"
 name_of (order.Relate first second) = codes "relate"
+name_of (order.Why first second) = codes "why"
+name_of (order.Pairs file) = codes "pairs"
+name_of (order.Fault code) = codes "fault"
 
--- each text of the order is the word in its place
+-- each text of the order is the word in its place, and a word that may be missing is there exactly if its text is
 abbrev pub HasTextsOf : List Row → Order → Type 0
 HasTextsOf rows (order.Run schema directory query) =
     (first_of (codes "schema") rows ≡ Some (string_bytes schema))
@@ -24,6 +27,11 @@ HasTextsOf rows (order.Check schema directory) =
 HasTextsOf rows (order.Relate first second) =
     (first_of (codes "first") rows ≡ Some (string_bytes first))
     × (first_of (codes "second") rows ≡ Some (string_bytes second))
+HasTextsOf rows (order.Why first second) =
+    (first_of (codes "first") rows ≡ Some (string_bytes first))
+    × (first_of (codes "second") rows ≡ option_map string_bytes second)
+HasTextsOf rows (order.Pairs file) = first_of (codes "file") rows ≡ Some (string_bytes file)
+HasTextsOf rows (order.Fault code) = first_of (codes "code") rows ≡ Some (string_bytes code)
 
 -- the subcommand is that of the order, and so are its words
 abbrev pub OrdersBy : Option (Text × List Row) → Order → Type 0
@@ -47,8 +55,23 @@ HasCheckWords rows = IsSome (first_of (codes "schema") rows) × IsSome (first_of
 abbrev pub HasRelateWords : List Row → Type 0
 HasRelateWords rows = IsSome (first_of (codes "first") rows) × IsSome (first_of (codes "second") rows)
 
--- the subcommand is `run`, `check` or `relate`, and each of its words is there
+-- the word of `why` that has to be there is there
+abbrev pub HasWhyWords : List Row → Type 0
+HasWhyWords rows = IsSome (first_of (codes "first") rows)
+
+-- the word of `pairs` is there
+abbrev pub HasPairsWords : List Row → Type 0
+HasPairsWords rows = IsSome (first_of (codes "file") rows)
+
+-- the word of `fault` is there
+abbrev pub HasFaultWords : List Row → Type 0
+HasFaultWords rows = IsSome (first_of (codes "code") rows)
+
+-- the subcommand is one of these, and each of its words that has to be there is there
 abbrev pub HasWords : Option (Text × List Row) → Type 0
 HasWords met = ((rows : List Row) × (met ≡ Some (codes "run", rows)) × HasRunWords rows)
     ⊎ ((rows : List Row) × (met ≡ Some (codes "check", rows)) × HasCheckWords rows)
     ⊎ ((rows : List Row) × (met ≡ Some (codes "relate", rows)) × HasRelateWords rows)
+    ⊎ ((rows : List Row) × (met ≡ Some (codes "why", rows)) × HasWhyWords rows)
+    ⊎ ((rows : List Row) × (met ≡ Some (codes "pairs", rows)) × HasPairsWords rows)
+    ⊎ ((rows : List Row) × (met ≡ Some (codes "fault", rows)) × HasFaultWords rows)

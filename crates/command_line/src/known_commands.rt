@@ -9,7 +9,7 @@ pub enum Order {
         schema: String,
         /// The path of the directory that holds one CSV file a table.
         directory: String,
-        /// The text of the SELECT.
+        /// The text of the SELECT, or `@` and the path of a file that has it.
         query: String,
     },
     /// Load every table of a directory, and list how many rows each has.
@@ -21,9 +21,26 @@ pub enum Order {
     },
     /// Relate two geometries by their DE-9IM matrix.
     Relate {
-        /// The well-known text of the first geometry.
+        /// The well-known text of the first geometry, or `@` and the path of a file that has it.
         first: String,
-        /// The well-known text of the second geometry.
+        /// That of the second geometry, in the same way.
         second: String,
+    },
+    /// Show where two geometries meet, or why one isn't valid.
+    Why {
+        /// The well-known text of the first geometry, or `@` and the path of a file that has it.
+        first: String,
+        /// That of the second geometry, in the same way, where there is one.
+        second: Option<String>,
+    },
+    /// Relate the two geometries of each record of a file.
+    Pairs {
+        /// The path of the file, or `-` for standard input.
+        file: String,
+    },
+    /// Explain a fault.
+    Fault {
+        /// The code of the fault, such as `V3`.
+        code: String,
     },
 }

@@ -5,7 +5,7 @@ ghost use Rattle.std.specs.String.{string_bytes};
 ghost use Rattle.clap.specs.Walk.{texts};
 ghost use Rattle.clap.specs.Words.{rows_of, found_of, first_value, subcommand_rows_of, takes, fault_of, kind_of, HasKind};
 ghost use Rattle.command_words.specs.CommandWords.{sfq};
-ghost use Rattle.command_line.specs.Orders.{Orders, OrdersBy, HasWords, HasTextsOf, HasRunWords, HasCheckWords, HasRelateWords, name_of};
+ghost use Rattle.command_line.specs.Orders.{Orders, OrdersBy, HasWords, HasTextsOf, HasRunWords, HasCheckWords, HasRelateWords, HasWhyWords, HasPairsWords, HasFaultWords, name_of};
 
 use crate::known_commands::Order;
 use crate::misuse::Misuse;
@@ -29,7 +29,7 @@ pub fn order<'a>(alloc: Global, words: &'a [&'a str]) -> Result<Order, Misuse>
     Ok(given_order(alloc, &matches)?)
 }
 
-// The order of these matches. None of its words is missing in them, as `clap` refuses a line without one.
+/// The order of these matches. None of its words is missing in them, as `clap` refuses a line without one.
 fn given_order(alloc: Global, matches: &ArgMatches<'_>) -> Result<Order, AllocError>
     requires { HasWords (subcommand_rows_of matches.now) }
     ensures { IfOk result (OrdersBy (subcommand_rows_of matches.now)) }
@@ -40,7 +40,7 @@ fn given_order(alloc: Global, matches: &ArgMatches<'_>) -> Result<Order, AllocEr
     }
 }
 
-// The order that the subcommand and its words give, if they are there.
+/// The order that the subcommand and its words give, if they are there.
 fn read_order(alloc: Global, matches: &ArgMatches<'_>) -> Result<Option<Order>, AllocError>
     ensures some { IfOk result (λ r. IfSome r (OrdersBy (subcommand_rows_of matches.now))) }
     ensures none { IfOk result (λ r. IfNone r (¬ HasWords (subcommand_rows_of matches.now))) }
@@ -54,10 +54,19 @@ fn read_order(alloc: Global, matches: &ArgMatches<'_>) -> Result<Option<Order>, 
     if let Some(relate) = matches.subcommand_matches("relate") {
         return read_relate(alloc, relate);
     }
+    if let Some(why) = matches.subcommand_matches("why") {
+        return read_why(alloc, why);
+    }
+    if let Some(pairs) = matches.subcommand_matches("pairs") {
+        return read_pairs(alloc, pairs);
+    }
+    if let Some(fault) = matches.subcommand_matches("fault") {
+        return read_fault(alloc, fault);
+    }
     Ok(None)
 }
 
-// The order that the three words of `run` give, if they are there.
+/// The order that the three words of `run` give, if they are there.
 fn read_run(alloc: Global, run: &ArgMatches<'_>) -> Result<Option<Order>, AllocError>
     ensures name { IfOk result (λ r. IfSome r (λ o. name_of o ≡ codes "run")) }
     ensures some { IfOk result (λ r. IfSome r (HasTextsOf (rows_of (found_of run.now)))) }
@@ -79,7 +88,7 @@ fn read_run(alloc: Global, run: &ArgMatches<'_>) -> Result<Option<Order>, AllocE
     }))
 }
 
-// The order that the two words of `check` give, if they are there.
+/// The order that the two words of `check` give, if they are there.
 fn read_check(alloc: Global, check: &ArgMatches<'_>) -> Result<Option<Order>, AllocError>
     ensures name { IfOk result (λ r. IfSome r (λ o. name_of o ≡ codes "check")) }
     ensures some { IfOk result (λ r. IfSome r (HasTextsOf (rows_of (found_of check.now)))) }
@@ -94,7 +103,7 @@ fn read_check(alloc: Global, check: &ArgMatches<'_>) -> Result<Option<Order>, Al
     Ok(Some(Order::Check { schema, directory }))
 }
 
-// The order that the two words of `relate` give, if they are there.
+/// The order that the two words of `relate` give, if they are there.
 fn read_relate(alloc: Global, relate: &ArgMatches<'_>) -> Result<Option<Order>, AllocError>
     ensures name { IfOk result (λ r. IfSome r (λ o. name_of o ≡ codes "relate")) }
     ensures some { IfOk result (λ r. IfSome r (HasTextsOf (rows_of (found_of relate.now)))) }
@@ -109,7 +118,44 @@ fn read_relate(alloc: Global, relate: &ArgMatches<'_>) -> Result<Option<Order>, 
     Ok(Some(Order::Relate { first, second }))
 }
 
-// The word of this name, as a text of its own.
+/// The order that the words of `why` give, if the first is there.
+fn read_why(alloc: Global, why: &ArgMatches<'_>) -> Result<Option<Order>, AllocError>
+    ensures name { IfOk result (λ r. IfSome r (λ o. name_of o ≡ codes "why")) }
+    ensures some { IfOk result (λ r. IfSome r (HasTextsOf (rows_of (found_of why.now)))) }
+    ensures none { IfOk result (λ r. IfNone r (¬ HasWhyWords (rows_of (found_of why.now)))) }
+{
+    let Some(first) = text_of(alloc, why, "first")? else {
+        return Ok(None);
+    };
+    let second = text_of(alloc, why, "second")?;
+    Ok(Some(Order::Why { first, second }))
+}
+
+/// The order that the word of `pairs` gives, if it is there.
+fn read_pairs(alloc: Global, pairs: &ArgMatches<'_>) -> Result<Option<Order>, AllocError>
+    ensures name { IfOk result (λ r. IfSome r (λ o. name_of o ≡ codes "pairs")) }
+    ensures some { IfOk result (λ r. IfSome r (HasTextsOf (rows_of (found_of pairs.now)))) }
+    ensures none { IfOk result (λ r. IfNone r (¬ HasPairsWords (rows_of (found_of pairs.now)))) }
+{
+    let Some(file) = text_of(alloc, pairs, "file")? else {
+        return Ok(None);
+    };
+    Ok(Some(Order::Pairs { file }))
+}
+
+/// The order that the word of `fault` gives, if it is there.
+fn read_fault(alloc: Global, fault: &ArgMatches<'_>) -> Result<Option<Order>, AllocError>
+    ensures name { IfOk result (λ r. IfSome r (λ o. name_of o ≡ codes "fault")) }
+    ensures some { IfOk result (λ r. IfSome r (HasTextsOf (rows_of (found_of fault.now)))) }
+    ensures none { IfOk result (λ r. IfNone r (¬ HasFaultWords (rows_of (found_of fault.now)))) }
+{
+    let Some(code) = text_of(alloc, fault, "code")? else {
+        return Ok(None);
+    };
+    Ok(Some(Order::Fault { code }))
+}
+
+/// The word of this name, as a text of its own.
 fn text_of(alloc: Global, matches: &ArgMatches<'_>, id: &str) -> Result<Option<String>, AllocError>
     ensures { IfOk result (λ o. option_map string_bytes o ≡ first_value (found_of matches.now) id.now) }
 {

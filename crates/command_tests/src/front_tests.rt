@@ -25,7 +25,7 @@ fn each_beginning_of_a_geometry(rt: HostRuntime) {
     }
 }
 
-// Whether a query is run, or refused by a fault of the query, and writes nothing then.
+/// Whether a query is run, or refused by a fault of the query, and writes nothing then.
 fn is_run_or_refused(alloc: Global, query: &str) -> Result<bool, Fail> {
     let order = Order::Run {
         schema: String::from_str(alloc, "s")?,

@@ -10,7 +10,7 @@ use std::cell::Cell;
 use std::io::{ErrorKind, Read};
 use std::test::Fail;
 
-// How many bytes came.
+/// How many bytes came.
 #[derive(Drop)]
 struct ByteCount<'c>(&'c Cell<usize>);
 
@@ -36,8 +36,8 @@ fn a_followed_reader_gives_what_the_reader_beneath_gives(rt: HostRuntime) -> Res
     Ok(())
 }
 
-// How many candidates were looked at, how many rows of the outer table were still to come after the first and after the last
-// of them, and how many rows were found.
+/// How many candidates were looked at, how many rows of the outer table were still to come after the first and after the last
+/// of them, and how many rows were found.
 #[derive(Drop, Default)]
 struct RowCount {
     candidates: u64,
@@ -64,7 +64,7 @@ const SCHEMA: &[u8] = b"CREATE TABLE t (id INTEGER PRIMARY KEY, n INTEGER)";
 
 const TABLE: &[u8] = b"id,n\n1,7\n2,8\n3,7\n4,9\n";
 
-// The bytes of the file at a path.
+/// The bytes of the file at a path.
 fn file_at(path: &str) -> Option<&'static [u8]> {
     if path == "s" {
         Some(SCHEMA)
@@ -81,7 +81,7 @@ fn run_order(alloc: Global, query: &str) -> Result<Order, AllocError> {
     })
 }
 
-// What is reported of a query, where its output is that of the same query that nothing observes.
+/// What is reported of a query, where its output is that of the same query that nothing observes.
 fn observed(rt: &HostRuntime, query: &str) -> Result<RowCount, Fail> {
     let order = run_order(rt.alloc(), query)?;
     let mut count = RowCount::default();

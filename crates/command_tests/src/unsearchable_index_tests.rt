@@ -34,7 +34,7 @@ impl EnvelopeIndex for Unsearchable {
     }
 }
 
-// A hundred points at height 1, the one with the key k at k, as CSV.
+/// A hundred points at height 1, the one with the key k at k, as CSV.
 fn hundred_points(alloc: Global) -> Result<String, AllocError> {
     let mut text = String::from_str(alloc, "id,geom\n")?;
     for k in 1..=100u8 {
@@ -43,7 +43,7 @@ fn hundred_points(alloc: Global) -> Result<String, AllocError> {
     Ok(text)
 }
 
-// Runs a query over points, by their schema; what it writes is left in the sink. Returns the work.
+/// Runs a query over points, by their schema; what it writes is left in the sink. Returns the work.
 fn run_over(
     alloc: Global,
     schema: &Schema,

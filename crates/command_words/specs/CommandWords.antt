@@ -7,6 +7,10 @@ use Rattle.clap.specs.Simple.{on_top}
 abbrev pub required_word : Text → Rule
 required_word id = record (new_rule id) { required = true; value_names = 1 }
 
+-- a word that may be there, shown in help by one name
+abbrev pub optional_word : Text → Rule
+optional_word id = record (new_rule id) { value_names = 1 }
+
 -- `run SCHEMA DIR QUERY`
 abbrev pub run : App
 run = with_rule (with_rule (with_rule (new_app (codes "run")) (required_word (codes "schema")))
@@ -21,6 +25,18 @@ abbrev pub relate : App
 relate = with_rule (with_rule (new_app (codes "relate")) (required_word (codes "first")))
     (required_word (codes "second"))
 
+-- `why WKT [WKT]`
+abbrev pub why : App
+why = with_rule (with_rule (new_app (codes "why")) (required_word (codes "first"))) (optional_word (codes "second"))
+
+-- `pairs FILE`
+abbrev pub pairs : App
+pairs = with_rule (new_app (codes "pairs")) (required_word (codes "file"))
+
+-- `fault CODE`
+abbrev pub fault : App
+fault = with_rule (new_app (codes "fault")) (required_word (codes "code"))
+
 -- `sfq` without its subcommands, of which one has to be there; it has a version, and shows its help without any word
 abbrev pub bare_sfq : App
 bare_sfq = on_top (λ s. record s { has_version = true; subcommand_required = true; arg_required_else_help = true })
@@ -28,4 +44,5 @@ bare_sfq = on_top (λ s. record s { has_version = true; subcommand_required = tr
 
 -- `sfq` with its subcommands
 abbrev pub sfq : App
-sfq = with_subcommand (with_subcommand (with_subcommand bare_sfq run.top) check.top) relate.top
+sfq = with_subcommand (with_subcommand (with_subcommand (with_subcommand (with_subcommand (with_subcommand bare_sfq run.top) check.top) relate.top)
+    why.top) pairs.top) fault.top

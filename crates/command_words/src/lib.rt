@@ -4,7 +4,7 @@
 
 ghost use Rattle.std.specs.Prelude.{◌≡◌, false, codes, IfOk, IsOkAnd};
 ghost use Rattle.clap.specs.Words.{app_of, rule_of, with_rule, AddsSubcommand};
-ghost use Rattle.command_words.specs.CommandWords.{required_word, bare_sfq, check, run, relate, sfq};
+ghost use Rattle.command_words.specs.CommandWords.{optional_word, required_word, bare_sfq, check, fault, pairs, relate, run, sfq, why};
 
 use clap::{Arg, Command};
 use std::alloc::{AllocError, Global};
@@ -18,10 +18,13 @@ pub fn sfq_command<'a>(alloc: Global) -> Result<Command<'a>, AllocError>
 {
     let with_run = with_command(bare_command(alloc), run_command(alloc))?;
     let with_check = with_command(with_run, check_command(alloc))?;
-    with_command(with_check, relate_command(alloc))
+    let with_relate = with_command(with_check, relate_command(alloc))?;
+    let with_why = with_command(with_relate, why_command(alloc))?;
+    let with_pairs = with_command(with_why, pairs_command(alloc))?;
+    with_command(with_pairs, fault_command(alloc))
 }
 
-// The command with one more subcommand, if memory didn't run out.
+/// The command with one more subcommand, if memory didn't run out.
 fn with_command<'a>(
     command: Command<'a>,
     subcommand: Result<Command<'a>, AllocError>,
@@ -31,7 +34,7 @@ fn with_command<'a>(
     command.subcommand(subcommand?)
 }
 
-// What the help of `sfq` shows below its commands.
+/// What the help of `sfq` shows below its commands.
 const MORE: &str = "\
 Example, in a checkout:
   sfq run examples/parcels/schema.sql examples/parcels 'SELECT id, name FROM parcel LIMIT 3'
@@ -41,7 +44,7 @@ Statuses: 0 done, 2 the command line, 3 the schema, 4 a table, 5 the query or a 
 
 The manual: man sfq, or man ./man/sfq.1 in a checkout. docs/FAULTS.md explains each fault.";
 
-// `sfq` before it has its subcommands. Without any word it shows its help.
+/// `sfq` before it has its subcommands. Without any word it shows its help.
 fn bare_command<'a>(alloc: Global) -> Command<'a>
     ensures { app_of result ≡ bare_sfq }
 {
@@ -54,7 +57,7 @@ fn bare_command<'a>(alloc: Global) -> Command<'a>
         .after_help(MORE)
 }
 
-// The word that names the schema's file.
+/// The word that names the schema's file.
 fn schema_word<'a>(alloc: Global) -> Arg<'a>
     ensures rule { rule_of result ≡ required_word (codes "schema") }
     ensures local { result.global ≡ false }
@@ -67,7 +70,7 @@ fn schema_word<'a>(alloc: Global) -> Arg<'a>
     )
 }
 
-// The word that names the directory of the tables.
+/// The word that names the directory of the tables.
 fn directory_word<'a>(alloc: Global) -> Arg<'a>
     ensures rule { rule_of result ≡ required_word (codes "directory") }
     ensures local { result.global ≡ false }
@@ -80,7 +83,7 @@ fn directory_word<'a>(alloc: Global) -> Arg<'a>
     )
 }
 
-// What the help of `run` shows of a query.
+/// What the help of `run` shows of a query.
 const EXAMPLES: &str = "\
 Examples of a QUERY:
   SELECT name FROM parcel WHERE ST_Touches(geom, ST_GeomFromText('POINT(4 4)'))
@@ -93,7 +96,7 @@ Example, in a checkout:
 Statuses: 0 done, 3 the schema, 4 a table, 5 the query, 6 a file or the output,
 7 out of memory. docs/FAULTS.md and man sfq explain each fault.";
 
-// The command with the words that name the schema's file and the directory of the tables.
+/// The command with the words that name the schema's file and the directory of the tables.
 fn with_places<'a>(alloc: Global, command: Command<'a>) -> Result<Command<'a>, AllocError>
     ensures { IfOk result (λ c. app_of c ≡ with_rule (with_rule (app_of command.entry)
         (required_word (codes "schema"))) (required_word (codes "directory"))) }
@@ -101,7 +104,7 @@ fn with_places<'a>(alloc: Global, command: Command<'a>) -> Result<Command<'a>, A
     command.arg(schema_word(alloc))?.arg(directory_word(alloc))
 }
 
-// The word that is the query.
+/// The word that is the query.
 fn query_word<'a>(alloc: Global) -> Arg<'a>
     ensures rule { rule_of result ≡ required_word (codes "query") }
     ensures local { result.global ≡ false }
@@ -110,11 +113,11 @@ fn query_word<'a>(alloc: Global) -> Arg<'a>
         alloc,
         "query",
         "QUERY",
-        "The SELECT; write -- before it if it begins with -",
+        "The SELECT, or @FILE or @- for one in a file or in standard input; write -- before it if it begins with -",
     )
 }
 
-// `run SCHEMA DIR QUERY`
+/// `run SCHEMA DIR QUERY`
 fn run_command<'a>(alloc: Global) -> Result<Command<'a>, AllocError>
     ensures { IfOk result (λ c. app_of c ≡ run) }
 {
@@ -123,7 +126,7 @@ fn run_command<'a>(alloc: Global) -> Result<Command<'a>, AllocError>
     with_places(alloc, run)?.arg(query_word(alloc))
 }
 
-// What the help of `check` shows below its words.
+/// What the help of `check` shows below its words.
 const CHECKING: &str = "\
 Example, in a checkout:
   sfq check examples/parcels/schema.sql examples/parcels
@@ -131,7 +134,7 @@ Example, in a checkout:
 Statuses: 0 done, 3 the schema, 4 a table, 6 a file or the output, 7 out of memory.
 docs/FAULTS.md and man sfq explain each fault.";
 
-// `check SCHEMA DIR`
+/// `check SCHEMA DIR`
 fn check_command<'a>(alloc: Global) -> Result<Command<'a>, AllocError>
     ensures { IfOk result (λ c. app_of c ≡ check) }
 {
@@ -140,7 +143,7 @@ fn check_command<'a>(alloc: Global) -> Result<Command<'a>, AllocError>
     with_places(alloc, check.after_help(CHECKING))
 }
 
-// The word that is the first geometry.
+/// The word that is the first geometry.
 fn first_word<'a>(alloc: Global) -> Arg<'a>
     ensures rule { rule_of result ≡ required_word (codes "first") }
     ensures local { result.global ≡ false }
@@ -149,11 +152,11 @@ fn first_word<'a>(alloc: Global) -> Arg<'a>
         alloc,
         "first",
         "WKT",
-        "The first geometry, such as POINT(1 2)",
+        "The first geometry, such as POINT(1 2), or @FILE or @- for one in a file or in standard input",
     )
 }
 
-// The word that is the second geometry.
+/// The word that is the second geometry.
 fn second_word<'a>(alloc: Global) -> Arg<'a>
     ensures rule { rule_of result ≡ required_word (codes "second") }
     ensures local { result.global ≡ false }
@@ -162,11 +165,11 @@ fn second_word<'a>(alloc: Global) -> Arg<'a>
         alloc,
         "second",
         "WKT",
-        "The second geometry, such as MULTIPOINT((1 2),(3 4))",
+        "The second geometry, such as MULTIPOINT((1 2),(3 4)), or @FILE or @-",
     )
 }
 
-// What the help of `relate` shows below its words.
+/// What the help of `relate` shows below its words.
 const RELATING: &str = "\
 Example:
   sfq relate 'LINESTRING(-2 2,2 -2)' 'POLYGON((0 0,4 0,4 4,0 4,0 0))'
@@ -174,7 +177,7 @@ Example:
 Statuses: 0 done, 5 a geometry, 6 the output, 7 out of memory.
 docs/FAULTS.md and man sfq explain each fault.";
 
-// `relate WKT WKT`
+/// `relate WKT WKT`
 fn relate_command<'a>(alloc: Global) -> Result<Command<'a>, AllocError>
     ensures { IfOk result (λ c. app_of c ≡ relate) }
 {
@@ -185,7 +188,94 @@ fn relate_command<'a>(alloc: Global) -> Result<Command<'a>, AllocError>
     relate.arg(first_word(alloc))?.arg(second_word(alloc))
 }
 
-// A required word in its place.
+/// The second geometry of a command that also takes one alone.
+fn other_word<'a>(alloc: Global) -> Arg<'a>
+    ensures rule { rule_of result ≡ optional_word (codes "second") }
+    ensures local { result.global ≡ false }
+{
+    Arg::new(alloc, "second").value_name("WKT").help(
+        "The second geometry; without it the first one is tested for validity",
+    )
+}
+
+/// What the help of `why` shows below its words.
+const REASONS: &str = "\
+Examples:
+  sfq why 'LINESTRING(0 0,3 1)' 'LINESTRING(0 1,2 0)'
+  sfq why 'POLYGON((0 0,4 4,4 0,0 4,0 0))'
+
+Statuses: 0 done, 5 a geometry, 6 a file or the output, 7 out of memory.
+docs/FAULTS.md and man sfq explain each fault.";
+
+/// `why WKT [WKT]`
+fn why_command<'a>(alloc: Global) -> Result<Command<'a>, AllocError>
+    ensures { IfOk result (λ c. app_of c ≡ why) }
+{
+    let about = "Shows where two geometries meet, or why one isn't valid";
+    let why = Command::new(alloc, "why").about(about).after_help(REASONS);
+    why.arg(first_word(alloc))?.arg(other_word(alloc))
+}
+
+/// What the help of `pairs` shows below its word.
+const PAIRING: &str = "\
+Example, in a checkout:
+  sfq pairs examples/pairs.csv
+
+Statuses: 0 done, 4 a record that hasn't two fields, 5 a geometry that was refused,
+6 a file or the output, 7 out of memory. docs/FAULTS.md and man sfq explain each fault.";
+
+/// The word that names the file of pairs.
+fn file_word<'a>(alloc: Global) -> Arg<'a>
+    ensures rule { rule_of result ≡ required_word (codes "file") }
+    ensures local { result.global ≡ false }
+{
+    word(
+        alloc,
+        "file",
+        "FILE",
+        "CSV without a header: two geometries in each record; - for standard input",
+    )
+}
+
+/// `pairs FILE`
+fn pairs_command<'a>(alloc: Global) -> Result<Command<'a>, AllocError>
+    ensures { IfOk result (λ c. app_of c ≡ pairs) }
+{
+    let about = "Writes the DE-9IM matrix of each pair of geometries in a file";
+    let pairs = Command::new(alloc, "pairs").about(about);
+    pairs.after_help(PAIRING).arg(file_word(alloc))
+}
+
+/// What the help of `fault` shows below its word.
+const FAULTS: &str = "\
+Example:
+  sfq fault V3
+
+Statuses: 0 done, 2 an unknown code, 6 the output, 7 out of memory.";
+
+/// The word that is the code of a fault.
+fn code_word<'a>(alloc: Global) -> Arg<'a>
+    ensures rule { rule_of result ≡ required_word (codes "code") }
+    ensures local { result.global ≡ false }
+{
+    word(
+        alloc,
+        "code",
+        "CODE",
+        "The code in the line of a fault, such as V3",
+    )
+}
+
+/// `fault CODE`
+fn fault_command<'a>(alloc: Global) -> Result<Command<'a>, AllocError>
+    ensures { IfOk result (λ c. app_of c ≡ fault) }
+{
+    let about = "Explains a fault, with an example and what to do";
+    let fault = Command::new(alloc, "fault").about(about);
+    fault.after_help(FAULTS).arg(code_word(alloc))
+}
+
+/// A required word in its place.
 fn word<'a>(alloc: Global, id: &'a str, name: &'a str, help: &'a str) -> Arg<'a>
     ensures rule { rule_of result ≡ required_word id.entry.now }
     ensures local { result.global ≡ false }

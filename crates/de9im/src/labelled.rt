@@ -9,8 +9,9 @@ use geometry_model::{Dimension, Location};
 use matrices::MatrixCells;
 use side_labels::{Label, Labels, SideLabels};
 
-/// The cells of the matrix that labels show: for each two parts the greatest dimension of what has this label, where a node has 0, a piece 1,
-/// and the side of a piece 2. The two exteriors always share an area (OGC 06-103r4, 6.1.15.2; labels: this project's choice). It takes no memory.
+/// The cells of the matrix that labels show: for each two parts the greatest dimension of what has this label, where a node has
+/// 0, a piece 1, and the side of a piece 2. The two exteriors always share an area (06-103r4, 6.1.15.2; labels: this project's
+/// choice). It takes no memory.
 pub fn matrix_of_labels(labels: &Labels) -> MatrixCells
     ensures { result ≡ matrix_of_labels labels.now }
 {
@@ -27,7 +28,7 @@ pub fn matrix_of_labels(labels: &Labels) -> MatrixCells
     }
 }
 
-// The greatest dimension of what has this pair of parts as its label: a side of a piece has 2, a piece 1, a node 0.
+/// The greatest dimension of what has this pair of parts as its label: a side of a piece has 2, a piece 1, a node 0.
 fn cell(labels: &Labels, first: Location, second: Location) -> Dimension
     ensures { result ≡ labelled_cell labels.now first second }
 {
@@ -42,14 +43,14 @@ fn cell(labels: &Labels, first: Location, second: Location) -> Dimension
     }
 }
 
-// Whether one of the labels is this pair of parts.
+/// Whether one of the labels is this pair of parts.
 fn some_label(labels: &[Label], first: Location, second: Location) -> bool
     ensures { result ≡ list_any (is_pair first second) labels.now }
 {
     labels.iter().any(|label| label.is_pair(first, second))
 }
 
-// Whether one of the labels of sides is this pair of parts.
+/// Whether one of the labels of sides is this pair of parts.
 fn some_side(sides: &[Option<SideLabels>], first: Location, second: Location) -> bool
     ensures { result ≡ list_any (is_side_pair first second) sides.now }
 {
@@ -58,7 +59,7 @@ fn some_side(sides: &[Option<SideLabels>], first: Location, second: Location) ->
         .any(|labels| is_side_pair(labels, first, second))
 }
 
-// Whether there are sides, and the label of one of them is this pair of parts.
+/// Whether there are sides, and the label of one of them is this pair of parts.
 fn is_side_pair(sides: &Option<SideLabels>, first: Location, second: Location) -> bool
     ensures { result ≡ is_side_pair first second sides.now }
 {

@@ -1,4 +1,4 @@
-//! The dimensionally extended nine-intersection model of two geometries (OGC 06-103r4, 6.1.15): `relate` computes their
+//! The dimensionally extended nine-intersection model of two geometries (06-103r4, 6.1.15): `relate` computes their
 //! matrix; patterns match it, and the spatial predicates follow from it.
 #![tactic(auto)]
 

@@ -26,14 +26,14 @@ impl Matrix {
     ghost use Rattle.geometry_model.specs.Dimensions.{cell};
     ghost use Rattle.geometry_model.specs.Patterns.{matrix_text};
 
-    // The matrix with these cells.
+    /// The matrix with these cells.
     pub(crate) fn of_cells(cells: MatrixCells) -> Matrix
         ensures { result ≡ cells }
     {
         Matrix { cells }
     }
 
-    // Lends its cells.
+    /// Lends its cells.
     pub(crate) fn cells(&self) -> &MatrixCells
         ensures { result.now ≡ self.now }
     {

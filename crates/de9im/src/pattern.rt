@@ -10,7 +10,7 @@ use matrices::MatrixCells;
 
 /// A pattern of the DE-9IM matrix, as what matches matrices (06-103r4, 6.1.15.2). Only [`Pattern`] implements it.
 pub trait MatrixPattern {
-    // The pattern that a value is.
+    /// The pattern that a value is.
     ghost pattern: { Self → Pattern };
 
     /// Whether each character of the pattern matches its cell of the matrix (06-103r4, 6.1.15.2).
@@ -26,7 +26,7 @@ impl MatrixPattern for Pattern {
     }
 }
 
-// Whether each character of the pattern matches its cell.
+/// Whether each character of the pattern matches its cell.
 pub(crate) fn matches_cells(pattern: &Pattern, cells: &MatrixCells) -> bool
     ensures { result ≡ matches pattern.now cells.now }
 {
@@ -41,7 +41,7 @@ pub(crate) fn matches_cells(pattern: &Pattern, cells: &MatrixCells) -> bool
         && takes(pattern.exterior_exterior, cells.exterior_exterior)
 }
 
-// Whether a pattern character matches a cell of a matrix.
+/// Whether a pattern character matches a cell of a matrix.
 fn takes(character: PatternCharacter, dimension: Dimension) -> bool
     ensures { result ≡ takes character dimension }
 {

@@ -10,7 +10,7 @@ use matrices::MatrixCells;
 use matrix_patterns::PatternText;
 
 /// Whether the predicate holds of two geometries of these kinds whose DE-9IM matrix this is (06-103r4, 6.1.15.3; the
-/// patterns of each predicate are this project's). It takes no memory.
+/// patterns of each predicate: this project's choice). It takes no memory.
 pub fn holds(predicate: Predicate, first: Kind, second: Kind, matrix: &Matrix) -> bool
     ensures { result ≡ holds predicate first second matrix.now }
 {
@@ -30,7 +30,7 @@ pub fn holds(predicate: Predicate, first: Kind, second: Kind, matrix: &Matrix) -
     }
 }
 
-// Whether the cells match the pattern of this text.
+/// Whether the cells match the pattern of this text.
 fn like(text: &str, cells: &MatrixCells) -> bool
     ensures { result ≡ like text.now cells.now }
 {
@@ -40,7 +40,7 @@ fn like(text: &str, cells: &MatrixCells) -> bool
     }
 }
 
-// Whether Crosses holds, by the kinds of the two geometries.
+/// Whether Crosses holds, by the kinds of the two geometries.
 fn crosses(first: Kind, second: Kind, cells: &MatrixCells) -> bool
     ensures { result ≡ crosses first second cells.now }
 {
@@ -56,7 +56,7 @@ fn crosses(first: Kind, second: Kind, cells: &MatrixCells) -> bool
     }
 }
 
-// Whether Overlaps holds, by the kinds of the two geometries.
+/// Whether Overlaps holds, by the kinds of the two geometries.
 fn overlaps(first: Kind, second: Kind, cells: &MatrixCells) -> bool
     ensures { result ≡ overlaps first second cells.now }
 {

@@ -34,7 +34,7 @@ impl Work {
         self.count
     }
 
-    // One matrix more.
+    /// One matrix more.
     pub(crate) fn add_one(&mut self)
         ensures { self.new ≡ one_more self.old }
     {

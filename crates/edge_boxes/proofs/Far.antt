@@ -15,8 +15,8 @@ use Rattle.integers.proofs.Signs.{plus_minus, strict_plus_plus, at_most_or_less,
 use Rattle.geometry_laws.proofs.Scaling.{and_parts, and_from}
 use Rattle.validity_laws.proofs.ElementFacts.{or_from}
 use Rattle.validity_laws.proofs.SharedPoints.{shared_point_is_decided}
-use Rattle.ring_tests.specs.RunLaws.{box_of}
-use Rattle.ring_tests.proofs.Boxes.{sharing_boxes_overlap}
+use Rattle.edge_boxes.specs.RunLaws.{box_of}
+use Rattle.edge_boxes.proofs.OverlappingBoxes.{sharing_boxes_overlap}
 use Rattle.edge_boxes.specs.EdgeRuns.{LiesIn}
 use Rattle.edge_boxes.specs.Strips.{rise, LiesInStrip, IsStripOf, lies_beside}
 use Rattle.edge_boxes.specs.OneLine.{SharesNone}
@@ -104,7 +104,7 @@ beside_parts s e f right l beside w =
         (more (rise s.direction e.start.x e.start.y) s.greatest above.0) (more (rise s.direction e.end.x e.end.y) s.greatest above.1) w.on_second w.on_first
 
 -- an edge within bounds that don't meet the others has a rectangle that doesn't meet them either
-edge_apart : (b c : Envelope) (e : Edge) → LiesIn b e → overlap b c ≡ false → overlap (box_of e) c ≡ false
+pub edge_apart : (b c : Envelope) (e : Edge) → LiesIn b e → overlap b c ≡ false → overlap (box_of e) c ≡ false
 edge_apart b c e l far = go (overlap (box_of e) c) refl
   where
     least : (m s t g : ℤ) → m ≤ℤ s → m ≤ℤ t → int_le (int_min s t) g ≡ true → int_le m g ≡ true

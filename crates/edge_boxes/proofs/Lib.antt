@@ -11,3 +11,9 @@ pub mod StripTaking
 pub mod Sharing
 pub mod Far
 pub mod BoxLines
+pub mod Near
+pub mod Runs
+pub mod OverlappingBoxes
+pub mod Beside
+pub mod NearRingFacts
+pub mod Rests

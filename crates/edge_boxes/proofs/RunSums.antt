@@ -8,7 +8,7 @@ use Rattle.geometry_model.specs.Envelopes.{Envelope, joined}
 use Rattle.geometry_model.specs.Crossings.{exactly_one as xor, spans, odd}
 use Rattle.geometry_laws.proofs.Xor.{xor_self, xor_false}
 use Rattle.geometry_laws.proofs.Each.{odd_count, parity_append}
-use Rattle.ring_tests.specs.RunLaws.{box_of}
+use Rattle.edge_boxes.specs.RunLaws.{box_of}
 use Rattle.edge_boxes.specs.EdgeRuns.{IsWithin, LiesIn, Telescopes}
 
 -- ---- bounds

@@ -6,8 +6,8 @@ use Rattle.std.proofs.lemmas.List.{take-append-drop, reverse-append}
 use Rattle.geometry_model.specs.Geometries.{Edge}
 use Rattle.geometry_model.specs.Envelopes.{overlap}
 use Rattle.geometry_model.specs.FirstFaults.{share_point}
-use Rattle.ring_tests.specs.RunLaws.{box_of}
-use Rattle.ring_tests.proofs.Boxes.{sharing_boxes_overlap}
+use Rattle.edge_boxes.specs.RunLaws.{box_of}
+use Rattle.edge_boxes.proofs.OverlappingBoxes.{sharing_boxes_overlap}
 use Rattle.edge_boxes.specs.BoxLists.{covered, AreBoxes}
 use Rattle.edge_boxes.specs.OneLine.{SharesNone}
 use Rattle.edge_boxes.specs.Sharings.{is_asked, places_asked, IsAskedStep}
@@ -70,7 +70,7 @@ reversed true n l = reverse-append (n ∷ []) l
 reversed false n l = sym (append-nil (reverse l))
 
 -- the edges from a place up to an end are the edge there and those after it
-edge_before : (edges : List Edge) (at end : ℕ) (e : Edge) → at < end → end ≤ length edges → e ≡ get_or edges at e → slice_range edges at end ≡ e ∷ slice_range edges (suc at) end
+pub edge_before : (edges : List Edge) (at end : ℕ) (e : Edge) → at < end → end ≤ length edges → e ≡ get_or edges at e → slice_range edges at end ≡ e ∷ slice_range edges (suc at) end
 edge_before edges at end e h k is =
     let less : end - at ≡ suc (end - suc at) = omega (arith, h) in
     ap (λ n. take n (drop at edges)) less ∙ ap (take (suc (end - suc at))) (drop-cons edges at e (omega (arith, h, k)) ∙ ap (λ x. x ∷ drop (suc at) edges) (sym is))

@@ -8,3 +8,7 @@ pub mod Builds
 pub mod Sharings
 pub mod LineCrossings
 pub mod OneLine
+pub mod NearEdges
+pub mod RingEdges
+pub mod RunLaws
+pub mod NearRings

@@ -3,12 +3,13 @@
 ghost use Rattle.std.specs.Prelude.{◌≡◌, ◌&&◌, int_le};
 ghost use Rattle.std.specs.Int.{int_min, int_max};
 ghost use Rattle.geometry_model.specs.Envelopes as spec;
-ghost use Rattle.ring_tests.specs.RunLaws.{box_of};
+ghost use Rattle.edge_boxes.specs.RunLaws.{box_of};
 
 use orient::Segment;
+use rtree::Envelope;
 use std::marker::Model;
 
-/// The least and the greatest x and y of some edges (OGC 06-103r4, 6.1.2.2: Envelope).
+/// The least and the greatest x and y of some edges (06-103r4, 6.1.2.2: Envelope).
 #[derive(Clone, Copy, Debug)]
 pub struct Bounds {
     pub(crate) least_x: i32,
@@ -38,13 +39,25 @@ impl Model for Bounds {
 }
 
 impl Bounds {
-    /// The bounds of one edge (OGC 06-103r4, 6.1.2.2: Envelope).
+    /// The bounds of one edge (06-103r4, 6.1.2.2: Envelope).
     pub fn of(edge: &Segment) -> Bounds
         ensures { result ≡ box_of edge.now }
     {
         let start = edge.start();
         let end = edge.end();
         of_ends(start.x(), start.y(), end.x(), end.y())
+    }
+
+    /// The bounds that an envelope is (06-103r4, 6.1.2.2: Envelope).
+    pub(crate) fn of_envelope(envelope: &Envelope) -> Bounds
+        ensures { result ≡ envelope.now }
+    {
+        Bounds {
+            least_x: envelope.least_x(),
+            greatest_x: envelope.greatest_x(),
+            least_y: envelope.least_y(),
+            greatest_y: envelope.greatest_y(),
+        }
     }
 
     /// The bounds of both.

@@ -10,7 +10,7 @@
 //! ends of its run of edges decide for the whole run; else the walk goes on inside. A box over at most 128 edges also keeps a
 //! strip along its run, which decides more without a look inside. Edges without a box are asked singly.
 
-ghost use Rattle.std.specs.Prelude.{◌≡◌, ◌≤◌, ◌<◌, length, List, [], IfOk, OnErr, OnOk, slice_range};
+ghost use Rattle.std.specs.Prelude.{◌≡◌, ◌≤◌, ◌<◌, false, length, List, [], IfOk, OnErr, OnOk, slice_range};
 ghost use Rattle.std.specs.List.{list_any};
 ghost use Rattle.geometry_model.specs.Geometries.{Edge};
 ghost use Rattle.edge_boxes.specs.BoxCells.{IsCellOf};
@@ -18,6 +18,7 @@ ghost use Rattle.edge_boxes.specs.EdgeCrossings.{AreCrossings, on_any};
 ghost use Rattle.edge_boxes.specs.BoxLists.{AreBoxes, BoxesOf, covered};
 ghost use Rattle.edge_boxes.specs.Sharings.{places_sharing};
 ghost use Rattle.edge_boxes.specs.OneLine.{meet_on_one_line};
+ghost use Rattle.edge_boxes.specs.NearEdges.{is_near, EndsNear};
 ghost use Rattle.edge_boxes.specs.Walks.{IsStep};
 
 use crate::bounds::Bounds;
@@ -25,10 +26,12 @@ use crate::building::boxes_over;
 use crate::cells::Cell;
 use crate::kept_runs::Run;
 use crate::lines::is_one_on_line_among;
+use crate::near_envelopes::last_near_among;
 use crate::point_crossings::{Crossings, none, of_edges, said};
 use crate::sharing_edges::{Asked, push_asked};
 use fraction::RatPoint;
 use orient::Segment;
+use rtree::Envelope;
 use std::alloc::{AllocError, Global};
 
 /// A box over a run of consecutive edges. It comes after the boxes of its subtree.
@@ -66,7 +69,7 @@ impl EdgeBoxes {
         crossings_among(self.boxes.as_slice(), edges, point)
     }
 
-    /// Whether a point lies on one of the edges (OGC 06-103r4, 6.1.7). It stops at the first box whose edges hold it.
+    /// Whether a point lies on one of the edges (06-103r4, 6.1.7). It stops at the first box whose edges hold it.
     pub fn holds(&self, edges: &[Segment], point: &RatPoint) -> bool
         requires { BoxesOf self.now edges.now }
         ensures { result ≡ on_any edges.now point.now }
@@ -75,12 +78,30 @@ impl EdgeBoxes {
     }
 
     /// Whether one of the edges is on one line with another edge and shares a point with it. If it returns false, none of them
-    /// shares a stretch with it (OGC 06-103r4, 6.1.15.2: intersection). It takes no memory.
+    /// shares a stretch with it (06-103r4, 6.1.15.2: intersection). It takes no memory.
     pub fn meets_on_line(&self, edges: &[Segment], edge: &Segment) -> bool
         requires { BoxesOf self.now edges.now }
         ensures { result ≡ list_any (meet_on_one_line edge.now) edges.now }
     {
         is_one_on_line_among(self.boxes.as_slice(), edges, edge)
+    }
+
+    /// The place after the last edge, before a place, that is near an envelope: its bounds overlap it. It is 0 if there is none.
+    /// All edges from there to the place are outside the envelope (06-103r4, 6.1.2.2: Envelope). It passes over boxes that
+    /// are, and takes no memory.
+    pub fn last_near(&self, edges: &[Segment], around: &Envelope, end: usize) -> usize
+        requires boxes { BoxesOf self.now edges.now }
+        requires end { end ≤ length edges.now }
+        ensures before { result ≤ end }
+        ensures outside { list_any (is_near around.now) (slice_range edges.now result end) ≡ false }
+        ensures near { 0 < result → EndsNear around.now edges.now result }
+    {
+        last_near_among(
+            self.boxes.as_slice(),
+            edges,
+            &Bounds::of_envelope(around),
+            end,
+        )
     }
 
     /// Replaces what the vector holds by the places, from this one on, of the edges that share a point with an edge, ascending.

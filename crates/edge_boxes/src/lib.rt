@@ -1,5 +1,6 @@
-//! Lists of boxes over consecutive edges. With them, how a point lies relative to the edges, and which edges are near
-//! another, is found without a look at each edge. A list of boxes is built in one pass.
+//! Tests of edges of rings and lines: whether two edges share a point or clash, whether a ring is closed or simple, whether a
+//! position is inside. By lists of boxes over consecutive edges, how a point lies relative to the edges, and which edges are
+//! near another or an envelope, is found without a look at each edge. A list of boxes is built in one pass.
 #![tactic(auto)]
 
 pub mod bounds;
@@ -7,12 +8,20 @@ pub mod box_laws;
 mod boxes;
 mod building;
 mod cells;
+mod edge_pairs;
 mod kept_runs;
 mod lines;
+pub mod near_edges;
+mod near_envelopes;
 pub mod point_crossings;
+pub mod ring_laws;
+mod rings;
 mod sharing_edges;
 mod strips;
 
 pub use bounds::Bounds;
 pub use boxes::EdgeBoxes;
+pub use edge_pairs::share_point;
+pub use near_edges::{is_not_simple, share};
 pub use point_crossings::Crossings;
+pub use rings::{clash, is_inside, is_not_closed};

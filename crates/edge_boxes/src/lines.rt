@@ -3,15 +3,15 @@
 ghost use Rattle.std.specs.Prelude.{◌≡◌, ◌≤◌, ◌<◌, true, length};
 ghost use Rattle.std.specs.List.{list_any};
 ghost use Rattle.geometry_model.specs.Sides.{on_one_line};
-ghost use Rattle.ring_tests.specs.RunLaws.{box_of};
+ghost use Rattle.edge_boxes.specs.RunLaws.{box_of};
 ghost use Rattle.edge_boxes.specs.BoxLists.{AreBoxes};
 ghost use Rattle.edge_boxes.specs.OneLine.{meet_on_one_line, SharesNone, IsLineStep};
 
 use crate::bounds::Bounds;
 use crate::boxes::{EdgeBox, covered, run_of};
 use crate::kept_runs::Run;
+use crate::share_point;
 use orient::{Segment, side_number};
-use ring_tests::share_point;
 
 /// Whether two edges are on one line.
 fn are_on_one_line(edge: &Segment, other: &Segment) -> bool
@@ -69,7 +69,8 @@ pub(crate) fn is_one_on_line_among(boxes: &[EdgeBox], edges: &[Segment], edge: &
     false
 }
 
-/// Whether there is such an edge between the place that is looked at next, which is before this one, and this one. The bounds are the edge's.
+/// Whether there is such an edge between the place that is looked at next, which is before this one, and this one. The bounds are
+/// the edge's.
 fn line_step(
     boxes: &[EdgeBox],
     edges: &[Segment],

@@ -15,7 +15,7 @@ use crate::strips::Strip;
 use fraction::RatPoint;
 use orient::{Segment, crossing_at};
 
-/// How a point lies relative to edges (OGC 06-103r4, 6.1.11.1: inside). Of an edge's ends the left one counts and the right
+/// How a point lies relative to edges (06-103r4, 6.1.11.1: inside). Of an edge's ends the left one counts and the right
 /// one doesn't; a vertical edge lies above no point.
 #[derive(Clone, Copy, Debug, PartialEq)]
 pub struct Crossings {

@@ -2,15 +2,15 @@
 
 ghost use Rattle.std.specs.Prelude.{◌≡◌, ◌≤◌, ◌<◌, ◌++◌, ◌∷◌, [], cond, length, reverse, slice_range, OnOk, IfOk};
 ghost use Rattle.geometry_model.specs.FirstFaults as spec;
-ghost use Rattle.ring_tests.specs.RunLaws.{box_of};
+ghost use Rattle.edge_boxes.specs.RunLaws.{box_of};
 ghost use Rattle.edge_boxes.specs.BoxLists.{AreBoxes, covered};
 ghost use Rattle.edge_boxes.specs.Sharings.{is_asked, places_asked, IsAskedStep};
 
 use crate::bounds::Bounds;
 use crate::boxes::{EdgeBox, covered};
 use crate::lines::is_far;
+use crate::share_point;
 use orient::Segment;
-use ring_tests::share_point;
 use std::alloc::AllocError;
 
 /// What is asked for: the edges from a place on that share a point with this one. The bounds are this one's.

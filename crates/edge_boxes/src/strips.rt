@@ -1,4 +1,5 @@
-//! Strips: the part of the plane between two parallel lines. A long thin run in a slanted direction has wide bounds and a narrow strip.
+//! Strips: the part of the plane between two parallel lines. A long thin run in a slanted direction has wide bounds and a narrow
+//! strip.
 
 ghost use Rattle.std.specs.Prelude.{◌≡◌, ◌&&◌, ◌||◌, ◌<ℤ◌, ◌*ℤ◌, pos, int_lt, IfSome};
 ghost use Rattle.edge_boxes.specs.Strips as spec;

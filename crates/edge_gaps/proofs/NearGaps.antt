@@ -9,7 +9,7 @@ use Rattle.geometry_laws.proofs.Each.{Among}
 use Rattle.geometry_laws.proofs.Scaling.{and_from}
 use Rattle.matrix_laws.proofs.MatrixLists.{contains_from_among}
 use Rattle.validity_laws.proofs.SharedPoints.{shared_point_is_decided}
-use Rattle.ring_tests.specs.RunLaws.{box_of}
+use Rattle.edge_boxes.specs.RunLaws.{box_of}
 use Rattle.edge_boxes.specs.Sharings.{is_asked, places_asked, places_sharing}
 
 -- ---- the places asked for

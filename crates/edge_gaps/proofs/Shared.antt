@@ -13,8 +13,8 @@ use Rattle.geometry_laws.proofs.Scaling.{and_parts, and_from}
 use Rattle.validity_laws.proofs.SharedPoints.{shared_point_is_decided}
 use Rattle.fraction.specs.Ranges.{meeting_limit}
 use Rattle.matrix_laws.proofs.MatrixLists.{among_from_contains, any_from_some}
-use Rattle.ring_tests.specs.RunLaws.{box_of}
-use Rattle.ring_tests.proofs.Boxes.{sharing_boxes_overlap}
+use Rattle.edge_boxes.specs.RunLaws.{box_of}
+use Rattle.edge_boxes.proofs.OverlappingBoxes.{sharing_boxes_overlap}
 use Rattle.edge_boxes.specs.Sharings.{places_sharing}
 use Rattle.edge_boxes.specs.OneLine.{meet_on_one_line}
 use Rattle.noding.specs.Meetings.{on_both, named, is_common_cut}

@@ -16,13 +16,14 @@ use std::alloc::{AllocError, Global};
 use std::marker::Model;
 
 /// Where other edges meet an edge: the points that it shares with them, and its stops. The stops ascend from the edge's lesser
-/// end to its greater one; each of the other edges holds all points between two neighbouring stops or none (OGC 06-103r4,
+/// end to its greater one; each of the other edges holds all points between two neighbouring stops or none (06-103r4,
 /// 6.1.15.2: intersection; gaps: this project's choice). It is filled for one edge after another, and keeps its memory. It takes
 /// none if up to 16 others meet an edge in few points.
 #[derive(Debug, Drop)]
 pub struct Gaps {
     places: Vec<usize>,
     named: usize,
+    all_named: usize,
     shared: SmallVec<RatPoint, 8>,
     stops: SmallVec<RatPoint, 8>,
 }
@@ -43,6 +44,7 @@ impl Gaps {
         Gaps {
             places: Vec::new(alloc),
             named: 0,
+            all_named: 0,
             shared: SmallVec::new(alloc),
             stops: SmallVec::new(alloc),
         }
@@ -80,6 +82,7 @@ impl Gaps {
     {
         find_shared(edge, others, boxes, &mut self.places, &mut self.shared)?;
         self.named = self.shared.len();
+        self.all_named = self.all_named.saturating_add(self.named);
         put_in_order(&mut self.shared);
         set_stops(&mut self.stops, edge, self.shared.as_slice())
     }
@@ -98,6 +101,11 @@ impl Gaps {
     /// that the edge is, of which no contract speaks.
     pub fn named(&self) -> usize {
         self.named
+    }
+
+    /// The same of all edges for which it was filled.
+    pub fn all_named(&self) -> usize {
+        self.all_named
     }
 
     /// Lends the points that the edge shares with others.

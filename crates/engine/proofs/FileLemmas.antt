@@ -1,15 +1,13 @@
 -- What files give, and how commands over them end.
 use Rattle.std.proofs.Common.{Bool, true, false, ◌≡◌, ◌≢◌, ◌+◌, ◌<◌, ◌≤◌, ◌⊎◌, inl, inr, ℕ, zero, suc, List, [], ◌∷◌, ◌++◌, length, map, take, get_or, Option, None, Some, Result, Ok, Err, refl, sym, ◌∙◌, ap, subst, add-one, arith}
 use Rattle.std.specs.Prelude.{IfSome, IsErrAnd, slice_get}
-use Rattle.std.specs.Option.{option_map}
-use Rattle.std.specs.Io.Take.{take_inner, take_limit, take_remaining}
-use Rattle.std.specs.declared.io.traits.Take.{Take}
 use Rattle.std.specs.Fn.{CalledAt, Mut}
 use Rattle.std.proofs.lemmas.Bool.{cases_lt, lt-ltb}
 use Rattle.std.proofs.lemmas.List.{length-take, take_all}
 use denote.Ref.{Bor}
-use Rattle.engine.specs.Commands.{IsFaultOf, IsTextOf, IsUnread, Opens, ReadsSchema, check_outcome, check_text, schema_failure}
-use Rattle.engine.specs.Ends.{failed_writes}
+use Rattle.engine.specs.Commands.{IsFaultOf, IsUnread, Opens, ReadsSchema, check_outcome, check_text, schema_failure}
+use Rattle.text_commands.specs.Ends.{failed_writes}
+use Rattle.word_texts.specs.GivenTexts.{IsTextOf}
 use Rattle.failures.specs.declared.failure.Failure.{Failure}
 use Rattle.failures.specs.declared.failure.Failure.TheVariants as f
 use Rattle.failures.specs.declared.run_fault.Fault.{Fault}
@@ -45,18 +43,6 @@ cut_by limit bytes is (inr within) = ap (schema_of shape_named) (take_all limit 
 -- a text that is too long is refused alike where it is cut one byte past the greatest length
 pub schema-cut : (limit : ℕ) (bytes : List ℕ) → limit ≡ most_bytes + 1 → schema_of shape_named (take limit bytes) ≡ schema_of shape_named bytes
 schema-cut limit bytes is = cut_by limit bytes is (cases_lt limit (length bytes))
-
--- the bytes that are read up to a limit are those of the reader beneath
-taken : (known : Option (List ℕ)) (limit : ℕ) (text : List ℕ) → IfSome (option_map (take limit) known) (λ bytes. text ≡ bytes) → IfSome known (λ bytes. text ≡ take limit bytes)
-taken None limit text is = tt
-taken (Some bytes) limit text is = is
-
-pub taken-from : {R : Type 0} (remaining : R → Option (List ℕ)) (reading : Take R) (file : R) (limit : ℕ) (text : List ℕ) → take_limit reading ≡ limit → take_inner reading ≡ file
-    → IfSome (take_remaining remaining reading) (λ bytes. text ≡ bytes) → IfSome (remaining file) (λ bytes. text ≡ take limit bytes)
-taken-from remaining reading file limit text limited inner is =
-    taken (remaining file) limit text
-    (subst (λ known. IfSome known (λ bytes. text ≡ bytes))
-    (ap (λ n. option_map (take n) (remaining (take_inner reading))) limited ∙ ap (λ r. option_map (take limit) (remaining r)) inner) is)
 
 -- what the text that was read gives, the text of the file gives
 pub text-gives : (known : Option (List ℕ)) (limit : ℕ) (text : List ℕ) (answer : Result SpatialSchema SchemaFault) → limit ≡ most_bytes + 1

@@ -4,41 +4,26 @@ use Rattle.std.specs.Fn.{CalledAt, Mut}
 use denote.Ref.{Bor}
 use Rattle.command_line.specs.declared.known_commands.Order.{Order}
 use Rattle.command_line.specs.declared.known_commands.Order.TheVariants as orders
-use Rattle.engine.specs.Ends.{Answers, End, Then, failed_writes}
 use Rattle.failures.specs.declared.failure.Failure.{Failure}
 use Rattle.failures.specs.declared.failure.Failure.TheVariants as f
 use Rattle.failures.specs.declared.run_fault.Fault.{Fault}
 use Rattle.failures.specs.declared.run_fault.Fault.TheVariants as faults
 use Rattle.feature_table.specs.Tables.{EachRecordsOf, EarlierLoad}
-use Rattle.geometry_model.specs.Dimensions.{Matrix}
-use Rattle.geometry_model.specs.Patterns.{matrix_text}
 use Rattle.query_runs.specs.Runs.{Runs, RunsOver}
 use Rattle.std.specs.String.{string_bytes}
 use Rattle.table_model.specs.Databases.{load_tables}
 use Rattle.table_model.specs.GeometryColumns.{ColumnShape, read_geometry, shape_named}
 use Rattle.table_model.specs.Loading.{Record}
-use Rattle.table_model.specs.RunOutcomes.{ByEveryMatrix, MatrixOf, OfTable, Refusal, after}
+use Rattle.table_model.specs.RunOutcomes.{OfTable, Refusal, after}
 use Rattle.table_model.specs.SchemaReading.{schema_of}
 use Rattle.table_model.specs.SpatialTables.{SpatialSchema, SpatialTable}
 use Rattle.table_model.specs.declared.definitions.TableDef.{TableDef}
 use Rattle.table_model.specs.declared.faults.SchemaFault.{SchemaFault}
 use Rattle.table_model.specs.declared.faults.SchemaFault.TheVariants as s
-use Rattle.text_relation.specs.Relations.{and_then, relation}
-
--- ---- relate
-
--- the text of a matrix: its nine characters and a line feed (06-103r4, 6.1.15.2)
-abbrev pub relate_text : Matrix → List ℕ
-relate_text matrix = matrix_text matrix ++ codes "\n"
-
--- the text of the matrix of the geometries that two texts spell, or the first refusal (06-103r4, 6.1.15.2)
-abbrev pub relate_outcome : MatrixOf → List ℕ → List ℕ → Result (List ℕ) Failure
-relate_outcome matrix first second = and_then (relation matrix first second) (λ m. Ok (relate_text m))
-
--- relating two texts may end like this
-pub record RelateEnds (first second : List ℕ) (end : End) (old new : Option (List ℕ)) (before after : ℕ) : Type 0 where
-  pub answers : ByEveryMatrix (λ matrix. Answers (relate_outcome matrix first second) end old new)
-  pub failures : after ≡ failed_writes before end
+use Rattle.text_commands.specs.Ends.{End, Then, failed_writes}
+use Rattle.text_commands.specs.Reasons.{ExplainsCells, ExplainsValidity}
+use Rattle.text_commands.specs.TextCommands.{ExplainsFault, OverWord, RelatesFile, RelatesWords}
+use Rattle.word_texts.specs.GivenTexts.{IsTextOf, ReadsQuery}
 
 -- ---- check
 
@@ -81,11 +66,6 @@ EndsAs definitions (Ok done) Run = Run (Ok done)
 EndsAs definitions (Err failure) Run = (fault : Fault) × IsFaultOf definitions fault failure × Run (Err fault)
 
 -- ---- files
-
--- the text of a reader is this one, if its bytes are known
-abbrev pub IsTextOf : Option (List ℕ) → List ℕ → Type 0
-IsTextOf None text = ⊤
-IsTextOf (Some bytes) text = text ≡ bytes
 
 -- a schema's file isn't read: reading failed, or memory ran out
 abbrev pub IsUnread : Failure → Type 0
@@ -185,13 +165,21 @@ module _ {F R S : Type 0} (g : Mut F (Bor (List ℕ) × Unit {0}) (Option R)) (r
   RunsFiles opener schema directory query end =
       OverFiles g remaining opener schema (λ next. RunsTables next directory query) end (new ≡ old)
 
+  -- and running the query that a word gives, whose text is got first
+  abbrev pub RunsQuery : F → List ℕ → List ℕ → List ℕ → End → Type 0
+  RunsQuery opener schema directory word end =
+      OverWord g (ReadsQuery remaining) opener word (λ next query. RunsFiles next schema directory query) end (new ≡ old)
+
   -- and counting the rows of its tables
   abbrev pub ChecksFiles : F → List ℕ → List ℕ → End → Type 0
   ChecksFiles opener schema directory end = OverFiles g remaining opener schema (λ next. ChecksTables next directory) end (new ≡ old)
 
   -- doing what an order says ends so
   abbrev pub EndsOf : F → Order → End → Type 0
-  EndsOf opener (orders.Run schema directory query) end = RunsFiles opener (string_bytes schema) (string_bytes directory) (string_bytes query) end
+  EndsOf opener (orders.Run schema directory query) end = RunsQuery opener (string_bytes schema) (string_bytes directory) (string_bytes query) end
   EndsOf opener (orders.Check schema directory) end = ChecksFiles opener (string_bytes schema) (string_bytes directory) end
-  EndsOf opener (orders.Relate first second) end =
-      RelateEnds (string_bytes first) (string_bytes second) end (taken old) (taken new) (failures old) (failures new)
+  EndsOf opener (orders.Relate first second) end = RelatesWords g remaining taken failures old new opener (string_bytes first) (string_bytes second) end
+  EndsOf opener (orders.Why first (Some second)) end = ExplainsCells g remaining taken failures old new opener (string_bytes first) (string_bytes second) end
+  EndsOf opener (orders.Why first None) end = ExplainsValidity g remaining taken failures old new opener (string_bytes first) end
+  EndsOf opener (orders.Pairs file) end = RelatesFile g remaining taken failures old new opener (string_bytes file) end
+  EndsOf opener (orders.Fault code) end = ExplainsFault taken failures old new (string_bytes code) end

@@ -3,15 +3,14 @@
 ghost use Rattle.std.specs.Prelude.{◌≡◌, length, take, Err, IfErr, IfOk, IfSome, OnErr, OnOk};
 ghost use Rattle.std.specs.String.{string_bytes};
 ghost use Rattle.std.specs.Io.KnownBytes.{Appends};
-ghost use Rattle.engine.specs.Commands.{ChecksFiles, ChecksTables, EndsOf, IsFaultOf, IsUnread, Opens, OpensTables, ReadsSchema, RelateEnds, RunsFiles, RunsTables, check_text, table_paths};
-ghost use Rattle.engine.specs.Ends.{Serves, Writes};
+ghost use Rattle.engine.specs.Commands.{ChecksFiles, ChecksTables, EndsOf, IsFaultOf, IsUnread, Opens, OpensTables, ReadsSchema, RunsFiles, RunsQuery, RunsTables, check_text, table_paths};
 ghost use Rattle.engine.specs.Commands as spec;
-ghost use Rattle.failures.specs.Failures.{failure_line, failure_status};
 ghost use Rattle.query_runs.specs.Runs.{IsOfTables};
 ghost use Rattle.sinks.specs.Sinks.{AppendsFront, CountsFailure};
+ghost use Rattle.text_commands.specs.Ends.{Serves};
 
 use command_line::Order;
-use failures::{Failure, Fault, fault_line, status};
+use failures::{Failure, Fault};
 use feature_table::{Database, Schema};
 use itoa::Buffer;
 use observers::{RowObserver, Unobserved};
@@ -23,7 +22,10 @@ use std::alloc::{AllocError, Global};
 use std::io::{ErrorKind, Read};
 use table_model::faults::SchemaFault;
 use table_model::tokens::TEXT_LIMIT;
-use text_relation::relate_texts;
+use text_commands::{
+    failed, serve_fault, serve_pairs, serve_relate, serve_verdict, serve_witnesses,
+};
+use word_texts::query_text;
 
 /// The type of the index of each geometry column.
 type ColumnIndex = CurveTree;
@@ -71,7 +73,7 @@ pub fn serve_observed<
                 schema: schema.as_str(),
                 directory: directory.as_str(),
             };
-            serve_run(alloc, &paths, query.as_str(), opener, out, err, observer)
+            serve_query(alloc, &paths, query.as_str(), opener, out, err, observer)
         }
         Order::Check { schema, directory } => {
             let paths = Paths {
@@ -80,19 +82,54 @@ pub fn serve_observed<
             };
             serve_check(alloc, &paths, opener, out, err)
         }
-        Order::Relate { first, second } => serve_relate(alloc, first, second, out, err),
+        Order::Relate { first, second } => {
+            serve_relate(alloc, first.as_str(), second.as_str(), opener, out, err)
+        }
+        Order::Why {
+            first,
+            second: Some(second),
+        } => serve_witnesses(alloc, first.as_str(), second.as_str(), opener, out, err),
+        Order::Why {
+            first,
+            second: None,
+        } => serve_verdict(alloc, first.as_str(), opener, out, err),
+        Order::Pairs { file } => serve_pairs(alloc, file.as_str(), opener, out, err),
+        Order::Fault { code } => serve_fault(code.as_str(), out, err),
     }
 }
 
-// Where the files of a command are.
+/// Where the files of a command are.
 #[derive(Drop)]
 struct Paths<'a> {
     schema: &'a str,
     directory: &'a str,
 }
 
-// Runs a query: the schema's file is read first, then the schema, then all files of tables are opened in the
-// schema's order, and then the query is run.
+/// Runs the query that a word gives: its file is read first, if the word names one.
+fn serve_query<R: Read + Drop, F: FnMut(&str) -> Option<R>, S: Sink, E: Sink, O: RowObserver>(
+    alloc: Global,
+    paths: &Paths<'_>,
+    word: &str,
+    mut opener: F,
+    out: &mut S,
+    err: &mut E,
+    observer: &mut O,
+) -> u8
+    requires { F.IsAlwaysCallable opener }
+    ensures { Serves E.taken E.failures
+        (RunsQuery F.FnMut R.remaining S.taken S.failures out.old out.new opener
+        paths.now.schema.now paths.now.directory.now word.now)
+        result err.old err.new }
+{
+    let query = match query_text(alloc, word, &mut opener) {
+        Ok(text) => text,
+        Err(failure) => return failed(&failure, err),
+    };
+    serve_run(alloc, paths, query.as_str(), opener, out, err, observer)
+}
+
+/// Runs a query: the schema's file is read first, then the schema, then all files of tables are opened in the
+/// schema's order, and then the query is run.
 fn serve_run<R: Read + Drop, F: FnMut(&str) -> Option<R>, S: Sink, E: Sink, O: RowObserver>(
     alloc: Global,
     paths: &Paths<'_>,
@@ -126,7 +163,7 @@ fn serve_run<R: Read + Drop, F: FnMut(&str) -> Option<R>, S: Sink, E: Sink, O: R
     }
 }
 
-// Opens the files of all tables, and runs a query over them.
+/// Opens the files of all tables, and runs a query over them.
 fn run_over<'s, R: Read + Drop, F: FnMut(&str) -> Option<R>, S: Sink, O: RowObserver>(
     alloc: Global,
     schema: &'s Schema,
@@ -147,8 +184,8 @@ fn run_over<'s, R: Read + Drop, F: FnMut(&str) -> Option<R>, S: Sink, O: RowObse
     }
 }
 
-// Loads every table, and writes a line for each, in the schema's order: its name and how many rows it has. The files are
-// opened as for a run. If one of the tables doesn't load, nothing is written.
+/// Loads every table, and writes a line for each, in the schema's order: its name and how many rows it has. The files are
+/// opened as for a run. If one of the tables doesn't load, nothing is written.
 fn serve_check<R: Read + Drop, F: FnMut(&str) -> Option<R>, S: Sink, E: Sink>(
     alloc: Global,
     paths: &Paths<'_>,
@@ -172,7 +209,7 @@ fn serve_check<R: Read + Drop, F: FnMut(&str) -> Option<R>, S: Sink, E: Sink>(
     }
 }
 
-// Opens the files of all tables, loads the tables, and writes their lines.
+/// Opens the files of all tables, loads the tables, and writes their lines.
 fn check_over<'s, R: Read + Drop, F: FnMut(&str) -> Option<R>, S: Sink>(
     alloc: Global,
     schema: &'s Schema,
@@ -195,7 +232,7 @@ fn check_over<'s, R: Read + Drop, F: FnMut(&str) -> Option<R>, S: Sink>(
     }
 }
 
-// Writes a line for each table: its name, a blank and the number of its rows.
+/// Writes a line for each table: its name, a blank and the number of its rows.
 fn put_counts<I: EnvelopeIndex + Drop, S: Sink>(
     database: &Database<'_, I>,
     out: &mut S,
@@ -218,40 +255,7 @@ fn put_counts<I: EnvelopeIndex + Drop, S: Sink>(
     Ok(())
 }
 
-// Writes the nine characters of the matrix of two geometries, and a line feed.
-fn serve_relate<S: Sink, E: Sink>(
-    alloc: Global,
-    first: &str,
-    second: &str,
-    out: &mut S,
-    err: &mut E,
-) -> u8
-    ensures { Serves E.taken E.failures
-        (λ end. RelateEnds first.now second.now end (S.taken out.old) (S.taken out.new)
-        (S.failures out.old) (S.failures out.new))
-        result err.old err.new }
-{
-    let matrix = match relate_texts(alloc, first.as_bytes(), second.as_bytes()) {
-        Ok(matrix) => matrix,
-        Err(failure) => return failed(&failure, err),
-    };
-    match put_parts(out, &[matrix.text().as_slice(), b"\n"]) {
-        Ok(()) => 0,
-        Err(_) => failed(&Failure::WriteFailed, err),
-    }
-}
-
-/// Writes the line of a failure, and returns its status. The status is the same if the line can't be written.
-pub fn failed<E: Sink>(failure: &Failure<'_>, err: &mut E) -> u8
-    ensures status { result ≡ failure_status failure.now }
-    ensures line { Writes (E.taken err.old) (E.taken err.new) (E.failures err.old)
-        (E.failures err.new) (failure_line failure.now) }
-{
-    let _ = fault_line(failure, err);
-    status(failure)
-}
-
-// The bytes of a schema's file, up to one more than a schema may have: the reader of schemas refuses a longer one.
+/// The bytes of a schema's file, up to one more than a schema may have: the reader of schemas refuses a longer one.
 fn schema_text<R: Read + Drop>(alloc: Global, file: R) -> Result<Vec<u8>, Failure<'static>>
     ensures text { IfOk result (λ text. IfSome (R.remaining file)
         (λ bytes. text.items ≡ take SCHEMA_BYTES bytes)) }
@@ -265,7 +269,7 @@ fn schema_text<R: Read + Drop>(alloc: Global, file: R) -> Result<Vec<u8>, Failur
     }
 }
 
-// The schema in a file, or why there is none. None stands for a file that can't be opened.
+/// The schema in a file, or why there is none. None stands for a file that can't be opened.
 fn schema_in<R: Read + Drop>(alloc: Global, file: Option<R>) -> Result<Schema, Failure<'static>>
     ensures { ReadsSchema R.remaining file result }
 {
@@ -279,7 +283,7 @@ fn schema_in<R: Read + Drop>(alloc: Global, file: Option<R>) -> Result<Schema, F
     }
 }
 
-// The failure of the program for a fault of a schema.
+/// The failure of the program for a fault of a schema.
 fn schema_failure(fault: SchemaFault) -> Failure<'static>
     ensures { result ≡ spec.schema_failure fault }
 {
@@ -289,7 +293,7 @@ fn schema_failure(fault: SchemaFault) -> Failure<'static>
     }
 }
 
-// Opens the files of all tables, in the schema's order.
+/// Opens the files of all tables, in the schema's order.
 fn open_tables<'s, R: Read + Drop, F: FnMut(&str) -> Option<R>>(
     alloc: Global,
     schema: &'s Schema,
@@ -319,7 +323,7 @@ fn open_tables<'s, R: Read + Drop, F: FnMut(&str) -> Option<R>>(
     Ok(readers)
 }
 
-// The path of a table's file.
+/// The path of a table's file.
 fn table_path(alloc: Global, directory: &str, name: &str) -> Result<String, AllocError>
     ensures { IfOk result (λ path. string_bytes path ≡ spec.table_path directory.now name.now) }
 {
@@ -330,7 +334,7 @@ fn table_path(alloc: Global, directory: &str, name: &str) -> Result<String, Allo
     Ok(path)
 }
 
-// The failure of the program for a fault of a run. That of loading has the table's name in place of its number.
+/// The failure of the program for a fault of a run. That of loading has the table's name in place of its number.
 fn run_failure(schema: &Schema, fault: Fault) -> Failure<'_>
     requires { IsOfTables (length schema.now) fault }
     ensures { IsFaultOf schema.entry.now fault result }

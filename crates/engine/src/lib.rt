@@ -1,12 +1,14 @@
-//! The engine: what each command of the program does, over readers and sinks of any kind. It runs a query, loads and counts
-//! tables, or relates two texts. It also exports the calls and faults of the crates below that its users need.
+//! The engine: what each command of the program does, over readers and sinks of any kind. It runs a query, or loads and
+//! counts tables; the crate `text_commands` does the rest. It also exports the calls and faults of the crates below that its
+//! users need.
 #![tactic(auto)]
 
 pub mod commands;
 pub mod first_run;
 
-pub use commands::{failed, serve, serve_observed};
+pub use commands::{serve, serve_observed};
 pub use failures::{Failure, Fault, GeometryWord, fault_line, status};
 pub use observers::{RowObserver, Unobserved};
 pub use query_runs::{run, run_observed};
+pub use text_commands::failed;
 pub use text_relation::relate_texts;

@@ -10,14 +10,14 @@ use sinks::{Sink, SinkFault, put_parts};
 use table_model::conditions::Reference;
 use table_model::plans::{Access, AccessMethod};
 
-// The number of the conjunct at a place.
+/// The number of the conjunct at a place.
 pub(crate) fn digits(place: usize, buffer: &mut Buffer) -> &str
     ensures { result.now ≡ conjunct_number place }
 {
     buffer.format(place as u128 + 1)
 }
 
-// The name of the reference at a place; empty where there is none.
+/// The name of the reference at a place; empty where there is none.
 fn name_at(references: &[Reference], place: usize) -> &[u8]
     ensures { result.now ≡ slice_index_or (map (λ r. r.name) references.entry.now) place [] }
 {
@@ -27,7 +27,7 @@ fn name_at(references: &[Reference], place: usize) -> &[u8]
     }
 }
 
-// Writes the line of an access with the name of its reference and the text of its method, this in two parts.
+/// Writes the line of an access with the name of its reference and the text of its method, this in two parts.
 fn put_line<'l, S: Sink>(
     sink: &mut S,
     role: &'l [u8],
@@ -45,7 +45,7 @@ fn put_line<'l, S: Sink>(
     put_parts(sink, &parts)
 }
 
-// Writes the line of an access.
+/// Writes the line of an access.
 fn put_access<S: Sink>(
     sink: &mut S,
     references: &[Reference],
@@ -68,7 +68,7 @@ fn put_access<S: Sink>(
     }
 }
 
-// Writes the lines of the accesses.
+/// Writes the lines of the accesses.
 pub(crate) fn put_accesses<S: Sink>(
     sink: &mut S,
     references: &[Reference],

@@ -10,7 +10,7 @@ use crate::access_lines::digits;
 use itoa::Buffer;
 use sinks::{Sink, SinkFault, put_all, put_parts};
 
-// Writes a space and the number of the conjunct at a place.
+/// Writes a space and the number of the conjunct at a place.
 fn put_place<S: Sink>(sink: &mut S, place: usize) -> Result<(), SinkFault>
     ensures ok { OnOk result
         (Appends (S.taken sink.old) (S.taken sink.new) (codes " " ++ conjunct_number place)) }
@@ -22,7 +22,7 @@ fn put_place<S: Sink>(sink: &mut S, place: usize) -> Result<(), SinkFault>
     put_number(sink, digits(place, &mut number))
 }
 
-// Writes a space and a number.
+/// Writes a space and a number.
 fn put_number<'l, S: Sink>(sink: &mut S, number: &'l str) -> Result<(), SinkFault>
     ensures ok { OnOk result (Appends (S.taken sink.old) (S.taken sink.new) (codes " " ++ number.now)) }
     ensures front { OnErr result
@@ -33,7 +33,7 @@ fn put_number<'l, S: Sink>(sink: &mut S, number: &'l str) -> Result<(), SinkFaul
     put_parts(sink, &parts)
 }
 
-// Writes the numbers of the conjuncts at these places, with a space before each.
+/// Writes the numbers of the conjuncts at these places, with a space before each.
 fn put_places<S: Sink>(sink: &mut S, places: &[usize]) -> Result<(), SinkFault>
     ensures ok { OnOk result (Appends (S.taken sink.old) (S.taken sink.new)
         (concat (map (λ k. codes " " ++ conjunct_number k) places.now))) }
@@ -47,7 +47,7 @@ fn put_places<S: Sink>(sink: &mut S, places: &[usize]) -> Result<(), SinkFault>
     Ok(())
 }
 
-// Writes the line of the filters.
+/// Writes the line of the filters.
 pub(crate) fn put_filters<S: Sink>(sink: &mut S, filters: &[usize]) -> Result<(), SinkFault>
     ensures ok { OnOk result
         (Appends (S.taken sink.old) (S.taken sink.new) (line (codes "filter") (filters_text filters.now))) }

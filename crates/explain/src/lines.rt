@@ -8,7 +8,7 @@ ghost use Rattle.table_model.specs.ExplainTexts.{line, count_line, limit_line};
 use itoa::Buffer;
 use sinks::{Sink, SinkFault, put_all, put_parts};
 
-// Writes the line of a word and a number.
+/// Writes the line of a word and a number.
 pub(crate) fn put_number<S: Sink>(sink: &mut S, word: &[u8], number: u64) -> Result<(), SinkFault>
     ensures ok { OnOk result
         (Appends (S.taken sink.old) (S.taken sink.new) (line word.now (decimal number))) }
@@ -20,7 +20,7 @@ pub(crate) fn put_number<S: Sink>(sink: &mut S, word: &[u8], number: u64) -> Res
     put_line(sink, word, digits.format(number))
 }
 
-// Writes the line of a word and a text.
+/// Writes the line of a word and a text.
 fn put_line<'l, S: Sink>(sink: &mut S, word: &'l [u8], text: &'l str) -> Result<(), SinkFault>
     ensures ok { OnOk result (Appends (S.taken sink.old) (S.taken sink.new) (line word.now text.now)) }
     ensures front { OnErr result
@@ -31,7 +31,7 @@ fn put_line<'l, S: Sink>(sink: &mut S, word: &'l [u8], text: &'l str) -> Result<
     put_parts(sink, &parts)
 }
 
-// Writes the line of COUNT(*), if there is one.
+/// Writes the line of COUNT(*), if there is one.
 pub(crate) fn put_count<S: Sink>(sink: &mut S, counts: bool) -> Result<(), SinkFault>
     ensures ok { OnOk result (Appends (S.taken sink.old) (S.taken sink.new) (count_line counts)) }
     ensures front { OnErr result (AppendsFront (S.taken sink.old) (S.taken sink.new) (count_line counts)) }
@@ -40,7 +40,7 @@ pub(crate) fn put_count<S: Sink>(sink: &mut S, counts: bool) -> Result<(), SinkF
     put_all(sink, if counts { b"count\n" } else { b"" })
 }
 
-// Writes the line of LIMIT, if there is one.
+/// Writes the line of LIMIT, if there is one.
 pub(crate) fn put_limit<S: Sink>(sink: &mut S, limit: Option<u64>) -> Result<(), SinkFault>
     ensures ok { OnOk result (Appends (S.taken sink.old) (S.taken sink.new) (limit_line limit)) }
     ensures front { OnErr result (AppendsFront (S.taken sink.old) (S.taken sink.new) (limit_line limit)) }

@@ -52,7 +52,7 @@ pub fn analyze<S: Sink, A, C>(
     put_work(sink, work)
 }
 
-// Writes the line of the work.
+/// Writes the line of the work.
 fn put_work<S: Sink>(sink: &mut S, work: &Work) -> Result<(), SinkFault>
     ensures ok { OnOk result
         (Appends (S.taken sink.old) (S.taken sink.new) (line (codes "work") (decimal work.now))) }
@@ -63,7 +63,7 @@ fn put_work<S: Sink>(sink: &mut S, work: &Work) -> Result<(), SinkFault>
     put_number(sink, b"work", work.count())
 }
 
-// Writes the lines of a plan's accesses.
+/// Writes the lines of a plan's accesses.
 fn put_plan_accesses<S: Sink, A, C>(
     sink: &mut S,
     query: &Bound<A, C>,
@@ -78,7 +78,7 @@ fn put_plan_accesses<S: Sink, A, C>(
     put_accesses(sink, query.references.as_slice(), plan.accesses.as_slice())
 }
 
-// Writes the line of a plan's filters.
+/// Writes the line of a plan's filters.
 fn put_plan_filters<S: Sink>(sink: &mut S, plan: &Plan) -> Result<(), SinkFault>
     ensures ok { OnOk result (Appends (S.taken sink.old) (S.taken sink.new)
         (line (codes "filter") (filters_text plan.now.filters))) }

@@ -1,5 +1,5 @@
 -- The line and the status of a failure of the program, and the parts of its line.
-use Rattle.std.specs.Prelude.{ℕ, List, ◌++◌, Option, Some, None, decimal, codes}
+use Rattle.std.specs.Prelude.{ℕ, Bool, true, false, if◌then◌else◌, List, [], ◌++◌, Option, Some, None, decimal, codes}
 use Rattle.table_model.specs.FaultLines.{schema_text, load_text, query_text, geometry_text, memory_text, schema_status, load_status, query_status, line_of}
 use Rattle.failures.specs.declared.failure.Failure.{Failure}
 use Rattle.failures.specs.declared.failure.Failure.TheVariants as f
@@ -21,12 +21,19 @@ failure_text (f.Load table fault) = load_text table.now fault
 failure_text (f.Unreadable name) = name.now ++ codes " unreadable"
 failure_text (f.Query fault) = query_text fault
 failure_text (f.Refused word fault) = word_text word ++ (codes " " ++ geometry_text fault)
+failure_text f.PairsRefused = codes "pairs refused"
+failure_text f.UnknownCode = codes "unknown code: there are S1 to S6, L1 to L11, Q1 to Q12, W1 to W4 and V1 to V8"
 failure_text f.WriteFailed = codes "write failed"
 failure_text f.OutOfMemory = memory_text
 
--- the line of a failure
+-- whether a failure has no line: that pairs are refused, as the answer has their lines
+abbrev pub is_silent : Failure → Bool
+is_silent f.PairsRefused = true
+is_silent _ = false
+
+-- the line of a failure; empty if it has none
 abbrev pub failure_line : Failure → List ℕ
-failure_line failure = line_of (failure_text failure)
+failure_line failure = if is_silent failure then [] else line_of (failure_text failure)
 
 -- the line of a failure within an answer: its text, without the program's name
 abbrev pub text_line : Failure → List ℕ
@@ -44,6 +51,8 @@ failure_status (f.Load table fault) = load_status fault
 failure_status (f.Unreadable name) = 6
 failure_status (f.Query fault) = query_status fault
 failure_status (f.Refused word fault) = 5
+failure_status f.PairsRefused = 5
+failure_status f.UnknownCode = 2
 failure_status f.WriteFailed = 6
 failure_status f.OutOfMemory = 7
 

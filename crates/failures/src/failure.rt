@@ -5,6 +5,7 @@ ghost use Rattle.std.specs.Io.KnownBytes.{Appends};
 ghost use Rattle.table_model.specs.FaultLines.{schema_text, load_text, query_text, geometry_text};
 ghost use Rattle.sinks.specs.Sinks.{AppendsFront, CountsFailure};
 ghost use Rattle.failures.specs.Failures.{failure_text, failure_line, failure_status, text_line, line_after, digits_of, fault_text, word_text, text_with, words_text};
+ghost use Rattle.failures.specs.Failures as spec;
 ghost use Rattle.geometry_model.specs.declared.geometry_faults.GeometryFault.TheVariants as g;
 
 use geometry_model::{GeometryFault, TextFault, ValidityFault};
@@ -35,13 +36,21 @@ pub enum Failure<'a> {
     Query(QueryFault),
     /// The text of this geometry isn't well-known text, or its geometry isn't valid.
     Refused(GeometryWord, GeometryFault),
+    /// A geometry of at least one pair is refused. It has no line, as the answer has one for each refusal.
+    PairsRefused,
+    /// No fault has this code.
+    UnknownCode,
     /// The answer can't be written.
     WriteFailed,
     /// Memory ran out.
     OutOfMemory,
 }
 
-// The text of a geometry's fault in parts: words and a number where there is one, and the same again.
+/// The text for a code that no fault has.
+const UNKNOWN_CODE: &str =
+    "unknown code: there are S1 to S6, L1 to L11, Q1 to Q12, W1 to W4 and V1 to V8";
+
+/// The text of a geometry's fault in parts: words and a number where there is one, and the same again.
 #[derive(Drop)]
 struct FaultWords<'a> {
     words: &'a str,
@@ -50,7 +59,7 @@ struct FaultWords<'a> {
     second: Option<usize>,
 }
 
-// The text of a failure in parts: a table's name, words, a number where there is one, and a geometry's fault.
+/// The text of a failure in parts: a table's name, words, a number where there is one, and a geometry's fault.
 #[derive(Drop)]
 struct Words<'a> {
     table: &'a str,
@@ -59,7 +68,7 @@ struct Words<'a> {
     fault: FaultWords<'a>,
 }
 
-/// Writes the line of a failure: `sfq: `, its text and a line feed. It takes no memory. At Err the sink failed, and
+/// Writes the line of a failure: `sfq: `, its text and a line feed; nothing of `PairsRefused`. It takes no memory. At Err the sink failed, and
 /// a beginning of the line has been written.
 pub fn fault_line<S: Sink>(failure: &Failure<'_>, sink: &mut S) -> Result<(), SinkFault>
     ensures ok { OnOk result (Appends (S.taken sink.old) (S.taken sink.new) (failure_line failure.now)) }
@@ -67,7 +76,17 @@ pub fn fault_line<S: Sink>(failure: &Failure<'_>, sink: &mut S) -> Result<(), Si
         (AppendsFront (S.taken sink.old) (S.taken sink.new) (failure_line failure.now)) }
     ensures failures { CountsFailure (S.failures sink.old) (S.failures sink.new) result }
 {
+    if is_silent(failure) {
+        return Ok(());
+    }
     put_named("sfq: ", failure, sink)
+}
+
+/// Whether a failure has no line: the answer has those of pairs that are refused.
+fn is_silent(failure: &Failure<'_>) -> bool
+    ensures { result ≡ spec.is_silent failure.now }
+{
+    matches!(failure, Failure::PairsRefused)
 }
 
 /// Writes the text of a failure and a line feed, without the program's name, as a line of an answer. It takes no memory. At Err
@@ -81,7 +100,7 @@ pub fn answer_line<S: Sink>(failure: &Failure<'_>, sink: &mut S) -> Result<(), S
     put_named("", failure, sink)
 }
 
-// Writes a name, the text of a failure, and a line feed.
+/// Writes a name, the text of a failure, and a line feed.
 fn put_named<S: Sink>(name: &str, failure: &Failure<'_>, sink: &mut S) -> Result<(), SinkFault>
     ensures ok { OnOk result
         (Appends (S.taken sink.old) (S.taken sink.new) (line_after name.now (failure_text failure.now))) }
@@ -99,7 +118,7 @@ fn put_named<S: Sink>(name: &str, failure: &Failure<'_>, sink: &mut S) -> Result
     put_line(sink, name, &words, number, first, second)
 }
 
-// The digits of a number, and no byte of none.
+/// The digits of a number, and no byte of none.
 fn digits<'b>(number: Option<usize>, buffer: &'b mut Buffer) -> &'b str
     ensures { result.now ≡ digits_of number }
 {
@@ -109,8 +128,8 @@ fn digits<'b>(number: Option<usize>, buffer: &'b mut Buffer) -> &'b str
     }
 }
 
-/// The status that the program ends with: 3 for the schema, 4 for a table, 5 for the query or a geometry of
-/// `relate`, 6 where reading or writing failed, 7 when memory ran out.
+/// The status that the program ends with: 2 for an unknown code, 3 for the schema, 4 for a table, 5 for the query or a
+/// geometry, 6 where reading or writing failed, 7 when memory ran out.
 pub fn status(failure: &Failure<'_>) -> u8
     ensures { result ≡ failure_status failure.now }
 {
@@ -125,11 +144,12 @@ pub fn status(failure: &Failure<'_>) -> u8
         | Failure::WriteFailed => 6,
         Failure::Schema(_) => 3,
         Failure::Load(_, _) => 4,
-        Failure::Query(_) | Failure::Refused(_, _) => 5,
+        Failure::Query(_) | Failure::Refused(_, _) | Failure::PairsRefused => 5,
+        Failure::UnknownCode => 2,
     }
 }
 
-// Writes a name, the parts of a text with the digits of its numbers, and a line feed.
+/// Writes a name, the parts of a text with the digits of its numbers, and a line feed.
 fn put_line<'l, S: Sink>(
     sink: &mut S,
     name: &'l str,
@@ -161,7 +181,7 @@ fn put_line<'l, S: Sink>(
 }
 
 impl<'a> FaultWords<'a> {
-    // The words alone.
+    /// The words alone.
     fn plain(words: &'a str) -> FaultWords<'a>
         ensures { fault_text result ≡ words.entry.now }
     {
@@ -173,7 +193,7 @@ impl<'a> FaultWords<'a> {
         }
     }
 
-    // A code with words after it, and a number.
+    /// A code with words after it, and a number.
     fn numbered(words: &'a str, first: usize) -> FaultWords<'a>
         ensures { fault_text result ≡ words.entry.now ++ decimal first }
     {
@@ -185,7 +205,7 @@ impl<'a> FaultWords<'a> {
         }
     }
 
-    // A code, and two numbers.
+    /// A code, and two numbers.
     fn paired(words: &'a str, first: usize, second: usize) -> FaultWords<'a>
         ensures { fault_text result ≡ words.entry.now ++ (decimal first ++ (codes " " ++ decimal second)) }
     {
@@ -199,7 +219,7 @@ impl<'a> FaultWords<'a> {
 }
 
 impl<'a> Words<'a> {
-    // The words alone, after a table's name or the empty one.
+    /// The words alone, after a table's name or the empty one.
     fn plain(table: &'a str, words: &'a str) -> Words<'a>
         ensures { words_text result ≡ table.entry.now ++ words.entry.now }
     {
@@ -211,7 +231,7 @@ impl<'a> Words<'a> {
         }
     }
 
-    // The words and a number, after a table's name or the empty one.
+    /// The words and a number, after a table's name or the empty one.
     fn numbered(table: &'a str, words: &'a str, number: usize) -> Words<'a>
         ensures { words_text result ≡ (table.entry.now ++ words.entry.now) ++ decimal number }
     {
@@ -223,7 +243,7 @@ impl<'a> Words<'a> {
         }
     }
 
-    // The words and a geometry's fault.
+    /// The words and a geometry's fault.
     fn of_fault(words: &'a str, fault: GeometryFault) -> Words<'a>
         ensures { words_text result ≡ words.entry.now ++ (codes " " ++ geometry_text fault) }
     {
@@ -235,7 +255,7 @@ impl<'a> Words<'a> {
         }
     }
 
-    // The words, a number and a geometry's fault, after a table's name or the empty one.
+    /// The words, a number and a geometry's fault, after a table's name or the empty one.
     fn with_fault(table: &'a str, words: &'a str, number: usize, fault: GeometryFault) -> Words<'a>
         ensures { words_text result
             ≡ ((table.entry.now ++ words.entry.now) ++ decimal number) ++ (codes " " ++ geometry_text fault) }
@@ -249,7 +269,7 @@ impl<'a> Words<'a> {
     }
 }
 
-// The parts of the text of a failure.
+/// The parts of the text of a failure.
 fn failure_words<'a>(failure: &Failure<'a>) -> Words<'a>
     ensures { words_text result ≡ failure_text failure.now }
 {
@@ -260,12 +280,14 @@ fn failure_words<'a>(failure: &Failure<'a>) -> Words<'a>
         Failure::Unreadable(name) => Words::plain(name, " unreadable"),
         Failure::Query(fault) => query_words(fault),
         Failure::Refused(word, fault) => refused_words(word, fault),
+        Failure::PairsRefused => Words::plain("", "pairs refused"),
+        Failure::UnknownCode => Words::plain("", UNKNOWN_CODE),
         Failure::WriteFailed => Words::plain("", "write failed"),
         Failure::OutOfMemory => Words::plain("", "out of memory"),
     }
 }
 
-// The parts of the text for a geometry of `relate` that is refused.
+/// The parts of the text for a geometry of `relate` that is refused.
 fn refused_words<'a>(word: GeometryWord, fault: GeometryFault) -> Words<'a>
     ensures { words_text result ≡ word_text word ++ (codes " " ++ geometry_text fault) }
 {
@@ -275,7 +297,7 @@ fn refused_words<'a>(word: GeometryWord, fault: GeometryFault) -> Words<'a>
     }
 }
 
-// The parts of the text of a schema fault.
+/// The parts of the text of a schema fault.
 fn schema_words<'a>(fault: SchemaFault) -> Words<'a>
     ensures { words_text result ≡ schema_text fault }
 {
@@ -290,7 +312,7 @@ fn schema_words<'a>(fault: SchemaFault) -> Words<'a>
     }
 }
 
-// The parts of the text of a fault of loading the table of this name.
+/// The parts of the text of a fault of loading the table of this name.
 fn load_words<'a>(table: &'a str, fault: LoadFault) -> Words<'a>
     ensures { words_text result ≡ load_text table.entry.now fault }
 {
@@ -315,7 +337,7 @@ fn load_words<'a>(table: &'a str, fault: LoadFault) -> Words<'a>
     }
 }
 
-// The parts of the text of a query fault.
+/// The parts of the text of a query fault.
 fn query_words<'a>(fault: QueryFault) -> Words<'a>
     ensures { words_text result ≡ query_text fault }
 {
@@ -336,7 +358,7 @@ fn query_words<'a>(fault: QueryFault) -> Words<'a>
     }
 }
 
-// The parts of the text of a geometry's fault.
+/// The parts of the text of a geometry's fault.
 fn fault_words<'a>(fault: GeometryFault) -> FaultWords<'a>
     ensures { fault_text result ≡ codes " " ++ geometry_text fault }
 {
@@ -346,7 +368,7 @@ fn fault_words<'a>(fault: GeometryFault) -> FaultWords<'a>
     }
 }
 
-// The parts of the text of a fault of well-known text.
+/// The parts of the text of a fault of well-known text.
 fn text_words<'a>(fault: TextFault) -> FaultWords<'a>
     ensures { fault_text result ≡ codes " " ++ geometry_text (g.Text fault) }
 {
@@ -358,7 +380,7 @@ fn text_words<'a>(fault: TextFault) -> FaultWords<'a>
     }
 }
 
-// The parts of the text of a fault of validity.
+/// The parts of the text of a fault of validity.
 fn validity_words<'a>(fault: ValidityFault) -> FaultWords<'a>
     ensures { fault_text result ≡ codes " " ++ geometry_text (g.Invalid fault) }
 {

@@ -24,7 +24,7 @@ pub fn page_of(code: &str) -> Option<&'static str>
     }
 }
 
-// The page of a code.
+/// The page of a code.
 fn page(code: FaultCode) -> &'static str
     ensures { IsPageOf code result.now }
 {

@@ -17,7 +17,7 @@ fn differ(a: bool, b: bool) -> bool
 }
 
 /// Whether an odd number of the edges of a ring lie strictly above a position: if it isn't on the ring, whether it is inside
-/// (OGC 06-103r4, 6.1.11.1).
+/// (06-103r4, 6.1.11.1).
 pub(crate) fn is_inside_ring(ring: &LineString, at: GridPoint) -> bool
     ensures { result ≡ odd_above (ring.now ∷ []) (point_at at) }
 {
@@ -30,7 +30,7 @@ pub(crate) fn is_inside_ring(ring: &LineString, at: GridPoint) -> bool
 }
 
 /// Whether an odd number of the edges of all these rings lie strictly above a position: if it is on none of them, whether it is
-/// inside (OGC 06-103r4, 6.1.11.1).
+/// inside (06-103r4, 6.1.11.1).
 pub(crate) fn is_inside(rings: &[LineString], at: GridPoint) -> bool
     ensures { result ≡ odd_above rings.now (point_at at) }
 {

@@ -1,4 +1,4 @@
-//! Where and why a geometry isn't valid (OGC 06-103r4, 6.1.7, 6.1.11 and 6.1.14; which place is shown: this project's choice).
+//! Where and why a geometry isn't valid (06-103r4, 6.1.7, 6.1.11 and 6.1.14; which place is shown: this project's choice).
 //! Nothing here takes memory.
 #![tactic(auto)]
 

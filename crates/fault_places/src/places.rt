@@ -12,7 +12,7 @@ use geometries::Geometry;
 use geometry_model::ValidityFault;
 use ring_places::SharedPlace;
 
-/// Where a geometry has a fault, and what is wrong there (OGC 06-103r4, 6.1.7, 6.1.11 and 6.1.14; which place is shown: this
+/// Where a geometry has a fault, and what is wrong there (06-103r4, 6.1.7, 6.1.11 and 6.1.14; which place is shown: this
 /// project's choice).
 #[derive(Clone, Copy, Debug)]
 pub enum Place {
@@ -41,7 +41,7 @@ pub enum Place {
 /// Where a geometry has a fault; `None` exactly where it hasn't got it. The geometry may have other faults too, and faults that
 /// come earlier in the order of tests. Of several places the first is shown: edges by their order in the first ring and then in
 /// the second, rings by their order in the first polygon and then in the second, and of two holes the position of the second
-/// inside the first before the other way round. It takes no memory (OGC 06-103r4, 6.1.7, 6.1.11 and 6.1.14).
+/// inside the first before the other way round (06-103r4, 6.1.7, 6.1.11 and 6.1.14). It takes no memory.
 pub fn place_of(geometry: &Geometry, fault: ValidityFault) -> Option<Place>
     ensures place { IfSome result (IsPlaceOf geometry.now fault) }
     ensures applies { IfSome result (λ _. HasFault geometry.now fault) }

@@ -14,8 +14,8 @@ use std::alloc::Global;
 use std::test::Fail;
 use wkt::MemorySink;
 
-// Whether a run may end so: it wrote the whole answer, or a beginning of it before memory was refused to itself or to its
-// sink. This is no ending where no growth was refused.
+/// Whether a run may end so: it wrote the whole answer, or a beginning of it before memory was refused to itself or to its
+/// sink. This is no ending where no growth was refused.
 fn is_allowed(
     ended: &Result<Work, Fault>,
     sink: &MemorySink,
@@ -30,7 +30,7 @@ fn is_allowed(
     }
 }
 
-// Whether a run ends as it may where the growth of this number is refused (0: none), and whether it came to that growth.
+/// Whether a run ends as it may where the growth of this number is refused (0: none), and whether it came to that growth.
 fn run_refused(
     alloc: Global,
     schema: &Schema,
@@ -50,7 +50,7 @@ fn run_refused(
     Ok((allowed, refused))
 }
 
-// Refuses each growth of a run in turn, until a run meets none. After each the same is run again, with all its memory.
+/// Refuses each growth of a run in turn, until a run meets none. After each the same is run again, with all its memory.
 fn sweep(alloc: Global, case: &Case<'_>) -> Result<(), Fail> {
     let schema = read_schema(alloc, case.schema.as_bytes())?;
     for number in 1..MOST {

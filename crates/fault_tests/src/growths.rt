@@ -6,13 +6,13 @@ use std::alloc::Global;
 /// A sweep of more growths than these counts as one without an end, and no more are counted.
 pub(crate) const MOST: usize = 20_000;
 
-// Asked for so many bytes and k more, the library refuses these and the k-th growth from then on.
+/// Asked for so many bytes and k more, the library refuses these and the k-th growth from then on.
 const REFUSING: usize = 1 << 62;
 
-// Asked for so many bytes and c more, it gives them where there were c growths.
+/// Asked for so many bytes and c more, it gives them where there were c growths.
 const ASKING: usize = 1 << 61;
 
-// Whether so many bytes are given.
+/// Whether so many bytes are given.
 fn is_given(alloc: Global, size: usize) -> bool {
     Vec::<u8>::with_capacity(alloc, size).is_ok()
 }

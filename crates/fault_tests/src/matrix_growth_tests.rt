@@ -8,11 +8,11 @@ use std::test::Fail;
 
 const SCHEMA: &str = "CREATE TABLE shore (id INTEGER PRIMARY KEY, geom LINESTRING);";
 
-// How wide a line is.
+/// How wide a line is.
 const LAST: i32 = 60;
 
-// A line that goes up and down by turns, from x on, 4 high. It goes up where one whose y is odd goes down, and the other way
-// round, so the two cross many times. Or, where it isn't long, the straight line with the same envelope.
+/// A line that goes up and down by turns, from x on, 4 high. It goes up where one whose y is odd goes down, and the other way
+/// round, so the two cross many times. Or, where it isn't long, the straight line with the same envelope.
 fn line(alloc: Global, x: i32, y: i32, is_long: bool) -> Result<String, AllocError> {
     let last = x.saturating_add(LAST);
     let top = y.saturating_add(4);
@@ -30,7 +30,7 @@ fn line(alloc: Global, x: i32, y: i32, is_long: bool) -> Result<String, AllocErr
     Ok(text)
 }
 
-// A table of so many lines that cross the asked one, and of others behind them, far from it.
+/// A table of so many lines that cross the asked one, and of others behind them, far from it.
 fn shores(alloc: Global, near: u8, far: u8, is_long: bool) -> Result<String, AllocError> {
     let mut text = String::from_str(alloc, "id,geom\n")?;
     for id in 0..near.saturating_add(far) {
@@ -42,7 +42,7 @@ fn shores(alloc: Global, near: u8, far: u8, is_long: bool) -> Result<String, All
     Ok(text)
 }
 
-// What a query takes over so many lines that cross the asked one, and others. In its condition, `line` is the asked one.
+/// What a query takes over so many lines that cross the asked one, and others. In its condition, `line` is the asked one.
 fn asked(alloc: Global, near: u8, far: u8, condition: &str) -> Result<Spent, Fail> {
     let (before, behind) = condition.split_once("line").ok_or("no line")?;
     let line = line(alloc, 0, 0, true)?;
@@ -98,7 +98,7 @@ fn ruled_out_by_a_probe(rt: HostRuntime) -> Result<(), Fail> {
     Ok(())
 }
 
-// What the join of a table of lines with itself takes, which are all long or all straight.
+/// What the join of a table of lines with itself takes, which are all long or all straight.
 fn joined(alloc: Global, condition: &str, is_long: bool) -> Result<Spent, Fail> {
     let table = shores(alloc, 6, 6, is_long)?;
     let query = format!(in alloc;

@@ -11,7 +11,7 @@ use std::test::Fail;
 use wkt::MemorySink;
 use wkt::devices::StopReader;
 
-// The readers of tables, of which one fails at its read of this number.
+/// The readers of tables, of which one fails at its read of this number.
 fn readers_of<'t>(
     alloc: Global,
     tables: &[&'t [u8]],
@@ -30,7 +30,7 @@ fn readers_of<'t>(
     Ok(readers)
 }
 
-// Whether a run fails where this read of this table does, as it may only be. An answer is an error unless it is whole.
+/// Whether a run fails where this read of this table does, as it may only be. An answer is an error unless it is whole.
 fn fails(
     alloc: Global,
     schema: &Schema,
@@ -54,7 +54,7 @@ fn fails(
     }
 }
 
-// How many reads of a table a run makes: each of them fails in turn.
+/// How many reads of a table a run makes: each of them fails in turn.
 fn reads(alloc: Global, schema: &Schema, case: &Case<'_>, table: usize) -> Result<u64, Fail> {
     for read in 1..1000u64 {
         if !fails(alloc, schema, case, table, read)? {
@@ -64,7 +64,7 @@ fn reads(alloc: Global, schema: &Schema, case: &Case<'_>, table: usize) -> Resul
     Err(Fail::from("reads without an end"))
 }
 
-// Whether each read of each table may fail. There are at least two, that of the text and that of its end.
+/// Whether each read of each table may fail. There are at least two, that of the text and that of its end.
 fn may_fail(alloc: Global, case: &Case<'_>) -> Result<bool, Fail> {
     let schema = read_schema(alloc, case.schema.as_bytes())?;
     for table in 0..case.tables.len() {

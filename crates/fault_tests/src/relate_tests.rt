@@ -7,14 +7,14 @@ use std::test::Fail;
 use validity::{CheckFault, Valid, check};
 use wkt::{WktFault, read};
 
-// Why there is no matrix.
+/// Why there is no matrix.
 #[derive(Clone, Copy, Debug, PartialEq, Eq, Drop)]
 enum Refusal {
     OutOfMemory,
     Text,
 }
 
-// The valid geometry of a text.
+/// The valid geometry of a text.
 fn valid(alloc: Global, text: &[u8]) -> Result<Valid, Refusal> {
     let geometry = match read(alloc, text) {
         Ok(geometry) => geometry,
@@ -28,7 +28,7 @@ fn valid(alloc: Global, text: &[u8]) -> Result<Valid, Refusal> {
     }
 }
 
-// The matrix of two texts.
+/// The matrix of two texts.
 fn matrix_of(alloc: Global, first: &[u8], second: &[u8]) -> Result<Matrix, Refusal> {
     let first = valid(alloc, first)?;
     let second = valid(alloc, second)?;
@@ -37,10 +37,10 @@ fn matrix_of(alloc: Global, first: &[u8], second: &[u8]) -> Result<Matrix, Refus
     matrix.map_err(|_| Refusal::OutOfMemory)
 }
 
-// The texts of two geometries, and of their matrix.
+/// The texts of two geometries, and of their matrix.
 type Related = (&'static [u8], &'static [u8], [u8; 9]);
 
-// Refuses the growth of this number (0: none). Whether there is the matrix, or memory was refused; and whether the growth came.
+/// Refuses the growth of this number (0: none). Whether there is the matrix, or memory was refused; and whether the growth came.
 fn relate_refused(alloc: Global, (first, second, wanted): Related, number: usize) -> (bool, bool) {
     refuse(alloc, number);
     let matrix = matrix_of(alloc, first, second);
@@ -53,7 +53,7 @@ fn relate_refused(alloc: Global, (first, second, wanted): Related, number: usize
     (allowed, refused)
 }
 
-// Refuses each growth in turn, until none is met. After each the same is done again, with all its memory.
+/// Refuses each growth in turn, until none is met. After each the same is done again, with all its memory.
 fn sweep(alloc: Global, related: Related) -> Result<(), Fail> {
     for number in 1..MOST {
         let (allowed, refused) = relate_refused(alloc, related, number);

@@ -14,7 +14,7 @@ const WITHOUT_KEY: &str = "CREATE TABLE place (id INTEGER, geom POINT);";
 const SAME_NAMES: &str =
     "CREATE TABLE place (id INTEGER PRIMARY KEY); CREATE TABLE Place (id INTEGER PRIMARY KEY);";
 
-// How many columns each table of a schema has.
+/// How many columns each table of a schema has.
 fn widths(alloc: Global, schema: &Schema) -> Result<Vec<usize>, Fail> {
     let mut widths = Vec::new(alloc);
     for table in schema.tables() {
@@ -23,7 +23,7 @@ fn widths(alloc: Global, schema: &Schema) -> Result<Vec<usize>, Fail> {
     Ok(widths)
 }
 
-// Whether a text is read as tables of these widths, or is refused for this fault, or memory ran out where it was refused.
+/// Whether a text is read as tables of these widths, or is refused for this fault, or memory ran out where it was refused.
 fn is_allowed(
     alloc: Global,
     read: Result<Schema, SchemaFault>,
@@ -38,8 +38,8 @@ fn is_allowed(
     }
 }
 
-// Reads a text while the growth of this number is refused (0: none). Whether what came of it is allowed, and whether it came to
-// that growth.
+/// Reads a text while the growth of this number is refused (0: none). Whether what came of it is allowed, and whether it came to
+/// that growth.
 fn read_refused(
     alloc: Global,
     text: &str,
@@ -53,7 +53,7 @@ fn read_refused(
     Ok((is_allowed(alloc, read, wanted, refused)?, refused))
 }
 
-// Refuses each growth in turn, until none is met. After each the text is read again, with all memory.
+/// Refuses each growth in turn, until none is met. After each the text is read again, with all memory.
 fn sweep(alloc: Global, text: &str, wanted: Result<&[usize], SchemaFault>) -> Result<(), Fail> {
     for number in 1..MOST {
         let (allowed, refused) = read_refused(alloc, text, wanted, number)?;

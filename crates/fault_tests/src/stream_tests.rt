@@ -22,7 +22,7 @@ pub(crate) struct Spent {
     pub(crate) rows: usize,
 }
 
-// Takes rows to their end, and returns how many there were.
+/// Takes rows to their end, and returns how many there were.
 fn count_rows(rows: &mut Rows<'_, ListIndex>) -> Result<usize, AllocError> {
     let mut count: usize = 0;
     for _ in 0..1000u16 {
@@ -37,7 +37,7 @@ fn count_rows(rows: &mut Rows<'_, ListIndex>) -> Result<usize, AllocError> {
     Ok(count)
 }
 
-// What it takes to find all rows of a stream.
+/// What it takes to find all rows of a stream.
 fn find_all_of(alloc: Global, mut stream: Rows<'_, ListIndex>) -> Result<Spent, AllocError> {
     refuse(alloc, 0);
     let rows = count_rows(&mut stream)?;
@@ -50,7 +50,7 @@ fn find_all_of(alloc: Global, mut stream: Rows<'_, ListIndex>) -> Result<Spent, 
     })
 }
 
-// What it takes to find all rows of a bound query, by the plan that is chosen.
+/// What it takes to find all rows of a bound query, by the plan that is chosen.
 fn find_all_bound(
     alloc: Global,
     database: &Database<'_, ListIndex>,
@@ -62,7 +62,7 @@ fn find_all_bound(
     find_all_of(alloc, Rows::new(alloc, database, bound, &plan, Work::new()))
 }
 
-// The same of a query that was read.
+/// The same of a query that was read.
 fn find_all_by(
     alloc: Global,
     database: &Database<'_, ListIndex>,
@@ -72,7 +72,7 @@ fn find_all_by(
     Ok(find_all_bound(alloc, database, &bound)?)
 }
 
-// The same of the text of a query.
+/// The same of the text of a query.
 fn find_all_over(
     alloc: Global,
     database: &Database<'_, ListIndex>,
@@ -82,7 +82,7 @@ fn find_all_over(
     find_all_by(alloc, database, &query)
 }
 
-// The one table of a schema, loaded of this text.
+/// The one table of a schema, loaded of this text.
 fn database_of<'s>(
     alloc: Global,
     schema: &'s Schema,

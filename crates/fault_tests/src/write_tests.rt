@@ -11,7 +11,7 @@ use std::test::Fail;
 use wkt::devices::{StopSink, ZeroWriter};
 use wkt::{Sink, StdSink};
 
-// Runs a query into a sink. Returns whether the sink failed; no other fault may come.
+/// Runs a query into a sink. Returns whether the sink failed; no other fault may come.
 fn fails_into<S: Sink>(alloc: Global, case: &Case<'_>, sink: &mut S) -> Result<bool, Fail> {
     let schema = read_schema(alloc, case.schema.as_bytes())?;
     let readers = Vec::from_slice(alloc, case.tables)?;
@@ -25,7 +25,7 @@ fn fails_into<S: Sink>(alloc: Global, case: &Case<'_>, sink: &mut S) -> Result<b
     }
 }
 
-// What a sink took that fails at the put of this number and takes so many bytes a call; None where it never failed.
+/// What a sink took that fails at the put of this number and takes so many bytes a call; None where it never failed.
 fn taken(
     alloc: Global,
     case: &Case<'_>,
@@ -44,7 +44,7 @@ fn taken(
     Ok((failed, sink))
 }
 
-// How many puts a run makes into a sink that takes so many bytes a call: each of them fails in turn.
+/// How many puts a run makes into a sink that takes so many bytes a call: each of them fails in turn.
 fn puts(alloc: Global, case: &Case<'_>, piece: usize) -> Result<usize, Fail> {
     for put in 1..1000u16 {
         let (failed, _) = taken(alloc, case, u64::from(put), piece)?;
@@ -55,7 +55,7 @@ fn puts(alloc: Global, case: &Case<'_>, piece: usize) -> Result<usize, Fail> {
     Err(Fail::from("puts without an end"))
 }
 
-// Whether each put may fail, of whole pieces and of one byte a call. Of these there are as many as the answer has bytes.
+/// Whether each put may fail, of whole pieces and of one byte a call. Of these there are as many as the answer has bytes.
 fn may_fail(alloc: Global, case: &Case<'_>) -> Result<bool, Fail> {
     let whole = puts(alloc, case, usize::MAX)?;
     let bytes = puts(alloc, case, 1)?;

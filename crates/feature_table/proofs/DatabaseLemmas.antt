@@ -6,7 +6,7 @@ use Rattle.std.proofs.lemmas.Slice.Zip.{get_or-zip}
 use Rattle.std.specs.List.{enumerate_from, zip}
 use Rattle.loaded_tables.proofs.EachLemmas.{Passed, passed_all, passed_fault, passed_front, passed_more}
 use Rattle.loaded_tables.proofs.LoadingLemmas.{at_place, drop_front}
-use Rattle.table_parts.specs.Outcomes.{IsFailure, LoadsTable}
+use Rattle.loaded_tables.specs.Outcomes.{IsFailure, LoadsTable}
 use Rattle.loaded_tables.proofs.ReaderRecords.{each-append, each-more, fill, length-each}
 use Rattle.loaded_tables.specs.Tables.{AreOfRecords, AreRecordsOf, EachRecordsOf, EarlierLoad, records_in, tables_in}
 use Rattle.table_model.specs.Databases.{at_table, load_tables, loaded_tables}

@@ -2,8 +2,8 @@
 
 ghost use Rattle.std.specs.Prelude.{◌≡◌, ◌<◌, ℕ, IfErr, IfOk, List, Some, length, map, slice_get};
 ghost use Rattle.std.specs.List.{slice_index_or};
-ghost use Rattle.table_parts.specs.GeometryFields.{ShapeValue, reading, takes};
-ghost use Rattle.table_parts.specs.Outcomes.{LoadsTable};
+ghost use Rattle.loaded_tables.specs.GeometryFields.{ShapeValue, reading, takes};
+ghost use Rattle.loaded_tables.specs.Outcomes.{LoadsTable};
 ghost use Rattle.loaded_tables.specs.Tables.{AreOfRecords, AreRecordsOf, EarlierLoad, records_in, table_in, tables_in};
 ghost use Rattle.table_model.specs.Databases.{at_table};
 ghost use Rattle.table_model.specs.FeatureTables.{IsDatabase};
@@ -17,8 +17,8 @@ use std::io::Read;
 use std::marker::Model;
 use table_model::faults::{LoadFault, TableFault};
 
-/// The tables of a schema, which it borrows: lawful definitions, and for each the rows of its table.
-/// (06-104r4, feature tables.)
+/// The tables of a schema, which it borrows: lawful definitions, and for each the rows of its table
+/// (06-104r4, feature tables).
 #[derive(Drop)]
 pub struct Database<'s, I: EnvelopeIndex> {
     schema: &'s Schema,
@@ -26,7 +26,7 @@ pub struct Database<'s, I: EnvelopeIndex> {
 }
 
 impl<'s, I: EnvelopeIndex> Model for Database<'s, I> {
-    ghost use Rattle.table_parts.specs.GeometryFields.{GeometryValue, ShapeValue, takes};
+    ghost use Rattle.loaded_tables.specs.GeometryFields.{GeometryValue, ShapeValue, takes};
     ghost use Rattle.table_model.specs.Databases.{Database};
     ghost use Rattle.table_model.specs.FeatureTables.{IsDatabase};
 
@@ -92,8 +92,8 @@ impl<'s, I: EnvelopeIndex + Drop> Database<'s, I> {
     /// Loads the tables of a schema in its order, each from the CSV text of one reader. The answer is the
     /// first fault where there is one, with its table: `Table::load` says which. So also a fault of reading
     /// is that of the first table whose reading failed: each table before it has loaded. Whatever the readers
-    /// are, there are records of which this is the answer, and at Ok the tables are those of a database.
-    /// (06-104r4, feature tables.)
+    /// are, there are records of which this is the answer, and at Ok the tables are those of a database
+    /// (06-104r4, feature tables).
     pub fn load<R: Read + Drop>(
         alloc: Global,
         schema: &'s Schema,
@@ -116,8 +116,8 @@ impl<'s, I: EnvelopeIndex + Drop> Database<'s, I> {
         Ok(Database { schema, tables })
     }
 
-    /// Lends the definitions of the tables, in the order of the schema. With its tables they are a database.
-    /// (06-104r4, feature tables.)
+    /// Lends the definitions of the tables, in the order of the schema. With its tables they are a database
+    /// (06-104r4, feature tables).
     pub fn definitions(&self) -> &'s [TableDef]
         ensures value { result.now ≡ self.now.definitions }
         ensures database { IsDatabase takes self.now }

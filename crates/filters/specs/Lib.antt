@@ -1,3 +1,3 @@
-pub mod Filters
+pub mod FilterOrder
 pub mod IdleRows
 pub mod SoughtValues

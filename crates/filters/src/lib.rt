@@ -2,11 +2,11 @@
 #![tactic(auto)]
 
 mod fields;
-pub mod filters;
 pub mod idle_rows;
+pub mod passing_rows;
 pub mod sought_values;
 
-pub use filters::passes;
 pub use idle_rows::gives_none;
+pub use passing_rows::passes;
 pub use sought_values::{equal_column, sought_value};
 pub use truth::Work;

@@ -17,7 +17,7 @@ use std::marker::Model;
 /// The greatest coordinate of a position, and the negative of the least.
 pub const COORDINATE_LIMIT: i32 = geometry_model::COORDINATE_LIMIT as i32;
 
-/// A position of the grid: two whole coordinates, each within `COORDINATE_LIMIT` either way (OGC 06-103r4,
+/// A position of the grid: two whole coordinates, each within `COORDINATE_LIMIT` either way (06-103r4,
 /// 6.1.4; whole numbers and the limit: this project's choice).
 #[derive(Clone, Copy, Debug)]
 pub struct GridPoint {
@@ -36,7 +36,7 @@ impl Model for GridPoint {
 }
 
 impl GridPoint {
-    /// The position (x, y); `None` exactly where a coordinate is past the limit (OGC 06-103r4, 6.1.4; the
+    /// The position (x, y); `None` exactly where a coordinate is past the limit (06-103r4, 6.1.4; the
     /// limit: this project's choice).
     pub fn new(x: i32, y: i32) -> Option<GridPoint>
         ensures taken { IsSome result ↔ IsOnGrid (record { x = x; y = y }) }
@@ -50,7 +50,7 @@ impl GridPoint {
         }
     }
 
-    /// The first coordinate, in grid steps (OGC 06-103r4, 6.1.4: X).
+    /// The first coordinate, in grid steps (06-103r4, 6.1.4: X).
     pub fn x(&self) -> i32
         ensures value { result ≡ self.now.x }
         ensures on_grid { IsOnGrid self.now }
@@ -58,7 +58,7 @@ impl GridPoint {
         self.x
     }
 
-    /// The second coordinate, in grid steps (OGC 06-103r4, 6.1.4: Y).
+    /// The second coordinate, in grid steps (06-103r4, 6.1.4: Y).
     pub fn y(&self) -> i32
         ensures value { result ≡ self.now.y }
         ensures on_grid { IsOnGrid self.now }

@@ -75,7 +75,7 @@ fn main(rt: HostRuntime) -> ExitCode {
     }
 }
 
-// Does what the words of the command line say to what is on standard input, and writes the answer.
+/// Does what the words of the command line say to what is on standard input, and writes the answer.
 fn gauge(rt: &HostRuntime) -> Result<(), Failure> {
     let words = words_of(rt)?;
     let text = read_input(rt)?;
@@ -86,7 +86,7 @@ fn gauge(rt: &HostRuntime) -> Result<(), Failure> {
     out.flush().map_err(|_| Failure::Failed)
 }
 
-// The words of the command line.
+/// The words of the command line.
 fn words_of(rt: &HostRuntime) -> Result<Vec<String>, Failure> {
     let mut words = Vec::new(rt.alloc());
     for word in env::args(rt).map_err(|_| Failure::Misuse)? {
@@ -95,7 +95,7 @@ fn words_of(rt: &HostRuntime) -> Result<Vec<String>, Failure> {
     Ok(words)
 }
 
-// What is on standard input.
+/// What is on standard input.
 fn read_input(rt: &HostRuntime) -> Result<String, Failure> {
     let mut text = String::new(rt.alloc());
     match rt.stdin().take(TEXT_BYTES + 1).read_to_string(&mut text) {
@@ -105,7 +105,7 @@ fn read_input(rt: &HostRuntime) -> Result<String, Failure> {
     }
 }
 
-// Writes what the words of the command line ask of a text.
+/// Writes what the words of the command line ask of a text.
 fn put_answer<S: Sink>(
     alloc: Global,
     words: &[String],
@@ -123,12 +123,12 @@ fn put_answer<S: Sink>(
     }
 }
 
-// Writes some bytes.
+/// Writes some bytes.
 fn put<S: Sink>(bytes: &[u8], sink: &mut S) -> Result<(), Failure> {
     put_all(sink, bytes).map_err(|_| Failure::Failed)
 }
 
-// Writes the canonical text of the geometry that a text spells.
+/// Writes the canonical text of the geometry that a text spells.
 fn put_again<S: Sink>(alloc: Global, text: &[u8], sink: &mut S) -> Result<(), Failure>
     ensures { OnOk result (Reprints text.now (S.taken sink.old) (S.taken sink.new)) }
 {
@@ -136,13 +136,14 @@ fn put_again<S: Sink>(alloc: Global, text: &[u8], sink: &mut S) -> Result<(), Fa
     print(&geometry, sink).map_err(|_| Failure::Failed)
 }
 
-// Writes a number's digits.
+/// Writes a number's digits.
 fn put_number<S: Sink>(number: usize, sink: &mut S) -> Result<(), Failure> {
     let mut buffer = itoa::Buffer::new();
     put(buffer.format(number).as_bytes(), sink)
 }
 
-// Does one thing this often, and writes its result: of `relate` the matrix of the geometries in the first two lines, else a number.
+/// Does one thing this often, and writes its result: of `relate` the matrix of the geometries in the first two lines, else a
+/// number.
 fn put_measured<S: Sink>(
     alloc: Global,
     word: &str,
@@ -157,7 +158,7 @@ fn put_measured<S: Sink>(
     put_number(measured(alloc, word, times, text)?, sink)
 }
 
-// Relates the geometries in the first two lines this often, and once before.
+/// Relates the geometries in the first two lines this often, and once before.
 fn related(alloc: Global, times: u32, text: &str) -> Result<Matrix, Failure> {
     let mut lines = text.lines();
     let first = checked(alloc, lines.next())?;
@@ -165,7 +166,7 @@ fn related(alloc: Global, times: u32, text: &str) -> Result<Matrix, Failure> {
     Ok(relate_often(alloc, &first, &second, times)?)
 }
 
-// Relates two geometries this often, and once before.
+/// Relates two geometries this often, and once before.
 fn relate_often(
     alloc: Global,
     first: &Valid,
@@ -180,13 +181,13 @@ fn relate_often(
     Ok(matrix)
 }
 
-// The valid geometry that a line spells; no line is an empty one.
+/// The valid geometry that a line spells; no line is an empty one.
 fn checked(alloc: Global, line: Option<&str>) -> Result<Valid, Failure> {
     let geometry = read(alloc, line.unwrap_or("").as_bytes())?;
     Ok(check(alloc, geometry)?)
 }
 
-// Relates the geometries of each two lines.
+/// Relates the geometries of each two lines.
 fn put_pairs<S: Sink>(alloc: Global, text: &str, sink: &mut S) -> Result<(), Failure> {
     let mut lines = text.lines();
     while let Some(first) = lines.next() {
@@ -195,7 +196,7 @@ fn put_pairs<S: Sink>(alloc: Global, text: &str, sink: &mut S) -> Result<(), Fai
     Ok(())
 }
 
-// Relates the geometries that two texts spell.
+/// Relates the geometries that two texts spell.
 fn put_pair<S: Sink>(
     alloc: Global,
     first: &str,
@@ -210,7 +211,7 @@ fn put_pair<S: Sink>(
     }
 }
 
-// The valid geometry that a text spells; None where it has a fault of validity.
+/// The valid geometry that a text spells; None where it has a fault of validity.
 fn valid(alloc: Global, text: &str) -> Result<Option<Valid>, Failure> {
     match check(alloc, read(alloc, text.as_bytes())?) {
         Ok(valid) => Ok(Some(valid)),
@@ -219,7 +220,7 @@ fn valid(alloc: Global, text: &str) -> Result<Option<Valid>, Failure> {
     }
 }
 
-// Writes the matrix that is found by edges, and the one that labels show.
+/// Writes the matrix that is found by edges, and the one that labels show.
 fn put_both<S: Sink>(
     alloc: Global,
     first: &Valid,
@@ -234,8 +235,8 @@ fn put_both<S: Sink>(
     put(b"\n", sink)
 }
 
-// Does one thing this often, and returns its number: of `read` its lines or rings, of `check` 1 where the geometry is valid, of
-// `locate` how many of the points in the further lines aren't in its exterior.
+/// Does one thing this often, and returns its number: of `read` its lines or rings, of `check` 1 where the geometry is valid, of
+/// `locate` how many of the points in the further lines aren't in its exterior.
 fn measured(alloc: Global, word: &str, times: u32, text: &str) -> Result<usize, Failure> {
     match word {
         "read" => read_often(alloc, first_line(text), times),
@@ -245,12 +246,12 @@ fn measured(alloc: Global, word: &str, times: u32, text: &str) -> Result<usize, 
     }
 }
 
-// The first line of a text.
+/// The first line of a text.
 fn first_line(text: &str) -> &[u8] {
     text.lines().next().unwrap_or("").as_bytes()
 }
 
-// Locates the points in the further lines in the geometry of the first, this often.
+/// Locates the points in the further lines in the geometry of the first, this often.
 fn located(alloc: Global, text: &str, times: u32) -> Result<usize, Failure> {
     let mut lines = text.lines();
     let valid = checked(alloc, lines.next())?;
@@ -258,7 +259,7 @@ fn located(alloc: Global, text: &str, times: u32) -> Result<usize, Failure> {
     Ok(locate_often(&valid, points.as_slice(), times))
 }
 
-// The points that lines spell.
+/// The points that lines spell.
 fn points_in(alloc: Global, lines: Lines<'_>) -> Result<Vec<RatPoint>, Failure> {
     let mut points = Vec::new(alloc);
     for line in lines {
@@ -269,7 +270,7 @@ fn points_in(alloc: Global, lines: Lines<'_>) -> Result<Vec<RatPoint>, Failure> 
     Ok(points)
 }
 
-// Reads a text this often; returns how many lines or rings it has.
+/// Reads a text this often; returns how many lines or rings it has.
 fn read_often(alloc: Global, text: &[u8], times: u32) -> Result<usize, Failure> {
     let mut lines = 0;
     for _ in 0..times {
@@ -278,7 +279,7 @@ fn read_often(alloc: Global, text: &[u8], times: u32) -> Result<usize, Failure> 
     Ok(lines)
 }
 
-// Reads and tests a text this often; returns 1 where the geometry is valid, and else 0.
+/// Reads and tests a text this often; returns 1 where the geometry is valid, and else 0.
 fn check_often(alloc: Global, text: &[u8], times: u32) -> Result<usize, Failure> {
     let mut answer = 0;
     for _ in 0..times {
@@ -291,14 +292,14 @@ fn check_often(alloc: Global, text: &[u8], times: u32) -> Result<usize, Failure>
     Ok(answer)
 }
 
-// The point that a text spells.
+/// The point that a text spells.
 fn point(alloc: Global, text: &[u8]) -> Result<RatPoint, Failure> {
     let geometry = read(alloc, text)?;
     let position: &GridPoint = geometry.listed().first().ok_or(Failure::NoGeometry)?;
     Ok(RatPoint::of_grid(*position))
 }
 
-// Locates each of some points this often; returns how many aren't in the exterior.
+/// Locates each of some points this often; returns how many aren't in the exterior.
 fn locate_often(valid: &Valid, points: &[RatPoint], times: u32) -> usize {
     let mut inside = 0;
     for _ in 0..times {

@@ -61,7 +61,8 @@ impl Model for Geometry {
 }
 
 impl Geometry {
-    /// The geometry of this content, which has to be within the limits, without repeats and without empty parts. It takes no memory.
+    /// The geometry of this content, which has to be within the limits, without repeats and without empty parts. It takes no
+    /// memory.
     pub fn kept(shape: Shape) -> Geometry
         requires { IsKept (geometry_in shape) }
         ensures { result ≡ geometry_in shape }

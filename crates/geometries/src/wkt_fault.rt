@@ -8,7 +8,7 @@ use std::alloc::{AllocError, AllocFailed};
 use thiserror::Error;
 
 /// Why a text isn't read as a geometry. Places are bytes from 0. The fault of the text is the first from left to
-/// right (06-103r4, 7.2; the cases are this project's).
+/// right (06-103r4, 7.2; the cases: this project's choice).
 #[derive(Clone, Copy, Debug, PartialEq, Eq, Error)]
 pub enum WktFault {
     /// W1: no text of a geometry can have at this byte what is there, or the text ends here too soon.

@@ -12,17 +12,20 @@ pub fn lines_dont_cover()
     ensures { LinesDontCover }
 {}
 
-/// Where some edge of a list is strictly above a point there is a first one: it is one of the list, no other meets the vertical line between, and at its point just those edges are at or above that are strictly above the point itself.
+/// Where some edge of a list is strictly above a point there is a first one: it is one of the list, no other meets the vertical
+/// line between, and at its point just those edges are at or above that are strictly above the point itself.
 pub fn first_is_above()
     ensures { FirstIsAbove }
 {}
 
-/// Just below and just above a point through which no vertical edge goes there are triangles of points that lie where `below` and `above` say.
+/// Just below and just above a point through which no vertical edge goes there are triangles of points that lie where `below` and
+/// `above` say.
 pub fn sides_have_triangles()
     ensures { SidesHaveTriangles }
 {}
 
-/// Straight below and straight above a point through which no vertical edge goes there are, arbitrarily near, points that lie where `below` and `above` say.
+/// Straight below and straight above a point through which no vertical edge goes there are, arbitrarily near, points that lie
+/// where `below` and `above` say.
 pub fn sides_are_near()
     ensures { SidesAreNear }
 {}

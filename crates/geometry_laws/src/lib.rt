@@ -1,4 +1,5 @@
-//! The laws of the geometry: what the definitions of `geometry_model` promise together. Nothing here runs: each function has an empty body, and its contract is a law.
+//! The laws of the geometry: what the definitions of `geometry_model` promise together. Nothing here runs: each function has an
+//! empty body, and its contract is a law.
 #![tactic(auto)]
 
 pub mod coverings;

@@ -1,4 +1,5 @@
-//! Laws of rational points: their equality, their order, the point between two, and that what is said of a point doesn't depend on the triple that is taken for it.
+//! Laws of rational points: their equality, their order, the point between two, and that what is said of a point doesn't depend
+//! on the triple that is taken for it.
 
 ghost use Rattle.geometry_laws.specs.PointLaws.{SameIsReflexive, SameIsSymmetric, SameIsTransitive, CompareIsReversed, EqualIsSame, LessIsTransitive, MediantIsBetween, CompareRespects, SideRespects, OnRespects, SpansRespects, StrictlyAboveRespects, AtOrAboveRespects, OddAboveRespects, OddAtOrAboveRespects, LocateRespects};
 
@@ -77,7 +78,8 @@ pub fn odd_at_or_above_respects()
     ensures { OddAtOrAboveRespects }
 {}
 
-/// Where a point lies in a geometry doesn't depend on its triple: interior, boundary and exterior are sets of points (06-103r4, 6.1.15.1).
+/// Where a point lies in a geometry doesn't depend on its triple: interior, boundary and exterior are sets of points (06-103r4,
+/// 6.1.15.1).
 pub fn locate_respects()
     ensures { LocateRespects }
 {}

@@ -38,7 +38,7 @@ envelope_of_positions (a ∷ rest) = Some (with_position a (envelope_of_position
 abbrev pub envelope : Geometry → Option Envelope
 envelope g = envelope_of_positions (positions g)
 
--- the rectangles share a point, be it on their edges
+-- the rectangles share a point, be it on their sides
 abbrev pub overlap : Envelope → Envelope → Bool
 overlap e f =
     int_le e.least_x f.greatest_x

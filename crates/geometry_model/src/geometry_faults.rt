@@ -4,7 +4,7 @@ use crate::text_faults::TextFault;
 use crate::validity_faults::ValidityFault;
 
 /// The first fault of bytes that should be the text of a valid geometry: the text is read first, then the geometry is
-/// tested (06-103r4, 7.2 and 6.1; the order is this project's).
+/// tested (06-103r4, 7.2 and 6.1; the order: this project's choice).
 #[derive(Clone, Copy, Debug, PartialEq, Eq)]
 pub enum GeometryFault {
     /// W1 to W4: the bytes aren't well-known text that sfq takes.

@@ -73,7 +73,8 @@ pub fn matrices_of_areas()
         ≡ Some (codes "FF2F1F212") }
 {}
 
-/// A MULTIPOLYGON of two squares beside each other, with a line through both, with a point between them, and with one of them (06-103r4, 6.1.14 and 6.1.15.2).
+/// A MULTIPOLYGON of two squares beside each other, with a line through both, with a point between them, and with one of them
+/// (06-103r4, 6.1.14 and 6.1.15.2).
 pub fn matrices_of_two_squares()
     ensures line_through_both { relate (codes "LINESTRING(2 2,7 2)") two_squares ≡ Some (codes "1010FF212") }
     ensures line_through_both_turned_round { relate two_squares (codes "LINESTRING(2 2,7 2)")
@@ -84,7 +85,8 @@ pub fn matrices_of_two_squares()
     ensures one_of_them_turned_round { relate two_squares square ≡ Some (codes "2F2F11FF2") }
 {}
 
-/// A MULTIPOLYGON of a square in the hole of another, with a point in the inner square, and with one between it and the hole (06-103r4, 6.1.14 and 6.1.15.2).
+/// A MULTIPOLYGON of a square in the hole of another, with a point in the inner square, and with one between it and the hole
+/// (06-103r4, 6.1.14 and 6.1.15.2).
 pub fn matrices_of_a_square_in_a_hole()
     ensures in_the_inner_square { relate (codes "POINT(5 5)") square_in_a_hole ≡ Some (codes "0FFFFF212") }
     ensures in_the_inner_square_turned_round { relate square_in_a_hole (codes "POINT(5 5)")

@@ -32,7 +32,7 @@ pub struct Pattern {
     pub exterior_exterior: PatternCharacter,
 }
 
-/// The spatial predicates of two geometries (06-103r4, 6.1.15.3; their patterns are this project's).
+/// The spatial predicates of two geometries (06-103r4, 6.1.15.3; their patterns: this project's choice).
 #[derive(Clone, Copy, Debug, PartialEq, Eq)]
 pub enum Predicate {
     Equals,

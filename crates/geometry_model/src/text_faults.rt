@@ -1,6 +1,6 @@
 //! Why a text isn't a geometry.
 
-/// The first fault of a well-known text, from left to right (06-103r4, 7.2; the cases are this project's). Places are
+/// The first fault of a well-known text, from left to right (06-103r4, 7.2; the cases: this project's choice). Places are
 /// bytes from 0.
 #[derive(Clone, Copy, Debug, PartialEq, Eq)]
 pub enum TextFault {

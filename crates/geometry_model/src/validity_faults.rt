@@ -1,6 +1,6 @@
 //! Why a geometry isn't valid.
 
-/// The first fault of a geometry that isn't valid (06-103r4, 6.1.7, 6.1.11 and 6.1.14; the order is this project's). Lines
+/// The first fault of a geometry that isn't valid (06-103r4, 6.1.7, 6.1.11 and 6.1.14; the order: this project's choice). Lines
 /// and elements are numbered from 0. So are rings, through all elements; the first ring of an element is its outer one.
 #[derive(Clone, Copy, Debug, PartialEq, Eq)]
 pub enum ValidityFault {

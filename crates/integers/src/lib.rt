@@ -1,4 +1,5 @@
-//! Laws of sums, products and orders of whole numbers, which the proofs of geometry use. Nothing here runs: each function has an empty body, and its contract is a law.
+//! Laws of sums, products and orders of whole numbers, which the proofs of geometry use. Nothing here runs: each function has an
+//! empty body, and its contract is a law.
 #![tactic(auto)]
 
 ghost use Rattle.integers.specs.Laws.{Distributes, Associates, ProductOfDifferences, LessIsTransitive, AtMostIsTransitive, ZeroProduct, SignIsKept};

@@ -1,4 +1,4 @@
-//! Labels: where the nodes, the pieces and the pieces' sides of two geometries lie in both (OGC 06-103r4, 6.1.15.2; labels:
+//! Labels: where the nodes, the pieces and the pieces' sides of two geometries lie in both (06-103r4, 6.1.15.2; labels:
 //! this project's choice). Here are their types; the crate `side_labels` finds them.
 #![tactic(auto)]
 
@@ -8,7 +8,7 @@ ghost use Rattle.geometry_model.specs.Labels.{same_location};
 pub use geometry_model::Location;
 use std::marker::Model;
 
-/// Where a point lies in the first geometry and in the second (OGC 06-103r4, 6.1.15.2; labels: this project's choice).
+/// Where a point lies in the first geometry and in the second (06-103r4, 6.1.15.2; labels: this project's choice).
 #[derive(Clone, Copy, Debug, PartialEq, Eq)]
 pub struct Label {
     /// Where it lies in the first geometry.

@@ -16,7 +16,7 @@ fn bound(alloc: Global, text: &str) -> Result<Bound, Fail> {
     Ok(bind(alloc, &query, schema.tables())?)
 }
 
-// Whether this is the name of the first reference.
+/// Whether this is the name of the first reference.
 fn names_first(references: &[Reference], name: &str) -> bool {
     match references {
         [first, ..] => first.name.as_slice() == name.as_bytes(),
@@ -24,7 +24,7 @@ fn names_first(references: &[Reference], name: &str) -> bool {
     }
 }
 
-// Whether a column and the text of another one are selected, each given by its reference and its place.
+/// Whether a column and the text of another one are selected, each given by its reference and its place.
 fn selects(items: &[Item<ColumnPlace>], column: (usize, usize), text: (usize, usize)) -> bool {
     match items {
         [Item::Column(first), Item::AsText(second)] => {

@@ -14,11 +14,11 @@ const TABLE: &str = "id,pop,name\n1,8,a\n2,9,b\n3,,c\n4,7,\n";
 
 const QUERY: &str = "SELECT id, name FROM t WHERE pop > 5 AND NOT name = 'b'";
 
-// A schema of two tables.
+/// A schema of two tables.
 const TWO_TABLES: &str =
     "CREATE TABLE t (id INTEGER PRIMARY KEY); CREATE TABLE u (id INTEGER PRIMARY KEY)";
 
-// The order to run a query over the schema `s` and the directory `d`.
+/// The order to run a query over the schema `s` and the directory `d`.
 fn run_order(alloc: Global, query: &str) -> Result<Order, AllocError> {
     Ok(Order::Run {
         schema: String::from_str(alloc, "s")?,
@@ -42,7 +42,7 @@ fn the_matrix_may_not_be_written(rt: HostRuntime) -> Result<(), Fail> {
     Ok(())
 }
 
-// Which reads and which put fail, counted from 1 (0: none does).
+/// Which reads and which put fail, counted from 1 (0: none does).
 #[derive(Clone, Copy)]
 struct Failing {
     opened: bool,
@@ -51,7 +51,7 @@ struct Failing {
     put: u64,
 }
 
-// The reader of the file at a path, which may fail.
+/// The reader of the file at a path, which may fail.
 fn failing_file<'a>(
     path: &str,
     failing: Failing,
@@ -67,7 +67,7 @@ fn failing_file<'a>(
     None
 }
 
-// The status of a run over a schema and its table where these reads and this put fail.
+/// The status of a run over a schema and its table where these reads and this put fail.
 fn run_failing(
     rt: &HostRuntime,
     failing: &Failing,
@@ -103,7 +103,7 @@ fn reading_and_writing_may_fail(rt: HostRuntime) -> Result<(), Fail> {
     Ok(())
 }
 
-// The reader of the file at a path, which fails at its first read where it is that of the table u.
+/// The reader of the file at a path, which fails at its first read where it is that of the table u.
 fn unread_second<'a>(path: &str, table: &'a [u8]) -> Option<StopReader<'a>> {
     if path == "s" {
         return Some(StopReader::new(TWO_TABLES.as_bytes(), 0));
@@ -114,7 +114,7 @@ fn unread_second<'a>(path: &str, table: &'a [u8]) -> Option<StopReader<'a>> {
     Some(StopReader::new(table, 0))
 }
 
-// Where the second table's file can't be read: the line and the status over this text of the first.
+/// Where the second table's file can't be read: the line and the status over this text of the first.
 fn refused_unread(rt: &HostRuntime, table: &str, line: &[u8], wanted: u8) -> Result<bool, Fail> {
     let order = run_order(rt.alloc(), "SELECT id FROM t")?;
     let mut out = MemorySink::new(rt.alloc());

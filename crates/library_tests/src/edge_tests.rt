@@ -1,11 +1,11 @@
 //! Worked rings and pairs of edges.
 
 use crate::shapes::{Place, position, segment};
+use edge_boxes::{clash, is_inside, is_not_closed, share_point};
 use orient::Segment;
-use ring_tests::{clash, is_inside, is_not_closed, share_point};
 use std::test::Fail;
 
-// The triangle with these corners.
+/// The triangle with these corners.
 fn triangle(a: Place, b: Place, c: Place) -> Result<[Segment; 3], Fail> {
     Ok([segment(a, b)?, segment(b, c)?, segment(c, a)?])
 }

@@ -7,7 +7,7 @@ use std::test::Fail;
 
 type Bounds = (i32, i32, i32, i32);
 
-// The least and the greatest x and y of the geometry of a text.
+/// The least and the greatest x and y of the geometry of a text.
 fn bounds(alloc: Global, text: &str) -> Result<Option<Bounds>, Fail> {
     match Envelope::of(&valid(alloc, text)?) {
         None => Ok(None),

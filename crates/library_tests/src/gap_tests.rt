@@ -26,7 +26,7 @@ fn fill(alloc: Global, gaps: &mut Gaps, edge: &Segment, others: &[Segment]) -> R
 
 const LEVEL: Line = ((0, 0), (10, 0));
 
-// An edge and others, the points that they share, the stops, and whether they may share a stretch.
+/// An edge and others, the points that they share, the stops, and whether they may share a stretch.
 type Row = (
     Line,
     &'static [Line],
@@ -118,12 +118,12 @@ const GAPS: [Row; 8] = [
     ),
 ];
 
-// Whether the numbers of some points are these.
+/// Whether the numbers of some points are these.
 fn have(alloc: Global, points: &[RatPoint], wanted: &[Numbers]) -> Result<bool, Fail> {
     Ok(numbers(alloc, points)?.as_slice() == wanted)
 }
 
-// Whether the gaps for an edge among others are filled as a row says.
+/// Whether the gaps for an edge among others are filled as a row says.
 fn is_filled(alloc: Global, gaps: &mut Gaps, row: &Row) -> Result<bool, Fail> {
     let (edge, others, shared, stops, may_share) = row;
     let edge = segment(edge.0, edge.1)?;

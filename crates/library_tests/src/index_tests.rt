@@ -7,7 +7,7 @@ use std::alloc::{AllocError, Global};
 use std::process::Abort;
 use std::test::Fail;
 
-// The envelope of two corners.
+/// The envelope of two corners.
 fn framed(a: Place, b: Place) -> Result<Option<Envelope>, Fail> {
     Ok(Envelope::of_positions(&[position(a)?, position(b)?]))
 }
@@ -31,7 +31,7 @@ fn envelopes_of_positions(rt: HostRuntime) -> Result<(), Fail> {
     Ok(())
 }
 
-// The positions that an index of these envelopes finds.
+/// The positions that an index of these envelopes finds.
 fn found<I: EnvelopeIndex + Drop>(
     alloc: Global,
     envelopes: &[Option<Envelope>],
@@ -44,7 +44,7 @@ fn found<I: EnvelopeIndex + Drop>(
     Ok(places)
 }
 
-// A search finds the envelopes that meet, an edge in common among them, and an absent one meets the absent ones alone.
+/// A search finds the envelopes that meet, an edge in common among them, and an absent one meets the absent ones alone.
 fn finds<I: EnvelopeIndex + Drop>(rt: &(impl Abort + AllocGlobal)) -> Result<(), Fail> {
     let square = framed((0, 0), (4, 4))?;
     let apart = framed((9, 9), (9, 9))?;
@@ -60,7 +60,7 @@ fn finds<I: EnvelopeIndex + Drop>(rt: &(impl Abort + AllocGlobal)) -> Result<(),
     Ok(())
 }
 
-// A search finds the only envelope, all absent ones, and each of many equal ones, by a corner in common too.
+/// A search finds the only envelope, all absent ones, and each of many equal ones, by a corner in common too.
 fn finds_alike<I: EnvelopeIndex + Drop>(rt: &(impl Abort + AllocGlobal)) -> Result<(), Fail> {
     let square = framed((0, 0), (4, 4))?;
     let corner = framed((4, 4), (5, 5))?;
@@ -82,7 +82,7 @@ fn finds_alike<I: EnvelopeIndex + Drop>(rt: &(impl Abort + AllocGlobal)) -> Resu
     Ok(())
 }
 
-// Of 100 positions on a line, in nodes of three heights, a search finds those that it meets, and the absent one after them.
+/// Of 100 positions on a line, in nodes of three heights, a search finds those that it meets, and the absent one after them.
 fn finds_on_a_line<I: EnvelopeIndex + Drop>(rt: &(impl Abort + AllocGlobal)) -> Result<(), Fail> {
     let envelopes = on_a_line(rt.alloc())?;
     for (asked, wanted) in &[
@@ -121,7 +121,7 @@ fn the_tree_along_the_curve_finds(rt: HostRuntime) -> Result<(), Fail> {
     finds_on_a_line::<CurveTree>(&rt)
 }
 
-// The envelopes of 100 positions on a line, the last one first, and an absent one after them.
+/// The envelopes of 100 positions on a line, the last one first, and an absent one after them.
 fn on_a_line(alloc: Global) -> Result<Vec<Option<Envelope>>, Fail> {
     let mut envelopes = Vec::new(alloc);
     for k in 0..100u8 {
@@ -151,7 +151,7 @@ fn opened_nodes(rt: HostRuntime) -> Result<(), Fail> {
     Ok(())
 }
 
-// The bounds of what is drawn: of coordinates, and of what an envelope has across and up.
+/// The bounds of what is drawn: of coordinates, and of what an envelope has across and up.
 struct Extent {
     right: u64,
     top: u64,
@@ -159,7 +159,7 @@ struct Extent {
     height: u64,
 }
 
-// Squares all over, small ones in a band from south to north, and long lines from west to east.
+/// Squares all over, small ones in a band from south to north, and long lines from west to east.
 const EXTENTS: &[Extent] = &[
     Extent {
         right: 500,
@@ -181,13 +181,13 @@ const EXTENTS: &[Extent] = &[
     },
 ];
 
-// A drawn number below a bound, which is past 10000 nowhere.
+/// A drawn number below a bound, which is past 10000 nowhere.
 fn drawn_number(draws: &mut Draws, bound: u64) -> Result<i32, Fail> {
     let number = draws.below(bound.clamp(1, 10_000));
     Ok(i32::try_from(number)?)
 }
 
-// A drawn envelope; one in eight is absent.
+/// A drawn envelope; one in eight is absent.
 fn drawn_envelope(draws: &mut Draws, extent: &Extent) -> Result<Option<Envelope>, Fail> {
     if draws.below(8) == 0 {
         return Ok(None);
@@ -202,7 +202,7 @@ fn drawn_envelope(draws: &mut Draws, extent: &Extent) -> Result<Option<Envelope>
     )
 }
 
-// Drawn envelopes.
+/// Drawn envelopes.
 fn drawn_envelopes(
     alloc: Global,
     draws: &mut Draws,

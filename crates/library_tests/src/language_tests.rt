@@ -4,7 +4,7 @@ use query_reader::{Argument, read_query};
 use std::test::Fail;
 use table_model::queries::{Explain, WrittenCond, WrittenPredicate};
 
-// Where a predicate starts.
+/// Where a predicate starts.
 fn predicate_at(cond: &WrittenCond<'_, Argument<'_>>) -> Option<usize> {
     match cond {
         WrittenCond::Relates(at, _, _, _) => Some(*at),
@@ -12,7 +12,7 @@ fn predicate_at(cond: &WrittenCond<'_, Argument<'_>>) -> Option<usize> {
     }
 }
 
-// Where ST_Relate and its pattern start, as the second part of a conjunction.
+/// Where ST_Relate and its pattern start, as the second part of a conjunction.
 fn relate_at(cond: &WrittenCond<'_, Argument<'_>>) -> Option<(usize, usize)> {
     let WrittenCond::And(parts) = cond else {
         return None;
@@ -40,7 +40,7 @@ fn has_every_part(rt: HostRuntime) -> Result<(), Fail> {
     Ok(())
 }
 
-// Where the comparison starts that is the first part of a conjunction.
+/// Where the comparison starts that is the first part of a conjunction.
 fn compared_at(cond: &WrittenCond<'_, Argument<'_>>) -> Option<usize> {
     let WrittenCond::And(parts) = cond else {
         return None;

@@ -10,7 +10,7 @@ use std::test::Fail;
 
 const SCHEMA: &[u8] = b"CREATE TABLE t (id INTEGER PRIMARY KEY, geom POLYGON);";
 
-// What is loaded of the first table of a schema.
+/// What is loaded of the first table of a schema.
 fn loaded(alloc: Global, schema: &Schema, text: &[u8]) -> Result<Table<ListIndex>, Fail> {
     if schema.tables().is_empty() {
         return Err(Fail::from("no table"));

@@ -7,8 +7,8 @@ use side_labels::{Label, Labels, Location, SideLabels, labels, locate};
 use std::alloc::{AllocError, Global};
 use std::test::Fail;
 
-// A geometry, a point by both numerators and the denominator, and where it lies: between the positions of the grid, at ends of
-// lines, right below a corner of a ring, in a hole and on its ring.
+/// A geometry, a point by both numerators and the denominator, and where it lies: between the positions of the grid, at ends of
+/// lines, right below a corner of a ring, in a hole and on its ring.
 const LOCATED: &str = "POINT(3 1) | 3 1 over 2 | exterior
 POINT(3 1) | 6 2 over 2 | interior
 LINESTRING(0 0,2 1,4 0) | 2 1 over 2 | interior
@@ -18,7 +18,7 @@ POLYGON((0 2,2 0,4 2,2 4,0 2)) | 2 1 over 1 | interior
 POLYGON((0 0,10 0,10 10,0 10,0 0),(4 4,6 4,6 6,4 6,4 4)) | 5 5 over 1 | exterior
 POLYGON((0 0,10 0,10 10,0 10,0 0),(4 4,6 4,6 6,4 6,4 4)) | 4 5 over 1 | boundary";
 
-// The point of two numerators over a denominator.
+/// The point of two numerators over a denominator.
 fn point(text: &str) -> Result<RatPoint, Fail> {
     let (numerators, denominator) = text.split_once(" over ").ok_or("no denominator")?;
     let (at, w) = (position(numerators)?, number(denominator)?);
@@ -28,7 +28,7 @@ fn point(text: &str) -> Result<RatPoint, Fail> {
     Ok(RatPoint::reduced(i128::from(at.x()), i128::from(at.y()), i64::from(w)))
 }
 
-// Where a point lies in the geometry of a text.
+/// Where a point lies in the geometry of a text.
 fn located(alloc: Global, text: &str, point: &RatPoint) -> Result<&'static str, Fail> {
     Ok(match locate(&valid(alloc, text)?, point) {
         Location::Interior => "interior",
@@ -46,7 +46,7 @@ fn points_in_geometries(rt: HostRuntime) -> Result<(), Fail> {
     Ok(())
 }
 
-// The labels of two texts.
+/// The labels of two texts.
 fn labelled(alloc: Global, first: &str, second: &str) -> Result<Labels, Fail> {
     Ok(labels(alloc, &valid(alloc, first)?, &valid(alloc, second)?)?)
 }
@@ -69,7 +69,7 @@ fn labels_of_two_lines(rt: HostRuntime) -> Result<(), Fail> {
     Ok(())
 }
 
-// The first letter of a part.
+/// The first letter of a part.
 fn letter(location: Location) -> char {
     match location {
         Location::Interior => 'I',
@@ -78,14 +78,14 @@ fn letter(location: Location) -> char {
     }
 }
 
-// Adds a label to a text: the first letter of the part of each geometry.
+/// Adds a label to a text: the first letter of the part of each geometry.
 fn write_label(text: &mut String, label: &Label) -> Result<(), AllocError> {
     text.push(letter(label.first))?;
     text.push(letter(label.second))?;
     text.push(' ')
 }
 
-// The text of labels.
+/// The text of labels.
 fn label_text(alloc: Global, labels: &[Label]) -> Result<String, AllocError> {
     let mut text = String::new(alloc);
     for label in labels {
@@ -94,7 +94,7 @@ fn label_text(alloc: Global, labels: &[Label]) -> Result<String, AllocError> {
     Ok(text)
 }
 
-// The text of the labels just below and just above edges, with a stroke for one that is upright.
+/// The text of the labels just below and just above edges, with a stroke for one that is upright.
 fn side_text(alloc: Global, sides: &[Option<SideLabels>]) -> Result<String, AllocError> {
     let mut text = String::new(alloc);
     for both in sides {

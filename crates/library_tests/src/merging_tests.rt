@@ -4,7 +4,7 @@ use crate::shapes::{Line, segment, segments};
 use merged_edges::MergedEdges;
 use std::test::Fail;
 
-// Edges, an edge, and whether they hold it.
+/// Edges, an edge, and whether they hold it.
 type Row = (&'static [Line], Line, bool);
 
 const HELD: [Row; 8] = [

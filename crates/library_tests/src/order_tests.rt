@@ -9,20 +9,20 @@ fn running_out_of_memory_has_its_status(rt: HostRuntime) {
     assert!(rt; Misuse::from(AllocError).status() == 7);
 }
 
-// The text that is shown for a command line that isn't an order.
+/// The text that is shown for a command line that isn't an order.
 fn shown(rt: &HostRuntime, words: &[&str]) -> Result<String, Fail> {
     let misuse = order(rt.alloc(), words).err().ok_or("no order")?;
     misuse.print(rt).ok().ok_or("not printed")?;
     Ok(misuse.to_string(rt.alloc())?)
 }
 
-// Whether a text has each of these parts.
+/// Whether a text has each of these parts.
 fn has_all(text: &str, parts: &[&str]) -> bool {
     parts.iter().all(|part| text.contains(*part))
 }
 
-// Command lines that are no orders, and what is shown for each: the missing word, or each word of a command; the help of
-// `run` shows a spatial query.
+/// Command lines that are no orders, and what is shown for each: the missing word, or each word of a command; the help of
+/// `run` shows a spatial query.
 const SHOWN: [(&[&str], &[&str]); 4] = [
     (&["sfq", "run", "a", "b"], &["<QUERY>"]),
     (

@@ -8,17 +8,17 @@ use std::test::Fail;
 use validity::{Valid, check};
 use wkt::read;
 
-// The side of the square of the grid in which positions are drawn.
+/// The side of the square of the grid in which positions are drawn.
 const SIDE: u64 = 5;
 
-// Adds a position.
+/// Adds a position.
 fn push_position(draws: &mut Draws, text: &mut String, alloc: Global) -> Result<(), AllocError> {
     text.push_str(draws.below(SIDE).to_string(alloc)?.as_str())?;
     text.push_str(" ")?;
     text.push_str(draws.below(SIDE).to_string(alloc)?.as_str())
 }
 
-// Adds further positions to a list of one, until it has this many.
+/// Adds further positions to a list of one, until it has this many.
 fn push_others(
     draws: &mut Draws,
     text: &mut String,
@@ -32,7 +32,7 @@ fn push_others(
     Ok(())
 }
 
-// Adds a beginning, a list of this many positions and its end.
+/// Adds a beginning, a list of this many positions and its end.
 fn push_line(
     draws: &mut Draws,
     text: &mut String,
@@ -46,7 +46,7 @@ fn push_line(
     text.push_str(")")
 }
 
-// Adds a beginning, a ring of this many positions, the closing one not counted, and the end of it and of its polygon.
+/// Adds a beginning, a ring of this many positions, the closing one not counted, and the end of it and of its polygon.
 fn push_ring(
     draws: &mut Draws,
     text: &mut String,
@@ -64,7 +64,7 @@ fn push_ring(
     text.push_str("))")
 }
 
-// Adds two lines of drawn lengths.
+/// Adds two lines of drawn lengths.
 fn push_lines(draws: &mut Draws, text: &mut String, alloc: Global) -> Result<(), AllocError> {
     let count = 2 + draws.below(3);
     push_line(draws, text, "MULTILINESTRING((", count, alloc)?;
@@ -73,14 +73,14 @@ fn push_lines(draws: &mut Draws, text: &mut String, alloc: Global) -> Result<(),
     text.push_str(")")
 }
 
-// Adds two triangles.
+/// Adds two triangles.
 fn push_polygons(draws: &mut Draws, text: &mut String, alloc: Global) -> Result<(), AllocError> {
     push_ring(draws, text, "MULTIPOLYGON(((", 3, alloc)?;
     push_ring(draws, text, ",((", 3, alloc)?;
     text.push_str(")")
 }
 
-// Adds a drawn geometry of a drawn type, which may be refused.
+/// Adds a drawn geometry of a drawn type, which may be refused.
 fn push_drawn(draws: &mut Draws, text: &mut String, alloc: Global) -> Result<(), AllocError> {
     match draws.below(8) {
         0 => push_line(draws, text, "POINT(", 1, alloc),
@@ -108,10 +108,10 @@ fn push_drawn(draws: &mut Draws, text: &mut String, alloc: Global) -> Result<(),
     }
 }
 
-// How often a geometry is drawn until one is valid.
+/// How often a geometry is drawn until one is valid.
 const DRAWS: u64 = 50;
 
-// A drawn geometry that is valid.
+/// A drawn geometry that is valid.
 fn drawn(draws: &mut Draws, alloc: Global) -> Result<Valid, Fail> {
     for _ in 0..DRAWS {
         let mut text = String::new(alloc);
@@ -125,12 +125,12 @@ fn drawn(draws: &mut Draws, alloc: Global) -> Result<Valid, Fail> {
     Err(Fail::new("no valid geometry was drawn"))
 }
 
-// The nine characters of the matrix that the labels of two geometries show.
+/// The nine characters of the matrix that the labels of two geometries show.
 fn by_labels(alloc: Global, first: &Valid, second: &Valid) -> Result<[u8; 9], Fail> {
     Ok(matrix_of_labels(&labels(alloc, first, second)?).text())
 }
 
-// Whether the matrix of two geometries that are drawn from a seed is that which their labels show.
+/// Whether the matrix of two geometries that are drawn from a seed is that which their labels show.
 fn agree(alloc: Global, seed: u64) -> Result<bool, Fail> {
     let mut draws = Draws::from_seed(seed);
     let first = drawn(&mut draws, alloc)?;

@@ -3,19 +3,19 @@
 use crate::rows::segment;
 use crate::shapes::valid;
 use command_words::sfq_command;
-use edge_boxes::EdgeBoxes;
+use edge_boxes::{EdgeBoxes, is_not_simple, share};
 use engine::relate_texts;
 use geometries::{Larger, Polygons, Shape};
 use geometry_model::ValidityFault;
 use matrices::find_matrix;
-use near_edges::{is_not_simple, share};
 use orient::Segment;
-use outlines::{Outline, first_fault};
 use sql_tokens::lex::lex;
 use std::alloc::{AllocError, Global};
 use std::test::Fail;
 use table_model::references::References;
 use table_model::texts::OwnedText;
+use validity::first_faults::first_fault;
+use validity::outlines::Outline;
 use wkt::read;
 
 #[test]
@@ -30,7 +30,7 @@ fn texts_and_references(rt: HostRuntime) -> Result<(), Fail> {
     Ok(())
 }
 
-// How many positions a shape lists that is made of no positions.
+/// How many positions a shape lists that is made of no positions.
 fn listed(alloc: Global) -> Result<Option<usize>, Fail> {
     match Shape::larger(alloc, Larger::MultiPoint(Vec::new(alloc)))? {
         Shape::Point(_) => Ok(None),
@@ -49,7 +49,7 @@ fn shapes_and_polygons(rt: HostRuntime) -> Result<(), Fail> {
     Ok(())
 }
 
-// Whether an edge of these and one of the others share a point.
+/// Whether an edge of these and one of the others share a point.
 fn edges_share(alloc: Global, edges: &[Segment], others: &[Segment]) -> Result<bool, AllocError> {
     let boxes = EdgeBoxes::build(alloc, edges)?;
     let mut near = Vec::new(alloc);

@@ -32,7 +32,7 @@ fn least_forms(rt: HostRuntime) {
     }
 }
 
-// The order of two points by x, by y, and by both.
+/// The order of two points by x, by y, and by both.
 fn orders(a: &RatPoint, b: &RatPoint) -> (Ordering, Ordering, Ordering) {
     (a.cmp_x(b), a.cmp_y(b), a.cmp(b))
 }

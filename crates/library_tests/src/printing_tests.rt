@@ -9,8 +9,8 @@ use wkt::{WktFault, print, read};
 
 type Shown = (GeometryType, Kind, bool, usize, usize, usize);
 
-// The type and the kind of the geometry of a text, whether it is empty, and how many positions are listed in it, how many
-// polygons it has, and how many rings all of them.
+/// The type and the kind of the geometry of a text, whether it is empty, and how many positions are listed in it, how many
+/// polygons it has, and how many rings all of them.
 fn shown(alloc: Global, text: &str) -> Result<Shown, Fail> {
     let geometry = read(alloc, text.as_bytes())?;
     let mut rings = 0_usize;

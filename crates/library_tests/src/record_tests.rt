@@ -6,7 +6,7 @@ use sinks::MemorySink;
 use std::alloc::{AllocError, Global};
 use std::test::Fail;
 
-// A record of two fields.
+/// A record of two fields.
 fn record(alloc: Global, first: &[u8], second: &[u8]) -> Result<ByteRecord, AllocError> {
     let mut fields = ByteRecord::new(alloc);
     fields.push_field(first)?;
@@ -14,7 +14,7 @@ fn record(alloc: Global, first: &[u8], second: &[u8]) -> Result<ByteRecord, Allo
     Ok(fields)
 }
 
-// A field that is longer than the text that is kept of earlier records.
+/// A field that is longer than the text that is kept of earlier records.
 fn long_field(alloc: Global) -> Result<Vec<u8>, AllocError> {
     vec![in alloc; b'x'; 70_000]
 }

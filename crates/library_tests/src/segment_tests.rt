@@ -42,7 +42,7 @@ fn positions_at_segments(rt: HostRuntime) -> Result<(), Fail> {
     Ok(())
 }
 
-// How many edges of the ring through these places lie strictly above p.
+/// How many edges of the ring through these places lie strictly above p.
 fn edges_above(ring: &[Place], p: &RatPoint) -> Result<usize, Fail> {
     let mut count: usize = 0;
     for ends in ring.windows(2) {

@@ -5,7 +5,7 @@ use sinks::{MemorySink, Sink, SinkFault, StdSink, put_all, put_parts};
 use std::io::{self, BufWriter, Error, ErrorKind, Read, Write};
 use std::test::Fail;
 
-// A writer that counts its calls, of which each is interrupted.
+/// A writer that counts its calls, of which each is interrupted.
 #[derive(Drop)]
 struct Interrupted {
     calls: u64,

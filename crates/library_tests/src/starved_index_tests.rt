@@ -48,7 +48,7 @@ impl EnvelopeIndex for Starved {
     }
 }
 
-// Runs a query over the points, by their schema; what it writes is left in the sink.
+/// Runs a query over the points, by their schema; what it writes is left in the sink.
 fn run_over(
     alloc: Global,
     schema: &Schema,
@@ -66,7 +66,7 @@ fn run_over(
     }
 }
 
-// Runs a query over the points; what it writes is left in the sink.
+/// Runs a query over the points; what it writes is left in the sink.
 fn run_starved(
     alloc: Global,
     query: &str,

@@ -1,6 +1,6 @@
 -- A fault is a failure of reading or running out of memory, or one that the definitions give.
 use Rattle.std.proofs.Common.{◌⊎◌, List, [], inl, inr, refl}
-use Rattle.table_parts.specs.Outcomes.{IsFailure}
+use Rattle.loaded_tables.specs.Outcomes.{IsFailure}
 use Rattle.table_model.specs.declared.faults.LoadFault.{LoadFault}
 use Rattle.table_model.specs.declared.faults.LoadFault.TheVariants as fault
 

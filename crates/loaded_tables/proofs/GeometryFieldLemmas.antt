@@ -1,7 +1,7 @@
 -- What is read as a geometry is one that its column takes, so what loads are the rows of a table, and tables that load are
 -- those of a database.
 use Rattle.std.proofs.Common.{◌≡◌, List, Ok, length, true}
-use Rattle.table_parts.specs.GeometryFields.{GeometryValue, ShapeValue, reading, takes}
+use Rattle.loaded_tables.specs.GeometryFields.{GeometryValue, ShapeValue, reading, takes}
 use Rattle.table_laws.proofs.ReadGeometries.{loaded_are_rows, loaded_is_database}
 use Rattle.table_model.specs.Databases.{load_tables}
 use Rattle.table_model.specs.Definitions.{lawful}

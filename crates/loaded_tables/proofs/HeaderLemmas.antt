@@ -6,7 +6,7 @@ use Rattle.std.proofs.lemmas.List.{drop_all, drop_more, map-append, take_all, ta
 use Rattle.std.proofs.lemmas.List.Sums.{count_by_more_no, count_by_more_yes}
 use Rattle.std.specs.List.{count_by, position, position_or_len}
 use Rattle.csv.specs.Records.{field_at}
-use Rattle.table_parts.proofs.OrderLemmas.{count-cons}
+use Rattle.loaded_tables.proofs.OrderLemmas.{count-cons}
 use Rattle.table_model.specs.Loading.{Record, header_fault, name_fault, place_in}
 use Rattle.table_model.specs.Texts.{same_name}
 use Rattle.table_model.specs.declared.definitions.ColumnDef.{ColumnDef}

@@ -8,3 +8,9 @@ pub mod LoadingLemmas
 pub mod LoadLemmas
 pub mod GeometryFieldLemmas
 pub mod ReaderRecords
+pub mod AscentLemmas
+pub mod IndexLemmas
+pub mod KeyLemmas
+pub mod MapLemmas
+pub mod OrderLemmas
+pub mod ReadingLemmas

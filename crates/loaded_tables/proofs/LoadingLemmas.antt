@@ -5,8 +5,8 @@ use Rattle.std.proofs.lemmas.List.{append_assoc, get_or-map, length-append, leng
 use Rattle.std.proofs.lemmas.List.FromFn.{get_or-enumerate_from, length-enumerate_from}
 use Rattle.std.specs.List.{enumerate_from}
 use Rattle.loaded_tables.proofs.EachLemmas.{Passed, passed_all, passed_fault, passed_more}
-use Rattle.table_parts.specs.Records.{Gives}
-use Rattle.table_parts.specs.declared.records.Records.{Records}
+use Rattle.loaded_tables.specs.Records.{Gives}
+use Rattle.loaded_tables.specs.declared.records.Records.{Records}
 use Rattle.table_model.specs.Loading.{GeometryReader, Record, checked_row, checked_rows, row_limit, row_of, rows_of}
 use Rattle.table_model.specs.Meanings.{Row}
 use Rattle.table_model.specs.declared.definitions.TableDef.{TableDef}

@@ -1,7 +1,7 @@
 -- Records of readers whose bytes are known or not.
 use Rattle.std.proofs.Common.{◌≡◌, ◌+◌, ◌++◌, ◌<◌, ℕ, List, [], ◌∷◌, Option, None, Some, Result, ap, get_or, length, refl, suc, take}
 use Rattle.std.proofs.lemmas.List.{take_more}
-use Rattle.table_parts.specs.Outcomes.{Loads}
+use Rattle.loaded_tables.specs.Outcomes.{Loads}
 use Rattle.loaded_tables.specs.Tables.{AreRecordsOf, EachRecordsOf, IsOfRecords, IsOfSomeRecords, records_in, table_in}
 use Rattle.table_model.specs.Loading.{GeometryReader, Record}
 use Rattle.table_model.specs.Meanings.{Table}

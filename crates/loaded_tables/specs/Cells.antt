@@ -1,7 +1,7 @@
 -- What a field shows.
 use Rattle.loaded_tables.specs.declared.cells.Field.{Field}
 use Rattle.loaded_tables.specs.declared.cells.Field.TheVariants as field
-use Rattle.table_parts.specs.GeometryFields.{GeometryValue}
+use Rattle.loaded_tables.specs.GeometryFields.{GeometryValue}
 use Rattle.table_model.specs.declared.values.Value.{Value}
 use Rattle.table_model.specs.declared.values.Value.TheVariants as value
 

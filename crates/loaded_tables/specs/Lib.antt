@@ -2,3 +2,9 @@ pub mod Cells
 pub mod Layouts
 pub mod RowReading
 pub mod Tables
+pub mod GeometryFields
+pub mod Indexes
+pub mod KeyedRows
+pub mod Outcomes
+pub mod Reading
+pub mod Records

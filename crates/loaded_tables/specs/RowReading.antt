@@ -1,8 +1,8 @@
 -- What reading the next row of a table returns.
 use Rattle.std.specs.Prelude.{◌≡◌, ℕ, List, [], ◌∷◌, Option, Some, None, Result, Ok, Err, ⊤}
-use Rattle.table_parts.specs.Outcomes.{IsFailure, Loads}
-use Rattle.table_parts.specs.Records.{Gives}
-use Rattle.table_parts.specs.declared.records.Records.{Records}
+use Rattle.loaded_tables.specs.Outcomes.{IsFailure, Loads}
+use Rattle.loaded_tables.specs.Records.{Gives}
+use Rattle.loaded_tables.specs.declared.records.Records.{Records}
 use Rattle.table_model.specs.Loading.{GeometryReader, Record, checked_row, rows_of}
 use Rattle.table_model.specs.Meanings.{Row}
 use Rattle.table_model.specs.declared.definitions.TableDef.{TableDef}

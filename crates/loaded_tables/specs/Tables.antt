@@ -1,8 +1,8 @@
 -- The tables that texts of CSV load as, and those that some records load as where no text is known. Generic in what names a
 -- type of geometry columns, in what a geometry is, and in how a field is read as one.
 use Rattle.std.specs.Prelude.{◌≡◌, ◌⊎◌, ◌-◌, ◌∷◌, drop, slice_get, unwrap_or, ℕ, IfErr, IsOk, List, [], None, Option, Result, Some, map, take, true, ⊤}
-use Rattle.table_parts.specs.Outcomes.{Loads, LoadsTable}
-pub use Rattle.table_parts.specs.Records.{records_in}
+use Rattle.loaded_tables.specs.Outcomes.{Loads, LoadsTable}
+pub use Rattle.loaded_tables.specs.Records.{records_in}
 use Rattle.table_model.specs.Databases.{load_tables, loaded_tables}
 use Rattle.table_model.specs.Definitions.{lawful}
 use Rattle.table_model.specs.FeatureTables.{AreRows, Takes}

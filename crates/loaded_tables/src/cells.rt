@@ -6,7 +6,7 @@ ghost use Rattle.loaded_tables.specs.Cells.{shown};
 use crate::geometry_fields::Geometry;
 use table_model::values::Value;
 
-/// A field of a row. Its text or geometry is borrowed from the table. (06-104r4, feature tables.)
+/// A field of a row. Its text or geometry is borrowed from the table (06-104r4, feature tables).
 #[derive(Clone, Copy)]
 pub enum Field<'a> {
     /// No value.

@@ -2,8 +2,8 @@
 
 ghost use Rattle.std.specs.Prelude.{◌≡◌, ◌≤◌, IfErr, drop, false, length, reverse};
 ghost use Rattle.std.specs.List.{prefix_len};
-ghost use Rattle.table_parts.specs.Outcomes.{is_of_reading};
-ghost use Rattle.table_parts.specs.GeometryFields.{reading};
+ghost use Rattle.loaded_tables.specs.Outcomes.{is_of_reading};
+ghost use Rattle.loaded_tables.specs.GeometryFields.{reading};
 ghost use Rattle.table_model.specs.Loading as spec;
 ghost use Rattle.table_model.specs.Outcomes.{Gives};
 ghost use Rattle.table_model.specs.declared.faults.LoadFault.TheVariants as fault;

@@ -1,8 +1,8 @@
 //! What is in a geometry column: how a field is read as a geometry of its type.
 
 ghost use Rattle.std.specs.Prelude.{◌≡◌, IfErr, false};
-ghost use Rattle.table_parts.specs.GeometryFields.{reading};
-ghost use Rattle.table_parts.specs.Outcomes.{is_of_reading};
+ghost use Rattle.loaded_tables.specs.GeometryFields.{reading};
+ghost use Rattle.loaded_tables.specs.Outcomes.{is_of_reading};
 ghost use Rattle.table_model.specs.GeometryColumns as spec;
 ghost use Rattle.table_model.specs.Outcomes.{Gives};
 ghost use Rattle.table_model.specs.declared.faults.LoadFault.TheVariants as fault;
@@ -10,8 +10,13 @@ ghost use Rattle.table_model.specs.declared.faults.LoadFault.TheVariants as faul
 use geometry_model::GeometryType;
 use std::alloc::Global;
 use table_model::faults::LoadFault;
-pub use table_parts::{ColumnShape, Geometry};
-use validity::read_valid;
+use validity::{Valid, read_valid};
+
+/// The type of a geometry column: one type of geometry, or none for GEOMETRY, which takes them all (06-104r4, 7.2).
+pub type ColumnShape = Option<GeometryType>;
+
+/// A geometry of a field (06-103r4, 6.1).
+pub type Geometry = Valid;
 
 /// Whether a column takes geometries of a type.
 fn takes_type(shape: ColumnShape, geometry_type: GeometryType) -> bool

@@ -4,7 +4,7 @@ ghost use Rattle.std.specs.Prelude.{◌≡◌, ◌≢◌, [], IfErr, IfOk, Match
 ghost use Rattle.std.specs.List.{slice_index_or};
 ghost use Rattle.csv.specs.Records.{fields_of};
 ghost use Rattle.loaded_tables.specs.Layouts.{IsLayout};
-ghost use Rattle.table_parts.specs.Outcomes.{is_of_reading};
+ghost use Rattle.loaded_tables.specs.Outcomes.{is_of_reading};
 ghost use Rattle.table_model.specs.Loading as spec;
 ghost use Rattle.table_model.specs.declared.faults.LoadFault.TheVariants as fault;
 

@@ -2,14 +2,15 @@
 
 ghost use Rattle.std.specs.Prelude.{◌≡◌, ◌+◌, ◌-◌, ◌<◌, ◌≤◌, IfErr, IsOk, List, OnOk, length, take, true, vec_len};
 ghost use Rattle.loaded_tables.specs.Layouts.{IsLayout};
-ghost use Rattle.table_parts.specs.Outcomes.{Loads, is_of_reading};
-ghost use Rattle.table_parts.specs.Records.{Gives, IsReady, asked, read_failed, record_limit};
+ghost use Rattle.loaded_tables.specs.Outcomes.{Loads, is_of_reading};
+ghost use Rattle.loaded_tables.specs.Records.{Gives, IsReady, asked, read_failed, record_limit};
 ghost use Rattle.loaded_tables.specs.RowReading.{IsOfRecord, RowsOfRecords, TakesRow};
-ghost use Rattle.table_parts.specs.GeometryFields.{reading};
+ghost use Rattle.loaded_tables.specs.GeometryFields.{reading};
 ghost use Rattle.table_model.specs.Loading as spec;
 
 use crate::geometry_fields::Geometry;
 use crate::headers::Layout;
+use crate::records::{Records, next_record};
 use crate::schemas::TableDef;
 use crate::typed_rows::checked_row;
 use csv::ByteRecord;
@@ -19,7 +20,6 @@ use std::io::Read;
 use table_model::definitions::ROW_LIMIT;
 use table_model::faults::LoadFault;
 use table_model::values::Value;
-use table_parts::{Records, next_record};
 
 /// Reads the next record, and returns its row; none after the last record.
 fn next_row<R: Read + Drop>(

@@ -10,12 +10,17 @@ use sqlite_items::{self as items, Items};
 use std::marker::Model;
 use table_model::definitions::{COLUMN_LIMIT, TABLE_LIMIT};
 use table_model::texts::same_name;
-pub use table_parts::{ColumnType, TableDef};
 
-/// A column of a table. (06-104r4, feature tables.)
+/// The type of a column: whole numbers, texts or geometries (SQL; 06-104r4, 7.2).
+pub type ColumnType = table_model::definitions::ColumnType<ColumnShape>;
+
+/// A column of a table (06-104r4, feature tables).
 pub type ColumnDef = table_model::definitions::ColumnDef<ColumnShape>;
 
-/// A lawful list of table definitions, which contracts see as that list. (06-104r4, feature tables)
+/// A table: its columns in order, one of which is the feature key (06-104r4, feature tables).
+pub type TableDef = table_model::definitions::TableDef<ColumnShape>;
+
+/// A lawful list of table definitions, which contracts see as that list (06-104r4, feature tables).
 #[derive(Drop)]
 pub struct Schema {
     tables: Items<TableDef>,
@@ -25,7 +30,7 @@ impl Model for Schema {
     ghost use Rattle.std.specs.Prelude.{IsTrue, List};
     ghost use Rattle.table_model.specs.Definitions.{lawful};
     ghost use Rattle.table_model.specs.declared.definitions.TableDef.{TableDef};
-    ghost use Rattle.table_parts.specs.GeometryFields.{ShapeValue};
+    ghost use Rattle.loaded_tables.specs.GeometryFields.{ShapeValue};
 
     ghost Value = { List (TableDef ShapeValue) };
 
@@ -142,7 +147,7 @@ fn are_lawful(tables: &[TableDef]) -> bool
 
 /// Whether a list of table definitions is lawful: there are at most 16 tables of at most 32 columns; the names of tables
 /// differ, and so do the names of a table's columns, without regard to ASCII case; the key of each table is an INTEGER
-/// column. The empty list is lawful. It takes no memory. (06-104r4, feature tables, of the key)
+/// column. The empty list is lawful (06-104r4, feature tables, of the key). It takes no memory.
 #[tactic(auto, unfolding(table_model::specs::Definitions::lawful))]
 pub fn lawful(tables: &[TableDef]) -> bool
     ensures { result ≡ lawful tables.now }

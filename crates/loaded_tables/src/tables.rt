@@ -2,10 +2,10 @@
 
 ghost use Rattle.std.specs.Prelude.{◌≡◌, ◌-◌, ◌∷◌, ◌<◌, ◌≤◌, ℕ, IfErr, IfOk, IsTrue, List, [], Some, length, slice_get, true};
 ghost use Rattle.loaded_tables.specs.Cells.{shown};
-ghost use Rattle.table_parts.specs.Outcomes.{Loads, is_of_reading};
-ghost use Rattle.table_parts.specs.Records.{Gives, IsReady, asked, read_failed, record_limit};
-ghost use Rattle.table_parts.specs.GeometryFields.{reading, takes};
-ghost use Rattle.table_parts.specs.Indexes.{column_envelopes};
+ghost use Rattle.loaded_tables.specs.Outcomes.{Loads, is_of_reading};
+ghost use Rattle.loaded_tables.specs.Records.{Gives, IsReady, asked, read_failed, record_limit};
+ghost use Rattle.loaded_tables.specs.GeometryFields.{reading, takes};
+ghost use Rattle.loaded_tables.specs.Indexes.{column_envelopes};
 ghost use Rattle.loaded_tables.specs.Tables.{IsOfRecords, IsOfSomeRecords, IsTable, NoFaultBefore, table_in};
 ghost use Rattle.table_model.specs.Definitions.{lawful};
 ghost use Rattle.table_model.specs.FeatureTables.{AreRows};
@@ -14,7 +14,10 @@ ghost use Rattle.table_model.specs.Loading as spec;
 use crate::cells::{Field, field_of};
 use crate::geometry_fields::Geometry;
 use crate::headers::layout_of;
+use crate::indexes::Indexes;
+use crate::keys::order_by_key;
 use crate::loading::read_rows;
+use crate::records::{Records, next_record};
 use crate::schemas::TableDef;
 use csv::ByteRecord;
 use rtree::EnvelopeIndex;
@@ -24,9 +27,8 @@ use std::io::Read;
 use std::marker::Model;
 use table_model::faults::LoadFault;
 use table_model::values::Value;
-use table_parts::{Indexes, Records, next_record, order_by_key};
 
-/// A row of a table, which contracts see as the list of its values. (06-104r4, feature tables.)
+/// A row of a table, which contracts see as the list of its values (06-104r4, feature tables).
 #[derive(Drop)]
 pub struct Row<'a> {
     values: &'a Items<Value<Geometry>>,
@@ -34,7 +36,7 @@ pub struct Row<'a> {
 
 impl<'a> Model for Row<'a> {
     ghost use Rattle.table_model.specs.Meanings as plain;
-    ghost use Rattle.table_parts.specs.GeometryFields.{GeometryValue};
+    ghost use Rattle.loaded_tables.specs.GeometryFields.{GeometryValue};
 
     ghost Value = { plain.Row GeometryValue };
 
@@ -59,8 +61,8 @@ impl<'a> Row<'a> {
     }
 }
 
-/// A table: the rows of a lawful definition, by ascending key, with an index of each geometry column. Contracts see it
-/// as the list of its rows. (06-104r4, feature tables.)
+/// A table: the rows of a lawful definition, by ascending key, with an index of each geometry column (06-104r4,
+/// feature tables). Contracts see it as the list of its rows.
 #[derive(Drop)]
 pub struct Table<I: EnvelopeIndex> {
     rows: Vec<Items<Value<Geometry>>>,
@@ -69,8 +71,8 @@ pub struct Table<I: EnvelopeIndex> {
 
 impl<I: EnvelopeIndex> Model for Table<I> {
     ghost use Rattle.table_model.specs.Meanings as plain;
-    ghost use Rattle.table_parts.specs.GeometryFields.{GeometryValue, takes};
-    ghost use Rattle.table_parts.specs.Indexes.{ListColumns};
+    ghost use Rattle.loaded_tables.specs.GeometryFields.{GeometryValue, takes};
+    ghost use Rattle.loaded_tables.specs.Indexes.{ListColumns};
     ghost use Rattle.loaded_tables.specs.Tables.{IsTable};
 
     ghost Value = { plain.Table GeometryValue };
@@ -85,8 +87,8 @@ impl<I: EnvelopeIndex + Drop> Table<I> {
     /// Loads the table of a lawful definition from the CSV text that a reader gives. The error is the first fault: of the
     /// header, then of the records in order, then a repeated key; `ReadFailed` comes where reading failed, and `OutOfMemory` may
     /// come in place of any result. Whatever the reader is, there are records whose table or fault this is. It is
-    /// `Table::load_from` over the records of the reader, so at most 100,002 of them are read, with the header.
-    /// (06-104r4, feature tables.)
+    /// `Table::load_from` over the records of the reader, so at most 100,002 of them are read, with the header
+    /// (06-104r4, feature tables).
     pub fn load<R: Read + Drop>(
         alloc: Global,
         table: &TableDef,
@@ -136,8 +138,8 @@ impl<I: EnvelopeIndex + Drop> Table<I> {
         Ok(Table { rows, indexes })
     }
 
-    /// How many rows there are: at most 100,000. They strictly ascend by key, and each value fits its column. (06-104r4,
-    /// feature tables.)
+    /// How many rows there are: at most 100,000. They strictly ascend by key, and each value fits its column (06-104r4,
+    /// feature tables).
     pub fn rows(&self) -> usize
         ensures count { result ≡ length self.now }
         ensures table { IsTable takes self.now }
@@ -156,7 +158,7 @@ impl<I: EnvelopeIndex + Drop> Table<I> {
     }
 
     /// Lends the index of a column: it lists the envelope of the column's geometry in each row. NULL and an empty geometry have
-    /// none, and in a column that isn't one of geometries no row has one. (06-103r4, 6.1.2.2: Envelope.)
+    /// none, and in a column that isn't one of geometries no row has one (06-103r4, 6.1.2.2: Envelope).
     pub fn index(&self, column: usize) -> &I
         ensures { I.indexed result.now ≡ column_envelopes column self.now }
     {

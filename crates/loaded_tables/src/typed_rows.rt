@@ -4,8 +4,8 @@ ghost use Rattle.std.specs.Prelude.{◌≡◌, ◌<◌, IfErr, Result, false, le
 ghost use Rattle.std.specs.List.{slice_index_or};
 ghost use Rattle.csv.specs.Records.{fields_of};
 ghost use Rattle.loaded_tables.specs.Layouts.{IsLayout};
-ghost use Rattle.table_parts.specs.Outcomes.{is_of_reading};
-ghost use Rattle.table_parts.specs.GeometryFields.{GeometryValue, reading};
+ghost use Rattle.loaded_tables.specs.Outcomes.{is_of_reading};
+ghost use Rattle.loaded_tables.specs.GeometryFields.{GeometryValue, reading};
 ghost use Rattle.table_model.specs.Loading as spec;
 ghost use Rattle.table_model.specs.Outcomes.{Gives};
 ghost use Rattle.table_model.specs.declared.faults.LoadFault.{LoadFault};

@@ -33,7 +33,7 @@ pub points_kept : (a b : Geometry) (ps : List Point) (m n : Matrix) → IsPartOf
 points_kept a b ps m n part all = All-weaker (λ p. Shows m (locate a p) (locate b p) Zero) (λ p. Shows n (locate a p) (locate b p) Zero) (λ p s. still_shown m n part _ _ Zero s) ps all
 
 -- a point of an own edge lies where these mostly do, or is an odd end
-no_edges : {X : Type 0} (e : Edge) → Contains [] e → X
+pub no_edges : {X : Type 0} (e : Edge) → Contains [] e → X
 no_edges e c = absurd (omega (arith, c.1))
 
 none_listed : (x : Point) → All (λ a. is_at x a ≡ false) []
@@ -46,7 +46,7 @@ by_end : (g : Geometry) (x : Point) (t : Bool) → is_odd_end (lines g) x ≡ t 
 by_end g x true e f k = inr (k, e)
 by_end g x false e f k = inl (f e)
 
-own_point : (g : Geometry) (e : Edge) (x : Point) → Contains (edges g) e → on e x ≡ true → IsPoint x → (locate g x ≡ of_own_edges (kind g)) ⊎ ((kind g ≡ kinds.Line) × (is_odd_end (lines g) x ≡ true))
+pub own_point : (g : Geometry) (e : Edge) (x : Point) → Contains (edges g) e → on e x ≡ true → IsPoint x → (locate g x ≡ of_own_edges (kind g)) ⊎ ((kind g ≡ kinds.Line) × (is_odd_end (lines g) x ≡ true))
 own_point (Geometry.Point o) e x c h hx = no_edges e c
 own_point (Geometry.MultiPoint ps) e x c h hx = no_edges e c
 own_point (Geometry.LineString l) e x c h hx = by_end (Geometry.LineString l) x (is_odd_end (l ∷ []) x) refl (λ f. mostly_there (Geometry.LineString l) e x c h hx (λ _. f) (none_listed x)) refl
@@ -54,7 +54,7 @@ own_point (Geometry.MultiLineString ls) e x c h hx = by_end (Geometry.MultiLineS
 own_point (Geometry.Polygon rs) e x c h hx = inl (mostly_there (Geometry.Polygon rs) e x c h hx (λ k. absurd (let z : kinds.Area ≡ kinds.Line = k in cc)) (none_listed x))
 own_point (Geometry.MultiPolygon es) e x c h hx = inl (mostly_there (Geometry.MultiPolygon es) e x c h hx (λ k. absurd (let z : kinds.Area ≡ kinds.Line = k in cc)) (none_listed x))
 
-abbrev Applies : Point → Geometry → Type 0
+abbrev pub Applies : Point → Geometry → Type 0
 Applies x g = (locate g x ≡ of_own_edges (kind g)) ⊎ ((kind g ≡ kinds.Line) × (is_odd_end (lines g) x ≡ true))
 
 -- where the own edges' parts share a point, and all odd ends are shown, so is each point on both

@@ -8,3 +8,4 @@ pub mod OffEdges
 pub mod ListedPositions
 pub mod Rest
 pub mod Apart
+pub mod OutsideEdges

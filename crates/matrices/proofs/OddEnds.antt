@@ -20,7 +20,7 @@ use Rattle.matrices.specs.Raising.{CoversEnd, CoversEndsOf}
 boundary_if : (s t : Bool) → s ≡ true → (if s then Boundary else if t then Interior else Exterior) ≡ Boundary
 boundary_if s t e = ap (λ (u : Bool). if u then Boundary else if t then Interior else Exterior) e
 
-odd_end_is_boundary : (g : Geometry) (x : Point) → kind g ≡ kinds.Line → is_odd_end (lines g) x ≡ true → locate g x ≡ Boundary
+pub odd_end_is_boundary : (g : Geometry) (x : Point) → kind g ≡ kinds.Line → is_odd_end (lines g) x ≡ true → locate g x ≡ Boundary
 odd_end_is_boundary (Geometry.Point o) x k h = absurd (let z : kinds.Point ≡ kinds.Line = k in cc)
 odd_end_is_boundary (Geometry.MultiPoint ps) x k h = absurd (let z : kinds.Point ≡ kinds.Line = k in cc)
 odd_end_is_boundary (Geometry.LineString l) x k h = boundary_if (is_odd_end (l ∷ []) x) (on_some (l ∷ []) x) h

@@ -3,6 +3,7 @@
 ghost use Rattle.std.specs.Prelude.{◌≡◌, ◌↔◌, true, IsTrue};
 ghost use Rattle.cover_laws.specs.CoveringLaws.{IsFullOff, IsFullOn, IsFullAlong};
 ghost use Rattle.cover_laws.specs.Gaps.{of_own_edges};
+ghost use Rattle.geometry_model.specs.declared.point_sets.Location.TheVariants.{Exterior};
 ghost use Rattle.matrices.specs.Raising.{ShowsAllOff};
 
 use geometry_model::{Dimension, Kind, Location};
@@ -11,7 +12,7 @@ use orient::Segment;
 use validity::Valid;
 
 /// Where almost all points of its own edges lie in a geometry of this kind: in the interior of lines, on the boundary of an
-/// area (OGC 06-103r4, 6.1.8.1 and 6.1.11.1). Points have no edges.
+/// area (06-103r4, 6.1.8.1 and 6.1.11.1). Points have no edges.
 pub(crate) fn of_own_edges(kind: Kind) -> Location
     ensures { result ≡ of_own_edges kind }
 {
@@ -39,11 +40,18 @@ fn is_full_in(matrix: &MatrixCells, kind: Kind, part: Location) -> bool
         && (kind != Kind::Area || matrix.shows(Location::Interior, part, Dimension::Two))
 }
 
+/// Whether the matrix shows all that edges of a geometry of this kind can show in the other's exterior, off its edges.
+pub(crate) fn is_full_outside(kind: Kind, matrix: &MatrixCells) -> bool
+    ensures { result ≡ true → ShowsAllOff kind Exterior matrix.now }
+{
+    is_full_in(matrix, kind, Location::Exterior)
+}
+
 /// Whether the matrix shows all that gaps of the first geometry's edges can show off the edges of the second.
 pub(crate) fn is_full_off(first: &Valid, second: &Valid, matrix: &MatrixCells) -> bool
     ensures { result ≡ true → IsFullOff first.now second.now matrix.now }
 {
-    is_full_in(matrix, first.kind(), Location::Exterior)
+    is_full_outside(first.kind(), matrix)
         && (second.kind() != Kind::Area || is_full_in(matrix, first.kind(), Location::Interior))
 }
 

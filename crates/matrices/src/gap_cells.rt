@@ -44,7 +44,7 @@ fn off_edges(kind: Kind, is_odd_above: bool) -> Location
 
 /// Raises cells by a gap of an edge of the first geometry that lies in this part of the second one, off its edges: by the gap
 /// itself and, if it isn't vertical, by its sides. One side is exterior to the first geometry, and at an area's edge the other is
-/// interior (OGC 06-103r4, 6.1.15.2).
+/// interior (06-103r4, 6.1.15.2).
 pub(crate) fn raise_off(first: &Valid, edge: &Segment, part: Location, matrix: &mut MatrixCells)
     ensures { IsRaisedTo (λ m. ShowsOff first.now m edge.now part) matrix.old matrix.new }
 {
@@ -58,7 +58,7 @@ pub(crate) fn raise_off(first: &Valid, edge: &Segment, part: Location, matrix: &
     }
 }
 
-/// Raises the cells of both geometries' lower sides and of their upper ones to an area (OGC 06-103r4, 6.1.15.2).
+/// Raises the cells of both geometries' lower sides and of their upper ones to an area (06-103r4, 6.1.15.2).
 fn raise_sides(first: &Sides, second: &Sides, matrix: &mut MatrixCells)
     ensures { matrix.new ≡ with_sides first.now second.now matrix.old }
 {
@@ -68,7 +68,7 @@ fn raise_sides(first: &Sides, second: &Sides, matrix: &mut MatrixCells)
 
 /// Raises cells by a gap, of which a point is given. Off the second geometry's edges this is `raise_off`. If one of these edges
 /// shares the gap, cells are raised by the gap itself and, if it isn't vertical, by its sides as they lie at the point in both
-/// geometries (OGC 06-103r4, 6.1.15.2).
+/// geometries (06-103r4, 6.1.15.2).
 fn raise_at(first: &Valid, second: &Valid, edge: &Segment, p: &RatPoint, matrix: &mut MatrixCells)
     ensures { IsRaisedTo (λ m. ShowsAt first.now second.now m edge.now p.now) matrix.old matrix.new }
 {
@@ -128,8 +128,8 @@ fn is_done(
     is_full_along(first, second, edge, matrix) && (is_held || is_full_off(first, second, matrix))
 }
 
-/// Raises cells by the gaps between neighbouring stops of an edge of the first geometry, until no further one can raise a cell. An
-/// edge that is held has all its points on edges of the second geometry.
+/// Raises cells by the gaps between neighbouring stops of an edge of the first geometry, until no further one can raise a cell.
+/// An edge that is held has all its points on edges of the second geometry.
 pub(crate) fn raise_gaps(
     first: &Valid,
     second: &Valid,

@@ -16,6 +16,7 @@ ghost use Rattle.matrices.specs.Raising.{Grows, IsOnBoth};
 use crate::fullness::{is_full_along, is_full_off, is_full_on, of_own_edges};
 use crate::gap_cells::{raise_gaps, raise_gaps_off, raise_off};
 use crate::matrix_positions::raise_point;
+use crate::outside_edges::{left_to_raise, small_envelope};
 use edge_gaps::Gaps;
 use fraction::RatPoint;
 use geometry_model::{Dimension, Kind, Location};
@@ -25,8 +26,11 @@ use orient::Segment;
 use std::alloc::{AllocError, Global};
 use validity::Valid;
 
-/// Once an edge has met others this often, these are merged.
+/// Once an edge has met others this often, these are merged, if that pays.
 const MANY_MEETINGS: usize = 64;
+
+/// It pays once all edges so far have met others as often as there are edges in this part of them: the fourth.
+const FAIR_PART: usize = 4;
 
 /// Whether the matrix shows a common point of the two parts in which almost all points of each geometry's own edges lie.
 fn shows_meeting(first: &Valid, second: &Valid, matrix: &MatrixCells) -> bool
@@ -56,6 +60,11 @@ fn raise_shared(first: &Valid, second: &Valid, shared: &[RatPoint], matrix: &mut
     }
 }
 
+/// Whether an edge has met so many edges of the second geometry that it pays to merge these.
+fn has_met_many(second: &Valid, gaps: &Gaps) -> bool {
+    gaps.named() > MANY_MEETINGS && gaps.all_named() >= second.segments().len() / FAIR_PART
+}
+
 /// Merges the second geometry's edges, if an edge of the first one has met many of them. Edges of two areas aren't merged: those
 /// of one area don't lie on each other.
 fn merge_if_many(
@@ -68,7 +77,7 @@ fn merge_if_many(
     ensures { OnOk result (AreMerged (edges second.now) merged.new) }
 {
     let are_areas = first.kind() == Kind::Area && second.kind() == Kind::Area;
-    if are_areas || gaps.named() <= MANY_MEETINGS || !merged.is_empty() {
+    if are_areas || !has_met_many(second, gaps) || !merged.is_empty() {
         return Ok(());
     }
     merged.merge(second.segments())
@@ -127,7 +136,8 @@ fn raise_apart(first: &Valid, second: &Valid, matrix: &mut MatrixCells)
     }
 }
 
-/// Raises cells by the edges of the first geometry, until no further one can raise a cell. It fails only when memory runs out.
+/// Raises cells by the edges of the first geometry, from the last one back, until no further one can raise a cell. It fails only
+/// when memory runs out.
 pub(crate) fn raise_edges(
     alloc: Global,
     first: &Valid,
@@ -146,11 +156,19 @@ pub(crate) fn raise_edges(
         raise_apart(first, second, matrix);
         return Ok(());
     }
+    let around = small_envelope(first, second);
     let mut merged = MergedEdges::new(alloc);
-    for edge in first.segments() {
+    let mut left = first.segments().len();
+    while left > 0 {
         if is_full_off(first, second, matrix) && is_full_on(first, second, matrix) {
             return Ok(());
         }
+        left = left_to_raise(first, second, &around, left, matrix);
+        if left == 0 {
+            return Ok(());
+        }
+        left -= 1;
+        let edge = &first.segments()[left];
         raise_edge(first, second, edge, gaps, &mut merged, matrix)?;
     }
     Ok(())
@@ -188,8 +206,9 @@ fn raise_edge_off(
     Ok(())
 }
 
-/// Raises cells by the edges of the first geometry once the matrix covers those of the second. It then shows what both share, so
-/// only gaps off the second's edges can raise a cell. It stops when none can any more, and fails only when memory runs out.
+/// Raises cells by the edges of the first geometry, from the last one back, once the matrix covers those of the second. It then
+/// shows what both share, so only gaps off the second's edges can raise a cell. It stops when none can any more, and fails only
+/// when memory runs out.
 pub(crate) fn raise_edges_off(
     alloc: Global,
     first: &Valid,
@@ -209,11 +228,19 @@ pub(crate) fn raise_edges_off(
         raise_apart(first, second, matrix);
         return Ok(());
     }
+    let around = small_envelope(first, second);
     let mut merged = MergedEdges::new(alloc);
-    for edge in first.segments() {
+    let mut left = first.segments().len();
+    while left > 0 {
         if is_full_off(first, second, matrix) {
             return Ok(());
         }
+        left = left_to_raise(first, second, &around, left, matrix);
+        if left == 0 {
+            return Ok(());
+        }
+        left -= 1;
+        let edge = &first.segments()[left];
         raise_edge_off(first, second, edge, gaps, &mut merged, matrix)?;
     }
     Ok(())

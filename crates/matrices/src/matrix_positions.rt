@@ -17,7 +17,7 @@ use side_labels::locate;
 use validity::Valid;
 use wkt::LineString;
 
-/// Raises the cell of the two parts in which a point lies to a point (OGC 06-103r4, 6.1.15.2).
+/// Raises the cell of the two parts in which a point lies to a point (06-103r4, 6.1.15.2).
 pub(crate) fn raise_point(first: &Valid, second: &Valid, p: &RatPoint, matrix: &mut MatrixCells)
     requires { IsPoint p.now }
     ensures grows { Grows first.now second.now matrix.old matrix.new }
@@ -34,7 +34,7 @@ fn raise_position(first: &Valid, second: &Valid, at: GridPoint, matrix: &mut Mat
     raise_point(first, second, &RatPoint::of_grid(at), matrix);
 }
 
-/// The same for a listed position of the first geometry, which is in its interior (OGC 06-103r4, 6.1.4 and 6.1.5). It is located
+/// The same for a listed position of the first geometry, which is in its interior (06-103r4, 6.1.4 and 6.1.5). It is located
 /// in the second geometry alone.
 fn raise_listed_at(second: &Valid, at: GridPoint, matrix: &mut MatrixCells)
     ensures grows { (a : Geometry) → Contains (listed a) at → Grows a second.now matrix.old matrix.new }
@@ -45,7 +45,7 @@ fn raise_listed_at(second: &Valid, at: GridPoint, matrix: &mut MatrixCells)
 }
 
 /// Whether the matrix shows that a part of the first geometry shares a point with each part that a geometry of this kind has;
-/// points have no boundary (OGC 06-103r4, 6.1.4).
+/// points have no boundary (06-103r4, 6.1.4).
 fn shows_row(matrix: &MatrixCells, part: Location, kind: Kind) -> bool
     ensures { result ≡ true → ShowsRow part kind matrix.now }
 {
@@ -80,7 +80,7 @@ fn raise_ends_of(first: &Valid, second: &Valid, line: &[GridPoint], matrix: &mut
 }
 
 /// Raises cells by the ends of the first geometry's lines that are on its boundary, until no further one can raise a cell
-/// (OGC 06-103r4, 6.1.8.1: the mod 2 rule).
+/// (06-103r4, 6.1.8.1: the mod 2 rule).
 fn raise_line_ends(first: &Valid, second: &Valid, lines: &[LineString], matrix: &mut MatrixCells)
     ensures grows { Grows first.now second.now matrix.old matrix.new }
     ensures shows { All (CoversEndsOf first.now second.now matrix.new) lines.now }

@@ -1,4 +1,4 @@
-//! The cells of the DE-9IM matrix of two geometries while they are found: what raises them, and their text (OGC 06-103r4,
+//! The cells of the DE-9IM matrix of two geometries while they are found: what raises them, and their text (06-103r4,
 //! 6.1.15.2). The crate `matrices` finds them, and `relate` of `de9im` makes a matrix of them.
 #![tactic(auto)]
 
@@ -191,7 +191,7 @@ fn greater(first: Dimension, second: Dimension) -> Dimension
     }
 }
 
-// The character of a dimension.
+/// The character of a dimension.
 fn character(dimension: Dimension) -> u8
     ensures { result ≡ dimension_character dimension }
 {

@@ -2,7 +2,8 @@
 
 ghost use Rattle.matrix_laws.specs.PolygonLaws.{StretchStays, OutsideIsExterior, CommonPointMeets, ValidRingsAreClosed, HoleRingIsInside, HolesAreCut, RingsPart, SidesOfARing, NothingCommon};
 
-/// A straight stretch that misses a geometry's edges and listed positions lies entirely in its interior or entirely in its exterior (06-103r4, 6.1.11.1).
+/// A straight stretch that misses a geometry's edges and listed positions lies entirely in its interior or entirely in its
+/// exterior (06-103r4, 6.1.11.1).
 pub fn stretch_stays()
     ensures { StretchStays }
 {}
@@ -27,22 +28,27 @@ pub fn hole_ring_is_inside()
     ensures { HoleRingIsInside }
 {}
 
-/// In a valid area a point off the rings of an element is in that element's interior exactly if it is inside the outer ring and in no hole (06-103r4, 6.1.11.1).
+/// In a valid area a point off the rings of an element is in that element's interior exactly if it is inside the outer ring and
+/// in no hole (06-103r4, 6.1.11.1).
 pub fn holes_are_cut()
     ensures { HolesAreCut }
 {}
 
-/// In a valid area, at a point strictly within a ring edge that isn't vertical, exactly one of the two numbers of edges, strictly above and at or above, is odd: the rings part the interior from the exterior there (06-103r4, 6.1.11.1).
+/// In a valid area, at a point strictly within a ring edge that isn't vertical, exactly one of the two numbers of edges, strictly
+/// above and at or above, is odd: the rings part the interior from the exterior there (06-103r4, 6.1.11.1).
 pub fn rings_part()
     ensures { RingsPart }
 {}
 
-/// In a valid area, at a point strictly within a ring edge that isn't vertical, one of `below` and `above` is interior and the other exterior; straight below and straight above it there are, arbitrarily near, points that lie so, and all that are near enough do (06-103r4, 6.1.11.1).
+/// In a valid area, at a point strictly within a ring edge that isn't vertical, one of `below` and `above` is interior and the
+/// other exterior; straight below and straight above it there are, arbitrarily near, points that lie so, and all that are near
+/// enough do (06-103r4, 6.1.11.1).
 pub fn sides_of_a_ring()
     ensures { SidesOfARing }
 {}
 
-/// Where the envelopes of two geometries don't meet, their matrix is empty in the cells of interior and boundary with interior and boundary (06-103r4, 6.1.2.2 and 6.1.15.2).
+/// Where the envelopes of two geometries don't meet, their matrix is empty in the cells of interior and boundary with interior
+/// and boundary (06-103r4, 6.1.2.2 and 6.1.15.2).
 pub fn nothing_common()
     ensures { NothingCommon }
 {}

@@ -7,7 +7,8 @@ pub fn elements_are_valid()
     ensures { ElementsAreValid }
 {}
 
-/// A point is in the interior of a valid MULTIPOLYGON exactly when it is in the interior of one of its elements (06-103r4, 6.1.14).
+/// A point is in the interior of a valid MULTIPOLYGON exactly when it is in the interior of one of its elements (06-103r4,
+/// 6.1.14).
 pub fn interior_is_of_an_element()
     ensures { InteriorIsOfAnElement }
 {}

@@ -8,7 +8,7 @@ use geometry_model::{Pattern, PatternCharacter, Predicate};
 
 /// A spatial predicate, by what is known of it without a matrix. Only [`Predicate`] implements it.
 pub trait SpatialPredicate {
-    // The predicate that a value is.
+    /// The predicate that a value is.
     ghost predicate: { Self → Predicate };
 
     /// Whether the predicate can hold only of geometries whose envelopes meet: true of Equals, Intersects, Touches, Crosses,
@@ -36,7 +36,7 @@ impl SpatialPredicate for Predicate {
     }
 }
 
-// Whether the pattern matches only where the two geometries share a point.
+/// Whether the pattern matches only where the two geometries share a point.
 fn wants_common_point(pattern: &Pattern) -> bool
     ensures { result ≡ wants_common_point pattern.now }
 {
@@ -46,7 +46,7 @@ fn wants_common_point(pattern: &Pattern) -> bool
         || wants_point(pattern.boundary_boundary)
 }
 
-// Whether no empty cell matches the character.
+/// Whether no empty cell matches the character.
 fn wants_point(character: PatternCharacter) -> bool
     ensures { result ≡ wants_point character }
 {

@@ -8,11 +8,11 @@ use geometry_model::{Pattern, PatternCharacter};
 
 /// A pattern of the DE-9IM matrix, by its text (06-103r4, 6.1.15.2). Only [`Pattern`] implements it.
 pub trait PatternText: Sized {
-    // The pattern that a value is.
+    /// The pattern that a value is.
     ghost pattern: { Self → Pattern };
 
     /// The pattern that a text of nine characters `T F * 0 1 2` writes, by rows; `t` and `f` are taken too. None for any other
-    /// text. It takes no memory. (06-103r4, 6.1.15.2; small letters: this project's choice.)
+    /// text (06-103r4, 6.1.15.2; small letters: this project's choice). It takes no memory.
     fn read(text: &str) -> Option<Self>
         ensures { option_map pattern result ≡ pattern_of_text text.now };
 }
@@ -38,7 +38,7 @@ impl PatternText for Pattern {
     }
 }
 
-// The pattern character that a byte writes.
+/// The pattern character that a byte writes.
 fn character(byte: u8) -> Option<PatternCharacter>
     ensures { result ≡ character_of byte }
 {

@@ -15,7 +15,7 @@ use std::cmp::Ordering;
 use std::marker::Model;
 
 /// Edges, of which those that are on one line and touch are merged, in the order of their lines. Each point of them is on some
-/// of the edges that they were made of (OGC 06-103r4, 6.1.7: Line; merging: this project's choice).
+/// of the edges that they were made of (06-103r4, 6.1.7: Line; merging: this project's choice).
 #[derive(Debug, Drop)]
 pub struct MergedEdges {
     stretches: Vec<Segment>,

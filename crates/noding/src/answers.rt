@@ -2,7 +2,7 @@
 
 use fraction::RatPoint;
 
-/// The points that two segments have in common (OGC 06-103r4, 6.1.15.2: intersection; its cases: this project's choice).
+/// The points that two segments have in common (06-103r4, 6.1.15.2: intersection; its cases: this project's choice).
 #[derive(Clone, Copy, Debug, PartialEq, Eq)]
 pub enum Meet {
     /// They have no point in common.

@@ -53,7 +53,7 @@ fn push_stretches(
 
 /// The nodes and the pieces of some segments and listed positions. Nodes are the ends of all segments, all listed positions,
 /// the points that two segments not on one line share, and both ends of each stretch that two segments share. Pieces are the
-/// stretches of segments between neighbouring nodes on them (OGC 06-103r4, 6.1.15.2: intersection; nodes, pieces and their
+/// stretches of segments between neighbouring nodes on them (06-103r4, 6.1.15.2: intersection; nodes, pieces and their
 /// order: this project's choice). Both lists are exact and ascend, each element once. The denominators are at most 8 L L, where
 /// L is the limit of coordinates. It fails only when memory runs out.
 ///

@@ -12,7 +12,7 @@ use crate::stretches::common_stretch;
 use orient::{Segment, side_number};
 use std::cmp::Ordering;
 
-/// The points that two segments have in common: none, one or a stretch (OGC 06-103r4, 6.1.15.2: intersection). It is exact.
+/// The points that two segments have in common: none, one or a stretch (06-103r4, 6.1.15.2: intersection). It is exact.
 /// The points that it names are the cuts of the two that are on both, in least form, and the denominators are at most 8 L L,
 /// where L is the limit of coordinates.
 pub fn meet(first: &Segment, second: &Segment) -> Meet

@@ -10,7 +10,7 @@ use crate::segments::Segment;
 use crate::sides::{is_on, signed_side};
 use fraction::{GridPoint, RatPoint};
 
-/// How a point lies relative to a segment (OGC 06-103r4, 6.1.7 and 6.1.11.1). Of the segment's ends the left one counts and the
+/// How a point lies relative to a segment (06-103r4, 6.1.7 and 6.1.11.1). Of the segment's ends the left one counts and the
 /// right one doesn't; a vertical segment lies above no point.
 #[derive(Clone, Copy, Debug, PartialEq, Eq)]
 pub struct Crossing {

@@ -5,7 +5,7 @@ ghost use Rattle.std.specs.Prelude.{◌≡◌, ◌≢◌, ◌↔◌, IsNone, IfS
 use fraction::GridPoint;
 use std::marker::Model;
 
-/// A straight line between two different positions of the grid, from its start to its end (OGC 06-103r4,
+/// A straight line between two different positions of the grid, from its start to its end (06-103r4,
 /// 6.1.7: Line).
 #[derive(Clone, Copy, Debug)]
 pub struct Segment {
@@ -27,7 +27,7 @@ impl Model for Segment {
 }
 
 impl Segment {
-    /// The segment from a to b; `None` exactly where they are the same position (OGC 06-103r4, 6.1.7: Line;
+    /// The segment from a to b; `None` exactly where they are the same position (06-103r4, 6.1.7: Line;
     /// `None`: this project's choice).
     pub fn new(a: GridPoint, b: GridPoint) -> Option<Segment>
         ensures none { IsNone result ↔ (a ≡ b) }
@@ -40,14 +40,14 @@ impl Segment {
         }
     }
 
-    /// Where it starts (OGC 06-103r4, 6.1.6.2: StartPoint).
+    /// Where it starts (06-103r4, 6.1.6.2: StartPoint).
     pub fn start(&self) -> GridPoint
         ensures { result ≡ self.now.start }
     {
         self.start
     }
 
-    /// Where it ends, which isn't where it starts (OGC 06-103r4, 6.1.6.2: EndPoint).
+    /// Where it ends, which isn't where it starts (06-103r4, 6.1.6.2: EndPoint).
     pub fn end(&self) -> GridPoint
         ensures value { result ≡ self.now.end }
         ensures differ { self.now.start ≢ self.now.end }

@@ -105,7 +105,7 @@ pub(crate) fn is_on(side: i128, segment: &Segment, p: &RatPoint) -> bool
     side == 0 && is_within_ends(segment, p)
 }
 
-/// Whether p lies on the segment, ends counted (OGC 06-103r4, 6.1.7: Line).
+/// Whether p lies on the segment, ends counted (06-103r4, 6.1.7: Line).
 pub fn on(segment: &Segment, p: &RatPoint) -> bool
     ensures { result ≡ spec.on segment.now p.now }
 {

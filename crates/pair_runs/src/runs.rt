@@ -4,7 +4,7 @@ ghost use Rattle.std.specs.Prelude.{◌≡◌, ◌||◌, List, Option, [], ℕ};
 ghost use Rattle.pair_runs.specs.Pairs.{AreRead, Begins, CountsWrites, Ends, RelatesPairs, pairs_end};
 ghost use Rattle.table_model.specs.Loading.{Record};
 ghost use Rattle.table_model.specs.RunOutcomes.{ByEveryMatrix};
-ghost use Rattle.table_parts.specs.Reading.{IsSteady};
+ghost use Rattle.loaded_tables.specs.Reading.{IsSteady};
 
 use crate::pair_lines::put_pair;
 use crate::pair_records::{broken_off, next_record, record_reader, unequal};
@@ -27,8 +27,8 @@ pub enum Pairs {
 /// characters of their DE-9IM matrix, or why one of them is refused, as `relate` says it. Each line is written before the next
 /// record is read, and nothing of it is kept. The first record that hasn't two fields ends the run with
 /// `UnequalRecord` and its number, from 1, under the name `pairs`; a fault of reading with `ReadFailed`; a failed
-/// write with `WriteFailed`; and running out of memory with `OutOfMemory`. What was written before stays written.
-/// (06-103r4, 6.1.15.2; the form of a line is this project's.)
+/// write with `WriteFailed`; and running out of memory with `OutOfMemory`. What was written before stays written
+/// (06-103r4, 6.1.15.2; the form of a line: this project's choice).
 pub fn relate_pairs<R: Read + Drop, S: Sink>(
     alloc: Global,
     reader: R,
@@ -42,7 +42,7 @@ pub fn relate_pairs<R: Read + Drop, S: Sink>(
     relate_all(alloc, &mut records, sink)
 }
 
-// Relates the pairs that a reader still gives, all of them from the start of its text.
+/// Relates the pairs that a reader still gives, all of them from the start of its text.
 fn relate_all<R: Read + Drop, S: Sink>(
     alloc: Global,
     records: &mut Reader<R>,
@@ -70,14 +70,14 @@ fn relate_all<R: Read + Drop, S: Sink>(
     Err(broken_off())
 }
 
-// Whether one of two facts holds.
+/// Whether one of two facts holds.
 fn either(first: bool, second: bool) -> bool
     ensures { result ≡ (first || second) }
 {
     first || second
 }
 
-// How a run ended that went over all pairs.
+/// How a run ended that went over all pairs.
 fn ended(some_refused: bool) -> Pairs
     ensures { result ≡ pairs_end some_refused }
 {

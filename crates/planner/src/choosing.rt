@@ -13,7 +13,7 @@ use std::alloc::{AllocError, Global};
 use table_model::conditions::{Bound, Cond, GeometryArgument};
 use table_model::plans::{Access, Plan};
 
-// The accesses of a nesting as a list, the outer one first.
+/// The accesses of a nesting as a list, the outer one first.
 fn listed(alloc: Global, nesting: Nesting) -> Result<Items<Access>, AllocError>
     ensures { IfOk result (λ accesses. accesses ≡ accesses_in nesting) }
 {
@@ -28,7 +28,7 @@ fn listed(alloc: Global, nesting: Nesting) -> Result<Items<Access>, AllocError>
     }
 }
 
-// The plan that has these accesses.
+/// The plan that has these accesses.
 fn plan_of<A>(
     alloc: Global,
     rows: &[u32],

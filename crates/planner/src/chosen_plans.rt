@@ -13,7 +13,7 @@ use std::alloc::{AllocError, Global};
 use table_model::conditions::Reference;
 use table_model::plans::Plan;
 
-// The number of rows of a table; it is at most 100,000.
+/// The number of rows of a table; it is at most 100,000.
 fn row_count<I: EnvelopeIndex + Drop>(table: &Table<I>) -> u32
     ensures { result ≡ length table.now }
 {
@@ -23,7 +23,7 @@ fn row_count<I: EnvelopeIndex + Drop>(table: &Table<I>) -> u32
     }
 }
 
-// The numbers of rows of the tables of some references.
+/// The numbers of rows of the tables of some references.
 fn row_counts<I: EnvelopeIndex + Drop>(
     alloc: Global,
     database: &Database<'_, I>,

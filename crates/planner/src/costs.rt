@@ -7,7 +7,7 @@ ghost use Rattle.table_model.specs.Plans as spec;
 use crate::lawful_accesses::Nesting;
 use table_model::plans::{Access, AccessMethod};
 
-// The number of rows of a reference.
+/// The number of rows of a reference.
 fn row_count(rows: &[u32], reference: usize) -> u64
     ensures count { result ≡ slice_index_or rows.now reference 0 }
     ensures fits { result < 2 ^ 32 }
@@ -18,7 +18,7 @@ fn row_count(rows: &[u32], reference: usize) -> u64
     }
 }
 
-// What an access costs: a scan the rows of its table, a probe a tenth of them and a constant.
+/// What an access costs: a scan the rows of its table, a probe a tenth of them and a constant.
 fn access_cost(rows: &[u32], access: Access) -> u64
     ensures cost { result ≡ spec.access_cost (slice_index_or rows.now access.reference 0) access.method }
     ensures fits { result < 2 ^ 32 }
@@ -30,7 +30,7 @@ fn access_cost(rows: &[u32], access: Access) -> u64
     }
 }
 
-// How many rows an access is expected to give.
+/// How many rows an access is expected to give.
 fn expected_rows(rows: &[u32], access: Access) -> u64
     ensures expected { result
         ≡ spec.expected_rows (slice_index_or rows.now access.reference 0) access.method }
@@ -43,7 +43,7 @@ fn expected_rows(rows: &[u32], access: Access) -> u64
     }
 }
 
-// What a nesting of accesses costs: the inner access is made for each row that is expected of the outer one.
+/// What a nesting of accesses costs: the inner access is made for each row that is expected of the outer one.
 pub(crate) fn cost(rows: &[u32], nesting: Nesting) -> u64
     ensures { result ≡ spec.cost rows.now (accesses_in nesting) }
 {

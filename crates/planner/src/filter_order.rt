@@ -8,7 +8,7 @@ use sqlite_items::Items;
 use std::alloc::{AllocError, Global};
 use table_model::conditions::Cond;
 
-// A number of predicates less those of a condition; none if the condition has more.
+/// A number of predicates less those of a condition; none if the condition has more.
 #[cycle(counting)]
 fn left_after<A>(condition: &Cond<A>, predicates: usize) -> Option<usize>
     ensures { result ≡ left_after (spec.predicate_count condition.now) predicates }
@@ -22,7 +22,7 @@ fn left_after<A>(condition: &Cond<A>, predicates: usize) -> Option<usize>
     }
 }
 
-// A number of predicates less those of all these conditions; none if they have more.
+/// A number of predicates less those of all these conditions; none if they have more.
 #[cycle(counting)]
 fn left_after_all<A>(conditions: &[Cond<A>], predicates: usize) -> Option<usize>
     ensures { result ≡ left_after (sum_by spec.predicate_count conditions.now) predicates }
@@ -34,7 +34,7 @@ fn left_after_all<A>(conditions: &[Cond<A>], predicates: usize) -> Option<usize>
     Some(left)
 }
 
-// Whether a condition has exactly this many predicates.
+/// Whether a condition has exactly this many predicates.
 fn has_count<A>(condition: &Cond<A>, count: usize) -> bool
     ensures { result ≡ (spec.predicate_count condition.now == count) }
 {
@@ -44,8 +44,8 @@ fn has_count<A>(condition: &Cond<A>, count: usize) -> bool
     }
 }
 
-// How many numbers of predicates a conjunct may have: from 0 to that of all conjuncts together. None if they don't fit in
-// a usize.
+/// How many numbers of predicates a conjunct may have: from 0 to that of all conjuncts together. None if they don't fit in
+/// a usize.
 fn possible_counts<A>(conjuncts: &[Cond<A>]) -> Option<usize>
     ensures { IfSome result (λ n. n ≡ sum_by spec.predicate_count conjuncts.now + 1) }
 {
@@ -55,7 +55,7 @@ fn possible_counts<A>(conjuncts: &[Cond<A>]) -> Option<usize>
     }
 }
 
-// Adds the place of a conjunct, if the conjunct has this many predicates.
+/// Adds the place of a conjunct, if the conjunct has this many predicates.
 fn push_place<A>(
     places: &mut Items<usize>,
     place: usize,
@@ -71,7 +71,7 @@ fn push_place<A>(
     Ok(())
 }
 
-// Adds the places of the conjuncts with this many predicates.
+/// Adds the places of the conjuncts with this many predicates.
 fn push_places<A>(
     places: &mut Items<usize>,
     conjuncts: &[Cond<A>],
@@ -86,7 +86,7 @@ fn push_places<A>(
     Ok(())
 }
 
-// The places of all conjuncts: those without predicate of geometries, then those with one, and so on.
+/// The places of all conjuncts: those without predicate of geometries, then those with one, and so on.
 pub(crate) fn filters<A>(alloc: Global, conjuncts: &[Cond<A>]) -> Result<Items<usize>, AllocError>
     ensures { IfOk result (λ places. places ≡ spec.filters conjuncts.now) }
 {

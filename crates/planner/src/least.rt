@@ -7,7 +7,7 @@ ghost use Rattle.table_model.specs.Plans as spec;
 use crate::costs::cost;
 use crate::lawful_accesses::Nesting;
 
-// The cheaper one of what was the least so far and the next; the earlier one of two that cost the same.
+/// The cheaper one of what was the least so far and the next; the earlier one of two that cost the same.
 fn cheaper(rows: &[u32], least: Nesting, next: Nesting) -> Nesting
     ensures { result ≡ cheaper (λ n. spec.cost rows.now (accesses_in n)) (Some least) next }
 {
@@ -18,7 +18,7 @@ fn cheaper(rows: &[u32], least: Nesting, next: Nesting) -> Nesting
     }
 }
 
-// The first of least cost.
+/// The first of least cost.
 pub(crate) fn first_of_least(rows: &[u32], nestings: &[Nesting]) -> Nesting
     requires { 0 < length nestings.now }
     ensures { spec.first_of_least (λ n. spec.cost rows.now (accesses_in n)) nestings.now ≡ Some result }

@@ -32,7 +32,7 @@ pub fn geometry_only<P: Drop>(at: usize, typed: Typed<P>) -> Result<P, QueryFaul
 }
 
 /// ST_GeomFromText of a string. The geometry is read and tested here, once; `BadGeometry` at the string if it has a fault,
-/// whose byte is counted in the string's value. (06-104r4, 7.2.)
+/// whose byte is counted in the string's value (06-104r4, 7.2).
 fn literal(alloc: Global, string: &Name<'_>) -> Result<Typed<Argument>, QueryFault>
     ensures { Binds result
         (geometries.literal string.now.at (geometry_in_text (spec.unquoted string.now.text))) }
@@ -47,7 +47,7 @@ fn literal(alloc: Global, string: &Name<'_>) -> Result<Typed<Argument>, QueryFau
     }
 }
 
-/// An argument of a condition: a column of any type, or ST_GeomFromText of a string. (06-104r4, 7.2.)
+/// An argument of a condition: a column of any type, or ST_GeomFromText of a string (06-104r4, 7.2).
 pub fn bound_argument(
     alloc: Global,
     scope: Scope<'_>,
@@ -67,7 +67,7 @@ pub fn bound_argument(
     }
 }
 
-/// An argument of the select list: a column of any type. (06-104r4, 7.2.)
+/// An argument of the select list: a column of any type (06-104r4, 7.2).
 pub fn bound_place(
     scope: Scope<'_>,
     written: &WrittenColumn<'_>,

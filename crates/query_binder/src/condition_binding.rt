@@ -29,10 +29,10 @@ use table_model::queries::WrittenPredicate;
 
 type WrittenOperand<'a> = table_model::queries::WrittenOperand<'a, WrittenArgument<'a>>;
 
-/// A condition as it is written. (SQL, the search condition.)
+/// A condition as it is written (SQL, the search condition).
 pub type WrittenCond<'a> = table_model::queries::WrittenCond<'a, WrittenArgument<'a>>;
 
-/// A comparison that starts at a byte; its sides are bound first. (SQL, comparison.)
+/// A comparison that starts at a byte; its sides are bound first (SQL, comparison).
 fn comparison(
     alloc: Global,
     scope: Scope<'_>,
@@ -51,7 +51,7 @@ fn comparison(
     Ok(Cond::Compare(sign, left.part, right.part))
 }
 
-/// IS NULL. (SQL, the null predicate.)
+/// IS NULL (SQL, the null predicate).
 fn null_test(
     alloc: Global,
     scope: Scope<'_>,
@@ -87,7 +87,7 @@ fn bound_predicate(alloc: Global, written: &WrittenPredicate<'_>) -> Result<Pred
 }
 
 /// A predicate of two geometries that starts at a byte. Its arguments are bound first, then its pattern; then the arguments
-/// have to be geometries. (06-103r4, 6.1.15.3.)
+/// have to be geometries (06-103r4, 6.1.15.3).
 fn relation(
     alloc: Global,
     scope: Scope<'_>,
@@ -106,14 +106,14 @@ fn relation(
     Ok(Cond::Relates(predicate, left, right))
 }
 
-/// NOT of a bound condition. (SQL, the search condition.)
+/// NOT of a bound condition (SQL, the search condition).
 fn negated(alloc: Global, part: Cond) -> Result<Cond, QueryFault>
     ensures { Binds result (Ok (conds.Not part)) }
 {
     Ok(Cond::Not(Boxed::new(alloc, part)?))
 }
 
-/// A written condition, bound as it is written, or its first fault from left to right. (SQL, the search condition.)
+/// A written condition, bound as it is written, or its first fault from left to right (SQL, the search condition).
 #[cycle(conditions)]
 pub fn bound_cond(
     alloc: Global,

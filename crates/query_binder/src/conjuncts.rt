@@ -34,7 +34,7 @@ fn alone(
 }
 
 /// The conjuncts of a written condition, bound, or its first fault. The conjuncts of an AND are those of its parts, in order;
-/// any other condition is one. (SQL, the search condition.)
+/// any other condition is one (SQL, the search condition).
 #[cycle(conjuncts)]
 pub fn bound_conjuncts(
     alloc: Global,

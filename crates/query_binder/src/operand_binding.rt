@@ -16,7 +16,7 @@ use table_model::faults::QueryFault;
 use table_model::queries::WrittenOperand;
 use table_model::typing::{OperandType, Typed};
 
-/// A side of a comparison, with its type. (SQL, comparison; of geometries: 06-103r4, 6.1.2.2.)
+/// A side of a comparison, with its type (SQL, comparison; of geometries: 06-103r4, 6.1.2.2).
 pub fn bound_operand(
     alloc: Global,
     scope: Scope<'_>,
@@ -67,7 +67,7 @@ fn fits_text(a: OperandType) -> bool
     matches!(a, OperandType::Text | OperandType::Null)
 }
 
-/// Whether two sides can be compared. (SQL, comparison.)
+/// Whether two sides can be compared (SQL, comparison).
 pub fn comparable(a: OperandType, b: OperandType) -> bool
     ensures { result ≡ spec.comparable a b }
 {

@@ -62,7 +62,7 @@ fn bound_query(
 
 /// Binds a query to the tables of a schema. Names of tables and columns become their places, without regard to ASCII
 /// case; strings become their values; each text of ST_GeomFromText becomes a valid geometry, read and tested once. The
-/// tables and columns of what it returns are there, and its types fit. (SQL; 06-104r4, 7.2.)
+/// tables and columns of what it returns are there, and its types fit (SQL; 06-104r4, 7.2).
 ///
 /// FROM is bound first, then the select list, ON and WHERE. The error is the first fault from left to right, with its
 /// byte; in a predicate or a call the arguments come before the whole (the order: this project's choice):

@@ -22,7 +22,7 @@ fn after_first(text: &[u8]) -> &[u8]
     more
 }
 
-/// The value of a string: two quotes in a row are one. It fails only when memory runs out. (SQL, character strings.)
+/// The value of a string: two quotes in a row are one (SQL, character strings). It fails only when memory runs out.
 pub fn unquoted(alloc: Global, text: &[u8]) -> Result<Items<u8>, AllocError>
     ensures { IfOk result (λ bytes. bytes ≡ spec.unquoted text.now) }
 {

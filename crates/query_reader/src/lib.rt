@@ -17,8 +17,8 @@ use sqlite_items::Boxed;
 pub use table_model::faults::QueryFault;
 use table_model::queries::{WrittenColumn, WrittenGeometry};
 
-/// A geometry argument of a condition as it is written, behind a pointer, so that conditions stay small. (06-104r4, 7.2.)
+/// A geometry argument of a condition as it is written, behind a pointer, so that conditions stay small (06-104r4, 7.2).
 pub type Argument<'a> = Boxed<WrittenGeometry<'a>>;
 
-/// A query as it is written. Names and strings are parts of the query's text. (SQL, the query.)
+/// A query as it is written. Names and strings are parts of the query's text (SQL, the query).
 pub type Query<'a> = table_model::queries::Query<'a, Argument<'a>, WrittenColumn<'a>>;

@@ -19,7 +19,7 @@ use table_model::faults::QueryFault;
 use table_model::queries::WrittenPredicate;
 use table_model::tokens::TokenKind;
 
-/// The predicates of two geometries with the names of their functions (OGC 06-103r4, 6.1.15.3).
+/// The predicates of two geometries with the names of their functions (06-103r4, 6.1.15.3).
 const NAMED_PREDICATES: [(&[u8], Predicate); 8] = [
     (b"ST_Equals", Predicate::Equals),
     (b"ST_Disjoint", Predicate::Disjoint),

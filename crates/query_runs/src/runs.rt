@@ -97,7 +97,7 @@ pub fn run_observed<I: EnvelopeIndex + Drop, R: Read + Drop, S: Sink, O: RowObse
     load_and_answer::<I, R, S, O>(alloc, schema, readers, &query, sink, observer)
 }
 
-// Loads all tables and runs a query over them. The clauses hold for each text that is read as this query.
+/// Loads all tables and runs a query over them. The clauses hold for each text that is read as this query.
 fn load_and_answer<I: EnvelopeIndex + Drop, R: Read + Drop, S: Sink, O: RowObserver>(
     alloc: Global,
     schema: &Schema,
@@ -125,8 +125,8 @@ fn load_and_answer<I: EnvelopeIndex + Drop, R: Read + Drop, S: Sink, O: RowObser
     answer_query(alloc, query, &database, sink, observer)
 }
 
-// Runs a query over a database: binds it, chooses its plan, and writes its answer. At Ok all of the answer has been
-// written; nothing if the query can't be bound, and perhaps a beginning if the sink failed or memory ran out.
+/// Runs a query over a database: binds it, chooses its plan, and writes its answer. At Ok all of the answer has been
+/// written; nothing if the query can't be bound, and perhaps a beginning if the sink failed or memory ran out.
 fn answer_query<I: EnvelopeIndex + Drop, S: Sink, O: RowObserver>(
     alloc: Global,
     query: &Query<'_>,
@@ -146,7 +146,7 @@ fn answer_query<I: EnvelopeIndex + Drop, S: Sink, O: RowObserver>(
     Ok(work)
 }
 
-// Writes what a bound query asks for, using a lawful plan, and returns the work.
+/// Writes what a bound query asks for, using a lawful plan, and returns the work.
 fn put_planned<I: EnvelopeIndex + Drop, S: Sink, O: RowObserver>(
     alloc: Global,
     database: &Database<'_, I>,
@@ -171,7 +171,7 @@ fn put_planned<I: EnvelopeIndex + Drop, S: Sink, O: RowObserver>(
     }
 }
 
-// Writes the rows of a bound query, as a lawful plan finds them, and returns the work.
+/// Writes the rows of a bound query, as a lawful plan finds them, and returns the work.
 fn put_rows<I: EnvelopeIndex + Drop, S: Sink, O: RowObserver>(
     alloc: Global,
     database: &Database<'_, I>,
@@ -194,7 +194,7 @@ fn put_rows<I: EnvelopeIndex + Drop, S: Sink, O: RowObserver>(
     Ok(rows.into_work())
 }
 
-// Writes what EXPLAIN prints of a plan. Nothing is executed, so there is no work.
+/// Writes what EXPLAIN prints of a plan. Nothing is executed, so there is no work.
 fn put_plan<S: Sink>(query: &Bound, plan: &Plan, sink: &mut S) -> Result<Work, PutFault>
     ensures text { PutsText result (explain_text query.now plan.now)
         (S.taken sink.old) (S.taken sink.new) (S.failures sink.old) (S.failures sink.new) }
@@ -204,7 +204,7 @@ fn put_plan<S: Sink>(query: &Bound, plan: &Plan, sink: &mut S) -> Result<Work, P
     Ok(Work::new())
 }
 
-// Executes a lawful plan to its end, writes what EXPLAIN ANALYZE prints of it, and returns the work.
+/// Executes a lawful plan to its end, writes what EXPLAIN ANALYZE prints of it, and returns the work.
 fn put_analysis<I: EnvelopeIndex + Drop, S: Sink, O: RowObserver>(
     alloc: Global,
     database: &Database<'_, I>,
@@ -229,8 +229,8 @@ fn put_analysis<I: EnvelopeIndex + Drop, S: Sink, O: RowObserver>(
     Ok(work)
 }
 
-// Writes the answer of a query whose rows these are: under COUNT(*) how many there are, else the header and the record of
-// each row, as it comes.
+/// Writes the answer of a query whose rows these are: under COUNT(*) how many there are, else the header and the record of
+/// each row, as it comes.
 fn put_answer<I: EnvelopeIndex + Drop, S: Sink, O: RowObserver>(
     alloc: Global,
     database: &Database<'_, I>,
@@ -257,7 +257,7 @@ fn put_answer<I: EnvelopeIndex + Drop, S: Sink, O: RowObserver>(
     put_records(alloc, database, query, rows, &mut writer, sink, observer)
 }
 
-// Writes the header of COUNT(*) and the record of the number, which is left out under LIMIT 0.
+/// Writes the header of COUNT(*) and the record of the number, which is left out under LIMIT 0.
 fn put_count<S: Sink>(
     alloc: Global,
     limit: Option<u64>,
@@ -277,7 +277,7 @@ fn put_count<S: Sink>(
     put_field(alloc, digits.format(count).as_bytes(), writer, sink)
 }
 
-// A record of this one field.
+/// A record of this one field.
 fn one_field(alloc: Global, field: &[u8]) -> Result<ByteRecord, AllocError>
     ensures { IfOk result (λ r. fields_of r ≡ field.now ∷ []) }
 {
@@ -286,7 +286,7 @@ fn one_field(alloc: Global, field: &[u8]) -> Result<ByteRecord, AllocError>
     Ok(fields)
 }
 
-// Writes the record of this one field.
+/// Writes the record of this one field.
 fn put_field<S: Sink>(
     alloc: Global,
     field: &[u8],
@@ -302,7 +302,7 @@ fn put_field<S: Sink>(
     writer.put(alloc, &fields, sink)
 }
 
-// Writes the record of each row that is still to come, as it comes.
+/// Writes the record of each row that is still to come, as it comes.
 fn put_records<I: EnvelopeIndex + Drop, S: Sink, O: RowObserver>(
     alloc: Global,
     database: &Database<'_, I>,
@@ -329,7 +329,7 @@ fn put_records<I: EnvelopeIndex + Drop, S: Sink, O: RowObserver>(
     Ok(())
 }
 
-// Replaces the fields of a record by those of a pair of rows.
+/// Replaces the fields of a record by those of a pair of rows.
 fn pair_record<I: EnvelopeIndex + Drop>(
     alloc: Global,
     database: &Database<'_, I>,

@@ -11,7 +11,7 @@ use spatial_sql::{Query, Truth, bind, read_query, read_schema, value};
 use std::alloc::Global;
 use std::test::Fail;
 
-// The truth of the first condition of a bound query at the row at a place of the first table, and the work of it.
+/// The truth of the first condition of a bound query at the row at a place of the first table, and the work of it.
 fn truth_of(
     alloc: Global,
     database: &Database<'_, RTree>,
@@ -33,7 +33,7 @@ fn truth_of(
     Ok((truth, work.count()))
 }
 
-// The same of a query that was read.
+/// The same of a query that was read.
 fn truth_by(
     alloc: Global,
     database: &Database<'_, RTree>,
@@ -44,7 +44,7 @@ fn truth_by(
     truth_of(alloc, database, &bound, place)
 }
 
-// The same of the text of a query.
+/// The same of the text of a query.
 fn truth_at(
     alloc: Global,
     database: &Database<'_, RTree>,
@@ -55,7 +55,7 @@ fn truth_at(
     truth_by(alloc, database, &query, place)
 }
 
-// The same over a table of points.
+/// The same over a table of points.
 fn truth_over(
     alloc: Global,
     points: &str,

@@ -44,7 +44,7 @@ const PROBED_WITHIN: &str =
 const JOINED: &str =
     "SELECT b.id, s.id FROM big b JOIN sq s ON ST_Intersects(b.geom, s.geom) WHERE b.id <> 2";
 
-// Adds how the rows of a reference are found to a text.
+/// Adds how the rows of a reference are found to a text.
 fn write_access(text: &mut String, access: &Access) -> Result<(), AllocError> {
     let reference = access.reference;
     match access.method {
@@ -53,7 +53,7 @@ fn write_access(text: &mut String, access: &Access) -> Result<(), AllocError> {
     }
 }
 
-// Adds the places of a row to a text.
+/// Adds the places of a row to a text.
 fn write_row(text: &mut String, row: &RowPair) -> Result<(), AllocError> {
     let first = row.first;
     match row.second {
@@ -62,7 +62,7 @@ fn write_row(text: &mut String, row: &RowPair) -> Result<(), AllocError> {
     }
 }
 
-// The text of accesses and of rows.
+/// The text of accesses and of rows.
 fn text_of(alloc: Global, accesses: &[Access], rows: &[RowPair]) -> Result<String, AllocError> {
     let mut text = String::new(alloc);
     for access in accesses {
@@ -75,7 +75,7 @@ fn text_of(alloc: Global, accesses: &[Access], rows: &[RowPair]) -> Result<Strin
     Ok(text)
 }
 
-// The rows of a stream, one after another, and the work after the first.
+/// The rows of a stream, one after another, and the work after the first.
 fn one_by_one(alloc: Global, mut rows: Rows<'_, RTree>) -> Result<(Vec<RowPair>, u64), AllocError> {
     let mut pairs = Vec::new(alloc);
     if let Some(row) = rows.next_observed(&mut Unobserved) {
@@ -88,7 +88,7 @@ fn one_by_one(alloc: Global, mut rows: Rows<'_, RTree>) -> Result<(Vec<RowPair>,
     Ok((pairs, work))
 }
 
-// The rows of a plan, one after another, and the work after the first.
+/// The rows of a plan, one after another, and the work after the first.
 fn streamed(
     alloc: Global,
     database: &Database<'_, RTree>,
@@ -101,7 +101,7 @@ fn streamed(
     one_by_one(alloc, Rows::new(alloc, database, bound, plan, Work::new()))
 }
 
-// The rows of a plan, all at once, and the work of the plan.
+/// The rows of a plan, all at once, and the work of the plan.
 fn executed(
     alloc: Global,
     database: &Database<'_, RTree>,
@@ -116,8 +116,8 @@ fn executed(
     Ok((rows, work.count()))
 }
 
-// The text of a plan: its accesses, its rows, and the work after the first of them and of all. The rows are those that come
-// one after another.
+/// The text of a plan: its accesses, its rows, and the work after the first of them and of all. The rows are those that come
+/// one after another.
 fn plan_text(
     alloc: Global,
     database: &Database<'_, RTree>,
@@ -137,7 +137,7 @@ fn plan_text(
     Ok(text)
 }
 
-// The same of the plan that is chosen for a bound query.
+/// The same of the plan that is chosen for a bound query.
 fn bound_text(alloc: Global, database: &Database<'_, RTree>, bound: &Bound) -> Result<String, Fail>
     requires bound { IsBound geometry_fits database.now.definitions bound.now }
 {
@@ -145,7 +145,7 @@ fn bound_text(alloc: Global, database: &Database<'_, RTree>, bound: &Bound) -> R
     plan_text(alloc, database, bound, &plan)
 }
 
-// The same of a query that was read.
+/// The same of a query that was read.
 fn query_text(
     alloc: Global,
     database: &Database<'_, RTree>,
@@ -155,13 +155,13 @@ fn query_text(
     bound_text(alloc, database, &bound)
 }
 
-// The same of the text of a query.
+/// The same of the text of a query.
 fn text_over(alloc: Global, database: &Database<'_, RTree>, query: &str) -> Result<String, Fail> {
     let query = read_query(alloc, query)?;
     query_text(alloc, database, &query)
 }
 
-// The same over tables of these texts.
+/// The same over tables of these texts.
 fn found(alloc: Global, schema: &str, texts: &[&[u8]], query: &str) -> Result<String, Fail> {
     let schema = read_schema(alloc, schema.as_bytes())?;
     let database = database_of(alloc, &schema, texts)?;
@@ -177,7 +177,7 @@ fn work_after_a_row_that_is_found(rt: HostRuntime) -> Result<(), Fail> {
     Ok(())
 }
 
-// The same of a join over so many points and two squares.
+/// The same of a join over so many points and two squares.
 fn joined(alloc: Global, count: u8, squares: &[u8]) -> Result<String, Fail> {
     let points = points_up_to(alloc, count)?;
     found(alloc, TWO_SCHEMA, &[points.as_bytes(), squares], JOINED)

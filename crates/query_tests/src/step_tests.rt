@@ -7,6 +7,7 @@ use de9im::Work;
 use engine::{Unobserved, run_observed};
 use feature_table::{Database, Geometry, Records, Row, Schema};
 use filters::passes;
+use loaded_tables::{next_record, order_by_key};
 use planner::choose_by_counts;
 use query_binder::{Bound, bind};
 use rtree::RTree;
@@ -16,18 +17,17 @@ use std::alloc::{AllocError, Global};
 use std::test::Fail;
 use table_model::plans::Plan;
 use table_model::values::Value;
-use table_parts::{next_record, order_by_key};
 use wkt::MemorySink;
 
 const PROBED: &str = "SELECT id FROM big \
     WHERE ST_Intersects(geom, ST_GeomFromText('POLYGON((0 0,4 0,4 4,0 4,0 0))'))";
 
-// The text of a field of a record.
+/// The text of a field of a record.
 fn field_of(record: &ByteRecord, place: usize) -> &[u8] {
     record.get(place).unwrap_or(&[])
 }
 
-// A row of a table that has its key alone.
+/// A row of a table that has its key alone.
 fn row_with(alloc: Global, key: i64) -> Result<Items<Value<Geometry>>, AllocError> {
     let mut row = Items::new(alloc);
     row.push(Value::Integer(key))?;
@@ -50,7 +50,7 @@ fn records_and_rows(rt: HostRuntime) -> Result<(), Fail> {
     Ok(())
 }
 
-// The fields of a row of a bound query, and whether it passes the filters of a plan.
+/// The fields of a row of a bound query, and whether it passes the filters of a plan.
 fn returned(
     alloc: Global,
     bound: &Bound,
@@ -66,7 +66,7 @@ fn returned(
     Ok((record, passed))
 }
 
-// Whether the rows at these places of the first table have these ids, and pass the filters of a plan or don't.
+/// Whether the rows at these places of the first table have these ids, and pass the filters of a plan or don't.
 fn are_returned(
     alloc: Global,
     database: &Database<'_, RTree>,
@@ -89,7 +89,7 @@ fn are_returned(
     Ok(true)
 }
 
-// The header of a query, and the cost of its plan over ten rows.
+/// The header of a query, and the cost of its plan over ten rows.
 fn planned(
     alloc: Global,
     database: &Database<'_, RTree>,
@@ -102,7 +102,7 @@ fn planned(
     Ok((header, plan.cost, returned))
 }
 
-// The same of the text of a query, over ten points.
+/// The same of the text of a query, over ten points.
 fn planned_over(alloc: Global, query: &str) -> Result<(ByteRecord, u64, bool), Fail> {
     let schema = read_schema(alloc, POINTS_SCHEMA.as_bytes())?;
     let points = points_up_to(alloc, 10)?;
@@ -118,7 +118,7 @@ fn plans_and_records(rt: HostRuntime) -> Result<(), Fail> {
     Ok(())
 }
 
-// Runs a query over ten points, whose schema is given, and observes nothing.
+/// Runs a query over ten points, whose schema is given, and observes nothing.
 fn run_over(alloc: Global, schema: &Schema, sink: &mut MemorySink) -> Result<u64, Fail> {
     let points = points_up_to(alloc, 10)?;
     let readers = Vec::from_slice(alloc, &[points.as_bytes()])?;

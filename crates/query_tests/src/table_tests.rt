@@ -6,7 +6,7 @@ use rtree::ListIndex;
 use spatial_sql::read_schema;
 use std::test::Fail;
 
-// Whether these are the fields of a row behind its key.
+/// Whether these are the fields of a row behind its key.
 fn has_fields(number: &Field<'_>, name: &Field<'_>, wanted: (Option<i64>, Option<&str>)) -> bool {
     let is_number = match number {
         Field::Int(number) => wanted.0 == Some(*number),

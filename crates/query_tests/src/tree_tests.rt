@@ -7,7 +7,7 @@ use rtree::{Envelope, RTree};
 use spatial_sql::read_schema;
 use std::test::Fail;
 
-// The envelope of two corners.
+/// The envelope of two corners.
 fn framed(least: i32, greatest: i32) -> Result<Option<Envelope>, Fail> {
     let corner = GridPoint::new(least, least).ok_or("past the limit")?;
     let other = GridPoint::new(greatest, greatest).ok_or("past the limit")?;

@@ -3,7 +3,7 @@
 ghost use Rattle.std.specs.Prelude.{◌≡◌, pos, ◌<ℤ◌, unsigned_abs, int_div};
 ghost use Rattle.geometry_model.specs.Points.{gcd};
 
-// The greatest number that divides both; the other where one is 0.
+/// The greatest number that divides both; the other where one is 0.
 fn greatest_common_divisor(a: u128, b: u128) -> u128
     ensures { result ≡ gcd a b }
 {
@@ -17,7 +17,7 @@ fn greatest_common_divisor(a: u128, b: u128) -> u128
     last
 }
 
-// The greatest number that divides a number and one of at least 1.
+/// The greatest number that divides a number and one of at least 1.
 pub(crate) fn common_divisor(number: i128, other: i128) -> i128
     requires { pos 0 <ℤ other }
     ensures exact { result ≡ pos (gcd (unsigned_abs number) (unsigned_abs other)) }
@@ -26,7 +26,7 @@ pub(crate) fn common_divisor(number: i128, other: i128) -> i128
     greatest_common_divisor(number.unsigned_abs(), other.unsigned_abs()) as i128
 }
 
-// The quotient by a number of at least 1, rounded towards 0.
+/// The quotient by a number of at least 1, rounded towards 0.
 pub(crate) fn quotient(number: i128, divisor: i128) -> i128
     requires { pos 0 <ℤ divisor }
     ensures { result ≡ int_div number divisor }

@@ -15,9 +15,9 @@ use sinks::{Sink, SinkFault, put_all};
 
 /// Writes a fault of validity and where it is, in one line: the code and the numbers of the fault, a colon, and the place.
 /// `V1 0: 1 position left at 3 3`, `V2 0: from 0 0 to 0 4 isn't closed`, `V3 0: 0 0 to 4 4 and 4 0 to 0 4 share 2 2` (or
-/// `share 0 0 to 1 1` for a stretch; V4 and V7 alike), `V5 1: outside at 20 20`, `V8 0 1: inside at 1 1` (V6 alike). It takes
-/// no memory. At Err the sink failed, and a beginning of the line has been written. (OGC 06-103r4, 6.1.7, 6.1.11.1 and
-/// 6.1.14; the words: this project's choice.)
+/// `share 0 0 to 1 1` for a stretch; V4 and V7 alike), `V5 1: outside at 20 20`, `V8 0 1: inside at 1 1`, V6
+/// alike (06-103r4, 6.1.7, 6.1.11.1 and 6.1.14; the words: this project's choice). It takes no memory. At Err the sink
+/// failed, and a beginning of the line has been written.
 pub fn put_reason<S: Sink>(
     fault: ValidityFault,
     place: &Place,
@@ -33,7 +33,7 @@ pub fn put_reason<S: Sink>(
     put_all(sink, b"\n")
 }
 
-// Writes the code and the numbers of a fault, and a colon.
+/// Writes the code and the numbers of a fault, and a colon.
 fn put_fault<S: Sink>(sink: &mut S, fault: ValidityFault) -> Result<(), SinkFault>
     ensures ok { OnOk result (Appends (S.taken sink.old) (S.taken sink.new) (fault_front fault)) }
     ensures front { OnErr result
@@ -52,7 +52,7 @@ fn put_fault<S: Sink>(sink: &mut S, fault: ValidityFault) -> Result<(), SinkFaul
     }
 }
 
-// Writes a code, a number and a colon.
+/// Writes a code, a number and a colon.
 fn put_numbered<'c, S: Sink>(sink: &mut S, code: &'c [u8], number: usize) -> Result<(), SinkFault>
     ensures ok { OnOk result
         (Appends (S.taken sink.old) (S.taken sink.new) (code.now ++ decimal number ++ codes ": ")) }
@@ -68,7 +68,7 @@ fn put_numbered<'c, S: Sink>(sink: &mut S, code: &'c [u8], number: usize) -> Res
     put_pieces(sink, &pieces)
 }
 
-// Writes a code, two numbers and a colon.
+/// Writes a code, two numbers and a colon.
 fn put_paired<'c, S: Sink>(
     sink: &mut S,
     code: &'c [u8],
@@ -91,7 +91,7 @@ fn put_paired<'c, S: Sink>(
     put_pieces(sink, &pieces)
 }
 
-// Writes what is wrong, and where.
+/// Writes what is wrong, and where.
 fn put_place<S: Sink>(sink: &mut S, place: &Place) -> Result<(), SinkFault>
     ensures ok { OnOk result (Appends (S.taken sink.old) (S.taken sink.new) (place_text place.now)) }
     ensures front { OnErr result
@@ -118,7 +118,7 @@ fn put_place<S: Sink>(sink: &mut S, place: &Place) -> Result<(), SinkFault>
     }
 }
 
-// Writes how many positions are left, and the first of them.
+/// Writes how many positions are left, and the first of them.
 fn put_count<S: Sink>(sink: &mut S, count: usize, first: GridPoint) -> Result<(), SinkFault>
     ensures ok { OnOk result (Appends (S.taken sink.old) (S.taken sink.new) (place_text (places.Short first count))) }
     ensures front { OnErr result
@@ -133,7 +133,7 @@ fn put_count<S: Sink>(sink: &mut S, count: usize, first: GridPoint) -> Result<()
     put_pieces(sink, &pieces)
 }
 
-// What comes after the number of positions.
+/// What comes after the number of positions.
 fn count_words(count: usize) -> &'static [u8]
     ensures { result.now ≡ left_text count }
 {
@@ -144,7 +144,7 @@ fn count_words(count: usize) -> &'static [u8]
     }
 }
 
-// Writes two edges, and what they share.
+/// Writes two edges, and what they share.
 fn put_shared<S: Sink>(sink: &mut S, shared: &SharedPlace) -> Result<(), SinkFault>
     ensures ok { OnOk result (Appends (S.taken sink.old) (S.taken sink.new) (shared_text shared.now)) }
     ensures front { OnErr result
@@ -165,7 +165,7 @@ fn put_shared<S: Sink>(sink: &mut S, shared: &SharedPlace) -> Result<(), SinkFau
     put_meet(sink, shared.meet)
 }
 
-// Writes what two edges share.
+/// Writes what two edges share.
 fn put_meet<S: Sink>(sink: &mut S, meet: Meet) -> Result<(), SinkFault>
     ensures ok { OnOk result (Appends (S.taken sink.old) (S.taken sink.new) (meet_text meet)) }
     ensures front { OnErr result (AppendsFront (S.taken sink.old) (S.taken sink.new) (meet_text meet)) }

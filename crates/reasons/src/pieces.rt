@@ -29,7 +29,7 @@ pub(crate) enum Piece<'a> {
     Face(FacePoint),
 }
 
-// Writes these pieces, one after another.
+/// Writes these pieces, one after another.
 pub(crate) fn put_pieces<S: Sink>(sink: &mut S, pieces: &[Piece<'_>]) -> Result<(), SinkFault>
     ensures ok { OnOk result
         (Appends (S.taken sink.old) (S.taken sink.new) (concat (map piece_text pieces.now))) }
@@ -43,7 +43,7 @@ pub(crate) fn put_pieces<S: Sink>(sink: &mut S, pieces: &[Piece<'_>]) -> Result<
     Ok(())
 }
 
-// Writes a piece.
+/// Writes a piece.
 fn put_piece<S: Sink>(sink: &mut S, piece: &Piece<'_>) -> Result<(), SinkFault>
     ensures ok { OnOk result (Appends (S.taken sink.old) (S.taken sink.new) (piece_text piece.now)) }
     ensures front { OnErr result
@@ -59,7 +59,7 @@ fn put_piece<S: Sink>(sink: &mut S, piece: &Piece<'_>) -> Result<(), SinkFault>
     }
 }
 
-// Writes a whole number.
+/// Writes a whole number.
 fn put_number<S: Sink>(sink: &mut S, number: usize) -> Result<(), SinkFault>
     ensures ok { OnOk result (Appends (S.taken sink.old) (S.taken sink.new) (decimal number)) }
     ensures front { OnErr result (AppendsFront (S.taken sink.old) (S.taken sink.new) (decimal number)) }
@@ -69,7 +69,7 @@ fn put_number<S: Sink>(sink: &mut S, number: usize) -> Result<(), SinkFault>
     put_all(sink, buffer.format(number).as_bytes())
 }
 
-// Writes the two coordinates of a position.
+/// Writes the two coordinates of a position.
 fn put_position<S: Sink>(sink: &mut S, at: GridPoint) -> Result<(), SinkFault>
     ensures ok { OnOk result (Appends (S.taken sink.old) (S.taken sink.new) (position_text at)) }
     ensures front { OnErr result (AppendsFront (S.taken sink.old) (S.taken sink.new) (position_text at)) }
@@ -80,7 +80,7 @@ fn put_position<S: Sink>(sink: &mut S, at: GridPoint) -> Result<(), SinkFault>
     put_two(sink, x.format(at.x()), y.format(at.y()))
 }
 
-// Writes two texts with a space between.
+/// Writes two texts with a space between.
 fn put_two<'t, S: Sink>(sink: &mut S, first: &'t str, second: &'t str) -> Result<(), SinkFault>
     ensures ok { OnOk result
         (Appends (S.taken sink.old) (S.taken sink.new) (first.now ++ codes " " ++ second.now)) }
@@ -91,7 +91,7 @@ fn put_two<'t, S: Sink>(sink: &mut S, first: &'t str, second: &'t str) -> Result
     put_parts(sink, &[first.as_bytes(), b" ", second.as_bytes()])
 }
 
-// Writes the two coordinates of a point.
+/// Writes the two coordinates of a point.
 fn put_rational<S: Sink>(sink: &mut S, p: &RatPoint) -> Result<(), SinkFault>
     ensures ok { OnOk result (Appends (S.taken sink.old) (S.taken sink.new) (point_text p.now)) }
     ensures front { OnErr result
@@ -102,7 +102,7 @@ fn put_rational<S: Sink>(sink: &mut S, p: &RatPoint) -> Result<(), SinkFault>
     put_point(sink, p.numerator_x(), p.numerator_y(), denominator)
 }
 
-// Writes the two coordinates of a face point.
+/// Writes the two coordinates of a face point.
 fn put_face<S: Sink>(sink: &mut S, p: &FacePoint) -> Result<(), SinkFault>
     ensures ok { OnOk result (Appends (S.taken sink.old) (S.taken sink.new) (point_text p.now)) }
     ensures front { OnErr result
@@ -112,7 +112,7 @@ fn put_face<S: Sink>(sink: &mut S, p: &FacePoint) -> Result<(), SinkFault>
     put_point(sink, p.numerator_x(), p.numerator_y(), p.denominator())
 }
 
-// Writes the coordinates x/w and y/w, with a space between.
+/// Writes the coordinates x/w and y/w, with a space between.
 fn put_point<S: Sink>(sink: &mut S, x: i128, y: i128, w: i128) -> Result<(), SinkFault>
     requires { pos 0 <ℤ w }
     ensures ok { OnOk result
@@ -126,7 +126,7 @@ fn put_point<S: Sink>(sink: &mut S, x: i128, y: i128, w: i128) -> Result<(), Sin
     put_fraction(sink, y, w)
 }
 
-// Writes a fraction in least form.
+/// Writes a fraction in least form.
 fn put_fraction<S: Sink>(sink: &mut S, numerator: i128, denominator: i128) -> Result<(), SinkFault>
     requires { pos 0 <ℤ denominator }
     ensures ok { OnOk result (Appends (S.taken sink.old) (S.taken sink.new)
@@ -143,7 +143,7 @@ fn put_fraction<S: Sink>(sink: &mut S, numerator: i128, denominator: i128) -> Re
     )
 }
 
-// Writes a whole number over another, or alone if the other is 1.
+/// Writes a whole number over another, or alone if the other is 1.
 fn put_quotient<S: Sink>(sink: &mut S, numerator: i128, denominator: i128) -> Result<(), SinkFault>
     ensures ok { OnOk result
         (Appends (S.taken sink.old) (S.taken sink.new) (quotient_text numerator denominator)) }
@@ -160,7 +160,7 @@ fn put_quotient<S: Sink>(sink: &mut S, numerator: i128, denominator: i128) -> Re
     put_over(sink, first, other_buffer.format(denominator))
 }
 
-// Writes two texts with a stroke between.
+/// Writes two texts with a stroke between.
 fn put_over<'t, S: Sink>(sink: &mut S, first: &'t str, second: &'t str) -> Result<(), SinkFault>
     ensures ok { OnOk result
         (Appends (S.taken sink.old) (S.taken sink.new) (first.now ++ codes "/" ++ second.now)) }

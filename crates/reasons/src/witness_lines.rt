@@ -14,10 +14,10 @@ use geometry_model::Location;
 use sinks::{Sink, SinkFault, put_all, put_parts};
 use witnesses::witness::{Witness, Witnesses};
 
-// The three parts of the plane that a geometry makes, in the order of the matrix (OGC 06-103r4, 6.1.15.2).
+/// The three parts of the plane that a geometry makes, in the order of the matrix (06-103r4, 6.1.15.2).
 const LOCATIONS: [Location; 3] = [Location::Interior, Location::Boundary, Location::Exterior];
 
-/// Writes what shows each cell of the matrix of two geometries: nine lines in the order of the matrix (OGC 06-103r4,
+/// Writes what shows each cell of the matrix of two geometries: nine lines in the order of the matrix (06-103r4,
 /// 6.1.15.2), each with the part of the first geometry (`interior`, `boundary` or `exterior`), that of the second, the
 /// dimension of the cell (`F`, `0`, `1` or `2`), and the witness: `at 6/5 2/5` for a point, `from 0 0 to 6/5 2/5` for an open
 /// stretch, `around 2 2` for a face point, and nothing for `F`. A coordinate is `n` or `n/d` in least form, in grid steps. It
@@ -32,7 +32,7 @@ pub fn put_witnesses<S: Sink>(witnesses: &Witnesses, sink: &mut S) -> Result<(),
     put_rows(sink, witnesses, &LOCATIONS)
 }
 
-// Writes the lines of these parts of the first geometry.
+/// Writes the lines of these parts of the first geometry.
 fn put_rows<S: Sink>(
     sink: &mut S,
     witnesses: &Witnesses,
@@ -50,7 +50,7 @@ fn put_rows<S: Sink>(
     Ok(())
 }
 
-// Writes the lines of a part of the first geometry.
+/// Writes the lines of a part of the first geometry.
 fn put_row<S: Sink>(sink: &mut S, witnesses: &Witnesses, first: Location) -> Result<(), SinkFault>
     ensures ok { OnOk result
         (Appends (S.taken sink.old) (S.taken sink.new) (row_text (witness_at witnesses.now) first)) }
@@ -61,7 +61,7 @@ fn put_row<S: Sink>(sink: &mut S, witnesses: &Witnesses, first: Location) -> Res
     put_lines(sink, witnesses, first, &LOCATIONS)
 }
 
-// Writes the lines of a part of the first geometry and these parts of the second.
+/// Writes the lines of a part of the first geometry and these parts of the second.
 fn put_lines<S: Sink>(
     sink: &mut S,
     witnesses: &Witnesses,
@@ -80,7 +80,7 @@ fn put_lines<S: Sink>(
     Ok(())
 }
 
-// Writes the line of a part of the first geometry and a part of the second.
+/// Writes the line of a part of the first geometry and a part of the second.
 fn put_line<S: Sink>(
     sink: &mut S,
     witnesses: &Witnesses,
@@ -98,7 +98,7 @@ fn put_line<S: Sink>(
     put_all(sink, b"\n")
 }
 
-// Writes two words, with a space after each.
+/// Writes two words, with a space after each.
 fn put_locations<S: Sink>(sink: &mut S, first: &[u8], second: &[u8]) -> Result<(), SinkFault>
     ensures ok { OnOk result (Appends (S.taken sink.old) (S.taken sink.new)
         (first.now ++ codes " " ++ second.now ++ codes " ")) }
@@ -109,7 +109,7 @@ fn put_locations<S: Sink>(sink: &mut S, first: &[u8], second: &[u8]) -> Result<(
     put_parts(sink, &[first, b" ", second, b" "])
 }
 
-// The word for a part of the plane.
+/// The word for a part of the plane.
 fn word(location: Location) -> &'static [u8]
     ensures { result.now ≡ location_text location }
 {
@@ -120,7 +120,7 @@ fn word(location: Location) -> &'static [u8]
     }
 }
 
-// Writes the dimension of a cell and what shows it.
+/// Writes the dimension of a cell and what shows it.
 fn put_cell<S: Sink>(sink: &mut S, witness: Witness) -> Result<(), SinkFault>
     ensures ok { OnOk result (Appends (S.taken sink.old) (S.taken sink.new) (cell_text witness)) }
     ensures front { OnErr result
@@ -135,7 +135,7 @@ fn put_cell<S: Sink>(sink: &mut S, witness: Witness) -> Result<(), SinkFault>
     }
 }
 
-// Writes the dimension of an open stretch and its two ends.
+/// Writes the dimension of an open stretch and its two ends.
 fn put_stretch<S: Sink>(sink: &mut S, p: RatPoint, q: RatPoint) -> Result<(), SinkFault>
     ensures ok { OnOk result
         (Appends (S.taken sink.old) (S.taken sink.new) (cell_text (kinds.Stretch p q))) }

@@ -56,7 +56,7 @@ impl RecordWriter {
         Ok(())
     }
 
-    // Frees the lines of earlier records if they have grown long: a new writer takes this one's place.
+    /// Frees the lines of earlier records if they have grown long: a new writer takes this one's place.
     fn let_go(&mut self, alloc: Global)
         requires { IsReady self.old }
         ensures { IsReady self.new }
@@ -66,14 +66,14 @@ impl RecordWriter {
         }
     }
 
-    // The lines of earlier records that are still in memory.
+    /// The lines of earlier records that are still in memory.
     fn kept(&self) -> &[u8]
         ensures { result.now ≡ text_kept self.now }
     {
         self.writer.get_ref().as_slice()
     }
 
-    // Adds the line of a record to the lines in memory. If memory runs out, all of them are freed.
+    /// Adds the line of a record to the lines in memory. If memory runs out, all of them are freed.
     fn write(&mut self, alloc: Global, fields: &ByteRecord) -> Result<(), AllocError>
         requires { IsReady self.old }
         ensures ready { IsReady self.new }
@@ -88,14 +88,14 @@ impl RecordWriter {
     }
 }
 
-// A writer with no lines in memory.
+/// A writer with no lines in memory.
 fn fresh_writer(alloc: Global) -> Writer<Vec<u8>>
     ensures { IsFresh result }
 {
     WriterBuilder::new().from_writer(Vec::new(alloc))
 }
 
-// The bytes of a text from this place on.
+/// The bytes of a text from this place on.
 fn behind(text: &[u8], begin: usize) -> &[u8]
     requires { begin ≤ length text.now }
     ensures { result.now ≡ drop begin text.now }

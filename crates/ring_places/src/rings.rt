@@ -12,7 +12,7 @@ use geometries::LineString;
 use noding::Meet;
 use orient::Segment;
 
-/// How many edges a line has: one fewer than positions (OGC 06-103r4, 6.1.7).
+/// How many edges a line has: one fewer than positions (06-103r4, 6.1.7).
 pub fn edge_count(line: &LineString) -> usize
     ensures { result ≡ length (edges_of_line line.now) }
 {
@@ -20,7 +20,7 @@ pub fn edge_count(line: &LineString) -> usize
     if count == 0 { 0 } else { count - 1 }
 }
 
-/// The edge of a line with this number, from 0 (OGC 06-103r4, 6.1.7).
+/// The edge of a line with this number, from 0 (06-103r4, 6.1.7).
 pub fn edge(line: &LineString, index: usize) -> Segment
     requires { index < length (edges_of_line line.now) }
     ensures { slice_get (edges_of_line line.now) index ≡ Some result }
@@ -82,7 +82,7 @@ fn clash_with(ring: &LineString, i: usize) -> Option<SharedPlace>
 }
 
 /// The first two edges of a ring that clash, by the number of the first, then by that of the second, and exactly what they
-/// share; `None` exactly where the ring is simple (OGC 06-103r4, 6.1.7: a LinearRing is simple). Neighbours share their common
+/// share; `None` exactly where the ring is simple (06-103r4, 6.1.7: a LinearRing is simple). Neighbours share their common
 /// position always, which is no clash. It takes no memory.
 pub fn clash_place(ring: &LineString) -> Option<SharedPlace>
     ensures place { IfSome result (IsClashOf ring.now) }
@@ -120,7 +120,7 @@ fn meeting_with(r: &LineString, s: &LineString, i: usize) -> Option<SharedPlace>
 }
 
 /// The first edge of a ring and the first edge of another that share a point, and exactly what they share; `None` exactly where
-/// the rings share no point (OGC 06-103r4, 6.1.11.1). It takes no memory.
+/// the rings share no point (06-103r4, 6.1.11.1). It takes no memory.
 pub fn meeting_place(r: &LineString, s: &LineString) -> Option<SharedPlace>
     ensures place { IfSome result (IsMeetingOf r.now s.now) }
     ensures first { IfSome result (IsFirstMeeting r.now s.now) }

@@ -10,7 +10,7 @@ use noding::{Meet, meet};
 use orient::Segment;
 use std::cmp::Ordering;
 
-/// Two edges, and exactly what they share (OGC 06-103r4, 6.1.15.2: intersection).
+/// Two edges, and exactly what they share (06-103r4, 6.1.15.2: intersection).
 #[derive(Clone, Copy, Debug)]
 pub struct SharedPlace {
     /// The first edge.

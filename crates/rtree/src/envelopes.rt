@@ -9,7 +9,7 @@ ghost use Rattle.geometry_model.specs.Envelopes.{Envelope as Rectangle, envelope
 use fraction::GridPoint;
 use std::marker::Model;
 
-/// The least and the greatest x and y of some positions. (OGC 06-103r4, 6.1.2.2: Envelope.)
+/// The least and the greatest x and y of some positions (06-103r4, 6.1.2.2: Envelope).
 #[derive(Clone, Copy, Debug)]
 pub struct Envelope {
     least_x: i32,
@@ -38,20 +38,20 @@ impl Model for Envelope {
     } };
 }
 
-/// A value that is a valid geometry, and so has an envelope. (OGC 06-103r4, 6.1.2.2: Envelope.)
+/// A value that is a valid geometry, and so has an envelope (06-103r4, 6.1.2.2: Envelope).
 pub trait Enveloped {
-    // The geometry that a value is.
+    /// The geometry that a value is.
     ghost geometry: { Self → Geometry };
 
-    /// Its envelope, absent exactly where it is empty. It takes no memory. (OGC 06-103r4, 6.1.2.2: Envelope.)
+    /// Its envelope, absent exactly where it is empty (06-103r4, 6.1.2.2: Envelope). It takes no memory.
     fn envelope(&self) -> Option<Envelope>
         ensures value { result ≡ envelope (geometry self.now) }
         ensures absent { (result ≡ None) ↔ (is_empty (geometry self.now) ≡ true) };
 }
 
 impl Envelope {
-    /// The envelope of a geometry, absent exactly where it is empty. It takes no memory. (OGC 06-103r4, 6.1.2.2:
-    /// Envelope.)
+    /// The envelope of a geometry, absent exactly where it is empty (06-103r4, 6.1.2.2: Envelope). It takes
+    /// no memory.
     pub fn of<T: Enveloped>(shape: &T) -> Option<Envelope>
         ensures value { result ≡ envelope (T.geometry shape.now) }
         ensures absent { (result ≡ None) ↔ (is_empty (T.geometry shape.now) ≡ true) }
@@ -59,15 +59,15 @@ impl Envelope {
         shape.envelope()
     }
 
-    /// The envelope of some positions; absent where there are none. (OGC 06-103r4, 6.1.2.2: Envelope.)
+    /// The envelope of some positions; absent where there are none (06-103r4, 6.1.2.2: Envelope).
     pub fn of_positions(positions: &[GridPoint]) -> Option<Envelope>
         ensures { result ≡ envelope_of_positions positions.now }
     {
         Envelope::with_positions(positions, None)
     }
 
-    /// The envelope of some positions and of those that follow them, whose envelope is given. (OGC 06-103r4, 6.1.2.2:
-    /// Envelope.)
+    /// The envelope of some positions and of those that follow them, whose envelope is given (06-103r4, 6.1.2.2:
+    /// Envelope).
     pub fn with_positions(positions: &[GridPoint], following: Option<Envelope>) -> Option<Envelope>
         ensures { (later : List Position) → following ≡ envelope_of_positions later
             → result ≡ envelope_of_positions (positions.now ++ later) }
@@ -81,7 +81,7 @@ impl Envelope {
         all
     }
 
-    /// The least x. (OGC 06-103r4, 6.1.2.2: Envelope.)
+    /// The least x (06-103r4, 6.1.2.2: Envelope).
     pub fn least_x(&self) -> i32
         ensures value { result ≡ self.now.least_x }
         ensures ordered { self.now.least_x ≤ℤ self.now.greatest_x }
@@ -89,14 +89,14 @@ impl Envelope {
         self.least_x
     }
 
-    /// The greatest x. (OGC 06-103r4, 6.1.2.2: Envelope.)
+    /// The greatest x (06-103r4, 6.1.2.2: Envelope).
     pub fn greatest_x(&self) -> i32
         ensures { result ≡ self.now.greatest_x }
     {
         self.greatest_x
     }
 
-    /// The least y. (OGC 06-103r4, 6.1.2.2: Envelope.)
+    /// The least y (06-103r4, 6.1.2.2: Envelope).
     pub fn least_y(&self) -> i32
         ensures value { result ≡ self.now.least_y }
         ensures ordered { self.now.least_y ≤ℤ self.now.greatest_y }
@@ -104,7 +104,7 @@ impl Envelope {
         self.least_y
     }
 
-    /// The greatest y. (OGC 06-103r4, 6.1.2.2: Envelope.)
+    /// The greatest y (06-103r4, 6.1.2.2: Envelope).
     pub fn greatest_y(&self) -> i32
         ensures { result ≡ self.now.greatest_y }
     {
@@ -112,7 +112,7 @@ impl Envelope {
     }
 }
 
-// The envelope of these bounds.
+/// The envelope of these bounds.
 fn bounded(least_x: i32, greatest_x: i32, least_y: i32, greatest_y: i32) -> Envelope
     requires across { least_x ≤ℤ greatest_x }
     requires up { least_y ≤ℤ greatest_y }
@@ -127,7 +127,7 @@ fn bounded(least_x: i32, greatest_x: i32, least_y: i32, greatest_y: i32) -> Enve
     }
 }
 
-/// The smallest envelope that holds both. (OGC 06-103r4, 6.1.2.2: Envelope.)
+/// The smallest envelope that holds both (06-103r4, 6.1.2.2: Envelope).
 pub fn joined(one: Envelope, other: Envelope) -> Envelope
     ensures { result ≡ joined one other }
 {
@@ -139,7 +139,7 @@ pub fn joined(one: Envelope, other: Envelope) -> Envelope
     )
 }
 
-/// Whether two rectangles share a point, be it on their edges.
+/// Whether two rectangles share a point, be it on their sides.
 pub(crate) fn overlap(one: Envelope, other: Envelope) -> bool
     ensures { result ≡ overlap one other }
 {
@@ -150,7 +150,7 @@ pub(crate) fn overlap(one: Envelope, other: Envelope) -> bool
     both(both(both(right, left), above), below)
 }
 
-/// Whether two envelopes meet: both are absent, or both are there and share a point, be it on their edges.
+/// Whether two envelopes meet: both are absent, or both are there and share a point, be it on their sides.
 pub fn meets(one: Option<Envelope>, other: Option<Envelope>) -> bool
     ensures { result ≡ meets one other }
 {
@@ -161,7 +161,7 @@ pub fn meets(one: Option<Envelope>, other: Option<Envelope>) -> bool
     }
 }
 
-// The envelope of one position.
+/// The envelope of one position.
 fn envelope_at(a: GridPoint) -> Envelope
     ensures { result ≡ envelope_at a }
 {
@@ -173,7 +173,7 @@ fn envelope_at(a: GridPoint) -> Envelope
     }
 }
 
-// The envelope of a position and of those that follow it, whose envelope is given.
+/// The envelope of a position and of those that follow it, whose envelope is given.
 fn with_position(a: GridPoint, rest: Option<Envelope>) -> Envelope
     ensures { result ≡ with_position a rest }
 {
@@ -184,7 +184,7 @@ fn with_position(a: GridPoint, rest: Option<Envelope>) -> Envelope
     }
 }
 
-// The lesser of two numbers.
+/// The lesser of two numbers.
 fn lesser(a: i32, b: i32) -> i32
     ensures value { result ≡ int_min a b }
     ensures within { result ≤ℤ a }
@@ -192,7 +192,7 @@ fn lesser(a: i32, b: i32) -> i32
     a.min(b)
 }
 
-// The greater of two numbers.
+/// The greater of two numbers.
 fn greater(a: i32, b: i32) -> i32
     ensures value { result ≡ int_max a b }
     ensures within { a ≤ℤ result }
@@ -200,7 +200,7 @@ fn greater(a: i32, b: i32) -> i32
     a.max(b)
 }
 
-// `a && b` as a call. It makes no branches, so `overlap` has one path to prove.
+/// `a && b` as a call. It makes no branches, so `overlap` has one path to prove.
 fn both(a: bool, b: bool) -> bool
     ensures { result ≡ (a && b) }
 {

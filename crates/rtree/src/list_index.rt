@@ -34,7 +34,7 @@ impl EnvelopeIndex for ListIndex {
     }
 }
 
-// Adds the positions of a list whose envelopes meet the one asked for, ascending.
+/// Adds the positions of a list whose envelopes meet the one asked for, ascending.
 fn push_meeting(
     envelopes: &[Option<Envelope>],
     asked: &Option<Envelope>,
@@ -48,7 +48,7 @@ fn push_meeting(
     Ok(())
 }
 
-// Adds the position if it passes.
+/// Adds the position if it passes.
 fn push_if(found: &mut Vec<usize>, passes: bool, place: usize) -> Result<(), AllocError>
     ensures { OnOk result (found.new.items ≡ found.old.items ++ cond passes (place ∷ []) []) }
 {

@@ -68,7 +68,7 @@ impl PackedTree {
         searched
     }
 
-    // Leaves the positions of the envelopes that meet the one asked for, ascending, in an empty vector.
+    /// Leaves the positions of the envelopes that meet the one asked for, ascending, in an empty vector.
     fn push_meeting(&self, asked: &Envelope, found: &mut Vec<usize>) -> Result<(), AllocError>
         requires packs { Packs self.now (listed self.now) }
         requires empty { found.old.items ≡ [] }
@@ -86,8 +86,8 @@ impl PackedTree {
     }
 }
 
-// Adds the positions of the envelopes below one node that meet the one asked for. The node's children are up to NODE_SIZE
-// nodes of the highest of these levels, from the place `first` on. It looks below a child only if the child's envelope meets.
+/// Adds the positions of the envelopes below one node that meet the one asked for. The node's children are up to NODE_SIZE
+/// nodes of the highest of these levels, from the place `first` on. It looks below a child only if the child's envelope meets.
 fn push_below(
     levels: &[Vec<Envelope>],
     places: &[usize],

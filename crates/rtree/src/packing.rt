@@ -12,7 +12,7 @@ ghost use Rattle.rtree.specs.Trees.{KeepPacking};
 use crate::envelopes::{Envelope, joined};
 use std::alloc::{AllocError, Global};
 
-/// How many children a node has, but for the last one of a level, which may have fewer.
+/// How many children each node has. The last node of a level may have fewer.
 pub(crate) const NODE_SIZE: usize = 8;
 
 /// The two parts of a list: the positions of the absent envelopes, and the others with their positions.
@@ -31,7 +31,7 @@ pub(crate) fn parted(
     Ok((absent, entries))
 }
 
-// Adds one position of the list: to `absent` if the envelope is absent, else with the envelope to `entries`.
+/// Adds one position of the list: to `absent` if the envelope is absent, else with the envelope to `entries`.
 fn push_entry(
     absent: &mut Vec<usize>,
     entries: &mut Vec<(usize, Envelope)>,
@@ -78,7 +78,7 @@ pub(crate) fn envelopes_of(
     entries.iter().map(|entry| entry.1).collect(alloc)
 }
 
-// The key by which entries are sorted: twice the middle of the envelope's x, twice that of its y, and the position.
+/// The key by which entries are sorted: twice the middle of the envelope's x, twice that of its y, and the position.
 fn packing_key(entry: &(usize, Envelope)) -> (i64, i64, usize)
     ensures { result ≡ packing_key entry.now }
 {
@@ -88,7 +88,7 @@ fn packing_key(entry: &(usize, Envelope)) -> (i64, i64, usize)
     (across, up, place)
 }
 
-// The sum of two bounds.
+/// The sum of two bounds.
 fn sum(least: i32, greatest: i32) -> i64
     ensures { result ≡ least +ℤ greatest }
 {
@@ -115,7 +115,7 @@ pub(crate) fn levels_over(
     Ok(levels)
 }
 
-// The envelopes of the nodes over a level.
+/// The envelopes of the nodes over a level.
 fn level_over(alloc: Global, level: &[Envelope]) -> Result<Vec<Envelope>, AllocError>
     ensures { IfOk result (λ over. map Some over.items ≡ map joined_all (eights level.now)) }
 {
@@ -129,7 +129,7 @@ fn level_over(alloc: Global, level: &[Envelope]) -> Result<Vec<Envelope>, AllocE
     Ok(over)
 }
 
-// The smallest envelope that holds these, of which there is one at least.
+/// The smallest envelope that holds these, of which there is one at least.
 fn around(envelopes: &[Envelope]) -> Envelope
     requires { 0 < length envelopes.now }
     ensures { Some result ≡ joined_all envelopes.now }

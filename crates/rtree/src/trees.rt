@@ -43,7 +43,7 @@ impl RTree {
     }
 }
 
-// How many envelopes meet the one asked for.
+/// How many envelopes meet the one asked for.
 fn met(envelopes: &[Envelope], asked: &Option<Envelope>) -> usize
     ensures { result ≡ count_by (λ e. meets (Some e) asked.now) envelopes.now }
 {

@@ -77,7 +77,7 @@ fn read(alloc: Global, text: &[u8]) -> Result<Schema, SchemaFault>
 /// returned, with its byte: `Syntax` at the first token that can't be there, or at the text's length;
 /// `TooMany` at the name of the 17th table or the 33rd column of a table; `DoubleName` at the second of two equal
 /// names of tables, or of columns of a table; `TwoKeys` at the second PRIMARY of a table; `NoKey` at the closing
-/// parenthesis of a table without key; or `OutOfMemory`. (SQL, CREATE TABLE)
+/// parenthesis of a table without key; or `OutOfMemory` (SQL, CREATE TABLE).
 pub fn read_schema(alloc: Global, text: &[u8]) -> Result<Schema, SchemaFault>
     ensures ok { IfOk result (λ schema. IsSchema shape_named text.now schema) }
     ensures only { ReturnsSchema shape_named text.now result }

@@ -46,17 +46,20 @@ impl Block {
     }
 }
 
-// The lines of a block, each with its end but for those that end with `\`.
+/// The lines of a block, each with its end but for those that end with `\`.
 fn joined(alloc: Global, lines: &str) -> Result<String, AllocError> {
     let mut text = String::from_str(alloc, lines.trim_matches('\n'))?;
     text.push_str("\n")?;
     text.as_str().replace(alloc, "\\\n", "")
 }
 
-// The path of the file that a block gives whose first line is this.
+/// The path of the file that a block gives whose first line is this.
 fn path_of(alloc: Global, head: &str) -> Result<Option<String>, AllocError> {
     if head == "schema" {
         return Ok(Some(String::from_str(alloc, SCHEMA)?));
+    }
+    if let Some(path) = head.strip_prefix("file ") {
+        return Ok(Some(String::from_str(alloc, path)?));
     }
     match head.strip_prefix("table ") {
         Some(name) => Ok(Some(format!(in alloc; "{DIRECTORY}/{name}.csv")?)),

@@ -24,7 +24,7 @@ fn main(rt: HostRuntime) -> ExitCode {
     }
 }
 
-// Plays the script at each path of the command line, and returns how many rows differ.
+/// Plays the script at each path of the command line, and returns how many rows differ.
 fn play_all(rt: &HostRuntime) -> io::Result<u64> {
     let mut tally = Tally::new();
     for path in env::args(rt)?.skip(1) {
@@ -37,7 +37,7 @@ fn play_all(rt: &HostRuntime) -> io::Result<u64> {
     Ok(tally.differing())
 }
 
-// The script at a path. Where it can't be read, its path is printed.
+/// The script at a path. Where it can't be read, its path is printed.
 fn read_script(rt: &HostRuntime, path: &str) -> io::Result<String> {
     let script = fs::read_to_string(rt, path);
     if script.is_err() {

@@ -21,7 +21,7 @@ pub(crate) fn output(alloc: Global, files: &Files, command: &str) -> Result<Vec<
     output_of_order(alloc, files, &order_of(alloc, command)?)
 }
 
-// What a command line prints, with ` | ` between two of its words.
+/// What a command line prints, with ` | ` between two of its words.
 fn output_of_words(alloc: Global, files: &Files, line: &str) -> Result<Vec<u8>, AllocError> {
     let mut words = Vec::new(alloc);
     for word in line.split(" | ") {
@@ -37,7 +37,7 @@ fn output_of_words(alloc: Global, files: &Files, line: &str) -> Result<Vec<u8>, 
     }
 }
 
-// What an order prints.
+/// What an order prints.
 fn output_of_order(alloc: Global, files: &Files, order: &Order) -> Result<Vec<u8>, AllocError> {
     let mut out = MemorySink::new(alloc);
     let mut err = MemorySink::new(alloc);
@@ -54,13 +54,27 @@ fn output_of_order(alloc: Global, files: &Files, order: &Order) -> Result<Vec<u8
     Ok(text)
 }
 
-// Adds the line of a status.
+/// Adds the line of a status.
 fn push_status(alloc: Global, status: u8, text: &mut Vec<u8>) -> Result<(), AllocError> {
     text.extend_from_slice(format!(in alloc; "status {status}\n")?.as_bytes())
 }
 
-// The order of a command: `check`, or `relate` with ` | ` between its two texts, or else a query to run.
+/// The order of a command: `check`, `relate` with ` | ` between its two texts, `why` with one text or two, `pairs` with a path,
+/// `fault` with a code, or else a query to run.
 fn order_of(alloc: Global, command: &str) -> Result<Order, AllocError> {
+    if let Some(texts) = command.strip_prefix("why ") {
+        return explained_texts(alloc, texts);
+    }
+    if let Some(path) = command.strip_prefix("pairs ") {
+        return Ok(Order::Pairs {
+            file: String::from_str(alloc, path)?,
+        });
+    }
+    if let Some(code) = command.strip_prefix("fault ") {
+        return Ok(Order::Fault {
+            code: String::from_str(alloc, code)?,
+        });
+    }
     if command == "check" {
         return Ok(Order::Check {
             schema: String::from_str(alloc, SCHEMA)?,
@@ -80,7 +94,21 @@ fn order_of(alloc: Global, command: &str) -> Result<Order, AllocError> {
     }
 }
 
-// The two texts of a command `relate`.
+/// The order of a command `why`, whose texts have ` | ` between them if there are two.
+fn explained_texts(alloc: Global, texts: &str) -> Result<Order, AllocError> {
+    match texts.split_once(" | ") {
+        Some((first, second)) => Ok(Order::Why {
+            first: String::from_str(alloc, first)?,
+            second: Some(String::from_str(alloc, second)?),
+        }),
+        None => Ok(Order::Why {
+            first: String::from_str(alloc, texts)?,
+            second: None,
+        }),
+    }
+}
+
+/// The two texts of a command `relate`.
 fn related_texts(command: &str) -> Option<(&str, &str)> {
     command.strip_prefix("relate ")?.split_once(" | ")
 }

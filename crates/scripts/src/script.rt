@@ -32,7 +32,7 @@ impl Tally {
         self.differing
     }
 
-    // Counts a row.
+    /// Counts a row.
     fn count(&mut self, differs: bool) {
         self.rows = self.rows.saturating_add(1);
         if differs {
@@ -68,13 +68,13 @@ pub(crate) fn play(
     Ok(report)
 }
 
-// What a command prints, its short forms written out.
+/// What a command prints, its short forms written out.
 fn play_command(alloc: Global, files: &Files, command: &str) -> Result<Vec<u8>, AllocError> {
     let whole = String::from_utf8_lossy(alloc, &written_out(alloc, command)?)?;
     output(alloc, files, whole.as_str())
 }
 
-// Adds a row that differs: the script's name and the command, what it had to print, and what it printed.
+/// Adds a row that differs: the script's name and the command, what it had to print, and what it printed.
 fn push_texts(
     report: &mut Vec<u8>,
     name: &str,

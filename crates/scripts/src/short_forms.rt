@@ -22,7 +22,7 @@ pub(crate) fn written_out(alloc: Global, text: &str) -> Result<Vec<u8>, AllocErr
     Ok(written)
 }
 
-// Adds what a form in braces means. An unknown form is added as it is, without its braces.
+/// Adds what a form in braces means. An unknown form is added as it is, without its braces.
 fn push_form(alloc: Global, form: &str, written: &mut Vec<u8>) -> Result<(), AllocError> {
     if let Some((first, last, part)) = repetition_of(form) {
         return push_repeated(alloc, first, last, part, written);
@@ -33,14 +33,14 @@ fn push_form(alloc: Global, form: &str, written: &mut Vec<u8>) -> Result<(), All
     }
 }
 
-// The first and the last number of `1 to 3 of PART`, and the part.
+/// The first and the last number of `1 to 3 of PART`, and the part.
 fn repetition_of(form: &str) -> Option<(u32, u32, &str)> {
     let (range, part) = form.split_once(" of ")?;
     let (first, last) = range.split_once(" to ")?;
     Some((first.parse::<u32>().ok()?, last.parse::<u32>().ok()?, part))
 }
 
-// Adds a part for each number from the first to the last, with the number for its `$`.
+/// Adds a part for each number from the first to the last, with the number for its `$`.
 fn push_repeated(
     alloc: Global,
     first: u32,
@@ -56,7 +56,7 @@ fn push_repeated(
     Ok(())
 }
 
-// The byte of `byte 10`.
+/// The byte of `byte 10`.
 fn byte_of(form: &str) -> Option<u8> {
     form.strip_prefix("byte ")?.parse::<u8>().ok()
 }

@@ -2,29 +2,28 @@
 
 ghost use Rattle.std.specs.Io.{WritesAtMost};
 
-use std::fs::File;
 use std::io::{self, Error, ErrorKind, Read, Write};
 
 /// How often a call is made at most. No program lives as long.
 const TURNS: u64 = u64::MAX;
 
-/// A file whose reads are made again where a signal interrupts them.
+/// A reader whose reads are made again where a signal interrupts them.
 #[derive(Drop)]
-pub struct PatientFile {
-    file: File,
+pub struct PatientReader<R: Read> {
+    reader: R,
 }
 
-impl PatientFile {
-    /// A file that is open.
-    pub fn new(file: File) -> PatientFile {
-        PatientFile { file }
+impl<R: Read> PatientReader<R> {
+    /// A reader over an open file or stream.
+    pub fn new(reader: R) -> PatientReader<R> {
+        PatientReader { reader }
     }
 }
 
-impl Read for PatientFile {
+impl<R: Read> Read for PatientReader<R> {
     fn read(&mut self, buffer: &mut [u8]) -> io::Result<usize> {
         for _ in 0..TURNS {
-            match self.file.read(buffer) {
+            match self.reader.read(buffer) {
                 Err(error) if error.kind() == ErrorKind::Interrupted => {}
                 result => return result,
             }

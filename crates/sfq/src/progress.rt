@@ -1,10 +1,10 @@
 //! Shows how far a command is: a line on standard error, if that is a terminal and the command takes longer than half a second.
 //! The line is removed before anything else is written. Once output has been written to a terminal, no line is shown any more.
 
-use crate::interruptions::{PatientFile, write_again};
+use crate::inputs::Input;
+use crate::interruptions::{PatientReader, write_again};
 use observers::{Followed, ReadObserver, RowObserver};
 use std::cell::Cell;
-use std::fs::File;
 use std::io::{self, IsTerminal, Write};
 use std::path::Path;
 use std::time::{Duration, Instant};
@@ -30,7 +30,7 @@ pub struct Progress<'r> {
     rt: &'r HostRuntime,
     // When the program began; None where nothing is printed.
     start: Option<Instant>,
-    // How many files were opened. The schema's is the first.
+    // How many files were opened.
     opened: Cell<u64>,
     // How long after the start a line may be written next.
     due: Cell<Duration>,
@@ -58,18 +58,30 @@ impl<'r> Progress<'r> {
         }
     }
 
-    /// The reader of an opened file, whose reading is reported by its name and made again where a signal interrupts it.
-    /// Without memory the name is left out.
-    pub fn follow(&self, path: &str, file: File) -> Followed<PatientFile, FileReading<'_>> {
+    /// The reader of an opened file, whose reading is made again where a signal interrupts it. Once so many files were opened
+    /// that aren't reported, those of the schema and of the query, it is reported by its name. Without memory the
+    /// name is left out.
+    pub fn follow(
+        &self,
+        path: &str,
+        input: Input,
+        unreported: u64,
+    ) -> Followed<PatientReader<Input>, FileReading<'_>> {
         let place = self.opened.get();
         self.opened.set(place.saturating_add(1));
         let reading = FileReading {
             name: self.name_of(path),
             place,
+            unreported,
             bytes: 0,
             progress: self,
         };
-        Followed::new(PatientFile::new(file), reading)
+        Followed::new(PatientReader::new(input), reading)
+    }
+
+    /// How many files were opened so far.
+    pub fn opened(&self) -> u64 {
+        self.opened.get()
     }
 
     /// The observer that reports the search for rows.
@@ -93,14 +105,14 @@ impl<'r> Progress<'r> {
         }
     }
 
-    // The name of the table whose file is at a path, where it is reported.
+    /// The name of the table whose file is at a path, where it is reported.
     fn name_of(&self, path: &str) -> Option<String> {
         self.start?;
         let stem = Path::new(path).file_stem()?;
         String::from_str(self.rt.alloc(), stem).ok()
     }
 
-    // Whether it is time for a line. If so, the one that is there is removed, and the next is due after a pause.
+    /// Whether it is time for a line. If so, the one that is there is removed, and the next is due after a pause.
     fn takes_line(&self) -> bool {
         if self.is_over.get() {
             return false;
@@ -118,7 +130,7 @@ impl<'r> Progress<'r> {
         true
     }
 
-    // Removes the line from the terminal.
+    /// Removes the line from the terminal.
     fn clear(&self) {
         if self.applies.replace(false) {
             let _ = self.rt.stderr().write_all(CLEAR);
@@ -129,22 +141,23 @@ impl<'r> Progress<'r> {
 /// How far a file is read. Once it is dropped, with its reader, no line is left on the terminal.
 pub struct FileReading<'p> {
     name: Option<String>,
-    // The schema's is 0, and the tables' go from 1 on.
+    // How many files were opened before it, and how many of the first ones aren't reported.
     place: u64,
+    unreported: u64,
     bytes: u64,
     progress: &'p Progress<'p>,
 }
 
 impl ReadObserver for FileReading<'_> {
-    // Prints how far a table is read, where it is time for a line. A line that can't be written is left out.
+    /// Prints how far a table or a file of pairs is read, where it is time for a line. A line that can't be written is left out.
     fn came(&mut self, bytes: usize) {
         self.bytes = self.bytes.saturating_add(bytes as u64);
         if let Some(name) = &self.name
-            && self.place > 0
+            && self.place >= self.unreported
             && self.progress.takes_line()
         {
-            let place = self.place;
-            let tables = self.progress.opened.get().saturating_sub(1);
+            let place = self.place.saturating_sub(self.unreported).saturating_add(1);
+            let tables = self.progress.opened.get().saturating_sub(self.unreported);
             let read = self.bytes / MEGABYTE;
             let mut err = self.progress.rt.stderr();
             let _ = write!(err, "sfq: loading {name} ({place} of {tables}), {read} MB");
@@ -157,6 +170,7 @@ impl Drop for FileReading<'_> {
         let Self {
             name: _,
             place: _,
+            unreported: _,
             bytes: _,
             progress,
         } = self;
@@ -174,7 +188,7 @@ pub struct Search<'p> {
 }
 
 impl RowObserver for Search<'_> {
-    // Prints how far the search is, where it is time for a line. A line that can't be written is left out.
+    /// Prints how far the search is, where it is time for a line. A line that can't be written is left out.
     fn looked(&mut self, left: usize) {
         if self.candidates == 0 {
             self.total = left.saturating_add(1);

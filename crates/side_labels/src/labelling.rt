@@ -161,7 +161,7 @@ fn labels_of_sides(
 }
 
 /// The labels of two geometries: of the nodes of their segments and listed positions, of the pieces between them, each at its
-/// sample, and of the two sides of each piece that isn't vertical (OGC 06-103r4, 6.1.15.2; labels: this project's choice). It
+/// sample, and of the two sides of each piece that isn't vertical (06-103r4, 6.1.15.2; labels: this project's choice). It
 /// fails only when memory runs out.
 pub fn labels(alloc: Global, first: &Valid, second: &Valid) -> Result<Labels, AllocError>
     ensures exact { IfOk result (λ labels. labels ≡ spec.labels first.now second.now) }

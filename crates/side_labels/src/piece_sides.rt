@@ -28,7 +28,7 @@ const EXTERIOR: Sides = Sides {
 
 /// Where the two sides of a piece that isn't vertical lie in a geometry, by a point within the piece. The lower side is in the
 /// interior of an area if an odd number of its edges are at or above the point, the upper side if an odd number are strictly
-/// above it; else they are in the exterior (OGC 06-103r4, 6.1.15.2; sides: this project's choice). It takes no memory, and
+/// above it; else they are in the exterior (06-103r4, 6.1.15.2; sides: this project's choice). It takes no memory, and
 /// looks through the edges of an area once.
 pub fn sides_at(valid: &Valid, p: &RatPoint) -> Sides
     ensures lower { result.lower ≡ spec.below valid.now p.now }

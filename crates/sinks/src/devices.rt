@@ -52,7 +52,7 @@ impl StopSink {
         self.failures
     }
 
-    // Goes one call on, and returns whether it is the failing one.
+    /// Goes one call on, and returns whether it is the failing one.
     fn fails_now(&mut self) -> bool
         ensures fails { IsTrue result ↔ (calls_to_failure self.old ≡ 1) }
         ensures after { calls_to_failure self.new ≡ calls_to_failure self.old - 1 }

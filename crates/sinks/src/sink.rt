@@ -16,9 +16,9 @@ pub struct SinkFault;
 /// they are, of standard output never), and the number of its failures so far, which stays at
 /// `u64::MAX` once it is there.
 pub trait Sink {
-    // The bytes taken so far; None where nobody knows them.
+    /// The bytes taken so far; None where nobody knows them.
     ghost taken: { Self → Option (List ℕ) };
-    // How often a put failed so far.
+    /// How often a put failed so far.
     ghost failures: { Self → ℕ };
 
     /// Takes the first n bytes of the piece at `Ok(n)`: at least one of a piece that has any. A

@@ -49,7 +49,7 @@ impl<W: Write> StdSink<W> {
         Ok(())
     }
 
-    // Counts one failure more.
+    /// Counts one failure more.
     fn failed(&mut self) -> SinkFault
         ensures same { writer_under self.new ≡ writer_under self.old }
         ensures failures { std_failures self.new ≡ one_more (std_failures self.old) }

@@ -16,7 +16,7 @@ use table_model::faults::QueryFault;
 /// Binds a query to a database. Names of tables and columns become their places, without regard to ASCII case; strings become
 /// their values; each text of ST_GeomFromText becomes a valid geometry, read and tested once. The tables and columns of what
 /// it returns are there, and its types fit. The faults, each with its byte, and their order are those of `query_binder::bind`
-/// over the definitions of the database. (SQL; 06-104r4, 7.2; the order: this project's choice.)
+/// over the definitions of the database (SQL; 06-104r4, 7.2; the order: this project's choice).
 pub fn bind<I: EnvelopeIndex + Drop>(
     alloc: Global,
     query: &Query<'_>,

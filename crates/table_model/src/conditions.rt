@@ -5,7 +5,7 @@ use crate::references::References;
 use geometry_model::Predicate;
 use sqlite_items::{Boxed, Items};
 
-/// A sign of comparison. (SQL, comparison.)
+/// A sign of comparison (SQL, comparison).
 #[derive(Clone, Copy, PartialEq, Eq)]
 pub enum Comparison {
     Equal,
@@ -25,14 +25,14 @@ pub struct ColumnPlace {
     pub column: usize,
 }
 
-/// A geometry argument, generic in what a geometry is. (06-104r4, 7.2.)
+/// A geometry argument, generic in what a geometry is (06-104r4, 7.2).
 #[derive(Drop)]
 pub enum GeometryArgument<G> {
     Column(ColumnPlace),
     Literal(G),
 }
 
-/// A side of a comparison, generic in what a geometry argument is. (SQL, comparison; of geometries: 06-103r4, 6.1.2.2.)
+/// A side of a comparison, generic in what a geometry argument is (SQL, comparison; of geometries: 06-103r4, 6.1.2.2).
 #[derive(Drop)]
 pub enum Operand<A> {
     Column(ColumnPlace),
@@ -44,8 +44,8 @@ pub enum Operand<A> {
     Dimension(A),
 }
 
-/// A condition, generic in what a geometry argument is. `= 0` after a predicate has become a NOT, and `= 1` is left out.
-/// (SQL, the search condition; of geometries: 06-103r4, 6.1.15.)
+/// A condition, generic in what a geometry argument is. `= 0` after a predicate has become a NOT, and `= 1` is left out
+/// (SQL, the search condition; of geometries: 06-103r4, 6.1.15).
 #[derive(Drop)]
 pub enum Cond<A> {
     Or(Items<Cond<A>>),
@@ -57,8 +57,8 @@ pub enum Cond<A> {
     Relates(Predicate, A, A),
 }
 
-/// An item of the select list, generic in what the argument of a function is.
-/// (SQL, the select list; of geometries: 06-103r4, 6.1.2.2.)
+/// An item of the select list, generic in what the argument of a function is
+/// (SQL, the select list; of geometries: 06-103r4, 6.1.2.2).
 #[derive(Drop)]
 pub enum Item<C> {
     Column(ColumnPlace),
@@ -68,7 +68,7 @@ pub enum Item<C> {
 }
 
 /// A table reference: the table's place in the schema, and the bytes of the name that comes before the columns of
-/// an answer over two tables. (SQL, FROM.)
+/// an answer over two tables (SQL, FROM).
 #[derive(Drop)]
 pub struct Reference {
     /// The place of the table in the schema, from 0.
@@ -78,7 +78,7 @@ pub struct Reference {
 }
 
 /// A bound query: one or two references; its items, none under COUNT(*); its conjuncts, those of ON before those of
-/// WHERE; its limit, if there is one. (SQL, the query.)
+/// WHERE; its limit, if there is one (SQL, the query).
 #[derive(Drop)]
 pub struct Bound<A, C> {
     /// Whether EXPLAIN or EXPLAIN ANALYZE is asked for.

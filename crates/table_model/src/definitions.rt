@@ -12,7 +12,7 @@ pub const COLUMN_LIMIT: usize = 32;
 /// The most rows that a table may have.
 pub const ROW_LIMIT: usize = 100_000;
 
-/// The type of a column, generic in what names a type of geometry. (SQL; 06-104r4, 7.2.)
+/// The type of a column, generic in what names a type of geometry (SQL; 06-104r4, 7.2).
 #[derive(Drop)]
 pub enum ColumnType<T> {
     /// Whole numbers of 64 bits with a sign.
@@ -23,7 +23,7 @@ pub enum ColumnType<T> {
     Geometry(T),
 }
 
-/// A column of a table. (06-104r4, feature tables.)
+/// A column of a table (06-104r4, feature tables).
 #[derive(Drop)]
 pub struct ColumnDef<T> {
     /// The name as the schema spells it.
@@ -34,7 +34,7 @@ pub struct ColumnDef<T> {
     pub not_null: bool,
 }
 
-/// A table: its columns in order, one of which is the feature key. (06-104r4, feature tables.)
+/// A table: its columns in order, one of which is the feature key (06-104r4, feature tables).
 #[derive(Drop)]
 pub struct TableDef<T> {
     /// The name as the schema spells it.

@@ -8,18 +8,18 @@ ghost use Rattle.table_model.specs.PlaceLaws.{
   UpToPassingIsFront,
 };
 
-/// The rows at all choices of places are the product of the tables. (SQL, FROM.)
+/// The rows at all choices of places are the product of the tables (SQL, FROM).
 pub fn choices_give_product<G>()
     ensures { ChoicesGiveProduct G }
 {}
 
-/// The rows at the choices of places that ON and WHERE select are those at which every conjunct is true.
-/// (SQL, WHERE.)
+/// The rows at the choices of places that ON and WHERE select are those at which every conjunct is true
+/// (SQL, WHERE).
 pub fn selected_gives_passing<G, A, C>()
     ensures { SelectedGivesPassing G A C }
 {}
 
-/// The rows at the places of a meaning are those that LIMIT leaves. (SQL, LIMIT.)
+/// The rows at the places of a meaning are those that LIMIT leaves (SQL, LIMIT).
 pub fn meant_gives_limited<G, A, C>()
     ensures { MeantGivesLimited G A C }
 {}

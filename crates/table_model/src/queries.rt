@@ -16,14 +16,14 @@ pub struct Name<'a> {
     pub at: usize,
 }
 
-/// A column as it is written, with the name of its reference if one is written. (SQL, column names.)
+/// A column as it is written, with the name of its reference if one is written (SQL, column names).
 #[derive(Drop)]
 pub struct WrittenColumn<'a> {
     pub reference: Option<Name<'a>>,
     pub name: Name<'a>,
 }
 
-/// A geometry argument as it is written. (06-104r4, 7.2.)
+/// A geometry argument as it is written (06-104r4, 7.2).
 #[derive(Drop)]
 pub enum WrittenGeometry<'a> {
     Column(WrittenColumn<'a>),
@@ -31,8 +31,8 @@ pub enum WrittenGeometry<'a> {
     FromText(Name<'a>),
 }
 
-/// A side of a comparison as it is written, generic in what a geometry argument is.
-/// (SQL, comparison; of geometries: 06-103r4, 6.1.2.2.)
+/// A side of a comparison as it is written, generic in what a geometry argument is
+/// (SQL, comparison; of geometries: 06-103r4, 6.1.2.2).
 #[derive(Drop)]
 pub enum WrittenOperand<'a, A> {
     Column(WrittenColumn<'a>),
@@ -45,7 +45,7 @@ pub enum WrittenOperand<'a, A> {
     Dimension(usize, A),
 }
 
-/// Which DE-9IM predicate is written: ST_Relate has its pattern as a string. (06-103r4, 6.1.15.)
+/// Which DE-9IM predicate is written: ST_Relate has its pattern as a string (06-103r4, 6.1.15).
 #[derive(Drop)]
 pub enum WrittenPredicate<'a> {
     Named(Predicate),
@@ -53,7 +53,7 @@ pub enum WrittenPredicate<'a> {
 }
 
 /// A condition as it is written, generic in what a geometry argument is. The number of a predicate is the byte
-/// at which it starts. (SQL, the search condition.)
+/// at which it starts (SQL, the search condition).
 #[derive(Drop)]
 pub enum WrittenCond<'a, A> {
     Or(Items<WrittenCond<'a, A>>),
@@ -65,7 +65,7 @@ pub enum WrittenCond<'a, A> {
     Relates(usize, WrittenPredicate<'a>, A, A),
 }
 
-/// An item of the select list as it is written, generic in what the argument of a function is. (SQL, the select list.)
+/// An item of the select list as it is written, generic in what the argument of a function is (SQL, the select list).
 #[derive(Drop)]
 pub enum WrittenItem<'a, C> {
     Column(WrittenColumn<'a>),
@@ -75,7 +75,7 @@ pub enum WrittenItem<'a, C> {
     IsEmpty(usize, C),
 }
 
-/// What SELECT lists. (SQL, the select list.)
+/// What SELECT lists (SQL, the select list).
 #[derive(Drop)]
 pub enum Selection<'a, C> {
     /// `*`
@@ -85,7 +85,7 @@ pub enum Selection<'a, C> {
     Count,
 }
 
-/// A table reference as it is written. (SQL, FROM.)
+/// A table reference as it is written (SQL, FROM).
 #[derive(Drop)]
 pub struct WrittenReference<'a> {
     pub table: Name<'a>,
@@ -104,7 +104,7 @@ pub enum Explain {
 }
 
 /// A SELECT as it is written, generic in what a geometry argument is in a condition (`A`) and what the argument
-/// of a function is in the select list (`C`). (SQL, the query.)
+/// of a function is in the select list (`C`) (SQL, the query).
 #[derive(Drop)]
 pub struct Query<'a, A, C> {
     pub explain: Explain,

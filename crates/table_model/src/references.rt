@@ -7,8 +7,8 @@ use sqlite_items::Items;
 use std::alloc::{AllocError, Global};
 use std::marker::Model;
 
-/// The references of a query, written or bound, in their order: one or two, generic in what a reference is. Contracts
-/// see the list of them. (SQL, FROM.)
+/// The references of a query, written or bound, in their order: one or two, generic in what a reference is (SQL,
+/// FROM). Contracts see the list of them.
 #[derive(Drop)]
 pub struct References<R> {
     listed: Items<R>,

@@ -24,13 +24,13 @@ pub fn unknown_parts()
     ensures any_unknown { any_of (False ∷ Unknown ∷ False ∷ []) ≡ Unknown }
 {}
 
-/// Conditions are all true at the same rows as their AND. (SQL's three-valued logic.)
+/// Conditions are all true at the same rows as their AND (SQL's three-valued logic).
 pub fn conjuncts_are_joined()
     ensures { ConjunctsAreJoined }
 {}
 
-/// An AND inside an AND may be replaced by its parts, so conjuncts may be in one flat list. (SQL's three-valued
-/// logic.)
+/// An AND inside an AND may be replaced by its parts, so conjuncts may be in one flat list (SQL's three-valued
+/// logic).
 pub fn nested_ands_are_one()
     ensures { NestedAndsAreOne }
 {}

@@ -2,7 +2,7 @@
 
 use crate::conditions::ColumnPlace;
 
-/// The type of a part of a query. (SQL, comparison.)
+/// The type of a part of a query (SQL, comparison).
 #[derive(Clone, Copy, PartialEq, Eq)]
 pub enum OperandType {
     Integer,

@@ -2,7 +2,7 @@
 
 use crate::texts::OwnedText;
 
-/// A field of a typed row, generic in what a geometry is. (SQL; 06-104r4, feature tables.)
+/// A field of a typed row, generic in what a geometry is (SQL; 06-104r4, feature tables).
 #[derive(Drop)]
 pub enum Value<G> {
     /// No value.
@@ -15,7 +15,7 @@ pub enum Value<G> {
     Geometry(G),
 }
 
-/// The three values of a condition: what is neither true nor false is unknown. (SQL's three-valued logic.)
+/// The three values of a condition: what is neither true nor false is unknown (SQL's three-valued logic).
 #[derive(Clone, Copy, PartialEq, Eq)]
 pub enum Truth {
     True,

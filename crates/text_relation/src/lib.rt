@@ -3,4 +3,4 @@
 
 pub mod relate;
 
-pub use relate::relate_texts;
+pub use relate::{geometry_of, relate_texts, text_failure};

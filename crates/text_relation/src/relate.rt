@@ -23,7 +23,7 @@ use wkt::{WktFault, read};
 
 /// The DE-9IM matrix of the valid geometries that two texts spell, of any types. `Refused` is the failure if a text spells no
 /// geometry, or one that isn't valid; the first text is read and checked before the second. `OutOfMemory` may come in place of
-/// any result. (06-103r4, 6.1.15.2; the order is this project's.)
+/// any result (06-103r4, 6.1.15.2; the order: this project's choice).
 pub fn relate_texts(alloc: Global, first: &[u8], second: &[u8]) -> Result<Matrix, Failure<'static>>
     ensures ok { ByEveryMatrix (λ matrix. IfOk result (λ m. relation matrix first.now second.now ≡ Ok m)) }
     ensures point_sets { IfOk result (RelatesTexts first.now second.now) }
@@ -35,8 +35,13 @@ pub fn relate_texts(alloc: Global, first: &[u8], second: &[u8]) -> Result<Matrix
     matrix_of(alloc, &first, &second)
 }
 
-// The valid geometry that a text spells.
-fn geometry_of(alloc: Global, word: GeometryWord, text: &[u8]) -> Result<Valid, Failure<'static>>
+/// The valid geometry that a text spells, read and checked as the first or the second of two texts. `Refused` is the failure if
+/// the text spells no geometry, or one that isn't valid. `OutOfMemory` may come in place of any result (06-103r4, 7.2 and 6.1).
+pub fn geometry_of(
+    alloc: Global,
+    word: GeometryWord,
+    text: &[u8],
+) -> Result<Valid, Failure<'static>>
     ensures ok { IfOk result (λ g. geometry_in_word word text.now ≡ Ok g) }
     ensures spelled { IfOk result (λ g. Spells text.now g) }
     ensures valid { IfOk result IsValid }
@@ -52,8 +57,8 @@ fn geometry_of(alloc: Global, word: GeometryWord, text: &[u8]) -> Result<Valid, 
     }
 }
 
-// The failure for a fault of a geometry's text.
-fn text_failure(word: GeometryWord, fault: WktFault) -> Failure<'static>
+/// The failure for a fault of the first or the second geometry's text (06-103r4, 7.2).
+pub fn text_failure(word: GeometryWord, fault: WktFault) -> Failure<'static>
     ensures failure { (read : Result Geometry TextFault)
         → IfSome (text_fault fault) (λ found. read ≡ Err found)
         → IsFailureOf (or_refused word (tested read)) result }
@@ -65,7 +70,7 @@ fn text_failure(word: GeometryWord, fault: WktFault) -> Failure<'static>
     }
 }
 
-// The failure for a fault of a geometry.
+/// The failure for a fault of a geometry.
 fn validity_failure(word: GeometryWord, fault: CheckFault) -> Failure<'static>
     ensures failure { (g : Geometry) → IsFaultOf g fault
         → IsFailureOf (or_refused word (tested (Ok g))) result }
@@ -77,7 +82,7 @@ fn validity_failure(word: GeometryWord, fault: CheckFault) -> Failure<'static>
     }
 }
 
-// The matrix of two geometries.
+/// The matrix of two geometries.
 fn matrix_of(alloc: Global, first: &Valid, second: &Valid) -> Result<Matrix, Failure<'static>>
     ensures point_sets { IfOk result (IsMatrix first.now second.now) }
     ensures failure { IfErr result (λ failure. failure ≡ f.OutOfMemory) }

@@ -36,7 +36,7 @@ fn compared(sign: Comparison, order: Option<Ordering>) -> Truth
     order.map_or(Truth::Unknown, |order| truth_of(takes(sign, order)))
 }
 
-/// The truth of a comparison of two sides at the rows. Only ST_AsText takes memory. (SQL, comparison.)
+/// The truth of a comparison of two sides at the rows (SQL, comparison). Only ST_AsText takes memory.
 pub(crate) fn comparison(
     alloc: Global,
     sign: Comparison,
@@ -54,7 +54,7 @@ pub(crate) fn comparison(
     Ok(compared(sign, order_of(&left, &right)))
 }
 
-/// The truth of IS NULL of a side at the rows. Only ST_AsText takes memory. (SQL, the null predicate.)
+/// The truth of IS NULL of a side at the rows (SQL, the null predicate). Only ST_AsText takes memory.
 pub(crate) fn null_test(
     alloc: Global,
     operand: &Operand<Argument>,
@@ -68,7 +68,7 @@ pub(crate) fn null_test(
     Ok(truth_of(side.is_null()))
 }
 
-/// The truth of ST_IsEmpty of an argument's geometry at the rows; of NULL it is unknown. (06-103r4, 6.1.2.2.)
+/// The truth of ST_IsEmpty of an argument's geometry at the rows; of NULL it is unknown (06-103r4, 6.1.2.2).
 pub(crate) fn emptiness(argument: &Argument, rows: &[Row<'_>]) -> Truth
     ensures { result ≡ spec.emptiness (denoted rows.now argument.now) }
 {

@@ -21,9 +21,9 @@ use table_model::values::Truth;
 /// The truth of a condition at rows, one row for each reference in the query's order. TEXT is compared by bytes. A
 /// comparison or a spatial predicate with NULL is unknown, and so is NOT of what is unknown. Each predicate is
 /// evaluated, from left to right, without short cut. A predicate of two geometries computes their matrix once, and the
-/// work counts it. A place that the rows don't have is NULL. It fails only when memory runs out; the work is then not
-/// less than before. It takes no memory if no matrix is computed and the condition has no ST_AsText. (SQL's three-valued
-/// logic; 06-103r4, 6.1.15.3; order of texts: this project's choice.)
+/// work counts it. A place that the rows don't have is NULL (SQL's three-valued logic; 06-103r4, 6.1.15.3; order of
+/// texts: this project's choice). It fails only when memory runs out; the work is then not less than before. It takes
+/// no memory if no matrix is computed and the condition has no ST_AsText.
 pub fn value(
     alloc: Global,
     cond: &Cond,

@@ -23,7 +23,7 @@ pub(crate) fn field_at<'a>(rows: &[Row<'a>], place: ColumnPlace) -> Field<'a>
     Field::Null
 }
 
-/// The geometry in a field; NULL has none. (06-104r4, 7.2.)
+/// The geometry in a field; NULL has none (06-104r4, 7.2).
 fn geometry_in(field: Field<'_>) -> Option<&Valid>
     ensures { option_copied result ≡ spec.geometry_in (shown field.entry) }
 {
@@ -33,7 +33,7 @@ fn geometry_in(field: Field<'_>) -> Option<&Valid>
     }
 }
 
-/// The geometry of an argument at the rows; none if its column is NULL there. (06-104r4, 7.2.)
+/// The geometry of an argument at the rows; none if its column is NULL there (06-104r4, 7.2).
 pub(crate) fn geometry_at<'a>(rows: &[Row<'a>], argument: &'a Argument) -> Option<&'a Valid>
     ensures { option_copied result ≡ spec.denoted rows.now argument.entry.now }
 {

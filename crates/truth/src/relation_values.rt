@@ -15,7 +15,7 @@ use std::alloc::{AllocError, Global};
 use table_model::values::Truth;
 use validity::Valid;
 
-/// Whether a predicate holds of two geometries, by their matrix, which is computed once. (06-103r4, 6.1.15.3.)
+/// Whether a predicate holds of two geometries, by their matrix, which is computed once (06-103r4, 6.1.15.3).
 fn related(
     alloc: Global,
     predicate: Predicate,
@@ -35,7 +35,7 @@ fn related(
 }
 
 /// The truth of a predicate of two arguments' geometries. With a NULL it is unknown, and no matrix is computed. Only the
-/// matrix takes memory. After a refusal the work is not less than before. (06-103r4, 6.1.15.3.)
+/// matrix takes memory. After a refusal the work is not less than before (06-103r4, 6.1.15.3).
 pub(crate) fn relation(
     alloc: Global,
     predicate: Predicate,

@@ -43,7 +43,7 @@ fn field_side(field: Field<'_>) -> Side<'_>
     }
 }
 
-/// The canonical text of a geometry, which is ST_AsText. It fails only when memory runs out. (06-103r4, 6.1.2.2.)
+/// The canonical text of a geometry, which is ST_AsText (06-103r4, 6.1.2.2). It fails only when memory runs out.
 fn printed(alloc: Global, geometry: &Valid) -> Result<MemorySink, AllocError>
     ensures { IfOk result (λ sink. memory_bytes sink ≡ canonical_text geometry.now) }
 {
@@ -55,7 +55,7 @@ fn printed(alloc: Global, geometry: &Valid) -> Result<MemorySink, AllocError>
     }
 }
 
-/// ST_AsText of an argument's geometry; NULL of NULL. (06-103r4, 6.1.2.2.)
+/// ST_AsText of an argument's geometry; NULL of NULL (06-103r4, 6.1.2.2).
 fn text_side<'a>(alloc: Global, geometry: Option<&Valid>) -> Result<Side<'a>, AllocError>
     ensures { IfOk result (λ side. side_value side ≡ spec.text_value (option_copied geometry.entry)) }
 {
@@ -65,7 +65,7 @@ fn text_side<'a>(alloc: Global, geometry: Option<&Valid>) -> Result<Side<'a>, Al
     }
 }
 
-/// The dimension of geometries of a kind: 0 of points, 1 of lines, 2 of areas. (06-103r4, 6.1.2.2.)
+/// The dimension of geometries of a kind: 0 of points, 1 of lines, 2 of areas (06-103r4, 6.1.2.2).
 fn dimension(kind: Kind) -> i64
     ensures { result ≡ spec.dimension kind }
 {
@@ -76,7 +76,7 @@ fn dimension(kind: Kind) -> i64
     }
 }
 
-/// ST_Dimension of an argument's geometry; NULL of NULL. (06-103r4, 6.1.2.2.)
+/// ST_Dimension of an argument's geometry; NULL of NULL (06-103r4, 6.1.2.2).
 fn dimension_side<'a>(geometry: Option<&Valid>) -> Side<'a>
     ensures { side_value result ≡ spec.dimension_value (option_copied geometry.entry) }
 {

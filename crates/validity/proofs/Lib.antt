@@ -4,3 +4,13 @@ pub mod Faults
 pub mod Kept
 pub mod OddEndFacts
 pub mod PolygonPromises
+pub mod ClosedRings
+pub mod Edges
+pub mod Envelopes
+pub mod Few
+pub mod Finding
+pub mod NearNumbers
+pub mod OutlineFacts
+pub mod PartFacts
+pub mod Polygons
+pub mod RingNumbers

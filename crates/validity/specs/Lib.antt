@@ -3,3 +3,7 @@ pub mod Contents
 pub mod OddEnds
 pub mod PolygonPromises
 pub mod ValidGeometries
+pub mod FaultOrder
+pub mod Neighbours
+pub mod Outlines
+pub mod Runs

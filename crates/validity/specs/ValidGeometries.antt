@@ -9,7 +9,7 @@ use Rattle.geometry_model.specs.Validity.{IsValid}
 use Rattle.fraction.specs.Orders.{position_order}
 use Rattle.edge_boxes.specs.BoxLists.{BoxesOf}
 use Rattle.edge_boxes.specs.declared.boxes.EdgeBoxes.{EdgeBoxes}
-pub use Rattle.outlines.specs.Runs.{HasLength}
+pub use Rattle.validity.specs.Runs.{HasLength}
 use Rattle.validity.specs.OddEnds.{ended_lines}
 
 -- the geometry has no fault, and the boxes are those of its edges (06-103r4, 6.1.7 and 6.1.11)

@@ -7,8 +7,8 @@ use crate::valid_geometry::{Valid, check};
 use geometry_model::GeometryFault;
 use std::alloc::{AllocError, Global};
 
-/// The valid geometry that bytes spell, or its first fault: of the text, then of the geometry. It fails only when
-/// memory runs out. (06-103r4, 7.2 and 6.1; the order: this project's choice.)
+/// The valid geometry that bytes spell, or its first fault: of the text, then of the geometry (06-103r4, 7.2 and
+/// 6.1; the order: this project's choice). It fails only when memory runs out.
 pub fn read_valid(alloc: Global, text: &[u8]) -> Result<Result<Valid, GeometryFault>, AllocError>
     ensures { IfOk result (λ answer. answer ≡ geometry_in_text text.now) }
 {

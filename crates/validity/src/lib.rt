@@ -1,9 +1,15 @@
-//! Valid geometries (06-103r4, 6.1). `check` tests a geometry once; from then on its type `Valid` says that it has no fault.
+//! Valid geometries (06-103r4, 6.1). `check` tests a geometry once, by its edges line by line and polygon by polygon; from then on
+//! its type `Valid` says that it has no fault.
 #![tactic(auto)]
 
 pub mod check_fault;
 pub mod checked_texts;
+pub mod first_faults;
+mod neighbours;
 mod odd_ends;
+pub mod outlines;
+mod part_tests;
+mod runs;
 mod searched_positions;
 mod valid_envelopes;
 pub mod valid_geometry;

@@ -15,7 +15,7 @@ impl Enveloped for Valid {
     }
 }
 
-/// The envelope of a geometry. (06-103r4, 6.1.2.2: Envelope.)
+/// The envelope of a geometry (06-103r4, 6.1.2.2: Envelope).
 fn envelope_of(geometry: &Geometry) -> Option<Envelope>
     ensures { result ≡ envelope geometry.now }
 {

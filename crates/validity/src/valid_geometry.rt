@@ -15,13 +15,14 @@ ghost use Rattle.validity.specs.PolygonPromises.{HolesAreCutOut, HolesAreInside,
 ghost use Rattle.validity.specs.PolygonPromises.{StretchesStay, OutsideIsExterior, RingsPart, RingsHaveSides};
 
 use crate::check_fault::CheckFault;
+use crate::first_faults::first_fault;
 use crate::odd_ends::is_at_one;
+use crate::outlines::Outline;
 use crate::searched_positions::searched_positions;
 use edge_boxes::EdgeBoxes;
 use fraction::{GridPoint, RatPoint};
 use geometry_model::{GeometryType, Kind};
 use orient::Segment;
-use outlines::{Outline, first_fault};
 use std::alloc::{AllocError, Global};
 use std::marker::Model;
 use wkt::Geometry;
@@ -146,7 +147,7 @@ impl Valid {
 }
 
 /// Returns the geometry as valid if it has no fault, else its first fault. The faults are tested in their order, V1 to V8,
-/// and each for the least numbers first (06-103r4, 6.1.7, 6.1.11.1 and 6.1.14; the order is this project's). Points have no
+/// and each for the least numbers first (06-103r4, 6.1.7, 6.1.11.1 and 6.1.14; the order: this project's choice). Points have no
 /// fault. `OutOfMemory` may come in place of any result. The interior of a valid area is what is inside an element's outer
 /// ring and in none of its holes, and the rings separate it from the exterior (06-103r4, 6.1.11.1).
 #[tactic(auto, using(crate::proofs::Faults::no_fault_valid))]

@@ -16,7 +16,7 @@ enum Shown {
     Around(i128, i128, i128),
 }
 
-// Two texts, a part of each, and the witness.
+/// Two texts, a part of each, and the witness.
 type Row = (&'static str, &'static str, Location, Location, Shown);
 
 const LINE: &str = "LINESTRING(0 0,3 1)";
@@ -28,7 +28,7 @@ const DIAGONAL: &str = "LINESTRING(-2 2,2 -2)";
 const SQUARE: &str = "POLYGON((0 0,4 0,4 4,0 4,0 0))";
 
 const FLOOR: &str = "LINESTRING(0 0,4 0)";
-// Its right end is straight above the middle of the floor.
+/// Its right end is straight above the middle of the floor.
 const SPIKE: &str = "LINESTRING(1 5,2 3)";
 
 const UPRIGHT: &str = "LINESTRING(2 3,2 5)";

@@ -5,8 +5,8 @@ ghost use Rattle.geometry_model.specs.Points.{Point, IsPoint};
 
 use std::marker::Model;
 
-/// A face point: the point (X/W, Y/W) of the plane, W at least 1, off all edges and listed positions of two geometries (OGC
-/// 06-103r4, 6.1.4; face points: this project's choice). Its numbers are larger than those of `RatPoint`, and it needn't be
+/// A face point: the point (X/W, Y/W) of the plane, W at least 1, off all edges and listed positions of two geometries
+/// (06-103r4, 6.1.4; face points: this project's choice). Its numbers are larger than those of `RatPoint`, and it needn't be
 /// in least form.
 #[derive(Clone, Copy, Debug)]
 pub struct FacePoint {

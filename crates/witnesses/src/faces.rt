@@ -56,7 +56,7 @@ fn moved(side: Side, p: &RatPoint, scale: i128, rise: i128) -> FacePoint
 }
 
 /// A face point straight above a point, or straight below it: half-way to the next point of an edge or listed position of
-/// either geometry, or one step away where there is none (OGC 06-103r4, 6.1.11.1; face points: this project's choice). No
+/// either geometry, or one step away where there is none (06-103r4, 6.1.11.1; face points: this project's choice). No
 /// vertical edge may go through the point, and no listed position may be there. It takes no memory.
 pub fn face_point(first: &Valid, second: &Valid, side: Side, p: &RatPoint) -> FacePoint
     requires first { IsSlantAt first.now p.now }

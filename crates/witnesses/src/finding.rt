@@ -175,7 +175,7 @@ fn find_exteriors(first: &Valid, second: &Valid, noded: &Noded, found: &Labels) 
 }
 
 /// A witness for each cell of the matrix of two geometries: the dimensions that they show are its DE-9IM matrix, and each
-/// shows what its two parts have in common (OGC 06-103r4, 6.1.15.2; which of many is shown: this project's choice). Shown is
+/// shows what its two parts have in common (06-103r4, 6.1.15.2; which of many is shown: this project's choice). Shown is
 /// the first in ascending order, by x, then by y, a piece by its lesser end, then by its greater: a face point beside the
 /// first piece, above it before below it; else the first piece; else the first node. Of the two exteriors, where no piece
 /// has one beside it, it is a point on the x axis to the right of all positions. It fails only when memory runs out.

@@ -48,7 +48,7 @@ pub(crate) fn numerator_over(coordinate: i32, denominator: i64) -> i128
     coordinate as i128 * denominator as i128
 }
 
-/// The number whose sign is the side of p, seen from `from` to `to`: above 0 on the left (OGC 06-103r4, 6.1.7; sides: this
+/// The number whose sign is the side of p, seen from `from` to `to`: above 0 on the left (06-103r4, 6.1.7; sides: this
 /// project's choice).
 pub(crate) fn side_of_point(from: GridPoint, to: GridPoint, p: &RatPoint) -> i128
     ensures value { result ≡ spec.side from to p.now }

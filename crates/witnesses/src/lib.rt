@@ -1,5 +1,5 @@
 //! Witnesses: what shows each cell of the matrix of two geometries. A cell of dimension 0 is shown by a point, 1 by an open
-//! stretch, 2 by a face point, off all edges, around which all points lie alike (OGC 06-103r4, 6.1.15.2; witnesses: this
+//! stretch, 2 by a face point, off all edges, around which all points lie alike (06-103r4, 6.1.15.2; witnesses: this
 //! project's choice).
 #![tactic(auto)]
 

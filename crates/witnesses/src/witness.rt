@@ -7,7 +7,7 @@ use crate::face_points::FacePoint;
 use fraction::RatPoint;
 use geometry_model::Location;
 
-/// What shows that a part of one geometry and a part of another have something in common (OGC 06-103r4, 6.1.15.2; witnesses:
+/// What shows that a part of one geometry and a part of another have something in common (06-103r4, 6.1.15.2; witnesses:
 /// this project's choice). Coordinates are in grid steps.
 #[derive(Clone, Copy, Debug)]
 pub enum Witness {
@@ -22,7 +22,7 @@ pub enum Witness {
 }
 
 /// A witness for each part of one geometry and each part of another, in the order of the matrix: interior, boundary and
-/// exterior of the first, each with those of the second (OGC 06-103r4, 6.1.15.2).
+/// exterior of the first, each with those of the second (06-103r4, 6.1.15.2).
 #[derive(Clone, Copy, Debug)]
 pub struct Witnesses {
     pub(crate) interior_interior: Witness,

@@ -1,5 +1,5 @@
-//! Well-known text (06-103r4, 7.2): `read` reads a geometry from it, and `print` writes a geometry's canonical text. Geometries and
-//! faults are those of the crate `geometries`, and sinks, to which a text is written, those of the crate `sinks`.
+//! Well-known text (06-103r4, 7.2): `read` reads a geometry from it, and `print` writes a geometry's canonical text. Geometries
+//! and faults are those of the crate `geometries`, and sinks, to which a text is written, those of the crate `sinks`.
 #![tactic(auto)]
 
 mod coordinate_reader;

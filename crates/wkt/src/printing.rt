@@ -14,10 +14,10 @@ use geometries::{Geometry, Larger, LineString, Polygons, Shape};
 use itoa::Buffer;
 use sinks::{Sink, SinkFault, put_all, put_parts};
 
-/// Writes the canonical text of a geometry: the type's name in capitals; ` EMPTY` for an empty one; else the positions,
-/// elements, rings or polygons in parentheses, with commas between, no white space but one space between x and y, numbers in
-/// shortest decimal form, and each point of a MULTIPOINT in parentheses (06-103r4, 7.2.2; which of its texts: this project's choice). It takes no
-/// memory. At Err the sink failed, and a beginning of the text has been written.
+/// Writes the canonical text of a geometry: the type's name in capitals; ` EMPTY` for an empty one; else the positions, elements,
+/// rings or polygons in parentheses, with commas between, no white space but one space between x and y, numbers in shortest
+/// decimal form, and each point of a MULTIPOINT in parentheses (06-103r4, 7.2.2; which of its texts: this project's choice). It
+/// takes no memory. At Err the sink failed, and a beginning of the text has been written.
 pub fn print<S: Sink>(geometry: &Geometry, sink: &mut S) -> Result<(), SinkFault>
     ensures ok { OnOk result (Appends (S.taken sink.old) (S.taken sink.new) (canonical_text geometry.now)) }
     ensures front { OnErr result
@@ -28,7 +28,7 @@ pub fn print<S: Sink>(geometry: &Geometry, sink: &mut S) -> Result<(), SinkFault
     put_shape(sink, geometry.shape())
 }
 
-// Writes the text of a content.
+/// Writes the text of a content.
 fn put_shape<S: Sink>(sink: &mut S, shape: &Shape) -> Result<(), SinkFault>
     ensures ok { OnOk result
         (Appends (S.taken sink.old) (S.taken sink.new) (canonical_text (geometry_in shape.now))) }
@@ -42,7 +42,7 @@ fn put_shape<S: Sink>(sink: &mut S, shape: &Shape) -> Result<(), SinkFault>
     }
 }
 
-// Writes the text of a content that isn't a POINT.
+/// Writes the text of a content that isn't a POINT.
 fn put_larger<S: Sink>(sink: &mut S, content: &Larger) -> Result<(), SinkFault>
     ensures ok { OnOk result
         (Appends (S.taken sink.old) (S.taken sink.new) (canonical_text (larger_in content.now))) }
@@ -59,7 +59,7 @@ fn put_larger<S: Sink>(sink: &mut S, content: &Larger) -> Result<(), SinkFault>
     }
 }
 
-// Writes the text of the POINT at a position, or of the empty one.
+/// Writes the text of the POINT at a position, or of the empty one.
 fn put_point<S: Sink>(sink: &mut S, position: Option<GridPoint>) -> Result<(), SinkFault>
     ensures ok { OnOk result (Appends (S.taken sink.old) (S.taken sink.new)
         (tagged_text (codes "POINT") (map position_text (option_to_list position)))) }
@@ -73,7 +73,7 @@ fn put_point<S: Sink>(sink: &mut S, position: Option<GridPoint>) -> Result<(), S
     }
 }
 
-// Writes the text of the MULTIPOINT of these points.
+/// Writes the text of the MULTIPOINT of these points.
 fn put_multi_point<S: Sink>(sink: &mut S, points: &[GridPoint]) -> Result<(), SinkFault>
     ensures ok { OnOk result (Appends (S.taken sink.old) (S.taken sink.new)
         (tagged_text (codes "MULTIPOINT") (map point_text points.now))) }
@@ -91,7 +91,7 @@ fn put_multi_point<S: Sink>(sink: &mut S, points: &[GridPoint]) -> Result<(), Si
     }
 }
 
-// Writes the text of the LINESTRING through these positions.
+/// Writes the text of the LINESTRING through these positions.
 fn put_line_string<S: Sink>(sink: &mut S, positions: &[GridPoint]) -> Result<(), SinkFault>
     ensures ok { OnOk result (Appends (S.taken sink.old) (S.taken sink.new)
         (tagged_text (codes "LINESTRING") (map position_text positions.now))) }
@@ -106,7 +106,7 @@ fn put_line_string<S: Sink>(sink: &mut S, positions: &[GridPoint]) -> Result<(),
     }
 }
 
-// Writes the text of the MULTILINESTRING of these elements.
+/// Writes the text of the MULTILINESTRING of these elements.
 fn put_multi_line_string<S: Sink>(sink: &mut S, lines: &[LineString]) -> Result<(), SinkFault>
     ensures ok { OnOk result (Appends (S.taken sink.old) (S.taken sink.new)
         (tagged_text (codes "MULTILINESTRING") (map line_text lines.now))) }
@@ -121,7 +121,7 @@ fn put_multi_line_string<S: Sink>(sink: &mut S, lines: &[LineString]) -> Result<
     }
 }
 
-// Writes the text of the POLYGON of these rings.
+/// Writes the text of the POLYGON of these rings.
 fn put_polygon<S: Sink>(sink: &mut S, rings: &[LineString]) -> Result<(), SinkFault>
     ensures ok { OnOk result (Appends (S.taken sink.old) (S.taken sink.new)
         (tagged_text (codes "POLYGON") (map line_text rings.now))) }
@@ -136,7 +136,7 @@ fn put_polygon<S: Sink>(sink: &mut S, rings: &[LineString]) -> Result<(), SinkFa
     }
 }
 
-// Writes the text of the MULTIPOLYGON of these polygons.
+/// Writes the text of the MULTIPOLYGON of these polygons.
 fn put_multi_polygon<S: Sink>(sink: &mut S, polygons: &Polygons) -> Result<(), SinkFault>
     ensures ok { OnOk result (Appends (S.taken sink.old) (S.taken sink.new)
         (tagged_text (codes "MULTIPOLYGON") (map polygon_text polygons.now))) }
@@ -151,7 +151,7 @@ fn put_multi_polygon<S: Sink>(sink: &mut S, polygons: &Polygons) -> Result<(), S
     }
 }
 
-// Writes a text, these polygons with commas between, and a parenthesis.
+/// Writes a text, these polygons with commas between, and a parenthesis.
 fn put_polygons<'p, S: Sink>(
     sink: &mut S,
     before: &'p [u8],
@@ -168,7 +168,7 @@ fn put_polygons<'p, S: Sink>(
     put_all(sink, b")")
 }
 
-// Writes these polygons with commas between.
+/// Writes these polygons with commas between.
 fn put_joined_polygons<S: Sink>(sink: &mut S, polygons: &Polygons) -> Result<(), SinkFault>
     ensures ok { OnOk result
         (Appends (S.taken sink.old) (S.taken sink.new) (join_with_byte 44 (map polygon_text polygons.now))) }
@@ -182,7 +182,7 @@ fn put_joined_polygons<S: Sink>(sink: &mut S, polygons: &Polygons) -> Result<(),
     Ok(())
 }
 
-// Writes a text, these lines or rings with commas between, and a parenthesis.
+/// Writes a text, these lines or rings with commas between, and a parenthesis.
 fn put_lines<'p, S: Sink>(
     sink: &mut S,
     before: &'p [u8],
@@ -199,7 +199,7 @@ fn put_lines<'p, S: Sink>(
     put_all(sink, b")")
 }
 
-// Writes these lines or rings with commas between.
+/// Writes these lines or rings with commas between.
 fn put_joined_lines<S: Sink>(sink: &mut S, lines: &[LineString]) -> Result<(), SinkFault>
     ensures ok { OnOk result
         (Appends (S.taken sink.old) (S.taken sink.new) (join_with_byte 44 (map line_text lines.now))) }
@@ -213,14 +213,14 @@ fn put_joined_lines<S: Sink>(sink: &mut S, lines: &[LineString]) -> Result<(), S
     Ok(())
 }
 
-// What opens the list with this number, from 0: a parenthesis, with a comma before it unless it is the first.
+/// What opens the list with this number, from 0: a parenthesis, with a comma before it unless it is the first.
 fn opening(index: usize) -> &'static [u8]
     ensures { result.now ≡ opening_text index }
 {
     if index == 0 { b"(" } else { b",(" }
 }
 
-// Writes a text, these positions with commas between, and a parenthesis.
+/// Writes a text, these positions with commas between, and a parenthesis.
 fn put_line<'p, S: Sink>(
     sink: &mut S,
     before: &'p [u8],
@@ -237,7 +237,7 @@ fn put_line<'p, S: Sink>(
     put_all(sink, b")")
 }
 
-// Writes these positions with commas between.
+/// Writes these positions with commas between.
 fn put_joined_positions<S: Sink>(sink: &mut S, line: &[GridPoint]) -> Result<(), SinkFault>
     ensures ok { OnOk result
         (Appends (S.taken sink.old) (S.taken sink.new) (join_with_byte 44 (map position_text line.now))) }
@@ -254,7 +254,7 @@ fn put_joined_positions<S: Sink>(sink: &mut S, line: &[GridPoint]) -> Result<(),
     }
 }
 
-// Writes the texts of these positions, with these texts before and after each.
+/// Writes the texts of these positions, with these texts before and after each.
 fn put_more<'p, S: Sink>(
     sink: &mut S,
     before: &'p [u8],
@@ -273,7 +273,7 @@ fn put_more<'p, S: Sink>(
     Ok(())
 }
 
-// Writes the numbers of a position, with these texts before and after them.
+/// Writes the numbers of a position, with these texts before and after them.
 fn put_position<'p, S: Sink>(
     sink: &mut S,
     before: &'p [u8],
@@ -293,7 +293,7 @@ fn put_position<'p, S: Sink>(
     put_numbers(sink, before, x, y, behind)
 }
 
-// Writes two numbers with a space between, and these texts before and after them.
+/// Writes two numbers with a space between, and these texts before and after them.
 fn put_numbers<'p, S: Sink>(
     sink: &mut S,
     before: &'p [u8],

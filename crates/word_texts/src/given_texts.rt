@@ -72,7 +72,7 @@ pub fn query_text<R: Read + Drop, F: FnMut(&str) -> Option<R>>(
     query_in(alloc, opener(path))
 }
 
-// The bytes of a word.
+/// The bytes of a word.
 fn own_text(alloc: Global, word: &str) -> Result<Vec<u8>, Failure<'static>>
     ensures text { IfOk result (λ text. text.items ≡ word.now) }
     ensures failure { IfErr result (λ failure. failure ≡ Failure.OutOfMemory) }
@@ -83,7 +83,7 @@ fn own_text(alloc: Global, word: &str) -> Result<Vec<u8>, Failure<'static>>
     }
 }
 
-// The text of a geometry's file, or why it isn't there. None is a file that can't be opened.
+/// The text of a geometry's file, or why it isn't there. None is a file that can't be opened.
 fn geometry_in<R: Read + Drop>(
     alloc: Global,
     file: Option<R>,
@@ -102,7 +102,7 @@ fn geometry_in<R: Read + Drop>(
     }
 }
 
-// The text of a query's file, or why it isn't there. None is a file that can't be opened.
+/// The text of a query's file, or why it isn't there. None is a file that can't be opened.
 fn query_in<R: Read + Drop>(alloc: Global, file: Option<R>) -> Result<String, Failure<'static>>
     ensures text { IfOk result (λ text. ReadsQuery R.remaining file (Ok (string_bytes text))) }
     ensures failure { IfErr result (λ failure. ReadsQuery R.remaining file (Err failure)) }
@@ -122,7 +122,7 @@ fn query_in<R: Read + Drop>(alloc: Global, file: Option<R>) -> Result<String, Fa
     }
 }
 
-// All bytes of a file that has at most so many.
+/// All bytes of a file that has at most so many.
 fn whole_text<R: Read + Drop>(alloc: Global, file: R, limit: u64) -> Result<Vec<u8>, FileFault>
     requires { limit ≤ GEOMETRY_BYTES }
     ensures text { IfOk result (λ text. IsTextOf (R.remaining file) text.items) }

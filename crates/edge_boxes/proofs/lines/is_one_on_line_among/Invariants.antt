@@ -1,6 +1,6 @@
 use Rattle.std.proofs.Common.{◌≡◌, ◌≤◌, false, length, drop}
 use Rattle.std.specs.List.{list_any}
-use Rattle.ring_tests.specs.RunLaws.{box_of}
+use Rattle.edge_boxes.specs.RunLaws.{box_of}
 use Rattle.edge_boxes.specs.BoxLists.{covered}
 use Rattle.edge_boxes.specs.OneLine.{meet_on_one_line}
 use Rattle.edge_boxes.proofs.lines.is_one_on_line_among.Given as goal

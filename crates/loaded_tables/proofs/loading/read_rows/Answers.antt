@@ -1,10 +1,10 @@
 use Rattle.std.proofs.Common.{Err, ◌+◌, ◌-◌, ◌≡◌, arith, drop}
 use Rattle.std.proofs.lemmas.Result.{err_from_is_err_and}
 use Rattle.loaded_tables.proofs.EachLemmas.{passed_front}
-use Rattle.table_parts.specs.Records.{asked}
+use Rattle.loaded_tables.specs.Records.{asked}
 use Rattle.loaded_tables.proofs.FailureLemmas.{of_fault}
 use Rattle.loaded_tables.proofs.LoadingLemmas.{midway_end, midway_fault, midway_more, read_end, read_fault, read_more, row_is_within}
-use Rattle.table_parts.specs.GeometryFields.{reading}
+use Rattle.loaded_tables.specs.GeometryFields.{reading}
 use Rattle.table_model.specs.Loading.{checked_rows, rows_of}
 use Rattle.loaded_tables.proofs.loading.read_rows.Goals as goal
 

@@ -1,8 +1,8 @@
 use Rattle.std.proofs.Common.{◌+◌, ◌≤◌, ◌≡◌, List}
 use Rattle.loaded_tables.proofs.LoadingLemmas.{AreRead, Midway}
-use Rattle.table_parts.specs.GeometryFields.{reading}
+use Rattle.loaded_tables.specs.GeometryFields.{reading}
 use Rattle.loaded_tables.specs.Layouts.{IsLayout}
-use Rattle.table_parts.specs.Records.{Gives, IsReady, asked}
+use Rattle.loaded_tables.specs.Records.{Gives, IsReady, asked}
 use Rattle.table_model.specs.Loading.{Record, row_limit}
 use Rattle.loaded_tables.proofs.loading.read_rows.Given as goal
 

@@ -1,7 +1,7 @@
 use Rattle.std.proofs.Common.{◌∙◌, ◌≡◌, ◌≢◌, arith, length}
 use Rattle.csv.specs.Records.{fields_of}
 use Rattle.loaded_tables.proofs.RowLemmas.{late_row, plain_row, unequal_row}
-use Rattle.table_parts.specs.GeometryFields.{reading}
+use Rattle.loaded_tables.specs.GeometryFields.{reading}
 use Rattle.loaded_tables.proofs.typed_rows.checked_row.Goals as goal
 
 pub returns-then-len-layout-clause-row : goal.returns-then-len-layout-clause-row

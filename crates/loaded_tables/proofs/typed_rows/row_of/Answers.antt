@@ -3,7 +3,7 @@ use Rattle.std.proofs.lemmas.Result.{err_from_is_err_and}
 use Rattle.csv.specs.Records.{fields_of}
 use Rattle.loaded_tables.proofs.EachLemmas.{passed_all, passed_fault, passed_more}
 use Rattle.loaded_tables.proofs.RowLemmas.{length-values}
-use Rattle.table_parts.specs.GeometryFields.{reading}
+use Rattle.loaded_tables.specs.GeometryFields.{reading}
 use Rattle.table_model.specs.Loading.{row_of, values_of}
 use Rattle.table_model.specs.declared.faults.LoadFault.TheVariants as fault
 use Rattle.loaded_tables.proofs.typed_rows.row_of.Goals as goal

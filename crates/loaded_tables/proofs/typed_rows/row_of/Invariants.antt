@@ -1,7 +1,7 @@
 use Rattle.std.proofs.Common.{◌≡◌, map}
 use Rattle.csv.specs.Records.{fields_of}
 use Rattle.loaded_tables.proofs.EachLemmas.{Passed}
-use Rattle.table_parts.specs.GeometryFields.{reading}
+use Rattle.loaded_tables.specs.GeometryFields.{reading}
 use Rattle.table_model.specs.Loading.{Record, place_in, values_of}
 use Rattle.loaded_tables.proofs.typed_rows.row_of.Given as goal
 

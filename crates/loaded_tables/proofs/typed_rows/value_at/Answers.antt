@@ -1,7 +1,7 @@
 use Rattle.std.proofs.Common.{◌∙◌, ◌≡◌, ap, arith, get_or}
 use Rattle.csv.specs.Records.{fields_of}
 use Rattle.loaded_tables.proofs.RowLemmas.{value_at}
-use Rattle.table_parts.specs.GeometryFields.{reading}
+use Rattle.loaded_tables.specs.GeometryFields.{reading}
 use Rattle.loaded_tables.proofs.typed_rows.value_at.Goals as goal
 
 pub returns-clause-value : goal.returns-clause-value

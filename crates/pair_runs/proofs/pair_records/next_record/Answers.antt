@@ -1,5 +1,5 @@
 use Rattle.csv.specs.Records.{fields_of}
-use Rattle.table_parts.proofs.ReadingLemmas.{taken}
+use Rattle.loaded_tables.proofs.ReadingLemmas.{taken}
 use Rattle.pair_runs.proofs.pair_records.next_record.Goals as goal
 
 pub returns-in-Ok-clause-takes : goal.returns-in-Ok-clause-takes

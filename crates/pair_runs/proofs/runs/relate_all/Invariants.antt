@@ -1,7 +1,7 @@
 use Rattle.std.proofs.Common.{◌≡◌, List, Option, [], ℕ}
 use Rattle.pair_runs.specs.Pairs.{Begins}
 use Rattle.pair_runs.proofs.PairLemmas.{Midway}
-use Rattle.table_parts.specs.Reading.{IsSteady}
+use Rattle.loaded_tables.specs.Reading.{IsSteady}
 use Rattle.pair_runs.proofs.runs.relate_all.Given as goal
 
 -- the lines of the records so far were written

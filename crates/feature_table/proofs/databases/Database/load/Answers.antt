@@ -5,7 +5,7 @@ use Rattle.std.proofs.lemmas.Result.{err_from_is_err_and}
 use Rattle.feature_table.proofs.DatabaseLemmas.{loads_texts}
 use Rattle.loaded_tables.proofs.GeometryFieldLemmas.{tables_database}
 use Rattle.loaded_tables.proofs.ReaderRecords.{length-each}
-use Rattle.table_parts.specs.GeometryFields.{reading}
+use Rattle.loaded_tables.specs.GeometryFields.{reading}
 use Rattle.feature_table.proofs.databases.Database.load.Goals as goal
 
 pub invariant_of-result : goal.invariant_of-result

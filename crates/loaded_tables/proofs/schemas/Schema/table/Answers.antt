@@ -1,7 +1,7 @@
 use Rattle.std.proofs.Common.{◌≡◌, [], ◌∷◌, subst, sym, true}
 use Rattle.table_model.specs.Definitions.{lawful}
 use Rattle.table_model.specs.declared.definitions.TableDef.{TableDef}
-use Rattle.table_parts.specs.GeometryFields.{ShapeValue}
+use Rattle.loaded_tables.specs.GeometryFields.{ShapeValue}
 use Rattle.loaded_tables.proofs.SchemaLemmas.{lawful_one}
 use Rattle.loaded_tables.proofs.schemas.Schema.table.Goals as goal
 

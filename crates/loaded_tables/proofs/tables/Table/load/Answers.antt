@@ -1,5 +1,5 @@
 use Rattle.loaded_tables.proofs.ReaderRecords.{of_reader}
-use Rattle.table_parts.specs.GeometryFields.{reading}
+use Rattle.loaded_tables.specs.GeometryFields.{reading}
 use Rattle.loaded_tables.proofs.tables.Table.load.Goals as goal
 
 pub returns-clause-records : goal.returns-clause-records

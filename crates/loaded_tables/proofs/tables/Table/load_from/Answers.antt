@@ -3,9 +3,9 @@ use Rattle.std.proofs.lemmas.Result.{err_from_is_err_and}
 use Rattle.csv.specs.Records.{fields_of}
 use Rattle.loaded_tables.proofs.LoadLemmas.{header_fails, no_header, rows_fail, rows_pass}
 use Rattle.loaded_tables.proofs.GeometryFieldLemmas.{table_rows}
-use Rattle.table_parts.specs.Records.{asked}
-use Rattle.table_parts.specs.GeometryFields.{reading, takes}
-use Rattle.table_parts.specs.Indexes.{AreIndexes}
+use Rattle.loaded_tables.specs.Records.{asked}
+use Rattle.loaded_tables.specs.GeometryFields.{reading, takes}
+use Rattle.loaded_tables.specs.Indexes.{AreIndexes}
 use Rattle.table_model.specs.FeatureTables.{AreRows}
 use Rattle.table_model.specs.Loading.{load}
 use Rattle.loaded_tables.proofs.tables.Table.load_from.Goals as goal

@@ -1,0 +1,99 @@
+/* Positions in a kept polygon, by the C library and by GEOS's C interface, for prepared.py.
+ *
+ *   prepared HOW TIMES < INPUT
+ *
+ * The first line of INPUT is the text of a polygon, each further line a position, as `x y`. HOW is the call that is asked:
+ *
+ *   locate          sfq_locate, with the coordinates
+ *   holds           sfq_holds of intersects, with points that are kept
+ *   contains        the same of contains
+ *   geos            GEOSPreparedIntersects_r, with points that are kept
+ *   geos_contains   GEOSPreparedContains_r, with points that are kept
+ *
+ * Everything is read, tested and kept once, then all positions are asked for TIMES times. It prints how many of them the call
+ * holds of.
+ */
+#define GEOS_USE_ONLY_R_API
+#include <geos_c.h>
+#include <sfq.h>
+#include <stdio.h>
+#include <stdlib.h>
+#include <string.h>
+
+#define MOST 20000
+
+static int32_t xs[MOST], ys[MOST];
+static int count;
+static char *line;
+static size_t room;
+
+static void quiet(const char *message, void *data) { (void)message; (void)data; }
+
+static int by_library(const char *how, long times, size_t length) {
+    sfq_geometry polygon = SFQ_EMPTY, *points = calloc((size_t)count, sizeof *points);
+    uint32_t relation = strcmp(how, "contains") == 0 ? SFQ_CONTAINS : SFQ_INTERSECTS;
+    int is_by_position = strcmp(how, "locate") == 0;
+    long found = 0;
+    if (sfq_read(line, length, &polygon, NULL) != SFQ_OK) return 5;
+    for (int i = 0; i < count && !is_by_position; i++) {
+        char text[64];
+        int size = snprintf(text, sizeof text, "POINT(%d %d)", xs[i], ys[i]);
+        if (sfq_read(text, (size_t)size, &points[i], NULL) != SFQ_OK) return 5;
+    }
+    for (long k = 0; k < times; k++) {
+        found = 0;
+        for (int i = 0; i < count; i++) {
+            uint32_t place = SFQ_EXTERIOR;
+            bool holds = false;
+            if (is_by_position) {
+                if (sfq_locate(&polygon, xs[i], ys[i], &place) != SFQ_OK) return 5;
+                found += place != SFQ_EXTERIOR;
+            } else {
+                if (sfq_holds(relation, &polygon, &points[i], &holds) != SFQ_OK) return 5;
+                found += holds;
+            }
+        }
+    }
+    for (int i = 0; i < count; i++) sfq_free(&points[i]);
+    sfq_free(&polygon);
+    free(points);
+    printf("%ld\n", found);
+    return 0;
+}
+
+static int by_geos(const char *how, long times) {
+    GEOSContextHandle_t geos = GEOS_init_r();
+    GEOSContext_setErrorMessageHandler_r(geos, quiet, NULL);
+    GEOSContext_setNoticeMessageHandler_r(geos, quiet, NULL);
+    GEOSWKTReader *reader = GEOSWKTReader_create_r(geos);
+    GEOSGeometry *polygon = GEOSWKTReader_read_r(geos, reader, line);
+    GEOSGeometry **points = calloc((size_t)count, sizeof *points);
+    int is_contains = strcmp(how, "geos_contains") == 0;
+    long found = 0;
+    if (polygon == NULL || GEOSisValid_r(geos, polygon) != 1) return 5;
+    const GEOSPreparedGeometry *kept = GEOSPrepare_r(geos, polygon);
+    for (int i = 0; i < count; i++) points[i] = GEOSGeom_createPointFromXY_r(geos, xs[i], ys[i]);
+    for (long k = 0; k < times; k++) {
+        found = 0;
+        for (int i = 0; i < count; i++) {
+            if (is_contains) found += GEOSPreparedContains_r(geos, kept, points[i]) == 1;
+            else found += GEOSPreparedIntersects_r(geos, kept, points[i]) == 1;
+        }
+    }
+    printf("%ld\n", found);
+    return 0;
+}
+
+int main(int number, char **words) {
+    ssize_t length;
+    int x, y;
+    if (number != 3) return 2;
+    length = getline(&line, &room, stdin);
+    if (length < 1) return 6;
+    line[--length] = '\0';
+    while (count < MOST && scanf("%d %d", &x, &y) == 2) {
+        xs[count] = x;
+        ys[count++] = y;
+    }
+    return strncmp(words[1], "geos", 4) == 0 ? by_geos(words[1], atol(words[2])) : by_library(words[1], atol(words[2]), (size_t)length);
+}

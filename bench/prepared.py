@@ -1,0 +1,83 @@
+#!/usr/bin/env python3
+"""Measures points in a kept polygon by the C library beside GEOS's prepared geometries, by `prepared.c`.
+
+A polygon of 5, 100, 1,000 and 9,999 positions is read, tested and kept once. Then 1,000 positions around it are asked for:
+whether each intersects it, and whether it contains each. Per position it prints the instructions that valgrind counts, and with
+`--time` the nanoseconds of processor too; reading, testing and keeping are left out, being what a run with no turns takes.
+
+It needs Python's standard library, valgrind, gcc and `libgeos-dev` from the distribution's packages, and the library: run
+`./build --library` once. It is no test: the gate doesn't run it.
+"""
+
+import argparse
+import pathlib
+import random
+import subprocess
+import sys
+import tempfile
+
+from areas import SPAN, ring, star
+from timing import ROOT, figure, instructions, measure, print_columns, print_heads, ratios
+
+LIBRARY = ROOT / "library" / "out" / "libsfq.a"
+SIZES = (5, 100, 1_000, 9_999)
+POINTS = 1_000
+# What is asked, by the library and by GEOS.
+ASKED = [("position, intersects", "locate", "geos"), ("point, intersects", "holds", "geos"), ("point, contains", "contains", "geos_contains")]
+
+
+def built(folder):
+    """Compiles the program that asks, and returns its path."""
+    if not LIBRARY.exists():
+        sys.exit("the library isn't there: run ./build --library once")
+    program = folder / "prepared"
+    source = pathlib.Path(__file__).resolve().parent / "prepared.c"
+    words = ["gcc", "-O2", "-Wall", "-o", program, source, f"-I{ROOT}/library", LIBRARY, "-lgeos_c"]
+    subprocess.run([str(it) for it in words], check=True)
+    return program
+
+
+def write_input(path, size):
+    """Writes a polygon of so many positions, its closing one counted, and the positions that are asked for."""
+    chance = random.Random(size)
+    lines = [f"POLYGON({ring(star(size - 1)[0])})"]
+    lines += [f"{chance.randint(-SPAN, SPAN)} {chance.randint(-SPAN, SPAN)}" for _ in range(POINTS)]
+    path.write_text("\n".join(lines) + "\n")
+
+
+def beyond_start(run, turns):
+    """What one turn takes for each position."""
+    return (run(turns) - run(0)) / turns / POINTS
+
+
+def main():
+    parser = argparse.ArgumentParser(description=__doc__.splitlines()[0])
+    parser.add_argument("--time", action="store_true", help="nanoseconds too")
+    is_timed = parser.parse_args().time
+    units = ["instructions", "nanoseconds"] if is_timed else ["instructions"]
+    with tempfile.TemporaryDirectory() as room:
+        folder = pathlib.Path(room)
+        program, given = built(folder), folder / "input"
+        print_heads(["asked", "positions", "unit", "sfq", "GEOS", "ratio", "to the best"])
+        for what, ours, theirs in ASKED:
+            for size in SIZES:
+                write_input(given, size)
+                for unit in units:
+                    taken, found = [], []
+                    for how in (ours, theirs):
+                        if unit == "instructions":
+                            taken.append(beyond_start(lambda turns: instructions([program, how, turns], folder, given), 2))
+                        else:
+                            def seconds(turns):
+                                return min(measure([program, how, turns], folder, given)[1] for _ in range(3))
+
+                            taken.append(beyond_start(seconds, 300) * 1e9)
+                        measure([program, how, 1], folder, given)
+                        found.append((folder / "output").read_text())
+                    if found[0] != found[1]:
+                        sys.exit(f"{what}, {size} positions: {found[0]} and {found[1]} are found")
+                    print_columns([what, f"{size:,}", unit, figure(taken[0]), *ratios(taken[0], taken[1:])])
+
+
+if __name__ == "__main__":
+    main()

@@ -1,0 +1,15 @@
+use Rattle.std.proofs.Common.{◌≡◌, ◌∙◌, ap, codes}
+use Rattle.std.proofs.lemmas.Result.{IfOk-weaker}
+use Rattle.clap.specs.Simple.{app_of_fields}
+use Rattle.clap.specs.Words.{app_of, new_app}
+use Rattle.command_words.proofs.CommandLemmas.{word-added}
+use Rattle.command_words.proofs.fault_command.Goals as goal
+
+pub returns : goal.returns
+returns c =
+    let bare_is : app_of c.after_help.result ≡ new_app (codes "fault") =
+    ap app_of_fields c.after_help.ensures ∙ ap app_of_fields c.about-fault.ensures ∙ c.new.ensures.app in
+    IfOk-weaker c.arg.result _ _
+    (λ command added. word-added c.after_help.result command c.code_word.result _ _ bare_is c.code_word.ensures.local
+    c.code_word.ensures.rule added)
+    c.arg.ensures

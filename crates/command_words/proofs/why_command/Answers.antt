@@ -1,0 +1,17 @@
+use Rattle.std.proofs.Common.{◌≡◌, ◌∙◌, ap, codes}
+use Rattle.std.proofs.lemmas.Result.{IfOk-weaker}
+use Rattle.clap.specs.Simple.{app_of_fields}
+use Rattle.clap.specs.Words.{app_of, new_app}
+use Rattle.command_words.proofs.CommandLemmas.{word-added}
+use Rattle.command_words.proofs.why_command.Goals as goal
+
+pub returns : goal.returns
+returns c =
+    let bare_is : app_of c.after_help-why.result ≡ new_app (codes "why") =
+    ap app_of_fields c.after_help-why.ensures ∙ ap app_of_fields c.about.ensures ∙ c.new.ensures.app in
+    let first_is = word-added c.after_help-why.result c.in_ok-arg.field-0 c.first_word.result _ _ bare_is c.first_word.ensures.local
+    c.first_word.ensures.rule c.in_ok-arg.ensures in
+    IfOk-weaker c.arg-2.result _ _
+    (λ command added. word-added c.in_ok-arg.field-0 command c.other_word.result _ _ first_is c.other_word.ensures.local
+    c.other_word.ensures.rule added)
+    c.arg-2.ensures

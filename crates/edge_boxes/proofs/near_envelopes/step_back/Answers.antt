@@ -1,0 +1,24 @@
+use Rattle.std.proofs.Common.{◌≡◌, ◌<◌, false, arith, rules}
+use Rattle.geometry_model.specs.Envelopes.{overlap}
+use Rattle.edge_boxes.proofs.BoxFacts.{covered_within}
+use Rattle.edge_boxes.proofs.Steps.{box_before}
+use Rattle.edge_boxes.proofs.Near.{skip_back, enter_back}
+use Rattle.edge_boxes.proofs.near_envelopes.step_back.Goals as goal
+
+pub overflow_sub-next-2 : goal.overflow_sub-next-2
+overflow_sub-next-2 c = (box_before c.args.boxes.now c.args.edges.now c.args.place c.index-boxes-place.result c.requires.boxes c.requires.first c.requires.last c.index-boxes-place.is).subtree
+
+pub returns-then-is_outside : goal.returns-then-is_outside
+returns-then-is_outside c =
+    let behind : c.covered-first.result < c.args.left = search rules in
+    skip_back c.args.boxes.now c.args.edges.now c.args.bounds.now c.args.place c.args.left c.covered-first.result c.index-boxes-place.result c.requires.boxes c.requires.first c.requires.last c.index-boxes-place.is
+    c.requires.left c.covered-first.ensures behind (c.is_outside.ensures c.if-is_outside.true)
+
+pub last_in_run-requires : goal.last_in_run-requires
+last_in_run-requires c =
+    let h = covered_within c.args.boxes.now c.args.edges.now c.args.place c.requires.boxes c.requires.last in
+    let k = c.requires.left in
+    omega (arith, h, k)
+
+pub returns : goal.returns
+returns c = enter_back c.args.boxes.now c.args.edges.now c.args.bounds.now c.args.place c.args.left c.index-boxes-place.result c.requires.boxes c.requires.first c.requires.last c.index-boxes-place.is c.requires.left c.if-last-eq0.false

@@ -1,0 +1,2 @@
+pub mod BoxWords
+pub mod ValidParts

@@ -1,0 +1,5 @@
+pub mod Kept
+pub mod Numbers
+pub mod Refusals
+pub mod Relations
+pub mod Texts

@@ -1,0 +1,111 @@
+//! The indexes of a table's geometry columns.
+
+ghost use Rattle.std.specs.Prelude.{◌≡◌, IfOk, None, Some, map};
+ghost use Rattle.loaded_tables.specs.GeometryFields.{GeometryValue, takes};
+ghost use Rattle.loaded_tables.specs.Indexes.{HoldsNone, ListColumns, absent, column_envelopes, field_envelope, field_in};
+ghost use Rattle.table_model.specs.FeatureTables.{AreRows};
+ghost use Rattle.table_model.specs.Meanings as plain;
+
+use crate::geometry_fields::Geometry;
+use crate::schemas::{ColumnType, TableDef};
+use rtree::{Envelope, EnvelopeIndex};
+use sqlite_items::{self as items, Items};
+use std::alloc::{AllocError, Global};
+use table_model::values::Value;
+
+/// An index for each geometry column, and one that all other columns share, which lists an absent envelope for each row.
+#[derive(Drop)]
+pub struct Indexes<I> {
+    /// For each column its own index, where there is one.
+    own: Vec<Option<I>>,
+    /// The index of a column that holds no geometry.
+    bare: I,
+}
+
+impl<I: EnvelopeIndex + Drop> Indexes<I> {
+    /// The indexes of the columns of a table. It fails only when memory runs out.
+    pub fn build(
+        alloc: Global,
+        table: &TableDef,
+        rows: &[Items<Value<Geometry>>],
+    ) -> Result<Indexes<I>, AllocError>
+        requires { AreRows takes table.now rows.now }
+        ensures { IfOk result (λ indexes. ListColumns I.indexed rows.now indexes) }
+    {
+        let columns = table.columns.as_slice();
+        let mut own = Vec::new(alloc);
+        for place in 0..columns.len() {
+            own.push(own_index(alloc, &columns[place].column_type, rows, place)?)?;
+        }
+        let bare = bare_index(alloc, rows)?;
+        Ok(Indexes { own, bare })
+    }
+
+    /// Lends the index of a column.
+    pub fn get(&self, column: usize) -> &I
+        ensures { (rows : plain.Table GeometryValue)
+            → ListColumns I.indexed rows self.now
+            → I.indexed result.now ≡ column_envelopes column rows }
+    {
+        match self.own.get(column) {
+            Some(Some(index)) => index,
+            _ => &self.bare,
+        }
+    }
+}
+
+/// The index of a column of geometries; other columns have none of their own.
+fn own_index<I: EnvelopeIndex + Drop>(
+    alloc: Global,
+    column_type: &ColumnType,
+    rows: &[Items<Value<Geometry>>],
+    column: usize,
+) -> Result<Option<I>, AllocError>
+    ensures own { IfOk result
+        (λ own. (index : I) → own ≡ Some index → I.indexed index ≡ column_envelopes column rows.now) }
+    ensures none { IfOk result (λ own. own ≡ None → HoldsNone column_type.now) }
+{
+    match column_type {
+        ColumnType::Integer | ColumnType::Text => Ok(None),
+        ColumnType::Geometry(_) => Ok(Some(index_of(alloc, rows, column)?)),
+    }
+}
+
+/// The index of what is in a column.
+fn index_of<I: EnvelopeIndex + Drop>(
+    alloc: Global,
+    rows: &[Items<Value<Geometry>>],
+    column: usize,
+) -> Result<I, AllocError>
+    ensures { IfOk result (λ index. I.indexed index ≡ column_envelopes column rows.now) }
+{
+    let mut envelopes = Vec::with_capacity(alloc, rows.len())?;
+    for row in rows {
+        envelopes.push(envelope_in(row.as_slice(), column))?;
+    }
+    I::build(alloc, envelopes.as_slice())
+}
+
+/// The index of as many absent envelopes as there are rows.
+fn bare_index<I: EnvelopeIndex + Drop>(
+    alloc: Global,
+    rows: &[Items<Value<Geometry>>],
+) -> Result<I, AllocError>
+    ensures { IfOk result (λ index. I.indexed index ≡ map absent rows.now) }
+{
+    let mut envelopes = Vec::with_capacity(alloc, rows.len())?;
+    for _row in rows {
+        envelopes.push(None)?;
+    }
+    I::build(alloc, envelopes.as_slice())
+}
+
+/// The envelope of what is in a column of a row.
+fn envelope_in(row: &[Value<Geometry>], column: usize) -> Option<Envelope>
+    ensures { result ≡ field_envelope (field_in column row.now) }
+{
+    match items::at(row, column) {
+        Some(Value::Geometry(geometry)) => Envelope::of(geometry),
+        _ => None,
+    }
+}

@@ -1,7 +1,0 @@
--- None before this one clashes with a later one, and the boxes are those of the edges.
-use Rattle.std.proofs.Common.{◌≡◌}
-use Rattle.ring_tests.specs.EdgeRuns.{edges_clash, clash_after}
-use Rattle.near_edges.proofs.near_edges.clash_at_all.Given as goal
-
-abbrev pub invariant-loop-i : goal.invariant-loop-i
-invariant-loop-i l = edges_clash l.edges ≡ clash_after l.edges l.i

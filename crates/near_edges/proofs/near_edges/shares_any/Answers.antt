@@ -1,8 +1,0 @@
-use Rattle.std.proofs.Common.{◌≡◌, ◌∙◌, ◌==◌, ℕ, not, sym, ap, length, vec_len, arith}
-use Rattle.near_edges.proofs.Near.{shares_where_found}
-use Rattle.near_edges.proofs.near_edges.shares_any.Goals as goal
-
-pub returns-clause-shares : goal.returns-clause-shares
-returns-clause-shares c =
-    let counted : vec_len c.sharing.new.found ≡ length c.sharing.new.found.items = omega (arith, c.sharing.new.found.ok.0) in
-    ap not (c.is_empty.ensures ∙ ap (λ (n : ℕ). n == 0) counted) ∙ sym (shares_where_found c.args.f.now c.args.edges.now c.sharing.new.found.items c.in_ok-sharing.ensures.exact)

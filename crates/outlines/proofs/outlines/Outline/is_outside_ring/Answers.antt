@@ -1,7 +1,0 @@
-use Rattle.std.proofs.Common.{◌∙◌, ap, not}
-use Rattle.geometry_model.specs.Geometries.{lines}
-use Rattle.outlines.proofs.PartFacts.{not_inside}
-use Rattle.outlines.proofs.outlines.Outline.is_outside_ring.Goals as goal
-
-pub returns : goal.returns
-returns c = ap not c.is_inside_boxed.ensures ∙ not_inside (lines c.args.self.now) c.args.outer c.args.ring c.requires.outer c.requires.ring

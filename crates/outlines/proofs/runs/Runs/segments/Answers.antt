@@ -1,8 +1,0 @@
-use Rattle.std.proofs.Common.{◌∙◌, ap, sym}
-use Rattle.std.specs.List.{flat_map}
-use Rattle.geometries.proofs.CutFacts.{cut_joined}
-use Rattle.outlines.proofs.runs.Runs.segments.Goals as goal
-
-pub returns : goal.returns
-returns c =
-    c.as_slice.ensures.value ∙ (sym (cut_joined 0 c.self.inside.ends.items c.self.inside.segments.items c.self.invariant) ∙ ap (flat_map (λ run. run)) c.self.view_is)

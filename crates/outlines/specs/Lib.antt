@@ -1,4 +1,0 @@
-pub mod FaultOrder
-pub mod Neighbours
-pub mod Outlines
-pub mod Runs

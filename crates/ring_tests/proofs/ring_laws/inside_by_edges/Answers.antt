@@ -1,5 +1,0 @@
-use Rattle.ring_tests.proofs.Runs.{inside_by_edges}
-use Rattle.ring_tests.proofs.ring_laws.inside_by_edges.Goals as goal
-
-pub returns : goal.returns
-returns c = inside_by_edges

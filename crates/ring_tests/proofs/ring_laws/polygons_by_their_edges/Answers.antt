@@ -1,5 +1,0 @@
-use Rattle.ring_tests.proofs.Runs.{polygons_by_their_edges}
-use Rattle.ring_tests.proofs.ring_laws.polygons_by_their_edges.Goals as goal
-
-pub returns : goal.returns
-returns c = polygons_by_their_edges

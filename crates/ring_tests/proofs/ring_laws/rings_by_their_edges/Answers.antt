@@ -1,5 +1,0 @@
-use Rattle.ring_tests.proofs.Runs.{rings_by_their_edges}
-use Rattle.ring_tests.proofs.ring_laws.rings_by_their_edges.Goals as goal
-
-pub returns : goal.returns
-returns c = rings_by_their_edges

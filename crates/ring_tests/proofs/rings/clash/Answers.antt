@@ -1,5 +1,0 @@
-use Rattle.std.proofs.Common.{rules}
-use Rattle.ring_tests.proofs.rings.clash.Goals as goal
-
-pub returns-then-j-count : goal.returns-then-j-count
-returns-then-j-count c = search rules

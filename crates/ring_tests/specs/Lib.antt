@@ -1,2 +1,0 @@
-pub mod EdgeRuns
-pub mod RunLaws

@@ -1,5 +1,0 @@
-use Rattle.std.proofs.Common.{rules}
-use Rattle.table_parts.proofs.indexes.envelope_in.Goals as goal
-
-pub returns-in-Some-Geometry : goal.returns-in-Some-Geometry
-returns-in-Some-Geometry c = search rules

@@ -1,0 +1,29 @@
+-- Each exit: a verdict is found and written, or the text is refused.
+use Rattle.std.proofs.Common.{Err, Ok, refl}
+use Rattle.text_commands.proofs.explained.show_verdict.Goals as goal
+
+pub returns-in-Ok : goal.returns-in-Ok
+returns-in-Ok g c = record {
+  end = c.put_verdict.ensures.end;
+  ends = record {
+    found = Ok c.in-Ok.verdict;
+    holds = c.in-Ok.ensures.ok;
+    refused = tt;
+    rest = c.put_verdict.ensures.ends;
+  };
+  returned = c.put_verdict.ensures.returned;
+  reported = c.put_verdict.ensures.reported;
+}
+
+pub returns-in-Err : goal.returns-in-Err
+returns-in-Err g c = record {
+  end = Err c.in-Err.failure;
+  ends = record {
+    found = Err c.in-Err.failure;
+    holds = tt;
+    refused = c.in-Err.ensures.failure;
+    rest = (refl, refl);
+  };
+  returned = c.failed.ensures.status;
+  reported = c.failed.ensures.line;
+}

@@ -1,0 +1,49 @@
+-- What the command `why` means, and the ends that it may have.
+use Rattle.std.specs.Prelude.{◌≡◌, ℕ, List, codes, Option, IfErr, IfOk, Result}
+use Rattle.std.specs.Fn.{Mut}
+use denote.Ref.{Bor}
+use Rattle.failures.specs.declared.failure.Failure.{Failure}
+use Rattle.reasons.specs.FaultTexts.{reason_text}
+use Rattle.reasons.specs.WitnessTexts.{witnesses_text}
+use Rattle.table_model.specs.RunOutcomes.{MatrixOf}
+use Rattle.text_commands.specs.Ends.{End, PutsText, Then}
+use Rattle.text_commands.specs.TextCommands.{OverTexts, OverWord}
+use Rattle.text_reasons.specs.TextVerdicts.{IsVerdictOf, spelled_geometry}
+use Rattle.text_reasons.specs.TextWitnesses.{ShowsTexts}
+use Rattle.text_reasons.specs.declared.verdicts.Verdict.{Verdict}
+use Rattle.text_reasons.specs.declared.verdicts.Verdict.TheVariants as verdicts
+use Rattle.text_relation.specs.Relations.{IsFailureOf, relation}
+use Rattle.witnesses.specs.Shown.{witness_at}
+use Rattle.witnesses.specs.declared.witness.Witnesses.{Witnesses}
+use Rattle.word_texts.specs.GivenTexts.{ReadsGeometry}
+
+-- the line of a verdict: `valid`, or the fault and its place
+abbrev pub verdict_text : Verdict → List ℕ
+verdict_text verdicts.Valid = codes "valid\n"
+verdict_text (verdicts.Faulty fault place) = reason_text fault place
+
+-- showing the cells of the matrix of two texts ends so: witnesses of the cells are found, and their nine lines written; or the
+-- refusal of `relate` ends it, or running out of memory
+pub record ShowsCells {S : Type 0} (taken : S → Option (List ℕ)) (failures : S → ℕ) (old new : S) (first second : List ℕ) (end : End) : Type 0 where
+  pub found : Result Witnesses Failure
+  pub shows : IfOk found (ShowsTexts first second)
+  pub refused : (matrix : MatrixOf) → IfErr found (IsFailureOf (relation matrix first second))
+  pub rest : Then found (λ w. PutsText taken failures old new (witnesses_text (witness_at w)) end) end (new ≡ old)
+
+-- showing whether the geometry of a text is valid ends so: the line of the verdict on it is written; or the refusal of the text ends
+-- it, or running out of memory
+pub record ShowsVerdict {S : Type 0} (taken : S → Option (List ℕ)) (failures : S → ℕ) (old new : S) (text : List ℕ) (end : End) : Type 0 where
+  pub found : Result Verdict Failure
+  pub holds : IfOk found (IsVerdictOf text)
+  pub refused : IfErr found (IsFailureOf (spelled_geometry text))
+  pub rest : Then found (λ v. PutsText taken failures old new (verdict_text v) end) end (new ≡ old)
+
+module _ {F R S : Type 0} (g : Mut F (Bor (List ℕ) × Unit {0}) (Option R)) (remaining : R → Option (List ℕ)) (taken : S → Option (List ℕ)) (failures : S → ℕ) (old new : S) where
+  -- showing the cells of the matrix of the geometries that two words give ends so
+  abbrev pub ExplainsCells : F → List ℕ → List ℕ → End → Type 0
+  ExplainsCells = OverTexts g remaining (ShowsCells taken failures old new) (new ≡ old)
+
+  -- showing whether the geometry that a word gives is valid ends so
+  abbrev pub ExplainsValidity : F → List ℕ → End → Type 0
+  ExplainsValidity opener word end =
+      OverWord g (ReadsGeometry remaining (codes "first")) opener word (λ next text ending. ShowsVerdict taken failures old new text ending) end (new ≡ old)

@@ -1,0 +1,136 @@
+//! What the command `why` does: it shows where two geometries meet, or why one isn't valid.
+
+ghost use Rattle.std.specs.Prelude.{OnErr, OnOk};
+ghost use Rattle.std.specs.Io.KnownBytes.{Appends};
+ghost use Rattle.sinks.specs.Sinks.{AppendsFront, CountsFailure};
+ghost use Rattle.text_commands.specs.Ends.{PutsText, Serves};
+ghost use Rattle.text_commands.specs.Reasons.{ExplainsCells, ExplainsValidity, ShowsCells, ShowsVerdict, verdict_text};
+ghost use Rattle.reasons.specs.WitnessTexts.{witnesses_text};
+ghost use Rattle.witnesses.specs.Shown.{witness_at};
+
+use crate::served::failed;
+use failures::Failure;
+use reasons::{put_reason, put_witnesses};
+use sinks::{Sink, SinkFault, put_all};
+use std::alloc::Global;
+use std::io::Read;
+use text_reasons::{Verdict, reason_of_text, witnesses_of_texts};
+use witnesses::witness::Witnesses;
+use word_texts::geometry_text;
+
+/// Writes what shows each cell of the matrix of the geometries that two words give: nine lines in the order of the matrix. A
+/// word is well-known text, or `@` and the path of a file that has it; both texts are there before one is read as a geometry.
+/// It returns the status: 0, or that of the failure, whose line it writes to `err` (06-103r4, 6.1.15.2; which witness
+/// shows a cell, and the words: this project's choice).
+pub fn serve_witnesses<R: Read + Drop, F: FnMut(&str) -> Option<R>, S: Sink, E: Sink>(
+    alloc: Global,
+    first: &str,
+    second: &str,
+    mut opener: F,
+    out: &mut S,
+    err: &mut E,
+) -> u8
+    requires { F.IsAlwaysCallable opener }
+    ensures serves { Serves E.taken E.failures
+        (ExplainsCells F.FnMut R.remaining S.taken S.failures out.old out.new opener first.now second.now)
+        result err.old err.new }
+{
+    let first = match geometry_text(alloc, first, "first", &mut opener) {
+        Ok(text) => text,
+        Err(failure) => return failed(&failure, err),
+    };
+    let second = match geometry_text(alloc, second, "second", &mut opener) {
+        Ok(text) => text,
+        Err(failure) => return failed(&failure, err),
+    };
+    show_cells(alloc, first.as_slice(), second.as_slice(), out, err)
+}
+
+/// Writes what shows each cell of the matrix of two geometries.
+fn show_cells<S: Sink, E: Sink>(
+    alloc: Global,
+    first: &[u8],
+    second: &[u8],
+    out: &mut S,
+    err: &mut E,
+) -> u8
+    ensures { Serves E.taken E.failures
+        (ShowsCells S.taken S.failures out.old out.new first.now second.now)
+        result err.old err.new }
+{
+    match witnesses_of_texts(alloc, first, second) {
+        Ok(witnesses) => put_cells(&witnesses, out, err),
+        Err(failure) => failed(&failure, err),
+    }
+}
+
+/// Writes the nine lines of witnesses, and returns the status.
+fn put_cells<S: Sink, E: Sink>(witnesses: &Witnesses, out: &mut S, err: &mut E) -> u8
+    ensures { Serves E.taken E.failures
+        (PutsText S.taken S.failures out.old out.new (witnesses_text (witness_at witnesses.now)))
+        result err.old err.new }
+{
+    match put_witnesses(witnesses, out) {
+        Ok(()) => 0,
+        Err(_) => failed(&Failure::WriteFailed, err),
+    }
+}
+
+/// Writes whether the geometry that a word gives is valid: `valid`, or its first fault with a place of it, and a line feed. The
+/// word is well-known text, or `@` and the path of a file that has it. It returns the status: 0, or that of the failure, whose
+/// line it writes to `err` (06-103r4, 6.1.7, 6.1.11.1 and 6.1.14; the order of faults, which place and the words: this
+/// project's choice).
+pub fn serve_verdict<R: Read + Drop, F: FnMut(&str) -> Option<R>, S: Sink, E: Sink>(
+    alloc: Global,
+    word: &str,
+    mut opener: F,
+    out: &mut S,
+    err: &mut E,
+) -> u8
+    requires { F.IsAlwaysCallable opener }
+    ensures serves { Serves E.taken E.failures
+        (ExplainsValidity F.FnMut R.remaining S.taken S.failures out.old out.new opener word.now)
+        result err.old err.new }
+{
+    let text = match geometry_text(alloc, word, "first", &mut opener) {
+        Ok(text) => text,
+        Err(failure) => return failed(&failure, err),
+    };
+    show_verdict(alloc, text.as_slice(), out, err)
+}
+
+/// Writes whether the geometry of a text is valid, and where it isn't.
+fn show_verdict<S: Sink, E: Sink>(alloc: Global, text: &[u8], out: &mut S, err: &mut E) -> u8
+    ensures { Serves E.taken E.failures
+        (ShowsVerdict S.taken S.failures out.old out.new text.now)
+        result err.old err.new }
+{
+    match reason_of_text(alloc, text) {
+        Ok(verdict) => put_verdict(&verdict, out, err),
+        Err(failure) => failed(&failure, err),
+    }
+}
+
+/// Writes the line of a verdict, and returns the status.
+fn put_verdict<S: Sink, E: Sink>(verdict: &Verdict, out: &mut S, err: &mut E) -> u8
+    ensures { Serves E.taken E.failures
+        (PutsText S.taken S.failures out.old out.new (verdict_text verdict.now))
+        result err.old err.new }
+{
+    match put_line(verdict, out) {
+        Ok(()) => 0,
+        Err(_) => failed(&Failure::WriteFailed, err),
+    }
+}
+
+/// Writes the line of a verdict.
+fn put_line<S: Sink>(verdict: &Verdict, out: &mut S) -> Result<(), SinkFault>
+    ensures ok { OnOk result (Appends (S.taken out.old) (S.taken out.new) (verdict_text verdict.now)) }
+    ensures front { OnErr result (AppendsFront (S.taken out.old) (S.taken out.new) (verdict_text verdict.now)) }
+    ensures failures { CountsFailure (S.failures out.old) (S.failures out.new) result }
+{
+    match verdict {
+        Verdict::Valid => put_all(out, b"valid\n"),
+        Verdict::Faulty { fault, place } => put_reason(*fault, place, out),
+    }
+}

@@ -1,0 +1,137 @@
+//! What each of these commands does.
+
+ghost use Rattle.std.specs.Prelude.{◌≡◌, Ok};
+ghost use Rattle.failures.specs.Failures.{failure_line, failure_status};
+ghost use Rattle.text_commands.specs.Ends.{Serves, Writes};
+ghost use Rattle.text_commands.specs.TextCommands.{ExplainsFault, RelateEnds, RelatesFile, RelatesReader, RelatesWords, end_of};
+
+use failures::{Failure, fault_line, status};
+use fault_pages::page_of;
+use pair_runs::{Pairs, relate_pairs};
+use sinks::{Sink, put_all, put_parts};
+use std::alloc::Global;
+use std::io::Read;
+use text_relation::relate_texts;
+use word_texts::geometry_text;
+
+/// Writes the nine characters of the matrix of the geometries that two words give, and a line feed. A word is well-known text,
+/// or `@` and the path of a file that has it; both texts are there before one is read as a geometry. It returns the status: 0,
+/// or that of the failure, whose line it writes to `err`.
+pub fn serve_relate<R: Read + Drop, F: FnMut(&str) -> Option<R>, S: Sink, E: Sink>(
+    alloc: Global,
+    first: &str,
+    second: &str,
+    mut opener: F,
+    out: &mut S,
+    err: &mut E,
+) -> u8
+    requires { F.IsAlwaysCallable opener }
+    ensures serves { Serves E.taken E.failures
+        (RelatesWords F.FnMut R.remaining S.taken S.failures out.old out.new opener first.now second.now)
+        result err.old err.new }
+{
+    let first = match geometry_text(alloc, first, "first", &mut opener) {
+        Ok(text) => text,
+        Err(failure) => return failed(&failure, err),
+    };
+    let second = match geometry_text(alloc, second, "second", &mut opener) {
+        Ok(text) => text,
+        Err(failure) => return failed(&failure, err),
+    };
+    relate_given(alloc, first.as_slice(), second.as_slice(), out, err)
+}
+
+/// Writes the nine characters of the matrix of two geometries, and a line feed.
+fn relate_given<S: Sink, E: Sink>(
+    alloc: Global,
+    first: &[u8],
+    second: &[u8],
+    out: &mut S,
+    err: &mut E,
+) -> u8
+    ensures { Serves E.taken E.failures
+        (λ end. RelateEnds first.now second.now end (S.taken out.old) (S.taken out.new)
+        (S.failures out.old) (S.failures out.new))
+        result err.old err.new }
+{
+    let matrix = match relate_texts(alloc, first, second) {
+        Ok(matrix) => matrix,
+        Err(failure) => return failed(&failure, err),
+    };
+    match put_parts(out, &[matrix.text().as_slice(), b"\n"]) {
+        Ok(()) => 0,
+        Err(_) => failed(&Failure::WriteFailed, err),
+    }
+}
+
+/// Writes a line for each record of the file at a path: the matrix of its two geometries, or why one is refused. It returns
+/// the status: 0, 5 if at least one pair is refused, or that of the failure, whose line it writes to `err`.
+pub fn serve_pairs<R: Read + Drop, F: FnMut(&str) -> Option<R>, S: Sink, E: Sink>(
+    alloc: Global,
+    path: &str,
+    mut opener: F,
+    out: &mut S,
+    err: &mut E,
+) -> u8
+    requires { F.IsAlwaysCallable opener }
+    ensures serves { Serves E.taken E.failures
+        (RelatesFile F.FnMut R.remaining S.taken S.failures out.old out.new opener path.now)
+        result err.old err.new }
+{
+    match relate_file(alloc, opener(path), out) {
+        Ok(()) => 0,
+        Err(failure) => failed(&failure, err),
+    }
+}
+
+/// Relates the pairs of a file. None is a file that can't be opened.
+fn relate_file<R: Read + Drop, S: Sink>(
+    alloc: Global,
+    file: Option<R>,
+    out: &mut S,
+) -> Result<(), Failure<'static>>
+    ensures { RelatesReader R.remaining S.taken S.failures out.old out.new file result }
+{
+    let Some(reader) = file else {
+        return Err(Failure::Unreadable("pairs"));
+    };
+    match relate_pairs(alloc, reader, out) {
+        Ok(pairs) => ended(pairs),
+        Err(failure) => Err(failure),
+    }
+}
+
+/// How a run over pairs ended for the command: that a pair is refused is a failure, as it has a status.
+fn ended(pairs: Pairs) -> Result<(), Failure<'static>>
+    ensures { result ≡ end_of (Ok pairs) }
+{
+    match pairs {
+        Pairs::AllRelated => Ok(()),
+        Pairs::SomeRefused => Err(Failure::PairsRefused),
+    }
+}
+
+/// Writes the page of the fault with a code. It returns the status: 0, or that of the failure, whose line it writes to `err`.
+pub fn serve_fault<S: Sink, E: Sink>(code: &str, out: &mut S, err: &mut E) -> u8
+    ensures serves { Serves E.taken E.failures
+        (ExplainsFault S.taken S.failures out.old out.new code.now)
+        result err.old err.new }
+{
+    let Some(page) = page_of(code) else {
+        return failed(&Failure::UnknownCode, err);
+    };
+    match put_all(out, page.as_bytes()) {
+        Ok(()) => 0,
+        Err(_) => failed(&Failure::WriteFailed, err),
+    }
+}
+
+/// Writes the line of a failure, and returns its status. The status is the same if the line can't be written.
+pub fn failed<E: Sink>(failure: &Failure<'_>, err: &mut E) -> u8
+    ensures status { result ≡ failure_status failure.now }
+    ensures line { Writes (E.taken err.old) (E.taken err.new) (E.failures err.old)
+        (E.failures err.new) (failure_line failure.now) }
+{
+    let _ = fault_line(failure, err);
+    status(failure)
+}

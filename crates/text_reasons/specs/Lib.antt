@@ -1,0 +1,2 @@
+pub mod TextWitnesses
+pub mod TextVerdicts

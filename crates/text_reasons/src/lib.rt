@@ -1,0 +1,9 @@
+//! What the command `why` computes of texts: what shows each cell of the matrix of two geometries, and where a geometry isn't
+//! valid.
+#![tactic(auto)]
+
+pub mod cell_witnesses;
+pub mod verdicts;
+
+pub use cell_witnesses::witnesses_of_texts;
+pub use verdicts::{Verdict, reason_of_text};

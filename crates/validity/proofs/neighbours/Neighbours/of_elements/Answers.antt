@@ -1,0 +1,12 @@
+use Rattle.std.proofs.Common.{◌∙◌, ◌++◌, ◌∷◌, [], sym, ap}
+use Rattle.std.specs.List.{slice_get}
+use Rattle.geometry_model.specs.Geometries.{Geometry, elements}
+use Rattle.validity.specs.Neighbours.{element_envelope}
+use Rattle.validity.proofs.Envelopes.{mapped_next}
+use Rattle.validity.proofs.neighbours.Neighbours.of_elements.Goals as goal
+
+pub loop-element-preserved : goal.loop-element-preserved
+loop-element-preserved c =
+    mapped_next element_envelope (elements c.args.outline.now) c.loop-element.element c.element.result.now c.loop-element.envelopes.items c.push.new.self.items
+    (ap (λ (g : Geometry). slice_get (elements g) c.loop-element.element) (sym c.geometry-in-loop-element.ensures) ∙ c.element.ensures) c.loop-element.invariant
+    (c.in_ok-push.ensures.items ∙ ap (λ o. c.loop-element.envelopes.items ++ o ∷ []) c.envelope_of_rings.ensures)

@@ -1,0 +1,94 @@
+//! Which rings or polygons are near one: those whose envelopes meet its own.
+
+ghost use Rattle.std.specs.Prelude.{◌≡◌, ◌<◌, length, map, IfOk};
+ghost use Rattle.geometry_model.specs.Geometries as spec;
+ghost use Rattle.validity.specs.Neighbours.{near_one, either_envelope, ring_envelopes, element_envelope, element_envelopes};
+
+use crate::outlines::Outline;
+use geometries::LineString;
+use rtree::envelopes::joined;
+use rtree::{Envelope, EnvelopeIndex, RTree};
+use std::alloc::{AllocError, Global};
+use std::marker::Model;
+
+/// The envelopes of rings or polygons, by their numbers, and an index of them. Contracts see it as the list of envelopes.
+#[derive(Drop)]
+pub(crate) struct Neighbours {
+    envelopes: Vec<Option<Envelope>>,
+    index: RTree,
+}
+
+impl Model for Neighbours {
+    ghost use Rattle.std.specs.Prelude.{◌≡◌, List, Option};
+    ghost use Rattle.geometry_model.specs.Envelopes.{Envelope as Rectangle};
+
+    ghost Value = { List (Option Rectangle) };
+
+    ghost view = { λ n. n.envelopes.items };
+
+    ghost invariant = { λ n. n.index ≡ n.envelopes.items };
+}
+
+impl Neighbours {
+    /// The envelopes of the rings of an area. It fails only when memory runs out.
+    pub(crate) fn of_rings(alloc: Global, outline: &Outline) -> Result<Neighbours, AllocError>
+        ensures { IfOk result (λ neighbours. neighbours ≡ ring_envelopes outline.now) }
+    {
+        let mut envelopes = Vec::new(alloc);
+        for ring in 0..outline.ring_count() {
+            envelopes.push(Envelope::of_positions(outline.line(ring).positions()))?;
+        }
+        Neighbours::of(alloc, envelopes)
+    }
+
+    /// The envelopes of the polygons of an area. It fails only when memory runs out.
+    pub(crate) fn of_elements(alloc: Global, outline: &Outline) -> Result<Neighbours, AllocError>
+        ensures { IfOk result (λ neighbours. neighbours ≡ element_envelopes outline.now) }
+    {
+        let mut envelopes = Vec::new(alloc);
+        for element in 0..outline.geometry().element_count() {
+            envelopes.push(envelope_of_rings(outline.geometry().element(element)))?;
+        }
+        Neighbours::of(alloc, envelopes)
+    }
+
+    /// These envelopes, with an index of them.
+    fn of(alloc: Global, envelopes: Vec<Option<Envelope>>) -> Result<Neighbours, AllocError>
+        ensures { IfOk result (λ neighbours. neighbours ≡ envelopes.items) }
+    {
+        let index = RTree::build(alloc, envelopes.as_slice())?;
+        Ok(Neighbours { envelopes, index })
+    }
+
+    /// The numbers of those whose envelopes meet that of the one with this number, ascending, its own among them.
+    pub(crate) fn near(&self, alloc: Global, number: usize) -> Result<Vec<usize>, AllocError>
+        requires { number < length self.now }
+        ensures { IfOk result (λ near. near.items ≡ near_one self.now number) }
+    {
+        let mut near = Vec::new(alloc);
+        self.index.search(self.envelopes[number], &mut near)?;
+        Ok(near)
+    }
+}
+
+/// The smallest envelope that holds these two, each of which may be absent.
+fn either(one: Option<Envelope>, other: Option<Envelope>) -> Option<Envelope>
+    ensures { result ≡ either_envelope one other }
+{
+    match (one, other) {
+        (Some(e), Some(f)) => Some(joined(e, f)),
+        (Some(e), None) => Some(e),
+        (None, rest) => rest,
+    }
+}
+
+/// The envelope of all positions of some rings.
+fn envelope_of_rings(rings: &[LineString]) -> Option<Envelope>
+    ensures { result ≡ element_envelope rings.now }
+{
+    let mut all = None;
+    for ring in rings {
+        all = either(all, Envelope::of_positions(ring.positions()));
+    }
+    all
+}

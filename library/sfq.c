@@ -1,0 +1,262 @@
+/*
+ * The border between C and the proved calls of the crate sfq_c. Nothing here is proved: it hands in what those calls require.
+ * No pointer is null, also with a length of 0; what is written to is a value of its type before; a geometry is handed to one
+ * call, which puts it back into an empty slot; two geometries that are the same go to a call for one.
+ */
+#include "sfq.h"
+
+#include <string.h>
+
+/* ---- the proved calls, as crates/sfq_c/src declares them ---- */
+
+/* A kept geometry, and a slot for one. */
+struct kept {
+    void *at;
+};
+
+uint32_t sfq_proved_fault(const uint8_t *text, size_t length, sfq_fault *fault);
+uint32_t sfq_proved_relate_texts(const uint8_t *first, size_t first_length, const uint8_t *second, size_t second_length,
+                                 uint8_t *matrix, sfq_fault *fault);
+uint32_t sfq_proved_answer_texts(const uint8_t *first, size_t first_length, const uint8_t *second, size_t second_length,
+                                 uint8_t *matrix, bool *holds, sfq_fault *fault);
+uint32_t sfq_proved_read(const uint8_t *text, size_t length, struct kept *slot, sfq_fault *fault);
+void sfq_proved_free(struct kept kept);
+uint32_t sfq_proved_relate(struct kept first, struct kept second, uint8_t *matrix, struct kept *first_back,
+                           struct kept *second_back);
+uint32_t sfq_proved_relate_itself(struct kept kept, uint8_t *matrix, struct kept *back);
+uint32_t sfq_proved_holds(uint32_t relation, struct kept first, struct kept second, bool *answer, struct kept *first_back,
+                          struct kept *second_back);
+uint32_t sfq_proved_holds_itself(uint32_t relation, struct kept kept, bool *answer, struct kept *back);
+uint32_t sfq_proved_matches(struct kept first, struct kept second, const uint8_t *pattern, size_t length, bool *answer,
+                            struct kept *first_back, struct kept *second_back);
+uint32_t sfq_proved_matches_itself(struct kept kept, const uint8_t *pattern, size_t length, bool *answer, struct kept *back);
+uint32_t sfq_proved_text(struct kept kept, uint8_t *room, size_t size, size_t *length, struct kept *back);
+uint32_t sfq_proved_dimension(struct kept kept, struct kept *back);
+bool sfq_proved_is_empty(struct kept kept, struct kept *back);
+uint32_t sfq_proved_envelope(struct kept kept, int32_t *bounds, struct kept *back);
+uint32_t sfq_proved_locate(struct kept kept, int32_t x, int32_t y, uint32_t *place, struct kept *back);
+
+/* ---- what they require ---- */
+
+static const struct kept empty_slot = { NULL };
+
+/* A text as a pointer that isn't null. */
+static const uint8_t *bytes_of(const char *text)
+{
+    return (const uint8_t *)(text != NULL ? text : "");
+}
+
+/* The geometry, for a call that puts it back. */
+static struct kept taken(const sfq_geometry *geometry)
+{
+    struct kept kept = { geometry->kept };
+    return kept;
+}
+
+static bool is_there(const sfq_geometry *geometry)
+{
+    return geometry != NULL && geometry->kept != NULL;
+}
+
+static bool are_there(const sfq_geometry *first, const sfq_geometry *second)
+{
+    return is_there(first) && is_there(second);
+}
+
+/* The caller's fault, or one to write to where the caller wants none. */
+static sfq_fault *written(sfq_fault *fault, sfq_fault *other)
+{
+    return fault != NULL ? fault : other;
+}
+
+/* Nine characters with a 0 after them, where the status is SFQ_OK. */
+static int with_end(uint32_t status, const uint8_t *nine, char *matrix)
+{
+    if (status == SFQ_OK) {
+        memcpy(matrix, nine, 9);
+        matrix[9] = '\0';
+    }
+    return (int)status;
+}
+
+/* ---- the calls of sfq.h ---- */
+
+uint32_t sfq_version(void)
+{
+    return SFQ_VERSION;
+}
+
+int sfq_check(const char *text, size_t length, sfq_fault *fault)
+{
+    sfq_fault other = { 0, 0, 0, 0 };
+    return (int)sfq_proved_fault(bytes_of(text), length, written(fault, &other));
+}
+
+int sfq_relate_texts(const char *first, size_t first_length, const char *second, size_t second_length, char matrix[10],
+                     sfq_fault *fault)
+{
+    uint8_t nine[9] = { 0 };
+    sfq_fault other = { 0, 0, 0, 0 };
+    uint32_t status = sfq_proved_relate_texts(bytes_of(first), first_length, bytes_of(second), second_length, nine,
+                                              written(fault, &other));
+    return with_end(status, nine, matrix);
+}
+
+int sfq_answer_texts(const char *first, size_t first_length, const char *second, size_t second_length, char matrix[10],
+                     bool holds[SFQ_RELATIONS], sfq_fault *fault)
+{
+    uint8_t nine[9] = { 0 };
+    bool all[SFQ_RELATIONS] = { false };
+    sfq_fault other = { 0, 0, 0, 0 };
+    uint32_t status = sfq_proved_answer_texts(bytes_of(first), first_length, bytes_of(second), second_length, nine, all,
+                                              written(fault, &other));
+    if (status == SFQ_OK) {
+        memcpy(holds, all, sizeof all);
+    }
+    return with_end(status, nine, matrix);
+}
+
+int sfq_read(const char *text, size_t length, sfq_geometry *geometry, sfq_fault *fault)
+{
+    struct kept slot = empty_slot;
+    sfq_fault other = { 0, 0, 0, 0 };
+    uint32_t status;
+    if (geometry->kept != NULL) {
+        return SFQ_NO_GEOMETRY;
+    }
+    status = sfq_proved_read(bytes_of(text), length, &slot, written(fault, &other));
+    if (status == SFQ_OK) {
+        geometry->kept = slot.at;
+    }
+    return (int)status;
+}
+
+void sfq_free(sfq_geometry *geometry)
+{
+    if (is_there(geometry)) {
+        sfq_proved_free(taken(geometry));
+        geometry->kept = NULL;
+    }
+}
+
+int sfq_relate(sfq_geometry *first, sfq_geometry *second, char matrix[10])
+{
+    struct kept one = empty_slot, two = empty_slot;
+    uint8_t nine[9] = { 0 };
+    uint32_t status;
+    if (!are_there(first, second)) {
+        return SFQ_NO_GEOMETRY;
+    }
+    if (first->kept == second->kept) {
+        status = sfq_proved_relate_itself(taken(first), nine, &one);
+        two = one;
+    } else {
+        status = sfq_proved_relate(taken(first), taken(second), nine, &one, &two);
+    }
+    first->kept = one.at;
+    second->kept = two.at;
+    return with_end(status, nine, matrix);
+}
+
+int sfq_holds(uint32_t relation, sfq_geometry *first, sfq_geometry *second, bool *answer)
+{
+    struct kept one = empty_slot, two = empty_slot;
+    bool found = false;
+    uint32_t status;
+    if (!are_there(first, second)) {
+        return SFQ_NO_GEOMETRY;
+    }
+    if (first->kept == second->kept) {
+        status = sfq_proved_holds_itself(relation, taken(first), &found, &one);
+        two = one;
+    } else {
+        status = sfq_proved_holds(relation, taken(first), taken(second), &found, &one, &two);
+    }
+    first->kept = one.at;
+    second->kept = two.at;
+    if (status == SFQ_OK) {
+        *answer = found;
+    }
+    return (int)status;
+}
+
+int sfq_relate_pattern(sfq_geometry *first, sfq_geometry *second, const char *pattern, size_t length, bool *answer)
+{
+    struct kept one = empty_slot, two = empty_slot;
+    bool found = false;
+    uint32_t status;
+    if (!are_there(first, second)) {
+        return SFQ_NO_GEOMETRY;
+    }
+    if (first->kept == second->kept) {
+        status = sfq_proved_matches_itself(taken(first), bytes_of(pattern), length, &found, &one);
+        two = one;
+    } else {
+        status = sfq_proved_matches(taken(first), taken(second), bytes_of(pattern), length, &found, &one, &two);
+    }
+    first->kept = one.at;
+    second->kept = two.at;
+    if (status == SFQ_OK) {
+        *answer = found;
+    }
+    return (int)status;
+}
+
+int sfq_text(sfq_geometry *geometry, char *room, size_t size, size_t *length)
+{
+    struct kept back = empty_slot;
+    uint8_t nothing = 0;
+    uint32_t status;
+    if (!is_there(geometry)) {
+        return SFQ_NO_GEOMETRY;
+    }
+    status = sfq_proved_text(taken(geometry), room != NULL ? (uint8_t *)room : &nothing, room != NULL ? size : 0, length, &back);
+    geometry->kept = back.at;
+    return (int)status;
+}
+
+int sfq_dimension(sfq_geometry *geometry, uint32_t *dimension)
+{
+    struct kept back = empty_slot;
+    if (!is_there(geometry)) {
+        return SFQ_NO_GEOMETRY;
+    }
+    *dimension = sfq_proved_dimension(taken(geometry), &back);
+    geometry->kept = back.at;
+    return SFQ_OK;
+}
+
+int sfq_is_empty(sfq_geometry *geometry, bool *empty)
+{
+    struct kept back = empty_slot;
+    if (!is_there(geometry)) {
+        return SFQ_NO_GEOMETRY;
+    }
+    *empty = sfq_proved_is_empty(taken(geometry), &back);
+    geometry->kept = back.at;
+    return SFQ_OK;
+}
+
+int sfq_envelope(sfq_geometry *geometry, int32_t bounds[4])
+{
+    struct kept back = empty_slot;
+    uint32_t status;
+    if (!is_there(geometry)) {
+        return SFQ_NO_GEOMETRY;
+    }
+    status = sfq_proved_envelope(taken(geometry), bounds, &back);
+    geometry->kept = back.at;
+    return (int)status;
+}
+
+int sfq_locate(sfq_geometry *geometry, int32_t x, int32_t y, uint32_t *place)
+{
+    struct kept back = empty_slot;
+    uint32_t status;
+    if (!is_there(geometry)) {
+        return SFQ_NO_GEOMETRY;
+    }
+    status = sfq_proved_locate(taken(geometry), x, y, place, &back);
+    geometry->kept = back.at;
+    return (int)status;
+}

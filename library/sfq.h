@@ -1,0 +1,171 @@
+/*
+ * sfq: the DE-9IM matrix of two geometries in well-known text, exactly (OGC 06-103r4).
+ *
+ * Geometries are points, lines and areas on a grid of whole coordinates, each from -10,000,000 to 10,000,000, with at most
+ * 10,000 positions and 1,000 rings or elements. What each call returns is proved in the crate sfq_c, down to this interface.
+ *
+ * Statuses. Each call returns one of the statuses below. Unless it is SFQ_OK, what the call would have written is as it was
+ * before; what differs from that is said at the call.
+ *
+ * Pointers. A pointer to what a call writes must not be null, but for `fault`, which may be null where it isn't wanted. A text
+ * may be null where its length is 0. A text needs no 0 at its end, and is the caller's. What a call writes must not overlap
+ * anything else that it is handed.
+ *
+ * Geometries. An `sfq_geometry` is either empty, as SFQ_EMPTY makes it, or holds one geometry from sfq_read until sfq_free. A
+ * copy of the struct isn't a second geometry: use one of the two only. A call that fails leaves the geometries that it was handed
+ * as they were.
+ *
+ * Threads. A geometry serves one call at a time. Different geometries may serve calls in different threads at once, and a
+ * geometry may go from one thread to another. There is no other state.
+ *
+ * Memory. Calls take memory by malloc and realloc, and give it back by free before they return, but for what a geometry holds.
+ * Where memory is refused, the status is SFQ_OUT_OF_MEMORY. Calls were tested on stacks of 64 KB. No call may be made from a
+ * signal handler, or in the forked child of a process that has threads.
+ *
+ * Versions. The number in the library's name, libsfq.so.0, changes when a call, a struct or a number below changes or goes. A
+ * later version with the same number may add calls, and statuses for calls that are new.
+ */
+#ifndef SFQ_H
+#define SFQ_H
+
+#include <stdbool.h>
+#include <stddef.h>
+#include <stdint.h>
+
+#ifdef __cplusplus
+extern "C" {
+#endif
+
+/* The version of this header: 1,000,000 times the first number, 1,000 times the second, and the third. */
+#define SFQ_VERSION 1000
+
+/* What a call returns. */
+enum sfq_status {
+    SFQ_OK = 0,
+    SFQ_REFUSED = 1,        /* the first or only text isn't that of a valid geometry */
+    SFQ_SECOND_REFUSED = 2, /* the first text is, and the second isn't */
+    SFQ_OUT_OF_MEMORY = 3,
+    SFQ_UNKNOWN = 4,        /* no relation, pattern, type or position is written so */
+    SFQ_TOO_SMALL = 5,      /* the room is too small */
+    SFQ_NONE = 6,           /* there is no envelope: the geometry is empty */
+    SFQ_NO_GEOMETRY = 7     /* a geometry is empty that has to hold one, or holds one that has to be empty */
+};
+
+/*
+ * Why a text is refused: its first fault. `letter` is 'W' for a fault of the text and 'V' for one of the geometry. Parts are
+ * numbered from 0; rings through all elements of a geometry. What a fault doesn't use is 0.
+ *
+ *     W1  first: the byte, from 0, at which the text isn't well-known text, or at which it ends too soon
+ *     W2  first: the byte at which a number begins that isn't whole
+ *     W3  first: the byte at which a number begins that is past the limit
+ *     W4  too many positions, rings or elements
+ *     V1  first: the line or ring that has too few positions
+ *     V2  first: the ring that isn't closed
+ *     V3  first: the ring that touches or crosses itself
+ *     V4  first and second: the rings of one element that meet
+ *     V5  first: the hole that isn't inside its outer ring
+ *     V6  first and second: the holes one of which is inside the other
+ *     V7  first and second: the elements that meet
+ *     V8  first and second: the first element is inside the second
+ */
+typedef struct sfq_fault {
+    uint8_t letter;
+    uint8_t number;
+    size_t first;
+    size_t second;
+} sfq_fault;
+
+/* A geometry that a program keeps, so that it is read and checked once. */
+typedef struct sfq_geometry {
+    void *kept;
+} sfq_geometry;
+
+#define SFQ_EMPTY { NULL }
+
+/* The relations of two geometries (06-103r4, 6.1.15.3). The last three are patterns that engines besides have. */
+enum sfq_relation {
+    SFQ_EQUALS = 0,
+    SFQ_DISJOINT = 1,
+    SFQ_INTERSECTS = 2,
+    SFQ_TOUCHES = 3,
+    SFQ_CROSSES = 4,
+    SFQ_WITHIN = 5,
+    SFQ_CONTAINS = 6,
+    SFQ_OVERLAPS = 7,
+    SFQ_COVERS = 8,            /* they share a point, and none of the second is outside the first */
+    SFQ_COVERED_BY = 9,        /* they share a point, and none of the first is outside the second */
+    SFQ_CONTAINS_PROPERLY = 10 /* they share a point, and all of the second is in the interior of the first */
+};
+
+#define SFQ_RELATIONS 11
+
+/* Where a position lies in a geometry (06-103r4, 6.1.15.2). */
+enum sfq_place {
+    SFQ_INTERIOR = 0,
+    SFQ_BOUNDARY = 1,
+    SFQ_EXTERIOR = 2
+};
+
+/* The version of the library, as SFQ_VERSION counts it. */
+uint32_t sfq_version(void);
+
+/* ---- texts ---- */
+
+/* Whether a text is that of a valid geometry: SFQ_OK, or SFQ_REFUSED with the fault. */
+int sfq_check(const char *text, size_t length, sfq_fault *fault);
+
+/*
+ * The DE-9IM matrix of the valid geometries that two texts spell (06-103r4, 6.1.15.2): nine characters, and a 0 after them. The
+ * first text is read and checked before the second; the fault is that of the text that the status names.
+ */
+int sfq_relate_texts(const char *first, size_t first_length, const char *second, size_t second_length, char matrix[10],
+                     sfq_fault *fault);
+
+/* The same, and which of the relations hold, by their numbers. */
+int sfq_answer_texts(const char *first, size_t first_length, const char *second, size_t second_length, char matrix[10],
+                     bool holds[SFQ_RELATIONS], sfq_fault *fault);
+
+/* ---- geometries that are kept ---- */
+
+/* Reads a valid geometry from a text, and keeps it in `geometry`, which has to be empty. */
+int sfq_read(const char *text, size_t length, sfq_geometry *geometry, sfq_fault *fault);
+
+/* Frees what a geometry holds, and leaves it empty. Null and an empty one do nothing. */
+void sfq_free(sfq_geometry *geometry);
+
+/* The DE-9IM matrix of two geometries: nine characters, and a 0 after them. They may be the same. */
+int sfq_relate(sfq_geometry *first, sfq_geometry *second, char matrix[10]);
+
+/* Whether a relation of `sfq_relation` holds of two geometries; SFQ_UNKNOWN for any other number. They may be the same. */
+int sfq_holds(uint32_t relation, sfq_geometry *first, sfq_geometry *second, bool *answer);
+
+/*
+ * Whether the matrix of two geometries matches a pattern: nine characters T, F, *, 0, 1 or 2 (t and f too); SFQ_UNKNOWN for any
+ * other bytes. They may be the same.
+ */
+int sfq_relate_pattern(sfq_geometry *first, sfq_geometry *second, const char *pattern, size_t length, bool *answer);
+
+/*
+ * The canonical text of a geometry, without a 0 at its end. `length` is written unless the status is SFQ_OUT_OF_MEMORY or
+ * SFQ_NO_GEOMETRY: how many bytes the text has. The room has `size` bytes, of which those after the text are left as they were;
+ * with too few the status is SFQ_TOO_SMALL. To ask for the length first, pass a null room of 0 bytes.
+ */
+int sfq_text(sfq_geometry *geometry, char *room, size_t size, size_t *length);
+
+/* The dimension of a geometry's type: 0 of points, 1 of lines, 2 of areas, also where it is empty. */
+int sfq_dimension(sfq_geometry *geometry, uint32_t *dimension);
+
+/* Whether a geometry is the empty set of points. */
+int sfq_is_empty(sfq_geometry *geometry, bool *empty);
+
+/* The least x, the greatest x, the least y and the greatest y of a geometry; SFQ_NONE where it is the empty set. */
+int sfq_envelope(sfq_geometry *geometry, int32_t bounds[4]);
+
+/* Where the position (x, y) lies in a geometry, by `sfq_place`; SFQ_UNKNOWN where a coordinate is past the limit. */
+int sfq_locate(sfq_geometry *geometry, int32_t x, int32_t y, uint32_t *place);
+
+#ifdef __cplusplus
+}
+#endif
+
+#endif

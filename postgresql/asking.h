@@ -1,0 +1,95 @@
+/*
+ * The calls of the library, for PostgreSQL's arguments. The last geometry of each argument is in fn_extra, and is freed with the
+ * memory of the call's FmgrInfo. A process runs one call at a time, so a geometry serves one at a time, as the library demands.
+ *
+ * Of the library's calls it is proved that the matrix is that of the sets of points of both texts, and the fault the first one.
+ * Not proved is what is here and in keeping.h: a text is there, whole and with its length, until the function returns; what is
+ * kept belongs to the same value; and no call of the library calls back into PostgreSQL, so no error of PostgreSQL's leaves one
+ * half way.
+ */
+#include "utils/memutils.h"
+
+#include "faults.h"
+#include "keeping.h"
+
+/* The status of a pattern that isn't one. */
+#define NO_PATTERN SFQ_UNKNOWN
+
+/* What is kept between the calls of one FmgrInfo. */
+struct memory {
+    struct kept kept[2];
+    MemoryContextCallback callback;
+};
+
+static void forget_both(void *given)
+{
+    struct memory *memory = given;
+    forget(&memory->kept[0]);
+    forget(&memory->kept[1]);
+}
+
+/* What is kept for the function's calls, made at the first. */
+static struct memory *memory_of(FunctionCallInfo fcinfo)
+{
+    if (fcinfo->flinfo->fn_extra == NULL) {
+        struct memory *memory = MemoryContextAllocZero(fcinfo->flinfo->fn_mcxt, sizeof *memory);
+        memory->callback.func = forget_both;
+        memory->callback.arg = memory;
+        MemoryContextRegisterResetCallback(fcinfo->flinfo->fn_mcxt, &memory->callback);
+        fcinfo->flinfo->fn_extra = memory;
+    }
+    return fcinfo->flinfo->fn_extra;
+}
+
+/* Reads an argument, if it isn't the one that is kept. Values are compared as they are stored, packed or not. */
+static int read_argument(struct kept *kept, struct varlena *stored, sfq_fault *fault)
+{
+    text *unpacked;
+    if (is_kept(kept, (const char *)stored, VARSIZE_ANY(stored))) {
+        return SFQ_OK;
+    }
+    unpacked = (text *)pg_detoast_datum_packed(stored);
+    return keep(kept, (const char *)stored, VARSIZE_ANY(stored), VARDATA_ANY(unpacked), VARSIZE_ANY_EXHDR(unpacked), fault);
+}
+
+static int read_both(FunctionCallInfo fcinfo, struct memory *memory, sfq_fault *fault)
+{
+    int status = read_argument(&memory->kept[0], PG_GETARG_RAW_VARLENA_P(0), fault);
+    return status != SFQ_OK ? status : of_second(read_argument(&memory->kept[1], PG_GETARG_RAW_VARLENA_P(1), fault));
+}
+
+/* Whether the argument is the text of a valid geometry. */
+static int ask_fault(FunctionCallInfo fcinfo, sfq_fault *fault)
+{
+    text *given = PG_GETARG_TEXT_PP(0);
+    return sfq_check(VARDATA_ANY(given), VARSIZE_ANY_EXHDR(given), fault);
+}
+
+/* The matrix of the first two arguments. */
+static int ask_matrix(FunctionCallInfo fcinfo, char matrix[10], sfq_fault *fault)
+{
+    struct memory *memory = memory_of(fcinfo);
+    int status = read_both(fcinfo, memory, fault);
+    return status != SFQ_OK ? status : sfq_relate(&memory->kept[0].geometry, &memory->kept[1].geometry, matrix);
+}
+
+/* Whether a relation holds of the first two arguments. */
+static int ask_relation(FunctionCallInfo fcinfo, enum sfq_relation of, bool *answer, sfq_fault *fault)
+{
+    struct memory *memory = memory_of(fcinfo);
+    int status = read_both(fcinfo, memory, fault);
+    return status != SFQ_OK ? status : sfq_holds(of, &memory->kept[0].geometry, &memory->kept[1].geometry, answer);
+}
+
+/* Whether the matrix of the first two arguments matches the third. */
+static int ask_pattern(FunctionCallInfo fcinfo, bool *answer, sfq_fault *fault)
+{
+    struct memory *memory = memory_of(fcinfo);
+    text *pattern = PG_GETARG_TEXT_PP(2);
+    int status = read_both(fcinfo, memory, fault);
+    if (status != SFQ_OK) {
+        return status;
+    }
+    return sfq_relate_pattern(&memory->kept[0].geometry, &memory->kept[1].geometry, VARDATA_ANY(pattern), VARSIZE_ANY_EXHDR(pattern),
+                              answer);
+}

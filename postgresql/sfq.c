@@ -1,0 +1,122 @@
+/*
+ * The functions of the extension sfq of PostgreSQL, over texts. The functions over PostGIS's geometries are SQL over these.
+ *
+ * What the library's calls return is proved; asking.h says where the proof ends. Not proved are this file, which turns what they
+ * return into PostgreSQL's values and errors, and PostgreSQL, which finds the rows. All functions are STRICT: NULL in, NULL out.
+ * A text that is refused is an error with the fault, but for ST_IsValid and ST_IsValidReason.
+ */
+#include "postgres.h"
+
+#include "fmgr.h"
+#include "utils/builtins.h"
+
+#include "asking.h"
+
+PG_MODULE_MAGIC;
+
+/* Raises the error of a status that isn't SFQ_OK. */
+static void need_ok(int status, const sfq_fault *fault)
+{
+    char place[FAULT_PLACE];
+    if (status == SFQ_OUT_OF_MEMORY) {
+        ereport(ERROR, (errcode(ERRCODE_OUT_OF_MEMORY), errmsg("sfq: out of memory")));
+    }
+    if (status == NO_PATTERN) {
+        ereport(ERROR, (errcode(ERRCODE_INVALID_PARAMETER_VALUE),
+                        errmsg("sfq: a pattern is nine characters T, F, *, 0, 1 or 2")));
+    }
+    if (status != SFQ_OK) {
+        fault_place(fault, place);
+        ereport(ERROR, (errcode(fault->letter == 'W' ? ERRCODE_INVALID_TEXT_REPRESENTATION : ERRCODE_INVALID_PARAMETER_VALUE),
+                        errmsg("sfq: %s %s: %s", status == SFQ_REFUSED ? "first" : "second", place, fault_meaning(fault))));
+    }
+}
+
+/* ST_Relate(a, b): the matrix. */
+PG_FUNCTION_INFO_V1(sql_sfq_relate);
+Datum sql_sfq_relate(PG_FUNCTION_ARGS)
+{
+    char matrix[10];
+    sfq_fault fault;
+    need_ok(ask_matrix(fcinfo, matrix, &fault), &fault);
+    PG_RETURN_TEXT_P(cstring_to_text(matrix));
+}
+
+/* ST_Relate(a, b, pattern): whether the matrix matches the pattern. */
+PG_FUNCTION_INFO_V1(sql_sfq_relate_pattern);
+Datum sql_sfq_relate_pattern(PG_FUNCTION_ARGS)
+{
+    bool answer = false;
+    sfq_fault fault;
+    need_ok(ask_pattern(fcinfo, &answer, &fault), &fault);
+    PG_RETURN_BOOL(answer);
+}
+
+/* The predicates: whether a relation holds. */
+static Datum relation(FunctionCallInfo fcinfo, enum sfq_relation of)
+{
+    bool answer = false;
+    sfq_fault fault;
+    need_ok(ask_relation(fcinfo, of, &answer, &fault), &fault);
+    PG_RETURN_BOOL(answer);
+}
+
+#define PREDICATE(name, of) \
+    PG_FUNCTION_INFO_V1(name); \
+    Datum name(PG_FUNCTION_ARGS) \
+    { \
+        return relation(fcinfo, of); \
+    }
+
+PREDICATE(sql_sfq_equals, SFQ_EQUALS)
+PREDICATE(sql_sfq_disjoint, SFQ_DISJOINT)
+PREDICATE(sql_sfq_intersects, SFQ_INTERSECTS)
+PREDICATE(sql_sfq_touches, SFQ_TOUCHES)
+PREDICATE(sql_sfq_crosses, SFQ_CROSSES)
+PREDICATE(sql_sfq_within, SFQ_WITHIN)
+PREDICATE(sql_sfq_contains, SFQ_CONTAINS)
+PREDICATE(sql_sfq_overlaps, SFQ_OVERLAPS)
+PREDICATE(sql_sfq_covers, SFQ_COVERS)
+PREDICATE(sql_sfq_covered_by, SFQ_COVERED_BY)
+PREDICATE(sql_sfq_contains_properly, SFQ_CONTAINS_PROPERLY)
+
+/* ST_IsValid(a): whether the text is that of a valid geometry. */
+PG_FUNCTION_INFO_V1(sql_sfq_is_valid);
+Datum sql_sfq_is_valid(PG_FUNCTION_ARGS)
+{
+    sfq_fault fault;
+    int status = ask_fault(fcinfo, &fault);
+    if (status == SFQ_OUT_OF_MEMORY) {
+        need_ok(status, &fault);
+    }
+    PG_RETURN_BOOL(status == SFQ_OK);
+}
+
+/* ST_IsValidReason(a): "Valid Geometry", or the first fault. */
+PG_FUNCTION_INFO_V1(sql_sfq_is_valid_reason);
+Datum sql_sfq_is_valid_reason(PG_FUNCTION_ARGS)
+{
+    char place[FAULT_PLACE];
+    sfq_fault fault;
+    int status = ask_fault(fcinfo, &fault);
+    if (status == SFQ_OUT_OF_MEMORY) {
+        need_ok(status, &fault);
+    }
+    if (status == SFQ_OK) {
+        PG_RETURN_TEXT_P(cstring_to_text("Valid Geometry"));
+    }
+    fault_place(&fault, place);
+    PG_RETURN_TEXT_P(cstring_to_text(psprintf("%s: %s", place, fault_meaning(&fault))));
+}
+
+/* Whether two reference systems, by their numbers, are the same. It is an error where they aren't, as in PostGIS. */
+PG_FUNCTION_INFO_V1(sql_sfq_same_system);
+Datum sql_sfq_same_system(PG_FUNCTION_ARGS)
+{
+    int32 first = PG_GETARG_INT32(0), second = PG_GETARG_INT32(1);
+    if (first != second) {
+        ereport(ERROR, (errcode(ERRCODE_INVALID_PARAMETER_VALUE),
+                        errmsg("sfq: first has the reference system %d, second %d: transform one", first, second)));
+    }
+    PG_RETURN_BOOL(true);
+}

@@ -1,0 +1,68 @@
+-- The functions over PostGIS's geometry. \set VERBOSITY terse leaves out where an error is.
+\set VERBOSITY terse
+\pset format unaligned
+CREATE EXTENSION postgis;
+CREATE EXTENSION sfq_postgis CASCADE;
+
+-- the same as over texts, and PostGIS's own functions stay
+SELECT sfq.ST_Relate('LINESTRING(-2 2,2 -2)'::geometry, 'POLYGON((0 0,4 0,4 4,0 4,0 0))'::geometry);
+SELECT sfq.ST_Relate('LINESTRING(-2 2,2 -2)'::geometry, 'POLYGON((0 0,4 0,4 4,0 4,0 0))'::geometry, 'FT*******');
+SELECT sfq.ST_Within('LINESTRING(3 1,0 0)'::geometry, 'MULTILINESTRING((3 0,0 2),(3 1,0 0))'::geometry),
+       'public.ST_Within(geometry, geometry)'::regprocedure;
+
+CREATE TABLE pair (id integer PRIMARY KEY, a geometry, b geometry);
+INSERT INTO pair VALUES
+    (1, 'POINT(1 1)', 'POLYGON((0 0,4 0,4 4,0 4,0 0))'),
+    (2, 'POLYGON((0 0,4 0,4 4,0 4,0 0))', 'POINT(1 1)'),
+    (3, 'POLYGON((0 0,4 0,4 4,0 4,0 0))', 'POLYGON((4 0,8 0,8 4,4 4,4 0))'),
+    (4, 'LINESTRING(0 0,3 1)', 'LINESTRING(0 1,2 0)'),
+    (5, 'LINESTRING(0 0,4 0)', 'POLYGON((0 0,4 0,4 4,0 4,0 0))'),
+    (6, 'POLYGON((0 0,4 0,4 4,0 4,0 0))', 'POLYGON((4 4,4 0,0 0,0 4,4 4))'),
+    (7, 'POLYGON((0 0,4 0,4 4,0 4,0 0))', 'POLYGON((2 2,6 2,6 6,2 6,2 2))'),
+    (8, 'POINT EMPTY', 'MULTIPOINT EMPTY'),
+    (9, 'POINT(1 2)', 'POINT(3 4)'),
+    (10, NULL, 'POINT(3 4)'),
+    (11, 'POINT EMPTY', 'POINT(1 2)');
+SELECT id, sfq.ST_Relate(a, b), sfq.ST_Equals(a, b) AS equals, sfq.ST_Disjoint(a, b) AS disjoint,
+       sfq.ST_Intersects(a, b) AS intersects, sfq.ST_Touches(a, b) AS touches, sfq.ST_Crosses(a, b) AS crosses,
+       sfq.ST_Within(a, b) AS within, sfq.ST_Contains(a, b) AS contains, sfq.ST_Overlaps(a, b) AS overlaps,
+       sfq.ST_Covers(a, b) AS covers, sfq.ST_CoveredBy(a, b) AS covered_by, sfq.ST_ContainsProperly(a, b) AS properly
+FROM pair ORDER BY id;
+
+-- nothing is rounded: each of these is off the grid, by the least that a coordinate can be
+SELECT sfq.ST_IsValidReason(ST_MakePoint(x, 1)) FROM (VALUES
+    (0.5), (1 - 1.1102230246251565e-16), (1 + 2.220446049250313e-16), (3 + 4.440892098500626e-16),
+    (9999999.999999998), (-10000000.000000002), (5e-324), (-1e-300), (1e15), (1e300), ('NaN'), ('Infinity')) AS numbers (x);
+SELECT sfq.ST_IsValidReason(ST_MakePoint(x, -x)) FROM (VALUES (0), (-0.0::float8), (7), (10000000), (-10000000), (9999999)) AS numbers (x);
+
+-- what is refused
+SELECT sfq.ST_IsValidReason('POINT Z(1 2 3)'), sfq.ST_IsValidReason('GEOMETRYCOLLECTION(POINT(1 2))'),
+       sfq.ST_IsValidReason('CURVEPOLYGON((0 0,4 0,4 4,0 0))'), sfq.ST_IsValidReason('POLYGON((0 0,4 4,4 0,0 4,0 0))'),
+       sfq.ST_IsValid('POINT(1 2)'::geometry);
+SELECT sfq.ST_Intersects('POINT(1 1)'::geometry, 'POINT(1.5 2)'::geometry);
+SELECT sfq.ST_Relate('POINT(1 1)'::geometry, 'POINT(1.5 2)'::geometry);
+SELECT sfq.ST_Touches('SRID=4326;POINT(1 1)'::geometry, 'POINT(1 1)'::geometry);
+SELECT sfq.ST_Touches('SRID=4326;POINT(1 1)'::geometry, 'SRID=4326;POINT(1 1)'::geometry);
+
+-- a GiST index finds the rows, and the same rows as without it
+CREATE TABLE cell (id integer PRIMARY KEY, geom geometry);
+INSERT INTO cell SELECT 100 * x + y, ST_MakeEnvelope(10 * x, 10 * y, 10 * x + 10, 10 * y + 10)
+    FROM generate_series(0, 39) x, generate_series(0, 39) y;
+INSERT INTO cell VALUES (10001, 'POINT EMPTY'), (10002, 'LINESTRING EMPTY'), (10003, NULL);
+CREATE INDEX cell_geom ON cell USING gist (geom);
+ANALYZE cell;
+SET enable_seqscan = off;
+EXPLAIN (COSTS OFF) SELECT id FROM cell WHERE sfq.ST_Within(geom, 'POLYGON((5 5,45 5,45 45,5 45,5 5))'::geometry);
+EXPLAIN (COSTS OFF) SELECT count(*) FROM cell a JOIN cell b ON sfq.ST_Touches(a.geom, b.geom);
+SELECT count(*) FROM cell a JOIN cell b ON sfq.ST_Touches(a.geom, b.geom);
+SELECT a.id, b.id FROM cell a JOIN cell b ON sfq.ST_Equals(a.geom, b.geom) WHERE a.id > 10000 ORDER BY 1, 2;
+SET enable_seqscan = on;
+SET enable_indexscan = off;
+SET enable_bitmapscan = off;
+SELECT count(*) FROM cell a JOIN cell b ON sfq.ST_Touches(a.geom, b.geom) WHERE a.id < 100;
+SELECT a.id, b.id FROM cell a JOIN cell b ON sfq.ST_Equals(a.geom, b.geom) WHERE a.id > 10000 ORDER BY 1, 2;
+
+DROP TABLE pair, cell;
+DROP EXTENSION sfq_postgis;
+DROP EXTENSION sfq;
+DROP EXTENSION postgis;

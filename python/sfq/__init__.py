@@ -1,0 +1,196 @@
+"""The DE-9IM matrix of two geometries, exactly (OGC 06-103r4), by the proved C library libsfq.
+
+    >>> import sfq
+    >>> sfq.Geometry("LINESTRING(0 0,4 0)").touches("POLYGON((0 0,4 0,4 4,0 4,0 0))")
+    True
+
+Coordinates are whole numbers from -10,000,000 to 10,000,000. What the library returns is proved; what this package does around
+its calls isn't: the head of `_library.py` has the border. The library is the installed libsfq.so.0, or the file that the variable
+SFQ_LIBRARY names; it is loaded when it is first asked.
+"""
+from __future__ import annotations
+
+import re
+from typing import Any, Dict, Iterable, List, Optional, Tuple, Union
+
+from . import _library, _texts
+from ._faults import Fault, FaultError, GridError, LibraryError
+
+__all__ = ["Fault", "FaultError", "Geometry", "GridError", "LibraryError", "from_shapely", "relate", "relate_many"]
+__version__ = "0.1.0"
+
+
+class Geometry:
+    """A geometry by its well-known text: immutable, and the same in sets and dictionaries as one that has the same canonical text.
+
+    A text that is refused makes a Geometry too, whose `fault` says why; only a relation with it raises FaultError. All that asks
+    the library raises MemoryError where the system refuses memory, and LibraryError where the library isn't there.
+    """
+
+    __slots__ = ("_kept", "_spelled", "_text")
+
+    def __init__(self, text: str) -> None:
+        if not isinstance(text, str):
+            raise TypeError(f"sfq: a geometry is made of its text, not of {type(text).__name__}; see from_shapely")
+        self._set("_spelled", text)
+        self._set("_kept", _library.Kept(text))
+        self._set("_text", None)
+
+    def _set(self, name: str, value: Any) -> None:
+        object.__setattr__(self, name, value)
+
+    def __setattr__(self, name: str, value: Any) -> None:
+        raise AttributeError("sfq: a Geometry can't be changed")
+
+    def __delattr__(self, name: str) -> None:
+        raise AttributeError("sfq: a Geometry can't be changed")
+
+    def __reduce__(self):
+        return type(self), (self._spelled,)
+
+    @property
+    def fault(self) -> Optional[Fault]:
+        """The first fault of the text, or None of a valid geometry (06-103r4, 6.1.11.1 and 6.1.14 for areas)."""
+        return self._kept.fault
+
+    @property
+    def is_valid(self) -> bool:
+        """Whether the text is that of a valid geometry."""
+        return self._kept.fault is None
+
+    @property
+    def text(self) -> str:
+        """The canonical text: `POINT(1 2)`, whatever the blanks, case and signs. Of a refused text itself."""
+        if self._text is None:
+            self._set("_text", self._kept.canonical() if self.is_valid else self._spelled)
+        return self._text
+
+    def __str__(self) -> str:
+        return self.text
+
+    def __repr__(self) -> str:
+        return f"sfq.Geometry({self._spelled!r})"
+
+    def __eq__(self, other: object) -> bool:
+        """Whether the canonical texts are the same. Whether the sets of points are is `equals`."""
+        return self.text == other.text if isinstance(other, Geometry) else NotImplemented
+
+    def __hash__(self) -> int:
+        return hash(self.text)
+
+    def _need_valid(self) -> None:
+        if self.fault:
+            raise FaultError(self.fault)
+
+    @property
+    def __geo_interface__(self) -> Dict[str, Any]:
+        """The type and the coordinates as GeoJSON has them. FaultError of a refused text."""
+        self._need_valid()
+        name, coordinates = _texts.coordinates(self._spelled)
+        return {"type": name, "coordinates": coordinates}
+
+    def to_shapely(self) -> Any:
+        """Returns the geometry as one of shapely's. FaultError of a refused text, ImportError where shapely isn't there."""
+        from shapely import wkt
+
+        self._need_valid()
+        return wkt.loads(self.text)
+
+    def relate(self, other: Shape) -> str:
+        """Returns the DE-9IM matrix of this geometry and another: nine characters F, 0, 1, 2 (06-103r4, 6.1.15.2)."""
+        return _library.relate(*_kept_pair(self, other))
+
+    def relate_pattern(self, other: Shape, pattern: str) -> bool:
+        """Whether the matrix matches a pattern of nine characters T, F, *, 0, 1, 2. ValueError for another pattern."""
+        if not re.fullmatch(r"[TtFf*012]{9}", pattern):
+            raise ValueError(f"sfq: a pattern is nine characters T, F, *, 0, 1 or 2, not {pattern!r}")
+        return all(it == "*" or (it == "T" and cell != "F") or it == cell for it, cell in zip(pattern.upper(), self.relate(other)))
+
+    def _holds(self, name: str, other: Shape) -> bool:
+        return _library.holds(_library.RELATIONS.index(name), *_kept_pair(self, other))
+
+    def equals(self, other: Shape) -> bool:
+        """Whether both are the same set of points (06-103r4, 6.1.15.3)."""
+        return self._holds("equals", other)
+
+    def disjoint(self, other: Shape) -> bool:
+        """Whether they share no point (06-103r4, 6.1.15.3)."""
+        return self._holds("disjoint", other)
+
+    def intersects(self, other: Shape) -> bool:
+        """Whether they share a point (06-103r4, 6.1.15.3)."""
+        return self._holds("intersects", other)
+
+    def touches(self, other: Shape) -> bool:
+        """Whether they share a point, and no point of both interiors (06-103r4, 6.1.15.3)."""
+        return self._holds("touches", other)
+
+    def crosses(self, other: Shape) -> bool:
+        """Whether they cross (06-103r4, 6.1.15.3)."""
+        return self._holds("crosses", other)
+
+    def within(self, other: Shape) -> bool:
+        """Whether the interiors share a point, and none of this geometry is outside the other (06-103r4, 6.1.15.3)."""
+        return self._holds("within", other)
+
+    def contains(self, other: Shape) -> bool:
+        """Whether the other geometry is within this one (06-103r4, 6.1.15.3)."""
+        return self._holds("contains", other)
+
+    def overlaps(self, other: Shape) -> bool:
+        """Whether they overlap (06-103r4, 6.1.15.3)."""
+        return self._holds("overlaps", other)
+
+    def covers(self, other: Shape) -> bool:
+        """Whether they share a point, and none of the other geometry is outside this one."""
+        return self._holds("covers", other)
+
+    def covered_by(self, other: Shape) -> bool:
+        """Whether they share a point, and none of this geometry is outside the other."""
+        return self._holds("covered_by", other)
+
+    def contains_properly(self, other: Shape) -> bool:
+        """Whether they share a point, and all of the other geometry is in the interior of this one."""
+        return self._holds("contains_properly", other)
+
+
+Shape = Union[Geometry, str]
+
+
+def _geometry(shape: Shape) -> Geometry:
+    return shape if isinstance(shape, Geometry) else Geometry(shape)
+
+
+def _kept_pair(first: Shape, second: Shape) -> Tuple[_library.Kept, _library.Kept]:
+    """Returns what the library needs of two geometries, which raises FaultError for the first that is refused."""
+    return _geometry(first)._kept, _geometry(second)._kept
+
+
+def relate(first: Shape, second: Shape) -> str:
+    """Returns the DE-9IM matrix of two geometries or texts: nine characters F, 0, 1, 2 (06-103r4, 6.1.15.2)."""
+    return _library.relate(*_kept_pair(first, second))
+
+
+def relate_many(first: Iterable[Shape], second: Iterable[Shape]) -> List[str]:
+    """Returns the matrix of each pair: of the first of both, the second of both, and so on.
+
+    So far this is a call of the library for each pair, since the library has none for many. ValueError where one has more than
+    the other; FaultError for the first pair that is refused, with its place from 0 in `index`.
+    """
+    ones, others, found = list(first), list(second), []
+    if len(ones) != len(others):
+        raise ValueError(f"sfq: {len(ones)} geometries with {len(others)}: both have to have as many")
+    for index, pair in enumerate(zip(ones, others)):
+        try:
+            found.append(relate(*pair))
+        except FaultError as error:
+            raise FaultError(error.fault, error.which, index) from None
+    return found
+
+
+def from_shapely(shape: Any) -> Geometry:
+    """Returns the geometry of one of shapely's, or of anything with `__geo_interface__`; shapely itself isn't needed.
+
+    GridError where a coordinate isn't whole, where there is a Z, and for collections of several types. Nothing is rounded.
+    """
+    return Geometry(_texts.of_interface(shape))

@@ -1,0 +1,73 @@
+"""Faults, and the errors that carry them."""
+from __future__ import annotations
+
+from typing import NamedTuple, Optional
+
+# What each fault means and what to do, by its code.
+MEANINGS = {
+    "W1": "the text can't go on like this at this byte, or ends too soon",
+    "W2": "the number at this byte isn't whole: scale the coordinates to a grid of whole numbers, of centimetres say",
+    "W3": "the number at this byte is past 10,000,000 either way: scale the coordinates to the grid",
+    "W4": "more than 10,000 positions, or more than 1,000 rings or elements: split the geometry",
+    "V1": "this line or ring has too few positions that differ",
+    "V2": "the last position of this ring isn't its first",
+    "V3": "this ring touches or crosses itself",
+    "V4": "these two rings of one polygon share a point",
+    "V5": "this hole isn't inside its outer ring",
+    "V6": "one of these two holes is inside the other",
+    "V7": "these two polygons share a point",
+    "V8": "the first of these polygons is inside the second",
+}
+
+
+class Fault(NamedTuple):
+    """Why a text isn't that of a valid geometry: its first fault.
+
+    `code` is W1 to W4 for a fault of the text, V1 to V8 for one of the geometry. `first` and `second` are a byte of the text in
+    UTF-8, or the numbers of lines, rings or elements, from 0; what a fault doesn't use is 0.
+    """
+
+    code: str
+    first: int
+    second: int
+
+    @property
+    def meaning(self) -> str:
+        """What the fault means, and what to do."""
+        return MEANINGS[self.code]
+
+    @property
+    def place(self) -> str:
+        """The code with its places, as the program `sfq` prints them: `W1 at 9`, `V4 0 1`."""
+        if self.code == "W4":
+            return self.code
+        if self.code[0] == "W":
+            return f"{self.code} at {self.first}"
+        both = f" {self.second}" if self.code in ("V4", "V6", "V7", "V8") else ""
+        return f"{self.code} {self.first}{both}"
+
+    def __str__(self) -> str:
+        return f"{self.place}: {self.meaning}"
+
+
+class FaultError(ValueError):
+    """A text that isn't that of a valid geometry was asked for a relation.
+
+    `fault` is its first fault, `which` is 'first' or 'second', and `index` its place in a list, or None.
+    """
+
+    def __init__(self, fault: Fault, which: str = "first", index: Optional[int] = None) -> None:
+        self.fault, self.which, self.index = fault, which, index
+        place = "" if index is None else f", pair {index}"
+        super().__init__(f"sfq: {which} {fault}{place}")
+
+    def __reduce__(self):
+        return type(self), (self.fault, self.which, self.index)
+
+
+class GridError(ValueError):
+    """A geometry of another library isn't on the grid: a coordinate isn't whole, or it has a Z."""
+
+
+class LibraryError(OSError):
+    """The C library can't be loaded, or isn't one that this package can use."""

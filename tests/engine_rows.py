@@ -1,0 +1,119 @@
+"""Rows of the engine's own scripts, for tests of what is over the C library: each binding has to give the same."""
+import csv
+import io
+import os
+import re
+import unittest
+from typing import List, NamedTuple
+
+import library
+import printed
+import repository
+import required_rows
+
+DATA = f"{repository.ROOT}/crates/scripts/data"
+# What SQL of other engines has in another way, or the bindings don't have.
+OTHERS = re.compile(r"EXPLAIN|LIMIT|ST_AsText|ST_Dimension|ST_IsEmpty")
+
+
+class Pair(NamedTuple):
+    """Two texts, and their matrix or the line of the fault, `sfq: first W1 at 9`."""
+
+    first: str
+    second: str
+    matrix: str
+    fault: str
+
+
+class Query(NamedTuple):
+    """A query, the SQL that makes its tables, and its rows, sorted."""
+
+    tables: str
+    text: str
+    rows: List[tuple]
+
+
+class WithLibrary(unittest.TestCase):
+    """A test case of what is over the C library: skipped where ./build --library hasn't made it, which is seen when it runs."""
+
+    ASKS_LIBRARY = True
+
+    @classmethod
+    def setUpClass(cls):
+        if not library.is_made():
+            raise unittest.SkipTest("needs ./build --library")
+
+
+def rows_of(name):
+    with open(f"{DATA}/{name}.txt", encoding="utf-8") as file:
+        return required_rows.rows_of(file.read())
+
+
+def pairs():
+    """Returns the pairs that scripts relate, but for texts that no word of a command line can have."""
+    found = []
+    for row in [row for name in ("relations", "validity", "texts", "locations") for row in rows_of(name)]:
+        if row.command.startswith("relate "):
+            first, _, second = row.command.removeprefix("relate ").partition(" | ")
+            line = row.output.splitlines()[0]
+            fault = line.removeprefix("! ") if line.startswith("! ") else ""
+            found.append(Pair(first, second, "" if fault else line, fault))
+    return found
+
+
+def canonical_texts():
+    """Returns texts of geometries, each with its canonical text as the engine prints it."""
+    row = next(it for it in rows_of("texts") if it.command.startswith("SELECT"))
+    spelled = list(csv.reader(io.StringIO(row.files["table spelled"], newline="")))[1:]
+    canonical = list(csv.reader(io.StringIO(row.output, newline="")))[1:]
+    return [(one[1], other[1]) for one, other in zip(spelled, canonical, strict=True)]
+
+
+def quoted(field):
+    """Returns a field of CSV as SQL has it: an empty one is NULL."""
+    return "'" + field.replace("'", "''") + "'" if field else "NULL"
+
+
+def as_sql(schema, tables):
+    """Returns the SQL that makes tables and their rows, with geometries as texts. `tables` has the text of CSV by the name."""
+    text = re.sub(r"\b(GEOMETRY|(MULTI)?(POINT|LINESTRING|POLYGON))\b", "TEXT", re.sub(r"--.*", "", schema))
+    lines = [text if text.rstrip().endswith(";") else text.rstrip() + ";\n"]
+    for name, given in tables.items():
+        records = [it for it in csv.reader(io.StringIO(given, newline="")) if it]
+        lines += [f"INSERT INTO {name} ({','.join(records[0])}) VALUES ({','.join(map(quoted, it))});" for it in records[1:]]
+    return "\n".join(lines)
+
+
+def standard(query):
+    """Returns a query as other engines have it: a constant geometry is its text."""
+    return re.sub(r"ST_GeomFromText\(('(?:[^']|'')*')\)", r"\1", query)
+
+
+def sorted_rows(text):
+    """Returns the rows of a CSV text, sorted."""
+    return sorted(map(tuple, csv.reader(io.StringIO(text, newline=""))))
+
+
+def example_queries():
+    """Returns the queries that the land register's document shows, with the rows that it shows."""
+    folder = "examples/parcels"
+
+    def read(path):
+        with open(f"{repository.ROOT}/{folder}/{path}", encoding="utf-8") as file:
+            return file.read()
+
+    names = sorted(it for it in os.listdir(f"{repository.ROOT}/{folder}") if it.endswith(".csv"))
+    tables = as_sql(read("schema.sql"), {it[:-4]: read(it) for it in names})
+    shown = printed.of_queries(f"{folder}/README.md", read("README.md"))
+    kept = [it for it in shown if not OTHERS.search(it.words[3])]
+    return [Query(tables, standard(it.words[3]), sorted_rows(it.text.partition("\n")[2])) for it in kept]
+
+
+def predicate_queries():
+    """Returns the queries of the predicates' script with their rows."""
+    found = []
+    for row in rows_of("predicates"):
+        if row.command.startswith("SELECT") and not OTHERS.search(row.command) and not row.output.startswith("!"):
+            tables = as_sql(row.files["schema"], {it[6:]: text for it, text in row.files.items() if it != "schema"})
+            found.append(Query(tables, standard(row.command), sorted_rows(row.output.partition("\n")[2])))
+    return found

@@ -1,0 +1,27 @@
+/* What calls.c and kept.c share. */
+#ifndef KEPT_H
+#define KEPT_H
+
+#include "sfq.h"
+
+/* What is printed of a call. */
+struct printed {
+    char text[1000];
+};
+
+/* The most words of a call. */
+#define WORDS 4
+
+/* The status and the fault as they are printed. */
+void print_fault(struct printed *out, int status, const sfq_fault *fault);
+
+/* Whether the words are a call over geometries that are kept. */
+bool is_kept_call(char *const words[WORDS]);
+
+/* Makes such a call. */
+struct printed run_kept(char *const words[WORDS]);
+
+/* Reads geometries in this thread, uses each in one of four others, and frees it here. Returns how many calls went wrong. */
+int hand_over(void);
+
+#endif

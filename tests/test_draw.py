@@ -1,0 +1,87 @@
+"""examples/draw.py: each picture is XML, and has a mark for each line that shows something."""
+import re
+import shutil
+import subprocess
+import sys
+import tempfile
+import unittest
+import xml.etree.ElementTree as tree
+from collections import Counter
+
+import exact_cells
+import exact_places
+from support import ROOT, read
+
+SCRIPT = f"{ROOT}/examples/draw.py"
+KINDS = {"at": "point", "from": "stretch", "around": "ring"}
+SQUARE = "POLYGON((0 0,4 0,4 4,0 4,0 0))"
+PAIRS = [
+    ("LINESTRING(0 0,3 1)", "LINESTRING(0 1,2 0)"),
+    ("LINESTRING(-2 2,2 -2)", SQUARE),
+    ("MULTIPOINT((1 2),(3 4))", "POINT(1 2)"),
+    ("MULTIPOLYGON(((0 0,9 0,9 9,0 9,0 0),(3 3,6 3,6 6,3 6,3 3)),((20 0,29 0,29 9,20 0)))", SQUARE),
+    ("POINT EMPTY", "LINESTRING EMPTY"),
+]
+FAULTY = [
+    "POLYGON((0 0,4 4,4 0,0 4,0 0))",
+    "POLYGON((0 0,1 1,2 2,0 0))",
+    "POLYGON((0 0,4 0,4 4,0 4))",
+    "LINESTRING(3 3,3 3)",
+    "POLYGON((0 0,4 0,4 4,0 4,0 0),(20 20,21 20,21 21,20 20))",
+    "MULTIPOLYGON(((1 1,2 1,2 2,1 1)),((0 0,9 0,9 9,0 9,0 0)))",
+]
+
+
+def draw(texts, lines):
+    """Returns the picture of texts and of the lines that show them."""
+    ran = subprocess.run([sys.executable, "-B", SCRIPT, *texts], input=lines, capture_output=True, text=True, check=True)
+    return ran.stdout
+
+
+def marks(picture):
+    """Returns how often each kind of mark is in a picture."""
+    return Counter(it.get("class") for it in tree.fromstring(picture).iter() if it.get("class"))
+
+
+class Drawings(unittest.TestCase):
+    def test_a_mark_for_each_line(self):
+        for pair in PAIRS:
+            lines = exact_cells.lines(*pair)
+            wanted = Counter(KINDS[it] for it in re.findall(r"\b(at|from|around)\b", lines))
+            found = marks(draw(pair, lines))
+            with self.subTest(pair=pair):
+                self.assertEqual({it: found[it] for it in KINDS.values()}, {it: wanted[it] for it in KINDS.values()})
+                self.assertEqual([found[it] > 0 for it in ("first", "second")], ["EMPTY" not in it for it in pair])
+
+    def test_the_place_of_a_fault(self):
+        for text in FAULTY:
+            with self.subTest(text=text):
+                self.assertEqual(marks(draw([text], exact_places.line(text)))["fault"], 1)
+        self.assertEqual(marks(draw([SQUARE], "valid\n"))["fault"], 0)
+
+    def test_where_a_mark_is(self):
+        picture = tree.fromstring(draw([SQUARE, "POINT(2 2)"], "interior interior 0 at 2 2\n"))
+        dot = next(it for it in picture.iter() if it.get("class") == "point")
+        self.assertEqual((dot.get("cx"), dot.get("cy")), ("240.00", "240.00"))
+
+    def test_words(self):
+        for words in ([], ["--help"], ["a", "b", "c"]):
+            ran = subprocess.run([sys.executable, "-B", SCRIPT, *words], input="", capture_output=True, text=True)
+            self.assertEqual((ran.stdout, ran.returncode), ("", 2))
+            self.assertIn("sfq why", ran.stderr)
+
+    def test_the_standard_library_is_enough(self):
+        used = set(re.findall(r"(?m)^(?:from|import) (\w+)", read(SCRIPT)))
+        self.assertLessEqual(used, set(sys.stdlib_module_names))
+
+    @unittest.skipUnless(shutil.which("rsvg-convert"), "needs the package librsvg2-bin")
+    def test_it_can_be_rendered(self):
+        with tempfile.NamedTemporaryFile("w", suffix=".svg") as file:
+            file.write(draw(PAIRS[0], exact_cells.lines(*PAIRS[0])))
+            file.flush()
+            ran = subprocess.run(["rsvg-convert", file.name], capture_output=True)
+        self.assertEqual((ran.stdout[1:4], ran.returncode), (b"PNG", 0))
+
+
+if __name__ == "__main__":
+    unittest.main()

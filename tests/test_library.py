@@ -1,0 +1,308 @@
+"""The C library: the rows whose values were worked out by hand, each fault, each allocation refused, four threads, valgrind, and
+random pairs, which have to be as the program relates them."""
+import os
+import random
+import re
+import shutil
+import subprocess
+import sys
+import tempfile
+import unittest
+from concurrent.futures import ThreadPoolExecutor
+
+from support import ROOT, needs, needs_build, read
+import library
+import repository
+
+sys.path.insert(0, f"{ROOT}/bench")
+import pairs as drawing
+
+# A text, and its first fault in numbers: the letter, the number, and two places. Worked out from docs/FAULTS.md.
+FAULTS = [
+    ("", "W1 0 0"),
+    ("POINT(1 2", "W1 9 0"),
+    ("CIRCLE(1 2)", "W1 0 0"),
+    ("POINT(1.5 2)", "W2 6 0"),
+    ("POINT(10000001 0)", "W3 6 0"),
+    ("LINESTRING(0 0,0 0)", "V1 0 0"),
+    ("POLYGON((0 0,4 0,4 4,0 4,0 1))", "V2 0 0"),
+    ("POLYGON((0 0,4 4,4 0,0 4,0 0))", "V3 0 0"),
+    ("POLYGON((0 0,4 0,4 4,0 4,0 0),(0 2,1 1,1 3,0 2))", "V4 0 1"),
+    ("POLYGON((0 0,4 0,4 4,0 4,0 0),(5 5,6 5,6 6,5 6,5 5))", "V5 1 0"),
+    ("POLYGON((0 0,9 0,9 9,0 9,0 0),(1 1,8 1,8 8,1 8,1 1),(2 2,3 2,3 3,2 3,2 2))", "V6 1 2"),
+    ("MULTIPOLYGON(((0 0,4 0,4 4,0 4,0 0)),((2 2,6 2,6 6,2 6,2 2)))", "V7 0 1"),
+    ("MULTIPOLYGON(((1 1,2 1,2 2,1 1)),((0 0,9 0,9 9,0 9,0 0)))", "V8 0 1"),
+]
+
+# Two geometries, their matrix, and which relations hold, in the order of sfq_relation: equals, disjoint, intersects, touches,
+# crosses, within, contains, overlaps, covers, covered by, contains properly. Worked out from the matrix by hand.
+RELATIONS = [
+    ("POINT(1 1)", "POLYGON((0 0,4 0,4 4,0 4,0 0))", "0FFFFF212", "00100100010"),
+    ("POLYGON((0 0,4 0,4 4,0 4,0 0))", "POINT(1 1)", "0F2FF1FF2", "00100010101"),
+    ("POLYGON((0 0,4 0,4 4,0 4,0 0))", "POLYGON((4 0,8 0,8 4,4 4,4 0))", "FF2F11212", "00110000000"),
+    ("LINESTRING(0 0,3 1)", "LINESTRING(0 1,2 0)", "0F1FF0102", "00101000000"),
+    ("LINESTRING(0 0,4 0)", "POLYGON((0 0,4 0,4 4,0 4,0 0))", "F1FF0F212", "00110000010"),
+    ("POLYGON((0 0,4 0,4 4,0 4,0 0))", "POLYGON((4 4,4 0,0 0,0 4,4 4))", "2FFF1FFF2", "10100110110"),
+    ("POLYGON((0 0,4 0,4 4,0 4,0 0))", "POLYGON((2 2,6 2,6 6,2 6,2 2))", "212101212", "00100001000"),
+    ("POINT EMPTY", "MULTIPOINT EMPTY", "FFFFFFFF2", "11000000000"),
+    ("POINT(1 2)", "POINT(3 4)", "FF0FFF0F2", "01000000000"),
+]
+
+# A text, and of the geometry that is kept: the dimension, whether it is empty, the least x, the greatest x, the least y and the
+# greatest y, and the canonical text. By hand.
+SEEN = [
+    (" point ( 1  -2 ) ", "0 0 1 1 -2 -2 POINT(1 -2)"),
+    ("POINT EMPTY", "0 1 none POINT EMPTY"),
+    ("MULTIPOINT(3 4,1 9)", "0 0 1 3 4 9 MULTIPOINT((3 4),(1 9))"),
+    ("LINESTRING(0 0,0 0,4 0,-1 7)", "1 0 -1 4 0 7 LINESTRING(0 0,4 0,-1 7)"),
+    ("LINESTRING EMPTY", "1 1 none LINESTRING EMPTY"),
+    ("MULTILINESTRING((0 0,1 1),(5 5,5 6))", "1 0 0 5 0 6 MULTILINESTRING((0 0,1 1),(5 5,5 6))"),
+    ("POLYGON((0 0,4 0,4 4,0 4,0 0),(1 1,2 1,2 2,1 1))", "2 0 0 4 0 4 POLYGON((0 0,4 0,4 4,0 4,0 0),(1 1,2 1,2 2,1 1))"),
+    ("MULTIPOLYGON EMPTY", "2 1 none MULTIPOLYGON EMPTY"),
+    (
+        "MULTIPOLYGON(((-10000000 0,1 0,1 1,-10000000 0)),((2 2,10000000 2,3 9,2 2)))",
+        "2 0 -10000000 10000000 0 9 MULTIPOLYGON(((-10000000 0,1 0,1 1,-10000000 0)),((2 2,10000000 2,3 9,2 2)))",
+    ),
+]
+
+# A text, a position, and where it lies: 0 in the interior, 1 on the boundary, 2 in the exterior; status 4 past the limit. By hand.
+HOLED = "POLYGON((0 0,8 0,8 8,0 8,0 0),(2 2,6 2,6 6,2 6,2 2))"
+PLACES = [
+    ("POINT(1 2)", 1, 2, "0 0"),
+    ("POINT(1 2)", 2, 1, "0 2"),
+    ("POINT EMPTY", 0, 0, "0 2"),
+    ("LINESTRING(0 0,4 0)", 2, 0, "0 0"),
+    ("LINESTRING(0 0,4 0)", 4, 0, "0 1"),
+    ("LINESTRING(0 0,4 0,4 4,0 0)", 0, 0, "0 0"),
+    ("MULTILINESTRING((0 0,1 0),(0 0,0 1),(0 0,-1 0))", 0, 0, "0 1"),
+    (HOLED, 1, 1, "0 0"),
+    (HOLED, 8, 3, "0 1"),
+    (HOLED, 4, 4, "0 2"),
+    (HOLED, 2, 4, "0 1"),
+    (HOLED, 9, 9, "0 2"),
+    (HOLED, -10000000, 10000000, "0 2"),
+    (HOLED, 10000001, 1, "4"),
+    (HOLED, 1, -10000001, "4"),
+    (HOLED, 1, -2147483648, "4"),
+]
+
+# Two texts, a pattern, and whether the matrix matches it; status 4 where the bytes are no pattern. By hand from the matrices above.
+PATTERNS = [
+    ("POINT(1 1)", "POLYGON((0 0,4 0,4 4,0 4,0 0))", "T*F**F***", "0 1"),
+    ("POINT(1 1)", "POLYGON((0 0,4 0,4 4,0 4,0 0))", "0FFFFF212", "0 1"),
+    ("POINT(1 1)", "POLYGON((0 0,4 0,4 4,0 4,0 0))", "0FFFFF202", "0 0"),
+    ("POINT(1 1)", "POLYGON((0 0,4 0,4 4,0 4,0 0))", "tffFFFttT", "0 1"),
+    ("POLYGON((0 0,4 0,4 4,0 4,0 0))", "POINT(1 1)", "T*F**F***", "0 0"),
+    ("POINT(1 1)", "POINT(1 1)", "0FFFFFFF2", "0 1"),
+    ("POINT(1 1)", "POINT(1 1)", "F********", "0 0"),
+    ("POINT(1 1)", "POINT(1 1)", "T*F**F**", "4"),
+    ("POINT(1 1)", "POINT(1 1)", "T*F**F****", "4"),
+    ("POINT(1 1)", "POINT(1 2)", "T*F**F**3", "4"),
+    ("POINT(1 1)", "POINT(1 2)", "", "4"),
+]
+
+
+def pairs():
+    """Returns the required pairs with their matrices, which were worked out by hand."""
+    found = re.findall(r"^pair (.*) \| (.*) => ([F012]{9})$", read(f"{ROOT}/tests/required_rows.txt"), re.M)
+    return [*found, *((b, a, "".join(it[i] for i in (0, 3, 6, 1, 4, 7, 2, 5, 8))) for a, b, it in found)]
+
+
+def lines_of_calls():
+    """Returns calls of every kind, with what they print."""
+    calls = [(f"relate\t{a}\t{b}", f"0 {it}") for a, b, it in pairs()]
+    calls += [(f"check\t{a}", "0") for a, _, _ in pairs()]
+    calls += [(f"answer\t{a}\t{b}", f"0 {it} {held}") for a, b, it, held in RELATIONS]
+    for text, fault in FAULTS:
+        calls += [
+            (f"check\t{text}", f"1 {fault}"),
+            (f"status\t{text}", "1"),
+            (f"relate\t{text}\tPOINT(0 0)", f"1 {fault}"),
+            (f"relate\tPOINT(0 0)\t{text}", f"2 {fault}"),
+            (f"answer\t{text}\t{text}", f"1 {fault}"),
+            (f"answer\tPOINT(0 0)\t{text}", f"2 {fault}"),
+        ]
+    return calls + lines_of_kept_calls()
+
+
+def lines_of_kept_calls():
+    """Returns calls over geometries that are kept, with what they print."""
+    calls = [(f"kept\t{a}\t{b}", f"0 {it} {held}") for a, b, it, held in RELATIONS]
+    calls += [(f"match\t{a}\t{b}\t{it}", "0 1") for a, b, it in pairs()]
+    calls += [(f"match\t{a}\t{b}\t{it}", wanted) for a, b, it, wanted in PATTERNS]
+    calls += [(f"seen\t{text}", f"0 {it}") for text, it in SEEN]
+    calls += [(f"place\t{text}\t{x}\t{y}", it) for text, x, y, it in PLACES]
+    # The same geometry twice, by the interior and the boundary that it has.
+    calls += [
+        ("kept\tPOINT(1 2)\tPOINT(1 2)", "0 0FFFFFFF2 10100110111"),
+        ("kept\tPOINT EMPTY\tPOINT EMPTY", "0 FFFFFFFF2 11000000000"),
+        ("kept\tLINESTRING(0 0,4 0)\tLINESTRING(0 0,4 0)", "0 1FFF0FFF2 10100110110"),
+        (f"kept\t{HOLED}\t{HOLED}", "0 2FFF1FFF2 10100110110"),
+        ("without", " ".join("7" * 11)),
+    ]
+    for text, fault in FAULTS:
+        calls += [
+            (f"kept\t{text}\tPOINT(0 0)", f"1 {fault}"),
+            (f"kept\tPOINT(0 0)\t{text}", f"2 {fault}"),
+            (f"seen\t{text}", f"1 {fault}"),
+        ]
+    return calls
+
+
+class WithLibrary(unittest.TestCase):
+    """Compiles the program tests/library/calls.c, and has it make calls."""
+
+    ASKS_LIBRARY = True
+
+    @classmethod
+    def setUpClass(cls):
+        if not library.is_made():
+            raise unittest.SkipTest("needs ./build --library")
+        cls.room = tempfile.TemporaryDirectory(prefix="sfq-library-")
+
+    @classmethod
+    def tearDownClass(cls):
+        cls.room.cleanup()
+
+    def program(self, name, *words):
+        """Compiles the program, and returns its path."""
+        to = f"{self.room.name}/{name}"
+        flags = ["-std=c99", "-Wall", "-Wextra", "-Werror", "-g", f"-I{ROOT}/library", "-pthread"]
+        sources = [f"{ROOT}/tests/library/{it}.c" for it in ("calls", "kept")]
+        subprocess.run(["cc", *flags, *sources, "-o", to, *words], check=True)
+        return to
+
+    def shared(self):
+        return self.program("shared", library.SHARED, f"-Wl,-rpath,{library.OUT}")
+
+    def calling(self, words, calls):
+        return subprocess.run(words, input="\n".join(calls) + "\n", capture_output=True, text=True)
+
+    def compare_with_the_program(self, chance, count):
+        """Relates random pairs by the library and by the program."""
+        drawn = [[drawing.draw(chance, chance.choice(drawing.TYPES)) for _ in "ab"] for _ in range(count)]
+        ran = self.calling([self.shared()], [f"relate\t{a}\t{b}" for a, b in drawn])
+        self.assertEqual(ran.returncode, 0, ran.stderr)
+        with ThreadPoolExecutor(os.cpu_count()) as pool:
+            printed = list(pool.map(self.by_the_program, drawn))
+        for pair, line, text in zip(drawn, ran.stdout.splitlines(), printed, strict=True):
+            self.assertEqual(self.as_the_program(line), text, " ".join(pair))
+
+    @staticmethod
+    def by_the_program(pair):
+        ran = subprocess.run([repository.PROGRAM, "relate", *pair], stdin=subprocess.DEVNULL, capture_output=True, text=True)
+        return (ran.stdout + ran.stderr).strip()
+
+    @staticmethod
+    def as_the_program(line):
+        """Returns what the program writes where the library has this status and this matrix or fault."""
+        status, fault, *places = line.split()
+        if status == "0":
+            return fault
+        used = {"W1": 1, "W2": 1, "W3": 1, "W4": 0, "V4": 2, "V6": 2, "V7": 2, "V8": 2}.get(fault, 1)
+        at = ["at"] if fault[0] == "W" and used else []
+        return " ".join(["sfq:", "first" if status == "1" else "second", fault, *at, *places[:used]])
+
+
+@needs("gcc", "cc")
+class Library(WithLibrary):
+    """The calls over the shared library, and over the static one."""
+
+    def test_rows_and_faults_with_both_libraries(self):
+        calls = lines_of_calls()
+        for program in (self.shared(), self.program("static", f"{library.OUT}/libsfq.a")):
+            ran = self.calling([program], [it for it, _ in calls])
+            self.assertEqual(ran.returncode, 0, ran.stderr)
+            for (call, wanted), line in zip(calls, ran.stdout.splitlines(), strict=True):
+                self.assertEqual(line, wanted, call)
+
+    def test_each_allocation_refused_in_turn(self):
+        program = self.program("refusing", "-DREFUSES", library.SHARED, f"-Wl,-rpath,{library.OUT}")
+        ran = self.calling([program, "refuse"], [it for it, _ in lines_of_calls()])
+        self.assertEqual(ran.returncode, 0, ran.stdout + ran.stderr)
+        tried, managed = map(int, re.search(r"^(\d+) refused, (\d+) done without, 0 bad$", ran.stdout, re.M).groups())
+        self.assertGreater(tried, 500)
+        self.assertLess(managed, tried // 10)
+
+    def test_four_threads_on_small_stacks(self):
+        """Small geometries, and some of thousands of positions."""
+        teeth = [f"POLYGON(({','.join(f'{i} {i % 2 * 9 + up}' for i in range(2_000))},1999 -50,0 -50,0 {up}))" for up in (0, 5)]
+        points = f"MULTIPOINT({','.join(f'({i} {i % 7})' for i in range(0, 9_000, 3))})"
+        large = [f"answer\t{a}\t{b}" for a, b in ((teeth[0], teeth[1]), (points, teeth[0]), (teeth[1], points))]
+        ran = self.calling([self.shared(), "threads"], [it for it, _ in lines_of_calls()] + large)
+        self.assertEqual(ran.returncode, 0, ran.stdout)
+        self.assertIn(" 0 differ", ran.stdout)
+
+    @needs("valgrind", "valgrind")
+    def test_valgrind_finds_nothing(self):
+        words = ["valgrind", "-q", "--leak-check=full", "--show-leak-kinds=all", "--error-exitcode=9", self.shared()]
+        ran = self.calling(words, [it for it, _ in lines_of_calls()])
+        self.assertEqual((ran.returncode, ran.stderr), (0, ""))
+
+    @needs("libc6-dev", "nm")
+    def test_only_the_calls_of_the_header_can_be_seen(self):
+        for words in (["nm", "-D", "--defined-only", library.SHARED], ["nm", "-g", "--defined-only", f"{library.OUT}/libsfq.a"]):
+            ran = subprocess.run(words, capture_output=True, text=True, check=True)
+            seen = re.findall(r"^[0-9a-f]+ [A-Z] (\S+)$", ran.stdout, re.M)
+            self.assertEqual(sorted(seen), sorted(library.seen_calls()))
+        declared = re.findall(r"^\w+ (sfq_\w+)\(", read(f"{ROOT}/library/sfq.h"), re.M)
+        self.assertEqual(sorted(declared), sorted(library.seen_calls()))
+
+    @needs("g++", "c++")
+    def test_the_header_in_cpp(self):
+        with open(f"{self.room.name}/header.cc", "w", encoding="utf-8") as file:
+            file.write('#include "sfq.h"\nint main() { return sfq_check("", 0, nullptr) == SFQ_REFUSED ? 0 : 1; }\n')
+        program = f"{self.room.name}/header"
+        flags = ["-std=c++11", "-Wall", "-Wextra", "-Werror", f"-I{ROOT}/library"]
+        subprocess.run(["c++", *flags, f"{program}.cc", f"{library.OUT}/libsfq.a", "-o", program], check=True)
+        self.assertEqual(subprocess.run([program]).returncode, 0)
+
+    def test_examples_of_the_document(self):
+        """Each program of docs/LIBRARY.md prints what is shown after it, from an installed library."""
+        prefix = f"{self.room.name}/prefix"
+        for source, target, _ in library.FILES:
+            os.makedirs(os.path.dirname(f"{prefix}/{target}"), exist_ok=True)
+            shutil.copyfile(f"{ROOT}/{source}", f"{prefix}/{target}")
+        library.install_made(prefix, "0")
+        shown = re.findall(r"```c\n(.*?)```.*?```text\n(.*?)```", read(f"{ROOT}/docs/LIBRARY.md"), re.S)
+        self.assertGreaterEqual(len(shown), 2)
+        for at, (source, output) in enumerate(shown):
+            with open(f"{self.room.name}/example{at}.c", "w", encoding="utf-8") as file:
+                file.write(source)
+            flags = ["-std=c99", "-Wall", "-Wextra", "-Werror", f"-I{prefix}/include", f"-L{prefix}/lib"]
+            program = f"{self.room.name}/example{at}"
+            subprocess.run(["cc", *flags, f"{program}.c", "-lsfq", f"-Wl,-rpath,{prefix}/lib", "-o", program], check=True)
+            ran = subprocess.run([program], capture_output=True, text=True)
+            self.assertEqual((ran.returncode, ran.stdout), (0, output), source)
+
+    def test_random_pairs_that_are_kept(self):
+        """They print what the same texts print that aren't kept."""
+        chance = random.Random(40)
+        drawn = [[drawing.draw(chance, chance.choice(drawing.TYPES)) for _ in "ab"] for _ in range(2_000)]
+        answers, kept = ([f"{how}\t{a}\t{b}" for a, b in drawn] for how in ("answer", "kept"))
+        wanted, ran = (self.calling([self.shared()], it) for it in (answers, kept))
+        self.assertEqual((wanted.returncode, ran.returncode), (0, 0), ran.stderr)
+        for pair, line, text in zip(drawn, ran.stdout.splitlines(), wanted.stdout.splitlines(), strict=True):
+            self.assertEqual(line, text, " ".join(pair))
+
+    @needs_build
+    def test_ten_thousand_random_pairs_as_the_program_relates_them(self):
+        self.compare_with_the_program(random.Random(39), 10_000)
+
+
+@needs("gcc", "cc")
+class ManyPairs(WithLibrary):
+    """Other random pairs in each run."""
+
+    IS_LONG = True
+
+    @needs_build
+    def test_a_hundred_thousand_random_pairs(self):
+        for _ in range(10):
+            seed = int.from_bytes(os.urandom(4), "big")
+            with self.subTest(seed=seed):
+                self.compare_with_the_program(random.Random(seed), 10_000)
+
+
+if __name__ == "__main__":
+    unittest.main()

@@ -1,0 +1,267 @@
+"""The Python package: the rows of the engine's own scripts, faults, what a Geometry promises, shapely, and its installation by pip."""
+import csv
+import os
+import pickle
+import re
+import subprocess
+import sys
+import tempfile
+import threading
+import unittest
+import zipfile
+
+from support import ROOT, read
+
+import engine_rows
+import library
+import repository
+
+sys.path.insert(0, f"{ROOT}/python")
+
+import sfq
+from sfq import _faults, _library
+
+SQUARE = "POLYGON((0 0,4 0,4 4,0 4,0 0))"
+# The methods of a Geometry, by the names that SQL has for them.
+METHODS = {
+    "ST_Equals": "equals", "ST_Disjoint": "disjoint", "ST_Intersects": "intersects", "ST_Touches": "touches", "ST_Crosses": "crosses",
+    "ST_Within": "within", "ST_Contains": "contains", "ST_Overlaps": "overlaps",
+}
+
+
+def python_with_shapely():
+    """Returns a Python that has shapely, or None."""
+    for it in (sys.executable, "/usr/bin/python3"):
+        if os.path.isfile(it) and subprocess.run([it, "-c", "import shapely"], capture_output=True).returncode == 0:
+            return it
+    return None
+
+
+def environment(**more):
+    return {**os.environ, "SFQ_LIBRARY": library.SHARED, "PYTHONDONTWRITEBYTECODE": "1", **more}
+
+
+class Package(engine_rows.WithLibrary):
+    """The package as it is in the repository, over the library that ./build --library made."""
+
+    @classmethod
+    def setUpClass(cls):
+        super().setUpClass()
+        os.environ["SFQ_LIBRARY"] = library.SHARED
+
+    def test_matrices_and_faults_of_the_engines_rows(self):
+        pairs = engine_rows.pairs()
+        self.assertGreaterEqual(len(pairs), 240)
+        for it in pairs:
+            try:
+                found, fault = sfq.relate(it.first, it.second), ""
+            except sfq.FaultError as error:
+                found, fault = "", f"sfq: {error.which} {error.fault.place}"
+            self.assertEqual((found, fault), (it.matrix, it.fault), f"{it.first} {it.second}")
+
+    def test_each_predicate_of_the_engines_rows(self):
+        rows = [it for it in engine_rows.rows_of("predicates") if re.search(r" AND ST_(?!Relate)\w+\(a, b\)$", it.command)]
+        self.assertGreaterEqual(len(rows), 8)
+        for row in rows:
+            name = METHODS[re.search(r"(ST_\w+)\(a, b\)$", row.command)[1]]
+            given = list(csv.reader(row.files["table pair"].splitlines()))[1:]
+            held = [it[0] for it in given if int(it[0]) < 17 and getattr(sfq.Geometry(it[1]), name)(it[2])]
+            self.assertEqual(held, row.output.split()[1:], row.command)
+
+    def test_relations_that_only_bindings_have(self):
+        square, side = sfq.Geometry(SQUARE), "LINESTRING(0 0,4 0)"
+        found = [square.covers(side), square.contains(side), sfq.Geometry(side).covered_by(square), square.contains_properly("POINT(1 1)")]
+        self.assertEqual([*found, square.contains_properly("LINESTRING(0 0,2 2)")], [True, False, True, True, False])
+
+    def test_patterns(self):
+        line = sfq.Geometry("LINESTRING(-2 2,2 -2)")
+        for pattern, wanted in (("F01FF0212", True), ("ft*******", True), ("*********", True), ("T********", False), ("F0*FF0211", False)):
+            self.assertIs(line.relate_pattern(SQUARE, pattern), wanted, pattern)
+        for pattern in ("", "TTT", "F01FF0212 ", "F01FF021x", "F01FF0213"):
+            with self.assertRaisesRegex(ValueError, "a pattern is nine characters"):
+                line.relate_pattern(SQUARE, pattern)
+
+    def test_canonical_texts_are_the_engines(self):
+        for text, canonical in engine_rows.canonical_texts():
+            self.assertEqual(sfq.Geometry(text).text, canonical, text)
+
+    def test_a_geometry_is_a_value(self):
+        one, other = sfq.Geometry("POINT(1 2)"), sfq.Geometry(" point ( +1.0 02 )")
+        self.assertEqual((one, hash(one), str(other), len({one, other})), (other, hash(other), "POINT(1 2)", 1))
+        self.assertNotEqual(one, sfq.Geometry("MULTIPOINT(1 2)"))
+        self.assertNotEqual(one, "POINT(1 2)")
+        self.assertEqual(eval(repr(one), {"sfq": sfq}), one)
+        self.assertEqual(pickle.loads(pickle.dumps(other)), one)
+        with self.assertRaises(AttributeError):
+            one.text = "POINT(3 4)"
+        with self.assertRaises(AttributeError):
+            one._spelled = "POINT(3 4)"
+        with self.assertRaises(AttributeError):
+            del one._kept
+        with self.assertRaisesRegex(TypeError, "not of bytes"):
+            sfq.Geometry(b"POINT(1 2)")
+
+    def test_a_refused_text_has_its_fault(self):
+        refused = sfq.Geometry("POINT(1.5 2)")
+        self.assertEqual((refused.is_valid, refused.fault, str(refused)), (False, ("W2", 6, 0), "POINT(1.5 2)"))
+        self.assertEqual((sfq.Geometry(SQUARE).is_valid, sfq.Geometry(SQUARE).fault), (True, None))
+        for ask in (lambda: refused.touches(SQUARE), lambda: refused.__geo_interface__, lambda: refused.relate_pattern(SQUARE, "*" * 9)):
+            with self.assertRaisesRegex(sfq.FaultError, r"^sfq: first W2 at 6: .*isn't whole: scale the coordinates to a grid"):
+                ask()
+        with self.assertRaises(sfq.FaultError) as met:
+            sfq.Geometry(SQUARE).touches("POLYGON((0 0,4 0,4 4,0 4,0 0),(0 2,1 1,1 3,0 2))")
+        error = pickle.loads(pickle.dumps(met.exception))
+        self.assertEqual((error.which, error.fault, error.index, str(error)), ("second", ("V4", 0, 1), None, str(met.exception)))
+
+    def test_texts_that_no_file_has(self):
+        for text, place in (("", "W1 at 0"), ("POINT(1 2)\0", "W1 at 10"), ("\ud800", "W1 at 0"), ("PÖINT(1 2)", "W1 at 0")):
+            self.assertEqual(sfq.Geometry(text).fault.place, place, repr(text))
+
+    def test_many_pairs(self):
+        ones = [sfq.Geometry("POINT(1 1)"), "POINT(4 4)", "POINT(5 5)"]
+        self.assertEqual(sfq.relate_many(ones, iter([SQUARE] * 3)), [sfq.relate(it, SQUARE) for it in ones])
+        self.assertEqual(sfq.relate_many([], []), [])
+        with self.assertRaisesRegex(ValueError, "3 geometries with 2"):
+            sfq.relate_many(ones, [SQUARE] * 2)
+        with self.assertRaisesRegex(sfq.FaultError, "pair 1$") as met:
+            sfq.relate_many(ones, [SQUARE, "POINT", "CIRCLE"])
+        self.assertEqual((met.exception.index, met.exception.which), (1, "second"))
+
+    def test_coordinates(self):
+        for text, wanted in (
+            ("POINT(1 -2)", {"type": "Point", "coordinates": (1, -2)}),
+            ("MULTIPOINT(1 1,(2 2))", {"type": "MultiPoint", "coordinates": ((1, 1), (2, 2))}),
+            ("linestring(0 0,0 0,1 0)", {"type": "LineString", "coordinates": ((0, 0), (1, 0))}),
+            ("POLYGON((0 0,1 0,0 1,0 0))", {"type": "Polygon", "coordinates": (((0, 0), (1, 0), (0, 1), (0, 0)),)}),
+            ("MULTIPOLYGON EMPTY", {"type": "MultiPolygon", "coordinates": ()}),
+        ):
+            shape = sfq.Geometry(text)
+            self.assertEqual(shape.__geo_interface__, wanted)
+            self.assertEqual(sfq.from_shapely(shape), shape)
+            self.assertEqual(sfq.from_shapely(wanted), shape)
+        for value in (0.5, 1 + 2**-52, float("inf"), float("nan")):
+            with self.assertRaisesRegex(sfq.GridError, "isn't whole: scale the geometry to a grid"):
+                sfq.from_shapely({"type": "Point", "coordinates": (value, 1)})
+        with self.assertRaisesRegex(sfq.GridError, "has a Z"):
+            sfq.from_shapely({"type": "Point", "coordinates": (1, 2, 3)})
+        with self.assertRaisesRegex(sfq.GridError, "not a GeometryCollection"):
+            sfq.from_shapely({"type": "GeometryCollection", "geometries": []})
+
+    def test_shapely(self):
+        python = python_with_shapely()
+        if not python:
+            self.skipTest("needs the package python3-shapely")
+        text = (
+            "import sfq, shapely.wkt, shapely.geometry, sys\n"
+            "for line in sys.stdin:\n"
+            "    shape = sfq.Geometry(line)\n"
+            "    print(sfq.from_shapely(shape.to_shapely()) == shape, sfq.from_shapely(shapely.wkt.loads(line)) == shape)\n"
+            "print(sfq.from_shapely(shapely.geometry.LinearRing([(0, 0), (1, 0), (1, 1)])))\n"
+            "try:\n    sfq.from_shapely(shapely.geometry.Point(0.5, 1))\n"
+            "except sfq.GridError as error:\n    print(error)\n"
+        )
+        lines = [canonical for _, canonical in engine_rows.canonical_texts()]
+        given = {"input": "\n".join(lines) + "\n", "text": True, "capture_output": True}
+        ran = subprocess.run([python, "-c", text], env=environment(PYTHONPATH=f"{ROOT}/python"), **given)
+        self.assertEqual((ran.returncode, ran.stderr), (0, ""))
+        *same, ring, fraction = ran.stdout.splitlines()
+        self.assertEqual(same, ["True True"] * len(lines))
+        self.assertEqual(ring, "LINESTRING(0 0,1 0,1 1,0 0)")
+        self.assertIn("the coordinate 0.5 isn't whole: scale", fraction)
+
+    def test_four_threads(self):
+        pairs, differ = [it for it in engine_rows.pairs() if it.matrix], []
+
+        def work():
+            differ.extend(it for _ in range(5) for it in pairs if sfq.relate(it.first, it.second) != it.matrix)
+
+        threads = [threading.Thread(target=work) for _ in range(4)]
+        for it in threads:
+            it.start()
+        for it in threads:
+            it.join()
+        self.assertEqual(differ, [])
+
+    def test_out_of_memory_is_an_error(self):
+        with self.assertRaisesRegex(MemoryError, "out of memory"):
+            _library.is_refused(_library.OUT_OF_MEMORY)
+
+    def test_the_example_of_the_document(self):
+        text = re.search(r"^## Python$(.*?)^## ", read(f"{ROOT}/docs/LIBRARY.md"), re.M | re.S)[1]
+        shown = re.findall(r"```python\n(.*?)```.*?```text\n(.*?)```", text, re.S)
+        self.assertGreaterEqual(len(shown), 1)
+        for source, output in shown:
+            ran = subprocess.run([sys.executable, "-c", source], env=environment(PYTHONPATH=f"{ROOT}/python"), capture_output=True, text=True)
+            self.assertEqual((ran.stdout, ran.stderr), (output, ""), source)
+
+
+class Installation(unittest.TestCase):
+    """The wheel, pip, and how the package finds the library."""
+
+    def setUp(self):
+        room = tempfile.TemporaryDirectory(prefix="sfq-python-")
+        self.addCleanup(room.cleanup)
+        self.room = room.name
+
+    def build(self, call):
+        """Returns what a call of the build backend returns, made in a process of its own as pip does."""
+        text = f"import wheels; print(wheels.{call})"
+        ran = subprocess.run([sys.executable, "-B", "-c", text], env=environment(PYTHONPATH=f"{ROOT}/python/backend"), cwd=f"{ROOT}/python",
+                             capture_output=True, text=True, check=True)
+        return ran.stdout.strip()
+
+    def test_the_same_bytes_each_time(self):
+        for call in ("build_wheel", "build_sdist"):
+            made = []
+            for it in "ab":
+                os.makedirs(f"{self.room}/{it}", exist_ok=True)
+                with open(f"{self.room}/{it}/" + self.build(f"{call}({self.room + '/' + it!r})"), "rb") as file:
+                    made.append(file.read())
+            self.assertEqual(made[0], made[1], call)
+
+    def test_the_wheel_has_the_package(self):
+        with zipfile.ZipFile(f"{self.room}/" + self.build(f"build_wheel({self.room!r})")) as archive:
+            names = archive.namelist()
+            self.assertEqual(archive.read("sfq/__init__.py").decode(), read(f"{ROOT}/python/sfq/__init__.py"))
+            listed = [it.split(",")[0] for it in archive.read(names[-1]).decode().splitlines()]
+        self.assertEqual(listed, names)
+        self.assertIn("sfq/py.typed", names)
+
+    def test_the_version_is_that_of_the_program(self):
+        version = repository.version()
+        self.assertEqual(re.search(r'^version = "(.*)"$', read(f"{ROOT}/python/pyproject.toml"), re.M)[1], version)
+        self.assertEqual(sfq.__version__, version)
+
+    def test_pip_installs_it_without_a_network(self):
+        venv = subprocess.run([sys.executable, "-m", "venv", f"{self.room}/venv"], capture_output=True)
+        if venv.returncode:
+            self.skipTest("needs the package python3-venv")
+        python = f"{self.room}/venv/bin/python"
+        clean = {name: value for name, value in environment().items() if not name.startswith(("PIP_", "PYTHONPATH"))}
+        words = [python, "-m", "pip", "install", "-q", "--no-index", "--disable-pip-version-check", f"{ROOT}/python"]
+        ran = subprocess.run(words, env={**clean, "https_proxy": "http://127.0.0.1:1"}, capture_output=True, text=True)
+        self.assertEqual(ran.returncode, 0, ran.stderr)
+        text = "import sfq, importlib.metadata; print(sfq.__file__, importlib.metadata.version('sfq'))"
+        ran = subprocess.run([python, "-c", text], env=clean, cwd=self.room, capture_output=True, text=True)
+        self.assertEqual(ran.stderr, "")
+        self.assertTrue(ran.stdout.startswith(f"{self.room}/venv/lib"), ran.stdout)
+        self.assertTrue(ran.stdout.endswith(f" {sfq.__version__}\n"), ran.stdout)
+
+    def loading(self, place):
+        """Returns the error of a geometry where SFQ_LIBRARY names this file."""
+        text = "import sfq\ntry:\n    sfq.Geometry('POINT(1 1)').fault\nexcept sfq.LibraryError as error:\n    print(error)\n"
+        known = environment(PYTHONPATH=f"{ROOT}/python", SFQ_LIBRARY=place)
+        return subprocess.run([sys.executable, "-c", text], env=known, capture_output=True, text=True).stdout
+
+    def test_a_missing_library_is_a_clear_error(self):
+        self.assertRegex(self.loading("/nowhere/libsfq.so.0"), r"^sfq: no libsfq.so.0: install it by .*SFQ_LIBRARY.*/nowhere/libsfq.so.0")
+        self.assertRegex(self.loading("libc.so.6"), r"libc.so.6 isn't the library that this package needs: .*sfq_read")
+
+    def test_meanings_are_those_of_the_other_bindings(self):
+        text = read(f"{ROOT}/library/faults.h")
+        for code, meaning in _faults.MEANINGS.items():
+            self.assertIn(f'"{meaning}"', text, code)
+
+
+if __name__ == "__main__":
+    unittest.main()

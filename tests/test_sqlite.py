@@ -1,0 +1,174 @@
+"""SQLite's extension: the rows of the engine's own scripts and of the land register, NULL, faults, threads, and memory."""
+import csv
+import re
+import subprocess
+import tempfile
+import unittest
+
+from support import ROOT, needs, read
+
+import bindings
+import engine_rows
+
+# What a fault calls the two texts.
+NAMES = ("first", "second")
+
+
+@needs("sqlite3", "sqlite3")
+@unittest.skipUnless(bindings.has_sqlite(), "needs the package libsqlite3-dev")
+class Sqlite(engine_rows.WithLibrary):
+    """The command sqlite3 with the extension, which is made for this."""
+
+    @classmethod
+    def setUpClass(cls):
+        super().setUpClass()
+        cls.room = tempfile.TemporaryDirectory(prefix="sfq-sqlite-")
+        bindings.make_sqlite(f"{cls.room.name}/sfq0.so")
+
+    @classmethod
+    def tearDownClass(cls):
+        cls.room.cleanup()
+
+    def asked(self, text):
+        """Runs SQL with the extension loaded, and returns what sqlite3 prints, its faults, and its status."""
+        words = ["sqlite3", "-batch", "-bail", "-csv", ":memory:"]
+        ran = subprocess.run(words, input=f".load {self.room.name}/sfq0\n{text}\n", capture_output=True, text=True)
+        return ran.stdout, ran.stderr, ran.returncode
+
+    def value(self, expression):
+        """Returns the value of an expression, or the text of its error."""
+        out, err, status = self.asked(f"SELECT {expression};")
+        return out.strip().strip('"') if status == 0 else err.strip().partition("sfq: ")[2]
+
+    def check_queries(self, queries):
+        for it in queries:
+            out, err, status = self.asked(f"{it.tables}\n{it.text};")
+            self.assertEqual((err, status), ("", 0), it.text)
+            self.assertEqual(engine_rows.sorted_rows(out), it.rows, it.text)
+
+    def test_the_land_register_gives_what_sfq_run_gives(self):
+        queries = engine_rows.example_queries()
+        self.assertGreaterEqual(len(queries), 15)
+        self.check_queries(queries)
+
+    def test_each_predicate_of_the_engines_rows(self):
+        queries = engine_rows.predicate_queries()
+        self.assertGreaterEqual(len(queries), 30)
+        self.check_queries(queries)
+
+    def test_matrices_and_faults_of_the_engines_rows(self):
+        pairs = engine_rows.pairs()
+        lines = ["CREATE TABLE pair (id INTEGER PRIMARY KEY, a TEXT, b TEXT);"]
+        for at, it in enumerate(pairs):
+            texts = ",".join("'" + text.replace("'", "''") + "'" for text in it[:2])
+            lines.append(f"INSERT INTO pair VALUES ({at}, {texts});")
+        whole = [at for at, it in enumerate(pairs) if it.matrix]
+        lines.append(f"SELECT id, ST_Relate(a, b) FROM pair WHERE id IN ({','.join(map(str, whole))}) ORDER BY id;")
+        lines.append("SELECT ST_IsValidReason(a), ST_IsValidReason(b) FROM pair ORDER BY id;")
+        out, err, status = self.asked("\n".join(lines))
+        self.assertEqual((err, status), ("", 0))
+        found = engine_rows.sorted_rows(out)
+        self.assertEqual(sorted(it for it in found if it[0].isdigit()), sorted((str(at), pairs[at].matrix) for at in whole))
+        reasons = [it for it in map(tuple, csv.reader(out.splitlines())) if not it[0].isdigit()]
+        for it, found in zip(pairs, reasons, strict=True):
+            self.assertEqual(self.first_fault(found), it.fault, f"{it.first} {it.second}")
+
+    @staticmethod
+    def first_fault(reasons):
+        """Returns the line that the program prints where these are the reasons of two texts."""
+        for name, reason in zip(NAMES, reasons):
+            if reason != "Valid Geometry":
+                return f"sfq: {name} {reason.partition(':')[0]}"
+        return ""
+
+    def test_relations_that_only_bindings_have(self):
+        square = "'POLYGON((0 0,4 0,4 4,0 4,0 0))'"
+        for call, wanted in (
+            (f"ST_Covers({square}, 'LINESTRING(0 0,4 0)')", "1"),
+            (f"ST_CoveredBy('LINESTRING(0 0,4 0)', {square})", "1"),
+            (f"ST_Contains({square}, 'LINESTRING(0 0,4 0)')", "0"),
+            (f"ST_ContainsProperly({square}, 'POINT(1 1)')", "1"),
+            (f"ST_ContainsProperly({square}, 'LINESTRING(0 0,2 2)')", "0"),
+            ("ST_Covers('POINT EMPTY', 'POINT EMPTY')", "0"),
+        ):
+            self.assertEqual(self.value(call), wanted, call)
+
+    def test_null_in_null_out(self):
+        for call in ("ST_Touches(NULL, 'POINT(1 1)')", "ST_Touches('POINT(1.5 1)', NULL)", "ST_Relate(NULL, NULL)",
+                     "ST_Relate('POINT(1 1)', 'POINT(1 1)', NULL)", "ST_IsValid(NULL)", "ST_IsValidReason(NULL)"):
+            self.assertEqual(self.value(f"{call} IS NULL"), "1", call)
+
+    def test_faults_are_errors_and_values(self):
+        for call, wanted in (
+            ("ST_Touches('POINT(1 2', 'CIRCLE')", "first W1 at 9: "),
+            ("ST_Relate('POINT(1 2)', 'POLYGON((0 0,4 0,4 4,0 4,0 0),(0 2,1 1,1 3,0 2))')", "second V4 0 1: "),
+            ("ST_Relate('POINT(1 2)', 'POINT(1 2)', 'TTT')", "a pattern is nine characters"),
+            ("ST_Relate('POINT(1 2)', 'POINT(1 2)', 'TTTTTTTT' || char(0))", "a pattern is nine characters"),
+            ("ST_Touches(x'00', 'POINT(1 2)')", "first isn't a text"),
+            ("ST_Touches('POINT(1 2)', 7)", "second isn't a text"),
+            ("ST_IsValid('POINT(1.5 2)')", "0"),
+            ("ST_IsValid('POINT(1 2)')", "1"),
+            ("ST_IsValidReason('POINT(1.5 2)')", "W2 at 6: the number at this byte isn't whole: scale"),
+            ("ST_IsValidReason('POINT(1 2)' || char(0))", "W1 at 10: "),
+        ):
+            self.assertTrue(self.value(call).startswith(wanted), f"{call}: {self.value(call)}")
+
+    def test_an_index_may_use_the_functions(self):
+        """SQLite takes only functions in an index that give the same for the same."""
+        text = "CREATE TABLE t (a TEXT); CREATE INDEX i ON t (ST_IsValid(a)); INSERT INTO t VALUES ('POINT(1 1)'), ('POINT');"
+        self.assertEqual(self.asked(f"{text} SELECT count(*) FROM t WHERE ST_IsValid(a) = 0;"), ("1\n", "", 0))
+
+    def test_the_example_of_the_document(self):
+        text = re.search(r"^## SQLite$(.*?)^## ", read(f"{ROOT}/docs/LIBRARY.md"), re.M | re.S)[1]
+        shown = re.findall(r"```sql\n(.*?)```.*?```text\n(.*?)```", text, re.S)
+        self.assertGreaterEqual(len(shown), 1)
+        for source, output in shown:
+            given = source.replace(".load sfq0", f".load {self.room.name}/sfq0")
+            ran = subprocess.run(["sqlite3", "-batch", ":memory:"], input=given, capture_output=True, text=True, cwd=ROOT)
+            self.assertEqual((ran.stdout, ran.stderr), (output, ""), source)
+
+    def program(self, name):
+        """Compiles a program of tests/sqlite, and returns its path."""
+        to = f"{self.room.name}/{name}"
+        words = ["cc", "-std=gnu99", "-Wall", "-Wextra", "-Werror", "-g", "-pthread", f"{ROOT}/tests/sqlite/{name}.c"]
+        subprocess.run([*words, "-lsqlite3", "-o", to], check=True)
+        return to
+
+    def test_each_allocation_refused_in_turn(self):
+        pairs = [it for it in engine_rows.pairs() if self.is_line(it)][::3]
+        quote = lambda text: "'" + text.replace("'", "''") + "'"
+        calls = [f"ST_Relate({quote(it.first)}, {quote(it.second)})" for it in pairs]
+        calls += ["ST_Relate('POINT(1 1)', 'LINESTRING(0 0,2 2)', '0********')", "ST_Touches('LINESTRING(0 0,2 2)', 'POINT(2 2)')",
+                  "ST_Touches('POINT(1 1)', 'POINT(1.5 1)')", "ST_IsValid('POINT(1 1)')", "ST_IsValidReason('LINESTRING(1 1,1 1)')"]
+        lines = "".join(f"SELECT {it};\n" for it in calls)
+        ran = subprocess.run([self.program("refusing"), f"{self.room.name}/sfq0"], input=lines, capture_output=True, text=True)
+        self.assertEqual((ran.returncode, ran.stderr), (0, ""), ran.stdout)
+        self.assertGreater(int(re.match(r"(\d+) refused, 0 bad$", ran.stdout)[1]), 500)
+
+    def two_threads(self, times, *before):
+        program = self.program("threads")
+        lines = "".join(f"{it.first}\t{it.second}\t{it.matrix}\n" for it in engine_rows.pairs() if self.is_line(it))
+        call = [*before, program, f"{self.room.name}/sfq0", str(times)]
+        return subprocess.run(call, input=lines, capture_output=True, text=True)
+
+    @staticmethod
+    def is_line(pair):
+        return pair.matrix and not set("\t\n\r") & set(pair.first + pair.second) and len(pair.first) + len(pair.second) < 2_000
+
+    def test_two_connections_in_two_threads(self):
+        ran = self.two_threads(20)
+        self.assertEqual((ran.returncode, ran.stderr), (0, ""), ran.stdout)
+        self.assertIn(" 0 differ", ran.stdout)
+
+    @needs("valgrind", "valgrind")
+    def test_valgrind_finds_nothing(self):
+        ran = self.two_threads(1, "valgrind", "-q", "--leak-check=full", "--show-leak-kinds=definite,indirect", "--error-exitcode=9")
+        self.assertEqual((ran.returncode, ran.stderr), (0, ""))
+
+    def test_only_the_entry_can_be_seen(self):
+        ran = subprocess.run(["nm", "-D", "--defined-only", f"{self.room.name}/sfq0.so"], capture_output=True, text=True, check=True)
+        self.assertEqual([it.split()[-1] for it in ran.stdout.splitlines()], ["sqlite3_sfq_init"])
+
+
+if __name__ == "__main__":
+    unittest.main()

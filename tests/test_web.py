@@ -1,0 +1,364 @@
+"""The web page: what its script checks, its module against the program in Chromium and Firefox, and the page as a person uses it."""
+import base64
+import functools
+import http.server
+import importlib.util
+import json
+import os
+import random
+import shutil
+import signal
+import subprocess
+import sys
+import tempfile
+import threading
+import unittest
+
+from support import ROOT, needs_build, read
+import answers
+import required_rows
+
+sys.path.insert(0, f"{ROOT}/tests/fuzz")
+sys.path.insert(0, f"{ROOT}/bench")
+
+import changes
+import outcomes
+import pairs
+
+FOUND = importlib.util.spec_from_file_location("web_build", f"{ROOT}/web/build.py")
+web_build = importlib.util.module_from_spec(FOUND)
+FOUND.loader.exec_module(web_build)
+
+# A browser may take this long to begin and to do its work, in seconds.
+PATIENCE = 300
+# The Python that Debian's packages are for.
+PYTHON = "/usr/bin/python3"
+
+# A small module of LLVM, in the form that the kit writes.
+MODULE = f"""
+target datalayout = "{web_build.NATIVE_LAYOUT}"
+target triple = "{web_build.NATIVE_TARGET}"
+define noundef i32 @sfq_proved_fault(ptr noundef %a0) #0 {{
+  ret i32 0
+}}
+define noundef i32 @sfq_proved_answer_texts(ptr noundef %a0) #0 {{
+  ret i32 0
+}}
+declare {{ i64, i64 }} @rattle_alloc(i64 noundef, i64 noundef) #2
+declare void @llvm.memset.p0.i64(ptr writeonly captures(none), i8, i64, i1 immarg) #3
+attributes #0 = {{ nounwind "probe-stack"="inline-asm" "target-cpu"="x86-64-v2" }}
+"""
+# Patterns of the relations that the program has no function for.
+FURTHER = {
+    "Covers": ("T*****FF*", "*T****FF*", "***T**FF*", "****T*FF*"),
+    "CoveredBy": ("T*F**F***", "*TF**F***", "**FT*F***", "**F*TF***"),
+    "ContainsProperly": ("T**FF*FF*",),
+}
+
+
+@functools.lru_cache(maxsize=None)
+def carried():
+    """Returns what the page carries, where it is made of the present sources. Without the kit this isn't looked at."""
+    what = web_build.kept()
+    is_old = what is not None and shutil.which("rt") and what["inputs"] != web_build.inputs()
+    return None if is_old else what
+
+
+def needs_page(test):
+    """Skips a test of the page where its module isn't made of the present sources. This is seen when the test runs."""
+
+    @functools.wraps(test)
+    def run(self):
+        if carried() is None:
+            self.skipTest("needs ./build --web")
+        test(self)
+
+    return run
+
+
+class BuildOfTheModule(unittest.TestCase):
+    """What web/build.py takes and what it refuses, without the kit."""
+
+    def refused(self, text):
+        with self.assertRaises(web_build.Failure) as it:
+            web_build.retarget(text)
+        return str(it.exception)
+
+    def test_a_module_gets_another_target(self):
+        text = web_build.retarget(MODULE)
+        self.assertIn(f'target datalayout = "{web_build.LAYOUT}"', text)
+        self.assertIn(f'target triple = "{web_build.TARGET}"', text)
+        self.assertIn('"target-cpu"="lime1"', text)
+        self.assertNotIn("x86", text)
+
+    def test_another_layout_is_refused(self):
+        self.assertIn("target datalayout", self.refused(MODULE.replace("i128:128", "i128:64")))
+        self.assertIn("target triple", self.refused(MODULE.replace("linux-gnu", "linux-musl")))
+
+    def test_what_means_another_thing_is_refused(self):
+        for line, what in (
+            ("  %r = load i8, ptr addrspace(1) %p", "another address space"),
+            ("  %r = fadd x86_fp80 %x, %y", "numbers that only x86-64 has"),
+            ('  call void asm sideeffect "nop", ""()', "assembly"),
+            ("  %r = atomicrmw add ptr %p, i64 1 seq_cst", "threads"),
+            ("declare i32 @memcmp(ptr, ptr, i64)", "calls memcmp"),
+            ("declare <4 x i32> @llvm.x86.sse2.psrl.d(<4 x i32>, <4 x i32>)", "calls llvm.x86.sse2.psrl.d"),
+        ):
+            with self.subTest(line):
+                self.assertIn(what, self.refused(f"{MODULE}{line}\n"))
+
+    def test_a_module_without_the_calls_is_refused(self):
+        self.assertIn("lacks sfq_proved_fault", self.refused(MODULE.replace("@sfq_proved_fault", "@other")))
+
+    def test_another_processor_is_refused(self):
+        self.assertIn("processor", self.refused(MODULE.replace("x86-64-v2", "znver4")))
+
+    def test_examples_have_titles_and_both_texts(self):
+        found = web_build.examples()
+        self.assertGreaterEqual(sum("elsewhere" in it for it in found), 7)
+        for it in found:
+            self.assertTrue(all(it[name] for name in ("title", "a", "b", "says")), it)
+        elsewhere = next(it for it in found if "elsewhere" in it)
+        self.assertEqual((elsewhere["elsewhere"], elsewhere["sfq"]), ("0F1F0F102: crosses", "1FFF0F102: within"))
+        self.assertEqual(elsewhere["engines"], "GEOS, SpatiaLite, PostGIS, GDAL and JTS")
+
+    def test_every_file_that_the_page_names_is_made(self):
+        made = [*web_build.FILES, "module.js", "examples.js"]
+        for it in read(f"{ROOT}/web/index.html").split('src="')[1:]:
+            self.assertIn(it.partition('"')[0], made)
+
+
+# ---- the module and the page in browsers
+
+
+def module_of_page():
+    return base64.b64decode(carried()["bytes"])
+
+
+def page(room):
+    """Makes the page in a folder: the module that is there, and the present files. Returns the folder."""
+    web_build.write_page(carried(), f"{room}/page")
+    return f"{room}/page"
+
+
+def leb(value):
+    found = bytearray()
+    while value >= 0x80:
+        found.append(value & 0x7F | 0x80)
+        value >>= 7
+    return bytes([*found, value])
+
+
+def limited(module, pages):
+    """Returns a module whose memory grows by so many pages at most."""
+    begin, end = web_build.sections(module)[5]
+    least = web_build.number(module, begin + 2)[0]
+    memory = b"\1\1" + leb(least) + leb(least + pages)
+    head = begin - len(leb(end - begin))
+    return module[:head] + leb(len(memory)) + memory + module[end:]
+
+
+class Served(http.server.ThreadingHTTPServer):
+    """Serves the page, the page of tests and the pairs on this machine alone, and takes one report."""
+
+    def __init__(self, folder, wanted):
+        super().__init__(("127.0.0.1", 0), Handler)
+        self.folder = folder
+        self.texts = {"/pairs.json": json.dumps(wanted).encode(), "/limited.wasm": limited(module_of_page(), 4)}
+        self.report, self.has_report = None, threading.Event()
+
+
+class Handler(http.server.BaseHTTPRequestHandler):
+    def do_GET(self):
+        path = self.path.partition("?")[0]
+        text = self.server.texts.get(path)
+        if text is None:
+            folder = f"{ROOT}/tests/web" if path == "/pairs.html" else self.server.folder
+            try:
+                with open(f"{folder}/{os.path.basename(path)}", "rb") as file:
+                    text = file.read()
+            except OSError:
+                self.send_error(404)
+                return
+        kinds = {".html": "text/html", ".js": "text/javascript", ".css": "text/css", ".wasm": "application/wasm"}
+        self.send_response(200)
+        self.send_header("Content-Type", kinds.get(os.path.splitext(path)[1], "application/json"))
+        self.send_header("Content-Length", str(len(text)))
+        self.end_headers()
+        self.wfile.write(text)
+
+    def do_POST(self):
+        self.server.report = json.loads(self.rfile.read(int(self.headers["Content-Length"])))
+        self.send_response(204)
+        self.end_headers()
+        self.server.has_report.set()
+
+    def log_message(self, *_):
+        pass
+
+
+def chromium(room, address):
+    words = ["--headless=new", "--no-sandbox", "--disable-gpu", "--disable-dev-shm-usage", "--no-first-run"]
+    return ["chromium", *words, f"--user-data-dir={room}/profile", address]
+
+
+def firefox(room, address):
+    os.mkdir(f"{room}/profile")
+    return ["firefox-esr", "--headless", "--no-remote", "--profile", f"{room}/profile", address]
+
+
+def reported(words_of, wanted):
+    """Returns what a browser found of pairs: their answers, and how the page and a module with little memory did."""
+    with tempfile.TemporaryDirectory(prefix="sfq-web-test-", ignore_cleanup_errors=True) as room:
+        server = Served(page(room), wanted)
+        threading.Thread(target=server.serve_forever, daemon=True).start()
+        words = words_of(room, f"http://127.0.0.1:{server.server_port}/pairs.html")
+        started = subprocess.Popen(
+            words, env={**os.environ, "HOME": room}, stdin=subprocess.DEVNULL, stdout=subprocess.DEVNULL,
+            stderr=subprocess.DEVNULL, start_new_session=True,
+        )
+        try:
+            server.has_report.wait(PATIENCE)
+        finally:
+            os.killpg(started.pid, signal.SIGKILL)
+            started.wait()
+            server.shutdown()
+            server.server_close()
+    return server.report
+
+
+def rows_that_relate():
+    """Returns the pairs of the scripts with what they print."""
+    found = []
+    for name in read(f"{ROOT}/crates/scripts/args").splitlines():
+        for row in required_rows.rows_of(read(f"{ROOT}/crates/scripts/data/{name}")):
+            if row.command.startswith("relate ") and row.command.isascii():
+                pair = row.command.removeprefix("relate ").split(" | ", 1)
+                found.append((pair, row.output.partition("\n")[0].removeprefix("! ")))
+    return found
+
+
+def random_pairs(count, seed):
+    """Returns random pairs of texts. Most are of valid geometries, which touch often; some texts are changed at random."""
+    chance, found = random.Random(seed), []
+    while len(found) < count:
+        texts = [pairs.draw(chance, chance.choice(pairs.TYPES)) for _ in range(2)]
+        if chance.random() < 0.15:
+            at = chance.randrange(2)
+            others = [b"POLYGON((0 0,4 0,4 4,0 0))", b"MULTIPOINT((1 1),(2 2))", b"EMPTY"]
+            texts[at] = changes.change(texts[at].encode(), others, "geometry", chance).decode("latin-1")
+        if all(it.isascii() and "\0" not in it and len(it) < 10_000 for it in texts):
+            found.append(texts)
+    return found
+
+
+def with_answers(found):
+    """Returns pairs, each with the line that the program writes for it."""
+    given = answers.by_program([["relate", "--", *it] for it in found])
+    return [(pair, (it.out or it.err).decode().rstrip("\n")) for pair, it in zip(found, given)]
+
+
+def relations(pair, matrix):
+    """Returns which relations hold by a matrix, by their patterns."""
+    dimensions = tuple(map(outcomes.dimension, pair))
+    named = {it.removeprefix("ST_") for it in outcomes.PREDICATES if outcomes.holds(it, matrix, dimensions)}
+    return named | {name for name, forms in FURTHER.items() if any(outcomes.matches(it, matrix) for it in forms)}
+
+
+class InBrowsers(unittest.TestCase):
+    """The scripts' pairs and the page in each browser; skipped where a browser isn't there."""
+
+    ASKS_LIBRARY = True
+
+    def compare(self, words_of, package, find_pairs):
+        """Relates pairs with what they print in a browser, and looks at all that it reports."""
+        if not shutil.which(package):
+            self.skipTest(f"needs the package {package}")
+        wanted = find_pairs()
+        report = reported(words_of, [pair for pair, _ in wanted])
+        self.assertIsNotNone(report, f"{package} reported nothing in {PATIENCE} seconds")
+        self.assertEqual((report["page"], report["heap"]), ("well", "well"), report["agent"])
+        matrices = ["0FFFFFFF2", "FF0FFF0F2"]
+        self.assertEqual(report["shortOfMemory"], [matrices[0], "memory ran out"] * 2 + [matrices[1]])
+        self.assertIsInstance(report["pairs"], dict, report["pairs"])
+        self.assertEqual(report["pairs"]["lost"], 0, "memory isn't given back")
+        self.assertEqual(len(report["pairs"]["answers"]), len(wanted))
+        for (pair, line), (found, holds) in zip(wanted, report["pairs"]["answers"]):
+            with self.subTest(" | ".join(pair)):
+                self.assertEqual(found, line)
+                self.assertEqual(set(holds), relations(pair, line) if len(line) == 9 else set())
+
+    @needs_page
+    def test_pairs_of_the_scripts_in_chromium(self):
+        self.compare(chromium, "chromium", rows_that_relate)
+
+    @needs_page
+    def test_pairs_of_the_scripts_in_firefox(self):
+        self.compare(firefox, "firefox-esr", rows_that_relate)
+
+    @needs_page
+    @needs_build
+    def test_a_thousand_random_pairs_in_chromium(self):
+        self.compare(chromium, "chromium", lambda: with_answers(random_pairs(1_000, 1)))
+
+    @needs_page
+    @needs_build
+    def test_a_thousand_random_pairs_in_firefox(self):
+        self.compare(firefox, "firefox-esr", lambda: with_answers(random_pairs(1_000, 2)))
+
+
+class ManyPairsInBrowsers(InBrowsers):
+    """Twenty thousand random pairs, others in each run."""
+
+    IS_LONG = True
+
+    test_pairs_of_the_scripts_in_chromium = test_pairs_of_the_scripts_in_firefox = None
+    test_a_thousand_random_pairs_in_chromium = test_a_thousand_random_pairs_in_firefox = None
+
+    @needs_page
+    @needs_build
+    def test_twenty_thousand_random_pairs(self):
+        seed = int.from_bytes(os.urandom(4), "big")
+        with self.subTest(f"seed {seed}"):
+            self.compare(chromium, "chromium", lambda: with_answers(random_pairs(20_000, seed)))
+
+
+class TheModuleAgain(unittest.TestCase):
+    """Two builds of the module give the same bytes."""
+
+    IS_LONG = True
+
+    @needs_page
+    def test_a_second_build_gives_the_same_bytes(self):
+        if not shutil.which("rt") or not shutil.which("wasm-opt"):
+            self.skipTest("needs the command rt of the Rattle kit, and the package binaryen")
+        self.assertEqual(web_build.make_module(), module_of_page())
+
+
+@functools.lru_cache(maxsize=None)
+def driven():
+    """Returns what came of each trial of tests/web/drive.py: `well`, or why not."""
+    with tempfile.TemporaryDirectory(prefix="sfq-web-test-") as room:
+        ran = subprocess.run(
+            [PYTHON, "-B", f"{ROOT}/tests/web/drive.py", page(room)], stdin=subprocess.DEVNULL, capture_output=True, text=True,
+            timeout=2 * PATIENCE,
+        )
+    found = dict(line.split(": ", 1) for line in ran.stdout.splitlines() if ": " in line)
+    return found or {"start": ran.stderr[-500:]}
+
+
+class AsAPersonUsesIt(unittest.TestCase):
+    """The page, opened from a file in Chromium: mouse, keys, pictures."""
+
+    ASKS_LIBRARY = True
+
+    @needs_page
+    def test_what_a_person_does(self):
+        has_selenium = os.path.isfile(PYTHON) and not subprocess.run([PYTHON, "-c", "import selenium"], capture_output=True).returncode
+        if not (has_selenium and shutil.which("chromium") and shutil.which("chromedriver")):
+            self.skipTest("needs the packages chromium, chromium-driver and python3-selenium")
+        found = driven()
+        self.assertGreaterEqual(len(found), 16, found)
+        for name, what in found.items():
+            with self.subTest(name):
+                self.assertEqual(what, "well")

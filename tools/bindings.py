@@ -1,0 +1,112 @@
+"""Makes and installs what is over the C library: the Python package, the extension of SQLite, and those of PostgreSQL.
+
+Each is installed where what it needs is there. Where it isn't, a line says what is missing.
+"""
+import glob
+import os
+import shutil
+import subprocess
+import sys
+import tempfile
+
+import calls
+import library
+import repository
+
+# The Python that installs is the one that gets the package.
+PACKAGES = f"lib/python{sys.version_info[0]}.{sys.version_info[1]}/site-packages"
+SQLITE = "lib/sfq0.so"
+
+
+def files():
+    """Returns what is copied: where it is in the repository, where under the prefix, and its mode."""
+    found = sorted(glob.glob(f"{repository.ROOT}/python/sfq/*.py")) + [f"{repository.ROOT}/python/sfq/py.typed"]
+    return [(os.path.relpath(it, repository.ROOT), f"{PACKAGES}/sfq/{os.path.basename(it)}", 0o644) for it in found]
+
+
+# ---- SQLite ----
+
+
+def has_sqlite():
+    """Whether the header of SQLite's extensions is there."""
+    text = "#include <sqlite3ext.h>\n"
+    words = ["cc", "-E", "-x", "c", "-"]
+    return bool(shutil.which("cc")) and subprocess.run(words, input=text, text=True, capture_output=True).returncode == 0
+
+
+def make_sqlite(path):
+    """Compiles the extension. The library is within it, and only the entry that SQLite looks for can be seen from outside."""
+    flags = [*library.FLAGS, "-fvisibility=hidden", "-shared", f"-I{library.FOLDER}"]
+    made = [f"{repository.ROOT}/sqlite/sfq0.c", f"{library.OUT}/libsfq.a", "-Wl,--exclude-libs,ALL", "-Wl,-z,defs", "-o", path]
+    calls.run(["cc", *flags, *made])
+
+
+# ---- PostgreSQL ----
+
+
+def configured(name):
+    """Returns a folder of PostgreSQL by pg_config, or None where pg_config isn't there or fails."""
+    if not shutil.which("pg_config"):
+        return None
+    ran = subprocess.run(["pg_config", f"--{name}"], capture_output=True, text=True)
+    return ran.stdout.strip() if ran.returncode == 0 else None
+
+
+def has_postgresql():
+    """Whether extensions of PostgreSQL can be made: its makefiles are there, and make and a compiler."""
+    pgxs = configured("pgxs")
+    return bool(pgxs) and os.path.isfile(pgxs) and bool(shutil.which("make")) and bool(shutil.which("cc"))
+
+
+def of_postgresql():
+    """Returns where PostgreSQL looks for what the extensions are made of."""
+    names = sorted(os.path.basename(it) for it in glob.glob(f"{repository.ROOT}/postgresql/sfq*") if not it.endswith(".c"))
+    return [f"{configured('pkglibdir')}/sfq.so", *(f"{configured('sharedir')}/extension/{it}" for it in names)]
+
+
+def make_postgresql(*words):
+    """Makes the extensions in a copy of their folder, by the words of make, over the library that ./build --library made."""
+    with tempfile.TemporaryDirectory(prefix="sfq-postgresql-") as room:
+        for it in ("library", "postgresql"):
+            shutil.copytree(f"{repository.ROOT}/{it}", f"{room}/{it}", ignore=shutil.ignore_patterns("out"))
+        os.makedirs(f"{room}/prefix/lib")
+        shutil.copyfile(f"{library.OUT}/libsfq.a", f"{room}/prefix/lib/libsfq.a")
+        calls.run(["make", "-s", "-C", f"{room}/postgresql", f"SFQ={room}/prefix", *words])
+
+
+def is_below(path, prefix):
+    return os.path.realpath(path).startswith(os.path.join(os.path.realpath(prefix), ""))
+
+
+# ---- installing ----
+
+
+def install_made(prefix):
+    """Makes the extensions under a prefix, and returns their paths. Those of PostgreSQL only where it looks below the prefix."""
+    paths = []
+    if has_sqlite():
+        paths.append(os.path.join(prefix, SQLITE))
+        make_sqlite(paths[0] + ".new")
+        os.replace(paths[0] + ".new", paths[0])
+    else:
+        print("not installed: the extension of SQLite, which needs cc and sqlite3ext.h")
+    if not has_postgresql():
+        print("not installed: the extensions of PostgreSQL, which need pg_config, PGXS, make and cc")
+    elif not all(is_below(it, prefix) for it in of_postgresql()):
+        print(f"not installed: the extensions of PostgreSQL, which looks in {configured('sharedir')}: "
+              f"make -C postgresql install SFQ={os.path.abspath(prefix)}")
+    else:
+        make_postgresql("install")
+        paths += of_postgresql()
+    return paths
+
+
+def made(prefix):
+    """Returns what install_made may have made, relative to the prefix."""
+    of_server = [it for it in of_postgresql() if is_below(it, prefix)] if has_postgresql() else []
+    return [SQLITE, *(os.path.relpath(it, os.path.realpath(prefix)) for it in of_server)]
+
+
+def remove_compiled(prefix):
+    """Removes what Python leaves beside the package when it is used."""
+    shutil.rmtree(os.path.join(prefix, PACKAGES, "sfq", "__pycache__"), ignore_errors=True)

@@ -1,0 +1,124 @@
+"""The proved calls of the crate sfq_c, compiled: an archive for x86-64, of which the C library is made, and the module of LLVM on
+the way to it, of which the web page is made."""
+import os
+import re
+import shutil
+import subprocess
+from typing import NamedTuple
+
+import proving
+import repository
+
+CRATE = "sfq_c"
+FOLDER = f"{repository.ROOT}/crates/{CRATE}"
+TARGET = "x86_64-unknown-linux-gnu"
+
+
+class Failure(Exception):
+    """Why the calls can't be compiled, or nothing can be made of them."""
+
+
+class Compiled(NamedTuple):
+    """The paths of the archive and of the module, which LLVM reads."""
+
+    archive: str
+    module: str
+
+
+def run(words, **how):
+    """Runs a command, and returns what it wrote. Its last lines are the reason where it fails."""
+    ran = subprocess.run(words, stdin=subprocess.DEVNULL, stdout=subprocess.PIPE, stderr=subprocess.STDOUT, **how)
+    text = ran.stdout.decode("utf-8", "replace")
+    if ran.returncode:
+        last = "\n".join(text.splitlines()[-12:])
+        raise Failure(f"{os.path.basename(words[0])} ended with status {ran.returncode}\n{last}")
+    return text
+
+
+def find_kit():
+    """Returns the folder of the Rattle kit."""
+    repository.need_rt()
+    kit = os.path.dirname(os.path.dirname(os.path.realpath(shutil.which("rt"))))
+    for it in ("bin/rattle", "bin/rattle-link", "toolchain/bin/clang", "toolchain/bin/llvm-ar", "c/liblibc_c.a"):
+        if not os.path.exists(f"{kit}/{it}"):
+            raise Failure(f"the kit at {kit} lacks {it}")
+    return kit
+
+
+def crate_of():
+    """Returns what is known of the crate's proof."""
+    crates = proving.crates_of(repository.ROOT, repository.logic_of(repository.kit_line()))
+    crate = next((it for it in crates if it.name == CRATE), None)
+    if crate is None:
+        raise Failure(f"crates.txt has no crate {CRATE}")
+    crate.read_mark()
+    return crate
+
+
+def below(crates=None, name=CRATE):
+    """Returns the repository's libraries below the crate, each after those that it uses."""
+    crates, found = crates or repository.read_crates(), []
+    for it in crates[name]:
+        if it in crates:
+            found += [each for each in [*below(crates, it), it] if each not in found]
+    return found
+
+
+def prove(jobs=0):
+    """Proves the crate and all below it, side by side, as far as that isn't done."""
+    if crate_of().is_done:
+        return
+    run = proving.Proving(repository.ROOT, repository.logic_of(repository.kit_line()), jobs)
+    try:
+        is_proved = run.prove_in(FOLDER)
+    finally:
+        run.end()
+    if not is_proved:
+        raise Failure(f"the crate {CRATE} isn't proved")
+
+
+def words_of_build(kit, toolchain, archive, keeps):
+    """Returns the words by which the kit builds the crate with a toolchain of our own. `rt lib` has no word for one."""
+    crates = repository.read_crates()
+    words = [f"{kit}/bin/rattle", "build", "--crate-name", CRATE, "src/lib.rt", "--extern", f"std={kit}/rlibs/std.rlib"]
+    for it in crates[CRATE]:
+        at = f"{repository.ROOT}/crates/{it}/out/rlib" if it in crates else f"{kit}/rlibs"
+        words += ["--extern", f"{it}={at}/{it}.rlib"]
+    for it in below(crates):
+        words += ["-L", f"dependency={repository.ROOT}/crates/{it}/out/rlib"]
+    words += ["-L", f"dependency={kit}/rlibs", "--antt-project", f"{kit}/rattle/logic/antt-project.json"]
+    words += ["--logic-built", f"{kit}/logic_built", "--links", f"{CRATE}=", "--crate-type", "staticlib"]
+    words += ["--incremental", "out/incremental"] if keeps else []
+    return words + ["--backend", "llvm", "--toolchain", toolchain, "-o", archive]
+
+
+def make_toolchain(kit, folder, module):
+    """Makes a folder of links to the kit's toolchain, whose clang keeps the module that it is handed."""
+    os.makedirs(f"{folder}/bin")
+    os.symlink(f"{kit}/toolchain/lib", f"{folder}/lib")
+    for it in os.listdir(f"{kit}/toolchain/bin"):
+        if it != "clang":
+            os.symlink(f"{kit}/toolchain/bin/{it}", f"{folder}/bin/{it}")
+    with open(f"{folder}/bin/clang", "w", encoding="utf-8") as file:
+        file.write(f'#!/bin/sh\n[ -f module.bc ] && cp module.bc "{module}"\nexec "{kit}/toolchain/bin/clang" "$@"\n')
+    os.chmod(f"{folder}/bin/clang", 0o755)
+
+
+def compile_calls(room, keeps=True):
+    """Proves the crate over the libraries that are proved below it, and compiles it into a folder.
+
+    `keeps` says whether these libraries are those of `rt check`, and what is proved now is kept beside them. What `rt ci` leaves
+    serves too, but nothing else can be built on it.
+    """
+    kit = find_kit()
+    compiled = Compiled(f"{room}/lib{CRATE}.a", f"{room}/module.bc")
+    make_toolchain(kit, f"{room}/toolchain", compiled.module)
+    report = run(words_of_build(kit, f"{room}/toolchain", compiled.archive, keeps), cwd=FOLDER)
+    found = re.search(rf"^logic=proved .*target={TARGET}.*$", report, re.M)
+    if not found:
+        raise Failure(f"the kit doesn't say that {CRATE} is proved for {TARGET}")
+    if not os.path.isfile(compiled.module):
+        raise Failure("the kit's clang got no file module.bc")
+    if keeps:
+        crate_of().write_mark(found[0])
+    return compiled
