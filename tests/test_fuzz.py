@@ -132,12 +132,12 @@ class Parts(unittest.TestCase):
         for part in read(f"{ROOT}/docs/FAULTS.md").split("\n## ")[1:]:
             head = part.partition("\n")[0]
             status = next((statuses[it] for it in statuses if f"The {it} " in head), 5 if head == "Geometries" else 6)
-            for line in re.findall(r"(?m)^\| `(sfq: [^`]*)`", part):
+            for line, own in re.findall(r"(?m)^\| `(sfq: [^`]*)`[^|]*\| (\d?)", part):
                 with self.subTest(line=line):
                     if "write failed" in line or "out of memory" in line:
                         self.assertIsNone(outcomes.fault_status(f"{line}\n".encode()))
                     else:
-                        wanted = 6 if "L11" in line else status
+                        wanted = int(own) if own else 6 if "L11" in line else status
                         self.assertEqual(outcomes.fault_status(f"{line}\n".encode()), wanted)
 
     def test_a_failing_case_can_be_run_again(self):

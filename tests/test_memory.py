@@ -206,7 +206,7 @@ class TooLittle(unittest.TestCase):
 
 class Readme(unittest.TestCase):
     def test_it_has_these_numbers(self):
-        row = re.search(r"(?m)^\| memory \| at most (\d+) MiB, and (\d+) bytes .* at most (\d+) for each pair", read(f"{ROOT}/README.md"))
+        row = re.search(r"(?m)^\| memory \| at most (\d+) MiB, and (\d+) bytes .* at most (\d+) bytes for each pair", read(f"{ROOT}/README.md"))
         self.assertEqual([int(it) for it in row.groups()], [BASE >> 20, EACH_BYTE, EACH_PAIR])
 
 

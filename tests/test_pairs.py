@@ -89,7 +89,8 @@ class Pairs(unittest.TestCase):
         with tempfile.TemporaryDirectory(dir=sweeps.room()) as folder:
             self.assertEqual(self.ask(b"", f"{folder}/none"), (b"", b"sfq: pairs unreadable\n", 6))
             self.assertEqual(self.ask(b"", folder), (b"", b"sfq: pairs L11\n", 6))
-        long = b'"' + b" " * FIELD_BYTES + b'",POINT(1 1)\n'
+        # Reading stops with the piece of the file in which a field passes its limit: each record that is whole in it has its line.
+        long = b'"' + b" " * (FIELD_BYTES + (1 << 17)) + b'",POINT(1 1)\n'
         self.assertEqual(self.ask(RECORD + long), (LINE, b"sfq: pairs L11\n", 6))
 
     @needs_build

@@ -87,6 +87,10 @@ def lint(counts):
         counts.take("./lint", status == 0, took, text=out + err)
 
 
+# For how many seconds a program may run without proof. With run-time checks the scripts take a minute where nothing else runs.
+PLAYING = "600"
+
+
 def play_program(counts, crate):
     """Runs a program on the files beside its source, without proof, and compares what it writes."""
     folder = f"{ROOT}/crates/{crate}"
@@ -97,7 +101,7 @@ def play_program(counts, crate):
             words += ["--data", f"{os.path.relpath(path, f'{folder}/data')}={path}"]
     arguments = read(f"{folder}/args").splitlines()
     with open(f"{folder}/stdin" if os.path.isfile(f"{folder}/stdin") else os.devnull, "rb") as given:
-        status, out, err, took = run(["rt", "try", *words, "--", *arguments], folder, given)
+        status, out, err, took = run(["rt", "try", "--seconds", PLAYING, *words, "--", *arguments], folder, given)
     is_well = out == read(f"{folder}/stdout") and status == int(read(f"{folder}/status") or 0)
     counts.take(f"program {crate}", is_well and "run=ended" in err, took, text=out + err)
 

@@ -102,12 +102,15 @@ def fit(ran, other):
 
 
 def wrong_check(ran, programs):
-    """Checks the tables of a query: they load if it has rows or a fault of names, and else end in the query's fault."""
+    """Checks the tables of a query: they load if it has rows or a fault of names, and else end in the query's fault. A query
+    whose text can't be read is refused before."""
     words = [b"check", b"s", b"d"]
     checked = programs.run(*words)
     what = outcomes.wrong_outcome(checked, words)
     if ran.status == 0 or LATE.match(ran.line()):
         is_well = checked.status == 0
+    elif ran.line() == "query unreadable":
+        is_well = True
     else:
         is_well = ran.status == 5 or ran.status == outcomes.MISUSE or checked == ran
     if what is None and not is_well:

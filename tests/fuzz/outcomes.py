@@ -8,6 +8,7 @@ REASON = r"(?:W[123] at \d+|W4|V[1235] \d+|V[4678] \d+ \d+)"
 NAME = r"[A-Za-z_]\w*"
 # The lines of faults by their statuses. Nothing fails here, so `write failed` and `out of memory` aren't among them.
 LINES = {
+    2: r"unknown code: there are S1 to S6, L1 to L11, Q1 to Q12, W1 to W4 and V1 to V8",
     3: r"S[1-5] at \d+|S6",
     4: rf"{NAME} (?:L[12]|L[345789] record \d+|L6 record \d+ {REASON}|L10)",
     5: rf"Q(?:[1-79]|1[02]) at \d+|Q8 at \d+ {REASON}|Q11|(?:first|second) {REASON}",
@@ -16,7 +17,9 @@ LINES = {
 LINES = {status: re.compile(f"sfq: (?:{lines})\n".encode()) for status, lines in LINES.items()}
 MISUSE, REFUSED = 2, 5
 # The statuses of faults of each command.
-STATUSES = {b"run": (3, 4, 5, 6), b"check": (3, 4, 6), b"relate": (5,)}
+STATUSES = {b"run": (3, 4, 5, 6), b"check": (3, 4, 6), b"relate": (5, 6), b"why": (5, 6), b"pairs": (4, 5, 6), b"fault": (2,)}
+# The commands whose faults name one of two geometries.
+OF_TWO = (b"relate", b"why")
 METHOD = r"\w+ (?:scan|probe \d+)\n"
 EXPLAINED = re.compile(
     rf"cost \d+\nouter {METHOD}(?:inner {METHOD})?filter (?:none|\d+(?: \d+)*)\n(?:count\n)?(?:limit \d+\n)?(?:work \d+\n)?".encode()
@@ -63,11 +66,11 @@ def wrong_outcome(ran, words):
         return wrong_answer(ran, words)
     if ran.out:
         return "there is a fault, and standard output isn't empty"
-    if ran.status == MISUSE:
+    if ran.status == MISUSE and fault_status(ran.err) != MISUSE:
         return None if ran.err.startswith(b"error: ") or b"Usage: " in ran.err else "no text of a misuse"
     if fault_status(ran.err) != ran.status or ran.status not in STATUSES.get(b"".join(words[:1]), ()):
         return "no fault has this line and status"
-    if ran.status == REFUSED and (words[0] == b"relate") != ran.err.startswith((b"sfq: first ", b"sfq: second ")):
+    if ran.status == REFUSED and (words[0] in OF_TWO) != ran.err.startswith((b"sfq: first ", b"sfq: second ")):
         return "another command has faults like this"
     return None
 

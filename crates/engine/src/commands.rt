@@ -85,14 +85,12 @@ pub fn serve_observed<
         Order::Relate { first, second } => {
             serve_relate(alloc, first.as_str(), second.as_str(), opener, out, err)
         }
-        Order::Why {
-            first,
-            second: Some(second),
-        } => serve_witnesses(alloc, first.as_str(), second.as_str(), opener, out, err),
-        Order::Why {
-            first,
-            second: None,
-        } => serve_verdict(alloc, first.as_str(), opener, out, err),
+        Order::Why { first, second } => match second {
+            Some(second) => {
+                serve_witnesses(alloc, first.as_str(), second.as_str(), opener, out, err)
+            }
+            None => serve_verdict(alloc, first.as_str(), opener, out, err),
+        },
         Order::Pairs { file } => serve_pairs(alloc, file.as_str(), opener, out, err),
         Order::Fault { code } => serve_fault(code.as_str(), out, err),
     }
@@ -106,6 +104,7 @@ struct Paths<'a> {
 }
 
 /// Runs the query that a word gives: its file is read first, if the word names one.
+#[inline(never)]
 fn serve_query<R: Read + Drop, F: FnMut(&str) -> Option<R>, S: Sink, E: Sink, O: RowObserver>(
     alloc: Global,
     paths: &Paths<'_>,
@@ -186,6 +185,7 @@ fn run_over<'s, R: Read + Drop, F: FnMut(&str) -> Option<R>, S: Sink, O: RowObse
 
 /// Loads every table, and writes a line for each, in the schema's order: its name and how many rows it has. The files are
 /// opened as for a run. If one of the tables doesn't load, nothing is written.
+#[inline(never)]
 fn serve_check<R: Read + Drop, F: FnMut(&str) -> Option<R>, S: Sink, E: Sink>(
     alloc: Global,
     paths: &Paths<'_>,

@@ -16,7 +16,7 @@ ghost use Rattle.matrices.specs.Raising.{Grows, IsOnBoth};
 use crate::fullness::{is_full_along, is_full_off, is_full_on, of_own_edges};
 use crate::gap_cells::{raise_gaps, raise_gaps_off, raise_off};
 use crate::matrix_positions::raise_point;
-use crate::outside_edges::{left_to_raise, small_envelope};
+use crate::outside_edges::{raise_edges_near, raise_edges_off_near, small_envelope};
 use edge_gaps::Gaps;
 use fraction::RatPoint;
 use geometry_model::{Dimension, Kind, Location};
@@ -29,8 +29,8 @@ use validity::Valid;
 /// Once an edge has met others this often, these are merged, if that pays.
 const MANY_MEETINGS: usize = 64;
 
-/// It pays once all edges so far have met others as often as there are edges in this part of them: the fourth.
-const FAIR_PART: usize = 4;
+/// It pays once all edges so far have met others as often as there are edges in this part of them: a sixteenth.
+const FAIR_PART: usize = 16;
 
 /// Whether the matrix shows a common point of the two parts in which almost all points of each geometry's own edges lie.
 fn shows_meeting(first: &Valid, second: &Valid, matrix: &MatrixCells) -> bool
@@ -84,7 +84,7 @@ fn merge_if_many(
 }
 
 /// Raises cells by an edge of the first geometry. It fails only when memory runs out.
-fn raise_edge(
+pub(crate) fn raise_edge(
     first: &Valid,
     second: &Valid,
     edge: &Segment,
@@ -136,8 +136,7 @@ fn raise_apart(first: &Valid, second: &Valid, matrix: &mut MatrixCells)
     }
 }
 
-/// Raises cells by the edges of the first geometry, from the last one back, until no further one can raise a cell. It fails only
-/// when memory runs out.
+/// Raises cells by the edges of the first geometry, until no further one can raise a cell. It fails only when memory runs out.
 pub(crate) fn raise_edges(
     alloc: Global,
     first: &Valid,
@@ -156,26 +155,21 @@ pub(crate) fn raise_edges(
         raise_apart(first, second, matrix);
         return Ok(());
     }
-    let around = small_envelope(first, second);
+    if let Some(around) = small_envelope(first, second) {
+        return raise_edges_near(alloc, first, second, &around, gaps, matrix);
+    }
     let mut merged = MergedEdges::new(alloc);
-    let mut left = first.segments().len();
-    while left > 0 {
+    for edge in first.segments() {
         if is_full_off(first, second, matrix) && is_full_on(first, second, matrix) {
             return Ok(());
         }
-        left = left_to_raise(first, second, &around, left, matrix);
-        if left == 0 {
-            return Ok(());
-        }
-        left -= 1;
-        let edge = &first.segments()[left];
         raise_edge(first, second, edge, gaps, &mut merged, matrix)?;
     }
     Ok(())
 }
 
 /// Raises cells by what of an edge of the first geometry lies off the second's edges. It fails only when memory runs out.
-fn raise_edge_off(
+pub(crate) fn raise_edge_off(
     first: &Valid,
     second: &Valid,
     edge: &Segment,
@@ -206,9 +200,8 @@ fn raise_edge_off(
     Ok(())
 }
 
-/// Raises cells by the edges of the first geometry, from the last one back, once the matrix covers those of the second. It then
-/// shows what both share, so only gaps off the second's edges can raise a cell. It stops when none can any more, and fails only
-/// when memory runs out.
+/// Raises cells by the edges of the first geometry once the matrix covers those of the second. It then shows what both share, so
+/// only gaps off the second's edges can raise a cell. It stops when none can any more, and fails only when memory runs out.
 pub(crate) fn raise_edges_off(
     alloc: Global,
     first: &Valid,
@@ -228,19 +221,14 @@ pub(crate) fn raise_edges_off(
         raise_apart(first, second, matrix);
         return Ok(());
     }
-    let around = small_envelope(first, second);
+    if let Some(around) = small_envelope(first, second) {
+        return raise_edges_off_near(alloc, first, second, &around, gaps, matrix);
+    }
     let mut merged = MergedEdges::new(alloc);
-    let mut left = first.segments().len();
-    while left > 0 {
+    for edge in first.segments() {
         if is_full_off(first, second, matrix) {
             return Ok(());
         }
-        left = left_to_raise(first, second, &around, left, matrix);
-        if left == 0 {
-            return Ok(());
-        }
-        left -= 1;
-        let edge = &first.segments()[left];
         raise_edge_off(first, second, edge, gaps, &mut merged, matrix)?;
     }
     Ok(())

@@ -22,6 +22,7 @@ use word_texts::geometry_text;
 /// word is well-known text, or `@` and the path of a file that has it; both texts are there before one is read as a geometry.
 /// It returns the status: 0, or that of the failure, whose line it writes to `err` (06-103r4, 6.1.15.2; which witness
 /// shows a cell, and the words: this project's choice).
+#[inline(never)]
 pub fn serve_witnesses<R: Read + Drop, F: FnMut(&str) -> Option<R>, S: Sink, E: Sink>(
     alloc: Global,
     first: &str,
@@ -80,6 +81,7 @@ fn put_cells<S: Sink, E: Sink>(witnesses: &Witnesses, out: &mut S, err: &mut E) 
 /// word is well-known text, or `@` and the path of a file that has it. It returns the status: 0, or that of the failure, whose
 /// line it writes to `err` (06-103r4, 6.1.7, 6.1.11.1 and 6.1.14; the order of faults, which place and the words: this
 /// project's choice).
+#[inline(never)]
 pub fn serve_verdict<R: Read + Drop, F: FnMut(&str) -> Option<R>, S: Sink, E: Sink>(
     alloc: Global,
     word: &str,

@@ -17,6 +17,7 @@ use word_texts::geometry_text;
 /// Writes the nine characters of the matrix of the geometries that two words give, and a line feed. A word is well-known text,
 /// or `@` and the path of a file that has it; both texts are there before one is read as a geometry. It returns the status: 0,
 /// or that of the failure, whose line it writes to `err`.
+#[inline(never)]
 pub fn serve_relate<R: Read + Drop, F: FnMut(&str) -> Option<R>, S: Sink, E: Sink>(
     alloc: Global,
     first: &str,
@@ -66,6 +67,7 @@ fn relate_given<S: Sink, E: Sink>(
 
 /// Writes a line for each record of the file at a path: the matrix of its two geometries, or why one is refused. It returns
 /// the status: 0, 5 if at least one pair is refused, or that of the failure, whose line it writes to `err`.
+#[inline(never)]
 pub fn serve_pairs<R: Read + Drop, F: FnMut(&str) -> Option<R>, S: Sink, E: Sink>(
     alloc: Global,
     path: &str,
@@ -112,6 +114,7 @@ fn ended(pairs: Pairs) -> Result<(), Failure<'static>>
 }
 
 /// Writes the page of the fault with a code. It returns the status: 0, or that of the failure, whose line it writes to `err`.
+#[inline(never)]
 pub fn serve_fault<S: Sink, E: Sink>(code: &str, out: &mut S, err: &mut E) -> u8
     ensures serves { Serves E.taken E.failures
         (ExplainsFault S.taken S.failures out.old out.new code.now)

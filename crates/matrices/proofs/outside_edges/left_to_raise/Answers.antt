@@ -1,8 +1,7 @@
-use Rattle.std.proofs.Common.{◌≡◌, false, sym, subst, List, Option, Some, IfSome}
+use Rattle.std.proofs.Common.{◌≡◌, false, sym, subst, List}
 use Rattle.std.specs.Prelude.{slice_range}
 use Rattle.std.specs.List.{list_any}
 use Rattle.geometry_model.specs.Geometries.{Edge}
-use Rattle.geometry_model.specs.Envelopes.{Envelope, envelope}
 use Rattle.edge_boxes.specs.BoxLists.{BoxesOf}
 use Rattle.edge_boxes.specs.NearEdges.{is_near}
 use Rattle.matrices.proofs.OutsideEdges.{part_covered}
@@ -11,11 +10,10 @@ use Rattle.matrices.proofs.outside_edges.left_to_raise.Goals as goal
 pub last_near-requires-clause-boxes : goal.last_near-requires-clause-boxes
 last_near-requires-clause-boxes c = subst (BoxesOf c.boxes.result.now) (sym c.segments.ensures) c.boxes.ensures
 
-pub returns-in-Some-clause-covers : goal.returns-in-Some-clause-covers
-returns-in-Some-clause-covers c =
+pub returns-then-is_full_outside-clause-covers : goal.returns-then-is_full_outside-clause-covers
+returns-then-is_full_outside-clause-covers c =
     let a = c.args.first.now in
     let b = c.args.second.now in
-    let around = c.in-Some.around in
-    let is : envelope b ≡ Some around = subst (λ (o : Option Envelope). IfSome o (λ e. envelope b ≡ Some e)) c.in-Some.is c.requires.around in
-    part_covered a b c.requires.second_valid around is c.args.matrix.now c.requires.ends (c.is_full_outside.ensures c.if-is_full_outside.true a (sym c.kind.ensures)) c.last_near.result c.args.end
+    let around = c.args.around.now in
+    part_covered a b c.requires.second_valid around c.requires.around c.args.matrix.now c.requires.ends (c.is_full_outside.ensures c.if-is_full_outside.true a (sym c.kind.ensures)) c.last_near.result c.args.end
     (subst (λ (es : List Edge). list_any (is_near around) (slice_range es c.last_near.result c.args.end) ≡ false) c.segments.ensures c.last_near.ensures.outside)
