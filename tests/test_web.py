@@ -228,13 +228,14 @@ def reported(words_of, wanted):
 
 
 def rows_that_relate():
-    """Returns the pairs of the scripts with what they print."""
+    """Returns the pairs of the scripts with what they print, but for words that name a file."""
     found = []
     for name in read(f"{ROOT}/crates/scripts/args").splitlines():
         for row in required_rows.rows_of(read(f"{ROOT}/crates/scripts/data/{name}")):
             if row.command.startswith("relate ") and row.command.isascii():
                 pair = row.command.removeprefix("relate ").split(" | ", 1)
-                found.append((pair, row.output.partition("\n")[0].removeprefix("! ")))
+                if not any(it.startswith("@") for it in pair):
+                    found.append((pair, row.output.partition("\n")[0].removeprefix("! ")))
     return found
 
 
