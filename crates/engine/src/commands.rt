@@ -269,7 +269,7 @@ fn schema_text<R: Read + Drop>(alloc: Global, file: R) -> Result<Vec<u8>, Failur
     }
 }
 
-/// The schema in a file, or why there is none. None stands for a file that can't be opened.
+/// The schema in a file, or why there is none. None is for a file that can't be opened.
 fn schema_in<R: Read + Drop>(alloc: Global, file: Option<R>) -> Result<Schema, Failure<'static>>
     ensures { ReadsSchema R.remaining file result }
 {

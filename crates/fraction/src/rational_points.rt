@@ -18,7 +18,7 @@ use crate::grid_points::GridPoint;
 use std::cmp::Ordering;
 use std::marker::Model;
 
-/// A point of the plane: whole numbers X, Y, W in least form that stand for (X/W, Y/W) (06-103r4, 6.1.4;
+/// A point of the plane: whole numbers X, Y, W in least form that mean (X/W, Y/W) (06-103r4, 6.1.4;
 /// rational coordinates alone, and the ranges: this project's choice). W is from 1 to 16 L L and X and Y are
 /// within L W either way, L being the limit of coordinates.
 #[derive(Clone, Copy, Debug)]
