@@ -14,12 +14,12 @@ fn record(alloc: Global, first: &[u8], second: &[u8]) -> Result<ByteRecord, Allo
     Ok(fields)
 }
 
-/// A field that is longer than the text that is kept of earlier records.
+/// A field of a line whose memory isn't kept.
 fn long_field(alloc: Global) -> Result<Vec<u8>, AllocError> {
     vec![in alloc; b'x'; 70_000]
 }
 
-/// Fields are quoted where they have to be, also where the text of earlier records has been let go.
+/// Fields are quoted where they have to be, also after a line whose memory is freed.
 #[test]
 fn records_are_put(rt: HostRuntime) -> Result<(), Fail> {
     let long = long_field(rt.alloc())?;
@@ -30,5 +30,22 @@ fn records_are_put(rt: HostRuntime) -> Result<(), Fail> {
     assert!(rt; writer.put(rt.alloc(), &first, &mut sink).is_ok());
     assert!(rt; writer.put(rt.alloc(), &second, &mut sink).is_ok());
     assert!(rt; sink.bytes().ends_with(b"x,\n\"a,b\",1\n"));
+    Ok(())
+}
+
+/// What ends a line is quoted, a quote is written twice, and a record that shows nothing gets two quotes.
+#[test]
+fn bytes_that_mean_something_are_quoted(rt: HostRuntime) -> Result<(), Fail> {
+    let first = record(rt.alloc(), b"a\nb", b"c\rd")?;
+    let second = record(rt.alloc(), b"\"e\" f", b"")?;
+    let mut third = ByteRecord::new(rt.alloc());
+    third.push_field(b"")?;
+    let mut writer = RecordWriter::new(rt.alloc());
+    let mut sink = MemorySink::new(rt.alloc());
+    assert!(rt; writer.put(rt.alloc(), &first, &mut sink).is_ok());
+    assert!(rt; writer.put(rt.alloc(), &second, &mut sink).is_ok());
+    assert!(rt; writer.put(rt.alloc(), &third, &mut sink).is_ok());
+    let lines = b"\"a\nb\",\"c\rd\"\n\"\"\"e\"\" f\",\n\"\"\n";
+    assert_eq!(rt; sink.bytes(), lines.as_slice());
     Ok(())
 }

@@ -1,6 +1,7 @@
 //! Writes records to a sink, each as the line that a `csv` writer with default settings makes of it.
 #![tactic(auto)]
 
+mod lines;
 pub mod put_fault;
 pub mod record_writer;
 

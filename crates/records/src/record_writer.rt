@@ -1,26 +1,27 @@
 //! A writer of records: it makes the CSV line of each and writes it to a sink.
 
-ghost use Rattle.std.specs.Prelude.{◌≡◌, ◌≤◌, ◌++◌, OnOk, OnErr, drop, length};
+ghost use Rattle.std.specs.Prelude.{◌≡◌, OnOk, OnErr};
 ghost use Rattle.std.specs.Io.KnownBytes.{Appends};
 ghost use Rattle.csv.specs.Records.{fields_of};
 ghost use Rattle.csv.specs.Writing.{row_text, default_writer};
 ghost use Rattle.sinks.specs.Sinks.{AppendsFront};
-ghost use Rattle.records.specs.RecordWriters.{CountsPut, IsFresh, IsReady, text_kept};
+ghost use Rattle.records.specs.RecordWriters.{CountsPut, IsReady};
 
+use crate::lines::push_line;
 use crate::put_fault::PutFault;
-use csv::{ByteRecord, Writer, WriterBuilder};
+use csv::ByteRecord;
 use sinks::{Sink, put_all};
-use std::alloc::{AllocError, Global};
+use std::alloc::Global;
 
-/// Once the lines of written records have this many bytes, they are freed.
-const KEPT_BYTES: usize = 65_536;
+/// The memory of a line of this many bytes is freed, not kept for the next one.
+const FREED_BYTES: usize = 65_536;
 
-/// Makes the line of each record in memory, and writes it to a sink. A `csv` writer has a buffer that takes longer to set
-/// up than a record takes to write, so one `csv` writer makes the lines of many records. It adds each to the lines before
-/// it, in memory; once these have 64 KiB, a new writer takes its place and they are freed.
+/// Makes the line of each record in memory, and writes it to a sink. The memory of a line is kept for the next one, unless
+/// it was long.
 #[derive(Drop)]
 pub struct RecordWriter {
-    pub(crate) writer: Writer<Vec<u8>>,
+    // The line that is written, empty between records.
+    pub(crate) line: Vec<u8>,
 }
 
 impl RecordWriter {
@@ -29,7 +30,7 @@ impl RecordWriter {
         ensures ready { IsReady result }
     {
         RecordWriter {
-            writer: fresh_writer(alloc),
+            line: Vec::new(alloc),
         }
     }
 
@@ -49,56 +50,32 @@ impl RecordWriter {
             (row_text default_writer (fields_of fields.now))) }
         ensures failures { CountsPut (S.failures sink.old) (S.failures sink.new) result }
     {
+        let written = self.write(fields, sink);
         self.let_go(alloc);
-        let begin = self.kept().len();
-        self.write(alloc, fields)?;
-        put_all(sink, behind(self.kept(), begin))?;
+        written
+    }
+
+    /// Makes the line of a record, and writes it.
+    fn write<S: Sink>(&mut self, fields: &ByteRecord, sink: &mut S) -> Result<(), PutFault>
+        requires { IsReady self.old }
+        ensures ok { OnOk result
+            (Appends (S.taken sink.old) (S.taken sink.new) (row_text default_writer (fields_of fields.now))) }
+        ensures front { OnErr result (AppendsFront (S.taken sink.old) (S.taken sink.new)
+            (row_text default_writer (fields_of fields.now))) }
+        ensures failures { CountsPut (S.failures sink.old) (S.failures sink.new) result }
+    {
+        push_line(&mut self.line, fields)?;
+        put_all(sink, self.line.as_slice())?;
         Ok(())
     }
 
-    /// Frees the lines of earlier records if they have grown long: a new writer takes this one's place.
+    /// Empties the line, and frees its memory if it was long.
     fn let_go(&mut self, alloc: Global)
-        requires { IsReady self.old }
         ensures { IsReady self.new }
     {
-        if self.kept().len() >= KEPT_BYTES {
-            self.writer = fresh_writer(alloc);
+        if self.line.len() >= FREED_BYTES {
+            self.line = Vec::new(alloc);
         }
+        self.line.clear();
     }
-
-    /// The lines of earlier records that are still in memory.
-    fn kept(&self) -> &[u8]
-        ensures { result.now ≡ text_kept self.now }
-    {
-        self.writer.get_ref().as_slice()
-    }
-
-    /// Adds the line of a record to the lines in memory. If memory runs out, all of them are freed.
-    fn write(&mut self, alloc: Global, fields: &ByteRecord) -> Result<(), AllocError>
-        requires { IsReady self.old }
-        ensures ready { IsReady self.new }
-        ensures added { OnOk result
-            (text_kept self.new ≡ text_kept self.old ++ row_text default_writer (fields_of fields.now)) }
-    {
-        if self.writer.write_byte_record(fields).is_err() || self.writer.flush().is_err() {
-            self.writer = fresh_writer(alloc);
-            return Err(AllocError);
-        }
-        Ok(())
-    }
-}
-
-/// A writer with no lines in memory.
-fn fresh_writer(alloc: Global) -> Writer<Vec<u8>>
-    ensures { IsFresh result }
-{
-    WriterBuilder::new().from_writer(Vec::new(alloc))
-}
-
-/// The bytes of a text from this place on.
-fn behind(text: &[u8], begin: usize) -> &[u8]
-    requires { begin ≤ length text.now }
-    ensures { result.now ≡ drop begin text.now }
-{
-    &text[begin..]
 }

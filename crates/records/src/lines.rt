@@ -1,0 +1,113 @@
+//! The line of a record, as a `csv` writer with default settings makes it.
+
+ghost use Rattle.std.specs.Prelude.{◌≡◌, ◌++◌, [], OnOk};
+ghost use Rattle.csv.specs.Records.{fields_of};
+ghost use Rattle.csv.specs.Writing as spec;
+
+use csv::ByteRecord;
+use std::alloc::AllocError;
+
+const COMMA: u8 = b',';
+
+const QUOTE: u8 = b'"';
+
+const LINE_FEED: u8 = b'\n';
+
+const CARRIAGE_RETURN: u8 = b'\r';
+
+/// Makes the line of a record, ended by a line feed. A record without a byte gets two quotes, since a blank line isn't one.
+pub(crate) fn push_line(line: &mut Vec<u8>, fields: &ByteRecord) -> Result<(), AllocError>
+    requires { line.old.items ≡ [] }
+    ensures { OnOk result (line.new.items ≡ spec.row_text spec.default_writer (fields_of fields.now)) }
+{
+    push_fields(line, fields)?;
+    if line.as_slice().is_empty() {
+        line.push(QUOTE)?;
+        line.push(QUOTE)?;
+    }
+    line.push(LINE_FEED)?;
+    Ok(())
+}
+
+/// Makes the text of the fields of a record, with commas between them.
+fn push_fields(line: &mut Vec<u8>, fields: &ByteRecord) -> Result<(), AllocError>
+    requires { line.old.items ≡ [] }
+    ensures { OnOk result (line.new.items ≡ spec.row_body spec.default_writer (fields_of fields.now)) }
+{
+    for i in 0..fields.len() {
+        if let Some(field) = fields.get(i) {
+            push_separator(line, i)?;
+            push_field(line, field)?;
+        }
+    }
+    Ok(())
+}
+
+/// Adds what comes before the field at this place: a comma, or nothing before the first.
+fn push_separator(line: &mut Vec<u8>, place: usize) -> Result<(), AllocError>
+    ensures { OnOk result
+        (line.new.items ≡ line.old.items ++ spec.next_sep spec.default_writer place) }
+{
+    if place == 0 {
+        return Ok(());
+    }
+    line.push(COMMA)?;
+    Ok(())
+}
+
+/// Adds the text of a field, in quotes if it needs them.
+fn push_field(line: &mut Vec<u8>, field: &[u8]) -> Result<(), AllocError>
+    ensures { OnOk result
+        (line.new.items ≡ line.old.items ++ spec.field_text spec.default_writer field.now) }
+{
+    if needs_quotes(field) {
+        return push_quoted(line, field);
+    }
+    line.extend_from_slice(field)
+}
+
+/// Whether a field needs quotes: it has a comma, a quote or a byte that ends a line.
+fn needs_quotes(field: &[u8]) -> bool
+    ensures { result ≡ spec.needs_quotes spec.default_writer field.now }
+{
+    let mut needs = false;
+    for byte in field {
+        needs |= needs_byte(*byte);
+    }
+    needs
+}
+
+/// Whether a field with this byte needs quotes.
+fn needs_byte(byte: u8) -> bool
+    ensures { result ≡ spec.needs_byte spec.default_writer byte }
+{
+    matches!(byte, COMMA | QUOTE | CARRIAGE_RETURN | LINE_FEED)
+}
+
+/// Adds a field in quotes.
+fn push_quoted(line: &mut Vec<u8>, field: &[u8]) -> Result<(), AllocError>
+    ensures { OnOk result
+        (line.new.items ≡ line.old.items ++ spec.quoted spec.default_writer field.now) }
+{
+    line.push(QUOTE)?;
+    push_escaped(line, field)?;
+    line.push(QUOTE)?;
+    Ok(())
+}
+
+/// Adds the bytes of a field that is in quotes, each quote twice.
+fn push_escaped(line: &mut Vec<u8>, field: &[u8]) -> Result<(), AllocError>
+    ensures { OnOk result
+        (line.new.items ≡ line.old.items ++ spec.escaped spec.default_writer field.now) }
+{
+    if !field.contains(&QUOTE) {
+        return line.extend_from_slice(field);
+    }
+    for byte in field {
+        if *byte == QUOTE {
+            line.push(QUOTE)?;
+        }
+        line.push(*byte)?;
+    }
+    Ok(())
+}
