@@ -1,10 +1,14 @@
 //! The cell of the grid in which a point lies: the whole numbers next to its coordinates.
 
 ghost use Rattle.std.specs.Prelude.{◌≡◌, ◌≤◌, ◌*◌, ◌<ℤ◌, ◌*ℤ◌, ℤ, pos, int_le, unsigned_abs};
+ghost use Rattle.std.specs.Int.{int_div_euclid};
 ghost use Rattle.geometry_model.specs.WellKnownText.{coordinate_limit};
 ghost use Rattle.edge_boxes.specs.BoxCells.{IsCellOf, IsFloor, IsCeiling};
 
 use fraction::RatPoint;
+
+/// The greatest number without its sign that is kept in 64 bits.
+const SHORT: u128 = i64::MAX as u128;
 
 /// The floors and ceilings of a point's coordinates. With them positions and bounds are compared with the point without a
 /// multiplication.
@@ -54,7 +58,19 @@ fn floor(numerator: i128, denominator: i64) -> i32
     if denominator == 1 {
         numerator as i32
     } else {
-        numerator.div_euclid(i128::from(denominator)) as i32
+        rounded_down(numerator, denominator) as i32
+    }
+}
+
+/// A quotient rounded down. Most numerators are short, and then 64 bits are enough.
+fn rounded_down(numerator: i128, denominator: i64) -> i128
+    requires { pos 0 <ℤ denominator }
+    ensures { result ≡ int_div_euclid numerator denominator }
+{
+    if numerator.unsigned_abs() <= SHORT {
+        i128::from((numerator as i64).div_euclid(denominator))
+    } else {
+        numerator.div_euclid(i128::from(denominator))
     }
 }
 

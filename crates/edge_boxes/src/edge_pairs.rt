@@ -2,41 +2,11 @@
 
 ghost use Rattle.std.specs.Prelude.{◌≡◌, ◌&&◌, ◌||◌, pos, not, int_lt};
 ghost use Rattle.geometry_model.specs.Points.{point_at};
-ghost use Rattle.geometry_model.specs.Sides.{on, between, side as spec_side};
+ghost use Rattle.geometry_model.specs.Sides.{on, side as spec_side};
 ghost use Rattle.geometry_model.specs.FirstFaults as spec;
 
 use fraction::GridPoint;
-use orient::{Segment, side_number};
-
-/// Whether a coordinate lies between two others or is equal to one.
-fn is_between(from: i32, to: i32, at: i32) -> bool
-    ensures { result ≡ between from to at (pos 1) }
-{
-    from <= at && at <= to || to <= at && at <= from
-}
-
-/// Whether a position lies in the box of two others, or on its sides.
-fn is_in_box(from: GridPoint, to: GridPoint, at: GridPoint) -> bool
-    ensures { result ≡ (between from.x to.x at.x (pos 1) && between from.y to.y at.y (pos 1)) }
-{
-    is_between(from.x(), to.x(), at.x()) && is_between(from.y(), to.y(), at.y())
-}
-
-/// Whether a position lies within the segment's ends in both coordinates.
-fn is_within_ends(segment: &Segment, at: GridPoint) -> bool
-    ensures { result ≡ (between segment.now.start.x segment.now.end.x at.x (pos 1)
-        && between segment.now.start.y segment.now.end.y at.y (pos 1)) }
-{
-    is_in_box(segment.start(), segment.end(), at)
-}
-
-/// Whether a position lies on the segment, ends counted, where the side on which it lies is known.
-fn is_on(segment: &Segment, at: GridPoint, side: i64) -> bool
-    requires { side ≡ spec_side segment.now.start segment.now.end (point_at at) }
-    ensures { result ≡ on segment.now (point_at at) }
-{
-    side == 0 && is_within_ends(segment, at)
-}
+use orient::{Segment, position_on, side_number};
 
 /// Whether one of two numbers is above 0 and the other below 0.
 fn are_opposite(a: i64, b: i64) -> bool
@@ -51,7 +21,7 @@ fn meets_end(e: &Segment, f: &Segment, start: i64, end: i64) -> bool
     requires end { end ≡ spec_side e.now.start e.now.end (point_at f.now.end) }
     ensures { result ≡ (on e.now (point_at f.now.start) || on e.now (point_at f.now.end)) }
 {
-    is_on(e, f.start(), start) || is_on(e, f.end(), end)
+    position_on(e, f.start(), start) || position_on(e, f.end(), end)
 }
 
 /// Whether the ends of each of two edges lie on opposite sides of the other.
@@ -92,11 +62,12 @@ pub fn share_point(e: &Segment, f: &Segment) -> bool
     !are_beside(start, end) && share_by_sides(e, f, start, end)
 }
 
-/// Whether a position other than the common one is on the edge.
+/// Whether a position other than the common one is on the edge. Of two edges with a common end, two ends are the common one, of
+/// which no side is computed.
 fn other_on(common: GridPoint, segment: &Segment, at: GridPoint) -> bool
     ensures { result ≡ spec.other_on common segment.now at }
 {
-    is_on(segment, at, side_number(segment, at)) && at != common
+    at != common && position_on(segment, at, side_number(segment, at))
 }
 
 /// Whether two edges with a common end share another point too (06-103r4, 6.1.6.1: simple). An end other than

@@ -81,8 +81,20 @@ pub fn is_not_simple(alloc: Global, edges: &[Segment]) -> Result<bool, AllocErro
     ensures { IfOk result (λ clash. clash ≡ edges_clash edges.now) }
 {
     let boxes = EdgeBoxes::build(alloc, edges)?;
+    is_not_simple_by(alloc, edges, &boxes)
+}
+
+/// The same, where the boxes over the edges are given (06-103r4, 6.1.7: a LinearRing is simple).
+pub fn is_not_simple_by(
+    alloc: Global,
+    edges: &[Segment],
+    boxes: &EdgeBoxes,
+) -> Result<bool, AllocError>
+    requires { BoxesOf boxes.now edges.now }
+    ensures { IfOk result (λ clash. clash ≡ edges_clash edges.now) }
+{
     let mut near = Vec::new(alloc);
-    clash_at_all(edges, &boxes, &mut near)
+    clash_at_all(edges, boxes, &mut near)
 }
 
 /// Whether one of the edges shares a point with another.

@@ -1,7 +1,10 @@
 //! Common divisors, by Euclid's remainders, and quotients.
 
-ghost use Rattle.std.specs.Prelude.{◌≡◌, ◌<◌, pos, ◌<ℤ◌, unsigned_abs, int_div};
+ghost use Rattle.std.specs.Prelude.{◌≡◌, ◌<◌, ◌%◌, pos, ◌<ℤ◌, unsigned_abs, int_div};
 ghost use Rattle.geometry_model.specs.Points.{gcd};
+
+/// The greatest number without its sign that is kept in 64 bits.
+const SHORT: u128 = i64::MAX as u128;
 
 /// The greatest number that divides both; the other where one is 0.
 fn greatest_common_divisor(a: u64, b: u64) -> u64
@@ -17,14 +20,25 @@ fn greatest_common_divisor(a: u64, b: u64) -> u64
     last
 }
 
+/// The rest of a division of a number of any size by one of at least 1. Most numbers are short, and then 64 bits are enough.
+fn rest(long: u128, short: u64) -> u64
+    requires { 0 < short }
+    ensures { result ≡ long % short }
+{
+    if long <= u128::from(u64::MAX) {
+        long as u64 % short
+    } else {
+        (long % u128::from(short)) as u64
+    }
+}
+
 /// The greatest number that divides a number of any size and one of at least 1. After one remainder all
 /// numbers are short.
 fn divisor_with(long: u128, short: u64) -> u64
     requires { 0 < short }
     ensures { result ≡ gcd long short }
 {
-    let rest = long % u128::from(short);
-    greatest_common_divisor(short, rest as u64)
+    greatest_common_divisor(short, rest(long, short))
 }
 
 /// The greatest number that divides all three, of which the last is at least 1.
@@ -37,12 +51,16 @@ pub(crate) fn common_divisor(x: i128, y: i128, w: i64) -> i64
     divisor_with(y.unsigned_abs(), of_first) as i64
 }
 
-/// The quotient by a number of at least 1, rounded towards 0.
+/// The quotient by a number of at least 1, rounded towards 0. Most numbers are short, and then 64 bits are enough.
 pub(crate) fn quotient(number: i128, divisor: i64) -> i128
     requires { pos 0 <ℤ divisor }
     ensures { result ≡ int_div number divisor }
 {
-    number / i128::from(divisor)
+    if number.unsigned_abs() <= SHORT {
+        i128::from(short_quotient(number as i64, divisor))
+    } else {
+        number / i128::from(divisor)
+    }
 }
 
 /// The same of a short number.

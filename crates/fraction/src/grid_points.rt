@@ -50,6 +50,14 @@ impl GridPoint {
         }
     }
 
+    /// The position (x, y), whose coordinates are within the limit.
+    pub(crate) fn within(x: i32, y: i32) -> GridPoint
+        requires { IsOnGrid (record { x = x; y = y }) }
+        ensures { result ≡ record { x = x; y = y } }
+    {
+        GridPoint { x, y }
+    }
+
     /// The first coordinate, in grid steps (06-103r4, 6.1.4: X).
     pub fn x(&self) -> i32
         ensures value { result ≡ self.now.x }

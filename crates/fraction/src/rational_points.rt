@@ -1,6 +1,6 @@
 //! Rational points of the plane, each one triple of whole numbers in least form.
 
-ghost use Rattle.std.specs.Prelude.{◌≡◌, ◌↔◌, Some, IsTrue, pos, ◌≤ℤ◌};
+ghost use Rattle.std.specs.Prelude.{◌≡◌, ◌≢◌, ◌↔◌, Some, IfSome, IsNone, IsTrue, pos, ◌≤ℤ◌};
 ghost use Rattle.std.specs.Cmp.{partial_equiv_from_equiv, partial_order_from_agreeing_total};
 ghost use Rattle.std.specs.Ordering.{as_partial_cmp, eq_by_cmp};
 ghost use Rattle.std.proofs.Common.{refl};
@@ -81,6 +81,20 @@ impl RatPoint {
             a.numerator_y + b.numerator_y,
             a.denominator + b.denominator,
         )
+    }
+
+    /// The position of the grid at which the point is; none exactly where its denominator isn't 1 (06-103r4, 6.1.4).
+    pub fn position(&self) -> Option<GridPoint>
+        ensures at { IfSome result (λ at. point_at at ≡ self.now) }
+        ensures none { IsNone result ↔ self.now.W ≢ pos 1 }
+    {
+        if self.denominator == 1 {
+            let x = self.numerator_x as i32;
+            let y = self.numerator_y as i32;
+            Some(GridPoint::within(x, y))
+        } else {
+            None
+        }
     }
 
     /// X, the numerator of the first coordinate.

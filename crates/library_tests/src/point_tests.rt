@@ -32,6 +32,15 @@ fn least_forms(rt: HostRuntime) {
     }
 }
 
+/// A point at a position of the grid gives that position, at the limit too. One between has none.
+#[test]
+fn positions_of_points(rt: HostRuntime) {
+    assert!(rt; RatPoint::reduced(12, 4, 10).position().is_none());
+    if let Some(corner) = GridPoint::new(-10_000_000, 10_000_000) {
+        assert!(rt; RatPoint::of_grid(corner).position() == Some(corner));
+    }
+}
+
 /// The order of two points by x, by y, and by both.
 fn orders(a: &RatPoint, b: &RatPoint) -> (Ordering, Ordering, Ordering) {
     (a.cmp_x(b), a.cmp_y(b), a.cmp(b))

@@ -2,7 +2,7 @@
 
 use crate::shapes::{Place, position, segment};
 use fraction::RatPoint;
-use orient::{at_or_above, crosses_up, on, side, side_number};
+use orient::{at_or_above, crosses_up, on, position_on, side, side_number};
 use std::cmp::Ordering;
 use std::test::Fail;
 
@@ -38,7 +38,10 @@ fn positions_at_segments(rt: HostRuntime) -> Result<(), Fail> {
     let longest = segment((-10_000_000, -10_000_000), (10_000_000, 9_999_999))?;
     let corner = position((-10_000_000, 10_000_000))?;
     assert!(rt; side_number(&longest, corner) == 400_000_000_000_000);
-    assert!(rt; at_or_above(&longest, &RatPoint::of_grid(longest.start())));
+    assert!(rt; !position_on(&longest, corner, side_number(&longest, corner)));
+    let start = longest.start();
+    assert!(rt; position_on(&longest, start, side_number(&longest, start)));
+    assert!(rt; at_or_above(&longest, &RatPoint::of_grid(start)));
     Ok(())
 }
 

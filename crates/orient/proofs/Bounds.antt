@@ -80,25 +80,6 @@ pub record BeyondFits (n z : ℤ) : Type 0 where
 pub beyond_fits : (n z : ℤ) → unsigned_abs n ≤ coordinate_limit * denominator_limit → unsigned_abs z ≤ coordinate_limit * denominator_limit → BeyondFits n z
 beyond_fits n z h k = record { difference = omega (arith, ints); bound = omega (arith, ints) }
 
--- ---- the numerators of a point with denominator 1 are those of a position
-pub record PositionFits (p : Point) : Type 0 where
-  pub x : SFits w32 p.X
-  pub y : SFits w32 p.Y
-  pub x_within : unsigned_abs p.X ≤ coordinate_limit
-  pub y_within : unsigned_abs p.Y ≤ coordinate_limit
-
-pub position_fits : (p : Point) → IsKeptPoint p → p.W ≡ pos 1 → PositionFits p
-position_fits p h e =
-    let x = within p.X p.W e h.range.x in
-    let y = within p.Y p.W e h.range.y in
-    record { x = coordinate_fits p.X x; y = coordinate_fits p.Y y; x_within = x; y_within = y }
-  where
-    within : (z w : ℤ) → w ≡ pos 1 → unsigned_abs z ≤ coordinate_limit * unsigned_abs w → unsigned_abs z ≤ coordinate_limit
-    within z w e h = subst (λ (y : ℤ). unsigned_abs z ≤ coordinate_limit * unsigned_abs y) e h
-
-    coordinate_fits : (z : ℤ) → unsigned_abs z ≤ coordinate_limit → SFits w32 z
-    coordinate_fits z h = omega (arith, ints)
-
 -- ---- a vector product of steps: the side of a position, with denominator 1
 pub side_at : (a b : Position) (x y : ℤ) → side a b (record { X = x; Y = y; W = pos 1 }) ≡ (b.x -ℤ a.x) *ℤ (y -ℤ a.y) -ℤ (b.y -ℤ a.y) *ℤ (x -ℤ a.x)
 side_at a b x y = solve (a.x ∷ a.y ∷ b.x ∷ b.y ∷ x ∷ y ∷ [])

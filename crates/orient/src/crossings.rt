@@ -2,12 +2,14 @@
 //! one.
 
 ghost use Rattle.std.specs.Prelude.{◌≡◌, ◌-ℤ◌, pos, if◌then◌else◌, int_le, int_lt};
+ghost use Rattle.geometry_model.specs.Points.{point_at};
 ghost use Rattle.geometry_model.specs.Sides.{on};
 ghost use Rattle.geometry_model.specs.Crossings as spec;
 
+use crate::positions::position_on;
 use crate::products::numerator_over;
 use crate::segments::Segment;
-use crate::sides::{is_on, signed_side};
+use crate::sides::{is_on, side_number, signed_side};
 use fraction::{GridPoint, RatPoint};
 
 /// How a point lies relative to a segment (06-103r4, 6.1.7 and 6.1.11.1). Of the segment's ends the left one counts and the
@@ -89,8 +91,45 @@ fn is_at_most(side: i128, is_rightward: bool) -> bool
     (side == 0) | ((side < 0) == is_rightward)
 }
 
-/// How the point lies relative to the segment. The side is computed once.
-pub fn crossing_at(segment: &Segment, p: &RatPoint) -> Crossing
+/// The same of a short number.
+fn is_short_below(side: i64, is_rightward: bool) -> bool
+    ensures { result ≡ int_lt (if is_rightward then side else pos 0 -ℤ side) (pos 0) }
+{
+    (side != 0) & ((side < 0) == is_rightward)
+}
+
+/// The same of a short number.
+fn is_short_at_most(side: i64, is_rightward: bool) -> bool
+    ensures { result ≡ int_le (if is_rightward then side else pos 0 -ℤ side) (pos 0) }
+{
+    (side == 0) | ((side < 0) == is_rightward)
+}
+
+/// Whether the x of exactly one end of the segment is at most the position's.
+fn spans_position(segment: &Segment, at: GridPoint) -> bool
+    ensures { result ≡ spec.spans segment.now (point_at at) }
+{
+    (segment.start().x() <= at.x()) != (segment.end().x() <= at.x())
+}
+
+/// How a position lies relative to the segment. All numbers fit in 64 bits.
+fn crossing_at_position(segment: &Segment, at: GridPoint) -> Crossing
+    ensures on { result.on ≡ on segment.now (point_at at) }
+    ensures strictly_above { result.strictly_above ≡ spec.strictly_above segment.now (point_at at) }
+    ensures at_or_above { result.at_or_above ≡ spec.at_or_above segment.now (point_at at) }
+{
+    let side = side_number(segment, at);
+    let is_rightward = is_rightward(segment);
+    let spans = spans_position(segment, at);
+    Crossing {
+        on: position_on(segment, at, side),
+        strictly_above: spans & is_short_below(side, is_rightward),
+        at_or_above: spans & is_short_at_most(side, is_rightward),
+    }
+}
+
+/// How any point lies relative to the segment. The side is computed once.
+fn crossing_at_point(segment: &Segment, p: &RatPoint) -> Crossing
     ensures on { result.on ≡ on segment.now p.now }
     ensures strictly_above { result.strictly_above ≡ spec.strictly_above segment.now p.now }
     ensures at_or_above { result.at_or_above ≡ spec.at_or_above segment.now p.now }
@@ -102,5 +141,17 @@ pub fn crossing_at(segment: &Segment, p: &RatPoint) -> Crossing
         on: is_on(side, segment, p),
         strictly_above: spans & is_below(side, is_rightward),
         at_or_above: spans & is_at_most(side, is_rightward),
+    }
+}
+
+/// How the point lies relative to the segment. At a position of the grid it takes numbers of 64 bits alone.
+pub fn crossing_at(segment: &Segment, p: &RatPoint) -> Crossing
+    ensures on { result.on ≡ on segment.now p.now }
+    ensures strictly_above { result.strictly_above ≡ spec.strictly_above segment.now p.now }
+    ensures at_or_above { result.at_or_above ≡ spec.at_or_above segment.now p.now }
+{
+    match p.position() {
+        Some(at) => crossing_at_position(segment, at),
+        None => crossing_at_point(segment, p),
     }
 }

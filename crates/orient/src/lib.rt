@@ -3,10 +3,12 @@
 #![tactic(auto)]
 
 pub mod crossings;
+pub mod positions;
 mod products;
 pub mod segments;
 pub mod sides;
 
 pub use crossings::{Crossing, at_or_above, crosses_up, crossing_at};
+pub use positions::position_on;
 pub use segments::Segment;
 pub use sides::{on, side, side_number};

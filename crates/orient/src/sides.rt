@@ -1,10 +1,9 @@
 //! On which side of a segment a point lies, and whether it lies on it.
 
-ghost use Rattle.std.specs.Prelude.{◌≡◌, ◌≢◌, ◌≤◌, ◌&&◌, pos, unsigned_abs, int_le};
+ghost use Rattle.std.specs.Prelude.{◌≡◌, ◌≢◌, ◌&&◌, pos, int_le};
 ghost use Rattle.std.specs.Ordering.{int_cmp};
 ghost use Rattle.geometry_model.specs.Points.{point_at};
 ghost use Rattle.geometry_model.specs.Sides as spec;
-ghost use Rattle.geometry_model.specs.WellKnownText.{coordinate_limit};
 ghost use Rattle.fraction.specs.Ranges.{IsOnGrid};
 
 use crate::products::{beyond, numerator_over, short_vector_product, step, vector_product};
@@ -12,16 +11,15 @@ use crate::segments::Segment;
 use fraction::{GridPoint, RatPoint};
 use std::cmp::Ordering;
 
-/// The number whose sign is the side of the position (x, y), seen from `from` to `to`.
-fn side_of_position(from: GridPoint, to: GridPoint, x: i32, y: i32) -> i64
-    requires x_bound { unsigned_abs x ≤ coordinate_limit }
-    requires y_bound { unsigned_abs y ≤ coordinate_limit }
-    ensures { result ≡ spec.side from to (record { X = x; Y = y; W = pos 1 }) }
+/// The number whose sign is the side of a position, seen from `from` to `to`.
+fn side_of_position(from: GridPoint, to: GridPoint, at: GridPoint) -> i64
+    ensures value { result ≡ spec.side from to (point_at at) }
+    ensures on_grid { IsOnGrid at }
 {
     let dx = step(from.x(), to.x());
     let dy = step(from.y(), to.y());
-    let ex = step(from.x(), x);
-    let ey = step(from.y(), y);
+    let ex = step(from.x(), at.x());
+    let ey = step(from.y(), at.y());
     short_vector_product(dx, dy, ex, ey)
 }
 
@@ -41,12 +39,9 @@ fn side_of_point(from: GridPoint, to: GridPoint, p: &RatPoint) -> i128
 pub(crate) fn signed_side(from: GridPoint, to: GridPoint, p: &RatPoint) -> i128
     ensures { result ≡ spec.side from to p.now }
 {
-    if p.denominator() == 1 {
-        let x = p.numerator_x() as i32;
-        let y = p.numerator_y() as i32;
-        i128::from(side_of_position(from, to, x, y))
-    } else {
-        side_of_point(from, to, p)
+    match p.position() {
+        Some(at) => i128::from(side_of_position(from, to, at)),
+        None => side_of_point(from, to, p),
     }
 }
 
@@ -58,7 +53,7 @@ pub fn side_number(segment: &Segment, at: GridPoint) -> i64
     ensures end { IsOnGrid segment.now.end }
     ensures position { IsOnGrid at }
 {
-    side_of_position(segment.start(), segment.end(), at.x(), at.y())
+    side_of_position(segment.start(), segment.end(), at)
 }
 
 /// On which side of the segment's line p lies, seen from the start to the end: `Greater` on its left, `Less`

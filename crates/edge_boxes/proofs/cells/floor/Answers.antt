@@ -5,20 +5,18 @@ use Rattle.std.proofs.lemmas.Int.{to_z-of_z}
 use mir.Syntax.{w32, w64, w128}
 use mir.Val.{SFits}
 use Rattle.geometry_model.specs.WellKnownText.{coordinate_limit}
-use Rattle.orient.proofs.Bounds.{read}
 use Rattle.edge_boxes.specs.BoxCells.{IsFloor}
 use Rattle.edge_boxes.proofs.Floors.{euclid_floor, floor_short, floor_as, floor_over_one, short_fits}
 use Rattle.edge_boxes.proofs.cells.floor.Goals as goal
 
 -- the quotient is the floor
-is_floor : (c : goal.After-div_euclid) → IsFloor c.args.numerator c.args.denominator c.div_euclid.result
+is_floor : (c : goal.After-rounded_down) → IsFloor c.args.numerator c.args.denominator c.rounded_down.result
 is_floor c =
-    let d = read w128 c.from.result c.args.denominator (record { sfits = c.from.type_inv }) (c.from.ensures ∙ to_z-of_z w64 c.args.denominator c.ranges.denominator) in
-    let e : c.div_euclid.result ≡ int_div_euclid c.args.numerator c.args.denominator = c.div_euclid.ensures ∙ ap₂ int_div_euclid (to_z-of_z w128 c.args.numerator c.ranges.numerator) d in
-    floor_as c.args.numerator c.args.denominator _ c.args.numerator c.args.denominator c.div_euclid.result refl refl (sym e) (euclid_floor c.args.numerator c.args.denominator c.requires.positive)
+    let e : c.rounded_down.result ≡ int_div_euclid c.args.numerator c.args.denominator = c.rounded_down.ensures ∙ ap₂ int_div_euclid (to_z-of_z w128 c.args.numerator c.ranges.numerator) (to_z-of_z w64 c.args.denominator c.ranges.denominator) in
+    floor_as c.args.numerator c.args.denominator _ c.args.numerator c.args.denominator c.rounded_down.result refl refl (sym e) (euclid_floor c.args.numerator c.args.denominator c.requires.positive)
 
-is_short : (c : goal.After-div_euclid) → unsigned_abs c.div_euclid.result ≤ coordinate_limit
-is_short c = floor_short c.args.numerator c.args.denominator c.div_euclid.result c.requires.positive c.requires.within (is_floor c)
+is_short : (c : goal.After-rounded_down) → unsigned_abs c.rounded_down.result ≤ coordinate_limit
+is_short c = floor_short c.args.numerator c.args.denominator c.rounded_down.result c.requires.positive c.requires.within (is_floor c)
 
 -- a long number that is short, cast
 cast_read : (q : ℤ) → SFits w128 q → unsigned_abs q ≤ coordinate_limit → to_z w32 (of_z w32 (to_z w128 (of_z w128 q))) ≡ q
@@ -37,7 +35,7 @@ overflow_cast-result c =
     subst (SFits w32) (sym (to_z-of_z w128 c.args.numerator c.ranges.numerator)) (short_fits c.args.numerator (short_over_one c.args.numerator c.args.denominator one c.requires.within))
 
 pub overflow_cast-result-else-denominator-eq1 : goal.overflow_cast-result-else-denominator-eq1
-overflow_cast-result-else-denominator-eq1 c = subst (SFits w32) (sym (to_z-of_z w128 c.div_euclid.result (record { sfits = c.div_euclid.type_inv }))) (short_fits c.div_euclid.result (is_short c))
+overflow_cast-result-else-denominator-eq1 c = subst (SFits w32) (sym (to_z-of_z w128 c.rounded_down.result (record { sfits = c.rounded_down.type_inv }))) (short_fits c.rounded_down.result (is_short c))
 
 pub returns-then-denominator-eq1 : goal.returns-then-denominator-eq1
 returns-then-denominator-eq1 c =
@@ -48,8 +46,8 @@ returns-then-denominator-eq1 c =
 
 pub returns-else-denominator-eq1 : goal.returns-else-denominator-eq1
 returns-else-denominator-eq1 c =
-    let e = cast_read c.div_euclid.result (record { sfits = c.div_euclid.type_inv }) (is_short c) in
+    let e = cast_read c.rounded_down.result (record { sfits = c.rounded_down.type_inv }) (is_short c) in
     record {
-      floor = floor_as c.args.numerator c.args.denominator c.div_euclid.result c.args.numerator c.args.denominator _ refl refl (sym e) (is_floor c);
+      floor = floor_as c.args.numerator c.args.denominator c.rounded_down.result c.args.numerator c.args.denominator _ refl refl (sym e) (is_floor c);
       bound = subst (λ (x : ℤ). unsigned_abs x ≤ coordinate_limit) (sym e) (is_short c);
     }

@@ -1,4 +1,4 @@
-use Rattle.std.proofs.Common.{◌≡◌, sym, ap, ap₂, ◌∙◌, subst, ℤ, ◌*ℤ◌, to_z, of_z}
+use Rattle.std.proofs.Common.{sym, ap, ◌∙◌, subst, ℤ, ◌*ℤ◌, to_z, of_z}
 use Rattle.std.proofs.lemmas.Int.{to_z-of_z}
 use mir.Syntax.{w32, w64, w128}
 use mir.Val.{SFits}

@@ -5,7 +5,6 @@ use mir.Syntax.{w32, w64, w128}
 use mir.Val.{SFits}
 use Rattle.geometry_model.specs.WellKnownText.{coordinate_limit}
 use Rattle.orient.proofs.Bounds.{read_within}
-use Rattle.edge_boxes.specs.BoxCells.{IsFloor}
 use Rattle.edge_boxes.proofs.Floors.{floor_as, ceiling_as}
 use Rattle.edge_boxes.proofs.cells.neighbours.Goals as goal
 

@@ -4,9 +4,9 @@ use Rattle.geometry_model.specs.Sides.{on}
 use Rattle.orient.proofs.Tests.{either_holds, second_decides}
 use Rattle.edge_boxes.proofs.edge_pairs.meets_end.Goals as goal
 
-pub returns-then-is_on : goal.returns-then-is_on
-returns-then-is_on c = either_holds _ _ _ (c.is_on.ensures ∙ ap (λ (a : Position). on c.args.e.now (point_at a)) c.start.ensures) c.if-is_on.true
+pub returns-then-position_on : goal.returns-then-position_on
+returns-then-position_on c = either_holds _ _ _ (c.position_on.ensures ∙ ap (λ (a : Position). on c.args.e.now (point_at a)) c.start.ensures) c.if-position_on.true
 
-pub returns-else-is_on : goal.returns-else-is_on
-returns-else-is_on c = second_decides _ _ _ _ (c.is_on.ensures ∙ ap (λ (a : Position). on c.args.e.now (point_at a)) c.start.ensures) c.if-is_on.false
-    (c.is_on-else-is_on.ensures ∙ ap (λ (a : Position). on c.args.e.now (point_at a)) c.end.ensures.value)
+pub returns-else-position_on : goal.returns-else-position_on
+returns-else-position_on c = second_decides _ _ _ _ (c.position_on.ensures ∙ ap (λ (a : Position). on c.args.e.now (point_at a)) c.start.ensures) c.if-position_on.false
+    (c.position_on-else-position_on.ensures ∙ ap (λ (a : Position). on c.args.e.now (point_at a)) c.end.ensures.value)

@@ -1,5 +1,4 @@
-use Rattle.std.proofs.Common.{◌≡◌, ◌<◌, false, arith, rules}
-use Rattle.geometry_model.specs.Envelopes.{overlap}
+use Rattle.std.proofs.Common.{◌<◌, arith, rules}
 use Rattle.edge_boxes.proofs.BoxFacts.{covered_within}
 use Rattle.edge_boxes.proofs.Steps.{box_before}
 use Rattle.edge_boxes.proofs.Near.{skip_back, enter_back}

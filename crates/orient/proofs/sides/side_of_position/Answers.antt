@@ -19,13 +19,13 @@ step-dy-requires c = record {
 pub step-ex-requires : goal.step-ex-requires
 step-ex-requires c = record {
   first = read_within w32 coordinate_limit c.x-3.result c.args.from.x (record { sfits = c.x-3.type_inv }) c.x-3.ensures.value c.x-3.ensures.on_grid.x;
-  second = read_within w32 coordinate_limit c.args.x c.args.x c.ranges.x refl c.requires.x_bound;
+  second = read_within w32 coordinate_limit c.x-4.result c.args.at.x (record { sfits = c.x-4.type_inv }) c.x-4.ensures.value c.x-4.ensures.on_grid.x;
 }
 
 pub step-ey-requires : goal.step-ey-requires
 step-ey-requires c = record {
   first = read_within w32 coordinate_limit c.y-3.result c.args.from.y (record { sfits = c.y-3.type_inv }) c.y-3.ensures.value c.y-3.ensures.on_grid.y;
-  second = read_within w32 coordinate_limit c.args.y c.args.y c.ranges.y refl c.requires.y_bound;
+  second = read_within w32 coordinate_limit c.y-4.result c.args.at.y (record { sfits = c.y-4.type_inv }) c.y-4.ensures.value c.y-4.ensures.on_grid.y;
 }
 
 pub short_vector_product-requires : goal.short_vector_product-requires
@@ -36,10 +36,13 @@ short_vector_product-requires c = record {
   ey_bound = read_within w64 (2 * coordinate_limit) c.step-ey.result c.step-ey.result (record { sfits = c.step-ey.type_inv }) refl c.step-ey.ensures.bound;
 }
 
-pub returns : goal.returns
-returns c =
+pub returns-clause-on_grid : goal.returns-clause-on_grid
+returns-clause-on_grid c = c.x-4.ensures.on_grid
+
+pub returns-clause-value : goal.returns-clause-value
+returns-clause-value c =
     let dx = step_read c.step-dx.result c.x-2.result c.x.result c.args.to.x c.args.from.x (record { sfits = c.step-dx.type_inv }) (record { sfits = c.x-2.type_inv }) (record { sfits = c.x.type_inv }) c.step-dx.ensures.value c.x-2.ensures.value c.x.ensures.value in
     let dy = step_read c.step-dy.result c.y-2.result c.y.result c.args.to.y c.args.from.y (record { sfits = c.step-dy.type_inv }) (record { sfits = c.y-2.type_inv }) (record { sfits = c.y.type_inv }) c.step-dy.ensures.value c.y-2.ensures.value c.y.ensures.value in
-    let ex = step_read c.step-ex.result c.args.x c.x-3.result c.args.x c.args.from.x (record { sfits = c.step-ex.type_inv }) c.ranges.x (record { sfits = c.x-3.type_inv }) c.step-ex.ensures.value refl c.x-3.ensures.value in
-    let ey = step_read c.step-ey.result c.args.y c.y-3.result c.args.y c.args.from.y (record { sfits = c.step-ey.type_inv }) c.ranges.y (record { sfits = c.y-3.type_inv }) c.step-ey.ensures.value refl c.y-3.ensures.value in
-    read w64 c.short_vector_product.result _ (record { sfits = c.short_vector_product.type_inv }) (c.short_vector_product.ensures ∙ vector_of _ _ _ _ _ _ _ _ dx ey dy ex) ∙ sym (side_at c.args.from c.args.to c.args.x c.args.y)
+    let ex = step_read c.step-ex.result c.x-4.result c.x-3.result c.args.at.x c.args.from.x (record { sfits = c.step-ex.type_inv }) (record { sfits = c.x-4.type_inv }) (record { sfits = c.x-3.type_inv }) c.step-ex.ensures.value c.x-4.ensures.value c.x-3.ensures.value in
+    let ey = step_read c.step-ey.result c.y-4.result c.y-3.result c.args.at.y c.args.from.y (record { sfits = c.step-ey.type_inv }) (record { sfits = c.y-4.type_inv }) (record { sfits = c.y-3.type_inv }) c.step-ey.ensures.value c.y-4.ensures.value c.y-3.ensures.value in
+    read w64 c.short_vector_product.result _ (record { sfits = c.short_vector_product.type_inv }) (c.short_vector_product.ensures ∙ vector_of _ _ _ _ _ _ _ _ dx ey dy ex) ∙ sym (side_at c.args.from c.args.to c.args.at.x c.args.at.y)

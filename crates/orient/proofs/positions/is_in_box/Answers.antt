@@ -3,7 +3,7 @@ use Rattle.std.proofs.lemmas.Int.{to_z-of_z}
 use mir.Syntax.{w32}
 use mir.Val.{SFits}
 use Rattle.geometry_model.specs.Sides.{between}
-use Rattle.edge_boxes.proofs.edge_pairs.is_in_box.Goals as goal
+use Rattle.orient.proofs.positions.is_in_box.Goals as goal
 
 -- where the first test holds, the second decides
 by_second : (first second p q : Bool) → first ≡ true → first ≡ p → second ≡ q → second ≡ (p && q)

@@ -7,7 +7,7 @@ use Rattle.integers.proofs.Tests.{equal_yes, equal_no}
 use Rattle.geometry_model.specs.Points.{point_at}
 use Rattle.geometry_model.specs.Sides.{side}
 use Rattle.orient.proofs.Tests.{others_decide, all_fail}
-use Rattle.edge_boxes.proofs.edge_pairs.is_on.Goals as goal
+use Rattle.orient.proofs.positions.position_on.Goals as goal
 
 pub returns-then-side-eq0 : goal.returns-then-side-eq0
 returns-then-side-eq0 c =

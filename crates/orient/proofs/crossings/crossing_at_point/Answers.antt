@@ -5,7 +5,7 @@ use mir.Val.{SFits}
 use Rattle.geometry_model.specs.Points.{Position}
 use Rattle.geometry_model.specs.Sides.{side}
 use Rattle.orient.proofs.Rightward.{strictly_from, at_or_from}
-use Rattle.orient.proofs.crossings.crossing_at.Goals as goal
+use Rattle.orient.proofs.crossings.crossing_at_point.Goals as goal
 
 pub is_on-requires : goal.is_on-requires
 is_on-requires c =
