@@ -32,12 +32,9 @@ static bool is_kept(const struct kept *kept, const char *bytes, size_t length)
     return kept->bytes != NULL && kept->length == length && memcmp(kept->bytes, bytes, length) == 0;
 }
 
-/* Reads a text in place of what is kept, and keeps it under its bytes, which may be another form of the text. */
-static int keep(struct kept *kept, const char *bytes, size_t size, const char *text, size_t length, sfq_fault *fault)
+/* Keeps a geometry that was read with this status under its bytes. */
+static int keep_under(struct kept *kept, const char *bytes, size_t size, int status)
 {
-    int status;
-    forget(kept);
-    status = sfq_read(text, length, &kept->geometry, fault);
     if (status != SFQ_OK) {
         return status;
     }
@@ -49,6 +46,13 @@ static int keep(struct kept *kept, const char *bytes, size_t size, const char *t
     memcpy(kept->bytes, bytes, size);
     kept->length = size;
     return SFQ_OK;
+}
+
+/* Reads a text in place of what is kept, and keeps it under its bytes, which may be another form of the text. */
+static int keep(struct kept *kept, const char *bytes, size_t size, const char *text, size_t length, sfq_fault *fault)
+{
+    forget(kept);
+    return keep_under(kept, bytes, size, sfq_read(text, length, &kept->geometry, fault));
 }
 
 /* The status of a call that took two texts, where this is that of reading the second. */

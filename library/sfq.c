@@ -14,12 +14,20 @@ struct kept {
     void *at;
 };
 
+/* Two coordinates. An array of them is one of coordinates, x and y in turn. */
+struct position {
+    int32_t x, y;
+};
+
 uint32_t sfq_proved_fault(const uint8_t *text, size_t length, sfq_fault *fault);
 uint32_t sfq_proved_relate_texts(const uint8_t *first, size_t first_length, const uint8_t *second, size_t second_length,
                                  uint8_t *matrix, sfq_fault *fault);
 uint32_t sfq_proved_answer_texts(const uint8_t *first, size_t first_length, const uint8_t *second, size_t second_length,
                                  uint8_t *matrix, bool *holds, sfq_fault *fault);
 uint32_t sfq_proved_read(const uint8_t *text, size_t length, struct kept *slot, sfq_fault *fault);
+uint32_t sfq_proved_read_positions(uint32_t type, const struct position *positions, size_t count, const size_t *lines,
+                                   size_t line_count, const size_t *polygons, size_t polygon_count, struct kept *slot,
+                                   sfq_fault *fault);
 void sfq_proved_free(struct kept kept);
 uint32_t sfq_proved_relate(struct kept first, struct kept second, uint8_t *matrix, struct kept *first_back,
                            struct kept *second_back);
@@ -44,6 +52,13 @@ static const struct kept empty_slot = { NULL };
 static const uint8_t *bytes_of(const char *text)
 {
     return (const uint8_t *)(text != NULL ? text : "");
+}
+
+/* Sizes as a pointer that isn't null. */
+static const size_t *sizes_of(const size_t *sizes)
+{
+    static const size_t none = 0;
+    return sizes != NULL ? sizes : &none;
 }
 
 /* The geometry, for a call that puts it back. */
@@ -131,6 +146,25 @@ int sfq_read(const char *text, size_t length, sfq_geometry *geometry, sfq_fault 
     return (int)status;
 }
 
+int sfq_read_positions(uint32_t type, const int32_t *coordinates, size_t positions, const size_t *lines, size_t line_count,
+                       const size_t *polygons, size_t polygon_count, sfq_geometry *geometry, sfq_fault *fault)
+{
+    static const struct position none = { 0, 0 };
+    struct kept slot = empty_slot;
+    sfq_fault other = { 0, 0, 0, 0 };
+    uint32_t status;
+    if (geometry->kept != NULL) {
+        return SFQ_NO_GEOMETRY;
+    }
+    status = sfq_proved_read_positions(type, coordinates != NULL ? (const struct position *)(const void *)coordinates : &none,
+                                       positions, sizes_of(lines), line_count, sizes_of(polygons), polygon_count, &slot,
+                                       written(fault, &other));
+    if (status == SFQ_OK) {
+        geometry->kept = slot.at;
+    }
+    return (int)status;
+}
+
 void sfq_free(sfq_geometry *geometry)
 {
     if (is_there(geometry)) {
@@ -156,6 +190,22 @@ int sfq_relate(sfq_geometry *first, sfq_geometry *second, char matrix[10])
     first->kept = one.at;
     second->kept = two.at;
     return with_end(status, nine, matrix);
+}
+
+int sfq_relate_many(sfq_geometry *const *first, sfq_geometry *const *second, size_t count, char *matrices, size_t *done)
+{
+    char matrix[10];
+    int status = SFQ_OK;
+    size_t i;
+    for (i = 0; i < count; i++) {
+        status = sfq_relate(first[i], second[i], matrix);
+        if (status != SFQ_OK) {
+            break;
+        }
+        memcpy(matrices + 9 * i, matrix, 9);
+    }
+    *done = i;
+    return status;
 }
 
 int sfq_holds(uint32_t relation, sfq_geometry *first, sfq_geometry *second, bool *answer)
@@ -259,4 +309,18 @@ int sfq_locate(sfq_geometry *geometry, int32_t x, int32_t y, uint32_t *place)
     status = sfq_proved_locate(taken(geometry), x, y, place, &back);
     geometry->kept = back.at;
     return (int)status;
+}
+
+int sfq_locate_many(sfq_geometry *geometry, const int32_t *coordinates, size_t count, uint32_t *places, size_t *done)
+{
+    int status = is_there(geometry) ? SFQ_OK : SFQ_NO_GEOMETRY;
+    size_t i;
+    for (i = 0; status == SFQ_OK && i < count; i++) {
+        status = sfq_locate(geometry, coordinates[2 * i], coordinates[2 * i + 1], &places[i]);
+        if (status != SFQ_OK) {
+            break;
+        }
+    }
+    *done = i;
+    return status;
 }

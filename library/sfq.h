@@ -45,7 +45,7 @@ enum sfq_status {
     SFQ_REFUSED = 1,        /* the first or only text isn't that of a valid geometry */
     SFQ_SECOND_REFUSED = 2, /* the first text is, and the second isn't */
     SFQ_OUT_OF_MEMORY = 3,
-    SFQ_UNKNOWN = 4,        /* no relation, pattern, type or position is written so */
+    SFQ_UNKNOWN = 4,        /* no relation, pattern, position or type with such parts is written so */
     SFQ_TOO_SMALL = 5,      /* the room is too small */
     SFQ_NONE = 6,           /* there is no envelope: the geometry is empty */
     SFQ_NO_GEOMETRY = 7     /* a geometry is empty that has to hold one, or holds one that has to be empty */
@@ -99,6 +99,16 @@ enum sfq_relation {
 
 #define SFQ_RELATIONS 11
 
+/* The types of geometries, as well-known binary counts them (06-103r4, 8.2). */
+enum sfq_type {
+    SFQ_POINT = 1,
+    SFQ_LINESTRING = 2,
+    SFQ_POLYGON = 3,
+    SFQ_MULTIPOINT = 4,
+    SFQ_MULTILINESTRING = 5,
+    SFQ_MULTIPOLYGON = 6
+};
+
 /* Where a position lies in a geometry (06-103r4, 6.1.15.2). */
 enum sfq_place {
     SFQ_INTERIOR = 0,
@@ -130,11 +140,31 @@ int sfq_answer_texts(const char *first, size_t first_length, const char *second,
 /* Reads a valid geometry from a text, and keeps it in `geometry`, which has to be empty. */
 int sfq_read(const char *text, size_t length, sfq_geometry *geometry, sfq_fault *fault);
 
+/*
+ * The same from numbers: the geometry, or the fault, of the text of this `sfq_type` with these coordinates. There are `positions`
+ * positions, each an x and a y. `lines` has how many positions each line or ring has, of SFQ_MULTILINESTRING, SFQ_POLYGON and
+ * SFQ_MULTIPOLYGON, and `polygons` how many rings each polygon has, of SFQ_MULTIPOLYGON; elsewhere both are empty. None of these
+ * numbers may be 0. An array may be null where it is empty. Without positions the geometry is EMPTY, and a position that is equal
+ * to the one before it on a line or ring is left out, as in a text.
+ *
+ * SFQ_UNKNOWN where no type has such parts. A fault is W4, else W3 with the number of the position, from 0, in `first`, else one
+ * of V1 to V8; so W4 comes before W3 also where a text has the number past the limit first.
+ */
+int sfq_read_positions(uint32_t type, const int32_t *coordinates, size_t positions, const size_t *lines, size_t line_count,
+                       const size_t *polygons, size_t polygon_count, sfq_geometry *geometry, sfq_fault *fault);
+
 /* Frees what a geometry holds, and leaves it empty. Null and an empty one do nothing. */
 void sfq_free(sfq_geometry *geometry);
 
 /* The DE-9IM matrix of two geometries: nine characters, and a 0 after them. They may be the same. */
 int sfq_relate(sfq_geometry *first, sfq_geometry *second, char matrix[10]);
+
+/*
+ * The matrices of `count` pairs, of `first[i]` and `second[i]`: nine characters each, one after another, without a 0 at the end. A
+ * geometry may be in several pairs. `done` is written in any case: how many pairs have their matrix. The first pair whose status
+ * isn't SFQ_OK ends the call, with that status, and its matrix and those after it are as they were.
+ */
+int sfq_relate_many(sfq_geometry *const *first, sfq_geometry *const *second, size_t count, char *matrices, size_t *done);
 
 /* Whether a relation of `sfq_relation` holds of two geometries; SFQ_UNKNOWN for any other number. They may be the same. */
 int sfq_holds(uint32_t relation, sfq_geometry *first, sfq_geometry *second, bool *answer);
@@ -163,6 +193,12 @@ int sfq_envelope(sfq_geometry *geometry, int32_t bounds[4]);
 
 /* Where the position (x, y) lies in a geometry, by `sfq_place`; SFQ_UNKNOWN where a coordinate is past the limit. */
 int sfq_locate(sfq_geometry *geometry, int32_t x, int32_t y, uint32_t *place);
+
+/*
+ * The same of `count` positions, each an x and a y: one number each. `done` is written in any case: how many positions have their
+ * place. The first one that is past the limit ends the call.
+ */
+int sfq_locate_many(sfq_geometry *geometry, const int32_t *coordinates, size_t count, uint32_t *places, size_t *done);
 
 #ifdef __cplusplus
 }

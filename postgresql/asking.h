@@ -9,6 +9,7 @@
  */
 #include "utils/memutils.h"
 
+#include "binary.h"
 #include "faults.h"
 #include "keeping.h"
 
@@ -18,6 +19,7 @@
 /* What is kept between the calls of one FmgrInfo. */
 struct memory {
     struct kept kept[2];
+    int32_t systems[2];
     MemoryContextCallback callback;
 };
 
@@ -56,6 +58,25 @@ static int read_both(FunctionCallInfo fcinfo, struct memory *memory, sfq_fault *
 {
     int status = read_argument(&memory->kept[0], PG_GETARG_RAW_VARLENA_P(0), fault);
     return status != SFQ_OK ? status : of_second(read_argument(&memory->kept[1], PG_GETARG_RAW_VARLENA_P(1), fault));
+}
+
+/* Reads both arguments from their binary form. False where one of them isn't taken, isn't valid, or they have different systems. */
+static bool take_both(FunctionCallInfo fcinfo, struct memory *memory)
+{
+    int i;
+    for (i = 0; i < 2; i++) {
+        struct varlena *stored = PG_GETARG_RAW_VARLENA_P(i);
+        bytea *unpacked;
+        if (is_kept(&memory->kept[i], (const char *)stored, VARSIZE_ANY(stored))) {
+            continue;
+        }
+        unpacked = (bytea *)pg_detoast_datum_packed(stored);
+        if (keep_binary(&memory->kept[i], (const char *)stored, VARSIZE_ANY(stored), VARDATA_ANY(unpacked),
+                        VARSIZE_ANY_EXHDR(unpacked), &memory->systems[i]) != SFQ_OK) {
+            return false;
+        }
+    }
+    return memory->systems[0] == memory->systems[1];
 }
 
 /* Whether the argument is the text of a valid geometry. */

@@ -39,3 +39,12 @@ CREATE FUNCTION @extschema@.ST_IsValidReason(a text) RETURNS text
 -- For functions over types of geometries that have a reference system: true, or an error where two differ.
 CREATE FUNCTION @extschema@.same_system(a integer, b integer) RETURNS boolean
     LANGUAGE C IMMUTABLE STRICT PARALLEL SAFE COST 1 AS 'MODULE_PATHNAME', 'sql_sfq_same_system';
+
+-- For types of geometries that have a binary form: the same of two values in EWKB, and of a relation by its number in sfq.h. NULL
+-- where one of them isn't a valid geometry on the grid, or the two have different reference systems.
+CREATE FUNCTION @extschema@.binary_relate(a bytea, b bytea) RETURNS text
+    LANGUAGE C IMMUTABLE STRICT PARALLEL SAFE COST 1000 AS 'MODULE_PATHNAME', 'sql_sfq_binary_relate';
+CREATE FUNCTION @extschema@.binary_relate(a bytea, b bytea, pattern text) RETURNS boolean
+    LANGUAGE C IMMUTABLE STRICT PARALLEL SAFE COST 1000 AS 'MODULE_PATHNAME', 'sql_sfq_binary_relate_pattern';
+CREATE FUNCTION @extschema@.binary_holds(a bytea, b bytea, relation integer) RETURNS boolean
+    LANGUAGE C IMMUTABLE STRICT PARALLEL SAFE COST 1000 AS 'MODULE_PATHNAME', 'sql_sfq_binary_holds';

@@ -52,6 +52,45 @@ Datum sql_sfq_relate_pattern(PG_FUNCTION_ARGS)
     PG_RETURN_BOOL(answer);
 }
 
+/* The same three of values in PostGIS's binary form. NULL where one isn't taken: its text then says why. */
+PG_FUNCTION_INFO_V1(sql_sfq_binary_relate);
+Datum sql_sfq_binary_relate(PG_FUNCTION_ARGS)
+{
+    struct memory *memory = memory_of(fcinfo);
+    char matrix[10];
+    if (!take_both(fcinfo, memory)) {
+        PG_RETURN_NULL();
+    }
+    need_ok(sfq_relate(&memory->kept[0].geometry, &memory->kept[1].geometry, matrix), NULL);
+    PG_RETURN_TEXT_P(cstring_to_text(matrix));
+}
+
+PG_FUNCTION_INFO_V1(sql_sfq_binary_relate_pattern);
+Datum sql_sfq_binary_relate_pattern(PG_FUNCTION_ARGS)
+{
+    struct memory *memory = memory_of(fcinfo);
+    text *pattern = PG_GETARG_TEXT_PP(2);
+    bool answer = false;
+    if (!take_both(fcinfo, memory)) {
+        PG_RETURN_NULL();
+    }
+    need_ok(sfq_relate_pattern(&memory->kept[0].geometry, &memory->kept[1].geometry, VARDATA_ANY(pattern),
+                               VARSIZE_ANY_EXHDR(pattern), &answer), NULL);
+    PG_RETURN_BOOL(answer);
+}
+
+PG_FUNCTION_INFO_V1(sql_sfq_binary_holds);
+Datum sql_sfq_binary_holds(PG_FUNCTION_ARGS)
+{
+    struct memory *memory = memory_of(fcinfo);
+    bool answer = false;
+    if (!take_both(fcinfo, memory)) {
+        PG_RETURN_NULL();
+    }
+    need_ok(sfq_holds((uint32_t)PG_GETARG_INT32(2), &memory->kept[0].geometry, &memory->kept[1].geometry, &answer), NULL);
+    PG_RETURN_BOOL(answer);
+}
+
 /* The predicates: whether a relation holds. */
 static Datum relation(FunctionCallInfo fcinfo, enum sfq_relation of)
 {

@@ -86,6 +86,57 @@ PLACES = [
     (HOLED, 1, -2147483648, "4"),
 ]
 
+# The number of a type, coordinates, how many positions each line or ring has and how many rings each polygon, and what is seen as
+# above; else the status and the fault. Status 4 where no type has such parts. By hand.
+TOO_FAR = "0 0 4 0 4 10000001 0 4 0 0"
+ARRAYS = [
+    ("1", "1 -2", "", "0 0 0 1 1 -2 -2 POINT(1 -2)"),
+    ("1", "", "", "0 0 1 none POINT EMPTY"),
+    ("2", "0 0 0 0 4 0 -1 7 -1 7", "", "0 1 0 -1 4 0 7 LINESTRING(0 0,4 0,-1 7)"),
+    ("2", "", "", "0 1 1 none LINESTRING EMPTY"),
+    ("3", "0 0 4 0 4 4 0 4 0 0 1 1 2 1 2 2 1 1", "5 4", "0 2 0 0 4 0 4 POLYGON((0 0,4 0,4 4,0 4,0 0),(1 1,2 1,2 2,1 1))"),
+    ("3", "", "", "0 2 1 none POLYGON EMPTY"),
+    ("4", "3 4 3 4 1 9", "", "0 0 0 1 3 4 9 MULTIPOINT((3 4),(3 4),(1 9))"),
+    ("4", "", "", "0 0 1 none MULTIPOINT EMPTY"),
+    ("5", "0 0 1 1 5 5 5 5 5 6", "2 3", "0 1 0 0 5 0 6 MULTILINESTRING((0 0,1 1),(5 5,5 6))"),
+    ("5", "", "", "0 1 1 none MULTILINESTRING EMPTY"),
+    (
+        "6", "0 0 9 0 9 9 0 0 5 2 6 2 6 3 5 2 20 0 21 0 21 1 20 0", "4 4 4;2 1",
+        "0 2 0 0 21 0 9 MULTIPOLYGON(((0 0,9 0,9 9,0 0),(5 2,6 2,6 3,5 2)),((20 0,21 0,21 1,20 0)))",
+    ),
+    ("6", "", "", "0 2 1 none MULTIPOLYGON EMPTY"),
+    ("2", "-10000000 10000000 10000000 -10000000", "", "0 1 0 -10000000 10000000 -10000000 10000000 LINESTRING(-10000000 10000000,10000000 -10000000)"),
+    # Faults of the numbers, and of the geometry.
+    ("3", TOO_FAR, "5", "1 W3 2 0"),
+    ("1", "0 -10000001", "", "1 W3 0 0"),
+    ("1", "-2147483648 0", "", "1 W3 0 0"),
+    ("2", "5 5 5 5", "", "1 V1 0 0"),
+    ("3", "0 0 4 0 4 4 0 4 0 1", "5", "1 V2 0 0"),
+    ("3", "0 0 4 4 4 0 0 4 0 0", "5", "1 V3 0 0"),
+    ("6", "1 1 2 1 2 2 1 1 0 0 9 0 9 9 0 9 0 0", "4 5;1 1", "1 V8 0 1"),
+    # The most positions and parts, and one more.
+    ("4", " ".join(["1 1"] * 10_001), "", "1 W4 0 0"),
+    ("5", " ".join(["1 1 2 2"] * 1_001), " ".join(["2"] * 1_001), "1 W4 0 0"),
+    ("4", "0 10000001 " + " ".join(["1 1"] * 10_000), "", "1 W4 0 0"),
+    # No type has such parts.
+    ("0", "", "", "4"),
+    ("7", "1 2", "", "4"),
+    ("1", "1 2 3 4", "", "4"),
+    ("1", "1 2", "1", "4"),
+    ("2", "1 2 3 4", "2", "4"),
+    ("4", "1 2 3 4", "1 1", "4"),
+    ("3", "0 0 4 0 4 4 0 0", "", "4"),
+    ("3", "0 0 4 0 4 4 0 0", "3", "4"),
+    ("3", "0 0 4 0 4 4 0 0", "5", "4"),
+    ("3", "0 0 4 0 4 4 0 0", "4 0", "4"),
+    ("3", "0 0 4 0 4 4 0 0", "0 4", "4"),
+    ("3", "0 0 4 0 4 4 0 0", "18446744073709551615 5", "4"),
+    ("3", "0 0 4 0 4 4 0 0", "4;1", "4"),
+    ("6", "0 0 4 0 4 4 0 0", "4", "4"),
+    ("6", "0 0 4 0 4 4 0 0", "4;2", "4"),
+    ("6", "0 0 4 0 4 4 0 0", "4;1 0", "4"),
+]
+
 # Two texts, a pattern, and whether the matrix matches it; status 4 where the bytes are no pattern. By hand from the matrices above.
 PATTERNS = [
     ("POINT(1 1)", "POLYGON((0 0,4 0,4 4,0 4,0 0))", "T*F**F***", "0 1"),
@@ -131,6 +182,7 @@ def lines_of_kept_calls():
     calls += [(f"match\t{a}\t{b}\t{it}", "0 1") for a, b, it in pairs()]
     calls += [(f"match\t{a}\t{b}\t{it}", wanted) for a, b, it, wanted in PATTERNS]
     calls += [(f"seen\t{text}", f"0 {it}") for text, it in SEEN]
+    calls += [(f"array\t{kind}\t{numbers}\t{sizes}", wanted) for kind, numbers, sizes, wanted in ARRAYS]
     calls += [(f"place\t{text}\t{x}\t{y}", it) for text, x, y, it in PLACES]
     # The same geometry twice, by the interior and the boundary that it has.
     calls += [
@@ -138,7 +190,7 @@ def lines_of_kept_calls():
         ("kept\tPOINT EMPTY\tPOINT EMPTY", "0 FFFFFFFF2 11000000000"),
         ("kept\tLINESTRING(0 0,4 0)\tLINESTRING(0 0,4 0)", "0 1FFF0FFF2 10100110110"),
         (f"kept\t{HOLED}\t{HOLED}", "0 2FFF1FFF2 10100110110"),
-        ("without", " ".join("7" * 11)),
+        ("without", " ".join("7" * 13)),
     ]
     for text, fault in FAULTS:
         calls += [
@@ -243,7 +295,8 @@ class Library(WithLibrary):
     def test_only_the_calls_of_the_header_can_be_seen(self):
         for words in (["nm", "-D", "--defined-only", library.SHARED], ["nm", "-g", "--defined-only", f"{library.OUT}/libsfq.a"]):
             ran = subprocess.run(words, capture_output=True, text=True, check=True)
-            seen = re.findall(r"^[0-9a-f]+ [A-Z] (\S+)$", ran.stdout, re.M)
+            # A shared library has the version of a call behind it, and the version itself.
+            seen = re.findall(r"^[0-9a-f]+ (?!A )[A-Z] ([^@\s]+)\S*$", ran.stdout, re.M)
             self.assertEqual(sorted(seen), sorted(library.seen_calls()))
         declared = re.findall(r"^\w+ (sfq_\w+)\(", read(f"{ROOT}/library/sfq.h"), re.M)
         self.assertEqual(sorted(declared), sorted(library.seen_calls()))

@@ -4,6 +4,7 @@ import csv
 import os
 import re
 import shutil
+import struct
 import subprocess
 import threading
 import unittest
@@ -86,6 +87,55 @@ class Postgresql(engine_rows.WithLibrary):
             named = [(name, reason) for name, reason in zip(NAMES, reasons) if reason != "Valid Geometry"]
             fault = f"sfq: {named[0][0]} {named[0][1].partition(':')[0]}" if named else ""
             self.assertEqual((matrix, fault), (it.matrix, it.fault), f"{it.first} {it.second}")
+
+    def test_binary_forms(self):
+        """Of both orders of bytes; NULL for what is cut off, changed, off the grid or not flat."""
+        little, big = "'\\x0101000000000000000000f03f0000000000000040'::bytea", "'\\x00000000013ff00000000000004000000000000000'::bytea"
+        with_system = "'\\x0101000020e6100000000000000000f03f0000000000000040'::bytea"
+        with_z = "'\\x0101000080000000000000f03f00000000000000400000000000000040'::bytea"
+        half = "'\\x0101000000000000000000e03f0000000000000040'::bytea"
+        self.assertEqual(self.asked(
+            f"SELECT binary_relate({little}, {big}), binary_relate({little}, {with_system}) IS NULL, "
+            f"binary_relate({with_system}, {with_system}), binary_relate({with_z}, {little}) IS NULL, "
+            f"binary_relate({little}, {half}) IS NULL, binary_holds({little}, {big}, 0), binary_relate({little}, {big}, 'T********');"
+        ), "0FFFFFFF2,t,0FFFFFFF2,t,t,t,t\n")
+        # MULTIPOLYGON(((0 0,9 0,9 9,0 0),(5 2,6 2,6 3,5 2)),((20 0,21 0,21 1,20 0)))
+        rings = [[(0, 0), (9, 0), (9, 9), (0, 0)], [(5, 2), (6, 2), (6, 3), (5, 2)], [(20, 0), (21, 0), (21, 1), (20, 0)]]
+        packed = [struct.pack("<I", 4) + b"".join(struct.pack("<dd", *it) for it in ring) for ring in rings]
+        polygons = [struct.pack("<BII", 1, 3, len(it)) + b"".join(it) for it in (packed[:2], packed[2:])]
+        value = f"'\\x{(struct.pack('<BII', 1, 6, 2) + b''.join(polygons)).hex()}'::bytea"
+        self.assertEqual(self.asked(
+            f"SELECT binary_relate({value}, {value}), ST_Relate('MULTIPOLYGON(((0 0,9 0,9 9,0 0),(5 2,6 2,6 3,5 2)),"
+            "((20 0,21 0,21 1,20 0)))', 'POINT(1 2)'), "
+            f"binary_relate({value}, {little});\n"
+            f"SELECT count(binary_relate(substring({value} FOR n), {value})) FROM generate_series(0, length({value}) - 1) n;\n"
+            f"SELECT count(binary_relate({value} || '\\x00'::bytea, {value}));"
+        ), "2FFF1FFF2,FF2FF10F2,FF2FF10F2\n0\n0\n")
+        # Any byte changed to any of some values: a matrix or NULL, and the server goes on.
+        self.assertEqual(self.asked(
+            f"SELECT count(*) FROM generate_series(0, length({value}) - 1) n, unnest(ARRAY[0, 1, 2, 127, 128, 240, 255]) b "
+            f"WHERE coalesce(binary_relate(set_byte({value}, n, b), {value}) !~ '^[F012]{{9}}$', false);"
+        ), "0\n")
+
+    def test_geometries_of_postgis_are_as_their_texts(self):
+        """The engine's rows, as far as PostGIS reads their texts."""
+        if not postgresql_server.has_extension("postgis"):
+            self.skipTest("needs the package postgresql-15-postgis-3")
+        pairs = [it for it in engine_rows.pairs() if it.matrix and not re.search(r"[+]|(?<!\d)\.|\.(?!\d)", it.first + it.second)]
+        values = ",\n".join(f"({at}, {self.literal(it.first)}, {self.literal(it.second)})" for at, it in enumerate(pairs))
+        out = self.asked(
+            "BEGIN; SET LOCAL client_min_messages = warning; CREATE EXTENSION postgis SCHEMA public; CREATE EXTENSION sfq_postgis;\n"
+            "CREATE FUNCTION read(given text) RETURNS geometry LANGUAGE plpgsql AS\n"
+            "$$ BEGIN RETURN given::geometry; EXCEPTION WHEN OTHERS THEN RETURN NULL; END $$;\n"
+            f"CREATE TEMPORARY TABLE pair (id, a, b) AS VALUES {values};\n"
+            "CREATE TEMPORARY TABLE shape AS SELECT id, read(a) AS a, read(b) AS b FROM pair;\n"
+            "SELECT id, ST_Relate(a, b), binary_relate(ST_AsEWKB(a), ST_AsEWKB(b)) FROM shape WHERE a IS NOT NULL AND b IS NOT NULL "
+            "ORDER BY id;\nROLLBACK;"
+        )
+        rows = list(csv.reader(out.splitlines()))
+        self.assertGreaterEqual(len(rows), 140)
+        for at, *matrices in rows:
+            self.assertEqual(matrices, [pairs[int(at)].matrix] * 2, f"{pairs[int(at)].first} {pairs[int(at)].second}")
 
     @staticmethod
     def literal(text):

@@ -2,6 +2,7 @@
 import csv
 import os
 import pickle
+import random
 import re
 import subprocess
 import sys
@@ -16,10 +17,12 @@ import engine_rows
 import library
 import repository
 
+sys.path.insert(0, f"{ROOT}/bench")
 sys.path.insert(0, f"{ROOT}/python")
 
+import pairs as drawing
 import sfq
-from sfq import _faults, _library
+from sfq import _faults, _library, _texts
 
 SQUARE = "POLYGON((0 0,4 0,4 4,0 4,0 0))"
 # The methods of a Geometry, by the names that SQL has for them.
@@ -35,6 +38,33 @@ def python_with_shapely():
         if os.path.isfile(it) and subprocess.run([it, "-c", "import shapely"], capture_output=True).returncode == 0:
             return it
     return None
+
+
+PYTHON = python_with_shapely()
+# What is asked with arrays of numpy.
+ARRAYS = """
+import numpy, sfq
+square = sfq.Geometry("POLYGON((0 0,4 0,4 4,0 4,0 0))")
+places = square.locate_many(numpy.array([[1, 1], [4, 1], [9, 9]], dtype=float))
+print(str(places.tolist()).replace(" ", ""))
+print(sfq.Geometry.from_positions("LineString", numpy.array([[0, 0], [0, 0], [3, 4]], dtype="int16")[::1]))
+for it in ([[1.5, 2]], [[float("nan"), 2]], [1, 2], [[10**12, 1]]):
+    try:
+        square.locate_many(numpy.array(it))
+    except ValueError as error:
+        print(type(error).__name__)
+"""
+
+
+def taken_apart(text):
+    """Returns the type, positions, and sizes of lines and polygons of a text without blanks but between x and y."""
+    name = next(it for it in _library.TYPES if it.upper() == re.match("[A-Z]+", text)[0])
+    if name == "MultiPoint":
+        text = text.replace("((", "(").replace("))", ")").replace("),(", ",")
+    parts = [[tuple(map(int, it.split())) for it in part.split(",")] for part in re.findall(r"\(([-\d, ]+)\)", text)]
+    lines = [len(it) for it in parts] if _texts.TYPES[name] > 1 else []
+    polygons = [it.count("),(") + 1 for it in text.split(")),((")] if name == "MultiPolygon" and parts else []
+    return name, [it for part in parts for it in part], lines, polygons
 
 
 def environment(**more):
@@ -127,6 +157,61 @@ class Package(engine_rows.WithLibrary):
             sfq.relate_many(ones, [SQUARE, "POINT", "CIRCLE"])
         self.assertEqual((met.exception.index, met.exception.which), (1, "second"))
 
+    def test_many_pairs_share_geometries_with_other_threads(self):
+        kept = [sfq.Geometry(f"POINT({it} {it})") for it in range(50)] + [sfq.Geometry(SQUARE)]
+        wanted, found = sfq.relate_many(kept, reversed(kept)), []
+        threads = [threading.Thread(target=lambda: found.append(sfq.relate_many(kept, reversed(kept)))) for _ in range(4)]
+        for it in threads:
+            it.start()
+        for it in threads:
+            it.join()
+        self.assertEqual(found, [wanted] * 4)
+
+    def test_from_positions(self):
+        square = sfq.Geometry.from_positions("Polygon", [(0, 0), (4, 0), (4, 0), (4, 4), (0, 4), (0, 0)], [6])
+        self.assertEqual((square, square.touches("POINT(4 1)"), square.is_valid), (sfq.Geometry(SQUARE), True, True))
+        self.assertEqual(pickle.loads(pickle.dumps(square)), square)
+        self.assertEqual(square.__geo_interface__, sfq.Geometry(SQUARE).__geo_interface__)
+        for words, error, said in (
+            (("Polygon", [(0, 0)], [2]), ValueError, "the parts don't have these positions"),
+            (("Ring", []), ValueError, "a type is one of Point"),
+            (("Point", [(1, 2, 3)]), sfq.GridError, "a position is an x and a y"),
+            (("Point", [(1.5, 2)]), sfq.GridError, "isn't whole"),
+            (("LineString", [(0, 0), (0, -10**30)]), sfq.FaultError, "W3 at position 1: a coordinate of this position is past"),
+            (("LineString", [(0, 0), (0, 0)]), sfq.FaultError, "V1 0: "),
+            (("MultiPoint", [(0, 0)] * 10_001), sfq.FaultError, "W4: "),
+        ):
+            with self.assertRaisesRegex(error, said):
+                sfq.Geometry.from_positions(*words)
+
+    def test_positions_are_as_texts(self):
+        """Random geometries, of which many have a fault."""
+        chance, faults = random.Random(41), set()
+        for _ in range(2_000):
+            text = drawing.draw(chance, chance.choice(drawing.TYPES))
+            wanted = sfq.Geometry(text)
+            try:
+                self.assertEqual(sfq.Geometry.from_positions(*taken_apart(text)).text, wanted.text)
+            except sfq.FaultError as error:
+                self.assertEqual(error.fault, wanted.fault, text)
+                faults.add(error.fault.code)
+        self.assertGreaterEqual(len(faults), 2)
+
+    def test_places_of_many_positions(self):
+        square = sfq.Geometry(SQUARE)
+        self.assertEqual(square.locate_many([(1, 1), (4, 1), (-1, 9)]), [0, 1, 2])
+        self.assertEqual(square.locate_many(iter([])), [])
+        with self.assertRaisesRegex(ValueError, "position 1 is past 10,000,000"):
+            square.locate_many([(1, 1), (10_000_001, 1)])
+        with self.assertRaisesRegex(sfq.FaultError, "W1"):
+            sfq.Geometry("POINT").locate_many([(1, 1)])
+
+    @unittest.skipUnless(PYTHON, "needs the package python3-shapely")
+    def test_arrays_of_numpy(self):
+        ran = subprocess.run([PYTHON, "-c", ARRAYS], capture_output=True, text=True, env=environment(PYTHONPATH=f"{ROOT}/python"))
+        self.assertEqual((ran.returncode, ran.stdout), (0, ran.stdout), ran.stderr)
+        self.assertEqual(ran.stdout.split(), ["[0,1,2]", "LINESTRING(0", "0,3", "4)", "GridError", "GridError", "GridError", "ValueError"])
+
     def test_coordinates(self):
         for text, wanted in (
             ("POINT(1 -2)", {"type": "Point", "coordinates": (1, -2)}),
@@ -148,7 +233,7 @@ class Package(engine_rows.WithLibrary):
             sfq.from_shapely({"type": "GeometryCollection", "geometries": []})
 
     def test_shapely(self):
-        python = python_with_shapely()
+        python = PYTHON
         if not python:
             self.skipTest("needs the package python3-shapely")
         text = (

@@ -11,9 +11,9 @@ SFQ_LIBRARY names; it is loaded when it is first asked.
 from __future__ import annotations
 
 import re
-from typing import Any, Dict, Iterable, List, Optional, Tuple, Union
+from typing import Any, Dict, Iterable, List, Optional, Sequence, Tuple, Union
 
-from . import _library, _texts
+from . import _library, _positions, _texts
 from ._faults import Fault, FaultError, GridError, LibraryError
 
 __all__ = ["Fault", "FaultError", "Geometry", "GridError", "LibraryError", "from_shapely", "relate", "relate_many"]
@@ -35,6 +35,24 @@ class Geometry:
         self._set("_spelled", text)
         self._set("_kept", _library.Kept(text))
         self._set("_text", None)
+
+    @classmethod
+    def from_positions(cls, name: str, positions: Any, lines: Sequence[int] = (), polygons: Sequence[int] = ()) -> Geometry:
+        """Returns the geometry of a type, such as "Polygon", with these positions: pairs of whole numbers, or an array of numpy.
+
+        `lines` has how many positions each line or ring has, of MultiLineString, Polygon and MultiPolygon; `polygons` how many
+        rings each polygon of a MultiPolygon has. FaultError where it isn't valid, W3 with the number of the position; GridError
+        where a coordinate isn't whole; ValueError where the parts don't fit.
+        """
+        if name not in _library.TYPES:
+            raise ValueError(f"sfq: a type is one of {', '.join(_library.TYPES)}, not {name!r}")
+        buffer, count = _positions.buffer(positions)
+        made = cls.__new__(cls)
+        made._set("_kept", _library.KeptNumbers(name, (buffer, count), lines, polygons))
+        made._set("_text", None)
+        made._need_valid()
+        made._set("_spelled", made._kept.canonical())
+        return made
 
     def _set(self, name: str, value: Any) -> None:
         object.__setattr__(self, name, value)
@@ -106,6 +124,17 @@ class Geometry:
             raise ValueError(f"sfq: a pattern is nine characters T, F, *, 0, 1 or 2, not {pattern!r}")
         return all(it == "*" or (it == "T" and cell != "F") or it == cell for it, cell in zip(pattern.upper(), self.relate(other)))
 
+    def locate_many(self, positions: Any) -> Any:
+        """Returns where each position lies: 0 in the interior, 1 on the boundary, 2 in the exterior (06-103r4, 6.1.15.2).
+
+        Positions are pairs of whole numbers, and the places a list; or both are arrays of numpy. It is one call of the library.
+        GridError where a coordinate isn't whole, ValueError for the first position past the limit.
+        """
+        buffer, count = _positions.buffer(positions)
+        places, found = _positions.places(positions, count)
+        _library.locate_many(self._kept, buffer, count, places)
+        return found()
+
     def _holds(self, name: str, other: Shape) -> bool:
         return _library.holds(_library.RELATIONS.index(name), *_kept_pair(self, other))
 
@@ -174,18 +203,13 @@ def relate(first: Shape, second: Shape) -> str:
 def relate_many(first: Iterable[Shape], second: Iterable[Shape]) -> List[str]:
     """Returns the matrix of each pair: of the first of both, the second of both, and so on.
 
-    So far this is a call of the library for each pair, since the library has none for many. ValueError where one has more than
-    the other; FaultError for the first pair that is refused, with its place from 0 in `index`.
+    It is one call of the library for all pairs, beside the reading of texts that weren't read before. ValueError where one has
+    more than the other; FaultError for the first pair that is refused, with its place from 0 in `index`.
     """
-    ones, others, found = list(first), list(second), []
+    ones, others = ([_geometry(it)._kept for it in side] for side in (first, second))
     if len(ones) != len(others):
         raise ValueError(f"sfq: {len(ones)} geometries with {len(others)}: both have to have as many")
-    for index, pair in enumerate(zip(ones, others)):
-        try:
-            found.append(relate(*pair))
-        except FaultError as error:
-            raise FaultError(error.fault, error.which, index) from None
-    return found
+    return _library.relate_many(list(zip(ones, others)))
 
 
 def from_shapely(shape: Any) -> Geometry:

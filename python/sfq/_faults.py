@@ -50,6 +50,22 @@ class Fault(NamedTuple):
         return f"{self.place}: {self.meaning}"
 
 
+class PositionFault(Fault):
+    """Why numbers aren't those of a valid geometry. `first` of W3 is the number of the position, from 0."""
+
+    __slots__ = ()
+
+    @property
+    def meaning(self) -> str:
+        """What the fault means, and what to do."""
+        return MEANINGS[self.code].replace("the number at this byte", "a coordinate of this position")
+
+    @property
+    def place(self) -> str:
+        """The code with its places: `W3 at position 2`, `V4 0 1`."""
+        return f"W3 at position {self.first}" if self.code == "W3" else super().place
+
+
 class FaultError(ValueError):
     """A text that isn't that of a valid geometry was asked for a relation.
 

@@ -12,11 +12,13 @@ import ctypes
 import functools
 import os
 import threading
-from typing import Optional, Tuple
+from typing import List, Optional, Tuple
 
-from ._faults import Fault, FaultError, LibraryError
+from ._faults import Fault, FaultError, LibraryError, PositionFault
 
-OK, OUT_OF_MEMORY = 0, 3
+OK, OUT_OF_MEMORY, UNKNOWN = 0, 3, 4
+# The types, by the numbers of sfq_type.
+TYPES = ("Point", "LineString", "Polygon", "MultiPoint", "MultiLineString", "MultiPolygon")
 # The relations, by the numbers of sfq_relation.
 RELATIONS = (
     "equals", "disjoint", "intersects", "touches", "crosses", "within", "contains", "overlaps",
@@ -32,8 +34,8 @@ class CFault(ctypes.Structure):
         ("letter", ctypes.c_uint8), ("number", ctypes.c_uint8), ("first", ctypes.c_size_t), ("second", ctypes.c_size_t),
     ]
 
-    def read(self) -> Fault:
-        return Fault(f"{chr(self.letter)}{self.number}", self.first, self.second)
+    def read(self, kind=Fault) -> Fault:
+        return kind(f"{chr(self.letter)}{self.number}", self.first, self.second)
 
 
 def places() -> Tuple[str, ...]:
@@ -71,12 +73,16 @@ def declare(found: ctypes.CDLL) -> ctypes.CDLL:
     """Declares the calls, as sfq.h does."""
     geometry, fault = ctypes.POINTER(CGeometry), ctypes.POINTER(CFault)
     found.sfq_read.argtypes = [ctypes.c_char_p, ctypes.c_size_t, geometry, fault]
+    sizes, count = ctypes.POINTER(ctypes.c_size_t), ctypes.c_size_t
+    found.sfq_read_positions.argtypes = [ctypes.c_uint32, ctypes.c_void_p, count, sizes, count, sizes, count, geometry, fault]
+    found.sfq_relate_many.argtypes = [ctypes.c_void_p, ctypes.c_void_p, count, ctypes.c_char_p, sizes]
+    found.sfq_locate_many.argtypes = [geometry, ctypes.c_void_p, count, ctypes.c_void_p, sizes]
     found.sfq_relate.argtypes = [geometry, geometry, ctypes.c_char * 10]
     found.sfq_holds.argtypes = [ctypes.c_uint32, geometry, geometry, ctypes.POINTER(ctypes.c_bool)]
     found.sfq_text.argtypes = [geometry, ctypes.c_char_p, ctypes.c_size_t, ctypes.POINTER(ctypes.c_size_t)]
     found.sfq_free.argtypes, found.sfq_free.restype = [geometry], None
-    for call in (found.sfq_read, found.sfq_relate, found.sfq_holds, found.sfq_text):
-        call.restype = ctypes.c_int
+    for name in ("read", "read_positions", "relate", "relate_many", "holds", "text", "locate_many"):
+        getattr(found, f"sfq_{name}").restype = ctypes.c_int
     return found
 
 
@@ -84,6 +90,7 @@ class Kept:
     """What the library keeps of a geometry: nothing until it is needed, and nothing of a text that is refused."""
 
     __slots__ = ("text", "geometry", "lock", "_found")
+    FAULT = Fault
 
     def __init__(self, text: str) -> None:
         # A text with half a surrogate pair isn't UTF-8, and is refused as any other text.
@@ -100,9 +107,11 @@ class Kept:
         with self.lock:
             if self._found is None:
                 fault = CFault()
-                status = library().sfq_read(self.text, len(self.text), ctypes.byref(self.geometry), ctypes.byref(fault))
-                self._found = (fault.read() if is_refused(status) else None,)
+                self._found = (fault.read(self.FAULT) if is_refused(self._read(ctypes.byref(fault))) else None,)
             return self._found[0]
+
+    def _read(self, fault) -> int:
+        return library().sfq_read(self.text, len(self.text), ctypes.byref(self.geometry), fault)
 
     def canonical(self) -> str:
         """Returns the canonical text of a valid geometry."""
@@ -113,6 +122,31 @@ class Kept:
         return room.raw.decode("ascii")
 
 
+class KeptNumbers(Kept):
+    """What the library keeps of a geometry from numbers: a type, coordinates, and how many positions or rings each part has.
+
+    The coordinates are a buffer of 32-bit numbers, an x and a y for each position.
+    """
+
+    __slots__ = ("numbers",)
+    FAULT = PositionFault
+
+    def __init__(self, name: str, coordinates, lines, polygons) -> None:
+        super().__init__("")
+        self.numbers = (TYPES.index(name) + 1, coordinates, lines, polygons)
+
+    def _read(self, fault) -> int:
+        number, (coordinates, count), lines, polygons = self.numbers
+        parts = []
+        for sizes in (lines, polygons):
+            parts += [(ctypes.c_size_t * len(sizes))(*sizes), len(sizes)]
+        status = library().sfq_read_positions(number, coordinates, count, *parts, ctypes.byref(self.geometry), fault)
+        if status == UNKNOWN:
+            raise ValueError("sfq: the parts don't have these positions, or the type has no such parts")
+        self.numbers = None
+        return status
+
+
 def is_refused(status: int) -> bool:
     """Whether the status refuses a text, or a room. MemoryError where memory was refused."""
     if status == OUT_OF_MEMORY:
@@ -120,16 +154,58 @@ def is_refused(status: int) -> bool:
     return status != OK
 
 
-def ask(first: Kept, second: Kept, call, *words) -> None:
-    """Calls the library with two geometries, which serve no other call meanwhile. FaultError for the first that is refused."""
+def need_valid(first: Kept, second: Kept, index: Optional[int] = None) -> None:
+    """FaultError for the first of two geometries that is refused, with the pair's place in a list."""
     for kept, which in ((first, "first"), (second, "second")):
         if kept.fault:
-            raise FaultError(kept.fault, which)
-    ordered = sorted({id(it): it for it in (first, second)}.values(), key=id)
-    with ordered[0].lock, ordered[-1].lock if len(ordered) > 1 else contextlib.nullcontext():
+            raise FaultError(kept.fault, which, index)
+
+
+@contextlib.contextmanager
+def held(all_kept):
+    """Has these geometries serve no other call meanwhile. All are taken in one order, so that no two calls wait for each other."""
+    with contextlib.ExitStack() as locks:
+        for kept in sorted({id(it): it for it in all_kept}.values(), key=id):
+            locks.enter_context(kept.lock)
+        yield
+
+
+def ask(first: Kept, second: Kept, call, *words) -> None:
+    """Calls the library with two geometries. FaultError for the first that is refused."""
+    need_valid(first, second)
+    with held((first, second)):
         status = call(*words[:-1], ctypes.byref(first.geometry), ctypes.byref(second.geometry), words[-1])
+    need_ok(status)
+
+
+def need_ok(status: int) -> None:
     if is_refused(status):
         raise LibraryError(f"sfq: the library returned the status {status}, which is none of this call")
+
+
+def relate_many(pairs) -> List[str]:
+    """Returns the matrix of each pair of geometries, by one call. FaultError for the first pair that has a refused one."""
+    for index, pair in enumerate(pairs):
+        need_valid(*pair, index)
+    count = len(pairs)
+    room, done = ctypes.create_string_buffer(9 * count + 1), ctypes.c_size_t()
+    with held(kept for pair in pairs for kept in pair):
+        sides = [(ctypes.c_void_p * count)(*(ctypes.addressof(pair[side].geometry) for pair in pairs)) for side in (0, 1)]
+        need_ok(library().sfq_relate_many(*sides, count, room, ctypes.byref(done)))
+    text = room.raw.decode("ascii")
+    return [text[at:at + 9] for at in range(0, 9 * count, 9)]
+
+
+def locate_many(kept: Kept, coordinates, count: int, places) -> None:
+    """Writes the place of each position. ValueError for the first that is past the limit, FaultError of a refused geometry."""
+    if kept.fault:
+        raise FaultError(kept.fault)
+    done = ctypes.c_size_t()
+    with held((kept,)):
+        status = library().sfq_locate_many(ctypes.byref(kept.geometry), coordinates, count, places, ctypes.byref(done))
+    if status == UNKNOWN:
+        raise ValueError(f"sfq: position {done.value} is past 10,000,000 either way: scale the coordinates to the grid")
+    need_ok(status)
 
 
 def relate(first: Kept, second: Kept) -> str:

@@ -5,6 +5,8 @@
  *     match FIRST SECOND PATTERN   prints the status, and whether the matrix matches
  *     seen TEXT                    prints the status, the dimension, whether it is empty, the envelope, and the canonical text
  *     place TEXT X Y               prints the status, and the number of the place
+ *     array TYPE X.. L..;P..       reads from positions, and prints as `seen` does: coordinates with blanks between, the sizes of lines
+ *                                  or rings, and after a semicolon those of polygons
  *     without                      prints the statuses of calls that have no geometry, or one too many
  *
  * Of two texts that are the same one geometry is read, and handed in twice. A call whose memory was refused is made again, since
@@ -18,6 +20,7 @@
 #include <stdio.h>
 #include <stdlib.h>
 #include <string.h>
+#include <sys/mman.h>
 
 /* One call of the list: its geometries, and what was found. */
 struct one_call {
@@ -88,6 +91,63 @@ static bool reads_both(struct one_call *it, char *const words[WORDS])
     return reads(it, words[2], &it->second, SFQ_SECOND_REFUSED);
 }
 
+/* The most numbers of an array. */
+#define NUMBERS 24000
+
+/* The numbers of an array, whose room is none of what is refused. */
+struct numbers {
+    int32_t coordinates[NUMBERS];
+    size_t lines[NUMBERS / 2], polygons[NUMBERS / 2];
+};
+
+/* The next number of a text, and what is behind it. */
+static size_t next_number(const char **text)
+{
+    char *end;
+    size_t found = (*text)[0] == '-' ? (size_t)strtoll(*text, &end, 10) : (size_t)strtoull(*text, &end, 10);
+    *text = *end == ' ' ? end + 1 : end;
+    return found;
+}
+
+/* Reads sizes up to a semicolon or the end, and returns how many there are. */
+static size_t read_sizes(const char **text, size_t sizes[NUMBERS / 2])
+{
+    size_t count = 0;
+    while (**text != '\0' && **text != ';' && count < NUMBERS / 2)
+        sizes[count++] = next_number(text);
+    *text += **text == ';';
+    return count;
+}
+
+/* Reads one geometry from an array, or prints its fault. Arrays that are empty are null. */
+static bool reads_array(struct one_call *it, char *const words[WORDS])
+{
+    struct numbers *all = mmap(NULL, sizeof *all, PROT_READ | PROT_WRITE, MAP_PRIVATE | MAP_ANONYMOUS, -1, 0);
+    sfq_fault fault = { '-', 9, 7, 8 };
+    const char *text = words[2], *parts = words[3];
+    size_t count = 0, line_count, polygon_count;
+    int status;
+    if (all == MAP_FAILED)
+        return false;
+    while (*text != '\0' && count < NUMBERS)
+        all->coordinates[count++] = (int32_t)next_number(&text);
+    line_count = read_sizes(&parts, all->lines);
+    polygon_count = read_sizes(&parts, all->polygons);
+    do {
+        status = sfq_read_positions((uint32_t)atol(words[1]), count > 0 ? all->coordinates : NULL, count / 2,
+                                    line_count > 0 ? all->lines : NULL, line_count, polygon_count > 0 ? all->polygons : NULL,
+                                    polygon_count, &it->first, &fault);
+    } while (again(it, status, it->first.kept == NULL));
+    munmap(all, sizeof *all);
+    if (status != SFQ_REFUSED && (fault.letter != '-' || fault.number != 9))
+        it->wrong = "the fault was written";
+    if (status == SFQ_REFUSED)
+        print_fault(&it->out, status, &fault);
+    else if (status != SFQ_OK)
+        add(it, "%d", status);
+    return status == SFQ_OK;
+}
+
 /* ---- asking ---- */
 
 static int relate(struct one_call *it, char matrix[10])
@@ -118,6 +178,29 @@ static int matches(struct one_call *it, const char *pattern, bool *answer)
     return status;
 }
 
+/* The matrices of both pairs at once, which have to be those of single calls; and a call that ends at a pair that isn't there. */
+static void compare_many(struct one_call *it, const char *matrix)
+{
+    sfq_geometry none = SFQ_EMPTY;
+    sfq_geometry *first[3] = { &it->first, &it->first, &none }, *second[3] = { it->other, it->other, it->other };
+    char found[28];
+    size_t done = 9;
+    int status;
+    memset(found, '#', sizeof found);
+    status = sfq_relate_many(first, second, 2, found, &done);
+    if (again(it, status, done <= 2 && found[9 * done] == '#'))
+        status = sfq_relate_many(first, second, 2, found, &done);
+    if (status != SFQ_OK || done != 2 || memcmp(found, matrix, 9) != 0 || memcmp(found + 9, matrix, 9) != 0 || found[18] != '#')
+        it->wrong = "the matrices of many";
+    status = sfq_relate_many(first, second, 3, found, &done);
+    if (again(it, status, done <= 2 && found[18] == '#'))
+        status = sfq_relate_many(first, second, 3, found, &done);
+    if (status != SFQ_NO_GEOMETRY || done != 2 || found[18] != '#')
+        it->wrong = "the matrices up to one that isn't there";
+    if (sfq_relate_many(NULL, NULL, 0, NULL, &done) != SFQ_OK || done != 0)
+        it->wrong = "no pairs";
+}
+
 static void print_relations(struct one_call *it)
 {
     char matrix[10], digits[SFQ_RELATIONS + 1] = { 0 };
@@ -126,6 +209,7 @@ static void print_relations(struct one_call *it)
     memcpy(matrix, before, sizeof matrix);
     if (relate(it, matrix) != SFQ_OK)
         it->wrong = "no matrix";
+    compare_many(it, matrix);
     for (i = 0; i < SFQ_RELATIONS; i++) {
         if (holds(it, i, &answer) != SFQ_OK)
             it->wrong = "no answer to a relation";
@@ -193,8 +277,13 @@ static void print_place(struct one_call *it, const char *x, const char *y)
 {
     uint32_t place = 9;
     int status = sfq_locate(&it->first, (int32_t)atol(x), (int32_t)atol(y), &place);
+    int32_t twice[4] = { 0, 0, (int32_t)atol(x), (int32_t)atol(y) };
+    uint32_t places[2] = { 9, 9 };
+    size_t done = 9;
     if (status != SFQ_OK && place != 9)
         it->wrong = "a place was written";
+    if (sfq_locate_many(&it->first, twice, 2, places, &done) != status || places[1] != place || done != (status == SFQ_OK ? 2u : 1u))
+        it->wrong = "the places of many";
     add(it, status == SFQ_OK ? "%d %u" : "%d", status, (unsigned)place);
 }
 
@@ -220,8 +309,10 @@ static void print_without(struct one_call *it)
     add(it, "%d ", sfq_is_empty(NULL, &answer));
     add(it, "%d ", sfq_envelope(&none, bounds));
     add(it, "%d ", sfq_locate(&none, 0, 0, &number));
-    add(it, "%d", sfq_read("POINT(3 4)", 10, &it->first, NULL));
-    if (memcmp(matrix, before, sizeof matrix) != 0 || !answer || length != 5 || number != 5 || bounds[3] != 5)
+    add(it, "%d ", sfq_read("POINT(3 4)", 10, &it->first, NULL));
+    add(it, "%d ", sfq_read_positions(SFQ_POINT, bounds, 1, NULL, 0, NULL, 0, &it->first, NULL));
+    add(it, "%d", sfq_locate_many(&none, bounds, 2, &number, &length));
+    if (memcmp(matrix, before, sizeof matrix) != 0 || !answer || length != 0 || number != 5 || bounds[3] != 5)
         it->wrong = "something was written";
     sfq_free(&none);
     sfq_free(NULL);
@@ -231,7 +322,7 @@ static void print_without(struct one_call *it)
 
 bool is_kept_call(char *const words[WORDS])
 {
-    static const char *const names[] = { "kept", "match", "seen", "place", "without" };
+    static const char *const names[] = { "kept", "match", "seen", "place", "array", "without" };
     size_t i;
     for (i = 0; i < sizeof names / sizeof *names; i++)
         if (strcmp(words[0], names[i]) == 0)
@@ -245,6 +336,9 @@ struct printed run_kept(char *const words[WORDS])
     struct printed all;
     if (strcmp(words[0], "without") == 0) {
         print_without(&it);
+    } else if (strcmp(words[0], "array") == 0) {
+        if (reads_array(&it, words))
+            print_seen(&it);
     } else if (strcmp(words[0], "seen") == 0 || strcmp(words[0], "place") == 0) {
         if (reads(&it, words[1], &it.first, SFQ_REFUSED)) {
             if (words[0][0] == 's')

@@ -1,1 +1,2 @@
+pub mod ArrayFacts
 pub mod Spelling

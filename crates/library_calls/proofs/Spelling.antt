@@ -11,7 +11,7 @@ use Rattle.validity.proofs.Faults.{no_fault_valid}
 use Rattle.library_calls.specs.Texts.{IsSpelled}
 
 -- what was tested and found valid has no fault, and is what was read
-no_fault : (h g : Geometry) (found : Option ValidityFault) → valid_or h found ≡ Ok g → (h ≡ g) × (found ≡ None)
+pub no_fault : (h g : Geometry) (found : Option ValidityFault) → valid_or h found ≡ Ok g → (h ≡ g) × (found ≡ None)
 no_fault h g None e = (let same : Ok h ≡ Ok g = e in cc, refl)
 no_fault h g (Some fault) e = let k : valid_or h (Some fault) ≡ Ok g = e in absurd (cc)
 

@@ -1,3 +1,4 @@
+pub mod Arrays
 pub mod Kept
 pub mod Numbers
 pub mod Refusals

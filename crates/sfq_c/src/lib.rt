@@ -1,4 +1,4 @@
-//! The proved calls of the C library, over texts and over geometries that C keeps. `library/sfq.c` calls them, and hands in what
+//! The proved calls of the C library, over texts, over arrays of positions, and over geometries that C keeps. `library/sfq.c` calls them, and hands in what
 //! they require: a slice crosses as a pointer, which is never null, and a length; `Global` takes no bytes, and C passes nothing
 //! for it; a slot is empty.
 //!
@@ -7,5 +7,6 @@
 //! a geometry has no envelope (06-103r4, 6.1 and 7.2; the calls and the numbers: this project's choice).
 #![tactic(auto)]
 
+mod array_calls;
 mod kept_calls;
 mod text_calls;

@@ -1,0 +1,4 @@
+pub mod AsTexts
+pub mod Parts
+pub mod Tested
+pub mod WrittenFacts

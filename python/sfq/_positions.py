@@ -1,0 +1,52 @@
+"""Positions as the library takes them, from pairs of numbers or from arrays of numpy: none of it is proved.
+
+The library takes 32-bit numbers. A greater one is made the greatest or the least of these, which is past its limit too.
+"""
+from __future__ import annotations
+
+import ctypes
+import sys
+from typing import Any, Callable, Tuple
+
+from ._faults import GridError
+from ._texts import whole
+
+LEAST, GREATEST = -(2**31), 2**31 - 1
+
+
+def numpy_of(positions: Any) -> Any:
+    """Returns the module numpy where the positions are an array of it, else None."""
+    numpy = sys.modules.get("numpy")
+    return numpy if numpy is not None and isinstance(positions, numpy.ndarray) else None
+
+
+def buffer(positions: Any) -> Tuple[Any, int]:
+    """Returns the coordinates, an x and a y for each position, and how many positions there are."""
+    numpy = numpy_of(positions)
+    if numpy:
+        return of_array(numpy, positions), len(positions)
+    pairs = list(positions)
+    for pair in pairs:
+        if len(pair) != 2:
+            raise GridError("sfq: a position is an x and a y")
+    values = [min(max(whole(it), LEAST), GREATEST) for pair in pairs for it in pair]
+    return (ctypes.c_int32 * len(values))(*values), len(pairs)
+
+
+def of_array(numpy: Any, positions: Any) -> Any:
+    """Returns a buffer with the coordinates of an array of n rows of two numbers."""
+    if positions.ndim != 2 or positions.shape[1] != 2 or positions.dtype.kind not in "iuf":
+        raise GridError(f"sfq: positions are an array of rows of two numbers, not of {positions.shape} of {positions.dtype}")
+    if positions.dtype.kind == "f":
+        fractions = positions[~(numpy.isfinite(positions) & (numpy.trunc(positions) == positions))]
+        for it in fractions[:1]:
+            whole(float(it))
+    values = numpy.ascontiguousarray(numpy.clip(positions, LEAST, GREATEST), dtype=numpy.int32)
+    return (ctypes.c_int32 * values.size).from_buffer(values) if values.size else (ctypes.c_int32 * 0)()
+
+
+def places(positions: Any, count: int) -> Tuple[Any, Callable[[], Any]]:
+    """Returns room for a number for each position, and what gives the numbers, as a list or as an array."""
+    room = (ctypes.c_uint32 * count)()
+    numpy = numpy_of(positions)
+    return room, (lambda: numpy.frombuffer(room, dtype=numpy.uint32).copy()) if numpy and count else (lambda: list(room))
