@@ -28,9 +28,9 @@ ends_are (x ∷ rest) a b l ea eb = ap₂ (λ (p q : Position). p ∷ q ∷ []) 
     less = omega arith
 
 pub ends_covered : (a b : Geometry) (line : List Position) (p q : Position) (m n : Matrix) → 0 < length line → p ≡ get_or line 0 p → q ≡ get_or line (length line - 1) q
-    → IsPartOf m n → CoversPosition a b m p → CoversPosition a b n q → All (CoversPosition a b n) (ends line)
-ends_covered a b line p q m n l ep eq part first last = subst (All (CoversPosition a b n)) (sym (ends_are line p q l ep eq))
-    (All-cons (CoversPosition a b n) p (q ∷ []) (still_shown m n part _ _ Zero first) (All-cons (CoversPosition a b n) q [] last (All-nil (CoversPosition a b n))))
+    → IsPartOf m n → CoversEnd a b m p → CoversEnd a b n q → CoversEndsOf a b n line
+ends_covered a b line p q m n l ep eq part first last = subst (All (CoversEnd a b n)) (sym (ends_are line p q l ep eq))
+    (All-cons (CoversEnd a b n) p (q ∷ []) (λ h. still_shown m n part _ _ Zero (first h)) (All-cons (CoversEnd a b n) q [] last (All-nil (CoversEnd a b n))))
 
 -- ---- a full row
 is_at_itself : (p : Position) → is_at (point_at p) p ≡ true
@@ -62,10 +62,7 @@ row_covers_ends a b m row ls = All-weaker (Contains ls) (CoversEndsOf a b m) (λ
 pub covered_ends_kept : (a b : Geometry) (ls : List (List Position)) (m n : Matrix) → IsPartOf m n → All (CoversEndsOf a b m) ls → All (CoversEndsOf a b n) ls
 covered_ends_kept a b ls m n part all = All-weaker (CoversEndsOf a b m) (CoversEndsOf a b n) (λ line own. All-weaker (CoversEnd a b m) (CoversEnd a b n) (λ p s h. still_shown m n part _ _ Zero (s h)) (ends line) own) ls all
 
-covered_ends : (a b : Geometry) (line : List Position) (m : Matrix) → All (CoversPosition a b m) (ends line) → CoversEndsOf a b m line
-covered_ends a b line m all = All-weaker (CoversPosition a b m) (CoversEnd a b m) (λ p s h. s) (ends line) all
-
 -- one line more
-pub covers_line_more : (a b : Geometry) (ls : List (List Position)) (i : ℕ) (line : List Position) (m n : Matrix) → i < length ls → line ≡ get_or ls i line → IsPartOf m n → All (CoversEndsOf a b m) (take i ls) → All (CoversPosition a b n) (ends line)
+pub covers_line_more : (a b : Geometry) (ls : List (List Position)) (i : ℕ) (line : List Position) (m n : Matrix) → i < length ls → line ≡ get_or ls i line → IsPartOf m n → All (CoversEndsOf a b m) (take i ls) → CoversEndsOf a b n line
     → All (CoversEndsOf a b n) (take (i + 1) ls)
-covers_line_more a b ls i line m n l e part all one = All-more (CoversEndsOf a b n) ls i line l (covered_ends_kept a b (take i ls) m n part all) (subst (CoversEndsOf a b n) e (covered_ends a b line n one))
+covers_line_more a b ls i line m n l e part all one = All-more (CoversEndsOf a b n) ls i line l (covered_ends_kept a b (take i ls) m n part all) (subst (CoversEndsOf a b n) e one)

@@ -9,3 +9,4 @@ pub mod ListedPositions
 pub mod Rest
 pub mod Apart
 pub mod OutsideEdges
+pub mod OutsidePositions

@@ -8,6 +8,7 @@ mod matrix_edges;
 mod matrix_finding;
 mod matrix_positions;
 mod outside_edges;
+mod outside_positions;
 
 pub use geometry_model::{Dimension, Location};
 pub use matrix_cells::MatrixCells;

@@ -1,18 +1,21 @@
 //! Raises the cells of a matrix by listed positions and the ends of lines.
 
-ghost use Rattle.std.specs.Prelude.{◌≡◌, true, All, Contains};
+ghost use Rattle.std.specs.Prelude.{◌≡◌, true, Some, IfSome, All, Contains};
 ghost use Rattle.geometry_model.specs.Points.{IsPoint};
 ghost use Rattle.geometry_model.specs.Geometries.{Geometry, edges, listed};
-ghost use Rattle.geometry_model.specs.Locations.{locate, ends};
+ghost use Rattle.geometry_model.specs.Locations.{locate};
+ghost use Rattle.geometry_model.specs.Envelopes.{envelope};
 ghost use Rattle.geometry_model.specs.Validity.{IsValid};
 ghost use Rattle.geometry_model.specs.declared.point_sets.Dimension.TheVariants.{Zero};
 ghost use Rattle.validity.specs.ValidGeometries.{HasLength};
 ghost use Rattle.matrix_laws.specs.Cells.{Shows, CoversPosition};
-ghost use Rattle.matrices.specs.Raising.{Grows, ShowsOwnEnds, ShowsRow, CoversEndsOf};
+ghost use Rattle.matrices.specs.Raising.{Grows, ShowsOwnEnds, ShowsRow, CoversEnd, CoversEndsOf};
 
+use crate::outside_positions::{envelope_beside, shows_outside};
 use fraction::{GridPoint, RatPoint};
 use geometry_model::{Dimension, Kind, Location};
 use matrix_cells::MatrixCells;
+use rtree::Envelope;
 use side_labels::locate;
 use validity::Valid;
 use wkt::LineString;
@@ -44,6 +47,25 @@ fn raise_listed_at(second: &Valid, at: GridPoint, matrix: &mut MatrixCells)
     matrix.raise(Location::Interior, part, Dimension::Zero);
 }
 
+/// The same, but it passes over a position outside the envelope of the second geometry, if that is given, once the matrix shows
+/// where such positions lie.
+fn raise_listed_beside(
+    second: &Valid,
+    around: &Option<Envelope>,
+    at: GridPoint,
+    matrix: &mut MatrixCells,
+)
+    requires valid { IsValid second.now }
+    requires around { IfSome around.now (λ e. envelope second.now ≡ Some e) }
+    ensures grows { (a : Geometry) → Contains (listed a) at → Grows a second.now matrix.old matrix.new }
+    ensures shows { (a : Geometry) → Contains (listed a) at → CoversPosition a second.now matrix.new at }
+{
+    if shows_outside(second, around, Location::Interior, at, matrix) {
+        return;
+    }
+    raise_listed_at(second, at, matrix);
+}
+
 /// Whether the matrix shows that a part of the first geometry shares a point with each part that a geometry of this kind has;
 /// points have no boundary (06-103r4, 6.1.4).
 fn shows_row(matrix: &MatrixCells, part: Location, kind: Kind) -> bool
@@ -59,24 +81,54 @@ fn raise_listed(first: &Valid, second: &Valid, matrix: &mut MatrixCells)
     ensures grows { Grows first.now second.now matrix.old matrix.new }
     ensures shows { All (CoversPosition first.now second.now matrix.new) (listed first.now) }
 {
-    for position in first.geometry().listed() {
+    let listed = first.geometry().listed();
+    let around = envelope_beside(listed.len(), second);
+    for position in listed {
         if shows_row(matrix, Location::Interior, second.kind()) {
             return;
         }
-        raise_listed_at(second, *position, matrix);
+        raise_listed_beside(second, &around, *position, matrix);
     }
 }
 
-/// Raises cells by the two ends of a line.
-fn raise_ends_of(first: &Valid, second: &Valid, line: &[GridPoint], matrix: &mut MatrixCells)
+/// Raises cells by an end of a line of the first geometry, if it is on its boundary. It passes over one outside the envelope of the
+/// second, if that is given, once the matrix shows where such ends lie.
+fn raise_end(
+    first: &Valid,
+    second: &Valid,
+    around: &Option<Envelope>,
+    at: GridPoint,
+    matrix: &mut MatrixCells,
+)
+    requires valid { IsValid second.now }
+    requires around { IfSome around.now (λ e. envelope second.now ≡ Some e) }
     ensures grows { Grows first.now second.now matrix.old matrix.new }
-    ensures shows { All (CoversPosition first.now second.now matrix.new) (ends line.now) }
+    ensures shows { CoversEnd first.now second.now matrix.new at }
+{
+    if shows_outside(second, around, Location::Boundary, at, matrix) {
+        return;
+    }
+    raise_position(first, second, at, matrix);
+}
+
+/// Raises cells by the two ends of a line.
+fn raise_ends_of(
+    first: &Valid,
+    second: &Valid,
+    around: &Option<Envelope>,
+    line: &[GridPoint],
+    matrix: &mut MatrixCells,
+)
+    requires valid { IsValid second.now }
+    requires around { IfSome around.now (λ e. envelope second.now ≡ Some e) }
+    ensures grows { Grows first.now second.now matrix.old matrix.new }
+    ensures shows { CoversEndsOf first.now second.now matrix.new line.now }
 {
     if line.is_empty() {
         return;
     }
-    raise_position(first, second, line[0], matrix);
-    raise_position(first, second, line[line.len() - 1], matrix);
+    raise_end(first, second, around, line[0], matrix);
+    raise_end(first, second, around, line[line.len() - 1], matrix);
 }
 
 /// Raises cells by the ends of the first geometry's lines that are on its boundary, until no further one can raise a cell
@@ -85,11 +137,12 @@ fn raise_line_ends(first: &Valid, second: &Valid, lines: &[LineString], matrix: 
     ensures grows { Grows first.now second.now matrix.old matrix.new }
     ensures shows { All (CoversEndsOf first.now second.now matrix.new) lines.now }
 {
+    let around = envelope_beside(lines.len(), second);
     for line in lines {
         if shows_row(matrix, Location::Boundary, second.kind()) {
             return;
         }
-        raise_ends_of(first, second, line.positions(), matrix);
+        raise_ends_of(first, second, &around, line.positions(), matrix);
     }
 }
 

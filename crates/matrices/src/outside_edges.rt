@@ -11,6 +11,7 @@ ghost use Rattle.matrices.specs.Raising.{Grows};
 
 use crate::fullness::{is_full_off, is_full_on, is_full_outside};
 use crate::matrix_edges::{raise_edge, raise_edge_off};
+use crate::outside_positions::{FEW, TIMES};
 use edge_gaps::Gaps;
 use matrix_cells::MatrixCells;
 use merged_edges::MergedEdges;
@@ -18,18 +19,12 @@ use rtree::{Envelope, Enveloped};
 use std::alloc::{AllocError, Global};
 use validity::Valid;
 
-/// A geometry is large beside another if it has more edges than this.
-const FEW_EDGES: usize = 16;
-
-/// And at least this many times as many as the other.
-const TIMES: usize = 4;
-
 /// The envelope of the second geometry, if the first one is large beside it.
 pub(crate) fn small_envelope(first: &Valid, second: &Valid) -> Option<Envelope>
     ensures { IfSome result (λ around. envelope second.now ≡ Some around) }
 {
     let count = first.segments().len();
-    if count <= FEW_EDGES || count / TIMES < second.segments().len() {
+    if count <= FEW || count / TIMES < second.segments().len() {
         return None;
     }
     second.envelope()

@@ -5,10 +5,10 @@ use Rattle.matrices.proofs.EndsShown.{ends_covered}
 use Rattle.matrices.proofs.matrix_positions.raise_ends_of.Goals as goal
 
 pub returns-clause-grows : goal.returns-clause-grows
-returns-clause-grows c = grows_through c.args.first.now c.args.second.now c.args.matrix.now c.raise_position.new.matrix c.raise_position-2.new.matrix c.raise_position.ensures.grows c.raise_position-2.ensures.grows
+returns-clause-grows c = grows_through c.args.first.now c.args.second.now c.args.matrix.now c.raise_end.new.matrix c.raise_end-2.new.matrix c.raise_end.ensures.grows c.raise_end-2.ensures.grows
 
 pub returns-clause-shows : goal.returns-clause-shows
 returns-clause-shows c =
     let some : 0 < length c.args.line.now = grind (arith, nat_tests) in
-    ends_covered c.args.first.now c.args.second.now c.args.line.now c.index-line-0.result c.index-line-line.result c.raise_position.new.matrix c.raise_position-2.new.matrix some c.index-line-0.is c.index-line-line.is
-    c.raise_position-2.ensures.grows.grown c.raise_position.ensures.shows c.raise_position-2.ensures.shows
+    ends_covered c.args.first.now c.args.second.now c.args.line.now c.index-line-0.result c.index-line-line.result c.raise_end.new.matrix c.raise_end-2.new.matrix some c.index-line-0.is c.index-line-line.is
+    c.raise_end-2.ensures.grows.grown c.raise_end.ensures.shows c.raise_end-2.ensures.shows

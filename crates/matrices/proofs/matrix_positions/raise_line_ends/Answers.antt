@@ -1,8 +1,4 @@
-use Rattle.std.proofs.Common.{refl, subst, List}
-use Rattle.std.specs.List.{All}
-use Rattle.geometry_model.specs.Points.{Position}
-use Rattle.geometry_model.specs.Locations.{ends}
-use Rattle.matrix_laws.specs.Cells.{CoversPosition}
+use Rattle.std.proofs.Common.{refl, subst}
 use Rattle.matrices.specs.Raising.{CoversEndsOf}
 use Rattle.matrices.proofs.Growth.{grows_through, all_taken}
 use Rattle.matrices.proofs.EndsShown.{covers_line_more}
@@ -12,7 +8,7 @@ pub loop-line-preserved : goal.loop-line-preserved
 loop-line-preserved c = record {
   grows = grows_through c.args.first.now c.args.second.now c.args.matrix.now c.loop-line.matrix c.raise_ends_of.new.matrix c.loop-line.invariant.grows c.raise_ends_of.ensures.grows;
   shows = covers_line_more c.args.first.now c.args.second.now c.args.lines.now c.loop-line.line-index c.line-item.result c.loop-line.matrix c.raise_ends_of.new.matrix c.loop-line-test.true
-      c.line-item.is c.raise_ends_of.ensures.grows.grown c.loop-line.invariant.shows (subst (λ (l : List Position). All (CoversPosition c.args.first.now c.args.second.now c.raise_ends_of.new.matrix) (ends l)) c.positions.ensures.positions c.raise_ends_of.ensures.shows);
+      c.line-item.is c.raise_ends_of.ensures.grows.grown c.loop-line.invariant.shows (subst (CoversEndsOf c.args.first.now c.args.second.now c.raise_ends_of.new.matrix) c.positions.ensures.positions c.raise_ends_of.ensures.shows);
 }
 
 pub returns-clause-shows : goal.returns-clause-shows

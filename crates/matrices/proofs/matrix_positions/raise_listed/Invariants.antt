@@ -8,5 +8,5 @@ use Rattle.matrices.proofs.matrix_positions.raise_listed.Given as goal
 abbrev pub invariant-loop-position : goal.invariant-loop-position
 invariant-loop-position l = record {
   grows : Grows l.first l.second l.initial.matrix l.matrix;
-  shows : All (CoversPosition l.first l.second l.matrix) (take l.position-index l.position-items);
+  shows : All (CoversPosition l.first l.second l.matrix) (take l.position-index l.listed);
 }
