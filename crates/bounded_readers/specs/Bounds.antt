@@ -20,9 +20,13 @@ record_limit = 34603008
 
 -- ---- places
 
+-- whether a byte outside quotes ends a line
+abbrev pub ends_line : ℕ → Bool
+ends_line byte = (byte == 10) || (byte == 13)
+
 -- the place after a byte outside quotes: a comma ends the field, and the end of a line the record
 abbrev pub place_outside : ℕ → Place
-place_outside byte = if byte == 44 then at.FieldStart else if (byte == 10) || (byte == 13) then at.RecordStart else at.Unquoted
+place_outside byte = if byte == 44 then at.FieldStart else if ends_line byte then at.RecordStart else at.Unquoted
 
 -- the place after a byte at the start of a field, where a quote begins quotes
 abbrev pub place_from_start : ℕ → Place
@@ -39,6 +43,13 @@ place_after at.Unquoted byte = place_outside byte
 place_after at.Quoted byte = if byte == 34 then at.QuoteInQuotes else at.Quoted
 place_after at.QuoteInQuotes byte = place_from_start byte
 
+-- whether a place is outside quotes, after the byte order mark
+abbrev pub is_outside : Place → Bool
+is_outside at.RecordStart = true
+is_outside at.FieldStart = true
+is_outside at.Unquoted = true
+is_outside _ = false
+
 -- whether the end of a line ends a record there; else the line is blank
 abbrev pub is_in_record : Place → Bool
 is_in_record at.Start = false
@@ -50,6 +61,10 @@ is_in_record _ = true
 -- the lengths before the first byte
 abbrev pub first_tally : Tally
 first_tally = record { place = at.Start; field_bytes = 0; ended_fields = 0; record_bytes = 0; is_past = false }
+
+-- the lengths where a record begins, with no blank line before it
+abbrev pub new_record : Tally
+new_record = record { place = at.RecordStart; field_bytes = 0; ended_fields = 0; record_bytes = 0; is_past = false }
 
 -- the lengths where a record or a blank line begins: the record counts only the blank lines before it
 abbrev pub at_record : Tally → Tally

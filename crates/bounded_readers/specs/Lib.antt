@@ -1,2 +1,3 @@
 pub mod Bounds
 pub mod Readers
+pub mod RecordEnds

@@ -1,7 +1,10 @@
 //! How long the current field and record of a CSV text are so far, and whether one was longer than its limit.
 
-ghost use Rattle.std.specs.Prelude.{◌≡◌};
+ghost use Rattle.std.specs.Prelude.{◌≡◌, ◌≤◌, IfSome, drop, length, take};
+ghost use Rattle.std.specs.Bool.{OnTrue};
+ghost use Rattle.std.specs.List.{fold};
 ghost use Rattle.bounded_readers.specs.Bounds as spec;
+ghost use Rattle.bounded_readers.specs.RecordEnds.{IsRecordEnd, IsWithin};
 
 /// The greatest length of a field, in bytes, its quotes counted.
 pub const FIELD_BYTES: u64 = 1 << 20;
@@ -53,9 +56,6 @@ pub struct Tally {
 }
 
 impl Tally {
-    ghost use Rattle.std.specs.Prelude.{IsTrue, ◌↔◌};
-    ghost use Rattle.std.specs.List.{fold};
-
     /// The tally before the first byte of a text.
     pub fn new() -> Tally
         ensures { result ≡ spec.first_tally }
@@ -76,8 +76,52 @@ impl Tally {
         self.is_past
     }
 
-    /// The tally after more bytes.
+    /// The tally after more bytes. Only those after the last end of a record are looked at one by one, if it is clear where that is.
     pub fn after(self, bytes: &[u8]) -> Tally
+        ensures { result ≡ fold spec.tally_after self bytes.now }
+    {
+        match self.clear_end(bytes) {
+            Some(end) => Tally::at_new_record().after_each(from_place(bytes, end)),
+            None => self.after_each(bytes),
+        }
+    }
+
+    /// The place in these bytes behind the last end of a record. None if they have a quote, or may pass a limit.
+    fn clear_end(self, bytes: &[u8]) -> Option<usize>
+        ensures within { IfSome result (λ end. end ≤ length bytes.now) }
+        ensures tally { IfSome result
+            (λ end. fold spec.tally_after self (take end bytes.now) ≡ spec.new_record) }
+    {
+        if !is_outside(self.place) || !self.has_room(bytes.len()) || bytes.contains(&QUOTE) {
+            return None;
+        }
+        let end = record_end(bytes)?;
+        Some(end)
+    }
+
+    /// Whether no length passes its limit within so many bytes more.
+    fn has_room(self, bytes: usize) -> bool
+        ensures { OnTrue result (IsWithin self bytes) }
+    {
+        let more = bytes as u64;
+        !self.is_past
+            && self.field_bytes.saturating_add(more) <= FIELD_BYTES
+            && self.ended_fields.saturating_add(more) < RECORD_FIELDS
+            && self.record_bytes.saturating_add(more) <= RECORD_BYTES
+    }
+
+    /// The tally where a record begins, with no blank line before it.
+    fn at_new_record() -> Tally
+        ensures { result ≡ spec.new_record }
+    {
+        Tally {
+            place: Place::RecordStart,
+            ..Tally::new()
+        }
+    }
+
+    /// The tally after more bytes, which are looked at one by one.
+    fn after_each(self, bytes: &[u8]) -> Tally
         ensures { result ≡ fold spec.tally_after self bytes.now }
     {
         let mut tally = self;
@@ -145,6 +189,45 @@ impl Tally {
             || self.record_bytes > RECORD_BYTES;
         Tally { is_past, ..self }
     }
+}
+
+/// The place in these bytes behind the last end of a record: a byte that ends a line, after one that doesn't.
+fn record_end(bytes: &[u8]) -> Option<usize>
+    ensures { IfSome result (λ end. IsRecordEnd bytes.now end) }
+{
+    let mut end = bytes.len();
+    while end >= 2 {
+        if ends_line(bytes[end - 1]) && !ends_line(bytes[end - 2]) {
+            return Some(end);
+        }
+        end -= 1;
+    }
+    None
+}
+
+/// Some bytes from a place on.
+fn from_place(bytes: &[u8], place: usize) -> &[u8]
+    requires { place ≤ length bytes.now }
+    ensures { result.now ≡ drop place bytes.now }
+{
+    &bytes[place..]
+}
+
+/// Whether a byte outside quotes ends a line.
+fn ends_line(byte: u8) -> bool
+    ensures { result ≡ spec.ends_line byte }
+{
+    byte == b'\n' || byte == b'\r'
+}
+
+/// Whether a place is outside quotes, after the byte order mark.
+fn is_outside(place: Place) -> bool
+    ensures { result ≡ spec.is_outside place }
+{
+    matches!(
+        place,
+        Place::RecordStart | Place::FieldStart | Place::Unquoted
+    )
 }
 
 /// Whether a place is in a record, so that the end of the line ends one.

@@ -1,7 +1,7 @@
 use Rattle.std.proofs.Common.{◌≡◌, take}
 use Rattle.std.specs.List.{fold}
 use Rattle.bounded_readers.specs.Bounds.{tally_after}
-use Rattle.bounded_readers.proofs.tallies.Tally.after.Given as goal
+use Rattle.bounded_readers.proofs.tallies.Tally.after_each.Given as goal
 
 -- the tally is that of the bytes so far
 abbrev pub invariant-loop-byte : goal.invariant-loop-byte
