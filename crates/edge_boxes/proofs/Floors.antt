@@ -36,9 +36,12 @@ by_multiples n w q hw low high a = same_at_most (a *ℤ w) n a q (λ h. go h (at
     go h (inr l) = absurd (apart (a *ℤ w) (q *ℤ w) ((a -ℤ q -ℤ pos 1) *ℤ w) (solve (a ∷ q ∷ w ∷ []) ((var 0 ⊖ var 1 ⊖ lit (pos 1)) ⊗ var 2) (var 0 ⊗ var 2 ⊖ var 1 ⊗ var 2 ⊖ var 2) tt)
         (plus_plus (a -ℤ q -ℤ pos 1) w (beyond a q l) (weak w hw)) h high)
 
--- over the denominator 1 a number is its own floor
+-- over the denominator 1 a number is its own floor and ceiling
 pub floor_over_one : (n w q : ℤ) → w ≡ pos 1 → q ≡ n → IsFloor n w q
 floor_over_one n w q e f = rw (e, f) (λ a. ap (λ (z : ℤ). int_le z n) (solve (a ∷ []) (var 0 ⊗ lit (pos 1)) (var 0) tt))
+
+pub ceiling_over_one : (n w q : ℤ) → w ≡ pos 1 → q ≡ n → IsCeiling n w q
+ceiling_over_one n w q e f = rw (e, f) (λ a. ap (λ (z : ℤ). int_le n z) (solve (a ∷ []) (var 0 ⊗ lit (pos 1)) (var 0) tt))
 
 -- ---- the quotient rounded down
 -- the divisor times the rounded quotient is at most the number, and the next multiple is more: from 0 on, and below 0

@@ -3,9 +3,10 @@
 ghost use Rattle.std.specs.Prelude.{◌≡◌, ◌≤◌, ◌*◌, ◌<ℤ◌, ◌*ℤ◌, ℤ, pos, int_le, unsigned_abs};
 ghost use Rattle.std.specs.Int.{int_div_euclid};
 ghost use Rattle.geometry_model.specs.WellKnownText.{coordinate_limit};
+ghost use Rattle.geometry_model.specs.Points.{point_at};
 ghost use Rattle.edge_boxes.specs.BoxCells.{IsCellOf, IsFloor, IsCeiling};
 
-use fraction::RatPoint;
+use fraction::{GridPoint, RatPoint};
 
 /// The greatest number without its sign that is kept in 64 bits.
 const SHORT: u128 = i64::MAX as u128;
@@ -23,6 +24,28 @@ pub(crate) struct Cell {
 impl Cell {
     /// The cell of a point.
     pub(crate) fn of(point: &RatPoint) -> Cell
+        ensures { IsCellOf result point.now }
+    {
+        match point.position() {
+            Some(at) => Cell::at(at),
+            None => Cell::around(point),
+        }
+    }
+
+    /// The cell of a position of the grid, which is that position alone.
+    fn at(at: GridPoint) -> Cell
+        ensures { IsCellOf result (point_at at) }
+    {
+        Cell {
+            floor_x: at.x(),
+            ceiling_x: at.x(),
+            floor_y: at.y(),
+            ceiling_y: at.y(),
+        }
+    }
+
+    /// The cell of any point.
+    fn around(point: &RatPoint) -> Cell
         ensures { IsCellOf result point.now }
     {
         let denominator = point.denominator();

@@ -2,7 +2,7 @@
 
 ghost use Rattle.std.specs.Prelude.{◌≡◌, List, [], ◌∷◌, ◌++◌, IfSome, false, int_le, int_lt};
 ghost use Rattle.geometry_model.specs.Crossings.{exactly_one};
-ghost use Rattle.geometry_model.specs.Points.{Point};
+ghost use Rattle.geometry_model.specs.Points.{Point, point_at};
 ghost use Rattle.geometry_model.specs.Geometries.{Edge};
 ghost use Rattle.edge_boxes.specs.EdgeRuns.{SumsUp};
 ghost use Rattle.edge_boxes.specs.BoxCells.{IsCellOf};
@@ -12,8 +12,8 @@ use crate::bounds::Bounds;
 use crate::cells::Cell;
 use crate::kept_runs::{Ends, Run};
 use crate::strips::Strip;
-use fraction::RatPoint;
-use orient::{Segment, crossing_at};
+use fraction::{GridPoint, RatPoint};
+use orient::{Crossing, Segment, crossing_at, crossing_at_position};
 
 /// How a point lies relative to edges (06-103r4, 6.1.11.1: inside). Of an edge's ends the left one counts and the right
 /// one doesn't; a vertical edge lies above no point.
@@ -119,11 +119,14 @@ pub(crate) fn said(run: &Run, cell: &Cell) -> Option<Crossings>
     }
 }
 
-/// How the point lies relative to one edge, by the side of the edge on which it is.
-fn by_side(edge: &Segment, point: &RatPoint) -> Crossings
-    ensures { AreCrossings result (edge.now ∷ []) point.now }
+/// How a point lies relative to one edge, by how it lies relative to the segment.
+fn of_crossing(found: Crossing) -> Crossings
+    ensures { result ≡ record {
+      on = found.on;
+      odd_above = found.strictly_above;
+      odd_at_or_above = found.at_or_above;
+    } }
 {
-    let found = crossing_at(edge, point);
     Crossings {
         on: found.on,
         odd_above: found.strictly_above,
@@ -131,23 +134,37 @@ fn by_side(edge: &Segment, point: &RatPoint) -> Crossings
     }
 }
 
-/// How the point lies relative to one edge. At a position of the grid, a side is as quick to compute as a look at the edge's
-/// bounds; elsewhere it takes multiplications of long numbers.
+/// How the point lies relative to one edge. The edge's bounds are looked at first: a side takes multiplications of long numbers.
 fn of_edge(edge: &Segment, point: &RatPoint, cell: &Cell) -> Crossings
     requires { IsCellOf cell.now point.now }
     ensures { AreCrossings result (edge.now ∷ []) point.now }
 {
-    if point.denominator() == 1 {
-        return by_side(edge, point);
-    }
     match said(&Run::of(edge), cell) {
         Some(crossings) => crossings,
-        None => by_side(edge, point),
+        None => of_crossing(crossing_at(edge, point)),
     }
 }
 
-/// How the point lies relative to some edges.
-pub(crate) fn of_edges(edges: &[Segment], point: &RatPoint, cell: &Cell) -> Crossings
+/// How a position of the grid lies relative to one edge. A side is as quick to compute as a look at the edge's bounds.
+fn of_edge_at(edge: &Segment, at: GridPoint) -> Crossings
+    ensures { AreCrossings result (edge.now ∷ []) (point_at at) }
+{
+    of_crossing(crossing_at_position(edge, at))
+}
+
+/// How a position of the grid lies relative to some edges.
+fn of_edges_at(edges: &[Segment], at: GridPoint) -> Crossings
+    ensures { AreCrossings result edges.now (point_at at) }
+{
+    let mut found = NONE;
+    for edge in edges {
+        found = found.join(of_edge_at(edge, at));
+    }
+    found
+}
+
+/// How any point lies relative to some edges.
+fn of_edges_around(edges: &[Segment], point: &RatPoint, cell: &Cell) -> Crossings
     requires { IsCellOf cell.now point.now }
     ensures { AreCrossings result edges.now point.now }
 {
@@ -156,4 +173,15 @@ pub(crate) fn of_edges(edges: &[Segment], point: &RatPoint, cell: &Cell) -> Cros
         found = found.join(of_edge(edge, point, cell));
     }
     found
+}
+
+/// How the point lies relative to some edges.
+pub(crate) fn of_edges(edges: &[Segment], point: &RatPoint, cell: &Cell) -> Crossings
+    requires { IsCellOf cell.now point.now }
+    ensures { AreCrossings result edges.now point.now }
+{
+    match point.position() {
+        Some(at) => of_edges_at(edges, at),
+        None => of_edges_around(edges, point, cell),
+    }
 }

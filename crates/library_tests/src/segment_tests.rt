@@ -2,7 +2,7 @@
 
 use crate::shapes::{Place, position, segment};
 use fraction::RatPoint;
-use orient::{at_or_above, crosses_up, on, position_on, side, side_number};
+use orient::{at_or_above, crosses_up, crossing_at_position, on, position_on, side, side_number};
 use std::cmp::Ordering;
 use std::test::Fail;
 
@@ -41,6 +41,8 @@ fn positions_at_segments(rt: HostRuntime) -> Result<(), Fail> {
     assert!(rt; !position_on(&longest, corner, side_number(&longest, corner)));
     let start = longest.start();
     assert!(rt; position_on(&longest, start, side_number(&longest, start)));
+    let found = crossing_at_position(&longest, start);
+    assert!(rt; found.on && found.at_or_above && !found.strictly_above);
     assert!(rt; at_or_above(&longest, &RatPoint::of_grid(start)));
     Ok(())
 }

@@ -112,8 +112,8 @@ fn spans_position(segment: &Segment, at: GridPoint) -> bool
     (segment.start().x() <= at.x()) != (segment.end().x() <= at.x())
 }
 
-/// How a position lies relative to the segment. All numbers fit in 64 bits.
-fn crossing_at_position(segment: &Segment, at: GridPoint) -> Crossing
+/// How a position lies relative to the segment (06-103r4, 6.1.7 and 6.1.11.1). All numbers fit in 64 bits.
+pub fn crossing_at_position(segment: &Segment, at: GridPoint) -> Crossing
     ensures on { result.on ≡ on segment.now (point_at at) }
     ensures strictly_above { result.strictly_above ≡ spec.strictly_above segment.now (point_at at) }
     ensures at_or_above { result.at_or_above ≡ spec.at_or_above segment.now (point_at at) }

@@ -8,7 +8,7 @@ mod products;
 pub mod segments;
 pub mod sides;
 
-pub use crossings::{Crossing, at_or_above, crosses_up, crossing_at};
+pub use crossings::{Crossing, at_or_above, crosses_up, crossing_at, crossing_at_position};
 pub use positions::position_on;
 pub use segments::Segment;
 pub use sides::{on, side, side_number};

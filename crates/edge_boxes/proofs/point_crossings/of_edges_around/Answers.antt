@@ -1,6 +1,6 @@
 use Rattle.std.proofs.Common.{◌<◌, ◌∷◌, [], length, take, rules}
 use Rattle.edge_boxes.proofs.Saying.{one_more}
-use Rattle.edge_boxes.proofs.point_crossings.of_edges.Goals as goal
+use Rattle.edge_boxes.proofs.point_crossings.of_edges_around.Goals as goal
 
 pub loop-edge-preserved : goal.loop-edge-preserved
 loop-edge-preserved c =

@@ -1,6 +1,6 @@
 use Rattle.std.proofs.Common.{take}
 use Rattle.edge_boxes.specs.EdgeCrossings.{AreCrossings}
-use Rattle.edge_boxes.proofs.point_crossings.of_edges.Given as goal
+use Rattle.edge_boxes.proofs.point_crossings.of_edges_around.Given as goal
 
 -- what was found holds of the edges before this one
 abbrev pub invariant-loop-edge : goal.invariant-loop-edge

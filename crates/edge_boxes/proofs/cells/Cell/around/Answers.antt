@@ -3,7 +3,7 @@ use Rattle.std.proofs.lemmas.Int.{to_z-of_z}
 use mir.Syntax.{w32, w64, w128}
 use mir.Val.{SFits}
 use Rattle.edge_boxes.proofs.Floors.{floor_as, ceiling_as}
-use Rattle.edge_boxes.proofs.cells.Cell.of.Goals as goal
+use Rattle.edge_boxes.proofs.cells.Cell.around.Goals as goal
 
 pub returns : goal.returns
 returns c =
