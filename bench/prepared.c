@@ -10,6 +10,13 @@
  *   geos            GEOSPreparedIntersects_r, with points that are kept
  *   geos_contains   GEOSPreparedContains_r, with points that are kept
  *
+ * or one of these, and the second line is another polygon:
+ *
+ *   meet            sfq_holds of intersects
+ *   relate          sfq_relate
+ *   geos_meet       GEOSPreparedIntersects_r
+ *   geos_relate     GEOSRelate_r
+ *
  * Everything is read, tested and kept once, then all positions are asked for TIMES times. It prints how many of them the call
  * holds of.
  */
@@ -28,6 +35,41 @@ static char *line;
 static size_t room;
 
 static void quiet(const char *message, void *data) { (void)message; (void)data; }
+
+/* Two polygons, asked so often by the library; the answers are added up, or the matrix is printed. */
+static int two_by_library(const char *how, long times, const char *one, const char *other) {
+    sfq_geometry first = SFQ_EMPTY, second = SFQ_EMPTY;
+    char matrix[10] = "";
+    bool holds = false;
+    if (sfq_read(one, strlen(one), &first, NULL) != SFQ_OK || sfq_read(other, strlen(other), &second, NULL) != SFQ_OK) return 5;
+    for (long k = 0; k < times; k++) {
+        if (strcmp(how, "meet") == 0 ? sfq_holds(SFQ_INTERSECTS, &first, &second, &holds) != SFQ_OK
+                                     : sfq_relate(&first, &second, matrix) != SFQ_OK) return 5;
+    }
+    printf("%d %s\n", holds, matrix);
+    return 0;
+}
+
+/* The same by GEOS. */
+static int two_by_geos(const char *how, long times, const char *one, const char *other) {
+    GEOSContextHandle_t geos = GEOS_init_r();
+    GEOSWKTReader *reader = GEOSWKTReader_create_r(geos);
+    GEOSGeometry *first = GEOSWKTReader_read_r(geos, reader, one), *second = GEOSWKTReader_read_r(geos, reader, other);
+    if (first == NULL || second == NULL || GEOSisValid_r(geos, first) != 1 || GEOSisValid_r(geos, second) != 1) return 5;
+    const GEOSPreparedGeometry *kept = GEOSPrepare_r(geos, first);
+    char *matrix = NULL;
+    int holds = 0;
+    for (long k = 0; k < times; k++) {
+        if (strcmp(how, "geos_meet") == 0) {
+            holds = GEOSPreparedIntersects_r(geos, kept, second);
+        } else {
+            if (matrix != NULL) GEOSFree_r(geos, matrix);
+            matrix = GEOSRelate_r(geos, first, second);
+        }
+    }
+    printf("%d %s\n", holds, matrix != NULL ? matrix : "");
+    return 0;
+}
 
 static int by_library(const char *how, long times, size_t length) {
     sfq_geometry polygon = SFQ_EMPTY, *points = calloc((size_t)count, sizeof *points);
@@ -91,6 +133,14 @@ int main(int number, char **words) {
     length = getline(&line, &room, stdin);
     if (length < 1) return 6;
     line[--length] = '\0';
+    if (strstr(words[1], "meet") != NULL || strstr(words[1], "relate") != NULL) {
+        char *other = NULL;
+        size_t other_room = 0;
+        ssize_t other_length = getline(&other, &other_room, stdin);
+        if (other_length < 1) return 6;
+        other[other_length - 1] = '\0';
+        return (strncmp(words[1], "geos", 4) == 0 ? two_by_geos : two_by_library)(words[1], atol(words[2]), line, other);
+    }
     while (count < MOST && scanf("%d %d", &x, &y) == 2) {
         xs[count] = x;
         ys[count++] = y;

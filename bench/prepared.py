@@ -1,9 +1,10 @@
 #!/usr/bin/env python3
-"""Measures points in a kept polygon by the C library beside GEOS's prepared geometries, by `prepared.c`.
+"""Measures points in a kept polygon, and two kept polygons, by the C library beside GEOS's prepared geometries, by `prepared.c`.
 
 A polygon of 5, 100, 1,000 and 9,999 positions is read, tested and kept once. Then 1,000 positions around it are asked for:
 whether each intersects it, and whether it contains each. Per position it prints the instructions that valgrind counts, and with
-`--time` the nanoseconds of processor too; reading, testing and keeping are left out, being what a run with no turns takes.
+`--time` the nanoseconds of processor too; reading, testing and keeping are left out, being what a run with no turns takes. Then
+two stars that cross, and two that are apart while their envelopes meet, are asked for whether they intersect and for their matrix.
 
 It needs Python's standard library, valgrind, gcc and `libgeos-dev` from the distribution's packages, and the library: run
 `./build --library` once. It is no test: the gate doesn't run it.
@@ -21,6 +22,8 @@ from timing import ROOT, figure, instructions, measure, print_columns, print_hea
 
 LIBRARY = ROOT / "library" / "out" / "libsfq.a"
 SIZES = (5, 100, 1_000, 9_999)
+# Two stars: what they are, and by how much one of them is moved either way.
+MOVED = [("cross", SPAN // 3), ("are apart", SPAN * 29 // 20)]
 POINTS = 1_000
 # What is asked, by the library and by GEOS.
 ASKED = [("position, intersects", "locate", "geos"), ("point, intersects", "holds", "geos"), ("point, contains", "contains", "geos_contains")]
@@ -45,9 +48,15 @@ def write_input(path, size):
     path.write_text("\n".join(lines) + "\n")
 
 
-def beyond_start(run, turns):
+def write_two(path, size, by):
+    """Writes two stars of so many positions, one of them moved."""
+    first, second = ([(x + to, y + to) for x, y in star(size - 1)[0]] for to in (0, by))
+    path.write_text("".join(f"POLYGON({ring(it)})\n" for it in (first, second)))
+
+
+def beyond_start(run, turns, count=POINTS):
     """What one turn takes for each position."""
-    return (run(turns) - run(0)) / turns / POINTS
+    return (run(turns) - run(0)) / turns / count
 
 
 def main():
@@ -59,24 +68,33 @@ def main():
         folder = pathlib.Path(room)
         program, given = built(folder), folder / "input"
         print_heads(["asked", "positions", "unit", "sfq", "GEOS", "ratio", "to the best"])
+
+        def compare(what, size, ours, theirs, count, turns):
+            for unit in units:
+                taken, found = [], []
+                for how in (ours, theirs):
+                    if unit == "instructions":
+                        taken.append(beyond_start(lambda turns: instructions([program, how, turns], folder, given), 2, count))
+                    else:
+                        def seconds(turns):
+                            return min(measure([program, how, turns], folder, given)[1] for _ in range(3))
+
+                        taken.append(beyond_start(seconds, turns, count) * 1e9)
+                    measure([program, how, 1], folder, given)
+                    found.append((folder / "output").read_text())
+                if found[0] != found[1]:
+                    sys.exit(f"{what}, {size} positions: {found[0]} and {found[1]} are found")
+                print_columns([what, f"{size:,}", unit, figure(taken[0]), *ratios(taken[0], taken[1:])])
+
         for what, ours, theirs in ASKED:
             for size in SIZES:
                 write_input(given, size)
-                for unit in units:
-                    taken, found = [], []
-                    for how in (ours, theirs):
-                        if unit == "instructions":
-                            taken.append(beyond_start(lambda turns: instructions([program, how, turns], folder, given), 2))
-                        else:
-                            def seconds(turns):
-                                return min(measure([program, how, turns], folder, given)[1] for _ in range(3))
-
-                            taken.append(beyond_start(seconds, 300) * 1e9)
-                        measure([program, how, 1], folder, given)
-                        found.append((folder / "output").read_text())
-                    if found[0] != found[1]:
-                        sys.exit(f"{what}, {size} positions: {found[0]} and {found[1]} are found")
-                    print_columns([what, f"{size:,}", unit, figure(taken[0]), *ratios(taken[0], taken[1:])])
+                compare(what, size, ours, theirs, POINTS, 300)
+        for what, by in MOVED:
+            for how in ("meet", "relate"):
+                for size in SIZES:
+                    write_two(given, size, by)
+                    compare(f"stars that {what}, {how}", size, how, f"geos_{how}", 1, 200)
 
 
 if __name__ == "__main__":

@@ -216,11 +216,11 @@ class WithLibrary(unittest.TestCase):
     def tearDownClass(cls):
         cls.room.cleanup()
 
-    def program(self, name, *words):
+    def program(self, name, *words, of=("calls", "kept")):
         """Compiles the program, and returns its path."""
         to = f"{self.room.name}/{name}"
         flags = ["-std=c99", "-Wall", "-Wextra", "-Werror", "-g", f"-I{ROOT}/library", "-pthread"]
-        sources = [f"{ROOT}/tests/library/{it}.c" for it in ("calls", "kept")]
+        sources = [f"{ROOT}/tests/library/{it}.c" for it in of]
         subprocess.run(["cc", *flags, *sources, "-o", to, *words], check=True)
         return to
 
@@ -230,20 +230,40 @@ class WithLibrary(unittest.TestCase):
     def calling(self, words, calls):
         return subprocess.run(words, input="\n".join(calls) + "\n", capture_output=True, text=True)
 
-    def compare_with_the_program(self, chance, count):
+    def fuzz(self, seed, count):
+        """Hands in bytes and numbers by chance, to the library and to one in a program that sanitizers watch."""
+        for words in ([library.SHARED, f"-Wl,-rpath,{library.OUT}"], ["-fsanitize=address,undefined", f"{library.OUT}/libsfq.a"]):
+            ran = subprocess.run([self.program("fuzz", *words, of=["fuzz"]), str(seed), str(count)], capture_output=True)
+            self.assertEqual((ran.returncode, ran.stdout, ran.stderr), (0, b"", b""), f"seed {seed}")
+
+    def compare_with_the_program(self, chance, count, by_the_program):
         """Relates random pairs by the library and by the program."""
         drawn = [[drawing.draw(chance, chance.choice(drawing.TYPES)) for _ in "ab"] for _ in range(count)]
         ran = self.calling([self.shared()], [f"relate\t{a}\t{b}" for a, b in drawn])
         self.assertEqual(ran.returncode, 0, ran.stderr)
-        with ThreadPoolExecutor(os.cpu_count()) as pool:
-            printed = list(pool.map(self.by_the_program, drawn))
+        printed = by_the_program(drawn)
         for pair, line, text in zip(drawn, ran.stdout.splitlines(), printed, strict=True):
             self.assertEqual(self.as_the_program(line), text, " ".join(pair))
 
     @staticmethod
-    def by_the_program(pair):
-        ran = subprocess.run([repository.PROGRAM, "relate", *pair], stdin=subprocess.DEVNULL, capture_output=True, text=True)
-        return (ran.stdout + ran.stderr).strip()
+    def one_by_one(drawn):
+        """Returns what the program writes of each pair by itself."""
+
+        def relate(pair):
+            ran = subprocess.run([repository.PROGRAM, "relate", *pair], stdin=subprocess.DEVNULL, capture_output=True, text=True)
+            return (ran.stdout + ran.stderr).strip()
+
+        with ThreadPoolExecutor(os.cpu_count()) as pool:
+            return list(pool.map(relate, drawn))
+
+    def all_at_once(self, drawn):
+        """Returns the same, of one run over a file of all pairs."""
+        path = f"{self.room.name}/pairs.csv"
+        with open(path, "w", encoding="ascii") as file:
+            file.writelines(f'"{a}","{b}"\n' for a, b in drawn)
+        ran = subprocess.run([repository.PROGRAM, "pairs", path], stdin=subprocess.DEVNULL, capture_output=True, text=True)
+        self.assertIn(ran.returncode, (0, 5), ran.stderr)
+        return [it if re.fullmatch("[F012]{9}", it) else f"sfq: {it}" for it in ran.stdout.splitlines()]
 
     @staticmethod
     def as_the_program(line):
@@ -338,23 +358,31 @@ class Library(WithLibrary):
         for pair, line, text in zip(drawn, ran.stdout.splitlines(), wanted.stdout.splitlines(), strict=True):
             self.assertEqual(line, text, " ".join(pair))
 
+    def test_bytes_and_numbers_by_chance(self):
+        for seed in range(1, 5):
+            self.fuzz(seed, 20_000)
+
     @needs_build
     def test_ten_thousand_random_pairs_as_the_program_relates_them(self):
-        self.compare_with_the_program(random.Random(39), 10_000)
+        self.compare_with_the_program(random.Random(39), 10_000, self.one_by_one)
 
 
 @needs("gcc", "cc")
 class ManyPairs(WithLibrary):
-    """Other random pairs in each run."""
+    """Other random pairs, bytes and numbers in each run."""
 
     IS_LONG = True
 
     @needs_build
-    def test_a_hundred_thousand_random_pairs(self):
-        for _ in range(10):
+    def test_a_million_random_pairs(self):
+        for _ in range(100):
             seed = int.from_bytes(os.urandom(4), "big")
             with self.subTest(seed=seed):
-                self.compare_with_the_program(random.Random(seed), 10_000)
+                self.compare_with_the_program(random.Random(seed), 10_000, self.all_at_once)
+
+    def test_millions_of_bytes_and_numbers_by_chance(self):
+        for _ in range(10):
+            self.fuzz(int.from_bytes(os.urandom(4), "big"), 1_000_000)
 
 
 if __name__ == "__main__":

@@ -1,2 +1,3 @@
 pub mod ArrayFacts
+pub mod MeetingFacts
 pub mod Spelling

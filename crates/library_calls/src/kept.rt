@@ -1,6 +1,6 @@
 //! What is asked of valid geometries. Each call returns the status that C gets.
 
-ghost use Rattle.std.specs.Prelude.{◌≡◌, ◌≢◌, ◌⊎◌, ◌++◌, drop, IfOk, IfSome, length};
+ghost use Rattle.std.specs.Prelude.{◌≡◌, ◌≢◌, ◌⊎◌, ◌++◌, drop, IfOk, IfSome, length, Some};
 ghost use Rattle.std.specs.Option.{option_map_or};
 ghost use Rattle.geometry_model.specs.CanonicalText.{canonical_text};
 ghost use Rattle.geometry_model.specs.Envelopes.{envelope};
@@ -8,10 +8,12 @@ ghost use Rattle.geometry_model.specs.Geometries.{kind};
 ghost use Rattle.library_calls.specs.Kept.{HasMatrix, HasRelation, IsStatusOfPosition, LiesAt, Matches, bounds_of, status_of_pattern, status_of_relation, status_of_room};
 ghost use Rattle.library_calls.specs.Numbers.{dimension, location_number};
 ghost use Rattle.library_calls.specs.Refusals.{none_there, ok, out_of_memory};
+ghost use Rattle.library_calls.specs.Relations.{relation_of};
 ghost use Rattle.sinks.specs.MemorySinks.{memory_bytes};
 
+use crate::meeting::intersect;
 use crate::patterns::pattern_in;
-use crate::relations::{holds, relation_of};
+use crate::relations::{Relation, holds, relation_of};
 use crate::texts::matrix_of;
 use de9im::MatrixPattern;
 use fraction::{GridPoint, RatPoint};
@@ -49,16 +51,34 @@ pub fn write_holds(
     ensures kept { result ≢ ok → answer.new ≡ answer.old }
     ensures status { (result ≡ out_of_memory) ⊎ (result ≡ status_of_relation relation) }
 {
-    let Some(relation) = relation_of(relation) else {
+    let Some(known) = relation_of(relation) else {
         return 4;
     };
-    match matrix_of(alloc, first, second) {
+    match find_relation(alloc, relation, known, first, second) {
         Ok(found) => {
-            *answer = holds(relation, first.kind(), second.kind(), &found);
+            *answer = found;
             0
         }
         Err(_) => 3,
     }
+}
+
+/// Whether a relation holds of two geometries; the number is that of the relation. It fails only when memory runs out.
+fn find_relation(
+    alloc: Global,
+    number: u32,
+    relation: Relation,
+    first: &Valid,
+    second: &Valid,
+) -> Result<bool, AllocError>
+    requires { relation_of number ≡ Some relation }
+    ensures { IfOk result (HasRelation number first.now second.now) }
+{
+    if relation == Relation::Intersects {
+        return intersect(alloc, first, second);
+    }
+    let found = matrix_of(alloc, first, second)?;
+    Ok(holds(relation, first.kind(), second.kind(), &found))
 }
 
 /// Writes whether the matrix of two geometries matches a pattern of nine characters (06-103r4, 6.1.15.2); status 4 where the bytes

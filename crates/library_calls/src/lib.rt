@@ -5,6 +5,7 @@
 pub mod arrays;
 pub mod faults;
 pub mod kept;
+pub mod meeting;
 pub mod patterns;
 pub mod relations;
 pub mod texts;

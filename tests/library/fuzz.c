@@ -1,0 +1,231 @@
+/*
+ * Hands bytes and numbers by chance to the calls of the C library, for tests/test_library.py:
+ *
+ *     fuzz SEED COUNT
+ *
+ * makes COUNT texts, patterns and arrays each. What is handed in ends where memory ends that may be read, so that a byte too far
+ * ends the program. A status has to be one of its call's, the place of a fault within the text, and what is read has to be what its
+ * canonical text spells. Prints what isn't so, and ends with status 1 then.
+ */
+#define _GNU_SOURCE
+#include "sfq.h"
+
+#include <stdio.h>
+#include <stdlib.h>
+#include <string.h>
+#include <sys/mman.h>
+
+#define PAGE 4096
+
+static unsigned long long state;
+
+static unsigned chance(unsigned below)
+{
+    state ^= state << 13;
+    state ^= state >> 7;
+    state ^= state << 17;
+    return (unsigned)(state >> 20) % below;
+}
+
+/* Room for one value at a time, before a page that may not be read. */
+struct room {
+    unsigned char *end;
+};
+
+static struct room make_room(void)
+{
+    struct room made = { NULL };
+    unsigned char *at = mmap(NULL, 2 * PAGE, PROT_READ | PROT_WRITE, MAP_PRIVATE | MAP_ANONYMOUS, -1, 0);
+    if (at == MAP_FAILED || mprotect(at + PAGE, PAGE, PROT_NONE) != 0)
+        exit(2);
+    made.end = at + PAGE;
+    return made;
+}
+
+static void *put(struct room *room, const void *from, size_t size)
+{
+    return size == 0 ? room->end : memcpy(room->end - size, from, size);
+}
+
+static int wrong;
+
+static void need(bool is_so, const char *what, const char *bytes, size_t length)
+{
+    if (!is_so) {
+        wrong = 1;
+        printf("%s: %.*s\n", what, (int)length, bytes);
+    }
+}
+
+/* What was read has to be what its canonical text spells, and equal to itself. */
+static void compare(sfq_geometry *read)
+{
+    char text[4000], again[4000], matrix[10];
+    size_t length = 0, other = 0;
+    sfq_geometry second = SFQ_EMPTY;
+    bool answer = false;
+    need(sfq_text(read, text, sizeof text, &length) == SFQ_OK, "no text", "", 0);
+    need(sfq_read(text, length, &second, NULL) == SFQ_OK, "not read again", text, length);
+    need(sfq_text(&second, again, sizeof again, &other) == SFQ_OK && other == length && memcmp(text, again, length) == 0,
+         "another text", text, length);
+    need(sfq_holds(SFQ_EQUALS, read, &second, &answer) == SFQ_OK && answer, "not equal", text, length);
+    need(sfq_relate(read, &second, matrix) == SFQ_OK, "no matrix", text, length);
+    need(sfq_holds(SFQ_INTERSECTS, read, &second, &answer) == SFQ_OK
+             && answer == (matrix[0] != 'F' || matrix[1] != 'F' || matrix[3] != 'F' || matrix[4] != 'F'),
+         "another answer than by the matrix", text, length);
+    sfq_free(&second);
+}
+
+/* ---- texts ---- */
+
+static const char *const texts[] = {
+    "POINT(1 -2)", "multipoint ((1 2),3 4)", "LINESTRING EMPTY", "LINESTRING(0 0,4.0 0,-1 +7)",
+    "MULTILINESTRING((0 0,1 1),(5 5,5 6))", "POLYGON((0 0,8 0,8 8,0 8,0 0),(2 2,6 2,6 6,2 6,2 2))",
+    "MULTIPOLYGON(((0 0,1 0,1 1,0 0)),((2 2,10000000 2,3 9,2 2)))", "POINT(10000001 00)", "",
+};
+
+static size_t draw_text(char *to)
+{
+    static const char bytes[] = "0123456789-+.,() \t\nEMPTYpointlsrg\0\377Z";
+    const char *from = texts[chance(sizeof texts / sizeof *texts)];
+    size_t length = strlen(from);
+    unsigned turns = chance(4);
+    memcpy(to, from, length);
+    while (turns-- > 0) {
+        size_t at = length > 0 ? chance((unsigned)length) : 0;
+        char byte = bytes[chance(sizeof bytes - 1)];
+        switch (chance(4)) {
+        case 0: /* another byte */
+            if (length > 0)
+                to[at] = byte;
+            break;
+        case 1: /* one more */
+            memmove(to + at + 1, to + at, length - at);
+            to[at] = byte;
+            length++;
+            break;
+        case 2: /* one less */
+            if (length > 0) {
+                memmove(to + at, to + at + 1, length - at - 1);
+                length--;
+            }
+            break;
+        default: /* cut off */
+            length = at;
+        }
+    }
+    return length;
+}
+
+static void try_text(struct room *room)
+{
+    char drawn[400];
+    size_t length = draw_text(drawn);
+    const char *text = put(room, drawn, length);
+    sfq_fault fault = { 'x', 0, 0, 0 }, other = { 'x', 0, 0, 0 };
+    sfq_geometry read = SFQ_EMPTY;
+    int status = sfq_read(text, length, &read, &fault);
+    need(status == sfq_check(text, length, &other) && memcmp(&fault, &other, 2) == 0 && fault.first == other.first
+             && fault.second == other.second,
+         "another fault", drawn, length);
+    if (status == SFQ_OK) {
+        compare(&read);
+    } else {
+        need(status == SFQ_REFUSED && read.kept == NULL, "another status", drawn, length);
+        need(fault.letter == 'V' ? fault.number >= 1 && fault.number <= 8 : fault.letter == 'W' && fault.number >= 1 && fault.number <= 4,
+             "an unknown fault", drawn, length);
+        need(fault.letter == 'V' || fault.first <= length, "a place past the end", drawn, length);
+    }
+    sfq_free(&read);
+}
+
+/* ---- patterns ---- */
+
+static void try_pattern(struct room *room, sfq_geometry *kept)
+{
+    static const char bytes[] = "TF*012tf3 ";
+    char drawn[12];
+    size_t length = chance(8) == 0 ? chance(12) : 9, i;
+    bool is_pattern = length == 9, answer = false;
+    for (i = 0; i < length; i++) {
+        drawn[i] = bytes[chance(chance(20) == 0 ? 10 : 8)];
+        is_pattern = is_pattern && drawn[i] != '3' && drawn[i] != ' ';
+    }
+    need(sfq_relate_pattern(kept, kept, put(room, drawn, length), length, &answer) == (is_pattern ? SFQ_OK : SFQ_UNKNOWN), "a pattern",
+         drawn, length);
+}
+
+/* ---- arrays ---- */
+
+/* Lines or rings of these sizes, or of others now and then. */
+static size_t draw_sizes(size_t left, size_t *sizes)
+{
+    size_t count = 0;
+    while (left > 0 && count < 8) {
+        size_t size = chance(3) == 0 || left < 4 ? left : 1 + chance((unsigned)left);
+        sizes[count++] = size;
+        left -= size;
+    }
+    if (chance(10) == 0 && count < 8)
+        sizes[count++] = chance(2) == 0 ? 0 : SIZE_MAX - chance(3);
+    return count;
+}
+
+static void try_array(struct room *positions, struct room *lines, struct room *polygons)
+{
+    static const int32_t corners[][2] = { { 0, 0 }, { 9, 0 }, { 9, 9 }, { 0, 9 } };
+    int32_t drawn[48];
+    size_t sizes[8], counts[8], count = chance(24), line_count = 0, polygon_count = 0, i;
+    uint32_t type = chance(8);
+    sfq_geometry read = SFQ_EMPTY;
+    sfq_fault fault = { 'x', 0, 0, 0 };
+    int status;
+    for (i = 0; i < count; i++) {
+        /* Squares beside one another, which are closed where five positions are a part. */
+        int32_t by = chance(12) == 0 ? (int32_t)chance(20) : 0, beside = (int32_t)(20 * (i / 5));
+        drawn[2 * i] = corners[i % 5 % 4][0] + by + beside;
+        drawn[2 * i + 1] = corners[i % 5 % 4][1] + by;
+    }
+    if (chance(10) == 0 && count > 0)
+        drawn[chance((unsigned)(2 * count))] = chance(2) == 0 ? INT32_MIN : 10000001;
+    if (type == SFQ_MULTILINESTRING || type == SFQ_POLYGON || type == SFQ_MULTIPOLYGON || chance(20) == 0) {
+        if (chance(2) == 0 && count % 5 == 0) {
+            for (line_count = 0; line_count < count / 5; line_count++)
+                sizes[line_count] = 5;
+        } else {
+            line_count = draw_sizes(count, sizes);
+        }
+    }
+    if (type == SFQ_MULTIPOLYGON || chance(20) == 0) {
+        polygon_count = chance(2) == 0 ? draw_sizes(line_count, counts) : line_count;
+        for (i = 0; polygon_count == line_count && i < line_count; i++)
+            counts[i] = 1;
+    }
+    status = sfq_read_positions(type, put(positions, drawn, count * 8), count, put(lines, sizes, line_count * sizeof *sizes), line_count,
+                                put(polygons, counts, polygon_count * sizeof *counts), polygon_count, &read, &fault);
+    need(status == SFQ_OK || status == SFQ_REFUSED || status == SFQ_UNKNOWN, "another status of an array", "", 0);
+    need((status == SFQ_OK) == (read.kept != NULL), "a geometry", "", 0);
+    need((status == SFQ_REFUSED) == (fault.letter != 'x'), "a fault", "", 0);
+    if (status == SFQ_OK)
+        compare(&read);
+    sfq_free(&read);
+}
+
+int main(int number, char **words)
+{
+    struct room first = make_room(), second = make_room(), third = make_room();
+    sfq_geometry kept = SFQ_EMPTY;
+    long turns;
+    if (number != 3)
+        return 2;
+    state = strtoull(words[1], NULL, 10) * 0x9e3779b97f4a7c15u + 1;
+    if (sfq_read(texts[5], strlen(texts[5]), &kept, NULL) != SFQ_OK)
+        return 2;
+    for (turns = atol(words[2]); turns > 0 && !wrong; turns--) {
+        try_text(&first);
+        try_pattern(&first, &kept);
+        try_array(&first, &second, &third);
+    }
+    sfq_free(&kept);
+    return wrong;
+}
