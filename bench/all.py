@@ -7,7 +7,9 @@ that touch, a check of polygons, and the matrix of two stars, each read, tested 
 compares what `sfq` and the floor print, byte for byte, and prints a Markdown table: what `sfq`, the floor and the peer take for
 each row, the ratios, the exponent by which the cost of `sfq` grows from the size before, and its peak memory. Start-up is left out.
 Costs are instructions, as valgrind counts them, which don't depend on what else runs; under `--time` they are nanoseconds of
-processor time, the least of several runs, the programs in turn. `--plot FILE` draws the costs over the sizes.
+processor time, the least of several runs, the programs in turn. A second table has the ratios of six workloads at their largest
+size. `--write` writes both tables of instructions into the READMEs, and draws the costs over the sizes; with `--time` it writes the
+table of times alone.
 
 It needs Python's standard library, the built programs (run ./build, and `rt run` in crates/gauge), and from the distribution's
 packages `gcc`, `libgeos-dev`, `sqlite3`, `libsqlite3-mod-spatialite` and `valgrind`. It is no test: the gate doesn't run it.
@@ -29,9 +31,10 @@ import relate
 import windows
 from gauged import GAUGE, built_peer
 from peers import build_geos, is_ready
-from timing import PROGRAM, exponent, figure, instructions, measure, print_columns, print_heads
+from timing import PROGRAM, ROOT, Table, exponent, figure, instructions, measure
 
 FLOORS = pathlib.Path(__file__).resolve().parent / "floor"
+PICTURE = ROOT / "docs" / "pictures" / "costs.svg"
 
 
 class Command(NamedTuple):
@@ -42,13 +45,15 @@ class Command(NamedTuple):
 
 
 class Workload(NamedTuple):
-    """What is measured: its name and its unit, its sizes, what makes the files of a size in a folder, and the commands of each program."""
+    """What is measured: its name, its sizes, what makes the files of a size in a folder, the commands of each program, the peer's
+    name, and how README names its largest size, where it is there."""
 
     label: str
-    unit: str
     sizes: tuple
     make: Callable
     commands: Callable
+    peer: str = "GEOS"
+    task: str = ""
 
 
 class Programs(NamedTuple):
@@ -77,7 +82,8 @@ def filtering(programs):
             "peer": Command(compare.sqlite_command()),
         }
 
-    return Workload("filter, numbers and texts", "row", (1_000, 10_000, 100_000), compare.make_table, commands)
+    task = "{:,} rows filtered by a number and a text"
+    return Workload("filter, numbers and texts", (1_000, 10_000, 100_000), compare.make_table, commands, "sqlite3", task)
 
 
 def windowing(programs, positions):
@@ -89,10 +95,11 @@ def windowing(programs, positions):
         floor = Command([programs.floors["window"], "pt.csv", "window"])
         return {"sfq": Command(made["sfq"]), "floor": floor, "peer": Command(made["geos"])}
 
-    return Workload(f"points in {positions:,} positions", "point", (1_000, 10_000, 100_000), windows.make_points, commands)
+    task = "{:,} points within a polygon of 100 positions" if positions == 100 else ""
+    return Workload(f"points in {positions:,} positions", (1_000, 10_000, 100_000), windows.make_points, commands, task=task)
 
 
-def joining(programs, label, floor):
+def joining(programs, label, floor, task):
     """One of the joins that joins.py has."""
     case = next(it for it in joins.CASES if it.label == label)
     second = "first" if case.second is None else "second"
@@ -108,7 +115,7 @@ def joining(programs, label, floor):
         tables = ["first.csv"] if case.second is None else ["first.csv", "second.csv"]
         return {"sfq": Command(made["sfq"]), "floor": Command([programs.floors[floor], *tables]), "peer": Command(made["geos"])}
 
-    return Workload(label, "row", tuple(sizes), make, commands)
+    return Workload(label, tuple(sizes), make, commands, task=task)
 
 
 def corner(x, y, distance, turn):
@@ -139,7 +146,8 @@ def checking(programs):
             "peer": Command([programs.tables, "check", "area", "area.csv"]),
         }
 
-    return Workload("check polygons of 20", "polygon", (100, 1_000, 10_000), make_polygons, commands)
+    task = "{:,} polygons of 20 positions checked"
+    return Workload("check polygons of 20", (100, 1_000, 10_000), make_polygons, commands, task=task)
 
 
 def relating(programs):
@@ -154,7 +162,8 @@ def relating(programs):
             "peer": Command([programs.shapes, "relate", "0"], folder / "input"),
         }
 
-    return Workload("matrix of two stars", "position", (100, 1_000, 9_998), make, commands)
+    task = "two stars of {:,} positions read, checked and related"
+    return Workload("matrix of two stars", (100, 1_000, 9_998), make, commands, task=task)
 
 
 def workloads(programs):
@@ -162,8 +171,8 @@ def workloads(programs):
     return [
         filtering(programs),
         *(windowing(programs, positions) for positions in windows.POSITIONS),
-        joining(programs, "points in parcels", "points_in_parcels"),
-        joining(programs, "parcels that touch", "parcels_that_touch"),
+        joining(programs, "points in parcels", "points_in_parcels", "{:,} points in 10,000 parcels"),
+        joining(programs, "parcels that touch", "parcels_that_touch", "{:,} parcels that touch one another"),
         checking(programs),
         relating(programs),
     ]
@@ -204,8 +213,20 @@ def folder_of(room, workload, size):
     return folder
 
 
-def measure_workload(workload, room, how):
-    """Prints the rows of a workload, and returns the costs of each program by size, start-up left out."""
+class Measured(NamedTuple):
+    """What a workload took: the costs of each program by size, start-up left out."""
+
+    workload: Workload
+    costs: dict
+
+    def ratios(self):
+        """The row of README: its largest size, and what `sfq` takes of what the peer and the floor take."""
+        (size, ours), (_, floor), (_, peer) = (self.costs[who][-1] for who in ("sfq", "floor", "peer"))
+        return [self.workload.task.format(size), f"{ours / peer:.2f}, {self.workload.peer}", f"{ours / floor:.1f}"]
+
+
+def measured(workload, room, how, table):
+    """Measures a workload, and adds its rows to a table."""
     bare = folder_of(room, workload, 0)
     starts = how.costs(workload.commands(bare), bare)
     found, before = {who: [] for who in starts}, None
@@ -220,11 +241,25 @@ def measure_workload(workload, room, how):
         ours, floor, peer = (each[who] for who in ("sfq", "floor", "peer"))
         growth = exponent(before, (size, ours * size))
         columns = [figure(ours), figure(floor), f"{ours / floor:.1f}", figure(peer), f"{ours / peer:.2f}", growth]
-        print_columns([f"{workload.label}, {size:,}", *columns, f"{peak / 1024:.0f}"])
+        table.add([f"{workload.label}, {size:,}", *columns, f"{peak / 1024:.0f}"])
         before = size, ours * size
         for who, cost in each.items():
             found[who].append((size, cost))
-    return found
+    return Measured(workload, found)
+
+
+def table_of_costs(unit):
+    """The table of all workloads at all sizes."""
+    return Table([f"{unit} a row", "sfq", "floor", "ratio", "peer", "ratio", "growth", "sfq MB"])
+
+
+def table_of_ratios(found):
+    """The table of README, of those workloads that it names."""
+    table = Table(["task (more in [bench](bench/README.md))", "fastest peer", "C program"])
+    for it in found:
+        if it.workload.task:
+            table.add(it.ratios())
+    return table
 
 
 def main():
@@ -233,21 +268,29 @@ def main():
     parser.add_argument("--repeats", type=int, default=5, help="runs of each command under --time (5)")
     parser.add_argument("--only", default="", help="the workloads whose name has this word")
     parser.add_argument("--largest", type=int, default=3, help="how many sizes of each (3)")
-    parser.add_argument("--plot", help="the picture that is written")
+    parser.add_argument("--write", action="store_true", help="write the tables into the READMEs, and the picture")
     options = parser.parse_args()
+    if options.write and (options.only or options.largest < 3):
+        parser.error("--write needs all workloads and sizes")
     is_ready()
     with tempfile.TemporaryDirectory() as name:
         room = pathlib.Path(name)
         how = Measure(options)
         unit = "ns" if options.time else "instructions"
-        print_heads([f"{unit} a row", "sfq", "floor", "ratio", "peer", "ratio", "growth", "sfq MB"])
-        panels = []
+        table = table_of_costs(unit)
+        found = []
         for workload in workloads(built_programs(room)):
             if options.only in workload.label:
                 workload = workload._replace(sizes=workload.sizes[: options.largest])
-                panels.append((workload.label, measure_workload(workload, room, how)))
-        if options.plot:
-            pathlib.Path(options.plot).write_text(plots.costs(panels, unit))
+                found.append(measured(workload, room, how, table))
+    if options.write:
+        table.write_into(ROOT / "bench" / "README.md")
+    if options.time:
+        return
+    ratios = table_of_ratios(found)
+    if options.write:
+        ratios.write_into(ROOT / "README.md")
+        PICTURE.write_text(plots.costs([(it.workload.label, it.costs) for it in found], unit))
 
 
 if __name__ == "__main__":

@@ -432,6 +432,72 @@ def loops_of_one_ring(count):
     return twice(lines(halves))
 
 
+def teeth_on_one_edge(count):
+    """A line that goes up and down onto one long edge, and the edge."""
+    return line([(2 * k, 5 * (k % 2)) for k in range(count)]), line([(0, 0), (2 * count, 0)])
+
+
+def tips_to_tips(count):
+    """Two saws of which each tip of the one is on a tip of the other."""
+    tips = [(4 * k, 5 * (k % 2)) for k in range(count)]
+    return tuple(polygon([(x, sign * y) for x, y in tips] + [(4 * count, sign * 9), (0, sign * 9)]) for sign in (1, -1))
+
+
+def teeth_under_one_edge(count):
+    """A comb of so many positions, and a line over all of its teeth."""
+    teeth = [(4 * k + step, up) for k in range(count // 4) for step, up in ((0, 0), (0, 90), (2, 90), (2, 0))]
+    return polygon(teeth + [(count, 0), (count, -9), (0, -9)]), line([(-1, 20), (count, 70)])
+
+
+def stairs_across(count):
+    """Two stairs that cross at each step."""
+    stairs = [(4 * (k // 2 + k % 2), 4 * (k // 2)) for k in range(count)]
+    return line(stairs), line([(x - 1, y + 1) for x, y in stairs])
+
+
+def points_on_sides(count):
+    """The positions on the sides of a square as points, in any order, and the square with all of them."""
+    cut, _ = cut_square(count)
+    sides = [tuple(map(int, it.split())) for it in cut[len("POLYGON((") : -len("))")].split(",")[:-1]]
+    return points(random.Random(count).sample(sides, len(sides))), cut
+
+
+def squares_in_rows(count, size, at=0):
+    """The rings of squares in rows, as far apart as they are wide."""
+    per_row = math.isqrt(count) + 1
+    corners = ((2 * size * x + at, 2 * size * y + at) for y, x in (divmod(k, per_row) for k in range(count)))
+    return [[(x, y), (x + size, y), (x + size, y + size), (x, y + size)] for x, y in corners]
+
+
+def corners_to_corners(count):
+    """Squares, and squares between them that touch them in their corners."""
+    return tuple(polygons([[ring] for ring in squares_in_rows(count, 4, at)]) for at in (0, 4))
+
+
+def points_in_holes(count):
+    """A point in each hole of a polygon, and the polygon."""
+    holes = squares_in_rows(count, 4)
+    reach = 9 * (math.isqrt(count) + 2)
+    around = [(-9, -9), (reach, -9), (reach, reach), (-9, reach)]
+    return points([(x + 2, y + 2) for (x, y), *_ in holes]), polygon(around, *holes)
+
+
+def rings_round_one_point(count):
+    """Closed lines, each round those before it."""
+    return twice(lines([[(-r, -r), (r, -r), (r, r), (-r, r), (-r, -r)] for r in range(4, 4 * count + 4, 4)]))
+
+
+def spirals_along(count):
+    """Two spirals of which each is in the other's turns, so that they touch all along."""
+    ring = spiral_ring(count)
+    return polygon(ring), polygon([(x + 4, y + 4) for x, y in ring])
+
+
+def one_position_again(count):
+    """A line that stays in one position for so long."""
+    return twice(line([(0, 0)] * count + [(5, 3)]))
+
+
 def long_numbers(count):
     """Two points whose numbers have so many zeros in front and behind the point."""
     zeros = "0" * count

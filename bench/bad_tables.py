@@ -8,7 +8,7 @@ import math
 import random
 from typing import NamedTuple, Optional
 
-from bad_shapes import star_ring
+from bad_shapes import polygon, squares_in_rows, star_ring
 
 SPAN = 1_000_000
 
@@ -230,6 +230,45 @@ def lines_over_teeth(count):
     return of_shapes([edge(x, 500, 7_000, 1) for x in places], [f'"LINESTRING({text})"'])
 
 
+def lines_over_star(count):
+    """Lines from side to side of one star, so that their envelopes hold almost all of it."""
+    reach = 90 * SPAN // 100
+    return beside_star(count, lambda x, y: edge(-reach, min(x, y) * 9 // 10, 2 * reach, abs(x - y) * 9 // 10))
+
+
+def squares_and_points(count):
+    """Small squares anywhere, and one MULTIPOINT of as many points."""
+    listed = ",".join(f"({x} {y})" for x, y in (text[6:-1].split() for text in scattered(min(count, 10_000), point, seed=1)))
+    return of_shapes(scattered(count, lambda x, y: box(x, y, 40, 30)), [f'"MULTIPOINT({listed})"'])
+
+
+def squares_and_ends(count):
+    """Small squares anywhere, and one geometry of as many short lines."""
+    text = ",".join(scattered(min(count, 1_000), lambda x, y: f"({x} {y},{x + 900} {y + 700})", seed=1))
+    return of_shapes(scattered(count, lambda x, y: box(x, y, 40, 30)), [f'"MULTILINESTRING({text})"'])
+
+
+def squares_and_upright_side(count):
+    """Small squares anywhere, and one square whose last side is upright and has as many positions."""
+    cuts = min(count, 9_995)
+    side = ",".join(f"{-SPAN} {SPAN - 2 * SPAN * k // (cuts + 1)}" for k in range(cuts + 1))
+    around = f"{-SPAN} {-SPAN},{SPAN} {-SPAN},{SPAN} {SPAN},{side},{-SPAN} {-SPAN}"
+    return of_shapes(scattered(count, lambda x, y: box(x, y, 40, 30)), [f'"POLYGON(({around}))"'])
+
+
+def points_and_holes(count):
+    """Points anywhere, and one polygon of as many holes."""
+    rings = squares_in_rows(min(count, 999), 10_000, 1 - SPAN)
+    around = [(-SPAN, -SPAN), (SPAN, -SPAN), (SPAN, SPAN), (-SPAN, SPAN)]
+    return of_shapes(scattered(count, point), [f'"{polygon(around, *rings)}"'], "within")
+
+
+def equal_squares(count):
+    """One square in every row: each pair is equal. The peers have no prepared geometry for that."""
+    rows = [box(0, 0, 9, 9)] * count
+    return of_shapes(rows, rows, "equals", "COUNT(*)")._replace(predicate=None)
+
+
 def points_with_numbers(count, per):
     """One point in every row, with numbers of which each is in so many rows of both tables, and the pairs of equal numbers."""
     first, second = ([f"POINT(3 3),{place // per}" for place in range(count)] for _ in range(2))
@@ -291,6 +330,13 @@ def equal_long_texts(count):
     """Equality of texts that differ in their last characters."""
     long = "n" * 200
     return of_values(numbered(count, 0, long), numbered(count, 1, long), "a.name = b.name")
+
+
+def texts_of_quotes(count):
+    """Equality of texts of quotes, each of which is two in the table."""
+    quotes = '""' * 40
+    rows = lambda shift: [f'7,"{quotes}{row.split(",")[0]}"' for row in numbered(count, shift)]
+    return of_values(rows(0), rows(1), "a.name = b.name")
 
 
 def equal_keys(count):

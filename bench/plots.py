@@ -58,9 +58,9 @@ def power_text(power):
 def legend(left, y, unit):
     """Which colour is which, and what the panels show."""
     parts = [f'<text x="{left}" y="{y}">{unit} for each row, over the number of rows:</text>']
-    x = left + 260
+    x = left + 310
     for who, colour in COLOURS.items():
         name = {"sfq": "sfq", "floor": "the floor, a C program for this alone", "peer": "the best peer (GEOS, sqlite3)"}[who]
         parts.append(f'<path class="line" stroke="{colour}" d="M{x} {y - 4}h24"/><text x="{x + 30}" y="{y}">{name}</text>')
-        x += 60 + 7 * len(name)
+        x += 60 + 6 * len(name)
     return parts

@@ -72,6 +72,31 @@ def instructions(command, folder, given=os.devnull, status=0):
     return int(re.search(r"I +refs: +([\d,]+)", ran.stderr)[1].replace(",", ""))
 
 
+def shares(command, folder, status=0):
+    """Which functions take how many of a hundred instructions of a command, those that take most first. Ends the program where the
+    command's status isn't the one that is wanted."""
+    counted = folder / "callgrind.out"
+    with open(folder / "output", "wb") as output:
+        ran = subprocess.run(
+            ["valgrind", "--tool=callgrind", f"--callgrind-out-file={counted}", *map(str, command)],
+            cwd=folder, stdin=subprocess.DEVNULL, stdout=output, stderr=subprocess.DEVNULL,
+        )
+    if ran.returncode != status:
+        sys.exit(f"{command[0]} ended with status {ran.returncode}")
+    shown = subprocess.run(["callgrind_annotate", str(counted)], capture_output=True, text=True, check=True).stdout
+    found = {}
+    for share, path in re.findall(r"^ *[\d,]+ \( *([\d.]+)%\)  \S*?:(\S+)", shown, re.M):
+        name = short_name(path)
+        found[name] = found.get(name, 0) + float(share)
+    return sorted(found.items(), key=lambda it: -it[1])
+
+
+def short_name(path):
+    """The name of a function without its modules and what tells its copies apart, with its type if it has one."""
+    *_, before, name = ["", *re.sub(r"('\d+|::<#\w+>)", "", path).split("::")]
+    return f"{before}::{name}" if before[:1].isupper() else name
+
+
 def exponent(before, now):
     """The exponent by which time grows, of two pairs of a size and a time; nothing where there was none before."""
     if before is None:
@@ -82,12 +107,50 @@ def exponent(before, now):
 def print_heads(heads):
     """Prints the first two lines of a Markdown table."""
     print_columns(heads)
-    print("|---" * len(heads) + "|")
+    print(rule_under(heads), flush=True)
 
 
 def print_columns(columns):
     """Prints a line of a Markdown table."""
-    print("| " + " | ".join(columns) + " |", flush=True)
+    print(line_of(columns), flush=True)
+
+
+def line_of(columns):
+    """A line of a Markdown table."""
+    return "| " + " | ".join(columns) + " |"
+
+
+def rule_under(heads):
+    """The line under the heads of a Markdown table."""
+    return "|---" * len(heads) + "|"
+
+
+class Table:
+    """A Markdown table that is printed row by row, and can be written into a document."""
+
+    def __init__(self, heads):
+        self.lines = [line_of(heads), rule_under(heads)]
+        print_heads(heads)
+
+    def add(self, columns):
+        """Prints a row, and keeps it."""
+        self.lines.append(line_of(columns))
+        print_columns(columns)
+
+    def write_into(self, path):
+        """Writes the table in place of the one of a document that has the same heads."""
+        path.write_text(with_table(path.read_text(), self.lines))
+
+
+def with_table(text, table):
+    """A document's text in which a table, given as lines, is in place of the one with the same heads."""
+    lines = text.split("\n")
+    if table[0] not in lines:
+        sys.exit(f"no table begins with {table[0]}")
+    start = end = lines.index(table[0])
+    while lines[end].startswith("|"):
+        end += 1
+    return "\n".join(lines[:start] + table + lines[end:])
 
 
 def figure(number):

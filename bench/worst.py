@@ -10,6 +10,10 @@ out. A run that takes more than a limit of processor seconds is broken off, and 
 Under `--instructions` it counts the instructions of `sfq` alone, by valgrind, at a small size and twice that. The inputs are the same
 each time. With `--bounds` it writes beside each input the bound that its growth has in the test.
 
+Under `--profile` it takes the inputs on which a time grows with the square of a size. It prints their processor seconds at a limit,
+and which functions take how many of a hundred instructions at a small size. `--write` writes the table of times or of profiles into
+bench/README.md.
+
 It needs Python's standard library and the built program (run ./build, or name another by `--program`); for the peers the
 distribution's packages `gcc`, `libgeos-dev`, `sqlite3` and `libsqlite3-mod-spatialite`; and for `--instructions` `valgrind`. It is no
 test: the gate doesn't run it. Its short form is tests/test_worst.py.
@@ -23,13 +27,14 @@ import shutil
 import subprocess
 import sys
 import tempfile
+from concurrent.futures import ThreadPoolExecutor
 from typing import Callable, NamedTuple, Optional
 
 import bad_shapes as shapes
 import bad_tables as tables
 from joins import commands as spatial_commands
 from peers import TABLES, spatialite_command
-from timing import PROGRAM, exponent, figure, instructions, print_columns, print_heads, probe
+from timing import PROGRAM, Table, exponent, figure, instructions, probe, shares
 
 GEOS_PEER = pathlib.Path(__file__).resolve().parent / "geos_peer.c"
 
@@ -54,120 +59,163 @@ class Input(NamedTuple):
 
 # What `sfq relate` is given.
 PAIRS = (
-    Input("to and fro on one line, to itself", shapes.to_and_fro, 500, 40),
-    Input("to and fro on an upright line, to itself", shapes.to_and_fro_upright, 500, 40),
-    Input("scribble to itself", shapes.scribble, 500, 40),
-    Input("scribble and it backwards", shapes.scribble_reversed, 500, 40),
-    Input("two scribbles", shapes.two_scribbles, 4_000, 100),
-    Input("random segments to themselves", shapes.random_segments, 500, 60),
-    Input("street grid to itself", shapes.street_grid, 500, 60),
-    Input("cross-mown field to itself", shapes.cross_mown, 2_000, 100),
-    Input("line along a polygon's edge", shapes.along_edge, 2_000, 100),
-    Input("line of short steps along an edge", shapes.along_edge_step_by_step, 4_000, 200),
-    Input("points to themselves, shuffled", shapes.points_shuffled, 4_500, 400),
-    Input("one point listed often, to itself", shapes.points_equal, 4_500, 400),
-    Input("points on an upright line, shuffled", shapes.points_on_upright, 4_500, 400),
-    Input("points to other points", shapes.points_apart, 4_500, 400),
-    Input("points of a scribble, and it", shapes.points_of_scribble, 4_500, 200),
-    Input("points in a spiral, and it", shapes.points_in_spiral, 4_000, 200),
-    Input("zigzag polygon to itself", shapes.zigzag_twice, 2_000, 120),
-    Input("zigzag lines side by side", shapes.zigzags_beside, 2_000, 200),
-    Input("equal stars, other start", shapes.equal_stars, 4_500, 200),
-    Input("ring of a star, and the star", shapes.ring_and_star, 4_500, 200),
-    Input("spiral to itself", shapes.spiral_twice, 4_000, 200),
-    Input("nested frames to themselves", shapes.nested_frames_twice, 500, 40),
-    Input("odd spokes and them backwards", shapes.odd_spokes, 499, 61),
-    Input("hatches that don't meet", shapes.hatches, 500, 60),
-    Input("hatches that cross", shapes.hatches_across, 500, 60),
-    Input("combs askew, into one another", shapes.combs_askew, 2_000, 200),
-    Input("combs across one another", shapes.combs_across, 500, 60),
-    Input("line back to one point, and its spokes", shapes.one_point_often, 900, 80),
-    Input("square cut often, and the square", shapes.cut_square, 4_500, 200),
-    Input("half rounds of one ring", shapes.loops_of_one_ring, 4_000, 250),
-    Input("long lines over stretches of one line", shapes.long_over_stretches, 500, 60),
-    Input("nested chevrons to themselves", shapes.nested_chevrons_twice, 499, 60),
-    Input("thin holes to themselves", shapes.thin_holes_twice, 499, 60),
+    Input("to and fro on one line, to itself", shapes.to_and_fro, 500, 2_500, 1.12),
+    Input("to and fro on an upright line, to itself", shapes.to_and_fro_upright, 500, 2_500, 1.12),
+    Input("scribble to itself", shapes.scribble, 500, 320, 1.12),
+    Input("scribble and it backwards", shapes.scribble_reversed, 500, 320, 1.12),
+    Input("two scribbles", shapes.two_scribbles, 4_000, 200, 2.02),
+    Input("random segments to themselves", shapes.random_segments, 500, 240, 1.18),
+    Input("street grid to itself", shapes.street_grid, 500, 240, 1.20),
+    Input("cross-mown field to itself", shapes.cross_mown, 2_000, 200, 1.23),
+    Input("line along a polygon's edge", shapes.along_edge, 2_000, 100, 1.18),
+    Input("line of short steps along an edge", shapes.along_edge_step_by_step, 4_000, 200, 1.12),
+    Input("points to themselves, shuffled", shapes.points_shuffled, 4_500, 400, 1.24),
+    Input("one point listed often, to itself", shapes.points_equal, 4_500, 400, 1.18),
+    Input("points on an upright line, shuffled", shapes.points_on_upright, 4_500, 400, 1.25),
+    Input("points to other points", shapes.points_apart, 4_500, 400, 1.23),
+    Input("points of a scribble, and it", shapes.points_of_scribble, 4_500, 200, 1.96),
+    Input("points in a spiral, and it", shapes.points_in_spiral, 4_000, 200, 1.99),
+    Input("zigzag polygon to itself", shapes.zigzag_twice, 2_000, 120, 1.25),
+    Input("zigzag lines side by side", shapes.zigzags_beside, 2_000, 200, 1.21),
+    Input("equal stars, other start", shapes.equal_stars, 4_500, 200, 1.23),
+    Input("ring of a star, and the star", shapes.ring_and_star, 4_500, 200, 1.22),
+    Input("spiral to itself", shapes.spiral_twice, 4_000, 200, 1.93),
+    Input("nested frames to themselves", shapes.nested_frames_twice, 500, 30, 1.89),
+    Input("odd spokes and them backwards", shapes.odd_spokes, 499, 122, 1.25),
+    Input("hatches that don't meet", shapes.hatches, 500, 60, 1.76),
+    Input("hatches that cross", shapes.hatches_across, 500, 60, 1.81),
+    Input("combs askew, into one another", shapes.combs_askew, 2_000, 200, 1.17),
+    Input("combs across one another", shapes.combs_across, 500, 60, 1.15),
+    Input("line back to one point, and its spokes", shapes.one_point_often, 900, 160, 1.18),
+    Input("square cut often, and the square", shapes.cut_square, 4_500, 200, 1.16),
+    Input("half rounds of one ring", shapes.loops_of_one_ring, 4_000, 1_000, 1.12),
+    Input("long lines over stretches of one line", shapes.long_over_stretches, 500, 120, 1.12),
+    Input("teeth on one long edge", shapes.teeth_on_one_edge, 4_900, 300, 1.21),
+    Input("tips of a saw to tips of another", shapes.tips_to_tips, 4_900, 300, 1.12),
+    Input("a line over all teeth of a comb", shapes.teeth_under_one_edge, 4_900, 300, 1.16),
+    Input("stairs that cross at each step", shapes.stairs_across, 4_900, 300, 1.20),
+    Input("points on the sides of a square", shapes.points_on_sides, 4_500, 300, 1.23),
+    Input("squares that touch in their corners", shapes.corners_to_corners, 499, 60, 1.31),
+    Input("a point in each hole", shapes.points_in_holes, 499, 60, 1.28),
+    Input("closed lines round one point, to themselves", shapes.rings_round_one_point, 499, 60, 2.03),
+    Input("spirals that touch all along", shapes.spirals_along, 4_000, 400, 1.81),
+    Input("one position again and again", shapes.one_position_again, 4_900, 400, 1.26),
+    Input("nested chevrons to themselves", shapes.nested_chevrons_twice, 499, 30, 2.05),
+    Input("thin holes to themselves", shapes.thin_holes_twice, 499, 60, 1.76),
 )
 
 # What `sfq check` is given.
 SINGLES = (
-    Input("validity of a zigzag polygon", shapes.zigzag, 4_990, 250),
-    Input("validity of a ragged star", shapes.ragged_star, 4_990, 400),
-    Input("validity of thin holes", shapes.thin_holes, 499, 60),
-    Input("validity of holes of almost one box", shapes.holes_of_one_box, 499, 60),
-    Input("validity of thin polygons", shapes.thin_polygons, 499, 60),
-    Input("validity of nested chevrons", shapes.nested_chevrons, 499, 60),
-    Input("validity of nested frames", shapes.nested_frames, 499, 60),
-    Input("validity of a spiral", shapes.spiral, 4_000, 400),
-    Input("validity of a spiral askew", shapes.spiral_askew, 4_000, 250),
-    Input("validity of holes in a spiral", shapes.holes_in_spiral, 499, 60),
-    Input("numbers of many zeros", shapes.long_numbers, 80_000, 10_000),
-    Input("blanks between words", shapes.blanks, 80_000, 10_000),
+    Input("validity of a zigzag polygon", shapes.zigzag, 4_990, 250, 1.19),
+    Input("validity of a ragged star", shapes.ragged_star, 4_990, 400, 1.32),
+    Input("validity of thin holes", shapes.thin_holes, 499, 60, 1.98),
+    Input("validity of holes of almost one box", shapes.holes_of_one_box, 499, 60, 1.98),
+    Input("validity of thin polygons", shapes.thin_polygons, 499, 60, 1.96),
+    Input("validity of nested chevrons", shapes.nested_chevrons, 499, 60, 2.03),
+    Input("validity of nested frames", shapes.nested_frames, 499, 60, 1.89),
+    Input("validity of a spiral", shapes.spiral, 4_000, 400, 1.86),
+    Input("validity of a spiral askew", shapes.spiral_askew, 4_000, 250, 2.02),
+    Input("validity of holes in a spiral", shapes.holes_in_spiral, 499, 60, 1.95),
+    Input("numbers of many zeros", shapes.long_numbers, 80_000, 10_000, 1.13),
+    Input("blanks between words", shapes.blanks, 80_000, 10_000, 1.13),
 )
 
 # What `sfq check` refuses.
 FAULTY = (
-    Input("zigzag polygon that crosses itself at its end", shapes.zigzag_that_crosses, 4_990, 250),
-    Input("thin holes, of which the last two touch", shapes.holes_of_which_two_touch, 499, 60),
-    Input("thin polygons, of which the last two touch", shapes.polygons_of_which_two_touch, 499, 60),
+    Input("zigzag polygon that crosses itself at its end", shapes.zigzag_that_crosses, 4_990, 250, 1.12),
+    Input("thin holes, of which the last two touch", shapes.holes_of_which_two_touch, 499, 60, 1.99),
+    Input("thin polygons, of which the last two touch", shapes.polygons_of_which_two_touch, 499, 60, 1.96),
 )
 
 # Of these two tables are joined by a geometry.
 SPATIAL = (
-    Input("points in squares", tables.uniform, 50_000, 500),
-    Input("a tenth NULL", tables.null_tenth, 25_000, 500),
-    Input("a third NULL", tables.null_third, 10_000, 300),
-    Input("half of the first table NULL", tables.null_half_of_first, 10_000, 300),
-    Input("half of the second table NULL", tables.null_half_of_second, 10_000, 300),
-    Input("all NULL", tables.null_all, 5_000, 200),
-    Input("a third EMPTY", tables.empties, 10_000, 300),
-    Input("north-south band", tables.north_south_band, 50_000, 600),
-    Input("east-west band", tables.east_west_band, 50_000, 600),
-    Input("diagonal band", tables.diagonal_band, 50_000, 600),
-    Input("long level lines", tables.level_lines, 25_000, 1_000),
-    Input("long upright lines", tables.upright_lines, 25_000, 1_000),
-    Input("a wide line in every eighth row", tables.giants_among_dwarfs, 25_000, 400),
-    Input("all envelopes equal", tables.equal_envelopes, 500, 40),
-    Input("parallel lines askew", tables.lines_askew, 1_000, 50),
-    Input("rings round one point", tables.concentric, 1_000, 30),
-    Input("keys against the order", tables.keys_against_order, 50_000, 500),
-    Input("COUNT(*) of equal points", tables.count_of_equal_points, 1_000, 60),
-    Input("LIMIT 1 of equal points", tables.limit_of_equal_points, 1_000, 60),
-    Input("LIMIT 1000 of equal points", tables.limit_of_a_thousand, 1_000, 60),
-    Input("points on a scribble", tables.points_on_scribble, 5_000, 200),
-    Input("short lines and one star", tables.short_lines_and_star, 4_900, 300),
-    Input("small squares and one star", tables.small_squares_and_star, 4_900, 300),
-    Input("small squares and one line", tables.small_squares_and_line, 4_900, 300),
-    Input("lines over 70 teeth of one zigzag", tables.lines_over_teeth, 4_900, 300),
-    Input("one point in every row, and equal numbers", tables.one_point_and_numbers, 5_000, 200),
-    Input("one point in every row, each number in 65", tables.one_point_and_frequent_numbers, 2_600, 260),
-    Input("NULL in every row, behind a predicate that counts", tables.nulls_behind_predicate, 500, 60),
+    Input("points in squares", tables.uniform, 50_000, 500, 1.12),
+    Input("a tenth NULL", tables.null_tenth, 25_000, 500, 1.12),
+    Input("a third NULL", tables.null_third, 10_000, 300, 1.22),
+    Input("half of the first table NULL", tables.null_half_of_first, 10_000, 300, 1.18),
+    Input("half of the second table NULL", tables.null_half_of_second, 10_000, 300, 1.21),
+    Input("all NULL", tables.null_all, 5_000, 200, 1.29),
+    Input("a third EMPTY", tables.empties, 10_000, 300, 1.82),
+    Input("north-south band", tables.north_south_band, 50_000, 600, 1.21),
+    Input("east-west band", tables.east_west_band, 50_000, 600, 1.19),
+    Input("diagonal band", tables.diagonal_band, 50_000, 600, 1.19),
+    Input("long level lines", tables.level_lines, 25_000, 1_000, 1.21),
+    Input("long upright lines", tables.upright_lines, 25_000, 1_000, 1.20),
+    Input("a wide line in every eighth row", tables.giants_among_dwarfs, 25_000, 400, 1.12),
+    Input("all envelopes equal", tables.equal_envelopes, 500, 40, 2.09),
+    Input("parallel lines askew", tables.lines_askew, 1_000, 50, 2.09),
+    Input("rings round one point", tables.concentric, 1_000, 30, 2.10),
+    Input("keys against the order", tables.keys_against_order, 50_000, 500, 1.14),
+    Input("COUNT(*) of equal points", tables.count_of_equal_points, 1_000, 60, 2.06),
+    Input("LIMIT 1 of equal points", tables.limit_of_equal_points, 1_000, 60, 2.07),
+    Input("LIMIT 1000 of equal points", tables.limit_of_a_thousand, 1_000, 60, 1.32),
+    Input("points on a scribble", tables.points_on_scribble, 5_000, 200, 1.94),
+    Input("short lines and one star", tables.short_lines_and_star, 4_900, 300, 1.38),
+    Input("small squares and one star", tables.small_squares_and_star, 4_900, 300, 1.34),
+    Input("small squares and one line", tables.small_squares_and_line, 4_900, 300, 1.18),
+    Input("lines over 70 teeth of one zigzag", tables.lines_over_teeth, 4_900, 150, 1.44),
+    Input("lines over most of one star", tables.lines_over_star, 2_000, 100, 1.83),
+    Input("small squares and one MULTIPOINT", tables.squares_and_points, 4_900, 150, 2.02),
+    Input("small squares and short lines in one", tables.squares_and_ends, 500, 50, 2.19),
+    Input("small squares and an upright side", tables.squares_and_upright_side, 4_900, 100, 1.93),
+    Input("points and one polygon of many holes", tables.points_and_holes, 499, 100, 1.15),
+    Input("one square in every row", tables.equal_squares, 1_000, 30, 2.10),
+    Input("one point in every row, and equal numbers", tables.one_point_and_numbers, 5_000, 200, 1.18),
+    Input("one point in every row, each number in 65", tables.one_point_and_frequent_numbers, 2_600, 260, 1.71),
+    Input("NULL in every row, behind a predicate that counts", tables.nulls_behind_predicate, 500, 60, 2.06),
 )
 
 # Of these two tables are joined by a number or a text.
 PLAIN = (
-    Input("equal INTEGERs", tables.equal_numbers, 5_000, 100),
-    Input("equal TEXTs", tables.equal_texts, 5_000, 100),
-    Input("equal long TEXTs", tables.equal_long_texts, 2_500, 60),
-    Input("equal keys", tables.equal_keys, 5_000, 100),
-    Input("a key equal to a column", tables.key_and_number, 5_000, 100),
-    Input("one value in every row, and TEXTs", tables.one_value_and_texts, 2_500, 100),
-    Input("equality or equality", tables.one_equality_or_other, 2_500, 100),
-    Input("equality by two orders", tables.equality_by_order, 2_500, 100),
-    Input("a condition on each table", tables.one_row_of_each, 5_000, 100),
-    Input("equality where all are NULL", tables.no_numbers, 5_000, 100),
-    Input("keys downwards", tables.keys_downwards, 50_000, 1_000),
+    Input("equal INTEGERs", tables.equal_numbers, 5_000, 100, 1.23),
+    Input("equal TEXTs", tables.equal_texts, 5_000, 100, 1.22),
+    Input("equal long TEXTs", tables.equal_long_texts, 2_500, 240, 1.16),
+    Input("equal TEXTs of quotes", tables.texts_of_quotes, 2_500, 240, 1.17),
+    Input("equal keys", tables.equal_keys, 5_000, 100, 1.20),
+    Input("a key equal to a column", tables.key_and_number, 5_000, 100, 1.23),
+    Input("one value in every row, and TEXTs", tables.one_value_and_texts, 2_500, 100, 1.20),
+    Input("equality or equality", tables.one_equality_or_other, 2_500, 100, 2.06),
+    Input("equality by two orders", tables.equality_by_order, 2_500, 100, 2.02),
+    Input("a condition on each table", tables.one_row_of_each, 5_000, 100, 1.20),
+    Input("equality where all are NULL", tables.no_numbers, 5_000, 100, 1.18),
+    Input("keys downwards", tables.keys_downwards, 50_000, 1_000, 1.17),
 )
 
 # What no peer can be asked.
 ALONE = (
-    Input("many predicates, each of which can drive a probe", tables.many_predicates, 390, 60),
-    Input("many conditions, and an OR of many", tables.many_comparisons, 1_100, 200),
-    Input("many names in a header", tables.many_names, 49_000, 2_000),
-    Input("many items of one row", tables.many_items, 4_600, 600),
+    Input("many predicates, each of which can drive a probe", tables.many_predicates, 390, 60, 1.69),
+    Input("many conditions, and an OR of many", tables.many_comparisons, 1_100, 200, 1.74),
+    Input("many names in a header", tables.many_names, 49_000, 2_000, 1.20),
+    Input("many items of one row", tables.many_items, 4_600, 600, 1.21),
 )
 
 ALL = PAIRS + SINGLES + FAULTY + SPATIAL + PLAIN + ALONE
+
+# What still takes a time that grows with the square of a size, and the size of which its time is shown: that of the limit, or for
+# rows beside one large geometry that of its positions.
+QUADRATIC = {
+    "two scribbles": 10_000,
+    "points of a scribble, and it": 10_000,
+    "points in a spiral, and it": 8_000,
+    "spiral to itself": 8_000,
+    "spirals that touch all along": 8_000,
+    "nested frames to themselves": 1_000,
+    "hatches that don't meet": 1_000,
+    "hatches that cross": 1_000,
+    "closed lines round one point, to themselves": 1_000,
+    "nested chevrons to themselves": 1_000,
+    "thin holes to themselves": 999,
+    "validity of thin holes": 999,
+    "validity of nested chevrons": 1_000,
+    "validity of nested frames": 1_000,
+    "validity of a spiral askew": 8_000,
+    "validity of holes in a spiral": 999,
+    "points on a scribble": 10_000,
+    "lines over most of one star": 5_000,
+    "small squares and one MULTIPOINT": 10_000,
+    "small squares and short lines in one": 10_000,
+    "small squares and an upright side": 9_995,
+}
 
 # The status of a fault in a table's data.
 FAULT = 4
@@ -313,8 +361,8 @@ class Measures:
         shutil.rmtree(folder)
         return measured
 
-    def print_row(self, bad):
-        """Measures an input, and prints its row."""
+    def row(self, bad):
+        """Measures an input, and returns its row."""
         small = self.beyond_start(bad, bad.size, "sfq")["sfq"][0]
         measured = self.beyond_start(bad, 2 * bad.size)
         ours, peak = measured.pop("sfq")
@@ -323,14 +371,35 @@ class Measures:
         best = min(answers, key=answers.get, default=None)
         peer = f"{best} {figure(answers[best] * 1e3)}" if best else ""
         if not best and measured:
-            peer = f"{', '.join(measured)} > {self.options.seconds * 1e3:,}"
+            peer = f"{', '.join(measured)} > {self.options.seconds * 1_000:,}"
         ratio = f"{ours / answers[best]:.2g}" if best and ours else ""
         times = [self.shown(small), self.shown(ours)]
-        print_columns([bad.label, f"{bad.size:,}", *times, growth, peer, ratio, f"{peak / 1024:.0f}"])
+        return [bad.label, f"{bad.size:,}", *times, growth, peer, ratio, f"{peak / 1024:.0f}"]
 
     def shown(self, seconds):
         """A time in milliseconds, or that a run was broken off."""
-        return figure(seconds * 1e3) if seconds else f"> {self.options.seconds * 1e3:,}"
+        return figure(seconds * 1e3) if seconds else f"> {self.options.seconds * 1_000:,}"
+
+
+class Profiles:
+    """The time of an input at a limit, and where the instructions of a small one go."""
+
+    def __init__(self, room, program, options):
+        self.room, self.program, self.options = room, program, options
+
+    def run(self, bad, size):
+        """A new folder with an input of a size, and what `sfq` runs there."""
+        folder = pathlib.Path(tempfile.mkdtemp(prefix="input", dir=self.room))
+        return folder, runs_of(bad, size, folder, self.program, None)["sfq"]
+
+    def row(self, bad):
+        """Measures an input, and returns its row."""
+        size = QUADRATIC[bad.label]
+        folder, run = self.run(bad, size)
+        seconds, _ = least(run, folder, self.options)
+        folder, run = self.run(bad, 4 * bad.small)
+        parts = [f"`{name}` {share:.0f}" for name, share in shares(run.command, folder, run.status)[:4]]
+        return [bad.label, f"{size:,}", figure(seconds) if seconds else f"> {self.options.seconds}", ", ".join(parts)]
 
 
 class Counts:
@@ -362,19 +431,28 @@ def main():
     parser.add_argument("--program", default=str(PROGRAM), help="the program that is measured (that of ./build)")
     parser.add_argument("--seconds", type=int, default=20, help="processor seconds at which a run is broken off (20)")
     parser.add_argument("--repeats", type=int, default=3, help="runs of each command (3)")
+    parser.add_argument("--jobs", type=int, default=1, help="how many inputs are measured at a time (1)")
     parser.add_argument("--only", default="", help="the inputs whose name has this word")
     parser.add_argument("--instructions", action="store_true", help="count instructions of sfq in place of time")
     parser.add_argument("--bounds", action="store_true", help="with --instructions: write the bounds that follow into this file")
+    parser.add_argument("--profile", action="store_true", help="show where the time of what grows with a square goes")
+    parser.add_argument("--write", action="store_true", help="write the table into bench/README.md")
     options = parser.parse_args()
     if not os.access(options.program, os.X_OK):
         sys.exit("the program isn't built: run ./build")
+    if options.write and (options.only or options.instructions):
+        parser.error("--write needs all inputs, and times or profiles")
     program = os.path.abspath(options.program)
     chosen = [bad for bad in ALL if options.only in bad.label]
     with tempfile.TemporaryDirectory() as room:
         if options.instructions:
-            print_counts(chosen, Counts(room, program), options.bounds)
+            table = table_of_counts(chosen, Counts(room, program), options)
+        elif options.profile:
+            table = table_of_profiles(chosen, Profiles(room, program, options), options)
         else:
-            print_times(chosen, Measures(room, program, Peers(pathlib.Path(room)), options))
+            table = table_of_times(chosen, Measures(room, program, Peers(pathlib.Path(room)), options), options)
+    if options.write:
+        table.write_into(pathlib.Path(__file__).resolve().parent / "README.md")
 
 
 def with_bounds(text, growths):
@@ -387,26 +465,41 @@ def with_bounds(text, growths):
     return re.sub(r'(    Input\("([^"]*)", \w+\.\w+, [\d_]+, [\d_]+)(?:, [\d.]+)?\)', bounded, text)
 
 
-def print_counts(chosen, counts, sets_bounds):
-    """Prints the table of instructions, and sets the bounds of its inputs where that is asked for."""
+def side_by_side(what, chosen, jobs):
+    """What a function returns of each input, in order, of so many at a time."""
+    with ThreadPoolExecutor(jobs) as pool:
+        yield from zip(chosen, pool.map(what, chosen))
+
+
+def table_of_counts(chosen, counts, options):
+    """The table of instructions; it sets the bounds of its inputs where that is asked for."""
     growths = {}
-    print_heads(["input", "n", "sfq at n, millions", "at 2n", "exponent", "bound"])
+    table = Table(["input", "n", "sfq at n, millions", "at 2n", "exponent", "bound"])
     counts.take_starts()
-    for bad in chosen:
-        before, now, growth = counts.growth(bad)
+    for bad, (before, now, growth) in side_by_side(counts.growth, chosen, options.jobs):
         bound = "" if bad.bound is None else f"{bad.bound:.2f}"
-        print_columns([bad.label, f"{bad.small:,}", figure(before / 1e6), figure(now / 1e6), f"{growth:.2f}", bound])
+        table.add([bad.label, f"{bad.small:,}", figure(before / 1e6), figure(now / 1e6), f"{growth:.2f}", bound])
         growths[bad.label] = growth
-    if sets_bounds:
+    if options.bounds:
         here = pathlib.Path(__file__)
         here.write_text(with_bounds(here.read_text(), growths))
+    return table
 
 
-def print_times(chosen, measures):
-    """Prints the table of times."""
-    print_heads(["input", "n", "sfq ms at n", "at 2n", "exponent", "best peer, ms at 2n", "ratio", "MB"])
-    for bad in chosen:
-        measures.print_row(bad)
+def table_of_profiles(chosen, profiles, options):
+    """The table of what grows with a square."""
+    table = Table(["input", "n", "sfq s", "of 100 instructions"])
+    for _, row in side_by_side(profiles.row, [bad for bad in chosen if bad.label in QUADRATIC], options.jobs):
+        table.add(row)
+    return table
+
+
+def table_of_times(chosen, measures, options):
+    """The table of times."""
+    table = Table(["input", "n", "sfq ms at n", "at 2n", "exponent", "best peer, ms at 2n", "ratio", "MB"])
+    for _, row in side_by_side(measures.row, chosen, options.jobs):
+        table.add(row)
+    return table
 
 
 if __name__ == "__main__":

@@ -11,6 +11,7 @@ import repository
 
 sys.path.insert(0, f"{ROOT}/bench")
 
+import timing
 import worst
 
 # What Linux takes as one word of a command line, and the limits of sfq.
@@ -48,6 +49,12 @@ class Inputs(unittest.TestCase):
     def test_labels_differ(self):
         self.assertEqual(len({bad.label for bad in worst.ALL}), len(worst.ALL))
 
+    def test_each_has_a_bound(self):
+        self.assertEqual([bad.label for bad in worst.ALL if bad.bound is None], [])
+
+    def test_what_is_quadratic_is_an_input(self):
+        self.assertEqual(set(worst.QUADRATIC) - {bad.label for bad in worst.ALL}, set())
+
     def test_bounds_are_written_beside_inputs(self):
         head = '    Input("some name", shapes.scribble, 1_000, 40'
         other = '    Input("other", shapes.scribble, 10, 4, 1.20),\n'
@@ -64,16 +71,38 @@ class Growth(unittest.TestCase):
     @needs_build
     @needs("valgrind", "valgrind")
     def test_no_bad_input(self):
-        bounded = [bad for bad in worst.ALL if bad.bound is not None]
-        if not bounded:
-            self.skipTest("needs the bounds of bench/worst.py, which aren't measured yet")
         with tempfile.TemporaryDirectory(prefix="sfq-worst-") as room:
             counts = worst.Counts(room, repository.PROGRAM)
             counts.take_starts()
             with ThreadPoolExecutor(proving.processors()) as pool:
-                for bad, (before, now, growth) in zip(bounded, pool.map(counts.growth, bounded)):
+                for bad, (before, now, growth) in zip(worst.ALL, pool.map(counts.growth, worst.ALL)):
                     with self.subTest(input=bad.label):
                         self.assertLessEqual(growth, bad.bound, f"{before:,} instructions at {bad.small:,}, {now:,} at twice that")
+
+
+class Tables(unittest.TestCase):
+    """What the measures write into documents."""
+
+    TABLE = ["| input | n |", "|---|---|", "| new | 2 |"]
+
+    def test_a_table_takes_the_place_of_the_one_with_its_heads(self):
+        before = "text\n\n| input | n |\n|---|---|\n| old | 1 |\n| older | 1 |\n\n| input |\n|---|\n"
+        after = "text\n\n| input | n |\n|---|---|\n| new | 2 |\n\n| input |\n|---|\n"
+        self.assertEqual(timing.with_table(before, self.TABLE), after)
+
+    def test_functions_have_short_names(self):
+        for path, name in (
+            ("edge_boxes::point_crossings::by_side", "by_side"),
+            ("edge_boxes::boxes::EdgeBoxes::sharing", "EdgeBoxes::sharing"),
+            ("rtree::packed_trees::push_below'2", "push_below"),
+            ("core::slice::sort::small::insertion_sort::<#530e49d816df48a2>", "insertion_sort"),
+            ("malloc", "malloc"),
+        ):
+            self.assertEqual(timing.short_name(path), name)
+
+    def test_a_document_without_it_is_refused(self):
+        with self.assertRaises(SystemExit):
+            timing.with_table("| input |\n", self.TABLE)
 
 
 if __name__ == "__main__":

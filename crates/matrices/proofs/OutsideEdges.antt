@@ -14,13 +14,15 @@ use Rattle.geometry_model.specs.Validity.{IsValid}
 use Rattle.geometry_model.specs.declared.shapes.Kind.TheVariants as kinds
 use Rattle.geometry_model.specs.declared.point_sets.Location.{Location}
 use Rattle.geometry_model.specs.declared.point_sets.Location.TheVariants.{Interior, Boundary, Exterior}
+use Rattle.geometry_model.specs.declared.point_sets.Dimension.TheVariants.{One}
 use Rattle.geometry_laws.specs.RingLaws.{IsClosed}
 use Rattle.geometry_laws.specs.PieceLaws.{HasClosedRings}
 use Rattle.geometry_laws.proofs.Each.{Among, Passing, each_at, each_of, none_passed, among_left, among_right}
 use Rattle.geometry_laws.proofs.Cuts.{contains_of_among}
 use Rattle.geometry_laws.proofs.CoverTheorems.{all_from_each}
+use Rattle.geometry_laws.proofs.RingParity.{each_from_all}
 use Rattle.edge_boxes.specs.RunLaws.{box_of}
-use Rattle.matrix_laws.specs.Cells.{Covers}
+use Rattle.matrix_laws.specs.Cells.{Covers, Shows}
 use Rattle.matrix_laws.proofs.Closing.{valid_rings_are_closed}
 use Rattle.matrix_laws.proofs.Outside.{common_point_meets}
 use Rattle.cover_laws.specs.Gaps.{mostly, of_own_edges}
@@ -31,6 +33,7 @@ use Rattle.edge_boxes.specs.NearEdges.{is_near}
 use Rattle.edge_boxes.proofs.BoxFacts.{run_then_rest}
 use Rattle.matrices.proofs.EdgePoints.{Applies, no_edges, own_point}
 use Rattle.matrices.proofs.OddEnds.{odd_end_is_boundary}
+use Rattle.matrices.specs.Raising.{IsUprightOutside}
 
 -- ---- a point on an edge of a geometry isn't in its exterior
 own_is_not_exterior : (g : Geometry) (e : Edge) → Contains (edges g) e → of_own_edges (kind g) ≡ Exterior → ⊥
@@ -83,10 +86,10 @@ mostly_exterior b x o k = go (off_edges_is_no_boundary b x o)
     go (inl q) = q
     go (inr q) = area_mostly b x q.0 k
 
--- so where the matrix shows all that edges can show in the exterior, it covers the edge
-outside_covers : (a b : Geometry) → IsValid b → (around : Envelope) → envelope b ≡ Some around → (m : Matrix) → ShowsEnds a b m → ((e : Edge) → ShowsOff a m e Exterior) → (e : Edge) → Contains (edges a) e → is_near around e ≡ false → Covers a b m e
-outside_covers a b vb around is m t full e c far x hx h =
-    off_is_shown a b m t e c x hx h off (subst (ShowsOff a m e) (sym (mostly_exterior b x off there)) (full e))
+-- so where the matrix shows all that the edge can show in the exterior, it covers the edge
+outside_covers : (a b : Geometry) → IsValid b → (around : Envelope) → envelope b ≡ Some around → (m : Matrix) → ShowsEnds a b m → (e : Edge) → ShowsOff a m e Exterior → Contains (edges a) e → is_near around e ≡ false → Covers a b m e
+outside_covers a b vb around is m t e shown c far x hx h =
+    off_is_shown a b m t e c x hx h off (subst (ShowsOff a m e) (sym (mostly_exterior b x off there)) shown)
   where
     there : locate b x ≡ Exterior
     there = outside_is_exterior b (valid_rings_are_closed b vb) around is e far x hx h
@@ -107,10 +110,34 @@ from_part xs first end x m = subst (Among x) (take-append-drop first xs) (among_
 pub part_covered : (a b : Geometry) → IsValid b → (around : Envelope) → envelope b ≡ Some around → (m : Matrix) → ShowsEnds a b m → ((e : Edge) → ShowsOff a m e Exterior) → (first end : ℕ)
     → list_any (is_near around) (slice_range (edges a) first end) ≡ false → All (Covers a b m) (slice_range (edges a) first end)
 part_covered a b vb around is m t full first end none = all_from_each (Covers a b m) part (each_of (Covers a b m) part
-    (λ e own. outside_covers a b vb around is m t full e (contains_of_among e (edges a) (from_part (edges a) first end e own)) (each_at (λ f. is_near around f ≡ false) part e (none_passed (is_near around) part none) own)))
+    (λ e own. outside_covers a b vb around is m t e (full e) (contains_of_among e (edges a) (from_part (edges a) first end e own)) (each_at (λ f. is_near around f ≡ false) part e (none_passed (is_near around) part none) own)))
   where
     part : List Edge
     part = slice_range (edges a) first end
+
+-- upright edges that are outside, once the matrix shows a gap of an edge there: they have no sides
+pub upright_covered : (a b : Geometry) → IsValid b → (around : Envelope) → envelope b ≡ Some around → (m : Matrix) → ShowsEnds a b m → Shows m (of_own_edges (kind a)) Exterior One → (first end : ℕ)
+    → All (IsUprightOutside around) (slice_range (edges a) first end) → All (Covers a b m) (slice_range (edges a) first end)
+upright_covered a b vb around is m t s first end all = all_from_each (Covers a b m) part (each_of (Covers a b m) part
+    (λ e own. covered e own (each_at (IsUprightOutside around) part e (each_from_all (IsUprightOutside around) part all) own)))
+  where
+    part : List Edge
+    part = slice_range (edges a) first end
+
+    covered : (e : Edge) → Among e part → IsUprightOutside around e → Covers a b m e
+    covered e own u = outside_covers a b vb around is m t e (record { piece = s; outer = λ n. absurd (n u.0); inner = λ k n. absurd (n u.0) })
+        (contains_of_among e (edges a) (from_part (edges a) first end e own)) u.1
+
+-- one element more at the front of a part
+pub one_more : {X : Type 0} (P : X → Type 0) (xs : List X) (left end : ℕ) (x : X) → 0 < left → left ≤ end → end ≤ length xs → x ≡ get_or xs (left - 1) x → P x → All P (slice_range xs left end) → All P (slice_range xs (left - 1) end)
+one_more P xs zero end x h k l is px rest = absurd (omega (arith, h))
+one_more P xs (suc i) end x h k l is px rest =
+    let less : suc i - 1 ≡ i = omega arith in
+    let count : end - i ≡ suc (end - suc i) = omega (arith, k) in
+    subst (λ n. x ≡ get_or xs n x → All P (slice_range xs n end)) (sym less)
+    (λ is'. All-same P (slice_range xs i end) (x ∷ slice_range xs (suc i) end)
+    (ap (λ n. take n (drop i xs)) count ∙ ap (λ ys. take (suc (end - suc i)) ys) (drop-cons xs i x (omega (arith, k, l)) ∙ ap (λ y. y ∷ drop (suc i) xs) (sym is')))
+    (All-cons P x (slice_range xs (suc i) end) px rest)) is
 
 -- what holds of a part and of the rest
 pub with_part : {X : Type 0} (P : X → Type 0) (xs : List X) (first end : ℕ) → first ≤ end → All P (slice_range xs first end) → All P (drop end xs) → All P (drop first xs)

@@ -1,16 +1,18 @@
 -- How a matrix of two geometries grows while it is found.
-use Rattle.std.specs.Prelude.{◌≡◌, true, Bool, if◌then◌else◌, List, All, Any}
+use Rattle.std.specs.Prelude.{◌≡◌, true, false, Bool, if◌then◌else◌, List, All, Any}
 use Rattle.geometry_model.specs.Points.{Position, Point, IsPoint, point_at}
 use Rattle.geometry_model.specs.Geometries.{Edge, Geometry, kind, edges, lines, listed}
 use Rattle.geometry_model.specs.Sides.{on}
 use Rattle.geometry_model.specs.Locations.{locate, ends}
 use Rattle.geometry_model.specs.Dimensions.{Matrix}
+use Rattle.geometry_model.specs.Envelopes.{Envelope}
 use Rattle.geometry_model.specs.Validity.{IsValid}
 use Rattle.geometry_model.specs.declared.shapes.Kind.{Kind}
 use Rattle.geometry_model.specs.declared.shapes.Kind.TheVariants as kinds
 use Rattle.geometry_model.specs.declared.point_sets.Location.{Location}
 use Rattle.geometry_model.specs.declared.point_sets.Location.TheVariants.{Interior, Boundary, Exterior}
 use Rattle.geometry_model.specs.declared.point_sets.Dimension.TheVariants.{Zero, Two}
+use Rattle.edge_boxes.specs.NearEdges.{is_near}
 use Rattle.side_labels.specs.declared.piece_sides.Sides.{Sides}
 use Rattle.cover_laws.specs.Gaps.{IsBetween, mostly}
 use Rattle.matrix_laws.specs.Cells.{Shows, raised, IsPartOf, IsSound, CoversPosition}
@@ -47,6 +49,10 @@ ShowsRow l k m = (b : Geometry) → kind b ≡ k → (p : Point) → Shows m l (
 -- the matrix shows all that gaps of the edges of a geometry of this kind can show in this part of another, off the other's edges
 abbrev pub ShowsAllOff : Kind → Location → Matrix → Type 0
 ShowsAllOff k l m = (a : Geometry) → kind a ≡ k → (e : Edge) → ShowsOff a m e l
+
+-- the edge is upright, and its rectangle doesn't overlap the envelope: it has no sides to show
+abbrev pub IsUprightOutside : Envelope → Edge → Type 0
+IsUprightOutside around e = (e.start.x ≡ e.end.x) × (is_near around e ≡ false)
 
 -- the matrix shows each gap of the edge, whichever point of the edge is within it
 abbrev pub ShowsAllAlong : Geometry → Geometry → Matrix → Edge → Type 0

@@ -1,20 +1,22 @@
 //! Raises the cells of a matrix by the edges of a large geometry beside a small one. Those outside its envelope are passed over.
 
-ghost use Rattle.std.specs.Prelude.{◌≡◌, ◌≤◌, length, slice_range, All, Some, IfSome, OnOk};
+ghost use Rattle.std.specs.Prelude.{◌≡◌, ◌≤◌, true, length, slice_range, All, Some, IfSome, OnOk};
 ghost use Rattle.geometry_model.specs.Geometries.{edges};
 ghost use Rattle.geometry_model.specs.Envelopes.{envelope};
 ghost use Rattle.geometry_model.specs.Validity.{IsValid};
 ghost use Rattle.validity.specs.ValidGeometries.{HasLength};
 ghost use Rattle.matrix_laws.specs.Cells.{Covers};
 ghost use Rattle.cover_laws.specs.Covering.{ShowsEnds};
-ghost use Rattle.matrices.specs.Raising.{Grows};
+ghost use Rattle.matrices.specs.Raising.{Grows, IsUprightOutside};
 
-use crate::fullness::{is_full_off, is_full_on, is_full_outside};
+use crate::fullness::{is_full_off, is_full_on, is_full_outside, is_upright, of_own_edges};
 use crate::matrix_edges::{raise_edge, raise_edge_off};
-use crate::outside_positions::{FEW, TIMES};
+use crate::outside_positions::{FEW, TIMES, is_between};
 use edge_gaps::Gaps;
+use geometry_model::{Dimension, Location};
 use matrix_cells::MatrixCells;
 use merged_edges::MergedEdges;
+use orient::Segment;
 use rtree::{Envelope, Enveloped};
 use std::alloc::{AllocError, Global};
 use validity::Valid;
@@ -30,8 +32,29 @@ pub(crate) fn small_envelope(first: &Valid, second: &Valid) -> Option<Envelope>
     second.envelope()
 }
 
+/// Whether an edge is upright and left or right of the envelope.
+fn is_upright_outside(around: &Envelope, edge: &Segment) -> bool
+    ensures { result ≡ true → IsUprightOutside around.now edge.now }
+{
+    let x = edge.start().x();
+    is_upright(edge) && !is_between(x, around.least_x(), around.greatest_x())
+}
+
+/// The place from which on all edges before the place given are upright and outside the envelope.
+fn left_upright(segments: &[Segment], around: &Envelope, end: usize) -> usize
+    requires { end ≤ length segments.now }
+    ensures before { result ≤ end }
+    ensures outside { All (IsUprightOutside around.now) (slice_range segments.now result end) }
+{
+    let mut left = end;
+    while left > 0 && is_upright_outside(around, &segments[left - 1]) {
+        left -= 1;
+    }
+    left
+}
+
 /// The place from which on no edge of the first geometry before the place given can raise a cell. Once the matrix shows all that
-/// edges outside the second one's envelope can show, it passes over these.
+/// edges outside the second one's envelope can show, it passes over these; once it shows what upright ones can, over those.
 fn left_to_raise(
     first: &Valid,
     second: &Valid,
@@ -48,6 +71,13 @@ fn left_to_raise(
 {
     if is_full_outside(first.kind(), matrix) {
         return first.boxes().last_near(first.segments(), around, end);
+    }
+    if matrix.shows(
+        of_own_edges(first.kind()),
+        Location::Exterior,
+        Dimension::One,
+    ) {
+        return left_upright(first.segments(), around, end);
     }
     end
 }

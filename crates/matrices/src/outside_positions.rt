@@ -34,7 +34,7 @@ pub(crate) fn envelope_beside(count: usize, second: &Valid) -> Option<Envelope>
 }
 
 /// Whether a number is in a range, its ends counted.
-fn is_between(number: i32, least: i32, greatest: i32) -> bool
+pub(crate) fn is_between(number: i32, least: i32, greatest: i32) -> bool
     ensures { result ≡ (int_le number greatest && int_le least number) }
 {
     number <= greatest && least <= number
