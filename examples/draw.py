@@ -3,10 +3,13 @@
 
     sfq why FIRST SECOND | python3 examples/draw.py FIRST SECOND > picture.svg
     sfq why FIRST | python3 examples/draw.py FIRST > picture.svg
+    sfq run SCHEMA DIR QUERY | python3 examples/draw.py --rows DIR/TABLE.csv > picture.svg
 
 The first geometry is blue, the second orange. Where the two meet is marked: a point by a dot, a stretch by a thick line, an
-area by a ring around a point of it. The place of a fault is red. Python's standard library is enough.
+area by a ring around a point of it. The place of a fault is red. Of a table it draws all geometries in grey, and in blue those
+of the rows whose key is in the answer's first column. Python's standard library is enough.
 """
+import csv
 import re
 import sys
 from fractions import Fraction
@@ -14,7 +17,7 @@ from xml.sax.saxutils import escape
 
 SIZE, MARGIN = 480, 24
 COLOURS = ("#2a6fb0", "#d9822b")
-FAULT, MARK = "#c62828", "#1b1b1b"
+FAULT, MARK, OTHER = "#c62828", "#1b1b1b", "#9aa0a6"
 NUMBER = r"(-?\d+(?:/\d+)?)"
 POINT = rf"{NUMBER} {NUMBER}"
 
@@ -103,6 +106,36 @@ def drawn_fault(page, points):
     return [page.line(points, "fault", f'stroke="{FAULT}" stroke-width="6"')]
 
 
+def svg(title, body):
+    """Returns the text of an SVG."""
+    head = f'<svg xmlns="http://www.w3.org/2000/svg" viewBox="0 0 {SIZE} {SIZE}" width="{SIZE}" height="{SIZE}">'
+    title = f"<title>{escape(title)}</title>"
+    return "\n".join([head, title, '<rect width="100%" height="100%" fill="#fff"/>', *body, "</svg>\n"])
+
+
+def geometries_in(path, key_name):
+    """Returns the key and the geometry of each row of a table, whose first column with a geometry is taken."""
+    with open(path, newline="") as file:
+        rows = [{name.lower(): field for name, field in row.items()} for row in csv.DictReader(file)]
+    geometric = re.compile(r"\s*(?:MULTI)?(?:POINT|LINESTRING|POLYGON)\b", re.IGNORECASE)
+    column = next((name for row in rows for name, field in row.items() if geometric.match(field)), None)
+    return [(row[key_name].strip(), row[column]) for row in rows if column is not None]
+
+
+def rows_drawn(path, answer):
+    """Returns the SVG of a table, with the rows of an answer in a colour of their own."""
+    (head, *_), *records = csv.reader(answer)
+    keys = {record[0] for record in records}
+    found = geometries_in(path, head.rpartition(".")[2].lower())
+    page = Page([p for _, text in found for part in parts_of(text) for p in part])
+    body = []
+    for kind, colour in (("other", OTHER), ("row", COLOURS[0])):
+        for key, text in found:
+            if (key in keys) == (kind == "row") and parts_of(text):
+                body += [f'<g class="{kind}">', *shape(page, text, "shape", colour), "</g>"]
+    return svg(f"rows of {path}", body)
+
+
 def drawing(texts, lines):
     """Returns the SVG of some texts and of the lines of `why`."""
     marks = Marks(lines)
@@ -114,16 +147,15 @@ def drawing(texts, lines):
     body += [page.dot(p, "ring", 8, f'fill="none" stroke="{MARK}" stroke-width="1.5"') for p in marks.rings]
     body += [page.dot(p, "point", 4, f'fill="{MARK}"') for p in marks.points]
     body += [it for points in marks.faults if points for it in drawn_fault(page, points)]
-    title = escape(" and ".join(texts))
-    head = f'<svg xmlns="http://www.w3.org/2000/svg" viewBox="0 0 {SIZE} {SIZE}" width="{SIZE}" height="{SIZE}">'
-    return "\n".join([head, f"<title>{title}</title>", '<rect width="100%" height="100%" fill="#fff"/>', *body, "</svg>\n"])
+    return svg(" and ".join(texts), body)
 
 
 def main(words):
-    if not 1 <= len(words) <= 2 or words[0] in ("-h", "--help"):
+    if not 1 <= len(words) <= 2 or words[0] in ("-h", "--help") or words == ["--rows"]:
         print(__doc__.strip(), file=sys.stderr)
         return 2
-    sys.stdout.write(drawing(words, sys.stdin.read().splitlines()))
+    lines = sys.stdin.read().splitlines()
+    sys.stdout.write(rows_drawn(words[1], lines) if words[0] == "--rows" else drawing(words, lines))
     return 0
 
 

@@ -30,6 +30,11 @@ FAULTY = [
     "POLYGON((0 0,4 0,4 4,0 4,0 0),(20 20,21 20,21 21,20 20))",
     "MULTIPOLYGON(((1 1,2 1,2 2,1 1)),((0 0,9 0,9 9,0 9,0 0)))",
 ]
+# The pictures in docs/pictures that the script drew, by their names.
+PICTURES = {
+    "why-touching-corner": ("LINESTRING(-2 2,2 -2)", SQUARE),
+    "why-not-simple": ("POLYGON((0 0,4 4,4 0,0 4,0 0))",),
+}
 
 
 def draw(texts, lines):
@@ -64,8 +69,22 @@ class Drawings(unittest.TestCase):
         dot = next(it for it in picture.iter() if it.get("class") == "point")
         self.assertEqual((dot.get("cx"), dot.get("cy")), ("240.00", "240.00"))
 
+    def test_the_rows_of_an_answer(self):
+        for answer, rows in (("id\n1\n3\n", 2), ("b.id,name\n2,x\n", 1), ("id\n", 0), ("id\n5\n", 0)):
+            with self.subTest(answer=answer), tempfile.NamedTemporaryFile("w", suffix=".csv") as file:
+                file.write('ID,name,geom\n1,a,POINT(1 2)\n2,b,"LINESTRING(0 0,3 1)"\n3,c,"MULTIPOINT((0 0),(5 5))"\n4,d,\n')
+                file.flush()
+                found = marks(draw(["--rows", file.name], answer))
+                self.assertEqual((found["row"], found["other"]), (rows, 3 - rows))
+
+    def test_the_pictures_of_the_documents(self):
+        for name, texts in PICTURES.items():
+            lines = exact_cells.lines(*texts) if len(texts) == 2 else exact_places.line(*texts)
+            with self.subTest(name=name):
+                self.assertEqual(read(f"{ROOT}/docs/pictures/{name}.svg"), draw(texts, lines))
+
     def test_words(self):
-        for words in ([], ["--help"], ["a", "b", "c"]):
+        for words in ([], ["--help"], ["--rows"], ["a", "b", "c"]):
             ran = subprocess.run([sys.executable, "-B", SCRIPT, *words], input="", capture_output=True, text=True)
             self.assertEqual((ran.stdout, ran.returncode), ("", 2))
             self.assertIn("sfq why", ran.stderr)

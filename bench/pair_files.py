@@ -1,0 +1,108 @@
+#!/usr/bin/env python3
+"""Measures `sfq pairs` over a file of many pairs of small geometries, beside a C program over GEOS that reads, tests and relates the
+same texts.
+
+Each of two geometries is a point, two to four points, a line of two to five positions, or a polygon that is a box or a triangle,
+on a grid of 20 by 20, where they touch and cross often. All are valid. For each size it prints a row of a Markdown table: processor
+seconds of both, their ratio, the peak memory of `sfq`, and how many lines differ; with `--instructions N` also how many instructions
+both take for a pair of N, by valgrind, and their ratio. Times are the least of several runs.
+
+It needs Python's standard library, gcc and `libgeos-dev` (and `valgrind` for instructions) from the distribution's packages, and the
+built program: run ./build. It is no test: the gate doesn't run it.
+"""
+
+import argparse
+import pathlib
+import random
+import shutil
+import subprocess
+import sys
+import tempfile
+
+from timing import PROGRAM, instructions, measure, print_columns, print_heads
+
+PEER = pathlib.Path(__file__).resolve().parent / "geos_pairs.c"
+GRID = 20
+
+
+def listed(positions):
+    """Positions in parentheses."""
+    return "(" + ",".join(f"{x} {y}" for x, y in positions) + ")"
+
+
+def box(chance):
+    """A ring of four corners."""
+    (left, right), (low, high) = (sorted(chance.sample(range(GRID), 2)) for _ in range(2))
+    return [(left, low), (right, low), (right, high), (left, high), (left, low)]
+
+
+def triangle(chance, at):
+    """A ring of three corners that aren't on one line."""
+    while True:
+        (ax, ay), (bx, by), (cx, cy) = a, b, c = at(), at(), at()
+        if (bx - ax) * (cy - ay) != (by - ay) * (cx - ax):
+            return [a, b, c, a]
+
+
+def draw(chance):
+    """The text of a small geometry."""
+    def at():
+        return chance.randrange(GRID), chance.randrange(GRID)
+
+    kind = chance.randrange(5)
+    if kind == 0:
+        return "POINT" + listed([at()])
+    if kind == 1:
+        return "MULTIPOINT(" + ",".join(listed([at()]) for _ in range(chance.randint(2, 4))) + ")"
+    if kind == 2:
+        positions = [at() for _ in range(chance.randint(2, 5))]
+        return "LINESTRING" + listed(positions) if len(set(positions)) > 1 else draw(chance)
+    return "POLYGON(" + listed(box(chance) if kind == 3 else triangle(chance, at)) + ")"
+
+
+def write_pairs(path, count):
+    """Writes a file of so many pairs."""
+    chance = random.Random(count)
+    with open(path, "w") as out:
+        for _ in range(count):
+            out.write(f'"{draw(chance)}","{draw(chance)}"\n')
+
+
+def least(command, folder, repeats):
+    """The least processor seconds of several runs, the peak kilobytes, and the lines that it printed."""
+    runs = [measure(command, folder) for _ in range(repeats)]
+    return min(it[1] for it in runs), max(it[2] for it in runs), (folder / "output").read_text().splitlines()
+
+
+def main():
+    parser = argparse.ArgumentParser(description=__doc__.split("\n\n")[0])
+    parser.add_argument("--sizes", type=int, nargs="+", default=[1_000_000], help="numbers of pairs (1000000)")
+    parser.add_argument("--repeats", type=int, default=3, help="runs of each program (3)")
+    parser.add_argument("--instructions", type=int, default=0, metavar="N", help="count instructions over N pairs too")
+    parser.add_argument("--program", default=str(PROGRAM), help="the program, if it isn't that of ./build")
+    options = parser.parse_args()
+    if not pathlib.Path(options.program).exists():
+        sys.exit("the program isn't built: run ./build")
+    if shutil.which("gcc") is None:
+        sys.exit("gcc isn't installed: apt-get install gcc libgeos-dev")
+    with tempfile.TemporaryDirectory() as name:
+        folder = pathlib.Path(name)
+        peer, file = folder / "geos_pairs", folder / "pairs.csv"
+        subprocess.run(["gcc", "-O2", "-o", str(peer), str(PEER), "-lgeos_c"], check=True)
+        ours, theirs = [options.program, "pairs", str(file)], [str(peer), str(file)]
+        print_heads(["pairs", "`sfq` s", "GEOS s", "ratio", "`sfq` MB", "lines that differ"])
+        for size in options.sizes:
+            write_pairs(file, size)
+            taken, peak, lines = least(ours, folder, options.repeats)
+            other, _, wanted = least(theirs, folder, options.repeats)
+            differing = sum(a != b for a, b in zip(lines, wanted, strict=True))
+            columns = [f"{size:,}", f"{taken:.2f}", f"{other:.2f}", f"{taken / other:.2f}", f"{peak / 1024:.1f}", f"{differing:,}"]
+            print_columns(columns)
+        if options.instructions:
+            write_pairs(file, options.instructions)
+            counts = [instructions(command, folder) / options.instructions for command in (ours, theirs)]
+            print(f"instructions a pair of {options.instructions:,}: sfq {counts[0]:,.0f}, GEOS {counts[1]:,.0f}, ratio {counts[0] / counts[1]:.2f}")
+
+
+if __name__ == "__main__":
+    main()
