@@ -12,7 +12,7 @@ import ctypes
 import functools
 import os
 import threading
-from typing import Optional, Tuple
+from typing import Callable, Iterator, Optional, Tuple
 
 from ._faults import Fault, FaultError, LibraryError
 
@@ -74,8 +74,11 @@ def declare(found: ctypes.CDLL) -> ctypes.CDLL:
     found.sfq_relate.argtypes = [geometry, geometry, ctypes.c_char * 10]
     found.sfq_holds.argtypes = [ctypes.c_uint32, geometry, geometry, ctypes.POINTER(ctypes.c_bool)]
     found.sfq_text.argtypes = [geometry, ctypes.c_char_p, ctypes.c_size_t, ctypes.POINTER(ctypes.c_size_t)]
+    room = [ctypes.c_char_p, ctypes.c_size_t, ctypes.POINTER(ctypes.c_size_t)]
+    found.sfq_why.argtypes = [geometry, geometry, *room]
+    found.sfq_reason.argtypes = [ctypes.c_char_p, ctypes.c_size_t, *room, fault]
     found.sfq_free.argtypes, found.sfq_free.restype = [geometry], None
-    for call in (found.sfq_read, found.sfq_relate, found.sfq_holds, found.sfq_text):
+    for call in (found.sfq_read, found.sfq_relate, found.sfq_holds, found.sfq_text, found.sfq_why, found.sfq_reason):
         call.restype = ctypes.c_int
     return found
 
@@ -106,11 +109,20 @@ class Kept:
 
     def canonical(self) -> str:
         """Returns the canonical text of a valid geometry."""
-        length, room = ctypes.c_size_t(), None
         with self.lock:
-            while is_refused(library().sfq_text(ctypes.byref(self.geometry), room, length.value, ctypes.byref(length))):
-                room = ctypes.create_string_buffer(length.value)
-        return room.raw.decode("ascii")
+            return handed_out(lambda *room: library().sfq_text(ctypes.byref(self.geometry), *room))
+
+    def reason(self) -> str:
+        """Returns the line that says whether the geometry is valid, and where not. The text has to spell a geometry."""
+        return handed_out(lambda *room: library().sfq_reason(self.text, len(self.text), *room, None)).rstrip("\n")
+
+
+def handed_out(call: Callable[..., int]) -> str:
+    """Returns the text that a call of the library writes into a room, whose size it is asked for first."""
+    length, room = ctypes.c_size_t(), None
+    while is_refused(call(room, length.value, ctypes.byref(length))):
+        room = ctypes.create_string_buffer(length.value)
+    return room.raw.decode("ascii")
 
 
 def is_refused(status: int) -> bool:
@@ -120,13 +132,20 @@ def is_refused(status: int) -> bool:
     return status != OK
 
 
-def ask(first: Kept, second: Kept, call, *words) -> None:
-    """Calls the library with two geometries, which serve no other call meanwhile. FaultError for the first that is refused."""
+@contextlib.contextmanager
+def both(first: Kept, second: Kept) -> Iterator[None]:
+    """Lets two geometries serve no other call meanwhile. FaultError for the first that is refused."""
     for kept, which in ((first, "first"), (second, "second")):
         if kept.fault:
             raise FaultError(kept.fault, which)
     ordered = sorted({id(it): it for it in (first, second)}.values(), key=id)
     with ordered[0].lock, ordered[-1].lock if len(ordered) > 1 else contextlib.nullcontext():
+        yield
+
+
+def ask(first: Kept, second: Kept, call, *words) -> None:
+    """Calls the library with two geometries. FaultError for the first that is refused."""
+    with both(first, second):
         status = call(*words[:-1], ctypes.byref(first.geometry), ctypes.byref(second.geometry), words[-1])
     if is_refused(status):
         raise LibraryError(f"sfq: the library returned the status {status}, which is none of this call")
@@ -144,3 +163,9 @@ def holds(relation: int, first: Kept, second: Kept) -> bool:
     answer = ctypes.c_bool()
     ask(first, second, library().sfq_holds, relation, ctypes.byref(answer))
     return answer.value
+
+
+def why(first: Kept, second: Kept) -> str:
+    """Returns the nine lines that show the cells of the matrix."""
+    with both(first, second):
+        return handed_out(lambda *room: library().sfq_why(ctypes.byref(first.geometry), ctypes.byref(second.geometry), *room))

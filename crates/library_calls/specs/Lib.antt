@@ -1,3 +1,4 @@
+pub mod Explained
 pub mod Kept
 pub mod Numbers
 pub mod Refusals

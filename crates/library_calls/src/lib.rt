@@ -2,12 +2,14 @@
 //! (06-103r4, 6.1 and 7.2; the numbers: this project's choice). The crate `sfq_c` exports those over texts.
 #![tactic(auto)]
 
+pub mod explained;
 pub mod faults;
 pub mod kept;
 pub mod patterns;
 pub mod relations;
 pub mod texts;
 
+pub use explained::{hand_out, write_reason, write_why};
 pub use faults::{Fault, Refusal};
 pub use kept::{
     dimension_of, write_envelope, write_holds, write_matches, write_matrix, write_place, write_text,

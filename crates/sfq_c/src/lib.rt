@@ -8,4 +8,5 @@
 #![tactic(auto)]
 
 mod kept_calls;
+mod reason_calls;
 mod text_calls;
