@@ -43,6 +43,10 @@ uint32_t sfq_proved_dimension(struct kept kept, struct kept *back);
 bool sfq_proved_is_empty(struct kept kept, struct kept *back);
 uint32_t sfq_proved_envelope(struct kept kept, int32_t *bounds, struct kept *back);
 uint32_t sfq_proved_locate(struct kept kept, int32_t x, int32_t y, uint32_t *place, struct kept *back);
+uint32_t sfq_proved_why(struct kept first, struct kept second, uint8_t *room, size_t size, size_t *length, struct kept *first_back,
+                        struct kept *second_back);
+uint32_t sfq_proved_why_itself(struct kept kept, uint8_t *room, size_t size, size_t *length, struct kept *back);
+uint32_t sfq_proved_reason(const uint8_t *text, size_t text_length, uint8_t *room, size_t size, size_t *length, sfq_fault *fault);
 
 /* ---- what they require ---- */
 
@@ -323,4 +327,31 @@ int sfq_locate_many(sfq_geometry *geometry, const int32_t *coordinates, size_t c
     }
     *done = i;
     return status;
+}
+
+int sfq_why(sfq_geometry *first, sfq_geometry *second, char *room, size_t size, size_t *length)
+{
+    struct kept one = empty_slot, two = empty_slot;
+    uint8_t nothing = 0, *bytes = room != NULL ? (uint8_t *)room : &nothing;
+    size_t bound = room != NULL ? size : 0;
+    uint32_t status;
+    if (!are_there(first, second)) {
+        return SFQ_NO_GEOMETRY;
+    }
+    if (first->kept == second->kept) {
+        status = sfq_proved_why_itself(taken(first), bytes, bound, length, &one);
+        two = one;
+    } else {
+        status = sfq_proved_why(taken(first), taken(second), bytes, bound, length, &one, &two);
+    }
+    first->kept = one.at;
+    second->kept = two.at;
+    return (int)status;
+}
+
+int sfq_reason(const char *text, size_t text_length, char *room, size_t size, size_t *length, sfq_fault *fault)
+{
+    uint8_t nothing = 0, *bytes = room != NULL ? (uint8_t *)room : &nothing;
+    sfq_fault other = { 0, 0, 0, 0 };
+    return (int)sfq_proved_reason(bytes_of(text), text_length, bytes, room != NULL ? size : 0, length, written(fault, &other));
 }

@@ -200,6 +200,24 @@ int sfq_locate(sfq_geometry *geometry, int32_t x, int32_t y, uint32_t *place);
  */
 int sfq_locate_many(sfq_geometry *geometry, const int32_t *coordinates, size_t count, uint32_t *places, size_t *done);
 
+/* ---- why ---- */
+
+/*
+ * What shows each cell of the matrix of two geometries, in nine lines, each with a line feed at its end, as the command `sfq why`
+ * prints them: "interior boundary 0 at 0 0", "interior exterior 1 from -2 2 to 0 0", "exterior interior 2 around 2 2", or
+ * "interior interior F". The words are a part of the first geometry, a part of the second, the dimension of what both share, and
+ * what shows it: a point, an open stretch by its ends, or a point with all points around it. A coordinate is n or n/d in lowest
+ * terms. They may be the same geometry. `room`, `size` and `length` are as in sfq_text. It takes longer than sfq_relate.
+ */
+int sfq_why(sfq_geometry *first, sfq_geometry *second, char *room, size_t size, size_t *length);
+
+/*
+ * Whether the geometry of a text is valid, in one line with a line feed at its end, as `sfq why` prints it: "valid", or the first
+ * fault and where it is, as "V3 0: 0 0 to 4 4 and 4 0 to 0 4 share 2 2". SFQ_REFUSED where the text spells no geometry, with its
+ * fault, W1 to W4. `room`, `size` and `length` are as in sfq_text; where the status is SFQ_REFUSED, `length` is as it was.
+ */
+int sfq_reason(const char *text, size_t text_length, char *room, size_t size, size_t *length, sfq_fault *fault);
+
 #ifdef __cplusplus
 }
 #endif

@@ -49,6 +49,16 @@ def rows_of(name):
         return required_rows.rows_of(file.read())
 
 
+def reasons():
+    """Returns what the command `why` prints for texts of its script: the words, of which there are one or two, and the lines."""
+    found = []
+    for row in rows_of("why"):
+        words = row.command.removeprefix("why ").split(" | ")
+        if row.command.startswith("why ") and re.match("interior|valid|V", row.output) and not any(it[0] in "-@" for it in words):
+            found.append((words, row.output))
+    return found
+
+
 def pairs():
     """Returns the pairs that scripts relate, but for texts that no word of a command line can have."""
     found = []

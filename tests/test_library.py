@@ -11,6 +11,7 @@ import unittest
 from concurrent.futures import ThreadPoolExecutor
 
 from support import ROOT, needs, needs_build, read
+import engine_rows
 import library
 import repository
 
@@ -160,7 +161,7 @@ def pairs():
 
 
 def lines_of_calls():
-    """Returns calls of every kind, with what they print."""
+    """Returns calls of every kind, with what they print: of those that say why, which take many allocations, some."""
     calls = [(f"relate\t{a}\t{b}", f"0 {it}") for a, b, it in pairs()]
     calls += [(f"check\t{a}", "0") for a, _, _ in pairs()]
     calls += [(f"answer\t{a}\t{b}", f"0 {it} {held}") for a, b, it, held in RELATIONS]
@@ -173,7 +174,7 @@ def lines_of_calls():
             (f"answer\t{text}\t{text}", f"1 {fault}"),
             (f"answer\tPOINT(0 0)\t{text}", f"2 {fault}"),
         ]
-    return calls + lines_of_kept_calls()
+    return calls + lines_of_kept_calls() + lines_of_whys()[::10]
 
 
 def lines_of_kept_calls():
@@ -201,6 +202,17 @@ def lines_of_kept_calls():
     return calls
 
 
+def lines_of_whys():
+    """Returns calls that say why, with what they print: the rows that the command `why` has."""
+    calls = []
+    for words, lines in engine_rows.reasons():
+        calls.append(("\t".join(["reason" if len(words) == 1 else "why", *words]), f"0 {lines}".replace("\n", "|")))
+    for text, fault in FAULTS:
+        calls += [(f"why\t{text}\tPOINT(0 0)", f"1 {fault}"), (f"why\tPOINT(0 0)\t{text}", f"2 {fault}")]
+        calls += [(f"reason\t{text}", f"1 {fault}")] if fault[0] == "W" else []
+    return calls
+
+
 class WithLibrary(unittest.TestCase):
     """Compiles the program tests/library/calls.c, and has it make calls."""
 
@@ -216,7 +228,7 @@ class WithLibrary(unittest.TestCase):
     def tearDownClass(cls):
         cls.room.cleanup()
 
-    def program(self, name, *words, of=("calls", "kept")):
+    def program(self, name, *words, of=("calls", "kept", "whys")):
         """Compiles the program, and returns its path."""
         to = f"{self.room.name}/{name}"
         flags = ["-std=c99", "-Wall", "-Wextra", "-Werror", "-g", f"-I{ROOT}/library", "-pthread"]
@@ -281,7 +293,7 @@ class Library(WithLibrary):
     """The calls over the shared library, and over the static one."""
 
     def test_rows_and_faults_with_both_libraries(self):
-        calls = lines_of_calls()
+        calls = lines_of_calls() + lines_of_whys()
         for program in (self.shared(), self.program("static", f"{library.OUT}/libsfq.a")):
             ran = self.calling([program], [it for it, _ in calls])
             self.assertEqual(ran.returncode, 0, ran.stderr)

@@ -143,6 +143,19 @@ class Package(engine_rows.WithLibrary):
         error = pickle.loads(pickle.dumps(met.exception))
         self.assertEqual((error.which, error.fault, error.index, str(error)), ("second", ("V4", 0, 1), None, str(met.exception)))
 
+    def test_reasons_and_witnesses_are_those_of_the_command_why(self):
+        """Each row of the script why.txt whose words are texts."""
+        self.assertGreaterEqual(len(engine_rows.reasons()), 100)
+        for words, lines in engine_rows.reasons():
+            if len(words) == 1:
+                self.assertEqual(sfq.Geometry(words[0]).reason, lines.rstrip("\n"))
+            else:
+                found = sfq.Geometry(words[0]).why(words[1])
+                self.assertEqual("".join(" ".join(filter(None, it)) + "\n" for it in found), lines, words)
+        self.assertEqual(sfq.Geometry("POINT(1.5 2)").reason, "W2 at 6")
+        with self.assertRaises(sfq.FaultError):
+            sfq.Geometry(SQUARE).why("POINT(1.5 2)")
+
     def test_texts_that_no_file_has(self):
         for text, place in (("", "W1 at 0"), ("POINT(1 2)\0", "W1 at 10"), ("\ud800", "W1 at 0"), ("PÖINT(1 2)", "W1 at 0")):
             self.assertEqual(sfq.Geometry(text).fault.place, place, repr(text))

@@ -48,6 +48,7 @@ declare {{ i64, i64 }} @rattle_alloc(i64 noundef, i64 noundef) #2
 declare void @llvm.memset.p0.i64(ptr writeonly captures(none), i8, i64, i1 immarg) #3
 attributes #0 = {{ nounwind "probe-stack"="inline-asm" "target-cpu"="x86-64-v2" }}
 """
+NAMES = ("sfq_proved_fault", "sfq_proved_answer_texts")
 # Patterns of the relations that the program has no function for.
 FURTHER = {
     "Covers": ("T*****FF*", "*T****FF*", "***T**FF*", "****T*FF*"),
@@ -58,10 +59,11 @@ FURTHER = {
 
 @functools.lru_cache(maxsize=None)
 def carried():
-    """Returns what the page carries, where it is made of the present sources. Without the kit this isn't looked at."""
-    what = web_build.kept()
-    is_old = what is not None and shutil.which("rt") and what["inputs"] != web_build.inputs()
-    return None if is_old else what
+    """Returns what the page carries of each module, where it is made of the present sources. Without the kit this isn't looked at."""
+    found = {it: web_build.kept(it) for it in web_build.MODULES}
+    is_there = all(what is not None for what in found.values())
+    is_old = is_there and shutil.which("rt") and any(what["inputs"] != web_build.inputs(it) for it, what in found.items())
+    return found if is_there and not is_old else None
 
 
 def needs_page(test):
@@ -81,11 +83,11 @@ class BuildOfTheModule(unittest.TestCase):
 
     def refused(self, text):
         with self.assertRaises(web_build.Failure) as it:
-            web_build.retarget(text)
+            web_build.retarget(text, NAMES)
         return str(it.exception)
 
     def test_a_module_gets_another_target(self):
-        text = web_build.retarget(MODULE)
+        text = web_build.retarget(MODULE, NAMES)
         self.assertIn(f'target datalayout = "{web_build.LAYOUT}"', text)
         self.assertIn(f'target triple = "{web_build.TARGET}"', text)
         self.assertIn('"target-cpu"="lime1"', text)
@@ -123,7 +125,7 @@ class BuildOfTheModule(unittest.TestCase):
         self.assertEqual(elsewhere["engines"], "GEOS, SpatiaLite, PostGIS, GDAL and JTS")
 
     def test_every_file_that_the_page_names_is_made(self):
-        made = [*web_build.FILES, "module.js", "examples.js"]
+        made = [*web_build.FILES, *(it.script for it in web_build.MODULES), "examples.js"]
         for it in read(f"{ROOT}/web/index.html").split('src="')[1:]:
             self.assertIn(it.partition('"')[0], made)
 
@@ -131,12 +133,12 @@ class BuildOfTheModule(unittest.TestCase):
 # ---- the module and the page in browsers
 
 
-def module_of_page():
-    return base64.b64decode(carried()["bytes"])
+def module_of_page(it=web_build.SHAPES):
+    return base64.b64decode(carried()[it]["bytes"])
 
 
 def page(room):
-    """Makes the page in a folder: the module that is there, and the present files. Returns the folder."""
+    """Makes the page in a folder: the modules that are there, and the present files. Returns the folder."""
     web_build.write_page(carried(), f"{room}/page")
     return f"{room}/page"
 
@@ -279,15 +281,28 @@ class InBrowsers(unittest.TestCase):
         report = reported(words_of, [pair for pair, _ in wanted])
         self.assertIsNotNone(report, f"{package} reported nothing in {PATIENCE} seconds")
         self.assertEqual((report["page"], report["heap"]), ("well", "well"), report["agent"])
+        self.assertIsInstance(report["frames"], dict, report["frames"])
+        # The aims are a frame of 60 a second, and 50 ms; on a busy machine the least of some steps has to keep them.
+        for count, most in (("100", 16.7), ("1000", 50)):
+            self.assertLessEqual(report["frames"][count][0], most, f"{package}, {count} positions")
         matrices = ["0FFFFFFF2", "FF0FFF0F2"]
         self.assertEqual(report["shortOfMemory"], [matrices[0], "memory ran out"] * 2 + [matrices[1]])
         self.assertIsInstance(report["pairs"], dict, report["pairs"])
         self.assertEqual(report["pairs"]["lost"], 0, "memory isn't given back")
         self.assertEqual(len(report["pairs"]["answers"]), len(wanted))
-        for (pair, line), (found, holds) in zip(wanted, report["pairs"]["answers"]):
+        for (pair, line), (found, holds, reasons) in zip(wanted, report["pairs"]["answers"]):
             with self.subTest(" | ".join(pair)):
                 self.assertEqual(found, line)
                 self.assertEqual(set(holds), relations(pair, line) if len(line) == 9 else set())
+                self.compare_reasons(line, reasons)
+
+    def compare_reasons(self, line, reasons):
+        """Of a matrix the witnesses show its dimensions; of a refusal for a fault of a geometry the place is that fault's."""
+        if len(line) == 9:
+            self.assertEqual(reasons, line)
+        elif line.split()[2][0] == "V":
+            place = reasons.split("|")[line.split()[1] == "second"]
+            self.assertTrue(place.startswith(" ".join(line.split()[2:]) + ": "), place)
 
     @needs_page
     def test_pairs_of_the_scripts_in_chromium(self):
@@ -333,7 +348,8 @@ class TheModuleAgain(unittest.TestCase):
     def test_a_second_build_gives_the_same_bytes(self):
         if not shutil.which("rt") or not shutil.which("wasm-opt"):
             self.skipTest("needs the command rt of the Rattle kit, and the package binaryen")
-        self.assertEqual(web_build.make_module(), module_of_page())
+        for it in web_build.MODULES:
+            self.assertEqual(web_build.make_module(it), module_of_page(it))
 
 
 @functools.lru_cache(maxsize=None)

@@ -1,4 +1,4 @@
-"""The proved calls of the crate sfq_c, compiled: an archive for x86-64, of which the C library is made, and the module of LLVM on
+"""The proved calls of a static library, compiled: an archive for x86-64, of which the C library is made, and the module of LLVM on
 the way to it, of which the web page is made."""
 import os
 import re
@@ -10,7 +10,6 @@ import proving
 import repository
 
 CRATE = "sfq_c"
-FOLDER = f"{repository.ROOT}/crates/{CRATE}"
 TARGET = "x86_64-unknown-linux-gnu"
 
 
@@ -45,12 +44,16 @@ def find_kit():
     return kit
 
 
-def crate_of():
+def folder_of(name):
+    return f"{repository.ROOT}/crates/{name}"
+
+
+def crate_of(name=CRATE):
     """Returns what is known of the crate's proof."""
     crates = proving.crates_of(repository.ROOT, repository.logic_of(repository.kit_line()))
-    crate = next((it for it in crates if it.name == CRATE), None)
+    crate = next((it for it in crates if it.name == name), None)
     if crate is None:
-        raise Failure(f"crates.txt has no crate {CRATE}")
+        raise Failure(f"crates.txt has no crate {name}")
     crate.read_mark()
     return crate
 
@@ -64,30 +67,30 @@ def below(crates=None, name=CRATE):
     return found
 
 
-def prove(jobs=0):
+def prove(jobs=0, name=CRATE):
     """Proves the crate and all below it, side by side, as far as that isn't done."""
-    if crate_of().is_done:
+    if crate_of(name).is_done:
         return
     run = proving.Proving(repository.ROOT, repository.logic_of(repository.kit_line()), jobs)
     try:
-        is_proved = run.prove_in(FOLDER)
+        is_proved = run.prove_in(folder_of(name))
     finally:
         run.end()
     if not is_proved:
-        raise Failure(f"the crate {CRATE} isn't proved")
+        raise Failure(f"the crate {name} isn't proved")
 
 
-def words_of_build(kit, toolchain, archive, keeps):
+def words_of_build(kit, toolchain, archive, keeps, name):
     """Returns the words by which the kit builds the crate with a toolchain of our own. `rt lib` has no word for one."""
     crates = repository.read_crates()
-    words = [f"{kit}/bin/rattle", "build", "--crate-name", CRATE, "src/lib.rt", "--extern", f"std={kit}/rlibs/std.rlib"]
-    for it in crates[CRATE]:
+    words = [f"{kit}/bin/rattle", "build", "--crate-name", name, "src/lib.rt", "--extern", f"std={kit}/rlibs/std.rlib"]
+    for it in crates[name]:
         at = f"{repository.ROOT}/crates/{it}/out/rlib" if it in crates else f"{kit}/rlibs"
         words += ["--extern", f"{it}={at}/{it}.rlib"]
-    for it in below(crates):
+    for it in below(crates, name):
         words += ["-L", f"dependency={repository.ROOT}/crates/{it}/out/rlib"]
     words += ["-L", f"dependency={kit}/rlibs", "--antt-project", f"{kit}/rattle/logic/antt-project.json"]
-    words += ["--logic-built", f"{kit}/logic_built", "--links", f"{CRATE}=", "--crate-type", "staticlib"]
+    words += ["--logic-built", f"{kit}/logic_built", "--links", f"{name}=", "--crate-type", "staticlib"]
     words += ["--incremental", "out/incremental"] if keeps else []
     return words + ["--backend", "llvm", "--toolchain", toolchain, "-o", archive]
 
@@ -104,21 +107,21 @@ def make_toolchain(kit, folder, module):
     os.chmod(f"{folder}/bin/clang", 0o755)
 
 
-def compile_calls(room, keeps=True):
+def compile_calls(room, keeps=True, name=CRATE):
     """Proves the crate over the libraries that are proved below it, and compiles it into a folder.
 
     `keeps` says whether these libraries are those of `rt check`, and what is proved now is kept beside them. What `rt ci` leaves
     serves too, but nothing else can be built on it.
     """
     kit = find_kit()
-    compiled = Compiled(f"{room}/lib{CRATE}.a", f"{room}/module.bc")
-    make_toolchain(kit, f"{room}/toolchain", compiled.module)
-    report = run(words_of_build(kit, f"{room}/toolchain", compiled.archive, keeps), cwd=FOLDER)
+    compiled = Compiled(f"{room}/lib{name}.a", f"{room}/{name}.bc")
+    make_toolchain(kit, f"{room}/toolchain-{name}", compiled.module)
+    report = run(words_of_build(kit, f"{room}/toolchain-{name}", compiled.archive, keeps, name), cwd=folder_of(name))
     found = re.search(rf"^logic=proved .*target={TARGET}.*$", report, re.M)
     if not found:
-        raise Failure(f"the kit doesn't say that {CRATE} is proved for {TARGET}")
+        raise Failure(f"the kit doesn't say that {name} is proved for {TARGET}")
     if not os.path.isfile(compiled.module):
         raise Failure("the kit's clang got no file module.bc")
     if keeps:
-        crate_of().write_mark(found[0])
+        crate_of(name).write_mark(found[0])
     return compiled

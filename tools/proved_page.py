@@ -169,7 +169,8 @@ def sources():
     for it in read(f"{repository.ROOT}/crates/scripts/args").split():
         found[it] = player
     # What the C test calls of the library's header calls the proved calls in turn.
-    found["calls.c"] = "".join(read(f"{repository.ROOT}/{it}.c") for it in ("tests/library/calls", "tests/library/kept", "library/sfq"))
+    of_library = ("tests/library/calls", "tests/library/kept", "tests/library/whys", "library/sfq")
+    found["calls.c"] = "".join(read(f"{repository.ROOT}/{it}.c") for it in of_library)
     return found
 
 

@@ -268,7 +268,8 @@ def make_library(counts):
                 found = importlib.util.spec_from_file_location("web_build", f"{ROOT}/web/build.py")
                 page = importlib.util.module_from_spec(found)
                 found.loader.exec_module(page)
-                page.write_page(page.carried(page.module_of(calls.find_kit(), room, compiled)))
+                module = page.module_of(calls.find_kit(), page.SHAPES, compiled)
+                page.write_page({page.SHAPES: page.carried(page.SHAPES, module)})
     except calls.Failure as it:
         text = str(it)
     counts.take("making of the C library and the web page", not text, time.monotonic() - begun, text=text)

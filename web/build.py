@@ -3,7 +3,7 @@
 
 usage: web/build.py [--jobs N]      or ./build --web
 
-The kit builds for WebAssembly only what takes no memory. So the crate is built for x86-64, as any static library, and the module
+The kit builds for WebAssembly only what takes no memory. So a crate is built for x86-64, as any static library, and the module
 of LLVM that the kit hands to its compiler is compiled for WebAssembly instead, with heap.c in the place of a C library. What this
 relies on is checked, and a kit that differs ends the build with a line that says how. Then Debian's binaryen makes of it the same
 code over a memory of 32 bits, which more browsers take.
@@ -16,6 +16,7 @@ import re
 import shutil
 import sys
 import tempfile
+from typing import NamedTuple
 
 WEB = os.path.dirname(os.path.realpath(__file__))
 sys.dont_write_bytecode = True
@@ -44,11 +45,29 @@ FLAGS = [
 ]
 C_FLAGS = ["-O2", "-fwrapv", "-ffreestanding", "-nostdinc", "-Wall", "-Wextra"]
 
-# What a module may call beside LLVM's own operations, and what it has to define.
+# What a module may call beside LLVM's own operations.
 CALLED = {"rattle_alloc", "rattle_realloc", "rattle_dealloc"}
-CALLS = ["sfq_proved_fault", "sfq_proved_answer_texts"]
-# What the page calls.
-EXPORTS = {"memory", "__heap_base", "page_take", "page_give", "page_found", "page_fault", "page_answer"}
+
+
+class Module(NamedTuple):
+    """A module: the name of its constant in JavaScript and of its script, the crate that it is made of, the C beside it, the calls
+    that the crate has to define, and what the page calls."""
+
+    constant: str
+    script: str
+    crate: str
+    sources: tuple
+    calls: tuple
+    exports: frozenset
+
+
+COMMON = frozenset({"memory", "__heap_base", "page_take", "page_give", "page_found"})
+SHAPES = Module(
+    "MODULE", "module.js", "sfq_c", ("heap.c", "memory.c", "page.c"),
+    ("sfq_proved_fault", "sfq_proved_answer_texts", "sfq_proved_read", "sfq_proved_free", "sfq_proved_why", "sfq_proved_reason"),
+    COMMON | {"page_fault", "page_answer", "page_reason", "page_why"},
+)
+MODULES = (SHAPES,)
 
 
 def find_kit():
@@ -72,8 +91,8 @@ def text_of_module(kit, room, module):
 # ---- from x86-64 to WebAssembly
 
 
-def check_module(text):
-    """Looks for what would mean another thing on WebAssembly than on x86-64."""
+def check_module(text, names):
+    """Looks for what would mean another thing on WebAssembly than on x86-64, and for the calls of these names."""
     for line, wanted in (("target datalayout", NATIVE_LAYOUT), ("target triple", NATIVE_TARGET)):
         found = re.findall(rf'^{line} = "(.*)"$', text, re.M)
         if found != [wanted]:
@@ -96,14 +115,14 @@ def check_module(text):
     unknown = {it for it in declared if not it.startswith("llvm.") or it.startswith("llvm.x86")} - CALLED
     if unknown:
         raise Failure(f"the module calls {', '.join(sorted(unknown))}, which nothing here gives it")
-    missing = [it for it in CALLS if not re.search(rf"^define\b[^@\n]*@{it}\(", text, re.M)]
+    missing = [it for it in names if not re.search(rf"^define\b[^@\n]*@{it}\(", text, re.M)]
     if missing:
         raise Failure(f"the module lacks {', '.join(missing)}")
 
 
-def retarget(text):
-    """Returns a module's text for WebAssembly: its layout, its target and its processor."""
-    check_module(text)
+def retarget(text, names):
+    """Returns a module's text for WebAssembly: its layout, its target and its processor. It has to define these calls."""
+    check_module(text, names)
     text = text.replace(f'target datalayout = "{NATIVE_LAYOUT}"', f'target datalayout = "{LAYOUT}"')
     text = text.replace(f'target triple = "{NATIVE_TARGET}"', f'target triple = "{TARGET}"')
     # As the kit says it for WebAssembly, where no C library has these three.
@@ -114,12 +133,13 @@ def retarget(text):
     return text
 
 
-def compile_all(kit, room, text):
-    """Compiles a module's text and the C files beside this one, and returns the archive of all."""
+def compile_all(kit, room, text, sources):
+    """Compiles a module's text and some of the C files beside this one, and returns the archive of all."""
     clang, objects = f"{kit}/toolchain/bin/clang", []
     with open(f"{room}/wasm.ll", "w", encoding="utf-8") as file:
         file.write(text)
-    for name, words in (("wasm.ll", ["-x", "ir", "-O3"]), ("heap.c", C_FLAGS), ("page.c", C_FLAGS)):
+    shutil.copy(f"{WEB}/page.h", room)
+    for name, words in (("wasm.ll", ["-x", "ir", "-O3"]), *((it, C_FLAGS) for it in sources)):
         if name.endswith(".c"):
             shutil.copy(f"{WEB}/{name}", room)
         to = f"{name.partition('.')[0]}.o"
@@ -139,13 +159,13 @@ def link(kit, room, archive):
     return f"{room}/wide.wasm"
 
 
-def lower(room, wide):
+def lower(room, wide, exports):
     """Makes a module over a memory of 32 bits of one over 64 bits, and returns its bytes."""
     narrow = f"{room}/narrow.wasm"
     run(["wasm-opt", "--enable-memory64", "--enable-bulk-memory", "--memory64-lowering", wide, "-o", narrow])
     with open(narrow, "rb") as file:
         module = file.read()
-    check_sections(module)
+    check_sections(module, exports)
     return module
 
 
@@ -172,7 +192,7 @@ def sections(module):
     return found
 
 
-def check_sections(module):
+def check_sections(module, exports):
     """Checks that a module imports nothing, has one memory of 32 bits that may grow, and exports what the page calls."""
     found = sections(module)
     if 2 in found:
@@ -186,55 +206,56 @@ def check_sections(module):
         size, at = number(module, at)
         names.add(module[at : at + size].decode())
         at = number(module, at + size + 1)[1]
-    if names != EXPORTS:
+    if names != exports:
         raise Failure(f"the module exports {', '.join(sorted(names))}")
 
 
-def module_of(kit, room, compiled):
-    """Returns the bytes of the module that the page carries, made of the compiled calls in a folder."""
-    text = retarget(text_of_module(kit, room, compiled.module))
-    return lower(room, link(kit, room, compile_all(kit, room, text)))
+def module_of(kit, it, compiled):
+    """Returns the bytes of a module that the page carries, made of the compiled calls."""
+    with tempfile.TemporaryDirectory(prefix="sfq-module-") as room:
+        text = retarget(text_of_module(kit, room, compiled.module), it.calls)
+        return lower(room, link(kit, room, compile_all(kit, room, text, it.sources)), it.exports)
 
 
-def make_module(jobs=0):
-    """Proves the calls, as far as that isn't done, and returns the bytes of the module."""
+def make_module(it, jobs=0):
+    """Proves the calls of a module, as far as that isn't done, and returns its bytes."""
     kit = find_kit()
-    calls.prove(jobs)
+    calls.prove(jobs, it.crate)
     with tempfile.TemporaryDirectory(prefix="sfq-web-") as room:
-        return module_of(kit, room, calls.compile_calls(room))
+        return module_of(kit, it, calls.compile_calls(room, name=it.crate))
 
 
 # ---- the page
 
 
-def inputs():
-    """Returns a sum over all that the module is made of: the crate with all below it, the kit's logic, and files beside this one."""
-    total = hashlib.sha256(calls.crate_of().sum.encode())
-    for it in ("build.py", "heap.c", "page.c"):
-        with open(f"{WEB}/{it}", "rb") as file:
+def inputs(it):
+    """Returns a sum over all that a module is made of: the crate with all below it, the kit's logic, and files beside this one."""
+    total = hashlib.sha256(calls.crate_of(it.crate).sum.encode())
+    for name in ("build.py", "page.h", *it.sources):
+        with open(f"{WEB}/{name}", "rb") as file:
             total.update(file.read())
     return total.hexdigest()
 
 
-def carried(module):
-    """Returns what the page carries: a module's bytes in base64, what it is, and what it was made of."""
+def carried(it, module):
+    """Returns what the page carries of a module: its bytes in base64, what it is, and what it was made of."""
     name = f"sfq {repository.version()}, {len(module):,} bytes, SHA-256 {hashlib.sha256(module).hexdigest()}"
     made = f"proved and compiled by {repository.kit_line()}"
-    return {"about": f"{name}; {made}", "inputs": inputs(), "bytes": base64.b64encode(module).decode()}
+    return {"about": f"{name}; {made}", "inputs": inputs(it), "bytes": base64.b64encode(module).decode()}
 
 
-def kept():
-    """Returns what the page in web/out carries, or None where it isn't made."""
+def kept(it):
+    """Returns what the page in web/out carries of a module, or None where it isn't made."""
     try:
-        with open(f"{OUT}/module.js", encoding="utf-8") as file:
+        with open(f"{OUT}/{it.script}", encoding="utf-8") as file:
             text = file.read()
         return json.loads(text[text.index("{") : text.rindex("}") + 1])
     except (OSError, ValueError):
         return None
 
 
-def module_script(what):
-    return f'// The module, made by web/build.py.\n"use strict";\nconst MODULE = {json.dumps(what, indent=2)};\n'
+def module_script(it, what):
+    return f'// The module, made by web/build.py.\n"use strict";\nconst {it.constant} = {json.dumps(what, indent=2)};\n'
 
 
 def plain(text):
@@ -272,9 +293,10 @@ def examples_script():
     return f'// Made by web/build.py of web/examples.json and docs/WRONG-ELSEWHERE.md.\n"use strict";\nconst EXAMPLES = {shown};\n'
 
 
-def write_page(what, to=OUT):
-    """Writes all files of the page into a folder, which a copy of is the whole site."""
-    texts = {"module.js": module_script(what), "examples.js": examples_script()}
+def write_page(carried_by, to=OUT):
+    """Writes all files of the page into a folder, which a copy of is the whole site, given what it carries of each module."""
+    texts = {it.script: module_script(it, what) for it, what in carried_by.items()}
+    texts["examples.js"] = examples_script()
     shutil.rmtree(to, ignore_errors=True)
     os.makedirs(to)
     for it in FILES:
@@ -287,15 +309,17 @@ def write_page(what, to=OUT):
 def build(jobs=0):
     """Makes the page, with the module that is there where its sources haven't changed. Returns the status to end with."""
     try:
-        what = kept()
-        if what is None or what.get("inputs") != inputs():
-            what = carried(make_module(jobs))
-        write_page(what)
+        found = {it: kept(it) for it in MODULES}
+        for it, what in found.items():
+            if what is None or what.get("inputs") != inputs(it):
+                found[it] = carried(it, make_module(it, jobs))
+        write_page(found)
     except Failure as it:
         print(f"sfq: no web page: {it}", file=sys.stderr)
         return 1
     print(f"built: {os.path.relpath(OUT, repository.ROOT)}/index.html")
-    print(f"the module: {what['about']}")
+    for it, what in found.items():
+        print(f"{it.script}: {what['about']}")
     return 0
 
 

@@ -1,18 +1,12 @@
 // Memory for the proved code, in the place of a C library. A block has 2^n bytes: a head of 16 bytes, then what is handed out. A
 // block that is given back goes on the list of its size, and serves the next request of that size. Nothing here is proved.
 
-typedef __SIZE_TYPE__ size;
+#include "page.h"
 
 typedef struct block {
     size order;
     struct block *next;
 } block;
-
-// What the proved code gets: 1 and the address, or 0 where memory is short.
-typedef struct {
-    size is_there;
-    void *at;
-} handed;
 
 enum { LEAST_ORDER = 5, MOST_ORDER = 30, ALIGNED = 16, PAGE = 65536 };
 

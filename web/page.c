@@ -1,9 +1,7 @@
-// What the page calls in the module. Each call is guarded as the kit guards an export: once one has trapped, all later ones trap,
-// since memory may be half written. Nothing here is proved.
+// What the page of two shapes calls in its module. Nothing here is proved.
+#include "page.h"
 
-typedef __SIZE_TYPE__ size;
-
-enum { RELATIONS = 11 };
+enum { OK = 0, FIRST_REFUSED = 1, SECOND_REFUSED = 2, RELATIONS = 11, ROOM = 4096 };
 
 // As the proved calls write it: see `sfq_fault` in library/sfq.h.
 typedef struct {
@@ -11,51 +9,23 @@ typedef struct {
     size first, second;
 } fault;
 
-// As the proved code gets memory: see heap.c.
-typedef struct {
-    size is_there;
-    void *at;
-} handed;
-
-_Bool __rattle_enter(void);
-void __rattle_leave(void);
-void __rattle_trap(void);
-handed rattle_alloc(size, size);
-void rattle_dealloc(void *);
 unsigned sfq_proved_fault(const char *, size, fault *);
 unsigned sfq_proved_answer_texts(const char *, size, const char *, size, unsigned char[9], _Bool[RELATIONS], fault *);
+// A kept geometry is one pointer, and a slot for one is where it is.
+unsigned sfq_proved_read(const char *, size, void **, fault *);
+void sfq_proved_free(void *);
+unsigned sfq_proved_why(void *, void *, char *, size, size *, void **, void **);
+unsigned sfq_proved_reason(const char *, size, char *, size, size *, fault *);
 
-// What the last call found. Of a pair its matrix and which relations hold, of a refused text its fault.
+// What the last call found. Of a pair its matrix and which relations hold, of a refused text its fault; lines of text and their
+// length. Nine lines of witnesses have at most 2,000 bytes, since no number of theirs has more than 40.
 static struct {
     fault why;
     unsigned char matrix[9];
     _Bool holds[RELATIONS];
+    size length;
+    char lines[ROOM];
 } found;
-
-// In assembly, since the attribute of C adds a table of functions, which not every engine takes.
-#define EXPORTED(name) __asm__(".export_name " #name ", " #name)
-
-static void enter(void) {
-    if (__rattle_enter())
-        __rattle_trap();
-}
-
-EXPORTED(page_take);
-// Returns memory for a text of so many bytes, or 0 where there is none.
-void *page_take(size bytes) {
-    enter();
-    handed it = rattle_alloc(bytes, 1);
-    __rattle_leave();
-    return it.is_there ? it.at : 0;
-}
-
-EXPORTED(page_give);
-// Takes back what page_take returned.
-void page_give(void *at) {
-    enter();
-    rattle_dealloc(at);
-    __rattle_leave();
-}
 
 EXPORTED(page_found);
 // Returns where the calls below write what they find.
@@ -80,6 +50,41 @@ unsigned page_answer(const char *first, size first_length, const char *second, s
     enter();
     unsigned status =
         sfq_proved_answer_texts(first, first_length, second, second_length, found.matrix, found.holds, &found.why);
+    __rattle_leave();
+    return status;
+}
+
+EXPORTED(page_reason);
+// Returns 0 where the text spells a geometry: the line says whether it is valid, and where not. Else 1, or 3 where memory ran out.
+unsigned page_reason(const char *text, size length) {
+    enter();
+    unsigned status = sfq_proved_reason(text, length, found.lines, ROOM, &found.length, &found.why);
+    __rattle_leave();
+    return status;
+}
+
+// Reads the second text, and finds what shows each cell. The first geometry is handed in, and freed.
+static unsigned why_of(void *one, const char *second, size second_length) {
+    void *other = 0, *one_back = 0, *other_back = 0;
+    unsigned status = sfq_proved_read(second, second_length, &other, &found.why);
+    if (status != OK) {
+        sfq_proved_free(one);
+        return status == FIRST_REFUSED ? SECOND_REFUSED : status;
+    }
+    status = sfq_proved_why(one, other, found.lines, ROOM, &found.length, &one_back, &other_back);
+    sfq_proved_free(one_back);
+    sfq_proved_free(other_back);
+    return status;
+}
+
+EXPORTED(page_why);
+// Returns what page_answer does. The lines say what shows each cell of the matrix.
+unsigned page_why(const char *first, size first_length, const char *second, size second_length) {
+    enter();
+    void *one = 0;
+    unsigned status = sfq_proved_read(first, first_length, &one, &found.why);
+    if (status == OK)
+        status = why_of(one, second, second_length);
     __rattle_leave();
     return status;
 }

@@ -33,6 +33,8 @@ const LONGEST_ADDRESS = 100000;
 const find = (id) => document.getElementById(id);
 const state = {
   texts: ["", ""], past: [], future: [], settled: ["", ""], matrix: "", result: null, faults: [], shown: null, trouble: "",
+  // The witnesses of the present texts: undefined until a cell is shown, null where there are none.
+  witnesses: undefined,
 };
 let engine = null;
 
@@ -123,6 +125,7 @@ function readAddress() {
 function renew() {
   const begun = performance.now();
   state.result = ask(() => engine.relate(...state.texts));
+  state.witnesses = undefined;
   const took = performance.now() - begun;
   const faults = state.texts.map((text) => (state.result ? null : ask(() => engine.fault(text))));
   state.faults = faults.map((fault, which) => fault && `${fault.code} in ${"ab"[which]}`).filter(Boolean);
@@ -132,7 +135,7 @@ function renew() {
     sheet.refused[which] = fault && shape ? Shapes.refused(shape, fault) : [];
     showFault(which, fault);
   });
-  sheet.place = faults.map((fault) => fault?.place).find(Boolean) || null;
+  sheet.places = faults.map((fault) => fault?.place).filter(Boolean);
   const shown = took < 1 ? "less than 1 ms" : `${took.toFixed(0)} ms`;
   find("speed").textContent = state.result ? `Read, checked and related in ${shown}.` : "";
   showMatrix();
@@ -169,7 +172,18 @@ function showFault(which, fault) {
     });
     line.append(" Byte ", String(fault.numbers[0]), ": ", place);
   }
-  if (fault.words) line.append(` ${fault.words}`);
+  if (fault.place) line.append(` ${placeWords(fault)}`);
+}
+
+// Says in words where a geometry has a fault.
+function placeWords({ code, place }) {
+  const [points, edges, stretches] = [place.points, place.edges, place.stretches].map((all) => all.map((it) => spoken(it)));
+  if (edges.length) {
+    return `The edges ${edges.join(" and ")} share ${stretches.length ? `the stretch ${stretches[0]}` : `the point ${points[0]}`}.`;
+  }
+  if (code === "V1") return `It begins at ${points[0]}.`;
+  if (code === "V2") return `It begins at ${points[0]} and ends at ${points[1]}.`;
+  return `Its corner ${points[0]} is ${place.words.startsWith("outside") ? "outside" : "inside"}.`;
 }
 
 // Returns a text before a byte of it and from there on.
@@ -199,12 +213,17 @@ function fraction([n, d]) {
   return d === x ? `${n / x}` : `${n / x}/${d / x}`;
 }
 
+// A point, or two with a word between.
+function spoken(place) {
+  const point = (p) => `(${p.map(fraction).join(", ")})`;
+  return typeof place[0][0] === "bigint" ? point(place) : place.map(point).join(" to ");
+}
+
 function witnessWords(witness) {
   if (!witness) return "";
-  const point = (p) => `(${p.map(fraction).join(", ")})`;
-  if (witness.kind === "point") return ` For example the point ${point(witness.at)}.`;
-  if (witness.kind === "stretch") return ` For example the stretch from ${point(witness.from)} to ${point(witness.to)}, without its ends.`;
-  return ` For example the points around ${point(witness.at)}.`;
+  if (witness.kind === "point") return ` For example the point ${spoken(witness.at)}.`;
+  if (witness.kind === "stretch") return ` For example the stretch from ${spoken([witness.from, witness.to])}, without its ends.`;
+  return ` For example the points around ${spoken(witness.at)}.`;
 }
 
 function buildMatrix() {
@@ -259,7 +278,8 @@ function showMatrix() {
 function explain(cell) {
   state.shown = cell;
   const matrix = state.result?.matrix, place = cell ? 3 * cell[0] + cell[1] : 0;
-  const witness = (cell && state.result?.witnesses?.[place]) || null;
+  if (cell && matrix && state.witnesses === undefined) state.witnesses = ask(() => engine.why(...state.texts));
+  const witness = (cell && matrix && state.witnesses?.[place]) || null;
   find("sentence").textContent = state.trouble
     || (!matrix ? (state.faults.length ? `There is no matrix: fault ${state.faults.join(", fault ")}.` : "\u00a0") : "")
     || (cell ? sentence(matrix[place], ...cell) + witnessWords(witness) : "Point at a cell to read what it says.");

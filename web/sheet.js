@@ -11,6 +11,9 @@ function element(name, attributes, parent) {
   return it;
 }
 
+// Returns the number next to each fraction of a point, to draw it.
+const nearest = (point) => point.map(([n, d]) => Number(n) / Number(d));
+
 // Draws a shape into an element; `toScreen` says where a position is there. The lists that are refused are dashed.
 function drawShape(parent, shape, target, toScreen, refused = []) {
   const path = (list) => "M" + list.map((p) => toScreen(p).map((n) => n.toFixed(2)).join(" ")).join("L");
@@ -53,7 +56,7 @@ class Sheet {
     this.shapes = [null, null];
     this.refused = [[], []];
     this.mark = null;
-    this.place = null;
+    this.places = [];
     this.tool = null;
     this.draft = [];
     this.pointer = null;
@@ -125,7 +128,7 @@ class Sheet {
     this.drawGrid(...this.size);
     this.shapes.forEach((shape, target) => shape && drawShape(this.svg, shape, target, toScreen, this.refused[target]));
     this.drawMark();
-    this.drawPlace();
+    this.places.forEach((place) => this.drawPlace(place));
     this.shapes.forEach((shape, target) => shape && !this.tool && this.drawCorners(shape, target));
     this.drawDraft();
     if (focused) (this.svg.querySelector(`[data-corner="${focused}"]`) || this.svg).focus({ preventScroll: true });
@@ -193,23 +196,30 @@ class Sheet {
     if (this.pointer) this.drawDot(this.pointer, `corner corner-${this.target}`, 6);
   }
 
+  // Draws a stretch between two points, each of which is two fractions.
+  drawStretch(ends, name) {
+    const d = `M${ends.map((p) => this.toScreen(nearest(p)).join(" ")).join("L")}`;
+    return element("path", { d, class: name }, this.svg);
+  }
+
+  // Draws the witness of a cell: a dot, a thick stretch, or a ring around a face point.
   drawMark() {
     if (!this.mark) return;
-    const at = (p) => p.map(([n, d]) => Number(n) / Number(d));
     if (this.mark.kind === "stretch") {
-      const ends = [this.mark.from, this.mark.to].map((p) => this.toScreen(at(p)).join(" "));
-      element("path", { d: `M${ends.join("L")}`, class: "witness" }, this.svg);
+      this.drawStretch([this.mark.from, this.mark.to], "witness");
     } else if (this.mark.kind === "around") {
-      this.drawDot(at(this.mark.at), "witness", 14);
-      this.drawDot(at(this.mark.at), "witness spot", 4);
+      this.drawDot(nearest(this.mark.at), "witness", 14);
+      this.drawDot(nearest(this.mark.at), "witness spot", 4);
     } else {
-      this.drawDot(at(this.mark.at), "witness spot", 8);
+      this.drawDot(nearest(this.mark.at), "witness spot", 8);
     }
   }
 
-  // Draws the place of a fault in red: the point or the ends that it names.
-  drawPlace() {
-    for (const position of this.place || []) this.drawDot(position.map(([n, d]) => Number(n) / Number(d)), "place", 11);
+  // Draws the place of a fault in red: the edges that share something, what they share, or the positions that it names.
+  drawPlace(place) {
+    place.edges.forEach((ends) => this.drawStretch(ends, "place edge"));
+    place.stretches.forEach((ends) => this.drawStretch(ends, "place shared"));
+    place.points.forEach((p) => this.drawDot(nearest(p), "place", 11));
   }
 
   // ---- the mouse and touch

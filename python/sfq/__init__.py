@@ -11,13 +11,26 @@ SFQ_LIBRARY names; it is loaded when it is first asked.
 from __future__ import annotations
 
 import re
-from typing import Any, Dict, Iterable, List, Optional, Sequence, Tuple, Union
+from typing import Any, Dict, Iterable, List, NamedTuple, Optional, Sequence, Tuple, Union
 
 from . import _library, _positions, _texts
 from ._faults import Fault, FaultError, GridError, LibraryError
 
-__all__ = ["Fault", "FaultError", "Geometry", "GridError", "LibraryError", "from_shapely", "relate", "relate_many"]
+__all__ = ["Cell", "Fault", "FaultError", "Geometry", "GridError", "LibraryError", "from_shapely", "relate", "relate_many"]
 __version__ = "0.1.0"
+
+
+class Cell(NamedTuple):
+    """A cell of a matrix: a part of the first geometry, a part of the second, the dimension of what both share, and what shows it.
+
+    The parts are `interior`, `boundary` and `exterior`. What shows a cell is a point, `at 0 0`, an open stretch by its ends,
+    `from 0 0 to 6/5 2/5`, or a point with all points around it, `around 2 2`; nothing shows F. Coordinates are in lowest terms.
+    """
+
+    first: str
+    second: str
+    dimension: str
+    shown: str = ""
 
 
 class Geometry:
@@ -72,6 +85,12 @@ class Geometry:
         return self._kept.fault
 
     @property
+    def reason(self) -> str:
+        """`valid`, or the fault and its place: `V3 0: 0 0 to 4 4 and 4 0 to 0 4 share 2 2`, or `W2 at 6` of a text."""
+        fault = self.fault
+        return fault.place if fault and fault.code[0] == "W" else self._kept.reason()
+
+    @property
     def is_valid(self) -> bool:
         """Whether the text is that of a valid geometry."""
         return self._kept.fault is None
@@ -117,6 +136,10 @@ class Geometry:
     def relate(self, other: Shape) -> str:
         """Returns the DE-9IM matrix of this geometry and another: nine characters F, 0, 1, 2 (06-103r4, 6.1.15.2)."""
         return _library.relate(*_kept_pair(self, other))
+
+    def why(self, other: Shape) -> List[Cell]:
+        """Returns the nine cells of the matrix, by rows, each with what shows it (06-103r4, 6.1.15.2)."""
+        return [Cell(*line.split(" ", 3)) for line in _library.why(*_kept_pair(self, other)).splitlines()]
 
     def relate_pattern(self, other: Shape, pattern: str) -> bool:
         """Whether the matrix matches a pattern of nine characters T, F, *, 0, 1, 2. ValueError for another pattern."""

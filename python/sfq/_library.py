@@ -12,7 +12,7 @@ import ctypes
 import functools
 import os
 import threading
-from typing import List, Optional, Tuple
+from typing import Callable, List, Optional, Tuple
 
 from ._faults import Fault, FaultError, LibraryError, PositionFault
 
@@ -80,8 +80,11 @@ def declare(found: ctypes.CDLL) -> ctypes.CDLL:
     found.sfq_relate.argtypes = [geometry, geometry, ctypes.c_char * 10]
     found.sfq_holds.argtypes = [ctypes.c_uint32, geometry, geometry, ctypes.POINTER(ctypes.c_bool)]
     found.sfq_text.argtypes = [geometry, ctypes.c_char_p, ctypes.c_size_t, ctypes.POINTER(ctypes.c_size_t)]
+    room = [ctypes.c_char_p, ctypes.c_size_t, ctypes.POINTER(ctypes.c_size_t)]
+    found.sfq_why.argtypes = [geometry, geometry, *room]
+    found.sfq_reason.argtypes = [ctypes.c_char_p, ctypes.c_size_t, *room, fault]
     found.sfq_free.argtypes, found.sfq_free.restype = [geometry], None
-    for name in ("read", "read_positions", "relate", "relate_many", "holds", "text", "locate_many"):
+    for name in ("read", "read_positions", "relate", "relate_many", "holds", "text", "locate_many", "why", "reason"):
         getattr(found, f"sfq_{name}").restype = ctypes.c_int
     return found
 
@@ -115,11 +118,20 @@ class Kept:
 
     def canonical(self) -> str:
         """Returns the canonical text of a valid geometry."""
-        length, room = ctypes.c_size_t(), None
         with self.lock:
-            while is_refused(library().sfq_text(ctypes.byref(self.geometry), room, length.value, ctypes.byref(length))):
-                room = ctypes.create_string_buffer(length.value)
-        return room.raw.decode("ascii")
+            return handed_out(lambda *room: library().sfq_text(ctypes.byref(self.geometry), *room))
+
+    def reason(self) -> str:
+        """Returns the line that says whether the geometry is valid, and where not. The text has to spell a geometry."""
+        return handed_out(lambda *room: library().sfq_reason(self.text, len(self.text), *room, None)).rstrip("\n")
+
+
+def handed_out(call: Callable[..., int]) -> str:
+    """Returns the text that a call of the library writes into a room, whose size it is asked for first."""
+    length, room = ctypes.c_size_t(), None
+    while is_refused(call(room, length.value, ctypes.byref(length))):
+        room = ctypes.create_string_buffer(length.value)
+    return room.raw.decode("ascii")
 
 
 class KeptNumbers(Kept):
@@ -220,3 +232,10 @@ def holds(relation: int, first: Kept, second: Kept) -> bool:
     answer = ctypes.c_bool()
     ask(first, second, library().sfq_holds, relation, ctypes.byref(answer))
     return answer.value
+
+
+def why(first: Kept, second: Kept) -> str:
+    """Returns the nine lines that show the cells of the matrix."""
+    need_valid(first, second)
+    with held((first, second)):
+        return handed_out(lambda *room: library().sfq_why(ctypes.byref(first.geometry), ctypes.byref(second.geometry), *room))

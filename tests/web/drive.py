@@ -168,7 +168,8 @@ def changes_are_undone(page):
 def faults_are_shown(page):
     page.open()
     page.set_text(1, "POLYGON((0 0,4 0,4 4,0 4,0 0),(5 5,6 5,6 6,5 5))")
-    same(page.find("#fault-1").text, "V5 1 A hole isn't inside the outer ring.")
+    same(page.find("#fault-1").text, "V5 1 A hole isn't inside the outer ring. Its corner (5, 5) is outside.")
+    same(page.run("return document.querySelectorAll('#sheet circle.place').length"), 1)
     same((page.matrix(), page.lights()), ("\u2013", []))
     same(page.find("#sentence").text, "There is no matrix: fault V5 in b.")
     same(page.run("return document.querySelectorAll('#sheet .refused').length"), 1)
@@ -181,10 +182,46 @@ def faults_are_shown(page):
     same((page.find("#fault-0").text, page.find("#fault-1").text, page.matrix()), ("", "", "F01FF0212"))
 
 
+def the_place_of_a_fault_is_drawn(page):
+    page.open("#a=POINT(0+0)&b=POLYGON((0+0,4+4,4+0,0+4,0+0))")
+    same(page.find("#fault-1").text, "V3 0 The ring meets itself. The edges (0, 0) to (4, 4) and (4, 0) to (0, 4) share the point (2, 2).")
+    drawn = "return [...document.querySelectorAll('#sheet .place')].map((it) => it.getAttribute('class'))"
+    same(page.run(drawn), ["place edge", "place edge", "place"])
+    page.set_text(1, "POLYGON((0 0,1 1,2 2,0 0))")
+    same(page.find("#fault-1").text, "V3 0 The ring meets itself. The edges (0, 0) to (1, 1) and (2, 2) to (0, 0) share the stretch (0, 0) to (1, 1).")
+    same(page.run(drawn), ["place edge", "place edge", "place shared"])
+    page.set_text(1, "POLYGON((0 0,4 0,4 4,0 4))")
+    same(page.find("#fault-1").text, "V2 0 The ring isn't closed: its last position isn't its first. It begins at (0, 0) and ends at (0, 4).")
+    same(page.run(drawn), ["place", "place"])
+    page.set_text(1, "POINT(1 1)")
+    same(page.run(drawn), [])
+
+
 def cells_are_explained(page):
+    """The witness of the cell under the mouse, or that has the focus, is drawn and said; it follows what is dragged."""
     page.open()
+    marks = """return [...document.querySelectorAll('#sheet .witness')].map((it) => {
+        const box = it.getBBox(), [x, y] = [box.x + box.width / 2 - sheet.size[0] / 2, box.y + box.height / 2 - sheet.size[1] / 2];
+        return [it.tagName, Math.round(x / sheet.view.unit + sheet.view.x), Math.round(sheet.view.y - y / sheet.view.unit)];
+    })"""
+    same(page.run(marks), [])
     page.acts().move_to_element(page.find("#cell-0-1")).perform()
-    same(page.find("#sentence").text, "The interior of a and the boundary of b share points, and no line.")
+    same(page.find("#sentence").text, "The interior of a and the boundary of b share points, and no line. For example the point (0, 0).")
+    same(page.run(marks), [["circle", 0, 0]])
+    page.acts().move_to_element(page.find("#nine")).perform()
+    same(page.run(marks), [])
+    page.run("document.getElementById('cell-0-2').focus()")
+    same(
+        page.find("#sentence").text,
+        "The interior of a and the exterior of b share a line, and no area. For example the stretch from (-2, 2) to (0, 0), without its ends.",
+    )
+    same(page.run(marks), [["path", -1, 1]])
+    page.acts().send_keys(Keys.TAB, Keys.TAB, Keys.TAB, Keys.TAB).perform()
+    same(page.run("return document.activeElement.id"), "cell-2-0")
+    same(page.find("#sentence").text, "The exterior of a and the interior of b share an area. For example the points around (2, 2).")
+    same(page.run(marks), [["circle", 2, 2], ["circle", 2, 2]])
+    page.run("show(0, 'POINT(9 9)'); document.getElementById('cell-0-2').focus()")
+    same(page.run(marks), [["circle", 9, 9]])
 
 
 def an_example_is_opened_by_its_card(page):
@@ -326,6 +363,7 @@ def pictures_are_as_they_should_be(page):
         ("dark", (1280, 900), "dark", "#14171c"),
     ):
         page.open(size=size, scheme=scheme)
+        page.run("document.getElementById('cell-0-2').focus({ preventScroll: true })")
         picture = page.driver.get_screenshot_as_base64()
         page.driver.save_screenshot(f"{sys.argv[1]}/{name}.png")
         colours = page.run(COLOURS)
@@ -342,7 +380,7 @@ TRIALS = [
     a_corner_is_dragged, a_new_corner_is_dragged, changes_are_undone, faults_are_shown, cells_are_explained,
     an_example_is_opened_by_its_card, an_example_is_opened_by_its_address, every_example_has_a_matrix,
     keys_alone_move_a_corner, keys_alone_draw, shapes_are_drawn_by_clicks, the_wheel_zooms, two_fingers_zoom,
-    a_module_that_stops_is_started_anew, large_shapes_are_quick, pictures_are_as_they_should_be,
+    the_place_of_a_fault_is_drawn, a_module_that_stops_is_started_anew, large_shapes_are_quick, pictures_are_as_they_should_be,
 ]
 
 

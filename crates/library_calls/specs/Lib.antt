@@ -1,4 +1,5 @@
 pub mod Arrays
+pub mod Explained
 pub mod Kept
 pub mod Meeting
 pub mod Numbers

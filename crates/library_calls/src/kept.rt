@@ -139,7 +139,7 @@ pub fn write_text(alloc: Global, geometry: &Valid, room: &mut [u8], size: &mut u
 }
 
 /// Writes a text at the front of the room, if it is enough.
-fn write_front(text: &[u8], room: &mut [u8]) -> u32
+pub(crate) fn write_front(text: &[u8], room: &mut [u8]) -> u32
     ensures text { result ≡ ok → room.new ≡ text.now ++ drop (length text.now) room.old }
     ensures kept { result ≢ ok → room.new ≡ room.old }
     ensures status { result ≡ status_of_room text.now room.old }

@@ -3,6 +3,7 @@
 #![tactic(auto)]
 
 pub mod arrays;
+pub mod explained;
 pub mod faults;
 pub mod kept;
 pub mod meeting;
@@ -11,6 +12,7 @@ pub mod relations;
 pub mod texts;
 
 pub use arrays::read_positions;
+pub use explained::{hand_out, write_reason, write_why};
 pub use faults::{Fault, Refusal};
 pub use kept::{
     dimension_of, write_envelope, write_holds, write_matches, write_matrix, write_place, write_text,

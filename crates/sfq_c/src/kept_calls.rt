@@ -54,7 +54,7 @@ fn read_kept(alloc: Global, text: &[u8]) -> Result<KeptGeometry, Refusal>
     }
 }
 
-fn put_back(whole: Box<Valid>, slot: &mut Slot)
+pub(crate) fn put_back(whole: Box<Valid>, slot: &mut Slot)
     ensures { slot.new.geometry ≡ Some whole.value }
 {
     *slot = Slot::of(KeptGeometry::of(whole));

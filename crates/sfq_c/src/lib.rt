@@ -9,4 +9,5 @@
 
 mod array_calls;
 mod kept_calls;
+mod reason_calls;
 mod text_calls;
