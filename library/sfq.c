@@ -212,6 +212,27 @@ int sfq_relate_many(sfq_geometry *const *first, sfq_geometry *const *second, siz
     return status;
 }
 
+int sfq_relate_points(const int32_t *coordinates, sfq_geometry *const *second, size_t count, char *matrices, size_t *done)
+{
+    sfq_geometry point = SFQ_EMPTY;
+    char matrix[10];
+    int status = SFQ_OK;
+    size_t i;
+    for (i = 0; i < count; i++) {
+        status = sfq_read_positions(SFQ_POINT, coordinates + 2 * i, 1, NULL, 0, NULL, 0, &point, NULL);
+        if (status == SFQ_OK) {
+            status = sfq_relate(&point, second[i], matrix);
+            sfq_free(&point);
+        }
+        if (status != SFQ_OK) {
+            break;
+        }
+        memcpy(matrices + 9 * i, matrix, 9);
+    }
+    *done = i;
+    return status;
+}
+
 int sfq_holds(uint32_t relation, sfq_geometry *first, sfq_geometry *second, bool *answer)
 {
     struct kept one = empty_slot, two = empty_slot;

@@ -166,6 +166,12 @@ int sfq_relate(sfq_geometry *first, sfq_geometry *second, char matrix[10]);
  */
 int sfq_relate_many(sfq_geometry *const *first, sfq_geometry *const *second, size_t count, char *matrices, size_t *done);
 
+/*
+ * The same of points and geometries: of the POINT at the position `i`, an x and a y, and `second[i]`. SFQ_REFUSED ends the call too,
+ * where a coordinate is past the limit.
+ */
+int sfq_relate_points(const int32_t *coordinates, sfq_geometry *const *second, size_t count, char *matrices, size_t *done);
+
 /* Whether a relation of `sfq_relation` holds of two geometries; SFQ_UNKNOWN for any other number. They may be the same. */
 int sfq_holds(uint32_t relation, sfq_geometry *first, sfq_geometry *second, bool *answer);
 

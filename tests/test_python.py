@@ -48,6 +48,12 @@ square = sfq.Geometry("POLYGON((0 0,4 0,4 4,0 4,0 0))")
 places = square.locate_many(numpy.array([[1, 1], [4, 1], [9, 9]], dtype=float))
 print(str(places.tolist()).replace(" ", ""))
 print(sfq.Geometry.from_positions("LineString", numpy.array([[0, 0], [0, 0], [3, 4]], dtype="int16")[::1]))
+print(sfq.relate_many(numpy.array([[1, 1], [9, 9]]), square), sfq.relate_many(numpy.zeros((0, 2)), square))
+print(sfq.relate_many(numpy.array([[1, 1], [9, 9]]), ["POINT(1 1)", square]))
+try:
+    sfq.relate_many(numpy.array([[1, 1], [10**9, 9]]), square)
+except sfq.FaultError as error:
+    print(error.index, error.fault.code)
 for it in ([[1.5, 2]], [[float("nan"), 2]], [1, 2], [[10**12, 1]]):
     try:
         square.locate_many(numpy.array(it))
@@ -163,6 +169,7 @@ class Package(engine_rows.WithLibrary):
     def test_many_pairs(self):
         ones = [sfq.Geometry("POINT(1 1)"), "POINT(4 4)", "POINT(5 5)"]
         self.assertEqual(sfq.relate_many(ones, iter([SQUARE] * 3)), [sfq.relate(it, SQUARE) for it in ones])
+        self.assertEqual(sfq.relate_many(ones, SQUARE), [sfq.relate(it, SQUARE) for it in ones])
         self.assertEqual(sfq.relate_many([], []), [])
         with self.assertRaisesRegex(ValueError, "3 geometries with 2"):
             sfq.relate_many(ones, [SQUARE] * 2)
@@ -223,7 +230,8 @@ class Package(engine_rows.WithLibrary):
     def test_arrays_of_numpy(self):
         ran = subprocess.run([PYTHON, "-c", ARRAYS], capture_output=True, text=True, env=environment(PYTHONPATH=f"{ROOT}/python"))
         self.assertEqual((ran.returncode, ran.stdout), (0, ran.stdout), ran.stderr)
-        self.assertEqual(ran.stdout.split(), ["[0,1,2]", "LINESTRING(0", "0,3", "4)", "GridError", "GridError", "GridError", "ValueError"])
+        self.assertEqual(ran.stdout.split(), ["[0,1,2]", "LINESTRING(0", "0,3", "4)", "['0FFFFF212',", "'FF0FFF212']", "[]",
+                                              "['0FFFFFFF2',", "'FF0FFF212']", "1", "W3", "GridError", "GridError", "GridError", "ValueError"])
 
     def test_coordinates(self):
         for text, wanted in (

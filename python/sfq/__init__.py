@@ -223,15 +223,21 @@ def relate(first: Shape, second: Shape) -> str:
     return _library.relate(*_kept_pair(first, second))
 
 
-def relate_many(first: Iterable[Shape], second: Iterable[Shape]) -> List[str]:
+def relate_many(first: Union[Iterable[Shape], Any], second: Union[Iterable[Shape], Shape]) -> List[str]:
     """Returns the matrix of each pair: of the first of both, the second of both, and so on.
 
-    It is one call of the library for all pairs, beside the reading of texts that weren't read before. ValueError where one has
-    more than the other; FaultError for the first pair that is refused, with its place from 0 in `index`.
+    `first` may be an array of numpy, of n rows of two numbers: these are points. `second` may be one geometry, which is then that of
+    each pair. It is one call of the library for all pairs, beside the reading of texts that weren't read before. ValueError where
+    one has more than the other; FaultError for the first pair that is refused, with its place from 0 in `index`.
     """
-    ones, others = ([_geometry(it)._kept for it in side] for side in (first, second))
+    points = _positions.numpy_of(first)
+    ones = first if points else [_geometry(it)._kept for it in first]
+    alone = isinstance(second, (Geometry, str))
+    others = [_geometry(second)._kept] * len(ones) if alone else [_geometry(it)._kept for it in second]
     if len(ones) != len(others):
         raise ValueError(f"sfq: {len(ones)} geometries with {len(others)}: both have to have as many")
+    if points:
+        return _library.relate_points(_positions.buffer(first)[0], others)
     return _library.relate_many(list(zip(ones, others)))
 
 

@@ -16,7 +16,7 @@ from typing import Callable, List, Optional, Tuple
 
 from ._faults import Fault, FaultError, LibraryError, PositionFault
 
-OK, OUT_OF_MEMORY, UNKNOWN = 0, 3, 4
+OK, REFUSED, OUT_OF_MEMORY, UNKNOWN = 0, 1, 3, 4
 # The types, by the numbers of sfq_type.
 TYPES = ("Point", "LineString", "Polygon", "MultiPoint", "MultiLineString", "MultiPolygon")
 # The relations, by the numbers of sfq_relation.
@@ -76,6 +76,7 @@ def declare(found: ctypes.CDLL) -> ctypes.CDLL:
     sizes, count = ctypes.POINTER(ctypes.c_size_t), ctypes.c_size_t
     found.sfq_read_positions.argtypes = [ctypes.c_uint32, ctypes.c_void_p, count, sizes, count, sizes, count, geometry, fault]
     found.sfq_relate_many.argtypes = [ctypes.c_void_p, ctypes.c_void_p, count, ctypes.c_char_p, sizes]
+    found.sfq_relate_points.argtypes = found.sfq_relate_many.argtypes[:]
     found.sfq_locate_many.argtypes = [geometry, ctypes.c_void_p, count, ctypes.c_void_p, sizes]
     found.sfq_relate.argtypes = [geometry, geometry, ctypes.c_char * 10]
     found.sfq_holds.argtypes = [ctypes.c_uint32, geometry, geometry, ctypes.POINTER(ctypes.c_bool)]
@@ -84,7 +85,8 @@ def declare(found: ctypes.CDLL) -> ctypes.CDLL:
     found.sfq_why.argtypes = [geometry, geometry, *room]
     found.sfq_reason.argtypes = [ctypes.c_char_p, ctypes.c_size_t, *room, fault]
     found.sfq_free.argtypes, found.sfq_free.restype = [geometry], None
-    for name in ("read", "read_positions", "relate", "relate_many", "holds", "text", "locate_many", "why", "reason"):
+    calls = ("read", "read_positions", "relate", "relate_many", "relate_points", "holds", "text", "locate_many", "why", "reason")
+    for name in calls:
         getattr(found, f"sfq_{name}").restype = ctypes.c_int
     return found
 
@@ -204,6 +206,26 @@ def relate_many(pairs) -> List[str]:
     with held(kept for pair in pairs for kept in pair):
         sides = [(ctypes.c_void_p * count)(*(ctypes.addressof(pair[side].geometry) for pair in pairs)) for side in (0, 1)]
         need_ok(library().sfq_relate_many(*sides, count, room, ctypes.byref(done)))
+    return matrices(room, count)
+
+
+def relate_points(coordinates, others) -> List[str]:
+    """Returns the matrix of each point and geometry, by one call. FaultError for the first refused geometry, else for the first point."""
+    for index, kept in enumerate(others):
+        if kept.fault:
+            raise FaultError(kept.fault, "second", index)
+    count = len(others)
+    room, done = ctypes.create_string_buffer(9 * count + 1), ctypes.c_size_t()
+    with held(others):
+        side = (ctypes.c_void_p * count)(*(ctypes.addressof(it.geometry) for it in others))
+        status = library().sfq_relate_points(coordinates, side, count, room, ctypes.byref(done))
+    if status == REFUSED:
+        raise FaultError(PositionFault("W3", 0, 0), "first", done.value)
+    need_ok(status)
+    return matrices(room, count)
+
+
+def matrices(room, count: int) -> List[str]:
     text = room.raw.decode("ascii")
     return [text[at:at + 9] for at in range(0, 9 * count, 9)]
 

@@ -273,6 +273,33 @@ static void print_seen(struct one_call *it)
     print_text(it);
 }
 
+/* The matrix of the point at a position, of which a second one is asked for, has to be that of its text. */
+static void compare_points(struct one_call *it, const int32_t twice[4], int located)
+{
+    sfq_geometry *others[2] = { &it->first, &it->first };
+    char found[19], matrix[10], text[40];
+    size_t done = 9;
+    int status;
+    memset(found, '#', sizeof found);
+    do {
+        status = sfq_relate_points(twice, others, 2, found, &done);
+    } while (again(it, status, done < 2 && found[18] == '#'));
+    if (status != (located == SFQ_OK ? SFQ_OK : SFQ_REFUSED) || done != (located == SFQ_OK ? 2u : 1u) || found[9 * done] != '#') {
+        it->wrong = "the matrices of points";
+        return;
+    }
+    snprintf(text, sizeof text, "POINT(%d %d)", twice[2 * done - 2], twice[2 * done - 1]);
+    if (read_one(it, text, &it->second, &(sfq_fault){ '-', 9, 0, 0 }) != SFQ_OK) {
+        it->wrong = "a point of text";
+        return;
+    }
+    do {
+        status = sfq_relate(&it->second, &it->first, matrix);
+    } while (again(it, status, true));
+    if (memcmp(found + 9 * (done - 1), matrix, 9) != 0)
+        it->wrong = "another matrix of a point";
+}
+
 static void print_place(struct one_call *it, const char *x, const char *y)
 {
     uint32_t place = 9;
@@ -284,6 +311,7 @@ static void print_place(struct one_call *it, const char *x, const char *y)
         it->wrong = "a place was written";
     if (sfq_locate_many(&it->first, twice, 2, places, &done) != status || places[1] != place || done != (status == SFQ_OK ? 2u : 1u))
         it->wrong = "the places of many";
+    compare_points(it, twice, status);
     add(it, status == SFQ_OK ? "%d %u" : "%d", status, (unsigned)place);
 }
 
