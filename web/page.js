@@ -215,7 +215,7 @@ function fraction([n, d]) {
 
 // A point, or two with a word between.
 function spoken(place) {
-  const point = (p) => `(${p.map(fraction).join(", ")})`;
+  const point = (p) => `(${p.map(fraction).join(",\u00a0")})`;
   return typeof place[0][0] === "bigint" ? point(place) : place.map(point).join(" to ");
 }
 

@@ -127,9 +127,9 @@ class Sheet {
     this.svg.replaceChildren();
     this.drawGrid(...this.size);
     this.shapes.forEach((shape, target) => shape && drawShape(this.svg, shape, target, toScreen, this.refused[target]));
+    this.shapes.forEach((shape, target) => shape && !this.tool && this.drawCorners(shape, target));
     this.drawMark();
     this.places.forEach((place) => this.drawPlace(place));
-    this.shapes.forEach((shape, target) => shape && !this.tool && this.drawCorners(shape, target));
     this.drawDraft();
     if (focused) (this.svg.querySelector(`[data-corner="${focused}"]`) || this.svg).focus({ preventScroll: true });
   }
@@ -162,7 +162,9 @@ class Sheet {
     const corners = Shapes.corners(shape);
     if (corners.length > 400) return;
     const name = (corner) => `${target}-${corner.list}-${corner.place}`;
-    for (const corner of Shapes.isPoints(shape) ? [] : corners) {
+    // While a corner is dragged, only what is needed is drawn at each move.
+    const isStill = !this.drag?.corner;
+    for (const corner of Shapes.isPoints(shape) || !isStill ? [] : corners) {
       const next = shape.lists[corner.list][corner.place + 1];
       if (!next) continue;
       const ends = [this.toScreen(corner.position), this.toScreen(next)];
@@ -176,6 +178,7 @@ class Sheet {
       const kind = Shapes.isPoints(shape) ? "corner point" : "corner";
       const it = this.drawDot(corner.position, `${kind} corner-${target}`, 7);
       it.dataset.corner = name(corner);
+      if (!isStill) return;
       it.setAttribute("tabindex", "0");
       it.setAttribute("role", "button");
       it.setAttribute("aria-roledescription", "corner");
@@ -313,8 +316,11 @@ class Sheet {
   }
 
   end() {
-    if (this.drag?.corner) this.calls.settled();
+    const isCorner = Boolean(this.drag?.corner);
     this.drag = null;
+    if (!isCorner) return;
+    this.draw();
+    this.calls.settled();
   }
 
   // ---- new shapes
