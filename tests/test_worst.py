@@ -64,7 +64,7 @@ class Inputs(unittest.TestCase):
 
 
 class Growth(unittest.TestCase):
-    """Each input at a small size and twice that, under valgrind: about a minute."""
+    """Each input at a small size and twice that, under valgrind: about two minutes of one processor."""
 
     ASKS_PROGRAM = True
 
