@@ -217,6 +217,17 @@ class Package(engine_rows.WithLibrary):
                 faults.add(error.fault.code)
         self.assertGreaterEqual(len(faults), 2)
 
+    def test_dimension_emptiness_and_bounds(self):
+        for text, wanted in (
+            ("POINT(3 -4)", (0, False, (3, -4, 3, -4))), ("LINESTRING(0 9,5 1)", (1, False, (0, 1, 5, 9))),
+            ("POLYGON EMPTY", (2, True, None)), (SQUARE, (2, False, (0, 0, 4, 4))),
+        ):
+            shape = sfq.Geometry(text)
+            self.assertEqual((shape.dimension, shape.is_empty, shape.bounds), wanted)
+        for name in ("dimension", "is_empty", "bounds"):
+            with self.assertRaisesRegex(sfq.FaultError, "W1"):
+                getattr(sfq.Geometry("POINT"), name)
+
     def test_places_of_many_positions(self):
         square = sfq.Geometry(SQUARE)
         self.assertEqual(square.locate_many([(1, 1), (4, 1), (-1, 9)]), [0, 1, 2])

@@ -102,6 +102,22 @@ class Geometry:
             self._set("_text", self._kept.canonical() if self.is_valid else self._spelled)
         return self._text
 
+    @property
+    def dimension(self) -> int:
+        """The dimension of the type: 0 of points, 1 of lines, 2 of areas, also where it is empty (06-103r4, 6.1.2.2: Dimension)."""
+        return _library.dimension(self._kept)
+
+    @property
+    def is_empty(self) -> bool:
+        """Whether it is the empty set of points (06-103r4, 6.1.2.2: IsEmpty)."""
+        return _library.is_empty(self._kept)
+
+    @property
+    def bounds(self) -> Optional[Tuple[int, int, int, int]]:
+        """The least x, the least y, the greatest x and the greatest y, as shapely has them; None where it is empty."""
+        found = _library.envelope(self._kept)
+        return found and (found[0], found[2], found[1], found[3])
+
     def __str__(self) -> str:
         return self.text
 

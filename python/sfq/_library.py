@@ -16,7 +16,7 @@ from typing import Callable, List, Optional, Tuple
 
 from ._faults import Fault, FaultError, LibraryError, PositionFault
 
-OK, REFUSED, OUT_OF_MEMORY, UNKNOWN = 0, 1, 3, 4
+OK, REFUSED, OUT_OF_MEMORY, UNKNOWN, NONE = 0, 1, 3, 4, 6
 # The types, by the numbers of sfq_type.
 TYPES = ("Point", "LineString", "Polygon", "MultiPoint", "MultiLineString", "MultiPolygon")
 # The relations, by the numbers of sfq_relation.
@@ -76,6 +76,9 @@ def declare(found: ctypes.CDLL) -> ctypes.CDLL:
     sizes, count = ctypes.POINTER(ctypes.c_size_t), ctypes.c_size_t
     found.sfq_read_positions.argtypes = [ctypes.c_uint32, ctypes.c_void_p, count, sizes, count, sizes, count, geometry, fault]
     found.sfq_relate_many.argtypes = [ctypes.c_void_p, ctypes.c_void_p, count, ctypes.c_char_p, sizes]
+    found.sfq_dimension.argtypes = [geometry, ctypes.POINTER(ctypes.c_uint32)]
+    found.sfq_is_empty.argtypes = [geometry, ctypes.POINTER(ctypes.c_bool)]
+    found.sfq_envelope.argtypes = [geometry, ctypes.c_int32 * 4]
     found.sfq_relate_points.argtypes = found.sfq_relate_many.argtypes[:]
     found.sfq_locate_many.argtypes = [geometry, ctypes.c_void_p, count, ctypes.c_void_p, sizes]
     found.sfq_relate.argtypes = [geometry, geometry, ctypes.c_char * 10]
@@ -85,7 +88,8 @@ def declare(found: ctypes.CDLL) -> ctypes.CDLL:
     found.sfq_why.argtypes = [geometry, geometry, *room]
     found.sfq_reason.argtypes = [ctypes.c_char_p, ctypes.c_size_t, *room, fault]
     found.sfq_free.argtypes, found.sfq_free.restype = [geometry], None
-    calls = ("read", "read_positions", "relate", "relate_many", "relate_points", "holds", "text", "locate_many", "why", "reason")
+    calls = ("read", "read_positions", "relate", "relate_many", "relate_points", "holds", "text", "locate_many", "dimension",
+             "is_empty", "envelope", "why", "reason")
     for name in calls:
         getattr(found, f"sfq_{name}").restype = ctypes.c_int
     return found
@@ -240,6 +244,36 @@ def locate_many(kept: Kept, coordinates, count: int, places) -> None:
     if status == UNKNOWN:
         raise ValueError(f"sfq: position {done.value} is past 10,000,000 either way: scale the coordinates to the grid")
     need_ok(status)
+
+
+def ask_one(kept: Kept, call, found) -> int:
+    """Calls the library with one geometry. FaultError where it is refused."""
+    if kept.fault:
+        raise FaultError(kept.fault)
+    with held((kept,)):
+        return call(ctypes.byref(kept.geometry), found)
+
+
+def dimension(kept: Kept) -> int:
+    found = ctypes.c_uint32()
+    need_ok(ask_one(kept, library().sfq_dimension, ctypes.byref(found)))
+    return found.value
+
+
+def is_empty(kept: Kept) -> bool:
+    found = ctypes.c_bool()
+    need_ok(ask_one(kept, library().sfq_is_empty, ctypes.byref(found)))
+    return found.value
+
+
+def envelope(kept: Kept) -> Optional[Tuple[int, int, int, int]]:
+    """Returns the least x, the greatest x, the least y and the greatest y; None where there are none."""
+    found = (ctypes.c_int32 * 4)()
+    status = ask_one(kept, library().sfq_envelope, found)
+    if status == NONE:
+        return None
+    need_ok(status)
+    return tuple(found)
 
 
 def relate(first: Kept, second: Kept) -> str:

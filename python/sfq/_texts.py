@@ -95,7 +95,7 @@ def whole(value: Any) -> int:
 
 def of_interface(shape: Any) -> str:
     """Returns the text of anything that has `__geo_interface__`, or of such a mapping."""
-    if getattr(shape, "is_empty", False):
+    if getattr(shape, "is_empty", False) and type(shape).__name__ in (*TYPES, "LinearRing"):
         # Some versions of shapely have no __geo_interface__ of an empty point, and no geom_type either.
         found = {"type": type(shape).__name__, "coordinates": ()}
     else:
