@@ -1,14 +1,16 @@
 -- Whole numbers and texts as fields spell them.
-use Rattle.std.proofs.Common.{◌≡◌, ◌&&◌, ◌<◌, ◌==◌, ◌^◌, ℕ, ℤ, pos, negsuc, zero, suc, Bool, true, false, List, [], ◌∷◌, Some, None, Result, Ok, Err, IsUtf8, IsAscii, arith, cond, drop, length, nat_lt, refl}
-use Rattle.std.proofs.lemmas.Bool.{false≢true}
+use Rattle.std.proofs.Common.{◌≡◌, ap, sym, ◌&&◌, ◌<◌, ◌≤◌, ◌+◌, ◌++◌, ◌==◌, ◌^◌, get_or, take, ℕ, ℤ, pos, negsuc, zero, suc, Bool, true, false, List, [], ◌∷◌, Some, None, Result, Ok, Err, IsUtf8, IsAscii, arith, cond, drop, length, nat_lt, refl}
+use Rattle.std.proofs.lemmas.Bool.{false≢true, ne_eqb}
 use Rattle.std.proofs.lemmas.Bool.Decides.{nat_tests}
 use Rattle.std.proofs.lemmas.Fmt.{IsAscii-from_digits}
 use Rattle.std.proofs.lemmas.Str.{IsUtf8-from_ascii, IsUtf8-from_is_utf8, is_utf8-from_IsUtf8}
 use Rattle.std.proofs.lemmas.Str.Parse.{IsNumeralModel, numerals_by_value, tells_all_ascii_digits}
+use Rattle.std.proofs.lemmas.List.{take_more}
+use Rattle.std.specs.Char.{is_ascii_digit}
 use Rattle.std.specs.Int.{w64}
 use Rattle.std.specs.Result.{result_ok}
 use Rattle.std.specs.Str.{all_ascii_digits, is_utf8}
-use Rattle.std.specs.Str.Parse.{IsNumeral, ParsesSigned, digits_value, signed_digits_value, without_leading_sign}
+use Rattle.std.specs.Str.Parse.{IsNumeral, ParsesSigned, digits_value, signed_digits_value, starts_with_minus, without_leading_plus, without_leading_sign}
 use Rattle.std.specs.Prelude.{FitsSigned}
 use Rattle.table_model.specs.Loading.{GeometryReader, filled_value, fits_64_bits, is_number, number_in, value_of}
 use Rattle.table_model.specs.declared.definitions.ColumnType.{ColumnType}
@@ -40,6 +42,14 @@ number-true : (text : List ℕ) → IsNumeral 10 (without_leading_sign text) × 
 number-true text h =
     rw (lt-true 0 (length (without_leading_sign text)) h.0.0, numerals.from (without_leading_sign text) h.0.1, fits-true (signed_digits_value 10 text) h.1) refl
 
+and-two : (a b : Bool) → (a && b) ≡ true → (a ≡ true) × (b ≡ true)
+and-two true true h = (refl, refl)
+and-two true false h = absurd (false≢true h)
+and-two false b h = absurd (false≢true h)
+
+digit-low : (c : ℕ) → is_ascii_digit c ≡ true → 48 ≤ c
+digit-low c d = grind (arith, nat_tests)
+
 and-both : (a b c : Bool) → (a && (b && c)) ≡ true → (a ≡ true) × (b ≡ true) × (c ≡ true)
 and-both true true true h = (refl, refl, refl)
 and-both true true false h = absurd (false≢true h)
@@ -52,6 +62,35 @@ true-number text h =
     let digits = without_leading_sign text in
     let parts = and-both (nat_lt 0 (length digits)) (all_ascii_digits digits) (fits_64_bits (signed_digits_value 10 text)) h in
     ((true-lt 0 (length digits) parts.0, numerals.to digits parts.1), true-fits (signed_digits_value 10 text) parts.2)
+
+-- one more digit
+pub digits-more : (text : List ℕ) (i : ℕ) → i < length text → all_ascii_digits (take i text) ≡ true → is_ascii_digit (get_or text i 0) ≡ true
+    → all_ascii_digits (take (i + 1) text) ≡ true
+digits-more text i lt digits digit = rw (take_more text i 0 lt) (pushed (take i text) (get_or text i 0) digits digit)
+  where
+    pushed : (xs : List ℕ) (c : ℕ) → all_ascii_digits xs ≡ true → is_ascii_digit c ≡ true → all_ascii_digits (xs ++ c ∷ []) ≡ true
+    pushed [] c a d = rw d refl
+    pushed (x ∷ xs) c a d = let parts = and-two (is_ascii_digit x) (all_ascii_digits xs) a in rw parts.0 (pushed xs c parts.1 d)
+
+-- what is digits alone is a number without a sign
+digits-unsigned : (c : ℕ) (cs : List ℕ) → is_ascii_digit c ≡ true → (starts_with_minus (c ∷ cs) ≡ false) × (without_leading_plus (c ∷ cs) ≡ c ∷ cs)
+digits-unsigned c cs d =
+    let low : 48 ≤ c = digit-low c d in
+    let minus : (c == 45) ≡ false = ne_eqb c 45 (λ e. omega (arith, e)) in
+    let plus : (c == 43) ≡ false = ne_eqb c 43 (λ e. omega (arith, e)) in
+    (minus, rw plus refl)
+
+pub digits-number : (text : List ℕ) (n : ℕ) → (length text == 0) ≡ false → all_ascii_digits text ≡ true → n ≡ digits_value 10 text → n < 2 ^ 63
+    → number_in text ≡ Some (pos n)
+digits-number [] n some digits value fits = cc
+digits-number (c ∷ cs) n some digits value fits =
+    let text : List ℕ = c ∷ cs in
+    let unsigned = digits-unsigned c cs (and-two (is_ascii_digit c) (all_ascii_digits cs) digits).0 in
+    let signed : signed_digits_value 10 text ≡ pos n = rw (unsigned.0, unsigned.1) (ap pos (sym value)) in
+    let filled : 0 < length text = omega arith in
+    let numeral : IsNumeral 10 (without_leading_sign text) = rw (unsigned.0, unsigned.1) (filled, numerals.to text digits) in
+    let within : FitsSigned w64 (signed_digits_value 10 text) = rw signed (record { sfits = fits }) in
+    rw (number-true text (numeral, within), signed) refl
 
 -- what `parse` answers
 pub parsed : {E : Type 0} (text : List ℕ) (r : Result ℤ E) → ParsesSigned w64 10 text r → result_ok r ≡ number_in text

@@ -1,6 +1,7 @@
 //! The value of a field.
 
-ghost use Rattle.std.specs.Prelude.{◌≡◌, ◌≤◌, IfErr, drop, false, length, reverse};
+ghost use Rattle.std.specs.Prelude.{◌≡◌, ◌≤◌, ◌<◌, IfErr, IfSome, OnSome, Some, drop, false, length, reverse, true};
+ghost use Rattle.std.specs.Char.{digit_value, is_ascii_digit};
 ghost use Rattle.std.specs.List.{prefix_len};
 ghost use Rattle.loaded_tables.specs.Outcomes.{is_of_reading};
 ghost use Rattle.loaded_tables.specs.GeometryFields.{reading};
@@ -15,6 +16,9 @@ use std::str;
 use table_model::faults::LoadFault;
 use table_model::texts::OwnedText;
 use table_model::values::Value;
+
+/// Ten times this number, and a digit more, are within the 64 bits of a number with a sign.
+const GREATEST_TENTH: u64 = 922_337_203_685_477_579;
 
 /// Whether a byte is a blank, which may be around a number: a space or a tab.
 fn is_blank(byte: u8) -> bool
@@ -58,8 +62,48 @@ fn trimmed(field: &[u8]) -> &[u8]
     &rest[..rest.len() - blanks_at_end(rest)]
 }
 
-/// The whole number that a text writes, if it writes one of 64 bits.
+/// The value of a digit.
+fn digit_of(byte: u8) -> Option<u64>
+    ensures digit { OnSome result (is_ascii_digit byte ≡ true) }
+    ensures value { IfSome result (λ d. d ≡ digit_value byte) }
+    ensures below { IfSome result (λ d. d < 10) }
+{
+    if byte < b'0' || byte > b'9' {
+        return None;
+    }
+    Some((byte - b'0') as u64)
+}
+
+/// The whole number that digits write. None if there are other bytes, or if the number may have more than 64 bits.
+fn digits_in(text: &[u8]) -> Option<i64>
+    ensures { IfSome result (λ n. spec.number_in text.now ≡ Some n) }
+{
+    if text.is_empty() {
+        return None;
+    }
+    let mut number: u64 = 0;
+    for byte in text {
+        let digit = digit_of(*byte)?;
+        if number > GREATEST_TENTH {
+            return None;
+        }
+        number = 10 * number + digit;
+    }
+    Some(number as i64)
+}
+
+/// The whole number that a text writes, if it writes one of 64 bits. Most texts are digits alone.
 fn number_in(text: &[u8]) -> Option<i64>
+    ensures { result ≡ spec.number_in text.now }
+{
+    if let Some(number) = digits_in(text) {
+        return Some(number);
+    }
+    parsed_number(text)
+}
+
+/// The same of any text.
+fn parsed_number(text: &[u8]) -> Option<i64>
     ensures { result ≡ spec.number_in text.now }
 {
     match str::from_utf8(text) {

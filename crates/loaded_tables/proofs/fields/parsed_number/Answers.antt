@@ -1,6 +1,6 @@
 use Rattle.std.proofs.Common.{◌∙◌}
 use Rattle.loaded_tables.proofs.FieldLemmas.{no_number, parsed}
-use Rattle.loaded_tables.proofs.fields.number_in.Goals as goal
+use Rattle.loaded_tables.proofs.fields.parsed_number.Goals as goal
 
 pub returns-in-Ok : goal.returns-in-Ok
 returns-in-Ok c = c.ok.ensures.value ∙ parsed c.args.text.now c.parse.result (rw c.in-Ok.ensures.cases.0 at c.parse.ensures.value.0)
