@@ -1,16 +1,21 @@
 # Completion of sfq for bash.
 _sfq() {
-    local word=${COMP_WORDS[COMP_CWORD]} command=${COMP_WORDS[1]-}
+    local word=${COMP_WORDS[COMP_CWORD]} command=${COMP_WORDS[1]-} place=$COMP_CWORD
     COMPREPLY=()
     if ((COMP_CWORD == 1)); then
         mapfile -t COMPREPLY < <(compgen -W 'run check relate why pairs fault help -h --help -V --version' -- "$word")
         return
     fi
     if [[ $word == -* ]]; then
-        mapfile -t COMPREPLY < <(compgen -W '-h --help' -- "$word")
+        local flags='-h --help'
+        [[ $command == check ]] && flags+=' --why'
+        mapfile -t COMPREPLY < <(compgen -W "$flags" -- "$word")
         return
     fi
-    case $command:$COMP_CWORD in
+    if [[ $command == check && " ${COMP_WORDS[*]:2:COMP_CWORD-2} " == *' --why '* ]]; then
+        ((place--))
+    fi
+    case $command:$place in
     run:2 | check:2)
         compopt -o filenames
         mapfile -t COMPREPLY < <(compgen -f -X '!*.sql' -- "$word"; compgen -d -- "$word")

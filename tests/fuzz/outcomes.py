@@ -15,6 +15,16 @@ LINES = {
     6: rf"schema unreadable|{NAME} (?:L11|unreadable)",
 }
 LINES = {status: re.compile(f"sfq: (?:{lines})\n".encode()) for status, lines in LINES.items()}
+# The second line that `check --why` may add, by the code of the first.
+REASONS = {
+    "L1": rf"column {NAME} isn't in the header",
+    "L2": rf"column {NAME} is in the header more than once",
+    "L3": r"the record has \d+ fields, the header \d+",
+    "L5": rf"column {NAME}: \".*\" isn't a whole number of 64 bits",
+    "L6": rf"column {NAME}: V\d [ \d]+: .*",
+    "L7": rf"column {NAME} has a [A-Z]+, not a [A-Z]+",
+}
+REASONS = {code: re.compile(f"sfq: (?:{text})\n".encode(), re.DOTALL) for code, text in REASONS.items()}
 MISUSE, REFUSED = 2, 5
 # The statuses of faults of each command.
 STATUSES = {b"run": (3, 4, 5, 6), b"check": (3, 4, 6), b"relate": (5, 6), b"why": (5, 6), b"pairs": (4, 5, 6), b"fault": (2,)}
@@ -56,8 +66,19 @@ def fault_status(line):
     return next((status for status, form in LINES.items() if form.fullmatch(line)), None)
 
 
+def without_reason(err, words):
+    """Returns standard error without the second line that `check --why` may add."""
+    if words[:1] != [b"check"] or b"--why" not in words:
+        return err
+    first, _, rest = err.partition(b"\n")
+    code = re.match(rb"sfq: \w+ (L\d+)", first)
+    reason = REASONS.get(code[1].decode()) if code else None
+    return first + b"\n" if reason and reason.fullmatch(rest) else err
+
+
 def wrong_outcome(ran, words):
     """Returns what is wrong with the status and the two streams of a run of sfq with these words, or None."""
+    ran = ran._replace(err=without_reason(ran.err, words))
     if ran.status is None:
         return "it didn't end"
     if ran.status < 0:

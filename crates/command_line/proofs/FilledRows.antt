@@ -1,4 +1,4 @@
--- Where the only flags of a command ask for help, each row of its matches has a value.
+-- Where each flag of a command asks for help or has a word that stands for it, each row of its matches has a value.
 use Rattle.std.proofs.Common.{◌≡◌, ℕ, zero, suc, Bool, true, false, not, ◌&&◌, ◌||◌, cond, List, [], ◌∷◌, ◌++◌, length, drop, Option, Some, None, is_some, IsSome, refl, sym, true≢false}
 use Rattle.std.specs.Prelude.{⊤, encode_utf8, find, fold, slice_get}
 use Rattle.std.specs.List.{list_all}
@@ -7,7 +7,7 @@ use Rattle.std.specs.Str.{bytes_eq, chars}
 use Rattle.clap.specs.Lexer.{long_of, short_of}
 use Rattle.clap.specs.Walk.{Held, Names, Outcome, done, waits, plain, refused, Row, Rule, Step, next, trailing, subcommand, value, Text, Waiting, idle, option, positional, Walk}
 use Rattle.clap.specs.Walk.{action_of, after_flag, after_step, arg_by_id, arg_by_index, arg_by_long, arg_by_short, at_row, attached_value, bundle_met, bundle_step, default_rows, first_of, has_long, has_row, has_short}
-use Rattle.clap.specs.Walk.{flag_met, is_pending, long_met, long_or_other, more_values, nothing_held, option_met, option_word, plain_word, pushed, reacted, reading_by, rows_after, settled, settled_rows, short_met, short_or_plain, started, subcommand_met, subcommand_or_other, takes_several, takes_values, to_positional, used, used_as, used_by_id, values_or_missing, walk, walk_from, walked, walked_from, with_default, with_values, without, word_met}
+use Rattle.clap.specs.Walk.{flag_met, is_pending, long_met, long_or_other, more_values, nothing_held, option_met, option_word, plain_word, pushed, reacted, reading_by, rows_after, settled, settled_rows, short_met, short_or_plain, started, subcommand_met, subcommand_or_other, takes_several, takes_values, to_positional, used, used_as, used_by_id, walk, walk_from, walked, walked_from, with_default, with_values, without, word_met}
 use Rattle.clap.specs.declared.builder.action.ArgAction.{ArgAction}
 use Rattle.clap.specs.declared.builder.action.ArgAction.TheVariants as action
 use Rattle.clap.specs.declared.builder.value_parser.Reading.{Reading}
@@ -96,28 +96,33 @@ settled-filled c h fine = go h.pending fine.1
 
 -- ---- flags
 
--- the argument takes a place, or asks for help
+-- the argument asks for help
 abbrev asks_help : ArgAction → Bool
 asks_help action.Help = true
 asks_help _ = false
 
-abbrev pub is_placed_or_help : Rule → Bool
-is_placed_or_help a = is_some a.index || (not (takes_values a) && asks_help (action_of a))
+-- the argument asks for help, or has a word that stands for it
+abbrev has_word : Rule → Bool
+has_word a = asks_help (action_of a) || is_some (slice_get a.missing 0)
 
--- the argument, where there is one, asks for help
-abbrev AsksHelp : Option Rule → Type 0
-AsksHelp None = ⊤
-AsksHelp (Some a) = (not (takes_values a) && asks_help (action_of a)) ≡ true
+-- the argument takes a place, asks for help, or has a word that stands for it
+abbrev pub is_placed_or_worded : Rule → Bool
+is_placed_or_worded a = is_some a.index || (not (takes_values a) && has_word a)
 
--- where each argument takes a place or asks for help, one that is found by a flag takes none, so it asks for help
-flag-asks : (test : Rule → Bool) (c : List Rule) → list_all is_placed_or_help c ≡ true → AsksHelp (find (λ a. not (is_some a.index) && test a) c)
+-- the argument, where there is one, asks for help or has such a word
+abbrev HasWord : Option Rule → Type 0
+HasWord None = ⊤
+HasWord (Some a) = (not (takes_values a) && has_word a) ≡ true
+
+-- where each argument is one of these, one that is found by a flag takes no place, so it asks for help or has a word
+flag-asks : (test : Rule → Bool) (c : List Rule) → list_all is_placed_or_worded c ≡ true → HasWord (find (λ a. not (is_some a.index) && test a) c)
 flag-asks test [] h = tt
-flag-asks test (a ∷ rest) h = go (is_some a.index) (test a) (not (takes_values a) && asks_help (action_of a)) refl (flag-asks test rest) h
+flag-asks test (a ∷ rest) h = go (is_some a.index) (test a) (not (takes_values a) && has_word a) refl (flag-asks test rest) h
   where
-    go : (placed named help : Bool) → (not (takes_values a) && asks_help (action_of a)) ≡ help
-        → (list_all is_placed_or_help rest ≡ true → AsksHelp (find (λ b. not (is_some b.index) && test b) rest))
-        → ((placed || help) && list_all is_placed_or_help rest) ≡ true
-        → AsksHelp (cond (not placed && named) (Some a) (find (λ b. not (is_some b.index) && test b) rest))
+    go : (placed named help : Bool) → (not (takes_values a) && has_word a) ≡ help
+        → (list_all is_placed_or_worded rest ≡ true → HasWord (find (λ b. not (is_some b.index) && test b) rest))
+        → ((placed || help) && list_all is_placed_or_worded rest) ≡ true
+        → HasWord (cond (not placed && named) (Some a) (find (λ b. not (is_some b.index) && test b) rest))
     go true named help is later h = later h
     go false named false is later h = absurd (true≢false (sym h))
     go false true true is later h = is
@@ -140,12 +145,22 @@ both : (a b : Bool) → (not a && b) ≡ true → (a ≡ false) × (b ≡ true)
 both true b h = absurd (true≢false (sym h))
 both false b h = (refl, h)
 
--- so a flag that asks for help leaves each row with a value
-reacted-filled : (c : List Rule) (a : Rule) (h : Held) → asks_help (action_of a) ≡ true → HeldFilled h → HeldFilled (reacted c a [] h)
-reacted-filled c a h asks fine = (unused (action_of a) a.id (reading_by a) (values_or_missing a []) (settled c h).rows asks (settled-filled c h fine), tt)
+-- a use without values of an argument that asks for help or has a word
+worded : (act : ArgAction) (id : Text) (how : Reading) (missing : List Text) (rows : List Row) → (asks_help act || is_some (slice_get missing 0)) ≡ true
+    → Filled rows → Filled (used_as act id how missing rows)
+worded act id how [] rows has h = go (asks_help act) refl has
+  where
+    go : (asks : Bool) → asks_help act ≡ asks → (asks || false) ≡ true → Filled (used_as act id how [] rows)
+    go true is has = unused act id how [] rows is h
+    go false is has = absurd (true≢false (sym has))
+worded act id how (v ∷ vs) rows has h = used-filled act id how v vs rows h
 
--- a long flag leaves each row with a value, since what it names asks for help
-long-filled : (c : List Rule) (found : Option Rule) (v : Option Text) (h : Held) → AsksHelp found → HeldFilled h → HeldFilled (long_met c found v h).0
+-- so such a flag leaves each row with a value
+reacted-filled : (c : List Rule) (a : Rule) (h : Held) → has_word a ≡ true → HeldFilled h → HeldFilled (reacted c a [] h)
+reacted-filled c a h has fine = (worded (action_of a) a.id (reading_by a) a.missing (settled c h).rows has (settled-filled c h fine), tt)
+
+-- a long flag leaves each row with a value, since what it names asks for help or has a word
+long-filled : (c : List Rule) (found : Option Rule) (v : Option Text) (h : Held) → HasWord found → HeldFilled h → HeldFilled (long_met c found v h).0
 long-filled c None v h asks fine = fine
 long-filled c (Some a) v h asks fine = go (takes_values a) v (both _ _ asks).0
   where
@@ -155,7 +170,7 @@ long-filled c (Some a) v h asks fine = go (takes_values a) v (both _ _ asks).0
     go false None isnt = reacted-filled c a h (both _ _ asks).1 fine
 
 -- and so does a short flag, with what comes after it in its word
-short-filled : (c : List Rule) (found : Option Rule) (rest : Text) (h : Held) (then : Held → Held × Outcome) → AsksHelp found → HeldFilled h
+short-filled : (c : List Rule) (found : Option Rule) (rest : Text) (h : Held) (then : Held → Held × Outcome) → HasWord found → HeldFilled h
     → ((k : Held) → HeldFilled k → HeldFilled (then k).0) → HeldFilled (short_met c found rest h then).0
 short-filled c None rest h then asks fine more = fine
 short-filled c (Some a) rest h then asks fine more = go (takes_values a) (both _ _ asks).0
@@ -166,7 +181,7 @@ short-filled c (Some a) rest h then asks fine more = go (takes_values a) (both _
 
 -- ---- the walk
 
-module _ (c : List Rule) (flags : list_all is_placed_or_help c ≡ true) where
+module _ (c : List Rule) (flags : list_all is_placed_or_worded c ≡ true) where
   bundle-filled : (k : ℕ) (text : Text) (skip : ℕ) (so_far : Outcome) (h : Held) → HeldFilled h → HeldFilled (bundle_met c k text skip so_far h).0
   unfolding bundle_met
   bundle-filled zero text skip so_far h fine = fine

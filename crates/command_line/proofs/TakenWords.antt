@@ -18,7 +18,7 @@ use Rattle.clap.specs.Walk.{after_flag, after_step, answers_to, arg_by_index, fi
 use Rattle.clap.specs.declared.error.kind.ErrorKind.TheVariants.{DisplayHelp, InvalidSubcommand}
 use Rattle.command_words.specs.CommandWords.{check, fault, pairs, relate, run, sfq, why}
 use Rattle.command_line.specs.Orders.{HasCheckWords, HasFaultWords, HasPairsWords, HasRelateWords, HasRunWords, HasWhyWords, HasWords}
-use Rattle.command_line.proofs.FilledRows.{first-filled, is_placed_or_help, rows-filled}
+use Rattle.command_line.proofs.FilledRows.{first-filled, is_placed_or_worded, rows-filled}
 
 -- no kind comes of either step
 halves : (a b : Kinds) → or_else a b ≡ [] → (a ≡ []) × (b ≡ [])
@@ -148,7 +148,7 @@ abbrev help_leaf : Shape
 help_leaf = built_leaf (inherited above help_shape)
 
 -- a word that is required has a value in the rows of a level that passes
-word-there : (c : List Rule) (words : List Text) (id : Text) → list_all is_placed_or_help c ≡ true → is_given id (rows_after c [] words) ≡ true
+word-there : (c : List Rule) (words : List Text) (id : Text) → list_all is_placed_or_worded c ≡ true → is_given id (rows_after c [] words) ≡ true
     → IsSome (first_of id (rows_after c [] words))
 word-there c words id flags given = first-filled id (rows_after c [] words) (rows-filled c flags [] words) (given-found id (rows_after c [] words) given)
 

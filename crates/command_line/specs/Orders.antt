@@ -1,5 +1,6 @@
 -- Which order the words of a command line give, by `clap`'s own definition of what matches a command.
-use Rattle.std.specs.Prelude.{◌≡◌, ◌⊎◌, List, Option, Some, codes, option_map, IsSome}
+use Rattle.std.specs.Prelude.{◌≡◌, ◌⊎◌, Bool, false, List, Option, Some, None, codes, option_map, IsSome}
+use Rattle.std.specs.Str.{bytes_eq}
 use Rattle.std.specs.String.{string_bytes}
 use Rattle.clap.specs.Words.{Row, Text, first_of, subcommand_of}
 use Rattle.command_words.specs.CommandWords.{sfq}
@@ -9,21 +10,27 @@ use Rattle.command_line.specs.declared.known_commands.Order.TheVariants as order
 -- the name of the order's subcommand
 abbrev pub name_of : Order → Text
 name_of (order.Run schema directory query) = codes "run"
-name_of (order.Check schema directory) = codes "check"
+name_of (order.Check schema directory why) = codes "check"
 name_of (order.Relate first second) = codes "relate"
 name_of (order.Why first second) = codes "why"
 name_of (order.Pairs file) = codes "pairs"
 name_of (order.Fault code) = codes "fault"
 
--- each text of the order is the word in its place, and a word that may be missing is there exactly if its text is
+-- whether a flag is there, by the word that `clap` has of it: `true`, else `false`
+abbrev pub is_set : Option Text → Bool
+is_set None = false
+is_set (Some word) = bytes_eq word (codes "true")
+
+-- each text of the order is the word in its place, and a word that may be missing is there exactly if its text is; so is a flag
 abbrev pub HasTextsOf : List Row → Order → Type 0
 HasTextsOf rows (order.Run schema directory query) =
     (first_of (codes "schema") rows ≡ Some (string_bytes schema))
     × (first_of (codes "directory") rows ≡ Some (string_bytes directory))
     × (first_of (codes "query") rows ≡ Some (string_bytes query))
-HasTextsOf rows (order.Check schema directory) =
+HasTextsOf rows (order.Check schema directory why) =
     (first_of (codes "schema") rows ≡ Some (string_bytes schema))
     × (first_of (codes "directory") rows ≡ Some (string_bytes directory))
+    × (why ≡ is_set (first_of (codes "why") rows))
 HasTextsOf rows (order.Relate first second) =
     (first_of (codes "first") rows ≡ Some (string_bytes first))
     × (first_of (codes "second") rows ≡ Some (string_bytes second))

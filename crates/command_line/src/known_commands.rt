@@ -18,6 +18,8 @@ pub enum Order {
         schema: String,
         /// The path of the directory that holds one CSV file a table.
         directory: String,
+        /// Whether to say what is wrong where a table has a fault.
+        why: bool,
     },
     /// Relate two geometries by their DE-9IM matrix.
     Relate {

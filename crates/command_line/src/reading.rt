@@ -5,7 +5,7 @@ ghost use Rattle.std.specs.String.{string_bytes};
 ghost use Rattle.clap.specs.Walk.{texts};
 ghost use Rattle.clap.specs.Words.{rows_of, found_of, first_value, subcommand_rows_of, takes, fault_of, kind_of, HasKind};
 ghost use Rattle.command_words.specs.CommandWords.{sfq};
-ghost use Rattle.command_line.specs.Orders.{Orders, OrdersBy, HasWords, HasTextsOf, HasRunWords, HasCheckWords, HasRelateWords, HasWhyWords, HasPairsWords, HasFaultWords, name_of};
+ghost use Rattle.command_line.specs.Orders.{Orders, OrdersBy, HasWords, HasTextsOf, HasRunWords, HasCheckWords, HasRelateWords, HasWhyWords, HasPairsWords, HasFaultWords, is_set, name_of};
 
 use crate::known_commands::Order;
 use crate::misuse::Misuse;
@@ -88,7 +88,7 @@ fn read_run(alloc: Global, run: &ArgMatches<'_>) -> Result<Option<Order>, AllocE
     }))
 }
 
-/// The order that the two words of `check` give, if they are there.
+/// The order that the two words and the flag of `check` give, if the words are there.
 fn read_check(alloc: Global, check: &ArgMatches<'_>) -> Result<Option<Order>, AllocError>
     ensures name { IfOk result (λ r. IfSome r (λ o. name_of o ≡ codes "check")) }
     ensures some { IfOk result (λ r. IfSome r (HasTextsOf (rows_of (found_of check.now)))) }
@@ -100,7 +100,12 @@ fn read_check(alloc: Global, check: &ArgMatches<'_>) -> Result<Option<Order>, Al
     let Some(directory) = text_of(alloc, check, "directory")? else {
         return Ok(None);
     };
-    Ok(Some(Order::Check { schema, directory }))
+    let why = flag_of(check, "why");
+    Ok(Some(Order::Check {
+        schema,
+        directory,
+        why,
+    }))
 }
 
 /// The order that the two words of `relate` give, if they are there.
@@ -162,5 +167,15 @@ fn text_of(alloc: Global, matches: &ArgMatches<'_>, id: &str) -> Result<Option<S
     match matches.get_str(id) {
         Some(text) => Ok(Some(String::from_str(alloc, text)?)),
         None => Ok(None),
+    }
+}
+
+/// Whether the flag of this name is there. Its word is then `true`.
+fn flag_of(matches: &ArgMatches<'_>, id: &str) -> bool
+    ensures { result ≡ is_set (first_value (found_of matches.now) id.now) }
+{
+    match matches.get_str(id) {
+        Some(text) => text == "true",
+        None => false,
     }
 }

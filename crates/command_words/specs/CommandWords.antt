@@ -1,5 +1,6 @@
 -- The commands of `sfq` and their words, as `clap` knows them.
-use Rattle.std.specs.Prelude.{true, codes}
+use Rattle.std.specs.Prelude.{Some, true, codes}
+use Rattle.clap.specs.declared.builder.action.ArgAction.TheVariants.{SetTrue}
 use Rattle.clap.specs.Words.{App, Rule, Text, new_app, new_rule, with_rule, with_subcommand}
 use Rattle.clap.specs.Simple.{on_top}
 
@@ -11,14 +12,19 @@ required_word id = record (new_rule id) { required = true; value_names = 1 }
 abbrev pub optional_word : Text → Rule
 optional_word id = record (new_rule id) { value_names = 1 }
 
+-- a flag that is there or not, by its long name
+abbrev pub flag : Text → Rule
+flag id = record (new_rule id) { long = Some id; action = Some SetTrue }
+
 -- `run SCHEMA DIR QUERY`
 abbrev pub run : App
 run = with_rule (with_rule (with_rule (new_app (codes "run")) (required_word (codes "schema")))
     (required_word (codes "directory"))) (required_word (codes "query"))
 
--- `check SCHEMA DIR`
+-- `check SCHEMA DIR`, with the flag `--why`
 abbrev pub check : App
-check = with_rule (with_rule (new_app (codes "check")) (required_word (codes "schema"))) (required_word (codes "directory"))
+check = with_rule (with_rule (with_rule (new_app (codes "check")) (required_word (codes "schema")))
+    (required_word (codes "directory"))) (flag (codes "why"))
 
 -- `relate WKT WKT`
 abbrev pub relate : App

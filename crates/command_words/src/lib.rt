@@ -4,9 +4,9 @@
 
 ghost use Rattle.std.specs.Prelude.{◌≡◌, false, codes, IfOk, IsOkAnd};
 ghost use Rattle.clap.specs.Words.{app_of, rule_of, with_rule, AddsSubcommand};
-ghost use Rattle.command_words.specs.CommandWords.{optional_word, required_word, bare_sfq, check, fault, pairs, relate, run, sfq, why};
+ghost use Rattle.command_words.specs.CommandWords.{flag, optional_word, required_word, bare_sfq, check, fault, pairs, relate, run, sfq, why};
 
-use clap::{Arg, Command};
+use clap::{Arg, ArgAction, Command};
 use std::alloc::{AllocError, Global};
 
 /// What `--version` prints.
@@ -128,19 +128,31 @@ fn run_command<'a>(alloc: Global) -> Result<Command<'a>, AllocError>
 
 /// What the help of `check` shows below its words.
 const CHECKING: &str = "\
-Example, in a checkout:
+Examples, in a checkout:
   sfq check examples/parcels/schema.sql examples/parcels
+  sfq check --why examples/parcels/schema.sql examples/parcels
 
 Statuses: 0 done, 3 the schema, 4 a table, 6 a file or the output, 7 out of memory.
 docs/FAULTS.md and man sfq explain each fault.";
 
-/// `check SCHEMA DIR`
+/// The flag that asks for the reason of a fault.
+fn why_flag<'a>(alloc: Global) -> Arg<'a>
+    ensures rule { rule_of result ≡ flag (codes "why") }
+    ensures local { result.global ≡ false }
+{
+    Arg::new(alloc, "why")
+        .long("why")
+        .action(ArgAction::SetTrue)
+        .help("Reads the table of a fault again, and says what is wrong there")
+}
+
+/// `check SCHEMA DIR`, with the flag `--why`
 fn check_command<'a>(alloc: Global) -> Result<Command<'a>, AllocError>
     ensures { IfOk result (λ c. app_of c ≡ check) }
 {
     let about = "Loads every table and lists how many rows each has";
     let check = Command::new(alloc, "check").about(about);
-    with_places(alloc, check.after_help(CHECKING))
+    with_places(alloc, check.after_help(CHECKING))?.arg(why_flag(alloc))
 }
 
 /// The word that is the first geometry.

@@ -1,5 +1,5 @@
 -- What each command means: the texts of the outcomes, the files that are opened, and the ends that there may be.
-use Rattle.std.specs.Prelude.{◌≡◌, ◌++◌, ◌<◌, ◌⊎◌, ⊤, ℕ, List, [], ◌∷◌, codes, decimal, length, map, take, slice_get, Option, Some, None, Result, Ok, Err}
+use Rattle.std.specs.Prelude.{◌≡◌, ◌++◌, ◌<◌, ◌⊎◌, ⊤, ℕ, Bool, true, false, List, [], ◌∷◌, codes, decimal, length, map, take, slice_get, Option, Some, None, Result, Ok, Err}
 use Rattle.std.specs.Fn.{CalledAt, Mut}
 use denote.Ref.{Bor}
 use Rattle.command_line.specs.declared.known_commands.Order.{Order}
@@ -10,6 +10,9 @@ use Rattle.failures.specs.declared.run_fault.Fault.{Fault}
 use Rattle.failures.specs.declared.run_fault.Fault.TheVariants as faults
 use Rattle.feature_table.specs.Tables.{EachRecordsOf, EarlierLoad}
 use Rattle.query_runs.specs.Runs.{Runs, RunsOver}
+use Rattle.record_reasons.specs.ReasonTexts.{reason_line}
+use Rattle.record_reasons.specs.Reasons.{IsReasonOf}
+use Rattle.record_reasons.specs.declared.reason.Reason.{Reason}
 use Rattle.std.specs.String.{string_bytes}
 use Rattle.table_model.specs.Databases.{load_tables}
 use Rattle.table_model.specs.GeometryColumns.{ColumnShape, read_geometry, shape_named}
@@ -17,10 +20,12 @@ use Rattle.table_model.specs.Loading.{Record}
 use Rattle.table_model.specs.RunOutcomes.{OfTable, Refusal, after}
 use Rattle.table_model.specs.SchemaReading.{schema_of}
 use Rattle.table_model.specs.SpatialTables.{SpatialSchema, SpatialTable}
+use Rattle.table_model.specs.Texts.{same_name}
 use Rattle.table_model.specs.declared.definitions.TableDef.{TableDef}
+use Rattle.table_model.specs.declared.faults.LoadFault.{LoadFault}
 use Rattle.table_model.specs.declared.faults.SchemaFault.{SchemaFault}
 use Rattle.table_model.specs.declared.faults.SchemaFault.TheVariants as s
-use Rattle.text_commands.specs.Ends.{End, Then, failed_writes}
+use Rattle.text_commands.specs.Ends.{End, Serves, Then, Writes, failed_writes}
 use Rattle.text_commands.specs.Reasons.{ExplainsCells, ExplainsValidity}
 use Rattle.text_commands.specs.TextCommands.{ExplainsFault, OverWord, RelatesFile, RelatesWords}
 use Rattle.word_texts.specs.GivenTexts.{IsTextOf, ReadsQuery}
@@ -174,12 +179,82 @@ module _ {F R S : Type 0} (g : Mut F (Bor (List ℕ) × Unit {0}) (Option R)) (r
   abbrev pub ChecksFiles : F → List ℕ → List ℕ → End → Type 0
   ChecksFiles opener schema directory end = OverFiles g remaining opener schema (λ next. ChecksTables next directory) end (new ≡ old)
 
-  -- doing what an order says ends so
-  abbrev pub EndsOf : F → Order → End → Type 0
-  EndsOf opener (orders.Run schema directory query) end = RunsQuery opener (string_bytes schema) (string_bytes directory) (string_bytes query) end
-  EndsOf opener (orders.Check schema directory) end = ChecksFiles opener (string_bytes schema) (string_bytes directory) end
-  EndsOf opener (orders.Relate first second) end = RelatesWords g remaining taken failures old new opener (string_bytes first) (string_bytes second) end
-  EndsOf opener (orders.Why first (Some second)) end = ExplainsCells g remaining taken failures old new opener (string_bytes first) (string_bytes second) end
-  EndsOf opener (orders.Why first None) end = ExplainsValidity g remaining taken failures old new opener (string_bytes first) end
-  EndsOf opener (orders.Pairs file) end = RelatesFile g remaining taken failures old new opener (string_bytes file) end
-  EndsOf opener (orders.Fault code) end = ExplainsFault taken failures old new (string_bytes code) end
+-- ---- reasons
+
+-- the table at this place has this name, in any ASCII case, as no other table of its schema has
+abbrev pub IsNamed : SpatialSchema → List ℕ → ℕ → Type 0
+IsNamed definitions name place = (table : TableDef ColumnShape) × (slice_get definitions place ≡ Some table) × (same_name table.name name ≡ true)
+
+-- the reason of the fault of the table of this name, in the records that its file has when it is opened again
+pub record FindsReason {F R : Type 0} (g : Mut F (Bor (List ℕ) × Unit {0}) (Option R)) (remaining : R → Option (List ℕ)) (directory : List ℕ)
+    (definitions : SpatialSchema) (name : List ℕ) (fault : LoadFault) (reason : Reason) : Type 0 where
+  pub place : ℕ
+  pub named : IsNamed definitions name place
+  pub table : TableDef ColumnShape
+  pub there : slice_get definitions place ≡ Some table
+  pub before : F
+  pub after : F
+  pub reader : R
+  pub opened : CalledAt g before (table_path directory name) (Some reader) after
+  pub is : IsReasonOf (remaining reader) table fault reason
+
+-- the line of the reason of a table's fault was written, or a beginning of it
+pub record ExplainsLoad {F R E : Type 0} (g : Mut F (Bor (List ℕ) × Unit {0}) (Option R)) (remaining : R → Option (List ℕ)) (taken : E → Option (List ℕ))
+    (failures : E → ℕ) (old new : E) (directory : List ℕ) (definitions : SpatialSchema) (name : List ℕ) (fault : LoadFault) : Type 0 where
+  pub reason : Reason
+  pub finds : FindsReason g remaining directory definitions name fault reason
+  pub written : Writes (taken old) (taken new) (failures old) (failures new) (reason_line reason)
+
+-- what is written of a failure besides its own line: nothing, or the reason of a table's fault
+abbrev pub MayExplain : {F R E : Type 0} → Mut F (Bor (List ℕ) × Unit {0}) (Option R) → (R → Option (List ℕ)) → (E → Option (List ℕ)) → (E → ℕ) → E → E
+    → List ℕ → SpatialSchema → Failure → Type 0
+MayExplain g remaining taken failures old new directory definitions failure =
+    (new ≡ old)
+    ⊎ ((name : Bor (List ℕ)) × (fault : LoadFault) × (failure ≡ f.Load name fault)
+    × ExplainsLoad g remaining taken failures old new directory definitions name.now fault)
+
+-- what is written after a check that ends so
+abbrev pub Explains : {F R E : Type 0} → Mut F (Bor (List ℕ) × Unit {0}) (Option R) → (R → Option (List ℕ)) → (E → Option (List ℕ)) → (E → ℕ) → E → E
+    → List ℕ → SpatialSchema → End → Type 0
+Explains g remaining taken failures old new directory definitions (Ok done) = new ≡ old
+Explains g remaining taken failures old new directory definitions (Err failure) = MayExplain g remaining taken failures old new directory definitions failure
+
+-- a command writes what any command does to standard error, and then more
+abbrev pub ServesReasons : {E : Type 0} → (E → Option (List ℕ)) → (E → ℕ) → (E → End → Type 0) → ℕ → E → Type 0
+ServesReasons {E} taken failures Ends status old = (shown : E) × Serves taken failures (Ends shown) status old shown
+
+-- counting the rows of the tables of a schema's file ends so, after which standard error is this one, and with the reason that one
+module _ {F R E : Type 0} (g : Mut F (Bor (List ℕ) × Unit {0}) (Option R)) (remaining : R → Option (List ℕ)) (etaken : E → Option (List ℕ)) (efailures : E → ℕ) (shown explained : E) where
+  abbrev pub ExplainsFiles : {S : Type 0} → (S → Option (List ℕ)) → (S → ℕ) → S → S → F → List ℕ → List ℕ → End → Type 0
+  ExplainsFiles taken failures old new opener schema directory end =
+      OverFiles g remaining opener schema
+      (λ next definitions ending. ChecksTables g remaining taken failures old new next directory definitions ending
+      × Explains g remaining etaken efailures shown explained directory definitions ending)
+      end ((new ≡ old) × (explained ≡ shown))
+
+-- ---- orders
+
+module _ {F R E S : Type 0} (g : Mut F (Bor (List ℕ) × Unit {0}) (Option R)) (remaining : R → Option (List ℕ)) (etaken : E → Option (List ℕ)) (efailures : E → ℕ) (taken : S → Option (List ℕ)) (failures : S → ℕ) (old new : S) where
+  -- counting the rows of the tables of a schema's file, with or without reasons
+  abbrev pub ServesTables : F → List ℕ → List ℕ → Bool → ℕ → E → E → Type 0
+  ServesTables opener schema directory false status before after =
+      Serves etaken efailures (ChecksFiles g remaining taken failures old new opener schema directory) status before after
+  ServesTables opener schema directory true status before after =
+      ServesReasons etaken efailures (λ shown. ExplainsFiles g remaining etaken efailures shown after taken failures old new opener schema directory) status before
+
+  -- doing what an order says
+  abbrev pub ServesOrder : F → Order → ℕ → E → E → Type 0
+  ServesOrder opener (orders.Run schema directory query) status before after =
+      Serves etaken efailures (RunsQuery g remaining taken failures old new opener (string_bytes schema) (string_bytes directory) (string_bytes query)) status before after
+  ServesOrder opener (orders.Check schema directory why) status before after =
+      ServesTables opener (string_bytes schema) (string_bytes directory) why status before after
+  ServesOrder opener (orders.Relate first second) status before after =
+      Serves etaken efailures (RelatesWords g remaining taken failures old new opener (string_bytes first) (string_bytes second)) status before after
+  ServesOrder opener (orders.Why first (Some second)) status before after =
+      Serves etaken efailures (ExplainsCells g remaining taken failures old new opener (string_bytes first) (string_bytes second)) status before after
+  ServesOrder opener (orders.Why first None) status before after =
+      Serves etaken efailures (ExplainsValidity g remaining taken failures old new opener (string_bytes first)) status before after
+  ServesOrder opener (orders.Pairs file) status before after =
+      Serves etaken efailures (RelatesFile g remaining taken failures old new opener (string_bytes file)) status before after
+  ServesOrder opener (orders.Fault code) status before after =
+      Serves etaken efailures (ExplainsFault taken failures old new (string_bytes code)) status before after

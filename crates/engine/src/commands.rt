@@ -1,9 +1,9 @@
 //! The commands of the program: `serve` does what the command line orders, over readers and sinks of any kind.
 
-ghost use Rattle.std.specs.Prelude.{◌≡◌, length, take, Err, IfErr, IfOk, IfSome, OnErr, OnOk};
+ghost use Rattle.std.specs.Prelude.{◌≡◌, ◌<◌, length, take, Err, IfErr, IfOk, IfSome, OnErr, OnOk};
 ghost use Rattle.std.specs.String.{string_bytes};
 ghost use Rattle.std.specs.Io.KnownBytes.{Appends};
-ghost use Rattle.engine.specs.Commands.{ChecksFiles, ChecksTables, EndsOf, IsFaultOf, IsUnread, Opens, OpensTables, ReadsSchema, RunsFiles, RunsQuery, RunsTables, check_text, table_paths};
+ghost use Rattle.engine.specs.Commands.{ChecksFiles, ChecksTables, ExplainsFiles, FindsReason, IsFaultOf, IsNamed, IsUnread, MayExplain, Opens, OpensTables, ReadsSchema, RunsFiles, RunsQuery, RunsTables, ServesOrder, ServesReasons, ServesTables, check_text, table_paths};
 ghost use Rattle.engine.specs.Commands as spec;
 ghost use Rattle.query_runs.specs.Runs.{IsOfTables};
 ghost use Rattle.sinks.specs.Sinks.{AppendsFront, CountsFailure};
@@ -15,12 +15,14 @@ use feature_table::{Database, Schema};
 use itoa::Buffer;
 use observers::{RowObserver, Unobserved};
 use query_runs::run_observed;
+use record_reasons::{Reason, put_record_reason, reason_of};
 use rtree::{CurveTree, EnvelopeIndex};
 use schema_reader::read_schema;
 use sinks::{Sink, SinkFault, put_parts};
 use std::alloc::{AllocError, Global};
 use std::io::{ErrorKind, Read};
-use table_model::faults::SchemaFault;
+use table_model::faults::{LoadFault, SchemaFault};
+use table_model::texts::same_name;
 use table_model::tokens::TEXT_LIMIT;
 use text_commands::{
     failed, serve_fault, serve_pairs, serve_relate, serve_verdict, serve_witnesses,
@@ -33,7 +35,8 @@ type ColumnIndex = CurveTree;
 /// How many bytes of a schema's file are read: one more than a schema may have.
 const SCHEMA_BYTES: u64 = TEXT_LIMIT as u64 + 1;
 
-/// Does what the order says. It writes the answer to `out` and the line of a failure to `err`, and returns the status of the
+/// Does what the order says. It writes the answer to `out` and the line of a failure to `err`, and of a failed check with
+/// `why` also the line of its reason, if it finds one. It returns the status of the
 /// program: 0, or that of the failure. The opener returns the reader of the file at a path, or None if it can't be opened.
 pub fn serve<R: Read + Drop, F: FnMut(&str) -> Option<R>, S: Sink, E: Sink>(
     alloc: Global,
@@ -43,9 +46,8 @@ pub fn serve<R: Read + Drop, F: FnMut(&str) -> Option<R>, S: Sink, E: Sink>(
     err: &mut E,
 ) -> u8
     requires { F.IsAlwaysCallable opener }
-    ensures serves { Serves E.taken E.failures
-        (EndsOf F.FnMut R.remaining S.taken S.failures out.old out.new opener order.now)
-        result err.old err.new }
+    ensures serves { ServesOrder F.FnMut R.remaining E.taken E.failures S.taken S.failures
+        out.old out.new opener order.now result err.old err.new }
 {
     serve_observed(alloc, order, opener, out, err, &mut Unobserved)
 }
@@ -59,9 +61,8 @@ pub fn serve_observed<
     O: RowObserver,
 >(alloc: Global, order: &Order, opener: F, out: &mut S, err: &mut E, observer: &mut O) -> u8
     requires { F.IsAlwaysCallable opener }
-    ensures serves { Serves E.taken E.failures
-        (EndsOf F.FnMut R.remaining S.taken S.failures out.old out.new opener order.now)
-        result err.old err.new }
+    ensures serves { ServesOrder F.FnMut R.remaining E.taken E.failures S.taken S.failures
+        out.old out.new opener order.now result err.old err.new }
 {
     match order {
         Order::Run {
@@ -75,12 +76,16 @@ pub fn serve_observed<
             };
             serve_query(alloc, &paths, query.as_str(), opener, out, err, observer)
         }
-        Order::Check { schema, directory } => {
+        Order::Check {
+            schema,
+            directory,
+            why,
+        } => {
             let paths = Paths {
                 schema: schema.as_str(),
                 directory: directory.as_str(),
             };
-            serve_check(alloc, &paths, opener, out, err)
+            serve_tables(alloc, &paths, *why, opener, out, err)
         }
         Order::Relate { first, second } => {
             serve_relate(alloc, first.as_str(), second.as_str(), opener, out, err)
@@ -168,7 +173,7 @@ fn run_over<'s, R: Read + Drop, F: FnMut(&str) -> Option<R>, S: Sink, O: RowObse
     schema: &'s Schema,
     directory: &str,
     query: &str,
-    opener: F,
+    mut opener: F,
     out: &mut S,
     observer: &mut O,
 ) -> Result<(), Failure<'s>>
@@ -176,10 +181,30 @@ fn run_over<'s, R: Read + Drop, F: FnMut(&str) -> Option<R>, S: Sink, O: RowObse
     ensures { RunsTables F.FnMut R.remaining S.taken S.failures out.old out.new opener
         directory.now query.now schema.entry.now result }
 {
-    let readers = open_tables(alloc, schema, directory, opener)?;
+    let readers = open_tables(alloc, schema, directory, &mut opener)?;
     match run_observed::<ColumnIndex, R, S, O>(alloc, schema, readers, query, out, observer) {
         Ok(_) => Ok(()),
         Err(fault) => Err(run_failure(schema, fault)),
+    }
+}
+
+/// Loads every table and lists how many rows each has, and says what is wrong where one has a fault, if that is asked for.
+fn serve_tables<R: Read + Drop, F: FnMut(&str) -> Option<R>, S: Sink, E: Sink>(
+    alloc: Global,
+    paths: &Paths<'_>,
+    why: bool,
+    opener: F,
+    out: &mut S,
+    err: &mut E,
+) -> u8
+    requires { F.IsAlwaysCallable opener }
+    ensures { ServesTables F.FnMut R.remaining E.taken E.failures S.taken S.failures out.old out.new
+        opener paths.now.schema.now paths.now.directory.now why result err.old err.new }
+{
+    if why {
+        serve_reasons(alloc, paths, opener, out, err)
+    } else {
+        serve_check(alloc, paths, opener, out, err)
     }
 }
 
@@ -203,10 +228,97 @@ fn serve_check<R: Read + Drop, F: FnMut(&str) -> Option<R>, S: Sink, E: Sink>(
         Ok(schema) => schema,
         Err(failure) => return failed(&failure, err),
     };
-    match check_over(alloc, &schema, paths.directory, opener, out) {
+    match check_over(alloc, &schema, paths.directory, &mut opener, out) {
         Ok(()) => 0,
         Err(failure) => failed(&failure, err),
     }
+}
+
+/// The same, and after the line of a table's fault it writes the line of its reason, if it finds one: the table's file is opened
+/// and read again for it. A file that has changed, or that can't be read again, has none.
+#[inline(never)]
+fn serve_reasons<R: Read + Drop, F: FnMut(&str) -> Option<R>, S: Sink, E: Sink>(
+    alloc: Global,
+    paths: &Paths<'_>,
+    mut opener: F,
+    out: &mut S,
+    err: &mut E,
+) -> u8
+    requires { F.IsAlwaysCallable opener }
+    ensures { ServesReasons E.taken E.failures
+        (λ shown. ExplainsFiles F.FnMut R.remaining E.taken E.failures shown err.new
+        S.taken S.failures out.old out.new opener paths.now.schema.now paths.now.directory.now)
+        result err.old }
+{
+    let schema = match schema_in(alloc, opener(paths.schema)) {
+        Ok(schema) => schema,
+        Err(failure) => return failed(&failure, err),
+    };
+    match check_over(alloc, &schema, paths.directory, &mut opener, out) {
+        Ok(()) => 0,
+        Err(failure) => {
+            let status = failed(&failure, err);
+            explain(alloc, &schema, paths.directory, &failure, opener, err);
+            status
+        }
+    }
+}
+
+/// Writes the line of the reason of a failure, if it is a table's fault and its reason is found.
+fn explain<R: Read + Drop, F: FnMut(&str) -> Option<R>, E: Sink>(
+    alloc: Global,
+    schema: &Schema,
+    directory: &str,
+    failure: &Failure<'_>,
+    opener: F,
+    err: &mut E,
+)
+    requires { F.IsAlwaysCallable opener }
+    ensures { MayExplain F.FnMut R.remaining E.taken E.failures err.old err.new directory.now
+        schema.now failure.now }
+{
+    let Failure::Load(name, fault) = *failure else {
+        return;
+    };
+    let Some(reason) = found_reason(alloc, schema, directory, name, fault, opener) else {
+        return;
+    };
+    let _ = put_record_reason(&reason, err);
+}
+
+/// The reason of the fault of the table of this name, whose file is opened again; None if it can't be found.
+fn found_reason<'s, R: Read + Drop, F: FnMut(&str) -> Option<R>>(
+    alloc: Global,
+    schema: &'s Schema,
+    directory: &str,
+    name: &str,
+    fault: LoadFault,
+    mut opener: F,
+) -> Option<Reason<'s>>
+    requires { F.IsAlwaysCallable opener }
+    ensures { IfSome result (FindsReason F.FnMut R.remaining directory.now schema.entry.now name.now fault) }
+{
+    let place = table_named(schema, name)?;
+    let Ok(path) = table_path(alloc, directory, name) else {
+        return None;
+    };
+    let Some(reader) = opener(path.as_str()) else {
+        return None;
+    };
+    reason_of(alloc, schema.table(place), reader, fault)
+}
+
+/// The place of the table of this name, in any ASCII case.
+fn table_named(schema: &Schema, name: &str) -> Option<usize>
+    ensures within { IfSome result (λ place. place < length schema.now) }
+    ensures named { IfSome result (IsNamed schema.now name.now) }
+{
+    for place in 0..schema.tables().len() {
+        if same_name(schema.table(place).name.bytes(), name.as_bytes()) {
+            return Some(place);
+        }
+    }
+    None
 }
 
 /// Opens the files of all tables, loads the tables, and writes their lines.
@@ -214,11 +326,12 @@ fn check_over<'s, R: Read + Drop, F: FnMut(&str) -> Option<R>, S: Sink>(
     alloc: Global,
     schema: &'s Schema,
     directory: &str,
-    opener: F,
+    opener: &mut F,
     out: &mut S,
 ) -> Result<(), Failure<'s>>
-    requires { F.IsAlwaysCallable opener }
-    ensures { ChecksTables F.FnMut R.remaining S.taken S.failures out.old out.new opener
+    requires { F.IsAlwaysCallable opener.old }
+    ensures callable { F.IsAlwaysCallable opener.new }
+    ensures checks { ChecksTables F.FnMut R.remaining S.taken S.failures out.old out.new opener.old
         directory.now schema.entry.now result }
 {
     let readers = open_tables(alloc, schema, directory, opener)?;
@@ -298,14 +411,15 @@ fn open_tables<'s, R: Read + Drop, F: FnMut(&str) -> Option<R>>(
     alloc: Global,
     schema: &'s Schema,
     directory: &str,
-    mut opener: F,
+    opener: &mut F,
 ) -> Result<Vec<R>, Failure<'s>>
-    requires { F.IsAlwaysCallable opener }
+    requires { F.IsAlwaysCallable opener.old }
+    ensures callable { F.IsAlwaysCallable opener.new }
     ensures count { IfOk result (λ readers. length readers.items ≡ length schema.entry.now) }
     ensures opened { IfOk result (λ readers. (after : F)
-        × Opens F.FnMut opener (table_paths directory.now schema.entry.now) readers.items after) }
+        × Opens F.FnMut opener.old (table_paths directory.now schema.entry.now) readers.items after) }
     ensures failure { IfErr result (λ failure.
-        OpensTables {R = R} F.FnMut opener directory.now schema.entry.now (Err failure)) }
+        OpensTables {R = R} F.FnMut opener.old directory.now schema.entry.now (Err failure)) }
 {
     let mut readers = Vec::new(alloc);
     for table in schema.tables() {

@@ -79,6 +79,7 @@ fn order_of(alloc: Global, command: &str) -> Result<Order, AllocError> {
         return Ok(Order::Check {
             schema: String::from_str(alloc, SCHEMA)?,
             directory: String::from_str(alloc, DIRECTORY)?,
+            why: false,
         });
     }
     match related_texts(command) {

@@ -9,16 +9,16 @@ use Rattle.table_model.specs.Databases.{load_tables}
 use Rattle.table_model.specs.GeometryColumns.{read_geometry}
 use Rattle.engine.proofs.commands.check_over.Goals as goal
 
-pub returns-in_err-readers : goal.returns-in_err-readers
-returns-in_err-readers g c =
+pub returns-in_err-readers-clause-checks : goal.returns-in_err-readers-clause-checks
+returns-in_err-readers-clause-checks g c =
     let before = g.S.Sink.taken c.args.out.now in
     let count = g.S.Sink.failures c.args.out.now in
     handed-on c.from_residual.result c.in_err-readers.field-0.0 c.from_residual.ensures.1
-    (λ r. OverTables g.F.FnMut g.R.Read.remaining c.args.opener c.args.directory.now c.args.schema.now (CheckEnds c.args.schema.now before before count count) r (c.args.out.now ≡ c.args.out.now))
+    (λ r. OverTables g.F.FnMut g.R.Read.remaining c.args.opener.now c.args.directory.now c.args.schema.now (CheckEnds c.args.schema.now before before count count) r (c.args.out.now ≡ c.args.out.now))
     (record { readers = Err c.in_err-readers.field-0.0; opened = c.in_err-readers.ensures.failure; rest = (refl, refl) })
 
-pub returns-in-Err : goal.returns-in-Err
-returns-in-Err g c =
+pub returns-in-Err-clause-checks : goal.returns-in-Err-clause-checks
+returns-in-Err-clause-checks g c =
     let these = c.in-Err.ensures.records in
     let failed : Result (Unit {0}) Fault = Err c.from.result in record {
       readers = Ok c.in_ok-readers.readers.items;
@@ -38,8 +38,8 @@ returns-in-Err g c =
       );
     }
 
-pub returns-in-Ok-put_counts : goal.returns-in-Ok-put_counts
-returns-in-Ok-put_counts g c =
+pub returns-in-Ok-put_counts-clause-checks : goal.returns-in-Ok-put_counts-clause-checks
+returns-in-Ok-put_counts-clause-checks g c =
     let these = c.in-Ok.ensures.records in record {
       readers = Ok c.in_ok-readers.readers.items;
       opened = c.in_ok-readers.ensures.opened;
@@ -57,8 +57,8 @@ returns-in-Ok-put_counts g c =
       );
     }
 
-pub returns : goal.returns
-returns g c =
+pub returns-clause-checks : goal.returns-clause-checks
+returns-clause-checks g c =
     let these = c.in-Ok.ensures.records in record {
       readers = Ok c.in_ok-readers.readers.items;
       opened = c.in_ok-readers.ensures.opened;

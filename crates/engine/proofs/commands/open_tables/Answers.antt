@@ -16,7 +16,7 @@ loop-table-preserved g c =
     record {
       callable = λ always. mut_next g.F.FnMut c.loop-table.opener (c.as_str.result, tt) c.opener.result c.opener.new.self c.opener.new.self c.opener.ensures refl (c.loop-table.invariant.callable always);
       count = omega (arith, ap length c.in-Ok-push.ensures.items, length-append c.loop-table.readers.items (c.in-Some.reader ∷ []), c.loop-table.invariant.count);
-      opens = table-next g.F.FnMut c.args.opener (table_paths c.args.directory.now c.args.schema.now) c.loop-table.table-index (table_path c.args.directory.now item.name) c.loop-table.readers.items c.loop-table.opener
+      opens = table-next g.F.FnMut c.args.opener.now (table_paths c.args.directory.now c.args.schema.now) c.loop-table.table-index (table_path c.args.directory.now item.name) c.loop-table.readers.items c.loop-table.opener
           c.in-Some.reader c.push.new.self.items c.opener.new.self
           (map-there (table_path c.args.directory.now) (table_names c.args.schema.now) c.loop-table.table-index item.name (map-there (λ t. t.name) c.args.schema.now c.loop-table.table-index item here))
           c.loop-table.invariant.opens

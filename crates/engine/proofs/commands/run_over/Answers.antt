@@ -20,8 +20,8 @@ returns-in-Ok g c =
       rest = (these.0, these.1, record { runs = these.2; failures = c.in-Ok.ensures.failures });
     }
 
-pub returns-in-Err : goal.returns-in-Err
-returns-in-Err g c =
+pub returns : goal.returns
+returns g c =
     let these = c.in-Err.ensures.records in record {
       readers = Ok c.in_ok-readers.readers.items;
       opened = c.in_ok-readers.ensures.opened;

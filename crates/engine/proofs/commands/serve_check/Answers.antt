@@ -26,7 +26,7 @@ returns-in-Ok-check_over g c = record {
     opened = record { shown = c.args.paths.now.schema; shows = refl; called = c.opener.ensures };
     schema = Ok c.in-Ok.schema;
     read = c.in-Ok.ensures;
-    rest = c.in-Ok-check_over.ensures;
+    rest = c.in-Ok-check_over.ensures.checks;
   };
   returned = refl;
   reported = refl;
@@ -41,7 +41,7 @@ returns g c = record {
     opened = record { shown = c.args.paths.now.schema; shows = refl; called = c.opener.ensures };
     schema = Ok c.in-Ok.schema;
     read = c.in-Ok.ensures;
-    rest = c.in-Err-check_over.ensures;
+    rest = c.in-Err-check_over.ensures.checks;
   };
   returned = c.failed-in-Err-check_over.ensures.status;
   reported = c.failed-in-Err-check_over.ensures.line;

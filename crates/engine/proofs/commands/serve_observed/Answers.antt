@@ -2,7 +2,7 @@
 use Rattle.std.proofs.Common.{subst, sym}
 use Rattle.std.specs.String.{string_bytes}
 use Rattle.command_line.specs.declared.known_commands.Order.TheVariants as orders
-use Rattle.engine.specs.Commands.{EndsOf}
+use Rattle.engine.specs.Commands.{ServesOrder}
 use Rattle.text_commands.specs.Ends.{Serves}
 use Rattle.text_commands.specs.Reasons.{ExplainsCells}
 use Rattle.text_commands.specs.TextCommands.{RelatesWords}
@@ -13,9 +13,8 @@ returns-in-Relate g c =
     let words = RelatesWords g.F.FnMut g.R.Read.remaining g.S.Sink.taken g.S.Sink.failures c.args.out.now c.serve_relate.new.out
     c.args.opener in record {
       serves = subst
-          (λ order. Serves g.E.Sink.taken g.E.Sink.failures
-          (EndsOf g.F.FnMut g.R.Read.remaining g.S.Sink.taken g.S.Sink.failures c.args.out.now c.serve_relate.new.out c.args.opener order)
-          c.serve_relate.result c.args.err.now c.serve_relate.new.err) (sym c.in-Relate.is)
+          (λ order. ServesOrder g.F.FnMut g.R.Read.remaining g.E.Sink.taken g.E.Sink.failures g.S.Sink.taken g.S.Sink.failures c.args.out.now c.serve_relate.new.out
+          c.args.opener order c.serve_relate.result c.args.err.now c.serve_relate.new.err) (sym c.in-Relate.is)
           (subst
           (λ first. Serves g.E.Sink.taken g.E.Sink.failures (words first (string_bytes c.in-Relate.second)) c.serve_relate.result c.args.err.now
           c.serve_relate.new.err) c.as_str-in-Relate.ensures.value
@@ -29,13 +28,11 @@ returns-in-Some g c =
     let words = ExplainsCells g.F.FnMut g.R.Read.remaining g.S.Sink.taken g.S.Sink.failures c.args.out.now c.serve_witnesses.new.out
     c.args.opener in record {
       serves = subst
-          (λ order. Serves g.E.Sink.taken g.E.Sink.failures
-          (EndsOf g.F.FnMut g.R.Read.remaining g.S.Sink.taken g.S.Sink.failures c.args.out.now c.serve_witnesses.new.out c.args.opener order)
-          c.serve_witnesses.result c.args.err.now c.serve_witnesses.new.err) (sym c.in-Why.is)
+          (λ order. ServesOrder g.F.FnMut g.R.Read.remaining g.E.Sink.taken g.E.Sink.failures g.S.Sink.taken g.S.Sink.failures c.args.out.now c.serve_witnesses.new.out
+          c.args.opener order c.serve_witnesses.result c.args.err.now c.serve_witnesses.new.err) (sym c.in-Why.is)
           (subst
-          (λ second. Serves g.E.Sink.taken g.E.Sink.failures
-          (EndsOf g.F.FnMut g.R.Read.remaining g.S.Sink.taken g.S.Sink.failures c.args.out.now c.serve_witnesses.new.out c.args.opener
-          (orders.Why c.in-Why.first second)) c.serve_witnesses.result c.args.err.now c.serve_witnesses.new.err) (sym c.in-Some.is)
+          (λ second. ServesOrder g.F.FnMut g.R.Read.remaining g.E.Sink.taken g.E.Sink.failures g.S.Sink.taken g.S.Sink.failures c.args.out.now c.serve_witnesses.new.out
+          c.args.opener (orders.Why c.in-Why.first second) c.serve_witnesses.result c.args.err.now c.serve_witnesses.new.err) (sym c.in-Some.is)
           (subst
           (λ first. Serves g.E.Sink.taken g.E.Sink.failures (words first (string_bytes c.in-Some.second)) c.serve_witnesses.result c.args.err.now
           c.serve_witnesses.new.err) c.as_str-in-Some.ensures.value

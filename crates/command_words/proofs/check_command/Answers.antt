@@ -1,0 +1,17 @@
+use Rattle.std.proofs.Common.{◌≡◌, ◌∙◌, ap, codes}
+use Rattle.std.proofs.lemmas.Result.{IfOk-weaker}
+use Rattle.clap.specs.Simple.{app_of_fields}
+use Rattle.clap.specs.Words.{App, app_of, new_app, with_rule}
+use Rattle.command_words.specs.CommandWords.{required_word}
+use Rattle.command_words.proofs.CommandLemmas.{word-added}
+use Rattle.command_words.proofs.check_command.Goals as goal
+
+pub returns : goal.returns
+returns c =
+    let bare_is : app_of c.after_help.result ≡ new_app (codes "check") =
+    ap app_of_fields c.after_help.ensures ∙ ap app_of_fields c.about-check.ensures ∙ c.new.ensures.app in
+    let places_are = c.in_ok-with_places.ensures ∙ ap (λ (a : App). with_rule (with_rule a (required_word (codes "schema"))) (required_word (codes "directory"))) bare_is in
+    IfOk-weaker c.arg.result _ _
+    (λ command added. word-added c.in_ok-with_places.field-0 command c.why_flag.result _ _ places_are
+    c.why_flag.ensures.local c.why_flag.ensures.rule added)
+    c.arg.ensures

@@ -1,0 +1,9 @@
+-- The parts joined are the text.
+use Rattle.std.proofs.Common.{codes}
+use Rattle.reasons.proofs.TextLemmas.{three_parts}
+use Rattle.record_reasons.proofs.PartLemmas.{put-same}
+use Rattle.record_reasons.proofs.reason_lines.put_column.Goals as goal
+
+pub returns-clause-ok : goal.returns-clause-ok
+returns-clause-ok g c =
+    put-same c.put_parts.result _ _ _ _ (rw c.as_bytes.ensures.value (three_parts (codes "sfq: column ") c.args.column.now (codes ": "))) c.put_parts.ensures.ok

@@ -1,0 +1,3 @@
+pub mod ReasonTexts
+pub mod Reasons
+pub mod SeenRecords

@@ -1,0 +1,92 @@
+-- What is wrong where a table isn't loaded.
+use Rattle.std.specs.Prelude.{◌≡◌, ◌≢◌, ℕ, List, Option, None, Some, false, length, slice_get}
+use Rattle.fault_places.specs.Places.{IsPlaceOf}
+use Rattle.fault_places.specs.declared.places.Place.{Place}
+use Rattle.geometry_model.specs.Geometries.{Geometry, type_of}
+use Rattle.geometry_model.specs.Validity.{HasFault}
+use Rattle.geometry_model.specs.WellKnownText.{Spells}
+use Rattle.geometry_model.specs.declared.geometry_faults.GeometryFault.TheVariants as g
+use Rattle.geometry_model.specs.declared.shapes.GeometryType.{GeometryType}
+use Rattle.geometry_model.specs.declared.validity_faults.ValidityFault.{ValidityFault}
+use Rattle.record_reasons.specs.SeenRecords.{AreSeen}
+use Rattle.record_reasons.specs.declared.reason.Reason.{Reason}
+use Rattle.record_reasons.specs.declared.reason.Reason.TheVariants as reasons
+use Rattle.table_model.specs.GeometryColumns.{ColumnShape, takes_type}
+use Rattle.table_model.specs.Loading.{Record, field_under}
+use Rattle.table_model.specs.declared.definitions.ColumnDef.{ColumnDef}
+use Rattle.table_model.specs.declared.definitions.ColumnType.{ColumnType}
+use Rattle.table_model.specs.declared.definitions.ColumnType.TheVariants as column
+use Rattle.table_model.specs.declared.definitions.TableDef.{TableDef}
+use Rattle.table_model.specs.declared.faults.LoadFault.{LoadFault}
+use Rattle.table_model.specs.declared.faults.LoadFault.TheVariants as fault
+
+-- ---- of a column
+
+-- the geometries that a column of this type takes, if it is one of geometries
+abbrev pub shape_in : ColumnType ColumnShape → Option ColumnShape
+shape_in (column.Geometry shape) = Some shape
+shape_in _ = None
+
+abbrev pub shape_of : ColumnDef ColumnShape → Option ColumnShape
+shape_of c = shape_in c.column_type
+
+-- the field spells a geometry that has this fault, and this is a place of it (06-103r4, 6.1.7, 6.1.11.1 and 6.1.14)
+pub record ShowsFault (field : List ℕ) (v : ValidityFault) (place : Place) : Type 0 where
+  pub geometry : Geometry
+  pub spelled : Spells field geometry
+  pub has : HasFault geometry v
+  pub shown : IsPlaceOf geometry v place
+
+-- the field spells a geometry of this type, which a column that wants the other type doesn't take (06-104r4, 7.2)
+pub record SpellsOther (field : List ℕ) (found wanted : GeometryType) : Type 0 where
+  pub geometry : Geometry
+  pub spelled : Spells field geometry
+  pub type : type_of geometry ≡ found
+  pub other : takes_type (Some wanted) found ≡ false
+
+-- the reason names the column, and shows this fault of its field
+abbrev pub IsInvalidIn : ColumnDef ColumnShape → List ℕ → ValidityFault → Reason → Type 0
+IsInvalidIn c field v (reasons.Invalid name shown place) = (name.now ≡ c.name) × (shown ≡ v) × ShowsFault field v place
+IsInvalidIn c field v _ = ⊥
+
+-- the reason names the column, the type that it wants and that of its field
+abbrev pub IsOtherTypeIn : ColumnDef ColumnShape → GeometryType → List ℕ → Reason → Type 0
+IsOtherTypeIn c asked field (reasons.OtherType name found wanted) = (name.now ≡ c.name) × (wanted ≡ asked) × SpellsOther field found wanted
+IsOtherTypeIn c asked field _ = ⊥
+
+-- the reason of a fault of a field in a column
+abbrev pub IsReasonIn : ColumnDef ColumnShape → List ℕ → LoadFault → Reason → Type 0
+IsReasonIn c field (fault.BadGeometry number (g.Invalid v)) reason = (shape : ColumnShape) × (shape_of c ≡ Some shape) × IsInvalidIn c field v reason
+IsReasonIn c field (fault.WrongType number) reason = (wanted : GeometryType) × (shape_of c ≡ Some (Some wanted)) × IsOtherTypeIn c wanted field reason
+IsReasonIn c field _ reason = ⊥
+
+-- ---- of a record
+
+-- the number of the record that a fault has, and 0 of another fault
+abbrev pub record_number : LoadFault → ℕ
+record_number (fault.UnequalRecord number) = number
+record_number (fault.BadGeometry number why) = number
+record_number (fault.WrongType number) = number
+record_number _ = 0
+
+-- the reason has the lengths of a record and of its header, which differ
+abbrev pub IsOfLengths : Record → Record → Reason → Type 0
+IsOfLengths header fields (reasons.Lengths found wanted) = (found ≡ length fields) × (wanted ≡ length header) × (found ≢ wanted)
+IsOfLengths header fields _ = ⊥
+
+-- the reason is of the field in one of the table's columns
+abbrev pub IsOfColumn : TableDef ColumnShape → Record → Record → LoadFault → Reason → Type 0
+IsOfColumn table header fields f reason =
+    (place : ℕ) × (c : ColumnDef ColumnShape) × (slice_get table.columns place ≡ Some c) × IsReasonIn c (field_under header fields c.name) f reason
+
+-- the reason of a fault of a record under this header
+abbrev pub HasReason : TableDef ColumnShape → Record → Record → LoadFault → Reason → Type 0
+HasReason table header fields (fault.UnequalRecord number) reason = IsOfLengths header fields reason
+HasReason table header fields f reason = IsOfColumn table header fields f reason
+
+-- the reason of a table's fault, in the record of its number of some bytes, if they are known
+pub record IsReasonOf (known : Option (List ℕ)) (table : TableDef ColumnShape) (f : LoadFault) (reason : Reason) : Type 0 where
+  pub header : Record
+  pub fields : Record
+  pub seen : AreSeen known header (record_number f) fields
+  pub has : HasReason table header fields f reason

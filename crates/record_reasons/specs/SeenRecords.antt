@@ -1,0 +1,28 @@
+-- Records that were read from the beginning of a CSV text.
+use Rattle.std.specs.Prelude.{◌≡◌, ◌++◌, ℕ, List, ◌∷◌, Option, Some, slice_get}
+use Rattle.loaded_tables.specs.Records.{Gives, records_in}
+use Rattle.loaded_tables.specs.declared.records.Records.{Records}
+use Rattle.table_model.specs.Loading.{Record}
+
+-- if the bytes are known, the records that csv reads from them begin with these
+abbrev pub BeginWith : Option (List ℕ) → List Record → Type 0
+BeginWith known read = (text : List ℕ) → known ≡ Some text → (rest : List Record) × (records_in text ≡ read ++ rest)
+
+-- some bytes, if they are known, begin with records of which this is the header, and this the one of a number
+pub record AreSeen (known : Option (List ℕ)) (header : Record) (number : ℕ) (fields : Record) : Type 0 where
+  pub read : List Record
+  pub begins : BeginWith known read
+  pub first : slice_get read 0 ≡ Some header
+  pub there : slice_get read number ≡ Some fields
+
+-- ---- steps of reading
+
+-- this record was the first of those that were left
+abbrev pub GivesNext : {R : Type 0} → (R → Option (List ℕ)) → Records R → Records R → Record → Type 0
+GivesNext remaining old new fields =
+    (rest : List Record) → Gives remaining old rest → (more : List Record) × Gives remaining new more × (rest ≡ fields ∷ more)
+
+-- these records were read of some bytes, if they are known, and the others are still given
+abbrev pub HasRead : {R : Type 0} → (R → Option (List ℕ)) → Option (List ℕ) → Records R → List Record → Type 0
+HasRead remaining known records read =
+    (text : List ℕ) → known ≡ Some text → (rest : List Record) × Gives remaining records rest × (records_in text ≡ read ++ rest)

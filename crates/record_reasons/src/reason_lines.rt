@@ -1,0 +1,141 @@
+//! The line that says what is wrong where a table isn't loaded.
+
+ghost use Rattle.std.specs.Prelude.{◌≡◌, ◌++◌, codes, OnErr, OnOk};
+ghost use Rattle.std.specs.Io.KnownBytes.{Appends};
+ghost use Rattle.sinks.specs.Sinks.{AppendsFront, CountsFailure};
+ghost use Rattle.reasons.specs.FaultTexts.{reason_text};
+ghost use Rattle.record_reasons.specs.ReasonTexts.{reason_line, type_word};
+ghost use Rattle.record_reasons.specs.declared.reason.Reason.TheVariants as kinds;
+
+use crate::reason::Reason;
+use fault_places::Place;
+use geometry_model::{GeometryType, ValidityFault};
+use itoa::Buffer;
+use reasons::put_reason;
+use sinks::{Sink, SinkFault, put_parts};
+
+/// Writes the line of a reason: `sfq: column geom: V3 0: 0 0 to 4 4 and 4 0 to 0 4 share 2 2`,
+/// `sfq: column geom has a POINT, not a POLYGON` or `sfq: the record has 2 fields, the header 3` (this project's choice). It takes no
+/// memory. At Err the sink failed, and a beginning of the line has been written.
+pub fn put_record_reason<S: Sink>(reason: &Reason<'_>, sink: &mut S) -> Result<(), SinkFault>
+    ensures ok { OnOk result (Appends (S.taken sink.old) (S.taken sink.new) (reason_line reason.now)) }
+    ensures front { OnErr result
+        (AppendsFront (S.taken sink.old) (S.taken sink.new) (reason_line reason.now)) }
+    ensures failures { CountsFailure (S.failures sink.old) (S.failures sink.new) result }
+{
+    match *reason {
+        Reason::Lengths { found, wanted } => put_lengths(sink, found, wanted),
+        Reason::Invalid {
+            column,
+            fault,
+            place,
+        } => put_invalid(sink, column, fault, place),
+        Reason::OtherType {
+            column,
+            found,
+            wanted,
+        } => put_types(sink, column, word_of(found), word_of(wanted)),
+    }
+}
+
+/// Writes the line of two lengths.
+fn put_lengths<S: Sink>(sink: &mut S, found: usize, wanted: usize) -> Result<(), SinkFault>
+    ensures ok { OnOk result
+        (Appends (S.taken sink.old) (S.taken sink.new) (reason_line (kinds.Lengths found wanted))) }
+    ensures front { OnErr result
+        (AppendsFront (S.taken sink.old) (S.taken sink.new) (reason_line (kinds.Lengths found wanted))) }
+    ensures failures { CountsFailure (S.failures sink.old) (S.failures sink.new) result }
+{
+    let mut first = Buffer::new();
+    let mut second = Buffer::new();
+    put_counts(sink, first.format(found), second.format(wanted))
+}
+
+/// Writes the line of two lengths with these digits.
+fn put_counts<'t, S: Sink>(sink: &mut S, found: &'t str, wanted: &'t str) -> Result<(), SinkFault>
+    ensures ok { OnOk result (Appends (S.taken sink.old) (S.taken sink.new)
+        (codes "sfq: the record has " ++ found.now ++ codes " fields, the header " ++ wanted.now ++ codes "\n")) }
+    ensures front { OnErr result (AppendsFront (S.taken sink.old) (S.taken sink.new)
+        (codes "sfq: the record has " ++ found.now ++ codes " fields, the header " ++ wanted.now ++ codes "\n")) }
+    ensures failures { CountsFailure (S.failures sink.old) (S.failures sink.new) result }
+{
+    put_parts(
+        sink,
+        &[
+            b"sfq: the record has ",
+            found.as_bytes(),
+            b" fields, the header ",
+            wanted.as_bytes(),
+            b"\n",
+        ],
+    )
+}
+
+/// Writes the line of a geometry that isn't valid: the column's name, the fault and a place of it.
+fn put_invalid<'t, S: Sink>(
+    sink: &mut S,
+    column: &'t str,
+    fault: ValidityFault,
+    place: Place,
+) -> Result<(), SinkFault>
+    ensures ok { OnOk result (Appends (S.taken sink.old) (S.taken sink.new)
+        ((codes "sfq: column " ++ column.now ++ codes ": ") ++ reason_text fault place)) }
+    ensures front { OnErr result (AppendsFront (S.taken sink.old) (S.taken sink.new)
+        ((codes "sfq: column " ++ column.now ++ codes ": ") ++ reason_text fault place)) }
+    ensures failures { CountsFailure (S.failures sink.old) (S.failures sink.new) result }
+{
+    put_column(sink, column)?;
+    put_reason(fault, &place, sink)
+}
+
+/// Writes a column's name, and a colon.
+fn put_column<'t, S: Sink>(sink: &mut S, column: &'t str) -> Result<(), SinkFault>
+    ensures ok { OnOk result (Appends (S.taken sink.old) (S.taken sink.new)
+        (codes "sfq: column " ++ column.now ++ codes ": ")) }
+    ensures front { OnErr result (AppendsFront (S.taken sink.old) (S.taken sink.new)
+        (codes "sfq: column " ++ column.now ++ codes ": ")) }
+    ensures failures { CountsFailure (S.failures sink.old) (S.failures sink.new) result }
+{
+    put_parts(sink, &[b"sfq: column ", column.as_bytes(), b": "])
+}
+
+/// Writes the line of a geometry of a type with this word, in a column that wants another.
+fn put_types<'t, S: Sink>(
+    sink: &mut S,
+    column: &'t str,
+    found: &'t str,
+    wanted: &'t str,
+) -> Result<(), SinkFault>
+    ensures ok { OnOk result (Appends (S.taken sink.old) (S.taken sink.new)
+        (codes "sfq: column " ++ column.now ++ codes " has a " ++ found.now ++ codes ", not a " ++ wanted.now ++ codes "\n")) }
+    ensures front { OnErr result (AppendsFront (S.taken sink.old) (S.taken sink.new)
+        (codes "sfq: column " ++ column.now ++ codes " has a " ++ found.now ++ codes ", not a " ++ wanted.now ++ codes "\n")) }
+    ensures failures { CountsFailure (S.failures sink.old) (S.failures sink.new) result }
+{
+    put_parts(
+        sink,
+        &[
+            b"sfq: column ",
+            column.as_bytes(),
+            b" has a ",
+            found.as_bytes(),
+            b", not a ",
+            wanted.as_bytes(),
+            b"\n",
+        ],
+    )
+}
+
+/// The word of a type of geometry.
+fn word_of(geometry_type: GeometryType) -> &'static str
+    ensures { result.now ≡ type_word geometry_type }
+{
+    match geometry_type {
+        GeometryType::Point => "POINT",
+        GeometryType::MultiPoint => "MULTIPOINT",
+        GeometryType::LineString => "LINESTRING",
+        GeometryType::MultiLineString => "MULTILINESTRING",
+        GeometryType::Polygon => "POLYGON",
+        GeometryType::MultiPolygon => "MULTIPOLYGON",
+    }
+}
