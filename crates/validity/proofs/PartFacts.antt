@@ -1,6 +1,7 @@
 -- The tests of rings and polygons by their edges.
-use Rattle.std.proofs.Common.{◌≡◌, refl, sym, subst, ap₂, ◌∙◌, ℕ, zero, suc, ◌<◌, not, ◌||◌, length, get_or, List, [], ◌∷◌, map, Option, Some, None, slice_get}
+use Rattle.std.proofs.Common.{◌≡◌, refl, sym, subst, ap₂, ◌∙◌, ℕ, zero, suc, ◌<◌, not, ◌||◌, length, get_or, List, [], ◌∷◌, map, Option, Some, None, slice_get, arith}
 use Rattle.std.proofs.lemmas.Option.{slice_get-get_or}
+use Rattle.std.proofs.lemmas.List.{append-nil}
 use Rattle.geometry_model.specs.Points.{Position}
 use Rattle.geometry_model.specs.Geometries.{Edge, edges_of_line, edges_of_lines}
 use Rattle.geometry_model.specs.Validity.{inside, inside_element}
@@ -72,3 +73,10 @@ same_run o r s e f = let h : Some r ≡ Some s = sym e ∙ f in cc
 -- boxes over the edges of a part serve wherever that part is asked for
 pub boxes_of_run : (boxes : EdgeBoxes) (o : Option (List Edge)) (run : List Edge) → o ≡ Some run → BoxesOf boxes run → (other : List Edge) → o ≡ Some other → BoxesOf boxes other
 boxes_of_run boxes o run is are other also = subst (BoxesOf boxes) (same_run o run other is also) are
+
+-- the edges of an only line or ring are all edges
+pub only_run : (lines : List (List Position)) (i : ℕ) (run : List Edge) → length lines ≡ 1 → slice_get (map edges_of_line lines) i ≡ Some run → edges_of_lines lines ≡ run
+only_run [] i run one is = absurd cc
+only_run (r ∷ []) zero run one is = let e : edges_of_line r ≡ run = cc in append-nil (edges_of_line r) ∙ e
+only_run (r ∷ []) (suc i) run one is = absurd cc
+only_run (r ∷ s ∷ ls) i run one is = absurd (omega (arith, one))

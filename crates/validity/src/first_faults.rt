@@ -4,6 +4,7 @@ ghost use Rattle.std.specs.Prelude.{◌≡◌, ◌<◌, ◌+◌, ◌++◌, lengt
 ghost use Rattle.geometry_model.specs.Geometries as spec;
 ghost use Rattle.geometry_model.specs.FirstFaults.{numbers, of_pairs, validity_fault};
 ghost use Rattle.geometry_laws.specs.PieceLaws.{HasClosedRings};
+ghost use Rattle.edge_boxes.specs.BoxLists.{BoxesOf};
 ghost use Rattle.validity.specs.FaultOrder.{first_of, of_lines, of_rings, with_later, with_later_elements, of_elements_and};
 ghost use Rattle.validity.specs.FaultOrder.{rings_meeting, holes_outside, nested_holes, of_two_elements, of_other_elements};
 ghost use Rattle.validity.specs.Neighbours.{near_one, ring_envelopes, element_envelopes};
@@ -11,6 +12,7 @@ ghost use Rattle.validity.specs.Outlines.{AreRings, IsRing, IsHole};
 
 use crate::neighbours::Neighbours;
 use crate::outlines::Outline;
+use edge_boxes::EdgeBoxes;
 use geometry_model::ValidityFault;
 use std::alloc::{AllocError, Global};
 
@@ -38,13 +40,18 @@ fn open_ring(outline: &Outline) -> Option<ValidityFault>
     None
 }
 
-/// The first ring that touches, crosses or covers itself.
-fn ring_not_simple(alloc: Global, outline: &Outline) -> Result<Option<ValidityFault>, AllocError>
+/// The first ring that touches, crosses or covers itself. The boxes are those of all edges.
+fn ring_not_simple(
+    alloc: Global,
+    outline: &Outline,
+    boxes: &EdgeBoxes,
+) -> Result<Option<ValidityFault>, AllocError>
+    requires { BoxesOf boxes.now (spec.edges outline.now) }
     ensures { IfOk result
         (λ fault. fault ≡ first_of outline.now (of_rings ValidityFault.RingNotSimple outline.now)) }
 {
     for ring in 0..outline.ring_count() {
-        if outline.meets_itself(alloc, ring)? {
+        if outline.meets_itself(alloc, ring, boxes)? {
             return Ok(Some(ValidityFault::RingNotSimple(ring)));
         }
     }
@@ -382,11 +389,24 @@ fn fault_of_elements(alloc: Global, outline: &Outline) -> Result<Option<Validity
 pub fn first_fault(alloc: Global, outline: &Outline) -> Result<Option<ValidityFault>, AllocError>
     ensures { IfOk result (λ fault. fault ≡ validity_fault outline.now) }
 {
+    let boxes = outline.boxes(alloc)?;
+    first_fault_by(alloc, outline, &boxes)
+}
+
+/// The same, where the boxes over all edges are given.
+pub(crate) fn first_fault_by(
+    alloc: Global,
+    outline: &Outline,
+    boxes: &EdgeBoxes,
+) -> Result<Option<ValidityFault>, AllocError>
+    requires { BoxesOf boxes.now (spec.edges outline.now) }
+    ensures { IfOk result (λ fault. fault ≡ validity_fault outline.now) }
+{
     let malformed = short_line(outline).or_else(|| open_ring(outline));
     if malformed.is_some() {
         return Ok(malformed);
     }
-    let crossed = ring_not_simple(alloc, outline)?;
+    let crossed = ring_not_simple(alloc, outline, boxes)?;
     if crossed.is_some() {
         return Ok(crossed);
     }

@@ -3,6 +3,7 @@
 ghost use Rattle.std.specs.Prelude.{◌≡◌, ◌<◌, length, map, slice_get, Some, IfOk};
 ghost use Rattle.geometry_model.specs.Geometries.{edges_of_line, edges_of_lines};
 ghost use Rattle.geometry_model.specs.Geometries as spec;
+ghost use Rattle.edge_boxes.specs.BoxLists.{BoxesOf};
 ghost use Rattle.validity.specs.Outlines.{AreRingsOf, AreLineBoxes, AreElementBoxes};
 
 use crate::runs::{Runs, bounds, part};
@@ -27,6 +28,7 @@ pub struct Outline {
 
 impl Model for Outline {
     ghost use Rattle.geometry_model.specs.Geometries as spec;
+    ghost use Rattle.edge_boxes.specs.BoxLists.{BoxesOf};
     ghost use Rattle.validity.specs.Outlines.{IsOutline};
 
     ghost Value = { spec.Geometry };
@@ -121,6 +123,13 @@ impl Outline {
         ensures { slice_get (map edges_of_line (spec.lines self.now)) line ≡ Some result.now }
     {
         self.runs.get(line)
+    }
+
+    /// The boxes over all its edges.
+    pub(crate) fn boxes(&self, alloc: Global) -> Result<EdgeBoxes, AllocError>
+        ensures { IfOk result (λ boxes. BoxesOf boxes (spec.edges self.now)) }
+    {
+        EdgeBoxes::build(alloc, self.segments())
     }
 
     /// The boxes over the edges of one of its lines or rings.

@@ -4,11 +4,12 @@ ghost use Rattle.std.specs.Prelude.{◌≡◌, ◌<◌, ◌||◌, not, length, I
 ghost use Rattle.geometry_model.specs.Geometries as spec;
 ghost use Rattle.geometry_model.specs.Validity.{inside, inside_element};
 ghost use Rattle.geometry_model.specs.FirstFaults.{has_fault, rings_share, elements_share};
+ghost use Rattle.edge_boxes.specs.BoxLists.{BoxesOf};
 ghost use Rattle.validity.specs.FaultOrder.{two_lines, two_elements};
 ghost use Rattle.validity.specs.Outlines.{too_few, AreLineBoxes, AreElementBoxes};
 
 use crate::outlines::Outline;
-use edge_boxes::near_edges::is_inside as is_inside_by;
+use edge_boxes::near_edges::{is_inside as is_inside_by, is_not_simple_by};
 use edge_boxes::{EdgeBoxes, is_inside, is_not_closed, is_not_simple, share};
 use geometry_model::{GeometryType, ValidityFault};
 use std::alloc::{AllocError, Global};
@@ -52,12 +53,23 @@ impl Outline {
         is_not_closed(self.line(ring).positions())
     }
 
-    /// Whether a ring touches, crosses or covers itself.
-    pub(crate) fn meets_itself(&self, alloc: Global, ring: usize) -> Result<bool, AllocError>
-        requires { ring < length (spec.rings self.now) }
+    /// Whether a ring touches, crosses or covers itself. The boxes are those of all edges, so they serve an only ring.
+    pub(crate) fn meets_itself(
+        &self,
+        alloc: Global,
+        ring: usize,
+        boxes: &EdgeBoxes,
+    ) -> Result<bool, AllocError>
+        requires ring { ring < length (spec.rings self.now) }
+        requires boxes { BoxesOf boxes.now (spec.edges self.now) }
         ensures { IfOk result (λ meets. meets ≡ has_fault self.now (ValidityFault.RingNotSimple ring)) }
     {
-        is_not_simple(alloc, self.line_edges(ring))
+        let edges = self.line_edges(ring);
+        if self.geometry().lines().len() == 1 {
+            is_not_simple_by(alloc, edges, boxes)
+        } else {
+            is_not_simple(alloc, edges)
+        }
     }
 
     /// Whether a ring shares a point with another; the boxes are those of its edges.

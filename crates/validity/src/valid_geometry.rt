@@ -15,7 +15,7 @@ ghost use Rattle.validity.specs.PolygonPromises.{HolesAreCutOut, HolesAreInside,
 ghost use Rattle.validity.specs.PolygonPromises.{StretchesStay, OutsideIsExterior, RingsPart, RingsHaveSides};
 
 use crate::check_fault::CheckFault;
-use crate::first_faults::first_fault;
+use crate::first_faults::first_fault_by;
 use crate::odd_ends::is_at_one;
 use crate::outlines::Outline;
 use crate::searched_positions::searched_positions;
@@ -194,38 +194,33 @@ fn of_larger(alloc: Global, geometry: Geometry) -> Result<Valid, CheckFault>
     ensures first { IfErr result (IsFirstFaultOf geometry) }
 {
     let outline = Outline::of(alloc, geometry)?;
-    match first_fault(alloc, &outline)? {
+    let boxes = outline.boxes(alloc)?;
+    match first_fault_by(alloc, &outline, &boxes)? {
         Some(fault) => Err(CheckFault::of(fault)),
-        None => Ok(kept(alloc, outline)?),
+        None => Ok(kept(alloc, outline, boxes)?),
     }
 }
 
-/// A geometry without fault as a valid one, all that is kept of it being behind one pointer.
-fn kept(alloc: Global, outline: Outline) -> Result<Valid, AllocError>
-    requires { validity_fault outline ≡ None }
+/// A geometry without fault as a valid one, all that is kept of it being behind one pointer. The boxes are those of its edges.
+fn kept(alloc: Global, outline: Outline, boxes: EdgeBoxes) -> Result<Valid, AllocError>
+    requires faultless { validity_fault outline ≡ None }
+    requires boxes { BoxesOf boxes (spec.edges outline) }
     ensures { IfOk result (λ valid. valid ≡ outline) }
 {
-    let searched = with_boxes(alloc, outline)?;
+    let searched = with_boxes(alloc, outline, boxes)?;
     Ok(Valid {
         content: Content::Larger(Box::new(alloc, searched)?),
     })
 }
 
-/// The boxes over all edges of a geometry.
-fn boxes_over(alloc: Global, outline: &Outline) -> Result<EdgeBoxes, AllocError>
-    ensures { IfOk result (λ boxes. BoxesOf boxes (spec.edges outline.now)) }
-{
-    EdgeBoxes::build(alloc, outline.segments())
-}
-
 /// A geometry with the boxes over its edges and the positions that are searched.
-fn with_boxes(alloc: Global, outline: Outline) -> Result<Searched, AllocError>
-    requires { validity_fault outline ≡ None }
+fn with_boxes(alloc: Global, outline: Outline, boxes: EdgeBoxes) -> Result<Searched, AllocError>
+    requires faultless { validity_fault outline ≡ None }
+    requires boxes { BoxesOf boxes (spec.edges outline) }
     ensures same { IfOk result (λ kept. kept.outline ≡ outline) }
     ensures kept { IfOk result (λ kept. IsKept kept.outline kept.boxes) }
     ensures searched { IfOk result (λ kept. AreSearched kept.positions.items kept.outline) }
 {
-    let boxes = boxes_over(alloc, &outline)?;
     let positions = searched_positions(alloc, outline.geometry())?;
     Ok(Searched {
         outline,

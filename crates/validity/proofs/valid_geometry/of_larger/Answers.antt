@@ -15,8 +15,8 @@ pub returns-in-Some-clause-fault : goal.returns-in-Some-clause-fault
 returns-in-Some-clause-fault c = found_is_shown c.args.geometry c.of-in-Some.result c.in-Some.fault c.of-in-Some.ensures
     (ap validity_fault (sym c.in_ok-outline.ensures) ∙ (sym c.in_ok-fault.ensures ∙ c.in-Some.is))
 
-pub kept-requires : goal.kept-requires
-kept-requires c = sym c.in_ok-fault.ensures ∙ c.in-None.is
+pub kept-requires-clause-faultless : goal.kept-requires-clause-faultless
+kept-requires-clause-faultless c = sym c.in_ok-fault.ensures ∙ c.in-None.is
 
 pub returns-in_ok-kept-in-None-clause-faultless : goal.returns-in_ok-kept-in-None-clause-faultless
 returns-in_ok-kept-in-None-clause-faultless c = ap validity_fault (sym c.in_ok-outline.ensures) ∙ (sym c.in_ok-fault.ensures ∙ c.in-None.is)

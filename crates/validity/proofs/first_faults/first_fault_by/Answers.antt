@@ -11,7 +11,7 @@ use Rattle.geometry_laws.specs.PieceLaws.{HasClosedRings}
 use Rattle.validity.specs.FaultOrder.{of_lines, of_rings, rings_meeting, holes_outside, nested_holes, of_two_elements, of_other_elements}
 use Rattle.validity.proofs.ClosedRings.{none_open}
 use Rattle.validity.proofs.Finding.{found_or_else, first_stays, second_follows, none_behind, none_is, grouped}
-use Rattle.validity.proofs.first_faults.first_fault.Goals as goal
+use Rattle.validity.proofs.first_faults.first_fault_by.Goals as goal
 
 -- ---- the lists
 abbrev malformed : Geometry → List ValidityFault
