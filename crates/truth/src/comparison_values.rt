@@ -5,9 +5,9 @@ ghost use Rattle.table_model.specs.Arguments.{denoted};
 ghost use Rattle.table_model.specs.Truths as spec;
 ghost use Rattle.table_model.specs.Work.{is_as_text};
 
-use crate::denotations::geometry_at;
+use crate::denotations::{field_at, geometry_at};
 use crate::logic::truth_of;
-use crate::sides::{operand_side, order_of};
+use crate::sides::{operand_side, order_of, order_to_number, order_to_text};
 use feature_table::Row;
 use query_binder::Argument;
 use std::alloc::{AllocError, Global};
@@ -36,8 +36,38 @@ fn compared(sign: Comparison, order: Option<Ordering>) -> Truth
     order.map_or(Truth::Unknown, |order| truth_of(takes(sign, order)))
 }
 
-/// The truth of a comparison of two sides at the rows (SQL, comparison). Only ST_AsText takes memory.
+/// The truth of a comparison of two sides at the rows (SQL, comparison). Only ST_AsText takes memory. Most comparisons are
+/// of a column with a constant, for which no side is made.
 pub(crate) fn comparison(
+    alloc: Global,
+    sign: Comparison,
+    a: &Operand<Argument>,
+    b: &Operand<Argument>,
+    rows: &[Row<'_>],
+) -> Result<Truth, AllocError>
+    ensures truth { IfOk result (λ t. t ≡ spec.compared sign
+        (spec.order_of (spec.operand_value denoted rows.now a.now)
+        (spec.operand_value denoted rows.now b.now))) }
+    ensures no_memory { is_as_text a.now || is_as_text b.now ≡ false → IsOk result }
+{
+    let Operand::Column(place) = a else {
+        return comparison_of_sides(alloc, sign, a, b, rows);
+    };
+    match b {
+        Operand::Integer(number) => {
+            let order = order_to_number(field_at(rows, *place), *number);
+            Ok(compared(sign, order))
+        }
+        Operand::Text(text) => {
+            let order = order_to_text(field_at(rows, *place), text.as_slice());
+            Ok(compared(sign, order))
+        }
+        _ => comparison_of_sides(alloc, sign, a, b, rows),
+    }
+}
+
+/// The same of any two sides.
+fn comparison_of_sides(
     alloc: Global,
     sign: Comparison,
     a: &Operand<Argument>,

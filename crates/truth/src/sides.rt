@@ -8,6 +8,7 @@ ghost use Rattle.sinks.specs.MemorySinks.{memory_bytes};
 ghost use Rattle.table_model.specs.Arguments.{denoted};
 ghost use Rattle.table_model.specs.Truths as spec;
 ghost use Rattle.table_model.specs.Work.{is_as_text};
+ghost use Rattle.table_model.specs.declared.values.Value.TheVariants as values;
 ghost use Rattle.truth.specs.Sides.{order_of_texts, side_value, text_in};
 
 use crate::denotations::{field_at, geometry_at};
@@ -126,6 +127,26 @@ impl Side<'_> {
             Side::Null => true,
             Side::Integer(_) | Side::Text(_) | Side::Printed(_) | Side::Geometry(_) => false,
         }
+    }
+}
+
+/// The order of a field and a number, by value; none of another field.
+pub(crate) fn order_to_number(field: Field<'_>, number: i64) -> Option<Ordering>
+    ensures { result ≡ spec.order_of (shown field.entry) (values.Integer number) }
+{
+    match field {
+        Field::Int(value) => Some(value.cmp(&number)),
+        Field::Null | Field::Text(_) | Field::Geom(_) => None,
+    }
+}
+
+/// The order of a field and a text, by bytes; none of another field.
+pub(crate) fn order_to_text(field: Field<'_>, text: &[u8]) -> Option<Ordering>
+    ensures { result ≡ spec.order_of (shown field.entry) (values.Text text.now) }
+{
+    match field {
+        Field::Text(value) => Some(value.as_bytes().cmp(text)),
+        Field::Null | Field::Int(_) | Field::Geom(_) => None,
     }
 }
 
