@@ -161,7 +161,7 @@ def pairs():
 
 
 def lines_of_calls():
-    """Returns calls of every kind, with what they print: of those that say why, which take many allocations, some."""
+    """Returns calls of every kind, with what they print: of those that say why, which take many allocations, some small ones."""
     calls = [(f"relate\t{a}\t{b}", f"0 {it}") for a, b, it in pairs()]
     calls += [(f"check\t{a}", "0") for a, _, _ in pairs()]
     calls += [(f"answer\t{a}\t{b}", f"0 {it} {held}") for a, b, it, held in RELATIONS]
@@ -174,7 +174,7 @@ def lines_of_calls():
             (f"answer\t{text}\t{text}", f"1 {fault}"),
             (f"answer\tPOINT(0 0)\t{text}", f"2 {fault}"),
         ]
-    return calls + lines_of_kept_calls() + lines_of_whys()[::10]
+    return calls + lines_of_kept_calls() + [it for it in lines_of_whys() if len(it[0]) < 200][::10]
 
 
 def lines_of_kept_calls():
