@@ -393,7 +393,7 @@ class ManyPairs(WithLibrary):
                 self.compare_with_the_program(random.Random(seed), 10_000, self.all_at_once)
 
     def test_millions_of_bytes_and_numbers_by_chance(self):
-        for _ in range(10):
+        for _ in range(3):
             self.fuzz(int.from_bytes(os.urandom(4), "big"), 1_000_000)
 
 
