@@ -88,9 +88,8 @@ def declare(found: ctypes.CDLL) -> ctypes.CDLL:
     found.sfq_why.argtypes = [geometry, geometry, *room]
     found.sfq_reason.argtypes = [ctypes.c_char_p, ctypes.c_size_t, *room, fault]
     found.sfq_free.argtypes, found.sfq_free.restype = [geometry], None
-    calls = ("read", "read_positions", "relate", "relate_many", "relate_points", "holds", "text", "locate_many", "dimension",
-             "is_empty", "envelope", "why", "reason")
-    for name in calls:
+    for name in ("read", "read_positions", "relate", "relate_many", "relate_points", "holds", "text", "locate_many", "dimension",
+                 "is_empty", "envelope", "why", "reason"):
         getattr(found, f"sfq_{name}").restype = ctypes.c_int
     return found
 
@@ -163,6 +162,10 @@ class KeptNumbers(Kept):
             raise ValueError("sfq: the parts don't have these positions, or the type has no such parts")
         self.numbers = None
         return status
+
+    def reason(self) -> str:
+        """Returns the line of a geometry that is valid: none is kept that isn't."""
+        return "valid"
 
 
 def is_refused(status: int) -> bool:
