@@ -6,6 +6,7 @@ import importlib.util
 import json
 import os
 import random
+import re
 import shutil
 import signal
 import subprocess
@@ -125,9 +126,16 @@ class BuildOfTheModule(unittest.TestCase):
         self.assertEqual(elsewhere["engines"], "GEOS, SpatiaLite, PostGIS, GDAL and JTS")
 
     def test_every_file_that_the_page_names_is_made(self):
-        made = [*web_build.FILES, *(it.script for it in web_build.MODULES), "examples.js"]
-        for it in read(f"{ROOT}/web/index.html").split('src="')[1:]:
-            self.assertIn(it.partition('"')[0], made)
+        made = [*web_build.FILES, *(it.script for it in web_build.MODULES), "examples.js", "town.js"]
+        for page in ("index.html", "tables.html"):
+            for it in read(f"{ROOT}/web/{page}").split('src="')[1:]:
+                self.assertIn(it.partition('"')[0], made)
+
+    def test_the_town_has_its_tables_and_its_queries(self):
+        town = web_build.town()
+        self.assertEqual(list(town["tables"]), re.findall(r"CREATE TABLE (\w+)", town["schema"]))
+        self.assertGreaterEqual(len(town["queries"]), 19)
+        self.assertEqual(len(town["faults"]), 41)
 
 
 # ---- the module and the page in browsers
@@ -163,10 +171,13 @@ def limited(module, pages):
 class Served(http.server.ThreadingHTTPServer):
     """Serves the page, the page of tests and the pairs on this machine alone, and takes one report."""
 
-    def __init__(self, folder, wanted):
+    def __init__(self, folder, pairs, queries):
         super().__init__(("127.0.0.1", 0), Handler)
         self.folder = folder
-        self.texts = {"/pairs.json": json.dumps(wanted).encode(), "/limited.wasm": limited(module_of_page(), 4)}
+        self.texts = {
+            "/pairs.json": json.dumps(pairs).encode(), "/queries.json": json.dumps(queries).encode(),
+            "/limited.wasm": limited(module_of_page(), 4),
+        }
         self.report, self.has_report = None, threading.Event()
 
 
@@ -209,10 +220,10 @@ def firefox(room, address):
     return ["firefox-esr", "--headless", "--no-remote", "--profile", f"{room}/profile", address]
 
 
-def reported(words_of, wanted):
-    """Returns what a browser found of pairs: their answers, and how the page and a module with little memory did."""
+def reported(words_of, pairs, queries):
+    """Returns what a browser found of pairs and queries: their answers, and how the pages and a module with little memory did."""
     with tempfile.TemporaryDirectory(prefix="sfq-web-test-", ignore_cleanup_errors=True) as room:
-        server = Served(page(room), wanted)
+        server = Served(page(room), pairs, queries)
         threading.Thread(target=server.serve_forever, daemon=True).start()
         words = words_of(room, f"http://127.0.0.1:{server.server_port}/pairs.html")
         started = subprocess.Popen(
@@ -238,6 +249,21 @@ def rows_that_relate():
                 pair = row.command.removeprefix("relate ").split(" | ", 1)
                 if not any(it.startswith("@") for it in pair):
                     found.append((pair, row.output.partition("\n")[0].removeprefix("! ")))
+    return found
+
+
+def rows_that_ask():
+    """Returns the queries of the scripts, each with its schema and the texts of its tables, and what they print."""
+    found = []
+    for name in read(f"{ROOT}/crates/scripts/args").splitlines():
+        for row in required_rows.rows_of(read(f"{ROOT}/crates/scripts/data/{name}")):
+            schema = row.files.get("schema", "")
+            tables = [row.files.get(f"table {it}") for it in re.findall(r"(?i)CREATE\s+TABLE\s+(\w+)", schema)]
+            all_texts = [schema, row.command, *filter(None, tables)]
+            if re.match(r"(?i)\s*(SELECT|EXPLAIN)\b", row.command) and tables and None not in tables and all(map(str.isascii, all_texts)):
+                is_fault = row.output.startswith("! ")
+                printed = row.output.removeprefix("! ").partition("\n")[0] if is_fault else row.output
+                found.append(((schema, tables, row.command), printed))
     return found
 
 
@@ -277,10 +303,11 @@ class InBrowsers(unittest.TestCase):
         """Relates pairs with what they print in a browser, and looks at all that it reports."""
         if not shutil.which(package):
             self.skipTest(f"needs the package {package}")
-        wanted = find_pairs()
-        report = reported(words_of, [pair for pair, _ in wanted])
+        wanted, asked = find_pairs(), rows_that_ask()
+        report = reported(words_of, [pair for pair, _ in wanted], [it for it, _ in asked])
         self.assertIsNotNone(report, f"{package} reported nothing in {PATIENCE} seconds")
-        self.assertEqual((report["page"], report["heap"]), ("well", "well"), report["agent"])
+        self.assertEqual((report["page"], report["tables"], report["heap"]), ("well", "well", "well"), report["agent"])
+        self.compare_queries(asked, report["queries"])
         self.assertIsInstance(report["frames"], dict, report["frames"])
         # The aims are a frame of 60 a second, and 50 ms; on a busy machine the least of some steps may take twice as long.
         for count, most in (("100", 33.4), ("1000", 100)):
@@ -303,6 +330,14 @@ class InBrowsers(unittest.TestCase):
         elif line.split()[2][0] == "V":
             place = reasons.split("|")[line.split()[1] == "second"]
             self.assertTrue(place.startswith(" ".join(line.split()[2:]) + ": "), place)
+
+    def compare_queries(self, asked, report):
+        self.assertGreaterEqual(len(asked), 280)
+        self.assertIsInstance(report, dict, report)
+        self.assertEqual((report["unfit"], report["lost"]), ("the schema has another number of tables", 0))
+        for ((_, _, query), printed), found in zip(asked, report["answers"], strict=True):
+            with self.subTest(query):
+                self.assertEqual(found, printed)
 
     @needs_page
     def test_pairs_of_the_scripts_in_chromium(self):

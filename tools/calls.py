@@ -1,5 +1,5 @@
 """The proved calls of a static library, compiled: an archive for x86-64, of which the C library is made, and the module of LLVM on
-the way to it, of which the web page is made."""
+the way to it, of which the web page is made. The crate is sfq_c, or sfq_web for the page's queries."""
 import os
 import re
 import shutil

@@ -160,7 +160,7 @@ def reached(name, functions):
 
 
 def sources():
-    """Returns the text of each module of tests; that of the program `scripts`, which plays them, for each script; that of the C test."""
+    """Returns the text of each module of tests; that of the program `scripts`, which plays them, for each script; those of C."""
     found = {}
     for crate in repository.crates_with_tests():
         for path in glob.glob(f"{repository.ROOT}/crates/{crate}/src/*_tests.rt"):
@@ -171,6 +171,8 @@ def sources():
     # What the C test calls of the library's header calls the proved calls in turn.
     of_library = ("tests/library/calls", "tests/library/kept", "tests/library/whys", "library/sfq")
     found["calls.c"] = "".join(read(f"{repository.ROOT}/{it}.c") for it in of_library)
+    # What tests/web/pairs.html asks of the page of tables makes the proved call.
+    found["tables.c"] = read(f"{repository.ROOT}/web/tables.c")
     return found
 
 

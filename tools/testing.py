@@ -268,8 +268,9 @@ def make_library(counts):
                 found = importlib.util.spec_from_file_location("web_build", f"{ROOT}/web/build.py")
                 page = importlib.util.module_from_spec(found)
                 found.loader.exec_module(page)
-                module = page.module_of(calls.find_kit(), page.SHAPES, compiled)
-                page.write_page({page.SHAPES: page.carried(page.SHAPES, module)})
+                made = {page.SHAPES: compiled, page.TABLES: calls.compile_calls(room, keeps=False, name=page.TABLES.crate)}
+                kit = calls.find_kit()
+                page.write_page({it: page.carried(it, page.module_of(kit, it, each)) for it, each in made.items()})
     except calls.Failure as it:
         text = str(it)
     counts.take("making of the C library and the web page", not text, time.monotonic() - begun, text=text)

@@ -1,5 +1,5 @@
 #!/usr/bin/env python3
-"""Makes the web page in web/out: the module from the proved crate sfq_c, the examples, and the files beside this one.
+"""Makes the web page in web/out: the modules from the proved crates sfq_c and sfq_web, the examples, and the files beside this one.
 
 usage: web/build.py [--jobs N]      or ./build --web
 
@@ -23,11 +23,15 @@ sys.dont_write_bytecode = True
 sys.path.insert(0, f"{os.path.dirname(WEB)}/tools")
 
 import calls
+import fault_pages
 import repository
 from calls import Failure, run
 
 OUT = f"{WEB}/out"
-FILES = ["index.html", "style.css", "engine.js", "shapes.js", "sheet.js", "page.js"]
+FILES = [
+    "index.html", "tables.html", "style.css", "engine.js", "shapes.js", "sheet.js", "page.js", "tables_engine.js", "map.js",
+    "tables.js",
+]
 
 # How the kit's compiler lays out data: for x86-64, as the crate is built, and for WebAssembly, as it is compiled here. Of all that
 # a module may use (see `check_module`) both give the same sizes and alignments.
@@ -67,7 +71,10 @@ SHAPES = Module(
     ("sfq_proved_fault", "sfq_proved_answer_texts", "sfq_proved_read", "sfq_proved_free", "sfq_proved_why", "sfq_proved_reason"),
     COMMON | {"page_fault", "page_answer", "page_reason", "page_why"},
 )
-MODULES = (SHAPES,)
+TABLES = Module(
+    "TABLES_MODULE", "tables_module.js", "sfq_web", ("heap.c", "memory.c", "tables.c"), ("sfq_proved_run",), COMMON | {"page_run"},
+)
+MODULES = (SHAPES, TABLES)
 
 
 def find_kit():
@@ -104,7 +111,7 @@ def check_module(text, names):
         r"\bva_arg\b": "lists of arguments",
         r"\b(fastcc|x86_\w+cc|win64cc|preserve_\w+)\b": "a calling convention",
         r"\b(byval|sret|inreg|thread_local|ifunc|inalloca)\b": "what is passed in another way on each target",
-        r"\batomicrmw\b|\bcmpxchg\b|\bfence\b": "threads",
+        r"\batomicrmw\b|\bcmpxchg\b|^\s*fence\b": "threads",
     }
     for pattern, what in strange.items():
         found = re.search(pattern, text, re.M)
@@ -293,10 +300,34 @@ def examples_script():
     return f'// Made by web/build.py of web/examples.json and docs/WRONG-ELSEWHERE.md.\n"use strict";\nconst EXAMPLES = {shown};\n'
 
 
+def town():
+    """Returns what the page of tables shows at first: the land register of examples/parcels, with its schema, its tables and its
+    queries, and what each fault means and what to do."""
+    folder, tables = f"{repository.ROOT}/examples/parcels", {}
+    with open(f"{folder}/schema.sql", encoding="utf-8") as file:
+        schema = file.read()
+    for name in re.findall(r"^CREATE TABLE (\w+)", schema, re.M):
+        with open(f"{folder}/{name}.csv", encoding="utf-8") as file:
+            tables[name] = file.read()
+    with open(f"{folder}/README.md", encoding="utf-8") as file:
+        asked = re.findall(r"^\*\*\d+\. (.*?)\*\*(.*?)^```sql\n(.*?)\n```", file.read(), re.M | re.S)
+    with open(fault_pages.DOCUMENT, encoding="utf-8") as file:
+        faults = {it.code: {"means": it.means, "remedy": it.remedy} for it in reversed(fault_pages.rows_of(file.read()))}
+    queries = [{"title": plain(title), "says": plain(says), "query": " ".join(query.split())} for title, says, query in asked]
+    if not tables or not queries or not faults:
+        raise Failure("examples/parcels or docs/FAULTS.md has another form than web/build.py reads")
+    return {"schema": schema, "tables": tables, "queries": queries, "faults": faults}
+
+
+def town_script():
+    shown = json.dumps(town(), indent=2, ensure_ascii=False)
+    return f'// Made by web/build.py of examples/parcels and docs/FAULTS.md.\n"use strict";\nconst TOWN = {shown};\n'
+
+
 def write_page(carried_by, to=OUT):
     """Writes all files of the page into a folder, which a copy of is the whole site, given what it carries of each module."""
     texts = {it.script: module_script(it, what) for it, what in carried_by.items()}
-    texts["examples.js"] = examples_script()
+    texts |= {"examples.js": examples_script(), "town.js": town_script()}
     shutil.rmtree(to, ignore_errors=True)
     os.makedirs(to)
     for it in FILES:

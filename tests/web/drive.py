@@ -21,7 +21,7 @@ TOUCHING = ("LINESTRING(-2 2,2 -2)", "POLYGON((0 0,4 0,4 4,0 4,0 0))")
 # The colours of the page by the names that its sheet of styles has for them.
 COLOURS = """
 const style = getComputedStyle(document.documentElement);
-return Object.fromEntries(["paper", "a", "b", "good"].map((name) => [name, style.getPropertyValue("--" + name).trim()]));
+return Object.fromEntries(["paper", "a", "b", "good", "mark"].map((name) => [name, style.getPropertyValue("--" + name).trim()]));
 """
 # How many points of a picture have each of some colours, counted by the browser.
 COUNTED = """
@@ -55,7 +55,7 @@ class Page:
     """The page in a browser."""
 
     def __init__(self, folder):
-        self.address = f"file://{os.path.realpath(folder)}/index.html"
+        self.address = f"file://{os.path.realpath(folder)}"
         options = webdriver.ChromeOptions()
         words = ["--headless=new", "--no-sandbox", "--disable-gpu", "--disable-dev-shm-usage", "--hide-scrollbars"]
         for word in [*words, "--force-device-scale-factor=1", "--window-size=1280,900"]:
@@ -63,14 +63,14 @@ class Page:
         options.set_capability("goog:loggingPrefs", {"browser": "ALL"})
         self.driver = webdriver.Chrome(options=options)
 
-    def open(self, words="", size=(1280, 900), scheme="light"):
+    def open(self, words="", size=(1280, 900), scheme="light", file="index.html"):
         """Opens the page anew, at a size and in light or dark mode."""
         call = self.driver.execute_cdp_cmd
         metrics = {"width": size[0], "height": size[1], "deviceScaleFactor": 1, "mobile": False}
         call("Emulation.setDeviceMetricsOverride", metrics)
         call("Emulation.setEmulatedMedia", {"features": [{"name": "prefers-color-scheme", "value": scheme}]})
         self.driver.get("about:blank")
-        self.driver.get(self.address + words)
+        self.driver.get(f"{self.address}/{file}{words}")
         until = time.monotonic() + 60
         while self.run("return document.documentElement.dataset.ready") != "yes":
             if time.monotonic() > until:
@@ -105,7 +105,8 @@ class Page:
         return round((x - view["x"]) * view["unit"]), round((view["y"] - y) * view["unit"])
 
     def set_text(self, which, text):
-        field = self.find(f"#text-{which}")
+        """Writes into the text of a shape by its number, or into a field by its name."""
+        field = self.find(f"#text-{which}" if which in (0, 1) else f"#{which}")
         field.clear()
         field.send_keys(text)
 
@@ -333,6 +334,27 @@ def a_module_that_stops_is_started_anew(page):
     same((page.find("#sentence").text, page.matrix()), ("Point at a cell to read what it says.", "0FFFFF212"))
 
 
+def tables_are_asked(page):
+    """The page of tables: an example, a query of one's own, faults in words, and a table that is changed."""
+    page.open(file="tables.html")
+    answer = lambda: [it.text for it in page.driver.find_elements(By.CSS_SELECTOR, "#answer tr")]
+    marked = lambda: page.run("return [...new Set([...document.querySelectorAll('#map .marked')].map((it) => it.dataset.row))]")
+    same((answer(), marked()), (["b.id b.name", "102 Quay House", "108 Boatyard"], ["parcel 102", "parcel 108"]))
+    page.set_text("query", "SELECT name FROM parcel WHERE id = 101")
+    same((answer(), marked(), page.find("#hint").text), (["name", "Mill"], [], "Select an id to see the rows on the map."))
+    page.set_text("query", "SELECT id FROM parcels")
+    same(page.find("#fault strong").text, "sfq: Q3 at 15")
+    same((answer(), page.find("#query").get_attribute("aria-invalid")), ([], "true"))
+    page.set_text("query", "SELECT p.id, w.id FROM parcel p, well w WHERE ST_Contains(p.geom, w.geom) AND w.id = 1")
+    same((answer(), marked()), (["p.id w.id", "101 1"], ["parcel 101", "well 1"]))
+    page.set_text("table-well", "id,name,geom\n1,Mill Well,POINT(7 2)")
+    same((answer(), marked()), (["p.id w.id", "102 1"], ["parcel 102", "well 1"]))
+    page.set_text("table-well", "id,name,geom\n1,Mill Well,POINT(7.5 2)")
+    same(page.find("#fault strong").text, "sfq: well L6 record 1 W2 at 6")
+    page.run("document.getElementById('example').value = '0'; document.getElementById('example').dispatchEvent(new Event('change'))")
+    same(page.find("#query").get_attribute("value")[:30], "SELECT id, name FROM parcel WH")
+
+
 def large_shapes_are_quick(page):
     """Two stars of 1,000 positions are read, checked, related and drawn in 50 ms: the least of up to 200 rounds, on a busy machine."""
     page.open()
@@ -357,20 +379,25 @@ def large_shapes_are_quick(page):
 
 
 def pictures_are_as_they_should_be(page):
-    for name, size, scheme, paper in (
-        ("wide", (1280, 900), "light", "#ffffff"),
-        ("narrow", (400, 900), "light", "#ffffff"),
-        ("dark", (1280, 900), "dark", "#14171c"),
+    for name, size, scheme, paper, file in (
+        ("wide", (1280, 900), "light", "#ffffff", "index.html"),
+        ("narrow", (400, 900), "light", "#ffffff", "index.html"),
+        ("dark", (1280, 900), "dark", "#14171c", "index.html"),
+        ("tables-wide", (1280, 900), "light", "#ffffff", "tables.html"),
+        ("tables-narrow", (400, 900), "light", "#ffffff", "tables.html"),
+        ("tables-dark", (1280, 900), "dark", "#14171c", "tables.html"),
     ):
-        page.open(size=size, scheme=scheme)
-        page.run("document.getElementById('cell-0-2').focus({ preventScroll: true })")
+        page.open(size=size, scheme=scheme, file=file)
+        if file == "index.html":
+            page.run("document.getElementById('cell-0-2').focus({ preventScroll: true })")
         picture = page.driver.get_screenshot_as_base64()
         page.driver.save_screenshot(f"{sys.argv[1]}/{name}.png")
         colours = page.run(COLOURS)
         same(colours["paper"], paper)
         width, height, counts = page.driver.execute_async_script(COUNTED, picture, list(colours.values()))
         same((width, height), size)
-        for it, least in (("paper", width * height // 8), ("a", 800), ("b", 600)):
+        drawn = ("b", 600) if file == "index.html" else ("mark", 600)
+        for it, least in (("paper", width * height // 8), ("a", 800), drawn):
             if counts.get(colours[it], 0) < least:
                 raise Wrong(f"{name}: {counts.get(colours[it], 0)} points in the colour {it}, and {least} at least are wanted")
         same(page.run("return document.documentElement.scrollWidth"), size[0])
@@ -380,7 +407,7 @@ TRIALS = [
     a_corner_is_dragged, a_new_corner_is_dragged, changes_are_undone, faults_are_shown, cells_are_explained,
     an_example_is_opened_by_its_card, an_example_is_opened_by_its_address, every_example_has_a_matrix,
     keys_alone_move_a_corner, keys_alone_draw, shapes_are_drawn_by_clicks, the_wheel_zooms, two_fingers_zoom,
-    the_place_of_a_fault_is_drawn, a_module_that_stops_is_started_anew, large_shapes_are_quick, pictures_are_as_they_should_be,
+    the_place_of_a_fault_is_drawn, tables_are_asked, a_module_that_stops_is_started_anew, large_shapes_are_quick, pictures_are_as_they_should_be,
 ]
 
 
