@@ -1,5 +1,5 @@
 -- What is wrong where a table isn't loaded.
-use Rattle.std.specs.Prelude.{◌≡◌, ◌≢◌, ℕ, List, Option, None, Some, false, length, slice_get}
+use Rattle.std.specs.Prelude.{◌≡◌, ◌≢◌, ◌+◌, ◌≤◌, ℕ, List, Option, None, Some, false, length, slice_get}
 use Rattle.fault_places.specs.Places.{IsPlaceOf}
 use Rattle.fault_places.specs.declared.places.Place.{Place}
 use Rattle.geometry_model.specs.Geometries.{Geometry, type_of}
@@ -12,13 +12,18 @@ use Rattle.record_reasons.specs.SeenRecords.{AreSeen}
 use Rattle.record_reasons.specs.declared.reason.Reason.{Reason}
 use Rattle.record_reasons.specs.declared.reason.Reason.TheVariants as reasons
 use Rattle.table_model.specs.GeometryColumns.{ColumnShape, takes_type}
-use Rattle.table_model.specs.Loading.{Record, field_under}
+use Rattle.table_model.specs.Loading.{Record, field_under, row_limit}
 use Rattle.table_model.specs.declared.definitions.ColumnDef.{ColumnDef}
 use Rattle.table_model.specs.declared.definitions.ColumnType.{ColumnType}
 use Rattle.table_model.specs.declared.definitions.ColumnType.TheVariants as column
 use Rattle.table_model.specs.declared.definitions.TableDef.{TableDef}
 use Rattle.table_model.specs.declared.faults.LoadFault.{LoadFault}
 use Rattle.table_model.specs.declared.faults.LoadFault.TheVariants as fault
+
+-- a reason was found that is one, or there is none
+abbrev pub Finds : (Reason → Type 0) → Option Reason → Type 0
+Finds Is (Some reason) = Is reason
+Finds Is None = (reason : Reason) → Is reason → ⊥
 
 -- ---- of a column
 
@@ -90,3 +95,7 @@ pub record IsReasonOf (known : Option (List ℕ)) (table : TableDef ColumnShape)
   pub fields : Record
   pub seen : AreSeen known header (record_number f) fields
   pub has : HasReason table header fields f reason
+
+-- no reason is one of the fault of some bytes, if they are known, unless its record's number is past the limit of rows and one more
+abbrev pub HasNoReason : Option (List ℕ) → TableDef ColumnShape → LoadFault → Type 0
+HasNoReason known table f = (text : List ℕ) → known ≡ Some text → record_number f ≤ row_limit + 1 → (reason : Reason) → IsReasonOf (Some text) table f reason → ⊥
