@@ -27,6 +27,9 @@ one g h is = cc is
 pub no-invalid : (c : ColumnDef ColumnShape) (field : List ℕ) (v : ValidityFault) → ((g : Geometry) → Spells field g → ⊥) → (reason : Reason)
     → IsInvalidIn c field v reason → ⊥
 no-invalid c field v none (reasons.Lengths found wanted) is = is
+no-invalid c field v none (reasons.Missing name) is = is
+no-invalid c field v none (reasons.Repeated name) is = is
+no-invalid c field v none (reasons.Refused name shown) is = is
 no-invalid c field v none (reasons.Invalid name shown place) is = none is.2.geometry is.2.spelled
 no-invalid c field v none (reasons.OtherType name found wanted) is = is
 
@@ -35,6 +38,9 @@ pub no-fault : (c : ColumnDef ColumnShape) (field : List ℕ) (v : ValidityFault
     → ((h : Geometry) → Spells field h → ◌≡◌ {A = Result Geometry TextFault} (Ok g) (Ok h)) → (HasFault g v → ⊥) → (reason : Reason)
     → IsInvalidIn c field v reason → ⊥
 no-fault c field v g only none (reasons.Lengths found wanted) is = is
+no-fault c field v g only none (reasons.Missing name) is = is
+no-fault c field v g only none (reasons.Repeated name) is = is
+no-fault c field v g only none (reasons.Refused name shown) is = is
 no-fault c field v g only none (reasons.Invalid name shown place) is =
     let geometry = is.2.geometry in
     none (subst (λ h. HasFault h v) (sym (one g geometry (only geometry is.2.spelled))) is.2.has)
@@ -44,6 +50,9 @@ no-fault c field v g only none (reasons.OtherType name found wanted) is = is
 pub no-type : (c : ColumnDef ColumnShape) (asked : GeometryType) (field : List ℕ) → ((g : Geometry) → Spells field g → ⊥) → (reason : Reason)
     → IsOtherTypeIn c asked field reason → ⊥
 no-type c asked field none (reasons.Lengths found wanted) is = is
+no-type c asked field none (reasons.Missing name) is = is
+no-type c asked field none (reasons.Repeated name) is = is
+no-type c asked field none (reasons.Refused name shown) is = is
 no-type c asked field none (reasons.Invalid name shown place) is = is
 no-type c asked field none (reasons.OtherType name found wanted) is = none is.2.geometry is.2.spelled
 
@@ -52,6 +61,9 @@ pub same-type : (c : ColumnDef ColumnShape) (asked : GeometryType) (field : List
     → ((h : Geometry) → Spells field h → ◌≡◌ {A = Result Geometry TextFault} (Ok g) (Ok h)) → takes_type (Some asked) (type_of g) ≡ true → (reason : Reason)
     → IsOtherTypeIn c asked field reason → ⊥
 same-type c asked field g only same (reasons.Lengths found wanted) is = is
+same-type c asked field g only same (reasons.Missing name) is = is
+same-type c asked field g only same (reasons.Repeated name) is = is
+same-type c asked field g only same (reasons.Refused name shown) is = is
 same-type c asked field g only same (reasons.Invalid name shown place) is = is
 same-type c asked field g only same (reasons.OtherType name found wanted) is =
     let other = is.2 in

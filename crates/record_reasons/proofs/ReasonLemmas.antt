@@ -63,18 +63,18 @@ seen-none (Ok None) known table f header fields seen finds = λ text is within r
     let same_fields = some-is has.fields fields (sym other.1 ∙ mine.1) in
     finds reason (subst (λ h. HasReason table h fields f reason) same_header (subst (λ fs. HasReason table has.header fs f reason) same_fields has.has))
 
--- a fault that isn't of lengths has its reason in a column
+-- a fault that is neither of the header nor of lengths has its reason in a column
 pub of-column : {E : Type 0} (r : Result (Option Reason) E) (table : TableDef ColumnShape) (header fields : Record) (f : LoadFault)
-    → ((number : ℕ) → f ≡ fault.UnequalRecord number → ⊥) → IfOk r (Finds (IsOfColumn table header fields f)) → IfOk r (Finds (HasReason table header fields f))
-of-column r table header fields fault.MissingColumn other finds = finds
-of-column r table header fields fault.DoubleHeader other finds = finds
-of-column r table header fields (fault.UnequalRecord number) other finds = absurd (other number refl)
-of-column r table header fields (fault.NotUtf8 number) other finds = finds
-of-column r table header fields (fault.BadInteger number) other finds = finds
-of-column r table header fields (fault.BadGeometry number why) other finds = finds
-of-column r table header fields (fault.WrongType number) other finds = finds
-of-column r table header fields (fault.NullNotAllowed number) other finds = finds
-of-column r table header fields (fault.DoubleKey number) other finds = finds
-of-column r table header fields fault.TooManyRows other finds = finds
-of-column r table header fields fault.ReadFailed other finds = finds
-of-column r table header fields fault.OutOfMemory other finds = finds
+    → (f ≡ fault.MissingColumn → ⊥) → (f ≡ fault.DoubleHeader → ⊥) → ((number : ℕ) → f ≡ fault.UnequalRecord number → ⊥) → IfOk r (Finds (IsOfColumn table header fields f)) → IfOk r (Finds (HasReason table header fields f))
+of-column r table header fields fault.MissingColumn lacks repeats other finds = absurd (lacks refl)
+of-column r table header fields fault.DoubleHeader lacks repeats other finds = absurd (repeats refl)
+of-column r table header fields (fault.UnequalRecord number) lacks repeats other finds = absurd (other number refl)
+of-column r table header fields (fault.NotUtf8 number) lacks repeats other finds = finds
+of-column r table header fields (fault.BadInteger number) lacks repeats other finds = finds
+of-column r table header fields (fault.BadGeometry number why) lacks repeats other finds = finds
+of-column r table header fields (fault.WrongType number) lacks repeats other finds = finds
+of-column r table header fields (fault.NullNotAllowed number) lacks repeats other finds = finds
+of-column r table header fields (fault.DoubleKey number) lacks repeats other finds = finds
+of-column r table header fields fault.TooManyRows lacks repeats other finds = finds
+of-column r table header fields fault.ReadFailed lacks repeats other finds = finds
+of-column r table header fields fault.OutOfMemory lacks repeats other finds = finds

@@ -2,10 +2,11 @@
 
 ghost use Rattle.std.specs.Prelude.{◌≡◌, IfErr, IfOk, Ok};
 ghost use Rattle.geometry_model.specs.Geometries as shapes;
+ghost use Rattle.geometry_model.specs.TextReading.{read_text};
 ghost use Rattle.geometry_model.specs.WellKnownText.{Spells};
 ghost use Rattle.loaded_tables.specs.Outcomes.{IsFailure};
 ghost use Rattle.table_model.specs.GeometryColumns.{takes_type};
-ghost use Rattle.record_reasons.specs.Reasons.{Finds, IsInvalidIn, IsOtherTypeIn, IsReasonIn};
+ghost use Rattle.record_reasons.specs.Reasons.{Finds, IsInvalidIn, IsOtherTypeIn, IsReasonIn, IsRefusedIn};
 ghost use Rattle.record_reasons.specs.Reasons as spec;
 
 use crate::reason::Reason;
@@ -31,9 +32,10 @@ pub(crate) fn reason_in_column<'s>(
         return Ok(None);
     };
     match fault {
-        LoadFault::BadGeometry(_, GeometryFault::Invalid(fault)) => {
-            invalid_in(alloc, column, field, fault)
-        }
+        LoadFault::BadGeometry(_, why) => match why {
+            GeometryFault::Text(fault) => refused_in(alloc, column, field, fault),
+            GeometryFault::Invalid(fault) => invalid_in(alloc, column, field, fault),
+        },
         LoadFault::WrongType(_) => match shape {
             Some(wanted) => other_type_in(alloc, column, wanted, field),
             None => Ok(None),
@@ -54,6 +56,7 @@ fn shape_of(column: &ColumnDef) -> Option<ColumnShape>
 
 /// The geometry that a field spells, or the first fault of its text. At Err memory ran out.
 fn geometry_in(alloc: Global, field: &[u8]) -> Result<Result<Geometry, TextFault>, LoadFault>
+    ensures text { IfOk result (λ read. read_text field.now ≡ read) }
     ensures spelled { IfOk result (λ read. IfOk read (Spells field.now)) }
     ensures only { (g : shapes.Geometry) → Spells field.now g → IfOk result (λ read. read ≡ Ok g) }
     ensures fails { IfErr result IsFailure }
@@ -65,6 +68,28 @@ fn geometry_in(alloc: Global, field: &[u8]) -> Result<Result<Geometry, TextFault
             None => Err(LoadFault::OutOfMemory),
         },
     }
+}
+
+/// That the text of a field has this fault.
+fn refused_in<'s>(
+    alloc: Global,
+    column: &'s ColumnDef,
+    field: &[u8],
+    fault: TextFault,
+) -> Result<Option<Reason<'s>>, LoadFault>
+    ensures finds { IfOk result (Finds (IsRefusedIn column.entry.now field.now fault)) }
+    ensures fails { IfErr result IsFailure }
+{
+    let Err(found) = geometry_in(alloc, field)? else {
+        return Ok(None);
+    };
+    if found != fault {
+        return Ok(None);
+    }
+    Ok(Some(Reason::Refused {
+        column: column.name.as_str(),
+        fault,
+    }))
 }
 
 /// Where the geometry of a field has this fault.

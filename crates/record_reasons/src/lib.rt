@@ -3,6 +3,7 @@
 #![tactic(auto)]
 
 pub mod column_reasons;
+pub mod header_reasons;
 pub mod named_fields;
 pub mod reason;
 pub mod reason_lines;

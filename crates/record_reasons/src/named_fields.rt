@@ -9,7 +9,7 @@ use csv::ByteRecord;
 use table_model::texts::same_name;
 
 /// The field of a record at a place; empty if there is none.
-fn field_at(record: &ByteRecord, place: usize) -> &[u8]
+pub(crate) fn field_at(record: &ByteRecord, place: usize) -> &[u8]
     ensures { result.now ≡ slice_index_or (fields_of record.now) place [] }
 {
     record.get(place).unwrap_or(&[])

@@ -7,11 +7,12 @@ ghost use Rattle.record_reasons.specs.Reasons.{Finds, HasNoReason, HasReason, Is
 ghost use Rattle.record_reasons.specs.Reasons as spec;
 
 use crate::column_reasons::reason_in_column;
+use crate::header_reasons::{missing, repeated};
 use crate::named_fields::field_named;
 use crate::seen_records::{seen_header, seen_record};
 use csv::ByteRecord;
 use fault_places::Place;
-use geometry_model::{GeometryType, ValidityFault};
+use geometry_model::{GeometryType, TextFault, ValidityFault};
 use loaded_tables::TableDef;
 use std::alloc::Global;
 use std::io::Read;
@@ -21,12 +22,29 @@ use table_model::faults::LoadFault;
 /// What is wrong where a table isn't loaded. Names of columns are lent, as the schema spells them.
 #[derive(Clone, Copy, Debug)]
 pub enum Reason<'s> {
+    /// L1: the header lacks the name of a column.
+    Missing {
+        /// The name of the column.
+        column: &'s str,
+    },
+    /// L2: the header has the name of a column more than once.
+    Repeated {
+        /// The name of the column.
+        column: &'s str,
+    },
     /// L3: the record has another number of fields than the header.
     Lengths {
         /// How many fields the record has.
         found: usize,
         /// How many the header has.
         wanted: usize,
+    },
+    /// L6: the text in a column isn't that of a geometry.
+    Refused {
+        /// The name of the column.
+        column: &'s str,
+        /// The first fault of the text.
+        fault: TextFault,
     },
     /// L6: the geometry in a column isn't valid.
     Invalid {
@@ -48,10 +66,10 @@ pub enum Reason<'s> {
     },
 }
 
-/// The reason of a fault of a table's record, which is read again for it: `UnequalRecord`, `BadGeometry` of a geometry that isn't
-/// valid, or `WrongType`. Of several columns the first that has this fault is shown. None comes for any other fault, where the record
-/// that is read now hasn't the fault, and for a number past 100,001. At most 100,002 records are read. At Err reading failed or memory
-/// ran out: the fault is ReadFailed or OutOfMemory (06-104r4, feature tables; which reason: this project's choice).
+/// The reason of a table's fault, whose header or record is read again for it: `MissingColumn`, `DoubleHeader`, `UnequalRecord`,
+/// `BadGeometry` or `WrongType`. Of several columns the first that has this fault is shown. None comes for any other fault, where what
+/// is read now hasn't the fault, and for a number past 100,001. At most 100,002 records are read. At Err reading failed or memory ran
+/// out: the fault is ReadFailed or OutOfMemory (06-104r4, feature tables; which reason: this project's choice).
 pub fn reason_of<'s, R: Read + Drop>(
     alloc: Global,
     table: &'s TableDef,
@@ -78,7 +96,7 @@ pub fn reason_of<'s, R: Read + Drop>(
     reason_in(alloc, table, &seen.header, &seen.record, fault)
 }
 
-/// The number of the record that a fault has; 0 if no record can show it.
+/// The number of the record that a fault has; 0 of a fault of the header, and of one that no record shows.
 fn record_number(fault: LoadFault) -> usize
     ensures { result ≡ spec.record_number fault }
 {
@@ -103,6 +121,8 @@ fn reason_in<'s>(
     ensures fails { IfErr result IsFailure }
 {
     match fault {
+        LoadFault::MissingColumn => Ok(missing(table, header)),
+        LoadFault::DoubleHeader => Ok(repeated(table, header)),
         LoadFault::UnequalRecord(_) => Ok(lengths(header, record)),
         _ => reason_in_columns(alloc, table, header, record, fault),
     }
