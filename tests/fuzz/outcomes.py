@@ -21,7 +21,7 @@ REASONS = {
     "L2": rf"column {NAME} is in the header more than once",
     "L3": r"the record has \d+ fields, the header \d+",
     "L5": rf"column {NAME}: \".*\" isn't a whole number of 64 bits",
-    "L6": rf"column {NAME}: V\d [ \d]+: .*",
+    "L6": rf"column {NAME}: (?:V\d [ \d]+: .*|W[123] at \d+|W4)",
     "L7": rf"column {NAME} has a [A-Z]+, not a [A-Z]+",
 }
 REASONS = {code: re.compile(f"sfq: (?:{text})\n".encode(), re.DOTALL) for code, text in REASONS.items()}

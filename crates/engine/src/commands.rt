@@ -305,7 +305,10 @@ fn found_reason<'s, R: Read + Drop, F: FnMut(&str) -> Option<R>>(
     let Some(reader) = opener(path.as_str()) else {
         return None;
     };
-    reason_of(alloc, schema.table(place), reader, fault)
+    let Ok(reason) = reason_of(alloc, schema.table(place), reader, fault) else {
+        return None;
+    };
+    reason
 }
 
 /// The place of the table of this name, in any ASCII case.

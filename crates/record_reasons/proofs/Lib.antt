@@ -1,2 +1,5 @@
+mod FieldLemmas
+mod NameLemmas
 mod PartLemmas
+mod ReasonLemmas
 mod SeenLemmas

@@ -8,6 +8,9 @@ use Rattle.sinks.specs.Sinks.{AppendsFront}
 pub five_parts : (a x b y c : List ℕ) → concat (a ∷ x ∷ b ∷ y ∷ c ∷ []) ≡ a ++ x ++ b ++ y ++ c
 five_parts a x b y c = simp (append_assoc, append-nil)
 
+pub six_parts : (a x b y z c : List ℕ) → concat (a ∷ x ∷ b ∷ y ∷ z ∷ c ∷ []) ≡ a ++ x ++ b ++ y ++ z ++ c
+six_parts a x b y z c = simp (append_assoc, append-nil)
+
 pub seven_parts : (a x b y c z d : List ℕ) → concat (a ∷ x ∷ b ∷ y ∷ c ∷ z ∷ d ∷ []) ≡ a ++ x ++ b ++ y ++ c ++ z ++ d
 seven_parts a x b y c z d = simp (append_assoc, append-nil)
 

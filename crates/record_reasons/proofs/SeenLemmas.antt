@@ -1,11 +1,10 @@
 -- Records that are read one after another.
-use Rattle.std.proofs.Common.{◌≡◌, ◌∙◌, ◌++◌, ◌<◌, Bool, true, false, ℕ, zero, suc, List, [], ◌∷◌, Option, Some, ap, arith, get_or, length, append_assoc, refl, sym}
-use Rattle.std.specs.Bool.{OnTrue}
+use Rattle.std.proofs.Common.{◌≡◌, ◌∙◌, ◌++◌, ◌≤◌, Bool, true, false, ℕ, zero, suc, List, [], ◌∷◌, Option, None, Some, Result, Ok, Err, IfOk, true≢false, ap, append-nil, arith, length, append_assoc, refl, sym}
 use Rattle.std.specs.Prelude.{slice_get}
-use Rattle.loaded_tables.specs.Records.{Gives, GivesFirst}
+use Rattle.loaded_tables.specs.Records.{Gives, GivesFirst, records_in}
 use Rattle.loaded_tables.specs.declared.records.Records.{Records}
 use Rattle.table_model.specs.Loading.{Record}
-use Rattle.record_reasons.specs.SeenRecords.{BeginWith, GivesNext, HasRead}
+use Rattle.record_reasons.specs.SeenRecords.{BeginWith, GivesNext, GivesNone, HasRead, IsAbsent, Takes}
 
 -- the last of the elements
 pub last : {X : Type 0} (xs : List X) (x : X) (n : ℕ) → length xs ≡ n → slice_get (xs ++ x ∷ []) n ≡ Some x
@@ -20,17 +19,6 @@ earlier [] x y n is = cc is
 earlier (z ∷ zs) x y zero is = is
 earlier (z ∷ zs) x y (suc n) is = earlier zs x y n is
 
--- a record that was found is the first of those that were left
-pub next-given : {R : Type 0} (remaining : R → Option (List ℕ)) (old new : Records R) (found : Bool) (fields : Record)
-    → ((rest : List Record) → Gives remaining old rest → GivesFirst remaining new rest found fields) → OnTrue found (GivesNext remaining old new fields)
-next-given remaining old new true fields takes = takes
-next-given remaining old new false fields takes = tt
-
--- a number that isn't 0
-pub positive : (n : ℕ) → (n ≡ 0 → ⊥) → 0 < n
-positive zero other = absurd (other refl)
-positive (suc n) other = omega arith
-
 -- one record more is read
 pub read-more : {R : Type 0} (remaining : R → Option (List ℕ)) (known : Option (List ℕ)) (old new : Records R) (read : List Record) (fields : Record)
     → HasRead remaining known old read → GivesNext remaining old new fields → HasRead remaining known new (read ++ fields ∷ [])
@@ -44,10 +32,45 @@ pub begins : {R : Type 0} (remaining : R → Option (List ℕ)) (known : Option 
     → HasRead remaining known records read → BeginWith known read
 begins remaining known records read has text is = let all = has text is in (all.0, all.2)
 
--- the element at a place, which a loop has
-pub there : {X : Type 0} (xs : List X) (i : ℕ) (x : X) → i < length xs → x ≡ get_or xs i x → slice_get xs i ≡ Some x
-there [] i x within is = absurd (omega arith)
-there (y ∷ xs) zero x within is = ap Some (sym is)
-there (y ∷ xs) (suc i) x within is =
-    let more : i < length xs = omega arith in
-    there xs i x more is
+-- what was read is taken or shows the end
+takes-of : {R : Type 0} (remaining : R → Option (List ℕ)) (old new : Records R) (found : Bool) (fields : Record)
+    → ((rest : List Record) → Gives remaining old rest → GivesFirst remaining new rest found fields) → Takes remaining old new found fields
+takes-of remaining old new true fields takes = takes
+takes-of remaining old new false fields takes = takes
+
+pub takes-ok : {R E : Type 0} (remaining : R → Option (List ℕ)) (old new : Records R) (fields : Record) (r : Result Bool E)
+    → ((rest : List Record) → Gives remaining old rest → IfOk r (λ found. GivesFirst remaining new rest found fields))
+    → IfOk r (λ found. Takes remaining old new found fields)
+takes-ok remaining old new fields (Ok found) takes = takes-of remaining old new found fields takes
+takes-ok remaining old new fields (Err e) takes = tt
+
+-- a record that was found was taken
+pub taken : {R : Type 0} (remaining : R → Option (List ℕ)) (old new : Records R) (found : Bool) (fields : Record) → found ≡ true
+    → Takes remaining old new found fields → GivesNext remaining old new fields
+taken remaining old new true fields is takes = takes
+taken remaining old new false fields is takes = absurd (true≢false (sym is))
+
+-- where none was found, none was left
+pub none-left : {R : Type 0} (remaining : R → Option (List ℕ)) (old new : Records R) (found : Bool) (fields : Record) → found ≡ false
+    → Takes remaining old new found fields → GivesNone remaining old
+none-left remaining old new true fields is takes = absurd (true≢false is)
+none-left remaining old new false fields is takes = takes
+
+-- past the end of a list there is nothing
+pub past : {X : Type 0} (xs : List X) (n : ℕ) → length xs ≤ n → slice_get xs n ≡ None
+past [] n low = refl
+past (x ∷ xs) zero low = absurd (omega arith)
+past (x ∷ xs) (suc n) low = let less : length xs ≤ n = omega arith in past xs n less
+
+-- where no record is left, there is none of a greater number than were read
+pub absent : {R : Type 0} (remaining : R → Option (List ℕ)) (known : Option (List ℕ)) (records : Records R) (read : List Record) (number : ℕ)
+    → HasRead remaining known records read → GivesNone remaining records → length read ≤ number → IsAbsent known number
+absent remaining known records read number has none low text is =
+    let all = has text is in
+    let whole : records_in text ≡ read = all.2 ∙ ap (λ rest. read ++ rest) (none all.0 all.1) ∙ append-nil read in
+    ap (λ xs. slice_get xs number) whole ∙ past read number low
+
+-- the first record is read
+pub first-read : {R : Type 0} (remaining : R → Option (List ℕ)) (known : Option (List ℕ)) (old new : Records R) (fields : Record)
+    → HasRead remaining known old [] → GivesNext remaining old new fields → HasRead remaining known new (fields ∷ [])
+first-read remaining known old new fields has next = read-more remaining known old new [] fields has next

@@ -1,10 +1,12 @@
 -- The line that says what is wrong where a table isn't loaded (this project's choice).
 use Rattle.std.specs.Prelude.{ℕ, List, ◌++◌, codes, decimal}
+use Rattle.geometry_model.specs.declared.geometry_faults.GeometryFault.TheVariants as g
 use Rattle.geometry_model.specs.declared.shapes.GeometryType.{GeometryType}
 use Rattle.geometry_model.specs.declared.shapes.GeometryType.TheVariants as shapes
 use Rattle.reasons.specs.FaultTexts.{reason_text}
 use Rattle.record_reasons.specs.declared.reason.Reason.{Reason}
 use Rattle.record_reasons.specs.declared.reason.Reason.TheVariants as reasons
+use Rattle.table_model.specs.FaultLines.{geometry_text}
 
 -- the word of a type of geometry (06-103r4, 7.2)
 abbrev pub type_word : GeometryType → List ℕ
@@ -19,6 +21,9 @@ type_word shapes.MultiPolygon = codes "MULTIPOLYGON"
 abbrev pub reason_line : Reason → List ℕ
 reason_line (reasons.Lengths found wanted) =
     codes "sfq: the record has " ++ decimal found ++ codes " fields, the header " ++ decimal wanted ++ codes "\n"
+reason_line (reasons.Missing name) = codes "sfq: column " ++ name.now ++ codes " isn't in the header\n"
+reason_line (reasons.Repeated name) = codes "sfq: column " ++ name.now ++ codes " is in the header more than once\n"
+reason_line (reasons.Refused name fault) = codes "sfq: column " ++ name.now ++ codes ": " ++ geometry_text (g.Text fault) ++ codes "\n"
 reason_line (reasons.Invalid name fault place) = (codes "sfq: column " ++ name.now ++ codes ": ") ++ reason_text fault place
 reason_line (reasons.OtherType name found wanted) =
     codes "sfq: column " ++ name.now ++ codes " has a " ++ type_word found ++ codes ", not a " ++ type_word wanted ++ codes "\n"

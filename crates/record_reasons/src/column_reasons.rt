@@ -1,35 +1,46 @@
 //! The reason of a fault in one column.
 
-ghost use Rattle.std.specs.Prelude.{◌≡◌, IfSome};
+ghost use Rattle.std.specs.Prelude.{◌≡◌, IfErr, IfOk, Ok};
+ghost use Rattle.geometry_model.specs.Geometries as shapes;
+ghost use Rattle.geometry_model.specs.TextReading.{read_text};
+ghost use Rattle.geometry_model.specs.WellKnownText.{Spells};
+ghost use Rattle.loaded_tables.specs.Outcomes.{IsFailure};
 ghost use Rattle.table_model.specs.GeometryColumns.{takes_type};
-ghost use Rattle.record_reasons.specs.Reasons.{IsInvalidIn, IsOtherTypeIn, IsReasonIn};
+ghost use Rattle.record_reasons.specs.Reasons.{Finds, IsInvalidIn, IsOtherTypeIn, IsReasonIn, IsRefusedIn};
 ghost use Rattle.record_reasons.specs.Reasons as spec;
 
 use crate::reason::Reason;
 use fault_places::place_of;
-use geometry_model::{GeometryFault, GeometryType, ValidityFault};
+use geometries::Geometry;
+use geometry_model::{GeometryFault, GeometryType, TextFault, ValidityFault};
 use loaded_tables::{ColumnDef, ColumnShape, ColumnType};
 use std::alloc::Global;
 use table_model::faults::LoadFault;
 use wkt::read;
 
-/// The reason of a fault in a field of this column; None if the field hasn't the fault, or memory ran out.
+/// The reason of a fault in a field of this column; None if the field hasn't the fault. At Err memory ran out.
 pub(crate) fn reason_in_column<'s>(
     alloc: Global,
     column: &'s ColumnDef,
     field: &[u8],
     fault: LoadFault,
-) -> Option<Reason<'s>>
-    ensures { IfSome result (IsReasonIn column.entry.now field.now fault) }
+) -> Result<Option<Reason<'s>>, LoadFault>
+    ensures finds { IfOk result (Finds (IsReasonIn column.entry.now field.now fault)) }
+    ensures fails { IfErr result IsFailure }
 {
-    let shape = shape_of(column)?;
+    let Some(shape) = shape_of(column) else {
+        return Ok(None);
+    };
     match fault {
         LoadFault::BadGeometry(_, why) => match why {
+            GeometryFault::Text(fault) => refused_in(alloc, column, field, fault),
             GeometryFault::Invalid(fault) => invalid_in(alloc, column, field, fault),
-            GeometryFault::Text(_) => None,
         },
-        LoadFault::WrongType(_) => other_type_in(alloc, column, shape?, field),
-        _ => None,
+        LoadFault::WrongType(_) => match shape {
+            Some(wanted) => other_type_in(alloc, column, wanted, field),
+            None => Ok(None),
+        },
+        _ => Ok(None),
     }
 }
 
@@ -43,22 +54,65 @@ fn shape_of(column: &ColumnDef) -> Option<ColumnShape>
     }
 }
 
+/// The geometry that a field spells, or the first fault of its text. At Err memory ran out.
+fn geometry_in(alloc: Global, field: &[u8]) -> Result<Result<Geometry, TextFault>, LoadFault>
+    ensures text { IfOk result (λ read. read_text field.now ≡ read) }
+    ensures spelled { IfOk result (λ read. IfOk read (Spells field.now)) }
+    ensures only { (g : shapes.Geometry) → Spells field.now g → IfOk result (λ read. read ≡ Ok g) }
+    ensures fails { IfErr result IsFailure }
+{
+    match read(alloc, field) {
+        Ok(geometry) => Ok(Ok(geometry)),
+        Err(error) => match error.text_fault() {
+            Some(fault) => Ok(Err(fault)),
+            None => Err(LoadFault::OutOfMemory),
+        },
+    }
+}
+
+/// That the text of a field has this fault.
+fn refused_in<'s>(
+    alloc: Global,
+    column: &'s ColumnDef,
+    field: &[u8],
+    fault: TextFault,
+) -> Result<Option<Reason<'s>>, LoadFault>
+    ensures finds { IfOk result (Finds (IsRefusedIn column.entry.now field.now fault)) }
+    ensures fails { IfErr result IsFailure }
+{
+    let Err(found) = geometry_in(alloc, field)? else {
+        return Ok(None);
+    };
+    if found != fault {
+        return Ok(None);
+    }
+    Ok(Some(Reason::Refused {
+        column: column.name.as_str(),
+        fault,
+    }))
+}
+
 /// Where the geometry of a field has this fault.
 fn invalid_in<'s>(
     alloc: Global,
     column: &'s ColumnDef,
     field: &[u8],
     fault: ValidityFault,
-) -> Option<Reason<'s>>
-    ensures { IfSome result (IsInvalidIn column.entry.now field.now fault) }
+) -> Result<Option<Reason<'s>>, LoadFault>
+    ensures finds { IfOk result (Finds (IsInvalidIn column.entry.now field.now fault)) }
+    ensures fails { IfErr result IsFailure }
 {
-    let geometry = read(alloc, field).ok()?;
-    let place = place_of(&geometry, fault)?;
-    Some(Reason::Invalid {
+    let Ok(geometry) = geometry_in(alloc, field)? else {
+        return Ok(None);
+    };
+    let Some(place) = place_of(&geometry, fault) else {
+        return Ok(None);
+    };
+    Ok(Some(Reason::Invalid {
         column: column.name.as_str(),
         fault,
         place,
-    })
+    }))
 }
 
 /// The type of the geometry of a field, if it isn't the one that the column takes.
@@ -67,17 +121,20 @@ fn other_type_in<'s>(
     column: &'s ColumnDef,
     wanted: GeometryType,
     field: &[u8],
-) -> Option<Reason<'s>>
-    ensures { IfSome result (IsOtherTypeIn column.entry.now wanted field.now) }
+) -> Result<Option<Reason<'s>>, LoadFault>
+    ensures finds { IfOk result (Finds (IsOtherTypeIn column.entry.now wanted field.now)) }
+    ensures fails { IfErr result IsFailure }
 {
-    let geometry = read(alloc, field).ok()?;
+    let Ok(geometry) = geometry_in(alloc, field)? else {
+        return Ok(None);
+    };
     let found = geometry.geometry_type();
     if wanted == found {
-        return None;
+        return Ok(None);
     }
-    Some(Reason::OtherType {
+    Ok(Some(Reason::OtherType {
         column: column.name.as_str(),
         found,
         wanted,
-    })
+    }))
 }

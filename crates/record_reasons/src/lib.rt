@@ -1,8 +1,9 @@
-//! Why a record of a table has its fault: what is wrong in which column, found when the table is read again, and the line that
-//! says so.
+//! Why a table has its fault: what is wrong in its header, or in which column of a record, found when the table is read again, and
+//! the line that says so.
 #![tactic(auto)]
 
 pub mod column_reasons;
+pub mod header_reasons;
 pub mod named_fields;
 pub mod reason;
 pub mod reason_lines;

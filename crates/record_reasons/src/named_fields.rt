@@ -1,6 +1,6 @@
 //! The fields of a record, by their names in a header.
 
-ghost use Rattle.std.specs.Prelude.{◌≡◌, [], IfSome};
+ghost use Rattle.std.specs.Prelude.{◌≡◌, []};
 ghost use Rattle.std.specs.List.{slice_index_or};
 ghost use Rattle.csv.specs.Records.{fields_of};
 ghost use Rattle.table_model.specs.Loading.{field_under};
@@ -9,25 +9,20 @@ use csv::ByteRecord;
 use table_model::texts::same_name;
 
 /// The field of a record at a place; empty if there is none.
-fn field_at(record: &ByteRecord, place: usize) -> &[u8]
+pub(crate) fn field_at(record: &ByteRecord, place: usize) -> &[u8]
     ensures { result.now ≡ slice_index_or (fields_of record.now) place [] }
 {
     record.get(place).unwrap_or(&[])
 }
 
-/// The field of a record that a header calls by a name, of any ASCII case; None if no field of the header has that name.
-pub(crate) fn field_named<'r>(
-    header: &ByteRecord,
-    record: &'r ByteRecord,
-    name: &[u8],
-) -> Option<&'r [u8]>
-    ensures { IfSome result (λ field.
-        field.now ≡ field_under (fields_of header.now) (fields_of record.entry.now) name.now) }
+/// The field of a record that a header calls by a name, of any ASCII case; the first field where no field of the header has that name.
+pub(crate) fn field_named<'r>(header: &ByteRecord, record: &'r ByteRecord, name: &[u8]) -> &'r [u8]
+    ensures { result.now ≡ field_under (fields_of header.now) (fields_of record.entry.now) name.now }
 {
     for place in 0..header.len() {
         if same_name(name, field_at(header, place)) {
-            return Some(field_at(record, place));
+            return field_at(record, place);
         }
     }
-    None
+    field_at(record, 0)
 }

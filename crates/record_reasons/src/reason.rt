@@ -1,30 +1,50 @@
 //! The reason of a fault of loading.
 
-ghost use Rattle.std.specs.Prelude.{◌≡◌, IfSome};
+ghost use Rattle.std.specs.Prelude.{◌≡◌, IfErr, IfNone, IfOk, IfSome};
 ghost use Rattle.csv.specs.Records.{fields_of};
-ghost use Rattle.record_reasons.specs.Reasons.{HasReason, IsOfColumn, IsOfLengths, IsReasonOf};
+ghost use Rattle.loaded_tables.specs.Outcomes.{IsFailure};
+ghost use Rattle.record_reasons.specs.Reasons.{Finds, HasNoReason, HasReason, IsOfColumn, IsOfLengths, IsReasonOf};
 ghost use Rattle.record_reasons.specs.Reasons as spec;
 
 use crate::column_reasons::reason_in_column;
+use crate::header_reasons::{missing, repeated};
 use crate::named_fields::field_named;
-use crate::seen_records::seen_record;
+use crate::seen_records::{seen_header, seen_record};
 use csv::ByteRecord;
 use fault_places::Place;
-use geometry_model::{GeometryType, ValidityFault};
+use geometry_model::{GeometryType, TextFault, ValidityFault};
 use loaded_tables::TableDef;
 use std::alloc::Global;
 use std::io::Read;
+use table_model::definitions::ROW_LIMIT;
 use table_model::faults::LoadFault;
 
 /// What is wrong where a table isn't loaded. Names of columns are lent, as the schema spells them.
 #[derive(Clone, Copy, Debug)]
 pub enum Reason<'s> {
+    /// L1: the header lacks the name of a column.
+    Missing {
+        /// The name of the column.
+        column: &'s str,
+    },
+    /// L2: the header has the name of a column more than once.
+    Repeated {
+        /// The name of the column.
+        column: &'s str,
+    },
     /// L3: the record has another number of fields than the header.
     Lengths {
         /// How many fields the record has.
         found: usize,
         /// How many the header has.
         wanted: usize,
+    },
+    /// L6: the text in a column isn't that of a geometry.
+    Refused {
+        /// The name of the column.
+        column: &'s str,
+        /// The first fault of the text.
+        fault: TextFault,
     },
     /// L6: the geometry in a column isn't valid.
     Invalid {
@@ -46,32 +66,45 @@ pub enum Reason<'s> {
     },
 }
 
-/// The reason of a fault of a table's record, which is read again for it: `UnequalRecord`, `BadGeometry` of a geometry that isn't
-/// valid, or `WrongType`. Of several columns the first that has this fault is shown. None comes for any other fault, where the record
-/// that is read now hasn't the fault, where reading fails, and where memory runs out. At most 100,002 records are read
-/// (06-104r4, feature tables; which reason: this project's choice).
+/// The reason of a table's fault, whose header or record is read again for it: `MissingColumn`, `DoubleHeader`, `UnequalRecord`,
+/// `BadGeometry` or `WrongType`. Of several columns the first that has this fault is shown. None comes for any other fault, where what
+/// is read now hasn't the fault, and for a number past 100,001. At most 100,002 records are read. At Err reading failed or memory ran
+/// out: the fault is ReadFailed or OutOfMemory (06-104r4, feature tables; which reason: this project's choice).
 pub fn reason_of<'s, R: Read + Drop>(
     alloc: Global,
     table: &'s TableDef,
     reader: R,
     fault: LoadFault,
-) -> Option<Reason<'s>>
-    ensures { IfSome result (IsReasonOf (R.remaining reader) table.entry.now fault) }
+) -> Result<Option<Reason<'s>>, LoadFault>
+    ensures reason { IfOk result (λ found. IfSome found (IsReasonOf (R.remaining reader) table.entry.now fault)) }
+    ensures none { IfOk result (λ found. IfNone found (HasNoReason (R.remaining reader) table.entry.now fault)) }
+    ensures fails { IfErr result IsFailure }
 {
-    let number = record_number(fault)?;
-    let seen = seen_record(alloc, reader, number)?;
+    let number = record_number(fault);
+    if number > ROW_LIMIT + 1 {
+        return Ok(None);
+    }
+    if number == 0 {
+        let Some(header) = seen_header(alloc, reader)? else {
+            return Ok(None);
+        };
+        return reason_in(alloc, table, &header, &header, fault);
+    }
+    let Some(seen) = seen_record(alloc, reader, number)? else {
+        return Ok(None);
+    };
     reason_in(alloc, table, &seen.header, &seen.record, fault)
 }
 
-/// The number of the record that a fault has, if a record can show it.
-fn record_number(fault: LoadFault) -> Option<usize>
-    ensures { IfSome result (λ number. number ≡ spec.record_number fault) }
+/// The number of the record that a fault has; 0 of a fault of the header, and of one that no record shows.
+fn record_number(fault: LoadFault) -> usize
+    ensures { result ≡ spec.record_number fault }
 {
     match fault {
-        LoadFault::UnequalRecord(number) => Some(number),
-        LoadFault::BadGeometry(number, _) => Some(number),
-        LoadFault::WrongType(number) => Some(number),
-        _ => None,
+        LoadFault::UnequalRecord(number) => number,
+        LoadFault::BadGeometry(number, _) => number,
+        LoadFault::WrongType(number) => number,
+        _ => 0,
     }
 }
 
@@ -82,19 +115,22 @@ fn reason_in<'s>(
     header: &ByteRecord,
     record: &ByteRecord,
     fault: LoadFault,
-) -> Option<Reason<'s>>
-    ensures { IfSome result (HasReason table.entry.now (fields_of header.now)
-        (fields_of record.now) fault) }
+) -> Result<Option<Reason<'s>>, LoadFault>
+    ensures finds { IfOk result (Finds (HasReason table.entry.now (fields_of header.now)
+        (fields_of record.now) fault)) }
+    ensures fails { IfErr result IsFailure }
 {
     match fault {
-        LoadFault::UnequalRecord(_) => lengths(header, record),
+        LoadFault::MissingColumn => Ok(missing(table, header)),
+        LoadFault::DoubleHeader => Ok(repeated(table, header)),
+        LoadFault::UnequalRecord(_) => Ok(lengths(header, record)),
         _ => reason_in_columns(alloc, table, header, record, fault),
     }
 }
 
 /// How many fields the record and the header have, where these numbers differ.
 fn lengths<'s>(header: &ByteRecord, record: &ByteRecord) -> Option<Reason<'s>>
-    ensures { IfSome result (IsOfLengths (fields_of header.now) (fields_of record.now)) }
+    ensures { Finds (IsOfLengths (fields_of header.now) (fields_of record.now)) result }
 {
     if record.len() == header.len() {
         return None;
@@ -112,16 +148,18 @@ fn reason_in_columns<'s>(
     header: &ByteRecord,
     record: &ByteRecord,
     fault: LoadFault,
-) -> Option<Reason<'s>>
-    ensures { IfSome result (IsOfColumn table.entry.now (fields_of header.now)
-        (fields_of record.now) fault) }
+) -> Result<Option<Reason<'s>>, LoadFault>
+    ensures finds { IfOk result (Finds (IsOfColumn table.entry.now (fields_of header.now)
+        (fields_of record.now) fault)) }
+    ensures fails { IfErr result IsFailure }
 {
     for column in table.columns.as_slice() {
-        if let Some(field) = field_named(header, record, column.name.bytes()) {
-            if let Some(reason) = reason_in_column(alloc, column, field, fault) {
-                return Some(reason);
-            }
+        let field = field_named(header, record, column.name.bytes());
+        match reason_in_column(alloc, column, field, fault) {
+            Ok(Some(reason)) => return Ok(Some(reason)),
+            Ok(None) => {}
+            Err(failure) => return Err(failure),
         }
     }
-    None
+    Ok(None)
 }

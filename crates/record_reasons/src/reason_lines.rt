@@ -5,18 +5,21 @@ ghost use Rattle.std.specs.Io.KnownBytes.{Appends};
 ghost use Rattle.sinks.specs.Sinks.{AppendsFront, CountsFailure};
 ghost use Rattle.reasons.specs.FaultTexts.{reason_text};
 ghost use Rattle.record_reasons.specs.ReasonTexts.{reason_line, type_word};
+ghost use Rattle.geometry_model.specs.declared.geometry_faults.GeometryFault.TheVariants as g;
+ghost use Rattle.table_model.specs.FaultLines.{geometry_text};
 ghost use Rattle.record_reasons.specs.declared.reason.Reason.TheVariants as kinds;
 
 use crate::reason::Reason;
 use fault_places::Place;
-use geometry_model::{GeometryType, ValidityFault};
+use geometry_model::{GeometryType, TextFault, ValidityFault};
 use itoa::Buffer;
 use reasons::put_reason;
 use sinks::{Sink, SinkFault, put_parts};
 
-/// Writes the line of a reason: `sfq: column geom: V3 0: 0 0 to 4 4 and 4 0 to 0 4 share 2 2`,
-/// `sfq: column geom has a POINT, not a POLYGON` or `sfq: the record has 2 fields, the header 3` (this project's choice). It takes no
-/// memory. At Err the sink failed, and a beginning of the line has been written.
+/// Writes the line of a reason: `sfq: column pop isn't in the header`, `sfq: column pop is in the header more than once`,
+/// `sfq: the record has 2 fields, the header 3`, `sfq: column geom: W1 at 5`,
+/// `sfq: column geom: V3 0: 0 0 to 4 4 and 4 0 to 0 4 share 2 2` or `sfq: column geom has a POINT, not a POLYGON` (this project's
+/// choice). It takes no memory. At Err the sink failed, and a beginning of the line has been written.
 pub fn put_record_reason<S: Sink>(reason: &Reason<'_>, sink: &mut S) -> Result<(), SinkFault>
     ensures ok { OnOk result (Appends (S.taken sink.old) (S.taken sink.new) (reason_line reason.now)) }
     ensures front { OnErr result
@@ -24,6 +27,11 @@ pub fn put_record_reason<S: Sink>(reason: &Reason<'_>, sink: &mut S) -> Result<(
     ensures failures { CountsFailure (S.failures sink.old) (S.failures sink.new) result }
 {
     match *reason {
+        Reason::Missing { column } => put_named(sink, column, " isn't in the header\n"),
+        Reason::Repeated { column } => {
+            put_named(sink, column, " is in the header more than once\n")
+        }
+        Reason::Refused { column, fault } => put_refused(sink, column, fault),
         Reason::Lengths { found, wanted } => put_lengths(sink, found, wanted),
         Reason::Invalid {
             column,
@@ -36,6 +44,67 @@ pub fn put_record_reason<S: Sink>(reason: &Reason<'_>, sink: &mut S) -> Result<(
             wanted,
         } => put_types(sink, column, word_of(found), word_of(wanted)),
     }
+}
+
+/// Writes the line of a column's name: what is wrong with it.
+fn put_named<'t, S: Sink>(sink: &mut S, column: &'t str, words: &'t str) -> Result<(), SinkFault>
+    ensures ok { OnOk result (Appends (S.taken sink.old) (S.taken sink.new)
+        (codes "sfq: column " ++ column.now ++ words.now)) }
+    ensures front { OnErr result (AppendsFront (S.taken sink.old) (S.taken sink.new)
+        (codes "sfq: column " ++ column.now ++ words.now)) }
+    ensures failures { CountsFailure (S.failures sink.old) (S.failures sink.new) result }
+{
+    put_parts(
+        sink,
+        &[b"sfq: column ", column.as_bytes(), words.as_bytes()],
+    )
+}
+
+/// Writes the line of a text that isn't one of a geometry.
+fn put_refused<'t, S: Sink>(
+    sink: &mut S,
+    column: &'t str,
+    fault: TextFault,
+) -> Result<(), SinkFault>
+    ensures ok { OnOk result (Appends (S.taken sink.old) (S.taken sink.new)
+        (codes "sfq: column " ++ column.now ++ codes ": " ++ geometry_text (g.Text fault) ++ codes "\n")) }
+    ensures front { OnErr result (AppendsFront (S.taken sink.old) (S.taken sink.new)
+        (codes "sfq: column " ++ column.now ++ codes ": " ++ geometry_text (g.Text fault) ++ codes "\n")) }
+    ensures failures { CountsFailure (S.failures sink.old) (S.failures sink.new) result }
+{
+    let mut digits = Buffer::new();
+    match fault {
+        TextFault::Syntax(at) => put_code(sink, column, "W1 at ", digits.format(at)),
+        TextFault::OffGrid(at) => put_code(sink, column, "W2 at ", digits.format(at)),
+        TextFault::OutOfRange(at) => put_code(sink, column, "W3 at ", digits.format(at)),
+        TextFault::TooLong => put_code(sink, column, "W4", ""),
+    }
+}
+
+/// Writes the line of a column with the code of a fault, and the digits of its place.
+fn put_code<'t, S: Sink>(
+    sink: &mut S,
+    column: &'t str,
+    code: &'t str,
+    digits: &'t str,
+) -> Result<(), SinkFault>
+    ensures ok { OnOk result (Appends (S.taken sink.old) (S.taken sink.new)
+        (codes "sfq: column " ++ column.now ++ codes ": " ++ code.now ++ digits.now ++ codes "\n")) }
+    ensures front { OnErr result (AppendsFront (S.taken sink.old) (S.taken sink.new)
+        (codes "sfq: column " ++ column.now ++ codes ": " ++ code.now ++ digits.now ++ codes "\n")) }
+    ensures failures { CountsFailure (S.failures sink.old) (S.failures sink.new) result }
+{
+    put_parts(
+        sink,
+        &[
+            b"sfq: column ",
+            column.as_bytes(),
+            b": ",
+            code.as_bytes(),
+            digits.as_bytes(),
+            b"\n",
+        ],
+    )
 }
 
 /// Writes the line of two lengths.

@@ -1,16 +1,17 @@
 //! The header of a CSV text and one record of it.
 
-ghost use Rattle.std.specs.Prelude.{◌≡◌, ◌+◌, ◌<◌, IfSome};
-ghost use Rattle.std.specs.Bool.{OnTrue};
+ghost use Rattle.std.specs.Prelude.{◌≡◌, ◌+◌, ◌<◌, ◌≤◌, IfErr, IfNone, IfOk, IfSome, OnOk};
 ghost use Rattle.csv.specs.Records.{fields_of};
+ghost use Rattle.loaded_tables.specs.Outcomes.{IsFailure};
 ghost use Rattle.loaded_tables.specs.Records.{IsReady, asked, record_limit};
-ghost use Rattle.record_reasons.specs.SeenRecords.{AreSeen, GivesNext};
+ghost use Rattle.record_reasons.specs.SeenRecords.{AreSeen, IsAbsent, Takes};
+ghost use Rattle.table_model.specs.Loading.{row_limit};
 
 use csv::ByteRecord;
 use loaded_tables::{Records, next_record};
 use std::alloc::Global;
 use std::io::Read;
-use table_model::definitions::ROW_LIMIT;
+use table_model::faults::LoadFault;
 
 /// The header and a record.
 #[derive(Drop)]
@@ -19,39 +20,64 @@ pub(crate) struct Seen {
     pub(crate) record: ByteRecord,
 }
 
-/// Reads the next record, and returns whether there is one; false also where reading fails or memory runs out.
-fn take_record<R: Read + Drop>(records: &mut Records<R>, record: &mut ByteRecord) -> bool
+/// Reads the next record, and returns whether there is one. The fault is ReadFailed or OutOfMemory.
+fn take_record<R: Read + Drop>(
+    records: &mut Records<R>,
+    record: &mut ByteRecord,
+) -> Result<bool, LoadFault>
     requires ready { IsReady records.old }
     requires limit { asked records.old < record_limit }
     ensures asked { asked records.new ≡ asked records.old + 1 }
-    ensures ready { OnTrue result (IsReady records.new) }
-    ensures takes { OnTrue result (GivesNext R.remaining records.old records.new (fields_of record.new)) }
+    ensures ready { OnOk result (IsReady records.new) }
+    ensures takes { IfOk result (λ found.
+        Takes R.remaining records.old records.new found (fields_of record.new)) }
+    ensures fails { IfErr result IsFailure }
 {
-    match next_record(records, record) {
-        Ok(found) => found,
-        Err(_) => false,
-    }
+    next_record(records, record)
 }
 
-/// Reads the header and the record of this number, from 1. None is for a text that has no such record, more than
-/// 100,001, or that can't be read; or memory ran out.
-pub(crate) fn seen_record<R: Read + Drop>(alloc: Global, reader: R, number: usize) -> Option<Seen>
-    ensures { IfSome result (λ seen.
-        AreSeen (R.remaining reader) (fields_of seen.header) number (fields_of seen.record)) }
+/// Reads the header; None is for a text without records. The fault is ReadFailed or OutOfMemory.
+pub(crate) fn seen_header<R: Read + Drop>(
+    alloc: Global,
+    reader: R,
+) -> Result<Option<ByteRecord>, LoadFault>
+    ensures seen { IfOk result (λ found. IfSome found (λ header.
+        AreSeen (R.remaining reader) (fields_of header) 0 (fields_of header))) }
+    ensures absent { IfOk result (λ found. IfNone found (IsAbsent (R.remaining reader) 0)) }
+    ensures fails { IfErr result IsFailure }
 {
-    if number == 0 || number > ROW_LIMIT + 1 {
-        return None;
-    }
     let mut records = Records::new(alloc, reader);
     let mut header = ByteRecord::new(alloc);
-    if !take_record(&mut records, &mut header) {
-        return None;
+    if !take_record(&mut records, &mut header)? {
+        return Ok(None);
+    }
+    Ok(Some(header))
+}
+
+/// Reads the header and the record of this number, from 1; None is for a text that has no such record. The fault is ReadFailed or
+/// OutOfMemory.
+pub(crate) fn seen_record<R: Read + Drop>(
+    alloc: Global,
+    reader: R,
+    number: usize,
+) -> Result<Option<Seen>, LoadFault>
+    requires some { 0 < number }
+    requires limit { number ≤ row_limit + 1 }
+    ensures seen { IfOk result (λ found. IfSome found (λ seen.
+        AreSeen (R.remaining reader) (fields_of seen.header) number (fields_of seen.record))) }
+    ensures absent { IfOk result (λ found. IfNone found (IsAbsent (R.remaining reader) number)) }
+    ensures fails { IfErr result IsFailure }
+{
+    let mut records = Records::new(alloc, reader);
+    let mut header = ByteRecord::new(alloc);
+    if !take_record(&mut records, &mut header)? {
+        return Ok(None);
     }
     let mut record = ByteRecord::new(alloc);
     for _place in 0..number {
-        if !take_record(&mut records, &mut record) {
-            return None;
+        if !take_record(&mut records, &mut record)? {
+            return Ok(None);
         }
     }
-    Some(Seen { header, record })
+    Ok(Some(Seen { header, record }))
 }

@@ -5,7 +5,7 @@ use Rattle.engine.proofs.commands.found_reason.Goals as goal
 
 pub returns : goal.returns
 returns g c =
-    some-more c.reason_of.result _ _
+    some-more c.in-Ok-reason_of.reason _ _
     (λ reason is. record {
       place = c.in_ok-place.place;
       named = c.in_ok-place.ensures.named;
@@ -17,4 +17,4 @@ returns g c =
       opened = record { shown = c.as_str.result; shows = c.as_str.ensures.value ∙ c.in-Ok.ensures; called = c.in-Some.ensures };
       is = is;
     })
-    c.reason_of.ensures
+    c.in-Ok-reason_of.ensures.reason

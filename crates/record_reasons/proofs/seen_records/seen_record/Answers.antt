@@ -1,16 +1,16 @@
 -- Each turn reads one record more, so the last is the one of the number.
-use Rattle.std.proofs.Common.{◌≡◌, ◌∙◌, ◌+◌, ◌++◌, ◌<◌, [], ◌∷◌, Some, ap, arith, length-append, refl, subst, sym}
+use Rattle.std.proofs.Common.{◌≡◌, ◌∙◌, ◌+◌, ◌++◌, [], ◌∷◌, Some, ap, arith, length-append, refl, subst, sym}
 use Rattle.std.specs.Prelude.{slice_get}
 use Rattle.csv.specs.Records.{fields_of}
-use Rattle.loaded_tables.specs.Records.{asked, records_in}
-use Rattle.record_reasons.proofs.SeenLemmas.{begins, earlier, last, positive, read-more}
+use Rattle.loaded_tables.specs.Records.{records_in}
+use Rattle.record_reasons.proofs.SeenLemmas.{absent, begins, earlier, last, none-left, read-more, taken}
 use Rattle.record_reasons.proofs.seen_records.seen_record.Goals as goal
 
 pub loop-place-init : goal.loop-place-init
 loop-place-init g c =
     let remaining = g.R.Read.remaining in
     let header = fields_of c.take_record.new.record in record {
-      ready = c.if-not-take_record.ensures.ready;
+      ready = c.in_ok-take_record.ensures.ready;
       asked = omega (arith, c.take_record.ensures.asked, c.new-records.ensures.none);
       read = (
         header ∷ [],
@@ -18,7 +18,8 @@ loop-place-init g c =
         ap (λ r. Some (fields_of r)) (sym c.header.view_is),
         λ some. absurd (omega (arith, some)),
         read-more remaining (remaining c.args.reader) c.new-records.result c.take_record.new.records [] header
-            (λ text is. (records_in text, c.new-records.ensures.gives text is, refl)) c.if-not-take_record.ensures.takes,
+            (λ text is. (records_in text, c.new-records.ensures.gives text is, refl))
+            (taken remaining c.new-records.result c.take_record.new.records c.in_ok-take_record.field-0 header c.if-not-branch.false c.in_ok-take_record.ensures.takes),
       );
     }
 
@@ -26,7 +27,7 @@ pub take_record-requires-in-loop-place-clause-ready : goal.take_record-requires-
 take_record-requires-in-loop-place-clause-ready g c = c.loop-place.invariant.ready
 
 pub take_record-requires-in-loop-place-clause-limit : goal.take_record-requires-in-loop-place-clause-limit
-take_record-requires-in-loop-place-clause-limit g c = omega (arith, c.loop-place.invariant.asked, c.loop-place-test.true, c.if-number.false)
+take_record-requires-in-loop-place-clause-limit g c = omega (arith, c.loop-place.invariant.asked, c.loop-place-test.true, c.requires.limit)
 
 pub loop-place-preserved : goal.loop-place-preserved
 loop-place-preserved g c =
@@ -35,24 +36,33 @@ loop-place-preserved g c =
     let old = c.loop-place.records in
     let new = c.take_record-in-loop-place.new.records in
     let fields = fields_of c.take_record-in-loop-place.new.record in record {
-      ready = c.if-not-take_record-2.ensures.ready;
+      ready = c.in_ok-take_record-2.ensures.ready;
       asked = omega (arith, c.take_record-in-loop-place.ensures.asked, c.loop-place.invariant.asked);
       read = (
         was.0 ++ fields ∷ [],
         omega (arith, length-append was.0 (fields ∷ []), was.1),
         earlier was.0 fields _ 0 was.2,
         λ some. last was.0 fields (c.loop-place._place + 1) was.1,
-        read-more remaining (remaining c.args.reader) old new was.0 fields was.4 c.if-not-take_record-2.ensures.takes,
+        read-more remaining (remaining c.args.reader) old new was.0 fields was.4
+            (taken remaining old new c.in_ok-take_record-2.field-0 fields c.if-not-branch-2.false c.in_ok-take_record-2.ensures.takes),
       );
     }
 
-pub returns : goal.returns
-returns g c =
+pub returns-clause-seen : goal.returns-clause-seen
+returns-clause-seen g c =
     let was = c.loop-place.invariant.read in
-    let some : 0 < c.args.number = positive c.args.number c.if-number-eq0.false in
     let at_end : c.loop-place._place ≡ c.args.number = omega (arith, c.loop-place-test.false, c.loop-place.auto._place-end) in record {
       read = was.0;
       begins = begins g.R.Read.remaining (g.R.Read.remaining c.args.reader) c.loop-place.records was.0 was.4;
       first = was.2 ∙ ap (λ r. Some (fields_of r)) c.header.view_is;
-      there = subst (λ n. slice_get was.0 n ≡ Some (fields_of c.loop-place.record)) at_end (was.3 (omega (arith, at_end, some)));
+      there = subst (λ n. slice_get was.0 n ≡ Some (fields_of c.loop-place.record)) at_end (was.3 (omega (arith, at_end, c.requires.some)));
     }
+
+pub returns-then-not-branch-2-clause-absent : goal.returns-then-not-branch-2-clause-absent
+returns-then-not-branch-2-clause-absent g c =
+    let remaining = g.R.Read.remaining in
+    let was = c.loop-place.invariant.read in
+    absent remaining (remaining c.args.reader) c.loop-place.records was.0 c.args.number was.4
+    (none-left remaining c.loop-place.records c.take_record-in-loop-place.new.records c.in_ok-take_record-2.field-0
+    (fields_of c.take_record-in-loop-place.new.record) c.if-not-branch-2.true c.in_ok-take_record-2.ensures.takes)
+    (omega (arith, was.1, c.loop-place-test.true))

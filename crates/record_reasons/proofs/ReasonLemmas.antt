@@ -1,0 +1,80 @@
+-- A reason in what was read, or none there.
+use Rattle.std.proofs.Common.{◌≡◌, ◌∙◌, ◌++◌, ℕ, zero, suc, List, [], ◌∷◌, Option, Some, None, Result, Ok, Err, IfOk, IfSome, IfNone, ap, refl, subst, sym}
+use Rattle.std.specs.Prelude.{slice_get}
+use Rattle.loaded_tables.specs.Records.{records_in}
+use Rattle.record_reasons.specs.Reasons.{Finds, HasNoReason, HasReason, IsOfColumn, record_number}
+use Rattle.record_reasons.specs.SeenRecords.{AreSeen, IsAbsent}
+use Rattle.record_reasons.specs.declared.reason.Reason.{Reason}
+use Rattle.table_model.specs.GeometryColumns.{ColumnShape}
+use Rattle.table_model.specs.Loading.{Record}
+use Rattle.table_model.specs.declared.definitions.TableDef.{TableDef}
+use Rattle.table_model.specs.declared.faults.LoadFault.{LoadFault}
+use Rattle.table_model.specs.declared.faults.LoadFault.TheVariants as fault
+
+-- ---- elements
+
+-- what is in a list is in a longer one
+in-front : {X : Type 0} (xs ys : List X) (n : ℕ) (x : X) → slice_get xs n ≡ Some x → slice_get (xs ++ ys) n ≡ Some x
+in-front [] ys n x is = cc is
+in-front (y ∷ xs) ys zero x is = is
+in-front (y ∷ xs) ys (suc n) x is = in-front xs ys n x is
+
+-- a value that is there is one
+some-is : {X : Type 0} (x y : X) → Some x ≡ Some y → x ≡ y
+some-is x y is = cc is
+
+-- what holds of a value that is there, and where there is none
+pub some-is-so : {X : Type 0} (o : Option X) (x : X) (P : X → Type 0) → o ≡ Some x → IfSome o P → P x
+some-is-so None x P is fact = cc is
+some-is-so (Some y) x P is fact = subst P (some-is y x is) fact
+
+pub none-is-so : {X : Type 0} (o : Option X) (P : Type 0) → o ≡ None → IfNone o P → P
+none-is-so None P is fact = fact
+none-is-so (Some y) P is fact = cc is
+
+-- ---- records
+
+-- records that were seen are there
+seen-there : (known : Option (List ℕ)) (text : List ℕ) (header : Record) (number : ℕ) (fields : Record) → known ≡ Some text
+    → AreSeen known header number fields → (slice_get (records_in text) 0 ≡ Some header) × (slice_get (records_in text) number ≡ Some fields)
+seen-there known text header number fields is seen =
+    let all = seen.begins text is in (
+      ap (λ rs. slice_get rs 0) all.1 ∙ in-front seen.read all.0 0 header seen.first,
+      ap (λ rs. slice_get rs number) all.1 ∙ in-front seen.read all.0 number fields seen.there,
+    )
+
+-- without its record a fault has no reason
+pub no-record : (known : Option (List ℕ)) (table : TableDef ColumnShape) (f : LoadFault) → IsAbsent known (record_number f) → HasNoReason known table f
+no-record known table f absent text is within reason has =
+    let there = (seen-there (Some text) text has.header (record_number f) has.fields refl has.seen).1 in
+    let gone : None ≡ Some has.fields = sym (absent text is) ∙ there in
+    cc gone
+
+-- where the record that was seen has no reason, the fault has none
+pub seen-none : {E : Type 0} (r : Result (Option Reason) E) (known : Option (List ℕ)) (table : TableDef ColumnShape) (f : LoadFault) (header fields : Record)
+    → AreSeen known header (record_number f) fields → IfOk r (Finds (HasReason table header fields f))
+    → IfOk r (λ found. IfNone found (HasNoReason known table f))
+seen-none (Err e) known table f header fields seen finds = tt
+seen-none (Ok (Some reason)) known table f header fields seen finds = tt
+seen-none (Ok None) known table f header fields seen finds = λ text is within reason has.
+    let mine = seen-there known text header (record_number f) fields is seen in
+    let other = seen-there (Some text) text has.header (record_number f) has.fields refl has.seen in
+    let same_header = some-is has.header header (sym other.0 ∙ mine.0) in
+    let same_fields = some-is has.fields fields (sym other.1 ∙ mine.1) in
+    finds reason (subst (λ h. HasReason table h fields f reason) same_header (subst (λ fs. HasReason table has.header fs f reason) same_fields has.has))
+
+-- a fault that is neither of the header nor of lengths has its reason in a column
+pub of-column : {E : Type 0} (r : Result (Option Reason) E) (table : TableDef ColumnShape) (header fields : Record) (f : LoadFault)
+    → (f ≡ fault.MissingColumn → ⊥) → (f ≡ fault.DoubleHeader → ⊥) → ((number : ℕ) → f ≡ fault.UnequalRecord number → ⊥) → IfOk r (Finds (IsOfColumn table header fields f)) → IfOk r (Finds (HasReason table header fields f))
+of-column r table header fields fault.MissingColumn lacks repeats other finds = absurd (lacks refl)
+of-column r table header fields fault.DoubleHeader lacks repeats other finds = absurd (repeats refl)
+of-column r table header fields (fault.UnequalRecord number) lacks repeats other finds = absurd (other number refl)
+of-column r table header fields (fault.NotUtf8 number) lacks repeats other finds = finds
+of-column r table header fields (fault.BadInteger number) lacks repeats other finds = finds
+of-column r table header fields (fault.BadGeometry number why) lacks repeats other finds = finds
+of-column r table header fields (fault.WrongType number) lacks repeats other finds = finds
+of-column r table header fields (fault.NullNotAllowed number) lacks repeats other finds = finds
+of-column r table header fields (fault.DoubleKey number) lacks repeats other finds = finds
+of-column r table header fields fault.TooManyRows lacks repeats other finds = finds
+of-column r table header fields fault.ReadFailed lacks repeats other finds = finds
+of-column r table header fields fault.OutOfMemory lacks repeats other finds = finds

@@ -1,0 +1,15 @@
+-- No column before this one has a reason.
+use Rattle.std.proofs.Common.{◌≡◌, ◌<◌, ℕ, Some}
+use Rattle.std.specs.Prelude.{slice_get}
+use Rattle.csv.specs.Records.{fields_of}
+use Rattle.record_reasons.specs.Reasons.{IsReasonIn}
+use Rattle.record_reasons.specs.declared.reason.Reason.{Reason}
+use Rattle.table_model.specs.GeometryColumns.{ColumnShape}
+use Rattle.table_model.specs.Loading.{field_under}
+use Rattle.table_model.specs.declared.definitions.ColumnDef.{ColumnDef}
+use Rattle.record_reasons.proofs.reason.reason_in_columns.Given as goal
+
+abbrev pub invariant-loop-column : goal.invariant-loop-column
+invariant-loop-column l =
+    (k : ℕ) (c : ColumnDef ColumnShape) → k < l.column-index → slice_get l.table.columns k ≡ Some c
+    → (reason : Reason) × IsReasonIn c (field_under (fields_of l.header) (fields_of l.«record») c.name) l.fault reason → ⊥
